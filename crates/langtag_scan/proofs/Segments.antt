@@ -1,0 +1,201 @@
+-- A text is normal exactly where its segments may follow one another, and its record is the only one.
+use Rattle.std.proofs.Common.{◌≡◌, ℕ, ◌+◌, ◌≤◌, Bool, true, false, not, cond, eqb, eqb-true, ltb, leb, ◌||◌, List, [], ◌∷◌, length, Option, Some, None, inl, inr, refl, sym, ap, ◌∙◌, arith}
+use Rattle.std.specs.List.{All, AllByRecursion}
+use Rattle.std.specs.Option.{option_map, option_map_or, option_and_then, is_some}
+use Rattle.std.proofs.lemmas.Bool.{ne_eqb}
+use Rattle.std.proofs.lemmas.List.Elements.{All-from_recursion}
+use Rattle.std.proofs.lemmas.List.Splits.{slice_split_none, slice_split_at, join_with_byte-slice_split}
+use Rattle.langtag_scan.specs.declared.stage.Stage.{Stage}
+use Rattle.langtag_scan.specs.declared.stage.Stage.TheVariants.{Start, Language, Extended, AfterScript, AfterRegion, AfterVariant, AfterSingleton, InExtension, AfterMark, InPrivate}
+use Rattle.langtag_scan.specs.Class.{is_letter, is_digit, is_alphanumeric, has_length, are_letters, are_digits, are_alphanumeric, is_primary, is_extended, is_script, is_region, is_variant, is_extension_subtag, is_private_subtag, is_mark, is_singleton}
+use Rattle.langtag_scan.specs.Record.{Record, IsWellFormed, flat, spell}
+use Rattle.langtag_scan.specs.Stage.{opened, after_region, after_script, after_language, next_stage, may_end, runs}
+use Rattle.langtag_scan.specs.Subtags.{join, segments}
+use Rattle.langtag_scan.specs.Tag.{IsNormal}
+use Rattle.langtag_scan.proofs.Disjoint.{both_true, one_true, between_true, extended_three, script_four, region_two_three, variant_long}
+use Rattle.langtag_scan.proofs.Decoding.{Read, whole, decode, nothing, decode_sound, bind_some, map_some, chosen, put}
+use Rattle.langtag_scan.proofs.Complete.{decode_complete, flat_once}
+
+-- one to eight letters and digits
+pub record IsSubtag (s : List ℕ) : Type 0 where
+  pub some : 1 ≤ length s
+  pub short : length s ≤ 8
+  pub alnum : are_alphanumeric s ≡ true
+
+pub letters_alphanumeric : (s : List ℕ) → are_letters s ≡ true → are_alphanumeric s ≡ true
+letters_alphanumeric [] h = refl
+letters_alphanumeric (b ∷ s) h = let k = both_true (is_letter b) (are_letters s) h in rw (k.0, letters_alphanumeric s k.1) refl
+
+or_right : (a : Bool) → (a || true) ≡ true
+or_right true = refl
+or_right false = refl
+
+digits_alphanumeric : (s : List ℕ) → are_digits s ≡ true → are_alphanumeric s ≡ true
+digits_alphanumeric [] h = refl
+digits_alphanumeric (b ∷ s) h = let k = both_true (is_digit b) (are_digits s) h in rw (k.0, or_right (is_letter b), digits_alphanumeric s k.1) refl
+
+of_primary : (s : List ℕ) → is_primary s ≡ true → IsSubtag s
+unfolding is_primary
+of_primary s h =
+    let k = both_true (has_length 2 8 s) (are_letters s) h in
+    let m = between_true 2 8 (length s) k.0 in
+    record { some = omega arith; short = omega arith; alnum = letters_alphanumeric s k.1 }
+
+of_extended : (s : List ℕ) → is_extended s ≡ true → IsSubtag s
+of_extended s h = let k = extended_three s h in record { some = omega arith; short = omega arith; alnum = letters_alphanumeric s k.1 }
+
+of_script : (s : List ℕ) → is_script s ≡ true → IsSubtag s
+of_script s h = let k = script_four s h in record { some = omega arith; short = omega arith; alnum = letters_alphanumeric s k.1 }
+
+of_region : (s : List ℕ) → is_region s ≡ true → IsSubtag s
+of_region s h =
+    elim (region_two_three s h) [
+      | inl k ↦ record { some = omega arith; short = omega arith; alnum = letters_alphanumeric s k.1 }
+      | inr k ↦ record { some = omega arith; short = omega arith; alnum = digits_alphanumeric s k.1 }
+    ]
+
+of_variant : (s : List ℕ) → is_variant s ≡ true → IsSubtag s
+of_variant s h =
+    elim (variant_long s h) [
+      | inl k ↦ record { some = omega arith; short = omega arith; alnum = k.2 }
+      | inr k ↦ record { some = omega arith; short = omega arith; alnum = k.1 }
+    ]
+
+of_extension_subtag : (s : List ℕ) → is_extension_subtag s ≡ true → IsSubtag s
+unfolding is_extension_subtag
+of_extension_subtag s h =
+    let k = both_true (has_length 2 8 s) (are_alphanumeric s) h in
+    let m = between_true 2 8 (length s) k.0 in
+    record { some = omega arith; short = omega arith; alnum = k.1 }
+
+of_private_subtag : (s : List ℕ) → is_private_subtag s ≡ true → IsSubtag s
+unfolding is_private_subtag
+of_private_subtag s h =
+    let k = both_true (has_length 1 8 s) (are_alphanumeric s) h in
+    let m = between_true 1 8 (length s) k.0 in
+    record { some = omega arith; short = omega arith; alnum = k.1 }
+
+mark_alphanumeric : (c : ℕ) → is_mark c ≡ true → is_alphanumeric c ≡ true
+unfolding is_mark is_letter
+mark_alphanumeric c h =
+    elim (one_true (eqb c 120) (eqb c 88) h) [
+      | inl e ↦ let same : c ≡ 120 = eqb-true _ _ e in rw same refl
+      | inr e ↦ let same : c ≡ 88 = eqb-true _ _ e in rw same refl
+    ]
+
+singleton_alphanumeric : (c : ℕ) → is_singleton c ≡ true → is_alphanumeric c ≡ true
+unfolding is_singleton
+singleton_alphanumeric c h = (both_true (is_alphanumeric c) (not (is_mark c)) h).0
+
+of_one : (c : ℕ) → is_alphanumeric c ≡ true → IsSubtag (c ∷ [])
+of_one c h = record { some = omega arith; short = omega arith; alnum = rw h refl }
+
+of_opened : (s : List ℕ) (after : Stage) → opened s ≡ Some after → IsSubtag s
+of_opened [] after e = absurd cc
+of_opened (c ∷ d ∷ s) after e = absurd cc
+of_opened (c ∷ []) after e =
+    elim (chosen (is_mark c) (Some AfterMark) (cond (is_singleton c) (Some AfterSingleton) None) (Some after) e) [
+      | inl h ↦ of_one c (mark_alphanumeric c h.0)
+      | inr h ↦ elim (chosen (is_singleton c) (Some AfterSingleton) None (Some after) h.1) [
+        | inl k ↦ of_one c (singleton_alphanumeric c k.0)
+        | inr k ↦ absurd cc
+      ]
+    ]
+
+of_after_region : (s : List ℕ) (after : Stage) → after_region s ≡ Some after → IsSubtag s
+of_after_region s after e =
+    elim (chosen (is_variant s) (Some AfterVariant) (opened s) (Some after) e) [ inl h ↦ of_variant s h.0 | inr h ↦ of_opened s after h.1 ]
+
+of_after_script : (s : List ℕ) (after : Stage) → after_script s ≡ Some after → IsSubtag s
+of_after_script s after e =
+    elim (chosen (is_region s) (Some AfterRegion) (after_region s) (Some after) e) [ inl h ↦ of_region s h.0 | inr h ↦ of_after_region s after h.1 ]
+
+of_after_language : (taken : ℕ) (s : List ℕ) (after : Stage) → after_language taken s ≡ Some after → IsSubtag s
+of_after_language taken s after e =
+    elim (chosen (is_extended s) (cond (ltb taken 3) (Some (Extended (taken + 1))) None) (cond (is_script s) (Some AfterScript) (after_script s)) (Some after) e) [
+      | inl h ↦ of_extended s h.0
+      | inr h ↦ elim (chosen (is_script s) (Some AfterScript) (after_script s) (Some after) h.1) [ inl k ↦ of_script s k.0 | inr k ↦ of_after_script s after k.1 ]
+    ]
+
+-- a subtag that may stand somewhere has one to eight letters and digits
+pub next_subtag : (stage : Stage) (s : List ℕ) (after : Stage) → next_stage stage s ≡ Some after → IsSubtag s
+next_subtag Start s after e =
+    elim (chosen (is_primary s) (Some (Language (cond (leb (length s) 3) 0 3))) None (Some after) e) [ inl h ↦ of_primary s h.0 | inr h ↦ absurd cc ]
+next_subtag (Language taken) s after e = of_after_language taken s after e
+next_subtag (Extended taken) s after e = of_after_language taken s after e
+next_subtag AfterScript s after e = of_after_script s after e
+next_subtag AfterRegion s after e = of_after_region s after e
+next_subtag AfterVariant s after e = of_after_region s after e
+next_subtag AfterSingleton s after e =
+    elim (chosen (is_extension_subtag s) (Some InExtension) None (Some after) e) [ inl h ↦ of_extension_subtag s h.0 | inr h ↦ absurd cc ]
+next_subtag InExtension s after e =
+    elim (chosen (is_extension_subtag s) (Some InExtension) (opened s) (Some after) e) [ inl h ↦ of_extension_subtag s h.0 | inr h ↦ of_opened s after h.1 ]
+next_subtag AfterMark s after e =
+    elim (chosen (is_private_subtag s) (Some InPrivate) None (Some after) e) [ inl h ↦ of_private_subtag s h.0 | inr h ↦ absurd cc ]
+next_subtag InPrivate s after e =
+    elim (chosen (is_private_subtag s) (Some InPrivate) None (Some after) e) [ inl h ↦ of_private_subtag s h.0 | inr h ↦ absurd cc ]
+
+pub decoded_subtags : (ss : List (List ℕ)) (stage : Stage) (b : Read) → decode stage ss ≡ Some b → AllByRecursion IsSubtag ss
+unfolding decode
+decoded_subtags [] stage b e = tt
+decoded_subtags (s ∷ ss) stage b e =
+    let x = bind_some (λ (after : Stage). option_map (put after s) (decode after ss)) (next_stage stage s) b e in
+    let y = map_some (put x.0 s) (decode x.0 ss) b x.2 in
+    (next_subtag stage s x.0 x.1, decoded_subtags ss x.0 y.0 y.1)
+
+-- ---- hyphens
+
+pub alphanumeric_no_hyphen : (b : ℕ) → is_alphanumeric b ≡ true → eqb b 45 ≡ false
+unfolding is_letter is_digit
+alphanumeric_no_hyphen b h = ne_eqb b 45 (λ e. let no_alnum : is_alphanumeric 45 ≡ false = refl in let same : is_alphanumeric b ≡ is_alphanumeric 45 = ap is_alphanumeric e in cc)
+
+pub no_hyphen_each : (s : List ℕ) → are_alphanumeric s ≡ true → AllByRecursion (λ b. eqb b 45 ≡ false) s
+no_hyphen_each [] h = tt
+no_hyphen_each (b ∷ s) h = let k = both_true (is_alphanumeric b) (are_alphanumeric s) h in (alphanumeric_no_hyphen b k.0, no_hyphen_each s k.1)
+
+pub no_hyphen : (s : List ℕ) → IsSubtag s → All (λ b. eqb b 45 ≡ false) s
+no_hyphen s h = All-from_recursion (λ b. eqb b 45 ≡ false) s (no_hyphen_each s h.alnum)
+
+-- subtags that were joined are found again
+pub segments-join : (s : List ℕ) (ss : List (List ℕ)) → AllByRecursion IsSubtag (s ∷ ss) → segments (join (s ∷ ss)) ≡ s ∷ ss
+segments-join s [] fits = slice_split_none (λ b. eqb b 45) s (no_hyphen s fits.0)
+segments-join s (u ∷ us) fits = slice_split_at (λ b. eqb b 45) s 45 (join (u ∷ us)) (no_hyphen s fits.0) refl ∙ ap (λ (ts : List (List ℕ)). s ∷ ts) (segments-join u us fits.1)
+
+some_map : {A B : Type 0} (f : A → B) (o : Option A) → is_some (option_map f o) ≡ is_some o
+some_map f None = refl
+some_map f (Some x) = refl
+
+runs_bind : (f : Stage → Bool) (g : Stage → Option Read) (h : Stage → Read → Read) → ((x : Stage) → f x ≡ is_some (g x)) → (o : Option Stage) → option_map_or f o false ≡ is_some (option_and_then (λ x. option_map (h x) (g x)) o)
+runs_bind f g h same None = refl
+runs_bind f g h same (Some x) = same x ∙ sym (some_map (h x) (g x))
+
+pub runs-decode : (ss : List (List ℕ)) (stage : Stage) → runs stage ss ≡ is_some (decode stage ss)
+unfolding runs decode
+runs-decode [] stage = elim (may_end stage) as (λ v. v ≡ is_some (cond v (Some nothing) None)) [ true ↦ refl | false ↦ refl ]
+runs-decode (s ∷ ss) stage = runs_bind (λ after. runs after ss) (λ after. decode after ss) (λ after. put after s) (λ after. runs-decode ss after) (next_stage stage s)
+
+spelled_segments : (r : Record) → IsWellFormed r → segments (spell r) ≡ flat r
+spelled_segments r fits = segments-join r.primary _ (decoded_subtags (flat r) Start (whole r) (decode_complete r fits))
+
+-- two well-formed records with one spelling are the same
+pub spelled_once : (r q : Record) → IsWellFormed r → IsWellFormed q → spell r ≡ spell q → r ≡ q
+spelled_once r q fits fit e = flat_once r q fits fit (sym (spelled_segments r fits) ∙ ap segments e ∙ spelled_segments q fit)
+
+pub is_there : (o : Option Read) → is_some o ≡ true → (b : Read) × (o ≡ Some b)
+is_there None e = absurd cc
+is_there (Some b) e = (b, refl)
+
+-- a text is normal where its segments may follow one another
+pub normal_from_runs : (t : List ℕ) → runs Start (segments t) ≡ true → IsNormal t
+unfolding IsNormal
+normal_from_runs t h =
+    let d = is_there (decode Start (segments t)) (sym (runs-decode (segments t) Start) ∙ h) in
+    let a = decode_sound (segments t) Start d.0 d.1 in
+    (d.0.parts, a.0, ap join a.1 ∙ join_with_byte-slice_split 45 t)
+
+-- and only there
+pub runs_from_normal : (t : List ℕ) → IsNormal t → runs Start (segments t) ≡ true
+unfolding IsNormal
+runs_from_normal t n =
+    let same : segments t ≡ flat n.0 = ap segments (sym n.2) ∙ spelled_segments n.0 n.1 in
+    runs-decode (segments t) Start ∙ ap is_some (ap (decode Start) same ∙ decode_complete n.0 n.1)

@@ -1,0 +1,36 @@
+-- The case of ASCII letters, to which tags are indifferent (RFC 5646 section 2.1.1): the fold, texts that
+-- are alike, how texts are ordered, and what a text feeds to a hasher.
+use Rattle.std.specs.Prelude.{◌≡◌, ℕ, Bool, List, [], ◌∷◌, ◌++◌, map}
+use Rattle.std.specs.Char.{to_ascii_lowercase}
+use Rattle.std.specs.Str.{bytes_eq}
+use Rattle.std.specs.declared.cmp.Ordering.{Ordering}
+use Rattle.std.specs.Ordering.{nat_cmp, on}
+use Rattle.std.specs.Cmp.Lexicographic.{slice_cmp}
+use Rattle.std.specs.Hash.{HashWrites}
+
+-- a capital ASCII letter as its small letter, any other byte as it stands
+unfoldable pub fold_byte : ℕ → ℕ
+fold_byte b = to_ascii_lowercase b
+
+abbrev pub fold_text : List ℕ → List ℕ
+fold_text text = map fold_byte text
+
+-- two texts are equal but for the case of letters (section 2.1.1)
+abbrev pub Alike : List ℕ → List ℕ → Type 0
+Alike a b = fold_text a ≡ fold_text b
+
+-- the same as a test
+abbrev pub are_alike : List ℕ → List ℕ → Bool
+are_alike = on fold_text bytes_eq
+
+-- what texts are ordered by: the folded bytes, and a number above every byte, so that of two texts of which
+-- one begins the other the one that ends first is the greater
+abbrev pub order_key : List ℕ → List ℕ
+order_key text = fold_text text ++ 256 ∷ []
+
+abbrev pub case_cmp : List ℕ → List ℕ → Ordering
+case_cmp = on order_key (slice_cmp nat_cmp)
+
+-- what a text feeds to a hasher: its folded bytes, each by a write of its own
+abbrev pub case_writes : List ℕ → HashWrites
+case_writes text = map (λ b. fold_byte b ∷ []) text

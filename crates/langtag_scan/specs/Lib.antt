@@ -1,0 +1,11 @@
+pub mod Case
+pub mod Class
+pub mod Subtags
+pub mod Record
+pub mod Grandfathered
+pub mod Tag
+pub mod Ends
+pub mod Viable
+pub mod Found
+pub mod Stage
+pub mod CaseLaws

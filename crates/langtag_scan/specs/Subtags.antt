@@ -1,0 +1,33 @@
+-- Subtags and the hyphens between them (RFC 5646 section 2.1).
+use Rattle.std.specs.Prelude.{◌≡◌, ℕ, Bool, false, ◌==◌, List, [], ◌∷◌, Option, None, Some}
+use Rattle.std.specs.List.{join_with_byte, slice_split, AllWithin, All}
+use Rattle.std.specs.Borrow.{Bor}
+
+abbrev pub is_hyphen : ℕ → Bool
+is_hyphen b = b == 45
+
+-- the subtags in order, with one hyphen between neighbours
+abbrev pub join : List (List ℕ) → List ℕ
+join subtags = join_with_byte 45 subtags
+
+-- what stands between the hyphens of a text: one segment more than there are hyphens
+abbrev pub segments : List ℕ → List (List ℕ)
+segments text = slice_split is_hyphen text
+
+-- the list of subtags whose join is the text; the empty text has none
+abbrev pub subtags : List ℕ → List (List ℕ)
+subtags [] = []
+subtags (b ∷ text) = segments (b ∷ text)
+
+-- the segments of what is left of a text: none where nothing is left
+abbrev pub segments_left : Option (Bor (List ℕ)) → List (List ℕ)
+segments_left None = []
+segments_left (Some text) = segments text.now
+
+-- no byte from the place `low` up to the place `high` is a hyphen
+abbrev pub NoHyphenWithin : List ℕ → ℕ → ℕ → Type 0
+NoHyphenWithin text low high = AllWithin (λ b. is_hyphen b ≡ false) text low high
+
+-- no byte is a hyphen
+abbrev pub IsHyphenFree : List ℕ → Type 0
+IsHyphenFree text = All (λ b. is_hyphen b ≡ false) text

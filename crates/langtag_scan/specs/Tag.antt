@@ -1,0 +1,25 @@
+-- The texts that are language tags (RFC 5646 section 2.1): Language-Tag = langtag / privateuse / grandfathered.
+use Rattle.std.specs.Prelude.{◌≡◌, ℕ, ◌⊎◌, List, slice_get, Some}
+use Rattle.langtag_scan.specs.Case.{Alike}
+use Rattle.langtag_scan.specs.Subtags.{join}
+use Rattle.langtag_scan.specs.Record.{PrivateUse, Record, IsPrivateUse, IsWellFormed, private_use_flat, spell}
+use Rattle.langtag_scan.specs.Grandfathered.{irregular_texts}
+
+-- a well-formed record spells the text
+unfoldable pub IsNormal : List ℕ → Type 0
+IsNormal t = (r : Record) × IsWellFormed r × (spell r ≡ t)
+
+-- a private list spells the text
+unfoldable pub IsPrivate : List ℕ → Type 0
+IsPrivate t = (p : PrivateUse) × IsPrivateUse p × (join (private_use_flat p) ≡ t)
+
+-- the text is alike the irregular one at a place of the table
+unfoldable pub IsIrregularAt : ℕ → List ℕ → Type 0
+IsIrregularAt k t = (name : List ℕ) × (slice_get irregular_texts k ≡ Some name) × Alike name t
+
+unfoldable pub IsIrregular : List ℕ → Type 0
+IsIrregular t = (k : ℕ) × IsIrregularAt k t
+
+-- the regular grandfathered texts are normal
+unfoldable pub IsTag : List ℕ → Type 0
+IsTag t = IsNormal t ⊎ IsPrivate t ⊎ IsIrregular t

@@ -1,0 +1,125 @@
+//! The classes of subtags (RFC 5646 section 2.1), over any bytes. Letters and digits are those of ASCII.
+ghost use Rattle.std.specs.Prelude.{◌≡◌};
+ghost use Rattle.langtag_scan.specs.Class as class;
+
+#[tactic(auto, unfolding(crate::specs::Class::is_letter))]
+fn is_letter(byte: u8) -> bool
+    ensures { result ≡ class.is_letter byte }
+{
+    byte.is_ascii_alphabetic()
+}
+
+#[tactic(auto, unfolding(crate::specs::Class::is_digit))]
+fn is_digit(byte: u8) -> bool
+    ensures { result ≡ class.is_digit byte }
+{
+    byte.is_ascii_digit()
+}
+
+fn is_alphanumeric(byte: u8) -> bool
+    ensures { result ≡ class.is_alphanumeric byte }
+{
+    is_letter(byte) || is_digit(byte)
+}
+
+fn are_letters(bytes: &[u8]) -> bool
+    ensures { result ≡ class.are_letters bytes.now }
+{
+    bytes.iter().all(|byte| is_letter(*byte))
+}
+
+fn are_digits(bytes: &[u8]) -> bool
+    ensures { result ≡ class.are_digits bytes.now }
+{
+    bytes.iter().all(|byte| is_digit(*byte))
+}
+
+fn are_alphanumeric(bytes: &[u8]) -> bool
+    ensures { result ≡ class.are_alphanumeric bytes.now }
+{
+    bytes.iter().all(|byte| is_alphanumeric(*byte))
+}
+
+fn starts_with_digit(bytes: &[u8]) -> bool
+    ensures { result ≡ class.starts_with_digit bytes.now }
+{
+    match bytes {
+        [first, ..] => is_digit(*first),
+        [] => false,
+    }
+}
+
+/// Whether the bytes are a primary language subtag (section 2.2.1): two to eight letters.
+#[tactic(auto, unfolding(crate::specs::Class::is_primary))]
+pub fn is_primary(bytes: &[u8]) -> bool
+    ensures { result ≡ class.is_primary bytes.now }
+{
+    bytes.len() >= 2 && bytes.len() <= 8 && are_letters(bytes)
+}
+
+/// Whether the bytes are an extended language subtag (section 2.2.2): three letters.
+#[tactic(auto, unfolding(crate::specs::Class::is_extended))]
+pub fn is_extended(bytes: &[u8]) -> bool
+    ensures { result ≡ class.is_extended bytes.now }
+{
+    bytes.len() == 3 && are_letters(bytes)
+}
+
+/// Whether the bytes are a script subtag (section 2.2.3): four letters.
+#[tactic(auto, unfolding(crate::specs::Class::is_script))]
+pub fn is_script(bytes: &[u8]) -> bool
+    ensures { result ≡ class.is_script bytes.now }
+{
+    bytes.len() == 4 && are_letters(bytes)
+}
+
+/// Whether the bytes are a region subtag (section 2.2.4): two letters, or three digits.
+#[tactic(auto, unfolding(crate::specs::Class::is_region))]
+pub fn is_region(bytes: &[u8]) -> bool
+    ensures { result ≡ class.is_region bytes.now }
+{
+    (bytes.len() == 2 && are_letters(bytes)) || (bytes.len() == 3 && are_digits(bytes))
+}
+
+/// Whether the bytes are a variant subtag (section 2.2.5): five to eight letters and digits, or four of which
+/// the first is a digit.
+#[tactic(auto, unfolding(crate::specs::Class::is_variant))]
+pub fn is_variant(bytes: &[u8]) -> bool
+    ensures { result ≡ class.is_variant bytes.now }
+{
+    (bytes.len() >= 5 && bytes.len() <= 8 && are_alphanumeric(bytes))
+        || (bytes.len() == 4 && are_alphanumeric(bytes) && starts_with_digit(bytes))
+}
+
+/// Whether the bytes are a subtag of an extension (section 2.2.6): two to eight letters and digits.
+#[tactic(auto, unfolding(crate::specs::Class::is_extension_subtag))]
+pub fn is_extension_subtag(bytes: &[u8]) -> bool
+    ensures { result ≡ class.is_extension_subtag bytes.now }
+{
+    bytes.len() >= 2 && bytes.len() <= 8 && are_alphanumeric(bytes)
+}
+
+/// Whether the bytes are a private use subtag (section 2.2.7): one to eight letters and digits.
+#[tactic(auto, unfolding(crate::specs::Class::is_private_subtag))]
+pub fn is_private_subtag(bytes: &[u8]) -> bool
+    ensures { result ≡ class.is_private_subtag bytes.now }
+{
+    !bytes.is_empty() && bytes.len() <= 8 && are_alphanumeric(bytes)
+}
+
+/// Whether the byte opens a private use part (section 2.2.7): `x` or `X`.
+#[tactic(auto, unfolding(crate::specs::Class::is_mark))]
+pub fn is_mark(byte: u8) -> bool
+    ensures { result ≡ class.is_mark byte }
+{
+    byte == b'x' || byte == b'X'
+}
+
+/// Whether the byte is a singleton (section 2.2.6), which opens an extension: a letter or digit other than `x`
+/// and `X`.
+#[tactic(auto, unfolding(crate::specs::Class::is_singleton))]
+pub fn is_singleton(byte: u8) -> bool
+    ensures { result ≡ class.is_singleton byte }
+{
+    is_alphanumeric(byte) && !is_mark(byte)
+}

@@ -1,0 +1,27 @@
+//! Language tags over bytes, by RFC 5646 section 2.1: the fold, the classes of subtags, and what decides whether
+//! the bytes of a source are a tag.
+#![tactic(auto)]
+
+mod case;
+mod caseless;
+mod class;
+mod found;
+mod recognise;
+mod segment;
+mod source;
+mod split;
+mod stage;
+mod subtag;
+mod subtags;
+
+pub use case::{case_insensitive_cmp, case_insensitive_eq, case_insensitive_hash, into_smallcase};
+pub use caseless::Caseless;
+pub use class::{
+    is_extended, is_extension_subtag, is_mark, is_primary, is_private_subtag, is_region, is_script,
+    is_singleton, is_variant,
+};
+pub use found::Found;
+pub use recognise::recognise_normal;
+pub use segment::{segment_end, segment_start};
+pub use source::{ByteSource, Metered};
+pub use subtags::Subtags;

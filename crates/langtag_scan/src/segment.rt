@@ -1,0 +1,31 @@
+ghost use Rattle.std.specs.Prelude.{◌≡◌, ◌-◌, ◌≤◌, ◌<◌, length, slice_index};
+ghost use Rattle.langtag_scan.specs.Subtags.{NoHyphenWithin};
+
+/// The place of the first hyphen at or after `place`, else the length.
+pub fn segment_end(bytes: &[u8], place: usize) -> usize
+    requires { place ≤ length bytes.now }
+    ensures at_or_after { place ≤ result }
+    ensures within { result ≤ length bytes.now }
+    ensures first { NoHyphenWithin bytes.now place result }
+    ensures hyphen { result < length bytes.now → slice_index bytes.now result ≡ 45 }
+{
+    let mut end = place;
+    while end < bytes.len() && bytes[end] != b'-' {
+        end += 1;
+    }
+    end
+}
+
+/// One past the last hyphen before `end`, else 0.
+pub fn segment_start(bytes: &[u8], end: usize) -> usize
+    requires { end ≤ length bytes.now }
+    ensures within { result ≤ end }
+    ensures last { NoHyphenWithin bytes.now result end }
+    ensures hyphen { 0 < result → slice_index bytes.now (result - 1) ≡ 45 }
+{
+    let mut start = end;
+    while start > 0 && bytes[start - 1] != b'-' {
+        start -= 1;
+    }
+    start
+}
