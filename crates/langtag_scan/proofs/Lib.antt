@@ -2,8 +2,6 @@ pub mod Disjoint
 pub mod Decoding
 pub mod Complete
 pub mod Segments
-pub mod FirstSegment
-pub mod Walk
 pub mod CaseOrder
 pub mod SegmentLemmas
 pub mod SubtagsLemmas

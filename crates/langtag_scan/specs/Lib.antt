@@ -8,4 +8,5 @@ pub mod Ends
 pub mod Viable
 pub mod Found
 pub mod Stage
+pub mod Shape
 pub mod CaseLaws

@@ -1,40 +1,87 @@
--- PRIVATE to the recognisers: only contracts of private functions cite this page.
--- How the subtags of a normal tag follow one another.
-use Rattle.langtag_scan.specs.Subtags.{is_hyphen}
+-- How the subtags of a tag follow one another: the rules of RFC 5646 section 2.1, an arm for each line.
+-- Only contracts of private functions cite this page.
+use Rattle.std.specs.Prelude.{ℕ, ◌+◌, Bool, true, false, nat_lt, nat_le, List, [], ◌∷◌, length, Option, Some, None, if◌then◌else◌}
 use Rattle.std.specs.Option.{option_map_or}
 use Rattle.langtag_scan.specs.Class.{is_primary, is_extended, is_script, is_region, is_variant, is_extension_subtag, is_private_subtag, is_mark, is_singleton}
-use Rattle.std.specs.Prelude.{ℕ, ◌+◌, Bool, true, false, nat_lt, nat_le, List, [], ◌∷◌, length, Option, Some, None, if◌then◌else◌}
 use Rattle.langtag_scan.specs.declared.stage.Stage.{Stage}
 use Rattle.langtag_scan.specs.declared.stage.Stage.TheVariants.{Start, Language, Extended, AfterScript, AfterRegion, AfterVariant, AfterSingleton, InExtension, AfterMark, InPrivate}
 
--- a subtag of one byte, which opens an extension or the private part
-abbrev pub opened : List ℕ → Option Stage
-opened [] = None
-opened (b ∷ []) = if is_mark b then Some AfterMark else if is_singleton b then Some AfterSingleton else None
-opened (b ∷ c ∷ s) = None
+-- whether a subtag is one byte that passes a test
+abbrev pub is_one : (ℕ → Bool) → List ℕ → Bool
+is_one test [] = false
+is_one test (b ∷ []) = test b
+is_one test (b ∷ c ∷ s) = false
 
-abbrev pub after_region : List ℕ → Option Stage
-after_region s = if is_variant s then Some AfterVariant else opened s
+-- the classes that a subtag is of
+pub record Classes : Type 0 where
+  pub primary : Bool
+  pub extended : Bool
+  pub script : Bool
+  pub region : Bool
+  pub variant : Bool
+  pub extension_subtag : Bool
+  pub private_subtag : Bool
+  pub mark : Bool
+  pub singleton : Bool
+  pub short : Bool
 
-abbrev pub after_script : List ℕ → Option Stage
-after_script s = if is_region s then Some AfterRegion else after_region s
+-- `short`: at most three bytes, as a primary subtag before extended ones
+abbrev pub classes_of : List ℕ → Classes
+classes_of s = record {
+  primary = is_primary s;
+  extended = is_extended s;
+  script = is_script s;
+  region = is_region s;
+  variant = is_variant s;
+  extension_subtag = is_extension_subtag s;
+  private_subtag = is_private_subtag s;
+  mark = is_one is_mark s;
+  singleton = is_one is_singleton s;
+  short = nat_le (length s) 3;
+}
+
+-- a subtag of one byte, which opens an extension or the private use part
+abbrev pub opened_by : Classes → Option Stage
+opened_by c = if c.mark then Some AfterMark else if c.singleton then Some AfterSingleton else None
+
+abbrev pub after_region_by : Classes → Option Stage
+after_region_by c = if c.variant then Some AfterVariant else opened_by c
+
+abbrev pub after_script_by : Classes → Option Stage
+after_script_by c = if c.region then Some AfterRegion else after_region_by c
 
 -- behind the primary subtag, where so many of the three places for extended subtags are taken
-abbrev pub after_language : ℕ → List ℕ → Option Stage
-after_language taken s = if is_extended s then (if nat_lt taken 3 then Some (Extended (taken + 1)) else None) else if is_script s then Some AfterScript else after_script s
+abbrev pub after_language_by : ℕ → Classes → Option Stage
+after_language_by taken c = if c.extended then (if nat_lt taken 3 then Some (Extended (taken + 1)) else None) else if c.script then Some AfterScript else after_script_by c
 
--- the stage behind one more subtag
+-- the stage behind one more subtag, of these classes
+abbrev pub next_by : Stage → Classes → Option Stage
+next_by Start c = if c.primary then Some (Language (if c.short then 0 else 3)) else None
+next_by (Language taken) c = after_language_by taken c
+next_by (Extended taken) c = after_language_by taken c
+next_by AfterScript c = after_script_by c
+next_by AfterRegion c = after_region_by c
+next_by AfterVariant c = after_region_by c
+next_by AfterSingleton c = if c.extension_subtag then Some InExtension else None
+next_by InExtension c = if c.extension_subtag then Some InExtension else opened_by c
+next_by AfterMark c = if c.private_subtag then Some InPrivate else None
+next_by InPrivate c = if c.private_subtag then Some InPrivate else None
+
+-- the same for a subtag
+abbrev pub opened : List ℕ → Option Stage
+opened s = opened_by (classes_of s)
+
+abbrev pub after_region : List ℕ → Option Stage
+after_region s = after_region_by (classes_of s)
+
+abbrev pub after_script : List ℕ → Option Stage
+after_script s = after_script_by (classes_of s)
+
+abbrev pub after_language : ℕ → List ℕ → Option Stage
+after_language taken s = after_language_by taken (classes_of s)
+
 abbrev pub next_stage : Stage → List ℕ → Option Stage
-next_stage Start s = if is_primary s then Some (Language (if nat_le (length s) 3 then 0 else 3)) else None
-next_stage (Language taken) s = after_language taken s
-next_stage (Extended taken) s = after_language taken s
-next_stage AfterScript s = after_script s
-next_stage AfterRegion s = after_region s
-next_stage AfterVariant s = after_region s
-next_stage AfterSingleton s = if is_extension_subtag s then Some InExtension else None
-next_stage InExtension s = if is_extension_subtag s then Some InExtension else opened s
-next_stage AfterMark s = if is_private_subtag s then Some InPrivate else None
-next_stage InPrivate s = if is_private_subtag s then Some InPrivate else None
+next_stage stage s = next_by stage (classes_of s)
 
 -- whether a tag may end here
 abbrev pub may_end : Stage → Bool
@@ -53,8 +100,3 @@ may_end InPrivate = true
 unfoldable pub runs : Stage → List (List ℕ) → Bool
 runs stage [] = may_end stage
 runs stage (s ∷ ss) = option_map_or (λ after. runs after ss) (next_stage stage s) false
-
--- what stands before the first hyphen, or all of the text
-unfoldable pub first_segment : List ℕ → List ℕ
-first_segment [] = []
-first_segment (b ∷ t) = if is_hyphen b then [] else b ∷ first_segment t

@@ -3,7 +3,7 @@ ghost use Rattle.std.specs.Prelude.{◌≡◌};
 ghost use Rattle.langtag_scan.specs.Class as class;
 
 #[tactic(auto, unfolding(crate::specs::Class::is_letter))]
-fn is_letter(byte: u8) -> bool
+pub(crate) fn is_letter(byte: u8) -> bool
     ensures { result ≡ class.is_letter byte }
 {
     byte.is_ascii_alphabetic()
@@ -16,7 +16,7 @@ fn is_digit(byte: u8) -> bool
     byte.is_ascii_digit()
 }
 
-fn is_alphanumeric(byte: u8) -> bool
+pub(crate) fn is_alphanumeric(byte: u8) -> bool
     ensures { result ≡ class.is_alphanumeric byte }
 {
     is_letter(byte) || is_digit(byte)

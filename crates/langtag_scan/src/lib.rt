@@ -6,12 +6,13 @@ mod case;
 mod caseless;
 mod class;
 mod found;
-mod recognise;
+
 mod segment;
 mod source;
 mod split;
+mod shape;
 mod stage;
-mod subtag;
+
 mod subtags;
 
 pub use case::{case_insensitive_cmp, case_insensitive_eq, case_insensitive_hash, into_smallcase};
@@ -21,7 +22,7 @@ pub use class::{
     is_singleton, is_variant,
 };
 pub use found::Found;
-pub use recognise::recognise_normal;
+
 pub use segment::{segment_end, segment_start};
 pub use source::{ByteSource, Metered};
 pub use subtags::Subtags;

@@ -1,126 +1,58 @@
-//! How the subtags of a normal tag follow one another.
-ghost use Rattle.std.specs.Prelude.{◌≡◌, ◌<◌, ◌≤◌, length};
-ghost use Rattle.langtag_scan.specs.Stage.{opened, after_region as after_region_of, after_script as after_script_of, after_language as after_language_of, next_stage, may_end};
+//! How the subtags of a normal tag follow one another (RFC 5646 section 2.1).
+ghost use Rattle.std.specs.Prelude.{◌≡◌};
+ghost use Rattle.langtag_scan.specs.Shape.{classes_of_shape};
+ghost use Rattle.langtag_scan.specs.Stage.{opened_by, after_region_by, after_script_by, after_language_by, next_by, may_end};
 
-use crate::class::{
-    is_extended, is_extension_subtag, is_mark, is_primary, is_private_subtag, is_region, is_script,
-    is_singleton, is_variant,
-};
+use crate::shape::Shape;
 
-/// Which part of a normal tag the last subtag belongs to.
+/// How many extended subtags may stand behind a primary subtag.
+const MOST_EXTENDED: u8 = 3;
+
+/// Which part of a tag the last whole subtag belongs to.
 #[derive(Clone, Copy)]
 pub(crate) enum Stage {
+    /// Before the first subtag.
     Start,
+    /// Behind a primary subtag. So many places for extended subtags are taken: all behind one of four letters or more.
     Language(u8),
+    /// Behind an extended subtag, with so many places taken.
     Extended(u8),
+    /// Behind the script.
     AfterScript,
+    /// Behind the region.
     AfterRegion,
+    /// Behind a variant.
     AfterVariant,
+    /// Behind a singleton, whose extension needs a subtag.
     AfterSingleton,
+    /// Behind a subtag of an extension.
     InExtension,
+    /// Behind the mark of a private use part, which needs a subtag.
     AfterMark,
+    /// Behind a private use subtag.
     InPrivate,
 }
 
-fn open(subtag: &[u8]) -> Option<Stage>
-    ensures { result ≡ opened subtag.now }
-{
-    match subtag {
-        [byte] => {
-            if is_mark(*byte) {
-                Some(Stage::AfterMark)
-            } else if is_singleton(*byte) {
-                Some(Stage::AfterSingleton)
-            } else {
-                None
-            }
-        }
-        _ => None,
-    }
-}
-
-fn after_region(subtag: &[u8]) -> Option<Stage>
-    ensures { result ≡ after_region_of subtag.now }
-{
-    if is_variant(subtag) {
-        Some(Stage::AfterVariant)
-    } else {
-        open(subtag)
-    }
-}
-
-fn after_script(subtag: &[u8]) -> Option<Stage>
-    ensures { result ≡ after_script_of subtag.now }
-{
-    if is_region(subtag) {
-        Some(Stage::AfterRegion)
-    } else {
-        after_region(subtag)
-    }
-}
-
-fn after_language(taken: u8, subtag: &[u8]) -> Option<Stage>
-    ensures { result ≡ after_language_of taken subtag.now }
-{
-    if is_extended(subtag) {
-        if taken < 3 {
-            Some(Stage::Extended(taken + 1))
-        } else {
-            None
-        }
-    } else if is_script(subtag) {
-        Some(Stage::AfterScript)
-    } else {
-        after_script(subtag)
-    }
-}
-
 impl Stage {
-    /// The stage behind one more subtag, or None where none such may follow.
-    pub(crate) fn next(self, subtag: &[u8]) -> Option<Stage>
-        ensures { result ≡ next_stage self subtag.now }
+    /// The stage behind one more subtag, or None where no such subtag may follow.
+    pub(crate) fn next(self, subtag: &Shape) -> Option<Stage>
+        ensures { result ≡ next_by self (classes_of_shape subtag.now) }
     {
         match self {
-            Stage::Start => {
-                if is_primary(subtag) {
-                    Some(Stage::Language(if subtag.len() <= 3 { 0 } else { 3 }))
-                } else {
-                    None
-                }
+            Stage::Start if subtag.is_primary() => {
+                Some(Stage::Language(if subtag.is_short() { 0 } else { MOST_EXTENDED }))
             }
-            Stage::Language(taken) => after_language(taken, subtag),
-            Stage::Extended(taken) => after_language(taken, subtag),
+            Stage::Language(taken) | Stage::Extended(taken) => after_language(taken, subtag),
             Stage::AfterScript => after_script(subtag),
-            Stage::AfterRegion => after_region(subtag),
-            Stage::AfterVariant => after_region(subtag),
-            Stage::AfterSingleton => {
-                if is_extension_subtag(subtag) {
-                    Some(Stage::InExtension)
-                } else {
-                    None
-                }
+            Stage::AfterRegion | Stage::AfterVariant => after_region(subtag),
+            Stage::AfterSingleton | Stage::InExtension if subtag.is_extension_subtag() => {
+                Some(Stage::InExtension)
             }
-            Stage::InExtension => {
-                if is_extension_subtag(subtag) {
-                    Some(Stage::InExtension)
-                } else {
-                    open(subtag)
-                }
+            Stage::InExtension => opened(subtag),
+            Stage::AfterMark | Stage::InPrivate if subtag.is_private_subtag() => {
+                Some(Stage::InPrivate)
             }
-            Stage::AfterMark => {
-                if is_private_subtag(subtag) {
-                    Some(Stage::InPrivate)
-                } else {
-                    None
-                }
-            }
-            Stage::InPrivate => {
-                if is_private_subtag(subtag) {
-                    Some(Stage::InPrivate)
-                } else {
-                    None
-                }
-            }
+            _ => None,
         }
     }
 
@@ -132,5 +64,54 @@ impl Stage {
             self,
             Stage::Start | Stage::AfterSingleton | Stage::AfterMark
         )
+    }
+}
+
+fn after_language(taken: u8, subtag: &Shape) -> Option<Stage>
+    ensures { result ≡ after_language_by taken (classes_of_shape subtag.now) }
+{
+    if subtag.is_extended() {
+        if taken < MOST_EXTENDED {
+            Some(Stage::Extended(taken + 1))
+        } else {
+            None
+        }
+    } else if subtag.is_script() {
+        Some(Stage::AfterScript)
+    } else {
+        after_script(subtag)
+    }
+}
+
+fn after_script(subtag: &Shape) -> Option<Stage>
+    ensures { result ≡ after_script_by (classes_of_shape subtag.now) }
+{
+    if subtag.is_region() {
+        Some(Stage::AfterRegion)
+    } else {
+        after_region(subtag)
+    }
+}
+
+fn after_region(subtag: &Shape) -> Option<Stage>
+    ensures { result ≡ after_region_by (classes_of_shape subtag.now) }
+{
+    if subtag.is_variant() {
+        Some(Stage::AfterVariant)
+    } else {
+        opened(subtag)
+    }
+}
+
+/// A subtag of one byte opens the private use part or an extension.
+fn opened(subtag: &Shape) -> Option<Stage>
+    ensures { result ≡ opened_by (classes_of_shape subtag.now) }
+{
+    if subtag.is_mark() {
+        Some(Stage::AfterMark)
+    } else if subtag.is_singleton() {
+        Some(Stage::AfterSingleton)
+    } else {
+        None
     }
 }
