@@ -56,11 +56,11 @@ variant_long s h =
       | inr a ↦ let k = both_true (eqb (length s) 4 && are_alphanumeric s) (starts_with_digit s) a in let m = both_true (eqb (length s) 4) (are_alphanumeric s) k.0 in inr (eqb-true _ _ m.0, m.1, k.1)
     ]
 
-first_no_digit : (s : List ℕ) → are_letters s ≡ true → starts_with_digit s ≡ true → ⊥
+pub first_no_digit : (s : List ℕ) → are_letters s ≡ true → starts_with_digit s ≡ true → ⊥
 first_no_digit [] l d = absurd cc
 first_no_digit (b ∷ s) l d = let k = both_true (is_letter b) (are_letters s) l in letter_no_digit b k.0 d
 
-digits_begin : (s : List ℕ) → 1 ≤ length s → are_digits s ≡ true → starts_with_digit s ≡ true
+pub digits_begin : (s : List ℕ) → 1 ≤ length s → are_digits s ≡ true → starts_with_digit s ≡ true
 digits_begin [] n d = absurd (omega arith)
 digits_begin (b ∷ s) n d = (both_true (is_digit b) (are_digits s) d).0
 

@@ -7,7 +7,7 @@ use Rattle.langtag_scan.specs.declared.shape.Content.{Content}
 use Rattle.langtag_scan.specs.declared.shape.Content.TheVariants.{Letters, Digits, DigitFirst, Mixed}
 use Rattle.langtag_scan.specs.declared.shape.Shape.{Shape}
 
-abbrev pub content_of : List ℕ → Content
+unfoldable pub content_of : List ℕ → Content
 content_of s = if are_letters s then Letters else if are_digits s then Digits else if starts_with_digit s then DigitFirst else Mixed
 
 abbrev pub shape_of : List ℕ → Shape

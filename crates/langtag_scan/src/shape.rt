@@ -27,9 +27,10 @@ pub(crate) struct Shape {
 }
 
 impl Shape {
-    ghost use Rattle.langtag_scan.specs.Shape.{shape_of, classes_of_shape};
+    ghost use Rattle.langtag_scan.specs.Shape.{content_of, shape_of, classes_of_shape};
 
     /// The subtag without a byte.
+    #[tactic(auto, unfolding(crate::specs::Shape::content_of))]
     pub(crate) fn empty() -> Self
         ensures { result ≡ shape_of [] }
     {
@@ -59,8 +60,9 @@ impl Shape {
         self.len += 1;
     }
 
+    #[tactic(auto, using(crate::proofs::ShapeLaws::content_push))]
     fn content_with(&self, byte: u8) -> Content
-        ensures { (s : List ℕ) → IsTrue (alphanumeric byte) → self.now ≡ shape_of s → result ≡ (shape_of (s ++ byte ∷ [])).content }
+        ensures { (s : List ℕ) → IsTrue (alphanumeric byte) → self.now ≡ shape_of s → result ≡ content_of (s ++ byte ∷ []) }
     {
         match self.content {
             Content::Letters if is_letter(byte) => Content::Letters,
