@@ -6,3 +6,4 @@ pub mod CaseOrder
 pub mod SegmentLemmas
 pub mod SubtagsLemmas
 pub mod ShapeLaws
+pub mod Running

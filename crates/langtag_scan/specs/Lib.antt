@@ -9,4 +9,5 @@ pub mod Viable
 pub mod Found
 pub mod Stage
 pub mod Shape
+pub mod Machine
 pub mod CaseLaws

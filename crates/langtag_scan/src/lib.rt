@@ -5,7 +5,9 @@
 mod case;
 mod caseless;
 mod class;
+mod ends;
 mod found;
+mod machine;
 
 mod segment;
 mod source;
@@ -21,6 +23,7 @@ pub use class::{
     is_extended, is_extension_subtag, is_mark, is_primary, is_private_subtag, is_region, is_script,
     is_singleton, is_variant,
 };
+pub use ends::Ends;
 pub use found::Found;
 
 pub use segment::{segment_end, segment_start};

@@ -1,0 +1,94 @@
+-- What the machine knows of the bytes that it has read.
+-- Only contracts of private functions cite this page.
+use Rattle.std.specs.Prelude.{◌≡◌, ℕ, ◌+◌, ◌≤◌, Bool, true, false, List, [], ◌∷◌, ◌++◌, length}
+use Rattle.std.specs.List.{after_last}
+use Rattle.std.specs.Option.{option_map_or}
+use Rattle.langtag_scan.specs.Class.{is_letter, is_alphanumeric, are_letters, are_alphanumeric, is_mark}
+use Rattle.langtag_scan.specs.Subtags.{is_hyphen, segments}
+use Rattle.langtag_scan.specs.Tag.{IsNormal, IsPrivate}
+use Rattle.langtag_scan.specs.Stage.{next_stage, runs}
+use Rattle.langtag_scan.specs.Shape.{shape_of}
+use Rattle.langtag_scan.specs.declared.stage.Stage.{Stage}
+use Rattle.langtag_scan.specs.declared.stage.Stage.TheVariants.{Start, Language, Extended, AfterScript, AfterRegion, AfterVariant, AfterSingleton, InExtension, AfterMark, InPrivate}
+use Rattle.langtag_scan.specs.declared.shape.Shape.{Shape}
+use Rattle.langtag_scan.specs.declared.ends.Ends.{Ends}
+use Rattle.langtag_scan.specs.declared.machine.Reading.{Reading}
+use Rattle.langtag_scan.specs.declared.machine.Reading.TheVariants.{Normal, Private, Stopped}
+
+-- the subtag that has begun: the bytes behind the last hyphen
+abbrev pub begun : List ℕ → List ℕ
+begun p = after_last is_hyphen p
+
+-- whether a subtag may hold this byte
+abbrev pub may_hold : Stage → ℕ → Bool
+may_hold Start b = is_letter b
+may_hold _ b = is_alphanumeric b
+
+-- ---- ends
+
+abbrev pub all_at : ℕ → Ends
+all_at p = record { language = p; script = p; region = p; variants = p; extensions = p; whole = p }
+
+-- the ends behind one more subtag, which ends at a place and has brought the machine into a stage
+abbrev pub end_at : Stage → ℕ → Ends → Ends
+end_at Start p e = all_at p
+end_at (Language taken) p e = all_at p
+end_at (Extended taken) p e = all_at p
+end_at AfterScript p e = record { language = e.language; script = p; region = p; variants = p; extensions = p; whole = p }
+end_at AfterRegion p e = record { language = e.language; script = e.script; region = p; variants = p; extensions = p; whole = p }
+end_at AfterVariant p e = record { language = e.language; script = e.script; region = e.region; variants = p; extensions = p; whole = p }
+end_at AfterSingleton p e = record { language = e.language; script = e.script; region = e.region; variants = e.variants; extensions = p; whole = p }
+end_at InExtension p e = record { language = e.language; script = e.script; region = e.region; variants = e.variants; extensions = p; whole = p }
+end_at AfterMark p e = record { language = e.language; script = e.script; region = e.region; variants = e.variants; extensions = e.extensions; whole = p }
+end_at InPrivate p e = record { language = e.language; script = e.script; region = e.region; variants = e.variants; extensions = e.extensions; whole = p }
+
+-- where a subtag ends that begins behind the hyphen after all others
+abbrev pub place_behind : Stage → Ends → List ℕ → ℕ
+place_behind Start e s = length s
+place_behind _ e s = e.whole + 1 + length s
+
+-- the ends behind all these subtags
+unfoldable pub ends_behind : Stage → Ends → List (List ℕ) → Ends
+ends_behind stage e [] = e
+ends_behind stage e (s ∷ ss) = option_map_or (λ after. ends_behind after (end_at after (place_behind stage e s) e) ss) (next_stage stage s) e
+
+-- ---- the front that was read
+
+-- at most eight letters and digits, of which the first subtag has letters alone
+pub record IsBegun (stage : Stage) (s : List ℕ) : Type 0 where
+  pub short : length s ≤ 8
+  pub alphanumeric : are_alphanumeric s ≡ true
+  pub letters : stage ≡ Start → are_letters s ≡ true
+
+-- however a text goes on behind the front q, from one stage it runs as what has begun does from another
+pub record GoesOn (first : Stage) (q : List ℕ) (stage : Stage) (s : List ℕ) : Type 0 where
+  pub begun : IsBegun stage s
+  pub same : (u : List ℕ) → runs first (segments (q ++ u)) ≡ runs stage (segments (s ++ u))
+
+-- a normal tag may begin with the front p
+pub record ReadsNormal (p : List ℕ) (stage : Stage) (s : List ℕ) (e : Ends) : Type 0 where
+  pub goes : GoesOn Start p stage s
+  pub ends : (u : List ℕ) → ends_behind Start (all_at 0) (segments (p ++ u)) ≡ ends_behind stage e (segments (s ++ u))
+  pub place : place_behind stage e s ≡ length p
+  pub first : stage ≡ Start → p ≡ s
+  pub later : (stage ≡ Start → ⊥) → (u : List ℕ) → IsPrivate (p ++ u) → ⊥
+
+-- a private text, and no normal one, may begin with the front p
+pub record ReadsPrivate (p : List ℕ) (stage : Stage) (s : List ℕ) : Type 0 where
+  pub mark : ℕ
+  pub rest : List ℕ
+  pub split : p ≡ mark ∷ 45 ∷ rest
+  pub marked : is_mark mark ≡ true
+  pub goes : GoesOn AfterMark rest stage s
+  pub later : stage ≡ Start → ⊥
+  pub not_normal : (u : List ℕ) → IsNormal (p ++ u) → ⊥
+
+-- neither may begin with it
+pub record HasStopped (p : List ℕ) : Type 0 where
+  pub not_normal : (u : List ℕ) → IsNormal (p ++ u) → ⊥
+  pub not_private : (u : List ℕ) → IsPrivate (p ++ u) → ⊥
+
+abbrev pub Reads : Reading → List ℕ → Stage → Shape → Ends → Type 0
+Reads Normal p stage shape ends = (shape ≡ shape_of (begun p)) × ReadsNormal p stage (begun p) ends
+Reads Private p stage shape ends = (shape ≡ shape_of (begun p)) × ReadsPrivate p stage (begun p)
+Reads Stopped p stage shape ends = HasStopped p
