@@ -7,3 +7,5 @@ pub mod SegmentLemmas
 pub mod SubtagsLemmas
 pub mod ShapeLaws
 pub mod Running
+pub mod Filling
+pub mod PrivateTexts

@@ -75,7 +75,7 @@ of_private_subtag s h =
     let m = between_true 1 8 (length s) k.0 in
     record { some = omega arith; short = omega arith; alnum = k.1 }
 
-mark_alphanumeric : (c : ℕ) → is_mark c ≡ true → is_alphanumeric c ≡ true
+pub mark_alphanumeric : (c : ℕ) → is_mark c ≡ true → is_alphanumeric c ≡ true
 unfolding is_mark is_letter
 mark_alphanumeric c h =
     elim (one_true (eqb c 120) (eqb c 88) h) [

@@ -1,5 +1,7 @@
 -- Which fronts of a text some tag begins with.
-use Rattle.std.specs.Prelude.{◌≡◌, ℕ, ◌<◌, ◌≤◌, ◌⊎◌, List, ◌++◌, length, take}
+use Rattle.std.specs.Prelude.{◌≡◌, ℕ, ◌-◌, ◌<◌, ◌≤◌, ◌⊎◌, List, ◌++◌, length, take, replicate}
+use Rattle.std.specs.List.{after_last}
+use Rattle.langtag_scan.specs.Subtags.{is_hyphen}
 use Rattle.langtag_scan.specs.Tag.{IsTag}
 
 -- some tag begins with this text
@@ -11,3 +13,11 @@ pub record IsStop (t : List ℕ) (n : ℕ) : Type 0 where
   pub within : n ≤ length t
   pub before : (k : ℕ) → k < n → IsViable (take k t)
   pub at : (IsViable (take n t) × (n ≡ length t)) ⊎ (IsViable (take n t) → ⊥)
+
+-- as many letters `a` as bring a subtag that has begun to five bytes
+abbrev pub filling : List ℕ → List ℕ
+filling s = replicate (5 - length s) 97
+
+-- the text, with the bytes behind its last hyphen, or all where it has none, brought to five
+abbrev pub fill : List ℕ → List ℕ
+fill p = p ++ filling (after_last is_hyphen p)
