@@ -9,3 +9,4 @@ pub mod ShapeLaws
 pub mod Running
 pub mod Filling
 pub mod PrivateTexts
+pub mod ReadingLaws

@@ -1,0 +1,201 @@
+-- What the machine knows of a front, and of the front with one more byte.
+use Rattle.std.proofs.Common.{◌≡◌, ℕ, suc, ◌+◌, ◌-◌, ◌<◌, ◌≤◌, Bool, true, false, cond, eqb, eqb-true, ltb, not, ◌⊎◌, ◌&&◌, List, [], ◌∷◌, ◌++◌, length, Option, Some, None, inl, inr, refl, sym, ap, subst, ◌∙◌, arith, append_assoc, append-nil, reverse, drop}
+use Rattle.std.specs.List.{after_last, suffix_len}
+use Rattle.std.specs.Option.{option_map_or}
+use Rattle.std.proofs.lemmas.List.{length-append, length_push, drop-append-le, drop_all, reverse-append}
+use Rattle.std.proofs.lemmas.List.Sums.{suffix_len-le-length}
+use Rattle.langtag_scan.specs.Class.{is_letter, is_alphanumeric, are_letters, are_alphanumeric, is_primary, is_mark}
+use Rattle.langtag_scan.specs.Subtags.{is_hyphen, segments}
+use Rattle.langtag_scan.specs.Tag.{IsNormal, IsPrivate}
+use Rattle.langtag_scan.specs.Stage.{Classes, classes_of, is_one, opened_by, after_region_by, after_script_by, after_language_by, next_by, next_stage, may_end, runs}
+use Rattle.langtag_scan.specs.Shape.{shape_of}
+use Rattle.langtag_scan.specs.Machine.{begun, may_hold, all_at, end_at, place_behind, ends_behind, IsBegun, GoesOn, ReadsNormal, ReadsPrivate, HasStopped, Reads}
+use Rattle.langtag_scan.specs.declared.ends.Ends.{Ends}
+use Rattle.langtag_scan.specs.declared.shape.Shape.{Shape}
+use Rattle.langtag_scan.specs.declared.machine.Reading.{Reading}
+use Rattle.langtag_scan.specs.declared.machine.Reading.TheVariants.{Normal, Private, Stopped}
+use Rattle.langtag_scan.specs.declared.stage.Stage.{Stage}
+use Rattle.langtag_scan.specs.declared.stage.Stage.TheVariants.{Start, Language, Extended, AfterScript, AfterRegion, AfterVariant, AfterSingleton, InExtension, AfterMark, InPrivate}
+use Rattle.langtag_scan.proofs.Disjoint.{both_true}
+use Rattle.langtag_scan.proofs.Decoding.{chosen}
+use Rattle.langtag_scan.proofs.Segments.{normal_from_runs, runs_from_normal}
+use Rattle.langtag_scan.proofs.Running.{IsStuck, empty_begun, held_alphanumeric, goes_grown, goes_behind, goes_refused, goes_stuck, segments-hyphen, segments-one, ends_behind-cons}
+use Rattle.langtag_scan.proofs.PrivateTexts.{IsMarked, marked_from_private, private_begun, private_no_hyphen, mark_letter, marked_not_normal}
+
+-- ---- the subtag that has begun
+
+pub begun-hyphen : (p : List ℕ) → begun (p ++ 45 ∷ []) ≡ []
+begun-hyphen p = rw (reverse-append p (45 ∷ [])) (drop_all (length (p ++ 45 ∷ []) - 0) (p ++ 45 ∷ []) (omega arith))
+
+pub begun-push : (p : List ℕ) (b : ℕ) → eqb b 45 ≡ false → begun (p ++ b ∷ []) ≡ begun p ++ b ∷ []
+begun-push p b other =
+    let n = suffix_len (λ x. not (is_hyphen x)) p in
+    rw (reverse-append p (b ∷ []), other) (ap (λ k. drop k (p ++ b ∷ [])) (omega (arith, length_push p b)) ∙ drop-append-le (length p - n) p (b ∷ []) (omega arith))
+
+-- ---- the stage behind a subtag is not the first one
+
+is_start : Stage → Bool
+is_start Start = true
+is_start _ = false
+
+abbrev starts : Option Stage → Bool
+starts None = false
+starts (Some stage) = is_start stage
+
+starts-cond : (b : Bool) (x y : Option Stage) → starts x ≡ false → starts y ≡ false → starts (cond b x y) ≡ false
+starts-cond true x y h k = h
+starts-cond false x y h k = k
+
+starts-opened : (c : Classes) → starts (opened_by c) ≡ false
+unfolding is_start
+starts-opened c = starts-cond c.mark _ _ refl (starts-cond c.singleton _ _ refl refl)
+
+starts-after_region : (c : Classes) → starts (after_region_by c) ≡ false
+unfolding is_start
+starts-after_region c = starts-cond c.variant _ _ refl (starts-opened c)
+
+starts-after_script : (c : Classes) → starts (after_script_by c) ≡ false
+unfolding is_start
+starts-after_script c = starts-cond c.region _ _ refl (starts-after_region c)
+
+starts-after_language : (taken : ℕ) (c : Classes) → starts (after_language_by taken c) ≡ false
+unfolding is_start
+starts-after_language taken c = starts-cond c.extended _ _ (starts-cond (ltb taken 3) _ _ refl refl) (starts-cond c.script _ _ refl (starts-after_script c))
+
+starts-next : (stage : Stage) (c : Classes) → starts (next_by stage c) ≡ false
+unfolding is_start
+starts-next Start c = starts-cond c.primary _ _ refl refl
+starts-next (Language taken) c = starts-after_language taken c
+starts-next (Extended taken) c = starts-after_language taken c
+starts-next AfterScript c = starts-after_script c
+starts-next AfterRegion c = starts-after_region c
+starts-next AfterVariant c = starts-after_region c
+starts-next AfterSingleton c = starts-cond c.extension_subtag _ _ refl refl
+starts-next InExtension c = starts-cond c.extension_subtag _ _ refl (starts-opened c)
+starts-next AfterMark c = starts-cond c.private_subtag _ _ refl refl
+starts-next InPrivate c = starts-cond c.private_subtag _ _ refl refl
+
+next_not_start : (stage after : Stage) (s : List ℕ) → next_stage stage s ≡ Some after → after ≡ Start → ⊥
+unfolding is_start
+next_not_start stage after s e first =
+    let no_start : starts (next_stage stage s) ≡ false = starts-next stage (classes_of s) in
+    let yes_start : starts (next_stage stage s) ≡ true = ap starts e ∙ ap is_start first in
+    cc
+
+-- ---- where a subtag ends
+
+place_behind-push : (stage : Stage) (e : Ends) (s : List ℕ) (b : ℕ) → place_behind stage e (s ++ b ∷ []) ≡ place_behind stage e s + 1
+place_behind-push Start e s b = length_push s b
+place_behind-push (Language taken) e s b = omega (arith, length_push s b)
+place_behind-push (Extended taken) e s b = omega (arith, length_push s b)
+place_behind-push AfterScript e s b = omega (arith, length_push s b)
+place_behind-push AfterRegion e s b = omega (arith, length_push s b)
+place_behind-push AfterVariant e s b = omega (arith, length_push s b)
+place_behind-push AfterSingleton e s b = omega (arith, length_push s b)
+place_behind-push InExtension e s b = omega (arith, length_push s b)
+place_behind-push AfterMark e s b = omega (arith, length_push s b)
+place_behind-push InPrivate e s b = omega (arith, length_push s b)
+
+-- behind a hyphen the next subtag begins one place on
+place_behind-end : (after : Stage) (n : ℕ) (e : Ends) → (after ≡ Start → ⊥) → place_behind after (end_at after n e) [] ≡ n + 1
+place_behind-end Start n e h = absurd (h refl)
+place_behind-end (Language taken) n e h = omega arith
+place_behind-end (Extended taken) n e h = omega arith
+place_behind-end AfterScript n e h = omega arith
+place_behind-end AfterRegion n e h = omega arith
+place_behind-end AfterVariant n e h = omega arith
+place_behind-end AfterSingleton n e h = omega arith
+place_behind-end InExtension n e h = omega arith
+place_behind-end AfterMark n e h = omega arith
+place_behind-end InPrivate n e h = omega arith
+
+-- ---- no normal tag, and no private text
+
+pub not_normal : (t : List ℕ) → runs Start (segments t) ≡ false → IsNormal t → ⊥
+not_normal t h n = let k = runs_from_normal t n in cc
+
+-- a private text that begins as a mark does
+not_marked : (m : ℕ) (q t u : List ℕ) → t ≡ m ∷ 45 ∷ q → runs AfterMark (segments (q ++ u)) ≡ false → IsPrivate (t ++ u) → ⊥
+not_marked m q t u split none p =
+    let k = marked_from_private (t ++ u) p in
+    let text : m ∷ 45 ∷ (q ++ u) ≡ k.mark ∷ 45 ∷ k.rest = ap (λ x. x ++ u) (sym split) ∙ k.split in
+    let rest : q ++ u ≡ k.rest = cc in
+    let run : runs AfterMark (segments (q ++ u)) ≡ true = ap (λ x. runs AfterMark (segments x)) rest ∙ k.run in
+    cc
+
+later_normal : (p : List ℕ) (b : ℕ) → ((u : List ℕ) → IsNormal (p ++ u) → ⊥) → (u : List ℕ) → IsNormal ((p ++ b ∷ []) ++ u) → ⊥
+later_normal p b never u n = never (b ∷ u) (subst IsNormal (append_assoc p (b ∷ []) u) n)
+
+later_private : (p : List ℕ) (b : ℕ) → ((u : List ℕ) → IsPrivate (p ++ u) → ⊥) → (u : List ℕ) → IsPrivate ((p ++ b ∷ []) ++ u) → ⊥
+later_private p b never u n = never (b ∷ u) (subst IsPrivate (append_assoc p (b ∷ []) u) n)
+
+stopped_more : (p : List ℕ) (b : ℕ) → HasStopped p → HasStopped (p ++ b ∷ [])
+stopped_more p b h = record { not_normal = later_normal p b h.not_normal; not_private = later_private p b h.not_private }
+
+-- ---- one byte that the subtag holds
+
+normal_grown : (p : List ℕ) (b : ℕ) (stage : Stage) (e : Ends) → eqb b 45 ≡ false → may_hold stage b ≡ true → length (begun p) < 8 → ReadsNormal p stage (begun p) e → ReadsNormal (p ++ b ∷ []) stage (begun p ++ b ∷ []) e
+normal_grown p b stage e other held short n = record {
+  goes = goes_grown Start stage p (begun p) b held short n.goes;
+  ends = λ u. ap (λ t. ends_behind Start (all_at 0) (segments t)) (append_assoc p (b ∷ []) u) ∙ n.ends (b ∷ u) ∙ ap (λ t. ends_behind stage e (segments t)) (sym (append_assoc (begun p) (b ∷ []) u));
+  place = place_behind-push stage e (begun p) b ∙ ap (λ k. k + 1) n.place ∙ sym (length_push p b);
+  first = λ h. ap (λ t. t ++ b ∷ []) (n.first h);
+  later = λ h. later_private p b (n.later h);
+}
+
+private_grown : (p : List ℕ) (b : ℕ) (stage : Stage) → may_hold stage b ≡ true → length (begun p) < 8 → ReadsPrivate p stage (begun p) → ReadsPrivate (p ++ b ∷ []) stage (begun p ++ b ∷ [])
+private_grown p b stage held short n = record {
+  mark = n.mark;
+  rest = n.rest ++ b ∷ [];
+  split = ap (λ t. t ++ b ∷ []) n.split;
+  marked = n.marked;
+  goes = goes_grown AfterMark stage n.rest (begun p) b held short n.goes;
+  later = n.later;
+  not_normal = later_normal p b n.not_normal;
+}
+
+abbrev pub Grows : Shape → ℕ → Shape → Type 0
+Grows shape b next = (s : List ℕ) → shape ≡ shape_of s → next ≡ shape_of (s ++ b ∷ [])
+
+pub reads_grown : (r : Reading) (p : List ℕ) (b : ℕ) (stage : Stage) (shape next : Shape) (e : Ends) → eqb b 45 ≡ false → may_hold stage b ≡ true → shape.len < 8 → Grows shape b next → Reads r p stage shape e → Reads r (p ++ b ∷ []) stage next e
+reads_grown Normal p b stage shape next e other held short grows h =
+    let more = begun-push p b other in
+    let fits : length (begun p) < 8 = omega (arith, ap (λ (x : Shape). x.len) h.0) in
+    (grows (begun p) h.0 ∙ ap shape_of (sym more), subst (λ s. ReadsNormal (p ++ b ∷ []) stage s e) (sym more) (normal_grown p b stage e other held fits h.1))
+reads_grown Private p b stage shape next e other held short grows h =
+    let more = begun-push p b other in
+    let fits : length (begun p) < 8 = omega (arith, ap (λ (x : Shape). x.len) h.0) in
+    (grows (begun p) h.0 ∙ ap shape_of (sym more), subst (λ s. ReadsPrivate (p ++ b ∷ []) stage s) (sym more) (private_grown p b stage held fits h.1))
+reads_grown Stopped p b stage shape next e other held short grows h = stopped_more p b h
+
+-- ---- one byte that ends all
+
+-- at the first subtag, a byte that is no hyphen and no letter makes no private text
+first_stuck : (p : List ℕ) (b : ℕ) (stage : Stage) (u : List ℕ) → eqb b 45 ≡ false → ((may_hold stage b ≡ false) ⊎ (8 ≤ length (begun p))) → stage ≡ Start → are_alphanumeric p ≡ true → p ≡ begun p → IsPrivate ((p ++ b ∷ []) ++ u) → ⊥
+first_stuck p b stage u other stuck first held whole n =
+    elim (private_begun p b u held (subst IsPrivate (append_assoc p (b ∷ []) u) n)) [
+      | inl k ↦ elim stuck [
+        | inl no_letter ↦
+            let letter : is_letter b ≡ true = mark_letter b k.1 in
+            let none : is_letter b ≡ false = rw first at no_letter in
+            cc
+        | inr long ↦ omega (arith, ap length whole, ap length k.0)
+      ]
+      | inr k ↦ let yes_hyphen : eqb b 45 ≡ true = ap (λ x. eqb x 45) k.3 in cc
+    ]
+
+pub normal_stuck : (p : List ℕ) (b : ℕ) (stage : Stage) (e : Ends) → eqb b 45 ≡ false → ((may_hold stage b ≡ false) ⊎ (8 ≤ length (begun p))) → IsStuck stage (begun p) b → ReadsNormal p stage (begun p) e → HasStopped (p ++ b ∷ [])
+normal_stuck p b stage e other why stuck n = record {
+  not_normal = λ u. not_normal ((p ++ b ∷ []) ++ u) (goes_stuck Start stage p (begun p) b u other stuck n.goes);
+  not_private = λ u q. by_start (starting stage) u q;
+}
+  where
+    starting : (stage : Stage) → (stage ≡ Start) ⊎ (stage ≡ Start → ⊥)
+    starting Start = inl refl
+    starting _ = inr (λ h. cc)
+
+    by_start : ((stage ≡ Start) ⊎ (stage ≡ Start → ⊥)) → (u : List ℕ) → IsPrivate ((p ++ b ∷ []) ++ u) → ⊥
+    by_start (inl h) u q =
+        let whole = n.first h in
+        first_stuck p b stage u other why h (rw whole n.goes.begun.alphanumeric) whole q
+    by_start (inr h) u q = later_private p b (n.later h) u q
