@@ -92,7 +92,7 @@ mark_letter m h =
       | inr e ↦ let same : m ≡ 88 = eqb-true _ _ e in rw same refl
     ]
 
-one_no_primary : (m : ℕ) → is_primary (m ∷ []) ≡ false
+pub one_no_primary : (m : ℕ) → is_primary (m ∷ []) ≡ false
 unfolding is_primary
 one_no_primary m = refl
 

@@ -8,7 +8,8 @@ use Rattle.langtag_scan.specs.Class.{is_letter, is_alphanumeric, are_letters, ar
 use Rattle.langtag_scan.specs.Subtags.{is_hyphen, segments}
 use Rattle.langtag_scan.specs.Tag.{IsNormal, IsPrivate}
 use Rattle.langtag_scan.specs.Stage.{Classes, classes_of, is_one, opened_by, after_region_by, after_script_by, after_language_by, next_by, next_stage, may_end, runs}
-use Rattle.langtag_scan.specs.Shape.{shape_of}
+use Rattle.langtag_scan.specs.Viable.{filling, fill}
+use Rattle.langtag_scan.specs.Shape.{shape_of, classes_of_shape}
 use Rattle.langtag_scan.specs.Machine.{begun, may_hold, all_at, end_at, place_behind, ends_behind, IsBegun, GoesOn, ReadsNormal, ReadsPrivate, HasStopped, Reads}
 use Rattle.langtag_scan.specs.declared.ends.Ends.{Ends}
 use Rattle.langtag_scan.specs.declared.shape.Shape.{Shape}
@@ -19,8 +20,10 @@ use Rattle.langtag_scan.specs.declared.stage.Stage.TheVariants.{Start, Language,
 use Rattle.langtag_scan.proofs.Disjoint.{both_true}
 use Rattle.langtag_scan.proofs.Decoding.{chosen}
 use Rattle.langtag_scan.proofs.Segments.{normal_from_runs, runs_from_normal}
-use Rattle.langtag_scan.proofs.Running.{IsStuck, empty_begun, held_alphanumeric, goes_grown, goes_behind, goes_refused, goes_stuck, segments-hyphen, segments-one, ends_behind-cons}
-use Rattle.langtag_scan.proofs.PrivateTexts.{IsMarked, marked_from_private, private_begun, private_no_hyphen, mark_letter, marked_not_normal}
+use Rattle.langtag_scan.proofs.Running.{IsStuck, stuck_full, stuck_other, empty_begun, held_alphanumeric, goes_grown, goes_behind, goes_refused, goes_stuck, segments-hyphen, segments-one, ends_behind-cons}
+use Rattle.langtag_scan.proofs.PrivateTexts.{IsMarked, marked_from_private, private_from_marked, private_begun, private_no_hyphen, mark_letter, one_no_primary, marked_not_normal}
+use Rattle.langtag_scan.proofs.ShapeLaws.{mark-shape, next_stage-shape}
+use Rattle.langtag_scan.proofs.Filling.{goes_filled}
 
 -- ---- the subtag that has begun
 
@@ -81,6 +84,10 @@ next_not_start stage after s e first =
     let no_start : starts (next_stage stage s) ≡ false = starts-next stage (classes_of s) in
     let yes_start : starts (next_stage stage s) ≡ true = ap starts e ∙ ap is_start first in
     cc
+
+starting : (stage : Stage) → (stage ≡ Start) ⊎ (stage ≡ Start → ⊥)
+starting Start = inl refl
+starting _ = inr (λ h. cc)
 
 -- ---- where a subtag ends
 
@@ -190,12 +197,161 @@ normal_stuck p b stage e other why stuck n = record {
   not_private = λ u q. by_start (starting stage) u q;
 }
   where
-    starting : (stage : Stage) → (stage ≡ Start) ⊎ (stage ≡ Start → ⊥)
-    starting Start = inl refl
-    starting _ = inr (λ h. cc)
-
     by_start : ((stage ≡ Start) ⊎ (stage ≡ Start → ⊥)) → (u : List ℕ) → IsPrivate ((p ++ b ∷ []) ++ u) → ⊥
     by_start (inl h) u q =
         let whole = n.first h in
         first_stuck p b stage u other why h (rw whole n.goes.begun.alphanumeric) whole q
     by_start (inr h) u q = later_private p b (n.later h) u q
+
+private_stuck : (p : List ℕ) (b : ℕ) (stage : Stage) → eqb b 45 ≡ false → IsStuck stage (begun p) b → ReadsPrivate p stage (begun p) → HasStopped (p ++ b ∷ [])
+private_stuck p b stage other stuck n = record {
+  not_normal = later_normal p b n.not_normal;
+  not_private = λ u. not_marked n.mark (n.rest ++ b ∷ []) (p ++ b ∷ []) u (ap (λ t. t ++ b ∷ []) n.split) (goes_stuck AfterMark stage n.rest (begun p) b u other stuck n.goes);
+}
+
+-- why a byte can't go on with the subtag that has begun
+stuck_why : (stage : Stage) (s : List ℕ) (b : ℕ) → ((may_hold stage b ≡ false) ⊎ (8 ≤ length s)) → IsStuck stage s b
+stuck_why stage s b (inl m) = stuck_other stage s b m
+stuck_why stage s b (inr long) = stuck_full stage s b long
+
+length_of : (shape : Shape) (s : List ℕ) (stage : Stage) (b : ℕ) → shape ≡ shape_of s → ((may_hold stage b ≡ false) ⊎ (8 ≤ shape.len)) → (may_hold stage b ≡ false) ⊎ (8 ≤ length s)
+length_of shape s stage b e (inl m) = inl m
+length_of shape s stage b e (inr long) = inr (omega (arith, ap (λ (x : Shape). x.len) e))
+
+pub reads_stuck : (r : Reading) (p : List ℕ) (b : ℕ) (stage : Stage) (shape : Shape) (e : Ends) → eqb b 45 ≡ false → ((may_hold stage b ≡ false) ⊎ (8 ≤ shape.len)) → Reads r p stage shape e → HasStopped (p ++ b ∷ [])
+reads_stuck Normal p b stage shape e other why h =
+    let how = length_of shape (begun p) stage b h.0 why in
+    normal_stuck p b stage e other how (stuck_why stage (begun p) b how) h.1
+reads_stuck Private p b stage shape e other why h =
+    private_stuck p b stage other (stuck_why stage (begun p) b (length_of shape (begun p) stage b h.0 why)) h.1
+reads_stuck Stopped p b stage shape e other why h = stopped_more p b h
+
+-- ---- a hyphen
+
+-- what the shape says of the stage, the subtag itself does
+next_of : (stage : Stage) (shape : Shape) (s : List ℕ) → shape ≡ shape_of s → IsBegun stage s → next_stage stage s ≡ next_by stage (classes_of_shape shape)
+next_of stage shape s e h = next_stage-shape stage s (record { short = h.short; alphanumeric = h.alphanumeric }) ∙ ap (λ x. next_by stage (classes_of_shape x)) (sym e)
+
+hyphen_no_mark : is_mark 45 ≡ false
+unfolding is_mark
+hyphen_no_mark = refl
+
+-- a first subtag behind which a stage follows is no mark
+not_private_start : (p : List ℕ) (u : List ℕ) (after : Stage) → are_alphanumeric p ≡ true → next_stage Start p ≡ Some after → IsPrivate ((p ++ 45 ∷ []) ++ u) → ⊥
+not_private_start p u after held e n =
+    elim (private_begun p 45 u held (subst IsPrivate (append_assoc p (45 ∷ []) u) n)) [
+      | inl k ↦ let no_mark : is_mark 45 ≡ false = hyphen_no_mark in let yes_mark : is_mark 45 ≡ true = k.1 in cc
+      | inr k ↦
+          let none : next_stage Start (k.0 ∷ []) ≡ None = rw (one_no_primary k.0) refl in
+          let same : next_stage Start p ≡ None = ap (next_stage Start) k.1 ∙ none in
+          cc
+    ]
+
+normal_behind : (p : List ℕ) (stage after : Stage) (e : Ends) → next_stage stage (begun p) ≡ Some after → ReadsNormal p stage (begun p) e → ReadsNormal (p ++ 45 ∷ []) after [] (end_at after (length p) e)
+normal_behind p stage after e next n = record {
+  goes = goes_behind Start stage after p (begun p) next n.goes;
+  ends = λ u. ap (λ t. ends_behind Start (all_at 0) (segments t)) (append_assoc p (45 ∷ []) u) ∙ n.ends (45 ∷ u) ∙ ap (ends_behind stage e) (segments-hyphen (begun p) u n.goes.begun.alphanumeric)
+      ∙ ends_behind-cons stage e (begun p) (segments u) ∙ ap (λ o. option_map_or (λ x. ends_behind x (end_at x (place_behind stage e (begun p)) e) (segments u)) o e) next
+      ∙ ap (λ k. ends_behind after (end_at after k e) (segments u)) n.place;
+  place = place_behind-end after (length p) e (next_not_start stage after (begun p) next) ∙ sym (length_push p 45);
+  first = λ h. absurd (next_not_start stage after (begun p) next h);
+  later = λ h u q. by_start (starting stage) u q;
+}
+  where
+    by_start : ((stage ≡ Start) ⊎ (stage ≡ Start → ⊥)) → (u : List ℕ) → IsPrivate ((p ++ 45 ∷ []) ++ u) → ⊥
+    by_start (inl h) u q =
+        let whole = n.first h in
+        not_private_start p u after (rw whole n.goes.begun.alphanumeric) (ap (next_stage Start) whole ∙ (rw h at next)) q
+    by_start (inr h) u q = later_private p 45 (n.later h) u q
+
+private_behind : (p : List ℕ) (stage after : Stage) → next_stage stage (begun p) ≡ Some after → ReadsPrivate p stage (begun p) → ReadsPrivate (p ++ 45 ∷ []) after []
+private_behind p stage after next n = record {
+  mark = n.mark;
+  rest = n.rest ++ 45 ∷ [];
+  split = ap (λ t. t ++ 45 ∷ []) n.split;
+  marked = n.marked;
+  goes = goes_behind AfterMark stage after n.rest (begun p) next n.goes;
+  later = next_not_start stage after (begun p) next;
+  not_normal = later_normal p 45 n.not_normal;
+}
+
+pub reads_behind : (r : Reading) (p : List ℕ) (stage after : Stage) (shape : Shape) (e : Ends) → Some after ≡ next_by stage (classes_of_shape shape) → Reads r p stage shape e → Reads r (p ++ 45 ∷ []) after (shape_of []) (end_at after (length p) e)
+reads_behind Normal p stage after shape e next h =
+    let none = begun-hyphen p in
+    let there = next_of stage shape (begun p) h.0 h.1.goes.begun ∙ sym next in
+    (ap shape_of (sym none), subst (λ s. ReadsNormal (p ++ 45 ∷ []) after s (end_at after (length p) e)) (sym none) (normal_behind p stage after e there h.1))
+reads_behind Private p stage after shape e next h =
+    let none = begun-hyphen p in
+    let there = next_of stage shape (begun p) h.0 h.1.goes.begun ∙ sym next in
+    (ap shape_of (sym none), subst (λ s. ReadsPrivate (p ++ 45 ∷ []) after s) (sym none) (private_behind p stage after there h.1))
+reads_behind Stopped p stage after shape e next h = stopped_more p 45 h
+
+-- a mark is the whole first subtag
+one_mark : (s : List ℕ) → is_one is_mark s ≡ true → (m : ℕ) × (s ≡ m ∷ []) × (is_mark m ≡ true)
+one_mark [] h = absurd cc
+one_mark (m ∷ []) h = (m, refl, h)
+one_mark (m ∷ c ∷ s) h = absurd cc
+
+is_mark_of : (shape : Shape) (s : List ℕ) → shape ≡ shape_of s → (classes_of_shape shape).mark ≡ is_one is_mark s
+is_mark_of shape s e = ap (λ x. (classes_of_shape x).mark) e ∙ sym (mark-shape s)
+
+-- a mark and a hyphen, where no normal tag goes on so
+pub reads_opened : (p : List ℕ) (shape : Shape) (e d : Ends) → (classes_of_shape shape).mark ≡ true → Reads Normal p Start shape e → Reads Private (p ++ 45 ∷ []) AfterMark (shape_of []) d
+reads_opened p shape e d mark h =
+    let none = begun-hyphen p in
+    let whole : p ≡ begun p = h.1.first refl in
+    let m = one_mark (begun p) (sym (is_mark_of shape (begun p) h.0) ∙ mark) in
+    let text : p ++ 45 ∷ [] ≡ m.0 ∷ 45 ∷ [] = ap (λ t. t ++ 45 ∷ []) (whole ∙ m.1) in
+    let there : ReadsPrivate (p ++ 45 ∷ []) AfterMark [] =
+    record {
+      mark = m.0;
+      rest = [];
+      split = text;
+      marked = m.2;
+      goes = record { begun = empty_begun AfterMark; same = λ u. refl };
+      later = λ x. cc;
+      not_normal = λ u n. marked_not_normal m.0 u m.2 (subst (λ t. IsNormal (t ++ u)) text n);
+    } in
+    (ap shape_of (sym none), subst (λ s. ReadsPrivate (p ++ 45 ∷ []) AfterMark s) (sym none) there)
+
+normal_refused : (p : List ℕ) (stage : Stage) (e : Ends) → next_stage stage (begun p) ≡ None → (stage ≡ Start → is_one is_mark (begun p) ≡ false) → ReadsNormal p stage (begun p) e → HasStopped (p ++ 45 ∷ [])
+normal_refused p stage e next unmarked n = record {
+  not_normal = λ u. not_normal ((p ++ 45 ∷ []) ++ u) (goes_refused Start stage p (begun p) u next n.goes);
+  not_private = λ u q. by_start (starting stage) u q;
+}
+  where
+    by_start : ((stage ≡ Start) ⊎ (stage ≡ Start → ⊥)) → (u : List ℕ) → IsPrivate ((p ++ 45 ∷ []) ++ u) → ⊥
+    by_start (inl h) u q =
+        let whole = n.first h in
+        elim (private_begun p 45 u (rw whole n.goes.begun.alphanumeric) (subst IsPrivate (append_assoc p (45 ∷ []) u) q)) [
+          | inl k ↦ let no_mark : is_mark 45 ≡ false = hyphen_no_mark in let yes_mark : is_mark 45 ≡ true = k.1 in cc
+          | inr k ↦
+              let no_mark : is_one is_mark (begun p) ≡ false = unmarked h in
+              let same : is_one is_mark (begun p) ≡ true = ap (is_one is_mark) (sym whole ∙ k.1) ∙ k.2 in
+              cc
+        ]
+    by_start (inr h) u q = later_private p 45 (n.later h) u q
+
+private_refused : (p : List ℕ) (stage : Stage) → next_stage stage (begun p) ≡ None → ReadsPrivate p stage (begun p) → HasStopped (p ++ 45 ∷ [])
+private_refused p stage next n = record {
+  not_normal = later_normal p 45 n.not_normal;
+  not_private = λ u. not_marked n.mark (n.rest ++ 45 ∷ []) (p ++ 45 ∷ []) u (ap (λ t. t ++ 45 ∷ []) n.split) (goes_refused AfterMark stage n.rest (begun p) u next n.goes);
+}
+
+-- a hyphen behind which nothing follows
+pub reads_refused : (r : Reading) (p : List ℕ) (stage : Stage) (shape : Shape) (e : Ends) → None ≡ next_by stage (classes_of_shape shape) → (stage ≡ Start → (classes_of_shape shape).mark ≡ false) → Reads r p stage shape e → HasStopped (p ++ 45 ∷ [])
+reads_refused Normal p stage shape e next unmarked h =
+    normal_refused p stage e (next_of stage shape (begun p) h.0 h.1.goes.begun ∙ sym next) (λ x. sym (is_mark_of shape (begun p) h.0) ∙ unmarked x) h.1
+reads_refused Private p stage shape e next unmarked h = private_refused p stage (next_of stage shape (begun p) h.0 h.1.goes.begun ∙ sym next) h.1
+reads_refused Stopped p stage shape e next unmarked h = stopped_more p 45 h
+
+-- ---- a front that goes on is viable, and at its end the stages tell whether it is a tag
+
+pub normal_filled : (p : List ℕ) (stage : Stage) (e : Ends) → ReadsNormal p stage (begun p) e → IsNormal (fill p)
+normal_filled p stage e n = normal_from_runs (fill p) (goes_filled Start stage p (begun p) n.goes)
+
+pub private_filled : (p : List ℕ) (stage : Stage) → ReadsPrivate p stage (begun p) → IsPrivate (fill p)
+private_filled p stage n =
+    let rest = n.rest ++ filling (begun p) in
+    let text : fill p ≡ n.mark ∷ 45 ∷ rest = ap (λ t. t ++ filling (begun p)) n.split in
+    subst IsPrivate (sym text) (private_from_marked n.mark rest n.marked (goes_filled AfterMark stage n.rest (begun p) n.goes))

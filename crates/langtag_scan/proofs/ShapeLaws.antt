@@ -174,7 +174,7 @@ private_subtag-shape s h = long_shape 1 s h
 not_one : (n : ℕ) (v : Bool) → (eqb (suc (suc n)) 1 && v) ≡ false
 not_one n v = rw (ne_eqb (suc (suc n)) 1 (λ e. omega arith)) refl
 
-mark-shape : (s : List ℕ) → is_one is_mark s ≡ (eqb (length s) 1 && is_mark (get_or s 0 0))
+pub mark-shape : (s : List ℕ) → is_one is_mark s ≡ (eqb (length s) 1 && is_mark (get_or s 0 0))
 mark-shape [] = refl
 mark-shape (b ∷ []) = refl
 mark-shape (b ∷ c ∷ s) = sym (not_one (length s) (is_mark b))
