@@ -10,3 +10,4 @@ pub mod Running
 pub mod Filling
 pub mod PrivateTexts
 pub mod ReadingLaws
+pub mod EndsLaw
