@@ -5,3 +5,4 @@ pub mod Segments
 pub mod CaseOrder
 pub mod SegmentLemmas
 pub mod SubtagsLemmas
+pub mod IrregularNames

@@ -10,3 +10,5 @@ pub mod Found
 pub mod Stage
 pub mod Shape
 pub mod CaseLaws
+pub mod Irregular
+pub mod Names

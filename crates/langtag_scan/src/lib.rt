@@ -6,6 +6,7 @@ mod case;
 mod caseless;
 mod class;
 mod found;
+mod irregular;
 
 mod segment;
 mod source;
