@@ -1,6 +1,5 @@
 //! The irregular tags (RFC 5646 section 2.2.8) that a text may still become.
 ghost use Rattle.std.specs.Prelude.{◌≡◌, ℕ, ◌-◌, ◌<◌, ◌≤◌, List, [], ◌∷◌, ◌++◌, length, IsTrue, true, false, MatchOption};
-ghost use Rattle.langtag_scan.specs.Case.{fold_byte};
 ghost use Rattle.langtag_scan.specs.Irregular.{folded_at, has_at, is_possible};
 ghost use Rattle.langtag_scan.specs.Tag.{IsIrregular, IsIrregularAt};
 
