@@ -11,3 +11,4 @@ pub mod Filling
 pub mod PrivateTexts
 pub mod ReadingLaws
 pub mod EndsLaw
+pub mod IrregularNames

@@ -11,3 +11,5 @@ pub mod Stage
 pub mod Shape
 pub mod Machine
 pub mod CaseLaws
+pub mod Irregular
+pub mod Names

@@ -8,6 +8,7 @@ mod class;
 mod ends;
 mod found;
 mod machine;
+mod irregular;
 
 mod segment;
 mod source;

@@ -1,0 +1,43 @@
+-- Which irregular texts (RFC 5646 section 2.2.8) a text may still become.
+-- Only contracts of private functions cite this page.
+use Rattle.std.specs.Prelude.{ℕ, ◌==◌, ◌&&◌, nat_lt, Bool, true, false, List, [], ◌∷◌, length, codes, slice_index, slice_index_or}
+use Rattle.langtag_scan.specs.Case.{fold_text}
+
+-- the irregular texts, folded: they stand in alphabetical order
+unfoldable pub folded_texts : List (List ℕ)
+folded_texts =
+    codes "en-gb-oed"
+    ∷ codes "i-ami"
+    ∷ codes "i-bnn"
+    ∷ codes "i-default"
+    ∷ codes "i-enochian"
+    ∷ codes "i-hak"
+    ∷ codes "i-klingon"
+    ∷ codes "i-lux"
+    ∷ codes "i-mingo"
+    ∷ codes "i-navajo"
+    ∷ codes "i-pwn"
+    ∷ codes "i-tao"
+    ∷ codes "i-tay"
+    ∷ codes "i-tsu"
+    ∷ codes "sgn-be-fr"
+    ∷ codes "sgn-be-nl"
+    ∷ codes "sgn-ch-de"
+    ∷ []
+
+abbrev pub folded_at : ℕ → List ℕ
+folded_at k = slice_index_or folded_texts k []
+
+-- whether a text begins with a front
+abbrev pub is_front : List ℕ → List ℕ → Bool
+is_front [] text = true
+is_front (b ∷ p) [] = false
+is_front (b ∷ p) (c ∷ text) = (b == c) && is_front p text
+
+-- whether a text has this byte at a place
+abbrev pub has_at : List ℕ → ℕ → ℕ → Bool
+has_at text place b = nat_lt place (length text) && (slice_index text place == b)
+
+-- whether a text that is alike the irregular one at a place of the table may begin with a front
+abbrev pub is_possible : List ℕ → ℕ → Bool
+is_possible p k = is_front (fold_text p) (folded_at k)

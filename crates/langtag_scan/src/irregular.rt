@@ -1,0 +1,130 @@
+//! The irregular tags (RFC 5646 section 2.2.8) that a text may still become.
+ghost use Rattle.std.specs.Prelude.{◌≡◌, ℕ, ◌-◌, ◌<◌, ◌≤◌, List, [], ◌∷◌, ◌++◌, length, IsTrue, true, false, MatchOption};
+ghost use Rattle.langtag_scan.specs.Irregular.{folded_at, has_at, is_possible};
+ghost use Rattle.langtag_scan.specs.Tag.{IsIrregular, IsIrregularAt};
+
+use crate::case::into_smallcase;
+
+/// The irregular texts with small letters. They stand in alphabetical order.
+const FOLDED: [&[u8]; 17] = [
+    b"en-gb-oed",
+    b"i-ami",
+    b"i-bnn",
+    b"i-default",
+    b"i-enochian",
+    b"i-hak",
+    b"i-klingon",
+    b"i-lux",
+    b"i-mingo",
+    b"i-navajo",
+    b"i-pwn",
+    b"i-tao",
+    b"i-tay",
+    b"i-tsu",
+    b"sgn-be-fr",
+    b"sgn-be-nl",
+    b"sgn-ch-de",
+];
+
+/// The places of the irregular texts that begin with what was read. Since these texts are neighbours, the places
+/// make a range, which is empty after a byte or two of nearly every text.
+#[derive(Clone, Copy)]
+pub(crate) struct Names {
+    low: usize,
+    /// The place behind the last.
+    high: usize,
+    ghost ordered: { low ≤ high },
+    ghost within: { high ≤ 17 },
+}
+
+impl Names {
+    ghost use Rattle.langtag_scan.specs.Names.{Follows};
+
+    /// Before the first byte every irregular text is possible.
+    pub(crate) fn new() -> Self
+        ensures { Follows [] result }
+    {
+        Names { low: 0, high: 17 }
+    }
+
+    /// Keeps the texts that have this byte at this place, in either case.
+    pub(crate) fn keep(&mut self, place: usize, byte: u8)
+        ensures { (p : List ℕ) → length p ≡ place → Follows p self.old → Follows (p ++ byte ∷ []) self.new }
+    {
+        if self.low < self.high {
+            let small = into_smallcase(byte);
+            self.low = first_with(self.low, self.high, place, small);
+            self.high = end_with(self.low, self.high, place, small);
+        }
+    }
+
+    /// Whether no irregular text is possible.
+    pub(crate) fn is_empty(&self) -> bool
+        ensures gone { (p : List ℕ) → Follows p self.now → IsTrue result → (k : ℕ) → k < 17 → is_possible p k ≡ false }
+        ensures left { (p : List ℕ) → Follows p self.now → result ≡ false → (k : ℕ) × (k < 17) × (is_possible p k ≡ true) }
+    {
+        self.low == self.high
+    }
+
+    /// The place of the irregular text that was read, by the number of bytes that were.
+    pub(crate) fn whole(&self, len: usize) -> Option<usize>
+        ensures { (p : List ℕ) → length p ≡ len → Follows p self.now → MatchOption result (IsIrregular p → ⊥) (λ k. (k < 17) × IsIrregularAt k p) }
+    {
+        // No text of the table begins another, so only the first can be whole.
+        if self.low < self.high && folded(self.low).len() == len {
+            Some(self.low)
+        } else {
+            None
+        }
+    }
+}
+
+/// The folded irregular text at a place of the table.
+#[tactic(auto, unfolding(crate::specs::Irregular::folded_texts))]
+fn folded(k: usize) -> &'static [u8]
+    requires { k < 17 }
+    ensures { result.now ≡ folded_at k }
+{
+    FOLDED[k]
+}
+
+/// Whether the text at a place of the table has this byte at this place.
+fn has_byte(k: usize, place: usize, byte: u8) -> bool
+    requires { k < 17 }
+    ensures { result ≡ has_at (folded_at k) place byte }
+{
+    let text = folded(k);
+    place < text.len() && text[place] == byte
+}
+
+/// The first place from `low` on whose text has this byte, or `high` where there is none.
+fn first_with(low: usize, high: usize, place: usize, byte: u8) -> usize
+    requires ordered { low ≤ high }
+    requires within { high ≤ 17 }
+    ensures from { low ≤ result }
+    ensures to { result ≤ high }
+    ensures others { (k : ℕ) → low ≤ k → k < result → has_at (folded_at k) place byte ≡ false }
+    ensures first { result < high → has_at (folded_at result) place byte ≡ true }
+{
+    let mut first = low;
+    while first < high && !has_byte(first, place, byte) {
+        first += 1;
+    }
+    first
+}
+
+/// The place behind the last one below `high` whose text has this byte, or `low` where there is none.
+fn end_with(low: usize, high: usize, place: usize, byte: u8) -> usize
+    requires ordered { low ≤ high }
+    requires within { high ≤ 17 }
+    ensures from { low ≤ result }
+    ensures to { result ≤ high }
+    ensures others { (k : ℕ) → result ≤ k → k < high → has_at (folded_at k) place byte ≡ false }
+    ensures last { low < result → has_at (folded_at (result - 1)) place byte ≡ true }
+{
+    let mut end = high;
+    while low < end && !has_byte(end - 1, place, byte) {
+        end -= 1;
+    }
+    end
+}
