@@ -16,6 +16,14 @@ pub not_both : (a : Bool) → (a ≡ true → ⊥) → a ≡ false
 not_both true h = absurd (h refl)
 not_both false h = refl
 
+pub not_true : (a : Bool) → not a ≡ true → a ≡ false
+not_true true h = absurd cc
+not_true false h = refl
+
+pub not_false : (a : Bool) → not a ≡ false → a ≡ true
+not_false true h = refl
+not_false false h = absurd cc
+
 pub between_true : (low high n : ℕ) → is_in_range low high n ≡ true → (low ≤ n) × (n ≤ high)
 between_true low high n e = let h = both_true (leb low n) (leb n high) e in (leb-true _ _ h.0, leb-true _ _ h.1)
 

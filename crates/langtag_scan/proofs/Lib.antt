@@ -12,3 +12,4 @@ pub mod PrivateTexts
 pub mod ReadingLaws
 pub mod EndsLaw
 pub mod IrregularNames
+pub mod TagLaws

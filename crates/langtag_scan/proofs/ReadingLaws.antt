@@ -8,6 +8,8 @@ use Rattle.langtag_scan.specs.Class.{is_letter, is_alphanumeric, are_letters, ar
 use Rattle.langtag_scan.specs.Subtags.{is_hyphen, segments}
 use Rattle.langtag_scan.specs.Tag.{IsNormal, IsPrivate}
 use Rattle.langtag_scan.specs.Stage.{Classes, classes_of, is_one, opened_by, after_region_by, after_script_by, after_language_by, next_by, next_stage, may_end, runs}
+use Rattle.langtag_scan.specs.Record.{flat}
+use Rattle.langtag_scan.specs.Found.{Finding.normal, IsFoundOf}
 use Rattle.langtag_scan.specs.Viable.{filling, fill}
 use Rattle.langtag_scan.specs.Shape.{shape_of, classes_of_shape}
 use Rattle.langtag_scan.specs.Machine.{begun, may_hold, all_at, end_at, place_behind, ends_behind, IsBegun, GoesOn, ReadsNormal, ReadsPrivate, HasStopped, Reads}
@@ -19,8 +21,9 @@ use Rattle.langtag_scan.specs.declared.stage.Stage.{Stage}
 use Rattle.langtag_scan.specs.declared.stage.Stage.TheVariants.{Start, Language, Extended, AfterScript, AfterRegion, AfterVariant, AfterSingleton, InExtension, AfterMark, InPrivate}
 use Rattle.langtag_scan.proofs.Disjoint.{both_true}
 use Rattle.langtag_scan.proofs.Decoding.{chosen}
-use Rattle.langtag_scan.proofs.Segments.{normal_from_runs, runs_from_normal}
-use Rattle.langtag_scan.proofs.Running.{IsStuck, stuck_full, stuck_other, empty_begun, held_alphanumeric, goes_grown, goes_behind, goes_refused, goes_stuck, segments-hyphen, segments-one, ends_behind-cons}
+use Rattle.langtag_scan.proofs.Segments.{normal_from_runs, runs_from_normal, spelled_segments}
+use Rattle.langtag_scan.proofs.EndsLaw.{ends_behind-flat}
+use Rattle.langtag_scan.proofs.Running.{IsStuck, stuck_full, stuck_other, empty_begun, held_alphanumeric, goes_grown, goes_behind, goes_refused, goes_stuck, goes_ended, segments-hyphen, segments-one, ends_behind-nil, ends_behind-cons}
 use Rattle.langtag_scan.proofs.PrivateTexts.{IsMarked, marked_from_private, private_from_marked, private_begun, private_no_hyphen, mark_letter, one_no_primary, marked_not_normal}
 use Rattle.langtag_scan.proofs.ShapeLaws.{mark-shape, next_stage-shape}
 use Rattle.langtag_scan.proofs.Filling.{goes_filled}
@@ -138,6 +141,19 @@ later_private p b never u n = never (b ∷ u) (subst IsPrivate (append_assoc p (
 
 stopped_more : (p : List ℕ) (b : ℕ) → HasStopped p → HasStopped (p ++ b ∷ [])
 stopped_more p b h = record { not_normal = later_normal p b h.not_normal; not_private = later_private p b h.not_private }
+
+-- before the first byte
+pub reads_nothing : Reads Normal [] Start (shape_of []) (all_at 0)
+reads_nothing = (
+  refl,
+  record {
+    goes = record { begun = empty_begun Start; same = λ u. refl };
+    ends = λ u. refl;
+    place = refl;
+    first = λ h. refl;
+    later = λ h. absurd (h refl);
+  },
+)
 
 -- ---- one byte that the subtag holds
 
@@ -355,3 +371,71 @@ private_filled p stage n =
     let rest = n.rest ++ filling (begun p) in
     let text : fill p ≡ n.mark ∷ 45 ∷ rest = ap (λ t. t ++ filling (begun p)) n.split in
     subst IsPrivate (sym text) (private_from_marked n.mark rest n.marked (goes_filled AfterMark stage n.rest (begun p) n.goes))
+
+-- ---- the end of the text
+
+-- the stages refuse: the whole text is no normal tag and no private one
+pub record IsRefused (p : List ℕ) : Type 0 where
+  pub not_normal : IsNormal p → ⊥
+  pub not_private : IsPrivate p → ⊥
+
+pub reads_rejected : (r : Reading) (p : List ℕ) (stage : Stage) (shape : Shape) (e : Ends) → option_map_or may_end (next_by stage (classes_of_shape shape)) false ≡ false → Reads r p stage shape e → IsRefused p
+reads_rejected Normal p stage shape e none h =
+    let n = h.1 in
+    let stops : option_map_or may_end (next_stage stage (begun p)) false ≡ false = ap (λ o. option_map_or may_end o false) (next_of stage shape (begun p) h.0 n.goes.begun) ∙ none in
+    record {
+      not_normal = not_normal p (goes_ended Start stage p (begun p) n.goes ∙ stops);
+      not_private = λ q. elim (starting stage) [
+        | inl first ↦ private_no_hyphen p (rw (n.first first) n.goes.begun.alphanumeric) q
+        | inr later ↦ n.later later [] (subst IsPrivate (sym (append-nil p)) q)
+      ];
+    }
+reads_rejected Private p stage shape e none h =
+    let n = h.1 in
+    let stops : option_map_or may_end (next_stage stage (begun p)) false ≡ false = ap (λ o. option_map_or may_end o false) (next_of stage shape (begun p) h.0 n.goes.begun) ∙ none in
+    record {
+      not_normal = λ q. n.not_normal [] (subst IsNormal (sym (append-nil p)) q);
+      not_private = λ q. not_marked n.mark n.rest p [] n.split (ap (λ t. runs AfterMark (segments t)) (append-nil n.rest) ∙ goes_ended AfterMark stage n.rest (begun p) n.goes ∙ stops) (subst IsPrivate (sym (append-nil p)) q);
+    }
+reads_rejected Stopped p stage shape e none h = record {
+  not_normal = λ q. h.not_normal [] (subst IsNormal (sym (append-nil p)) q);
+  not_private = λ q. h.not_private [] (subst IsPrivate (sym (append-nil p)) q);
+}
+
+pub stopped_refused : (p : List ℕ) → HasStopped p → IsRefused p
+stopped_refused p h = record {
+  not_normal = λ q. h.not_normal [] (subst IsNormal (sym (append-nil p)) q);
+  not_private = λ q. h.not_private [] (subst IsPrivate (sym (append-nil p)) q);
+}
+
+-- where they accept, the ends are those of the record
+found_with : (p : List ℕ) (found : Ends) → ends_behind Start (all_at 0) (segments p) ≡ found → IsNormal p → IsFoundOf p (normal found)
+unfolding IsNormal
+found_with p found ends n =
+    let same : flat n.0 ≡ segments p = sym (spelled_segments n.0 n.1) ∙ ap segments n.2 in
+    (n.0, n.1, n.2, sym ends ∙ ap (ends_behind Start (all_at 0)) (sym same) ∙ ends_behind-flat n.0 n.1)
+
+pub normal_accepted : (p : List ℕ) (stage after : Stage) (shape : Shape) (e : Ends) → next_by stage (classes_of_shape shape) ≡ Some after → may_end after ≡ true → Reads Normal p stage shape e → IsFoundOf p (normal (end_at after (length p) e))
+normal_accepted p stage after shape e next ends h =
+    let n = h.1 in
+    let there : next_stage stage (begun p) ≡ Some after = next_of stage shape (begun p) h.0 n.goes.begun ∙ next in
+    let run : runs Start (segments p) ≡ true = goes_ended Start stage p (begun p) n.goes ∙ ap (λ o. option_map_or may_end o false) there ∙ ends in
+    let last : ends_behind Start (all_at 0) (segments p) ≡ end_at after (length p) e =
+    ap (λ t. ends_behind Start (all_at 0) (segments t)) (sym (append-nil p)) ∙ n.ends [] ∙ ap (λ t. ends_behind stage e (segments t)) (append-nil (begun p))
+    ∙ ap (ends_behind stage e) (segments-one (begun p) n.goes.begun.alphanumeric) ∙ ends_behind-cons stage e (begun p) []
+    ∙ ap (λ o. option_map_or (λ x. ends_behind x (end_at x (place_behind stage e (begun p)) e) []) o e) there
+    ∙ ends_behind-nil after (end_at after (place_behind stage e (begun p)) e) ∙ ap (λ k. end_at after k e) n.place in
+    found_with p (end_at after (length p) e) last (normal_from_runs p run)
+
+pub private_accepted : (p : List ℕ) (stage after : Stage) (shape : Shape) (e : Ends) → next_by stage (classes_of_shape shape) ≡ Some after → may_end after ≡ true → Reads Private p stage shape e → IsPrivate p
+private_accepted p stage after shape e next ends h =
+    let n = h.1 in
+    let there : next_stage stage (begun p) ≡ Some after = next_of stage shape (begun p) h.0 n.goes.begun ∙ next in
+    let run : runs AfterMark (segments n.rest) ≡ true = goes_ended AfterMark stage n.rest (begun p) n.goes ∙ ap (λ o. option_map_or may_end o false) there ∙ ends in
+    subst IsPrivate (sym n.split) (private_from_marked n.mark n.rest n.marked run)
+
+-- a first subtag that is a mark opens a private text, whatever else was read
+pub reads_marked : (r : Reading) (p : List ℕ) (stage : Stage) (shape : Shape) (e d : Ends) → (r ≡ Stopped → ⊥) → stage ≡ Start → (classes_of_shape shape).mark ≡ true → Reads r p stage shape e → Reads Private (p ++ 45 ∷ []) AfterMark (shape_of []) d
+reads_marked Normal p stage shape e d live first mark h = reads_opened p shape e d mark (subst (λ s. Reads Normal p s shape e) first h)
+reads_marked Private p stage shape e d live first mark h = absurd (h.1.later first)
+reads_marked Stopped p stage shape e d live first mark h = absurd (live refl)

@@ -174,7 +174,7 @@ unfolding runs decode
 runs-decode [] stage = elim (may_end stage) as (λ v. v ≡ is_some (cond v (Some nothing) None)) [ true ↦ refl | false ↦ refl ]
 runs-decode (s ∷ ss) stage = runs_bind (λ after. runs after ss) (λ after. decode after ss) (λ after. put after s) (λ after. runs-decode ss after) (next_stage stage s)
 
-spelled_segments : (r : Record) → IsWellFormed r → segments (spell r) ≡ flat r
+pub spelled_segments : (r : Record) → IsWellFormed r → segments (spell r) ≡ flat r
 spelled_segments r fits = segments-join r.primary _ (decoded_subtags (flat r) Start (whole r) (decode_complete r fits))
 
 -- two well-formed records with one spelling are the same

@@ -1,20 +1,38 @@
--- What a recogniser finds: which of the three cases of a tag a text is.
-use Rattle.std.specs.Prelude.{ℕ}
-use Rattle.langtag_scan.specs.declared.found.Kind.{Kind}
-use Rattle.langtag_scan.specs.declared.found.Kind.TheVariants.{Normal, Private, Irregular}
+-- What a recogniser finds of a tag (RFC 5646 section 2.1).
+use Rattle.std.specs.Prelude.{◌≡◌, ℕ, Bool, true, false, List, Option, Some, None}
+use Rattle.langtag_scan.specs.Record.{Record, IsWellFormed, spell}
+use Rattle.langtag_scan.specs.Tag.{IsPrivate, IsIrregularAt}
+use Rattle.langtag_scan.specs.Ends.{ends_of}
+use Rattle.langtag_scan.specs.declared.ends.Ends.{Ends}
 
-pub data Reading : Type 0 where
-  normal : Reading
-  private : Reading
-  irregular : ℕ → Reading
+-- one of the three cases: normal with the ends of its parts, private use, or irregular with the place in the table
+pub data Finding : Type 0 where
+  normal : Ends → Finding
+  private_use : Finding
+  irregular : ℕ → Finding
 
--- what a kind means
-abbrev pub reading_of : Kind → Reading
-reading_of Normal = normal
-reading_of Private = private
-reading_of (Irregular k) = irregular k
+-- the text is a tag of this case, with these ends or at this place
+abbrev pub IsFoundOf : List ℕ → Finding → Type 0
+IsFoundOf t (normal ends) = (r : Record) × IsWellFormed r × (spell r ≡ t) × (ends ≡ ends_of r)
+IsFoundOf t private_use = IsPrivate t
+IsFoundOf t (irregular place) = IsIrregularAt place t
 
-abbrev pub kind_of : Reading → Kind
-kind_of normal = Normal
-kind_of private = Private
-kind_of (irregular k) = Irregular k
+abbrev pub is_normal : Finding → Bool
+is_normal (normal ends) = true
+is_normal private_use = false
+is_normal (irregular place) = false
+
+abbrev pub is_private_use : Finding → Bool
+is_private_use (normal ends) = false
+is_private_use private_use = true
+is_private_use (irregular place) = false
+
+abbrev pub irregular_place : Finding → Option ℕ
+irregular_place (normal ends) = None
+irregular_place private_use = None
+irregular_place (irregular place) = Some place
+
+abbrev pub normal_ends : Finding → Option Ends
+normal_ends (normal ends) = Some ends
+normal_ends private_use = None
+normal_ends (irregular place) = None

@@ -13,3 +13,5 @@ pub mod Machine
 pub mod CaseLaws
 pub mod Irregular
 pub mod Names
+pub mod Findings
+pub mod Tracking

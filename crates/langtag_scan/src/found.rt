@@ -1,41 +1,92 @@
 //! What a recogniser found.
-ghost use Rattle.std.specs.Prelude.{◌≡◌, ◌↔◌, IsTrue};
-ghost use Rattle.langtag_scan.specs.Found.{Reading, Reading.normal, reading_of, kind_of};
+ghost use Rattle.std.specs.Prelude.{◌≡◌};
+ghost use Rattle.langtag_scan.specs.Found.{Finding, Finding.normal, Finding.private_use, Finding.irregular, is_normal, is_private_use, irregular_place, normal_ends};
+ghost use Rattle.langtag_scan.specs.Findings.{finding_of, case_of};
 
+use crate::ends::Ends;
 use std::marker::Model;
 
 #[derive(Clone, Copy)]
-enum Kind {
-    Normal,
-    Private,
+enum Case {
+    Normal(Ends),
+    PrivateUse,
     Irregular(usize),
 }
 
-/// Which kind of tag a text is.
+/// What a recogniser found of a text that is a tag (RFC 5646 section 2.1): which of the three kinds it is, with
+/// the ends of the parts of a normal tag, and the place in the table of an irregular one.
+///
+/// Only the recognisers make one.
 #[derive(Clone, Copy)]
 pub struct Found {
-    kind: Kind,
+    case: Case,
 }
 
 impl Model for Found {
-    ghost Value = { Reading };
+    ghost Value = { Finding };
 
-    ghost view = { λ f. reading_of f.kind };
+    ghost view = { λ found. finding_of found.case };
 
-    ghost inverse = { λ r. record { kind = kind_of r } };
+    ghost inverse = { λ finding. record { case = case_of finding } };
 }
 
 impl Found {
-    pub(crate) fn new_normal() -> Self
-        ensures { result ≡ normal }
+    pub(crate) fn normal(ends: Ends) -> Self
+        ensures { result ≡ normal ends }
     {
-        Found { kind: Kind::Normal }
+        Found {
+            case: Case::Normal(ends),
+        }
     }
 
-    /// Whether a record spells the text.
-    pub fn is_normal(&self) -> bool
-        ensures { IsTrue result ↔ (self.now ≡ normal) }
+    pub(crate) fn private_use() -> Self
+        ensures { result ≡ private_use }
     {
-        matches!(self.kind, Kind::Normal)
+        Found {
+            case: Case::PrivateUse,
+        }
+    }
+
+    pub(crate) fn at_irregular(place: usize) -> Self
+        ensures { result ≡ irregular place }
+    {
+        Found {
+            case: Case::Irregular(place),
+        }
+    }
+
+    /// Whether the text is a normal tag. The regular grandfathered tags are.
+    pub fn is_normal(&self) -> bool
+        ensures { result ≡ is_normal self.now }
+    {
+        matches!(self.case, Case::Normal(_))
+    }
+
+    /// Whether the text is a private use tag (section 2.2.7), which has a mark and private use subtags alone.
+    pub fn is_private_use(&self) -> bool
+        ensures { result ≡ is_private_use self.now }
+    {
+        matches!(self.case, Case::PrivateUse)
+    }
+
+    /// The place in the table of an irregular grandfathered tag (section 2.2.8): 0 to 16, in the order in which
+    /// section 2.1 lists them.
+    pub fn irregular(&self) -> Option<usize>
+        ensures { result ≡ irregular_place self.now }
+    {
+        match self.case {
+            Case::Irregular(place) => Some(place),
+            _ => None,
+        }
+    }
+
+    /// The ends of the parts of a normal tag.
+    pub fn ends(&self) -> Option<Ends>
+        ensures { result ≡ normal_ends self.now }
+    {
+        match self.case {
+            Case::Normal(ends) => Some(ends),
+            _ => None,
+        }
     }
 }

@@ -7,15 +7,14 @@ mod caseless;
 mod class;
 mod ends;
 mod found;
-mod machine;
 mod irregular;
-
+mod machine;
+mod recogniser;
 mod segment;
+mod shape;
 mod source;
 mod split;
-mod shape;
 mod stage;
-
 mod subtags;
 
 pub use case::{case_insensitive_cmp, case_insensitive_eq, case_insensitive_hash, into_smallcase};
@@ -26,7 +25,7 @@ pub use class::{
 };
 pub use ends::Ends;
 pub use found::Found;
-
+pub use recogniser::recognise;
 pub use segment::{segment_end, segment_start};
 pub use source::{ByteSource, Metered};
 pub use subtags::Subtags;

@@ -1,5 +1,5 @@
 //! How the subtags of a normal tag follow one another (RFC 5646 section 2.1).
-ghost use Rattle.std.specs.Prelude.{◌≡◌};
+ghost use Rattle.std.specs.Prelude.{◌≡◌, ◌↔◌, IsTrue};
 ghost use Rattle.langtag_scan.specs.Shape.{classes_of_shape};
 ghost use Rattle.langtag_scan.specs.Stage.{opened_by, after_region_by, after_script_by, after_language_by, next_by, may_end};
 
@@ -54,6 +54,13 @@ impl Stage {
             }
             _ => None,
         }
+    }
+
+    /// Whether this is before the first subtag.
+    pub(crate) fn is_start(self) -> bool
+        ensures { IsTrue result ↔ (self ≡ Stage.Start) }
+    {
+        matches!(self, Stage::Start)
     }
 
     /// Whether a tag may end here.
