@@ -13,3 +13,4 @@ pub mod ReadingLaws
 pub mod EndsLaw
 pub mod IrregularNames
 pub mod TagLaws
+pub mod FillLaw

@@ -88,7 +88,7 @@ next_not_start stage after s e first =
     let yes_start : starts (next_stage stage s) ≡ true = ap starts e ∙ ap is_start first in
     cc
 
-starting : (stage : Stage) → (stage ≡ Start) ⊎ (stage ≡ Start → ⊥)
+pub starting : (stage : Stage) → (stage ≡ Start) ⊎ (stage ≡ Start → ⊥)
 starting Start = inl refl
 starting _ = inr (λ h. cc)
 
@@ -139,7 +139,7 @@ later_normal p b never u n = never (b ∷ u) (subst IsNormal (append_assoc p (b 
 later_private : (p : List ℕ) (b : ℕ) → ((u : List ℕ) → IsPrivate (p ++ u) → ⊥) → (u : List ℕ) → IsPrivate ((p ++ b ∷ []) ++ u) → ⊥
 later_private p b never u n = never (b ∷ u) (subst IsPrivate (append_assoc p (b ∷ []) u) n)
 
-stopped_more : (p : List ℕ) (b : ℕ) → HasStopped p → HasStopped (p ++ b ∷ [])
+pub stopped_more : (p : List ℕ) (b : ℕ) → HasStopped p → HasStopped (p ++ b ∷ [])
 stopped_more p b h = record { not_normal = later_normal p b h.not_normal; not_private = later_private p b h.not_private }
 
 -- before the first byte
@@ -177,18 +177,15 @@ private_grown p b stage held short n = record {
   not_normal = later_normal p b n.not_normal;
 }
 
-abbrev pub Grows : Shape → ℕ → Shape → Type 0
-Grows shape b next = (s : List ℕ) → shape ≡ shape_of s → next ≡ shape_of (s ++ b ∷ [])
-
-pub reads_grown : (r : Reading) (p : List ℕ) (b : ℕ) (stage : Stage) (shape next : Shape) (e : Ends) → eqb b 45 ≡ false → may_hold stage b ≡ true → shape.len < 8 → Grows shape b next → Reads r p stage shape e → Reads r (p ++ b ∷ []) stage next e
+pub reads_grown : (r : Reading) (p : List ℕ) (b : ℕ) (stage : Stage) (shape next : Shape) (e : Ends) → eqb b 45 ≡ false → may_hold stage b ≡ true → shape.len < 8 → (shape ≡ shape_of (begun p) → next ≡ shape_of (begun p ++ b ∷ [])) → Reads r p stage shape e → Reads r (p ++ b ∷ []) stage next e
 reads_grown Normal p b stage shape next e other held short grows h =
     let more = begun-push p b other in
     let fits : length (begun p) < 8 = omega (arith, ap (λ (x : Shape). x.len) h.0) in
-    (grows (begun p) h.0 ∙ ap shape_of (sym more), subst (λ s. ReadsNormal (p ++ b ∷ []) stage s e) (sym more) (normal_grown p b stage e other held fits h.1))
+    (grows h.0 ∙ ap shape_of (sym more), subst (λ s. ReadsNormal (p ++ b ∷ []) stage s e) (sym more) (normal_grown p b stage e other held fits h.1))
 reads_grown Private p b stage shape next e other held short grows h =
     let more = begun-push p b other in
     let fits : length (begun p) < 8 = omega (arith, ap (λ (x : Shape). x.len) h.0) in
-    (grows (begun p) h.0 ∙ ap shape_of (sym more), subst (λ s. ReadsPrivate (p ++ b ∷ []) stage s) (sym more) (private_grown p b stage held fits h.1))
+    (grows h.0 ∙ ap shape_of (sym more), subst (λ s. ReadsPrivate (p ++ b ∷ []) stage s) (sym more) (private_grown p b stage held fits h.1))
 reads_grown Stopped p b stage shape next e other held short grows h = stopped_more p b h
 
 -- ---- one byte that ends all

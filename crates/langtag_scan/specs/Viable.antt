@@ -1,7 +1,9 @@
 -- Which fronts of a text some tag begins with.
-use Rattle.std.specs.Prelude.{◌≡◌, ℕ, ◌-◌, ◌<◌, ◌≤◌, ◌⊎◌, List, ◌++◌, length, take, replicate}
+use Rattle.std.specs.Prelude.{◌≡◌, ℕ, ◌-◌, ◌<◌, ◌≤◌, ◌⊎◌, List, ◌++◌, length, take, replicate, slice_get, Some}
 use Rattle.std.specs.List.{after_last}
 use Rattle.langtag_scan.specs.Subtags.{is_hyphen}
+use Rattle.langtag_scan.specs.Case.{Alike}
+use Rattle.langtag_scan.specs.Grandfathered.{irregular_texts}
 use Rattle.langtag_scan.specs.Tag.{IsTag}
 
 -- some tag begins with this text
@@ -21,3 +23,7 @@ filling s = replicate (5 - length s) 97
 -- the text, with the bytes behind its last hyphen, or all where it has none, brought to five
 abbrev pub fill : List ℕ → List ℕ
 fill p = p ++ filling (after_last is_hyphen p)
+
+-- the text is alike a front of an irregular one
+unfoldable pub IsIrregularFront : List ℕ → Type 0
+IsIrregularFront p = (place : ℕ) × (name : List ℕ) × (slice_get irregular_texts place ≡ Some name) × Alike p (take (length p) name)

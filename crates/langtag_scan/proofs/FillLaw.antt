@@ -1,0 +1,119 @@
+-- A front is viable exactly where it fills to a tag or begins an irregular text.
+use Rattle.std.proofs.Common.{◌≡◌, ◌↔◌, ℕ, ◌<◌, ◌≤◌, Bool, true, false, eqb, eqb-true, ltb, List, [], ◌∷◌, ◌++◌, length, take, drop, map, Option, Some, None, inl, inr, ◌⊎◌, refl, sym, ap, subst, ◌∙◌, arith, append_assoc, append-nil}
+use Rattle.std.specs.Prelude.{slice_get}
+use Rattle.std.proofs.lemmas.Bool.{cases_lt}
+use Rattle.std.proofs.lemmas.List.{map-append, take-append-drop, length-map, take-map}
+use Rattle.std.proofs.Math.Seq.{take-append_seam}
+use Rattle.langtag_scan.specs.Case.{fold_byte, fold_text, Alike}
+use Rattle.langtag_scan.specs.Class.{is_mark}
+use Rattle.langtag_scan.specs.Tag.{IsNormal, IsPrivate, IsIrregular, IsIrregularAt, IsTag}
+use Rattle.langtag_scan.specs.Viable.{IsViable, IsIrregularFront, filling, fill}
+use Rattle.langtag_scan.specs.Stage.{next_by}
+use Rattle.langtag_scan.specs.Shape.{shape_of, classes_of_shape}
+use Rattle.langtag_scan.specs.Irregular.{is_possible}
+use Rattle.langtag_scan.specs.Machine.{begun, may_hold, all_at, end_at, Reads, HasStopped}
+use Rattle.langtag_scan.specs.declared.ends.Ends.{Ends}
+use Rattle.langtag_scan.specs.declared.shape.Shape.{Shape}
+use Rattle.langtag_scan.specs.declared.stage.Stage.{Stage}
+use Rattle.langtag_scan.specs.declared.stage.Stage.TheVariants.{Start, AfterMark}
+use Rattle.langtag_scan.specs.declared.machine.Reading.{Reading}
+use Rattle.langtag_scan.specs.declared.machine.Reading.TheVariants.{Normal, Private, Stopped}
+use Rattle.langtag_scan.proofs.IrregularNames.{possible_viable, possible_front}
+use Rattle.langtag_scan.proofs.ReadingLaws.{starting, reads_nothing, stopped_more, reads_grown, reads_stuck, reads_behind, reads_marked, reads_refused}
+use Rattle.langtag_scan.proofs.TagLaws.{tag_irregular, viable_from_tag, viable_reads}
+
+-- ---- what is known of any front
+
+record IsRead (p : List ℕ) : Type 0 where
+  reading : Reading
+  stage : Stage
+  shape : Shape
+  ends : Ends
+  reads : Reads reading p stage shape ends
+
+stopped_at : (p : List ℕ) → HasStopped p → IsRead p
+stopped_at p h = record { reading = Stopped; stage = Start; shape = shape_of []; ends = all_at 0; reads = h }
+
+at_hyphen : (r : Reading) (p : List ℕ) (stage : Stage) (shape : Shape) (e : Ends) → (r ≡ Stopped → ⊥) → Reads r p stage shape e → IsRead (p ++ 45 ∷ [])
+at_hyphen r p stage shape e live h = by_next (next_by stage (classes_of_shape shape)) refl
+  where
+    by_mark : None ≡ next_by stage (classes_of_shape shape) → ((stage ≡ Start) ⊎ (stage ≡ Start → ⊥)) → (v : Bool) → (classes_of_shape shape).mark ≡ v → IsRead (p ++ 45 ∷ [])
+    by_mark next (inl first) true mark = record { reading = Private; stage = AfterMark; shape = shape_of []; ends = e; reads = reads_marked r p stage shape e e live first mark h }
+    by_mark next (inl first) false mark = stopped_at (p ++ 45 ∷ []) (reads_refused r p stage shape e next (λ x. mark) h)
+    by_mark next (inr later) v mark = stopped_at (p ++ 45 ∷ []) (reads_refused r p stage shape e next (λ x. absurd (later x)) h)
+
+    by_next : (o : Option Stage) → o ≡ next_by stage (classes_of_shape shape) → IsRead (p ++ 45 ∷ [])
+    by_next (Some after) next = record { reading = r; stage = after; shape = shape_of []; ends = end_at after (length p) e; reads = reads_behind r p stage after shape e next h }
+    by_next None next = by_mark next (starting stage) (classes_of_shape shape).mark refl
+
+at_other : (r : Reading) (p : List ℕ) (b : ℕ) (stage : Stage) (shape : Shape) (e : Ends) → eqb b 45 ≡ false → Reads r p stage shape e → IsRead (p ++ b ∷ [])
+at_other r p b stage shape e other h = by_held (may_hold stage b) refl
+  where
+    by_held : (v : Bool) → may_hold stage b ≡ v → IsRead (p ++ b ∷ [])
+    by_held false held = stopped_at (p ++ b ∷ []) (reads_stuck r p b stage shape e other (inl held) h)
+    by_held true held =
+        elim (cases_lt shape.len 8) [
+          | inl short ↦ record { reading = r; stage = stage; shape = shape_of (begun p ++ b ∷ []); ends = e; reads = reads_grown r p b stage shape (shape_of (begun p ++ b ∷ [])) e other held short (λ x. refl) h }
+          | inr long ↦ stopped_at (p ++ b ∷ []) (reads_stuck r p b stage shape e other (inr long) h)
+        ]
+
+read_byte : (p : List ℕ) (b : ℕ) → IsRead p → IsRead (p ++ b ∷ [])
+read_byte p b k = by_reading k.reading k.reads
+  where
+    by_hyphen : (r : Reading) → (r ≡ Stopped → ⊥) → Reads r p k.stage k.shape k.ends → (v : Bool) → eqb b 45 ≡ v → IsRead (p ++ b ∷ [])
+    by_hyphen r live h true e = let same : b ≡ 45 = eqb-true b 45 e in subst (λ x. IsRead (p ++ x ∷ [])) (sym same) (at_hyphen r p k.stage k.shape k.ends live h)
+    by_hyphen r live h false e = at_other r p b k.stage k.shape k.ends e h
+
+    by_reading : (r : Reading) → Reads r p k.stage k.shape k.ends → IsRead (p ++ b ∷ [])
+    by_reading Normal h = by_hyphen Normal (λ x. cc) h (eqb b 45) refl
+    by_reading Private h = by_hyphen Private (λ x. cc) h (eqb b 45) refl
+    by_reading Stopped h = stopped_at (p ++ b ∷ []) (stopped_more p b h)
+
+read_all : (p u : List ℕ) → IsRead p → IsRead (p ++ u)
+read_all p [] k = subst IsRead (sym (append-nil p)) k
+read_all p (b ∷ u) k = subst IsRead (append_assoc p (b ∷ []) u) (read_all (p ++ b ∷ []) u (read_byte p b k))
+
+read_front : (p : List ℕ) → IsRead p
+read_front p = read_all [] p (record { reading = Normal; stage = Start; shape = shape_of []; ends = all_at 0; reads = reads_nothing })
+
+-- ---- fronts of irregular texts
+
+-- a text that is alike an irregular one begins with fronts of it
+front_from_irregular : (p u : List ℕ) (k : ℕ) → IsIrregularAt k (p ++ u) → IsIrregularFront p
+unfolding IsIrregularAt IsIrregularFront
+front_from_irregular p u k (name, at, same) =
+    let whole : fold_text name ≡ fold_text p ++ fold_text u = same ∙ map-append fold_byte p u in
+    let front : take (length p) (fold_text name) ≡ fold_text p =
+    ap (take (length p)) whole ∙ ap (λ n. take n (fold_text p ++ fold_text u)) (sym (length-map p fold_byte)) ∙ take-append_seam (fold_text p) (fold_text u) in
+    (k, name, at, sym front ∙ take-map fold_byte (length p) name)
+
+irregular_from_front : (p : List ℕ) → IsIrregularFront p → IsViable p
+unfolding IsIrregularAt IsIrregularFront
+irregular_from_front p (k, name, at, same) =
+    let rest = drop (length p) name in
+    let whole : fold_text (p ++ rest) ≡ fold_text name =
+    map-append fold_byte p rest ∙ ap (λ t. t ++ fold_text rest) same ∙ sym (map-append fold_byte (take (length p) name) rest) ∙ ap fold_text (take-append-drop (length p) name) in
+    viable_from_tag p rest (tag_irregular (p ++ rest) k (name, at, sym whole))
+
+-- ---- the law
+
+stopped_front : (p : List ℕ) → HasStopped p → IsViable p → IsIrregularFront p
+unfolding IsViable IsTag IsIrregular
+stopped_front p h (u, inl n) = absurd (h.not_normal u n)
+stopped_front p h (u, inr (inl n)) = absurd (h.not_private u n)
+stopped_front p h (u, inr (inr (k, n))) = front_from_irregular p u k n
+
+fill_from_reads : (r : Reading) (p : List ℕ) (stage : Stage) (shape : Shape) (e : Ends) → Reads r p stage shape e → IsViable p → IsTag (fill p) ⊎ IsIrregularFront p
+fill_from_reads Normal p stage shape e h v = inl (viable_reads Normal p stage shape e (λ x. cc) h)
+fill_from_reads Private p stage shape e h v = inl (viable_reads Private p stage shape e (λ x. cc) h)
+fill_from_reads Stopped p stage shape e h v = inr (stopped_front p h v)
+
+fill_from_viable : (p : List ℕ) → IsViable p → IsTag (fill p) ⊎ IsIrregularFront p
+fill_from_viable p v = let k = read_front p in fill_from_reads k.reading p k.stage k.shape k.ends k.reads v
+
+viable_from_fill : (p : List ℕ) → IsTag (fill p) ⊎ IsIrregularFront p → IsViable p
+viable_from_fill p (inl tag) = viable_from_tag p (filling (begun p)) tag
+viable_from_fill p (inr front) = irregular_from_front p front
+
+pub viable_fill : (p : List ℕ) → IsViable p ↔ (IsTag (fill p) ⊎ IsIrregularFront p)
+viable_fill p = (fill_from_viable p, viable_from_fill p)
