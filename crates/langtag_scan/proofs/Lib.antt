@@ -6,3 +6,4 @@ pub mod CaseOrder
 pub mod SegmentLemmas
 pub mod SubtagsLemmas
 pub mod IrregularNames
+pub mod CaseLaw

@@ -10,5 +10,6 @@ pub mod Found
 pub mod Stage
 pub mod Shape
 pub mod CaseLaws
+pub mod CaseLaw
 pub mod Irregular
 pub mod Names
