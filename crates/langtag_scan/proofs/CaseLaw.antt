@@ -6,7 +6,7 @@ use Rattle.std.specs.Option.{option_map, option_map_or}
 use Rattle.std.proofs.lemmas.Bool.Decides.{nat_tests}
 use Rattle.std.proofs.lemmas.List.{length-map, map-append}
 use Rattle.langtag_scan.specs.declared.stage.Stage.{Stage}
-use Rattle.langtag_scan.specs.declared.stage.Stage.TheVariants.{Start}
+use Rattle.langtag_scan.specs.declared.stage.Stage.TheVariants.{Start, AfterMark}
 use Rattle.langtag_scan.specs.Case.{fold_byte, fold_text, Alike}
 use Rattle.langtag_scan.specs.CaseLaw.{fold_extension, fold_private_use, fold_record}
 use Rattle.langtag_scan.specs.Class.{is_letter, is_digit, is_alphanumeric, are_letters, are_digits, are_alphanumeric, starts_with_digit, is_primary, is_extended, is_script, is_region, is_variant, is_extension_subtag, is_private_subtag, is_mark, is_singleton}
@@ -16,6 +16,7 @@ use Rattle.langtag_scan.specs.Stage.{is_one, classes_of, next_by, next_stage, ma
 use Rattle.langtag_scan.specs.Subtags.{join, segments}
 use Rattle.langtag_scan.specs.Tag.{IsNormal, IsPrivate, IsIrregularAt}
 use Rattle.langtag_scan.proofs.Segments.{normal_from_runs, runs_from_normal, spelled_once}
+use Rattle.langtag_scan.proofs.PrivateTexts.{runs_private, runs_from_private, private_from_runs}
 
 -- ---- bytes
 
@@ -125,6 +126,11 @@ unfolding runs
 runs-fold stage [] = refl
 runs-fold stage (s ∷ ss) = rw (next_stage-fold stage s) (agree (λ after. runs after (map fold_text ss)) (λ after. runs after ss) (λ after. runs-fold after ss) (next_stage stage s))
 
+-- behind a mark likewise
+pub runs_private-fold : (ss : List (List ℕ)) → runs_private (map fold_text ss) ≡ runs_private ss
+runs_private-fold [] = refl
+runs_private-fold (s ∷ ss) = rw (is_one-fold is_mark is_mark-fold s, runs-fold AfterMark ss) refl
+
 -- ---- hyphens
 
 onto-map : (b : ℕ) (ss : List (List ℕ)) → onto_first (fold_byte b) (map fold_text ss) ≡ map fold_text (onto_first b ss)
@@ -164,6 +170,118 @@ private_part-fold : (o : Option PrivateUse) → private_part_flat (option_map fo
 private_part-fold None = refl
 private_part-fold (Some p) = refl
 
--- two lists of folded subtags, one behind the other
-append-fold : (xs ys us vs : List (List ℕ)) → us ≡ map fold_text xs → vs ≡ map fold_text ys → us ++ vs ≡ map fold_text (xs ++ ys)
-append-fold xs ys us vs x y = rw (x, y) (sym (map-append fold_text xs ys))
+-- the subtags of a folded record are those of the record, folded
+flat-fold : (r : Record) → flat (fold_record r) ≡ map fold_text (flat r)
+flat-fold r = simp (one_flat-fold, extensions-fold, private_part-fold, map-append)
+
+-- and it spells the folded text
+pub spell-fold : (r : Record) → spell (fold_record r) ≡ fold_text (spell r)
+spell-fold r = ap join (flat-fold r) ∙ join-fold (flat r)
+
+each-fold : (p : List ℕ → Bool) → ((s : List ℕ) → p (fold_text s) ≡ p s) → (ss : List (List ℕ)) → AllByRecursion (λ s. IsTrue (p s)) ss → AllByRecursion (λ s. IsTrue (p s)) (map fold_text ss)
+each-fold p same [] fits = tt
+each-fold p same (s ∷ ss) fits = (same s ∙ fits.0, each-fold p same ss fits.1)
+
+if_some-fold : (p : List ℕ → Bool) → ((s : List ℕ) → p (fold_text s) ≡ p s) → (o : Option (List ℕ)) → IfSome o (λ s. IsTrue (p s)) → IfSome (option_map fold_text o) (λ s. IsTrue (p s))
+if_some-fold p same None fits = tt
+if_some-fold p same (Some s) fits = same s ∙ fits
+
+is_extension-fold : (es : List Extension) → AllByRecursion IsExtension es → AllByRecursion IsExtension (map fold_extension es)
+is_extension-fold [] fits = tt
+is_extension-fold (e ∷ es) fits =
+    let first : IsExtension (fold_extension e) = record {
+      singleton = is_singleton-fold e.singleton ∙ fits.0.singleton;
+      some = omega (arith, fits.0.some, length-map e.subtags fold_text);
+      subtags = each-fold is_extension_subtag is_extension_subtag-fold e.subtags fits.0.subtags;
+    } in
+    (first, is_extension-fold es fits.1)
+
+is_private_use-fold : (o : Option PrivateUse) → IfSome o IsPrivateUse → IfSome (option_map fold_private_use o) IsPrivateUse
+is_private_use-fold None fits = tt
+is_private_use-fold (Some p) fits = record {
+  mark = is_mark-fold p.mark ∙ fits.mark;
+  some = omega (arith, fits.some, length-map p.subtags fold_text);
+  subtags = each-fold is_private_subtag is_private_subtag-fold p.subtags fits.subtags;
+}
+
+-- a folded record is well formed where the record is
+pub well_formed-fold : (r : Record) → IsWellFormed r → IsWellFormed (fold_record r)
+well_formed-fold r fits = record {
+  primary = is_primary-fold r.primary ∙ fits.primary;
+  extended = each-fold is_extended is_extended-fold r.extended fits.extended;
+  few = omega (arith, fits.few, length-map r.extended fold_text);
+  short = elim fits.short [ inl le ↦ inl (omega (arith, length-fold r.primary)) | inr none_left ↦ inr (ap (map fold_text) none_left) ];
+  script = if_some-fold is_script is_script-fold r.script fits.script;
+  region = if_some-fold is_region is_region-fold r.region fits.region;
+  variants = each-fold is_variant is_variant-fold r.variants fits.variants;
+  extensions = is_extension-fold r.extensions fits.extensions;
+  private_use = is_private_use-fold r.private_use fits.private_use;
+}
+
+abbrev made_ends : ℕ → ℕ → ℕ → ℕ → ℕ → ℕ → PartEnds
+made_ends l c g v x w = record { language = l; script = c; region = g; variants = v; extensions = x; whole = w }
+
+-- ends are equal where each of them is
+same_ends : (l c g v x w l' c' g' v' x' w' : ℕ) → l ≡ l' → c ≡ c' → g ≡ g' → v ≡ v' → x ≡ x' → w ≡ w' → made_ends l c g v x w ≡ made_ends l' c' g' v' x' w'
+same_ends l c g v x w l' c' g' v' x' w' el ec eg ev ex ew = rw (el, ec, eg, ev, ex, ew) refl
+
+-- the subtags up to and with a part
+abbrev to_language : Record → List (List ℕ)
+to_language r = r.primary ∷ r.extended
+
+abbrev to_script : Record → List (List ℕ)
+to_script r = r.primary ∷ (r.extended ++ one_flat r.script)
+
+abbrev to_region : Record → List (List ℕ)
+to_region r = r.primary ∷ (r.extended ++ (one_flat r.script ++ one_flat r.region))
+
+abbrev to_variants : Record → List (List ℕ)
+to_variants r = r.primary ∷ (r.extended ++ (one_flat r.script ++ (one_flat r.region ++ r.variants)))
+
+abbrev to_extensions : Record → List (List ℕ)
+to_extensions r = r.primary ∷ (r.extended ++ (one_flat r.script ++ (one_flat r.region ++ (r.variants ++ flat_map extension_flat r.extensions))))
+
+-- a join of folded subtags is as long
+joined_length : (ss us : List (List ℕ)) → us ≡ map fold_text ss → length (join us) ≡ length (join ss)
+joined_length ss us e = ap (λ (xs : List (List ℕ)). length (join xs)) e ∙ ap length (join-fold ss) ∙ length-fold (join ss)
+
+-- the parts of a folded record end where those of the record do
+pub ends-fold : (r : Record) → ends_of (fold_record r) ≡ ends_of r
+ends-fold r =
+    let q : Record = fold_record r in
+    let language : length (join (to_language q)) ≡ length (join (to_language r)) = joined_length (to_language r) (to_language q) refl in
+    let script : length (join (to_script q)) ≡ length (join (to_script r)) = joined_length (to_script r) (to_script q) (simp (one_flat-fold, map-append)) in
+    let region : length (join (to_region q)) ≡ length (join (to_region r)) = joined_length (to_region r) (to_region q) (simp (one_flat-fold, map-append)) in
+    let variants : length (join (to_variants q)) ≡ length (join (to_variants r)) = joined_length (to_variants r) (to_variants q) (simp (one_flat-fold, map-append)) in
+    let extensions : length (join (to_extensions q)) ≡ length (join (to_extensions r)) = joined_length (to_extensions r) (to_extensions q) (simp (one_flat-fold, extensions-fold, map-append)) in
+    let whole : length (join (flat q)) ≡ length (join (flat r)) = joined_length (flat r) (flat q) (flat-fold r) in
+    same_ends _ _ _ _ _ _ _ _ _ _ _ _ language script region variants extensions whole
+
+-- ---- the law
+
+-- one case of letters or another: well-formed records that are spelled alike are alike
+pub alike_records : (r q : Record) → IsWellFormed r → IsWellFormed q → Alike (spell r) (spell q) → fold_record r ≡ fold_record q
+alike_records r q fits fit alike = spelled_once (fold_record r) (fold_record q) (well_formed-fold r fits) (well_formed-fold q fit) (spell-fold r ∙ alike ∙ sym (spell-fold q))
+
+-- and alike records have the same ends
+pub alike_ends : (r q : Record) → fold_record r ≡ fold_record q → ends_of r ≡ ends_of q
+alike_ends r q alike = sym (ends-fold r) ∙ ap ends_of alike ∙ ends-fold q
+
+-- the segments of alike texts are alike
+alike_segments : (t u : List ℕ) → Alike t u → map fold_text (segments u) ≡ map fold_text (segments t)
+alike_segments t u alike = sym (segments-fold u) ∙ ap segments (sym alike) ∙ segments-fold t
+
+-- a text that is alike a normal one is normal
+pub alike_normal : (t u : List ℕ) → Alike t u → IsNormal t → IsNormal u
+alike_normal t u alike normal =
+    normal_from_runs u (sym (runs-fold Start (segments u)) ∙ ap (runs Start) (alike_segments t u alike) ∙ runs-fold Start (segments t) ∙ runs_from_normal t normal)
+
+-- a text that is alike an irregular one is the same irregular one
+pub alike_irregular : (k : ℕ) (t u : List ℕ) → Alike t u → IsIrregularAt k t → IsIrregularAt k u
+unfolding IsIrregularAt
+alike_irregular k t u alike irregular = (irregular.0, irregular.1, irregular.2 ∙ alike)
+
+-- a text that is alike a private one is private
+pub alike_private : (t u : List ℕ) → Alike t u → IsPrivate t → IsPrivate u
+alike_private t u alike private =
+    private_from_runs u (sym (runs_private-fold (segments u)) ∙ ap runs_private (alike_segments t u alike) ∙ runs_private-fold (segments t) ∙ runs_from_private t private)

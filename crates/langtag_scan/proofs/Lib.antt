@@ -7,3 +7,5 @@ pub mod SegmentLemmas
 pub mod SubtagsLemmas
 pub mod IrregularNames
 pub mod CaseLaw
+pub mod PrivateTexts
+pub mod OneCase
