@@ -8,11 +8,11 @@ use Rattle.std.proofs.lemmas.List.{length-map, map-append}
 use Rattle.langtag_scan.specs.declared.stage.Stage.{Stage}
 use Rattle.langtag_scan.specs.declared.stage.Stage.TheVariants.{Start, AfterMark}
 use Rattle.langtag_scan.specs.Case.{fold_byte, fold_text, Alike}
-use Rattle.langtag_scan.specs.CaseLaw.{fold_extension, fold_private_use, fold_record}
+use Rattle.langtag_scan.specs.CaseLaw.{fold_extension, fold_private_use, fold_record, AlikeRecords}
 use Rattle.langtag_scan.specs.Class.{is_letter, is_digit, is_alphanumeric, are_letters, are_digits, are_alphanumeric, starts_with_digit, is_primary, is_extended, is_script, is_region, is_variant, is_extension_subtag, is_private_subtag, is_mark, is_singleton}
 use Rattle.langtag_scan.specs.Ends.{PartEnds, ends_of}
-use Rattle.langtag_scan.specs.Record.{Extension, PrivateUse, Record, IsExtension, IsPrivateUse, IsWellFormed, extension_flat, private_use_flat, one_flat, private_part_flat, flat, spell}
-use Rattle.langtag_scan.specs.Stage.{is_one, classes_of, next_by, next_stage, may_end, runs}
+use Rattle.langtag_scan.specs.Record.{Extension, PrivateUse, Record, IsExtension, IsPrivateUse, IsWellFormed, extension_flat, one_flat, private_part_flat, flat, spell}
+use Rattle.langtag_scan.specs.Stage.{is_one, classes_of, next_by, next_stage, runs}
 use Rattle.langtag_scan.specs.Subtags.{join, segments}
 use Rattle.langtag_scan.specs.Tag.{IsNormal, IsPrivate, IsIrregularAt}
 use Rattle.langtag_scan.proofs.Segments.{normal_from_runs, runs_from_normal, spelled_once}
@@ -25,30 +25,37 @@ fold_cases : (b : ℕ) → ((65 ≤ b) × (b ≤ 90) × (fold_byte b ≡ b + 32)
 unfolding fold_byte
 fold_cases b = grind (arith, nat_tests)
 
+-- the fold is a letter where the byte is one
 is_letter-fold : (b : ℕ) → is_letter (fold_byte b) ≡ is_letter b
 unfolding is_letter
 is_letter-fold b = elim (fold_cases b) [ inl h ↦ rw h.2 (grind (arith, nat_tests)) | inr h ↦ rw h refl ]
 
+-- a digit likewise
 is_digit-fold : (b : ℕ) → is_digit (fold_byte b) ≡ is_digit b
 unfolding is_digit
 is_digit-fold b = elim (fold_cases b) [ inl h ↦ rw h.2 (grind (arith, nat_tests)) | inr h ↦ rw h refl ]
 
+-- a mark
 is_mark-fold : (b : ℕ) → is_mark (fold_byte b) ≡ is_mark b
 unfolding is_mark
 is_mark-fold b = elim (fold_cases b) [ inl h ↦ rw h.2 (grind (arith, nat_tests)) | inr h ↦ rw h refl ]
 
+-- a hyphen
 hyphen-fold : (b : ℕ) → eqb (fold_byte b) 45 ≡ eqb b 45
 hyphen-fold b = elim (fold_cases b) [ inl h ↦ rw h.2 (grind (arith, nat_tests)) | inr h ↦ rw h refl ]
 
+-- a letter or digit
 is_alphanumeric-fold : (b : ℕ) → is_alphanumeric (fold_byte b) ≡ is_alphanumeric b
 is_alphanumeric-fold b = rw (is_letter-fold b, is_digit-fold b) refl
 
+-- a singleton
 is_singleton-fold : (b : ℕ) → is_singleton (fold_byte b) ≡ is_singleton b
 unfolding is_singleton
 is_singleton-fold b = rw (is_alphanumeric-fold b, is_mark-fold b) refl
 
 -- ---- the classes of subtags
 
+-- the fold of a text has as many bytes
 length-fold : (s : List ℕ) → length (fold_text s) ≡ length s
 length-fold s = length-map s fold_byte
 
@@ -63,43 +70,54 @@ is_one-fold p same [] = refl
 is_one-fold p same (b ∷ []) = same b
 is_one-fold p same (b ∷ c ∷ s) = refl
 
+-- it has letters alone where the text has
 are_letters-fold : (s : List ℕ) → are_letters (fold_text s) ≡ are_letters s
 are_letters-fold s = all-fold is_letter is_letter-fold s
 
+-- digits alone
 are_digits-fold : (s : List ℕ) → are_digits (fold_text s) ≡ are_digits s
 are_digits-fold s = all-fold is_digit is_digit-fold s
 
+-- letters and digits alone
 are_alphanumeric-fold : (s : List ℕ) → are_alphanumeric (fold_text s) ≡ are_alphanumeric s
 are_alphanumeric-fold s = all-fold is_alphanumeric is_alphanumeric-fold s
 
+-- a digit first
 starts_with_digit-fold : (s : List ℕ) → starts_with_digit (fold_text s) ≡ starts_with_digit s
 starts_with_digit-fold [] = refl
 starts_with_digit-fold (b ∷ s) = is_digit-fold b
 
+-- so the fold is a primary subtag where the text is one
 is_primary-fold : (s : List ℕ) → is_primary (fold_text s) ≡ is_primary s
 unfolding is_primary
 is_primary-fold s = rw (length-fold s, are_letters-fold s) refl
 
+-- an extended one likewise
 is_extended-fold : (s : List ℕ) → is_extended (fold_text s) ≡ is_extended s
 unfolding is_extended
 is_extended-fold s = rw (length-fold s, are_letters-fold s) refl
 
+-- a script
 is_script-fold : (s : List ℕ) → is_script (fold_text s) ≡ is_script s
 unfolding is_script
 is_script-fold s = rw (length-fold s, are_letters-fold s) refl
 
+-- a region
 is_region-fold : (s : List ℕ) → is_region (fold_text s) ≡ is_region s
 unfolding is_region
 is_region-fold s = rw (length-fold s, are_letters-fold s, are_digits-fold s) refl
 
+-- a variant
 is_variant-fold : (s : List ℕ) → is_variant (fold_text s) ≡ is_variant s
 unfolding is_variant
 is_variant-fold s = rw (length-fold s, are_alphanumeric-fold s, starts_with_digit-fold s) refl
 
+-- a subtag of an extension
 is_extension_subtag-fold : (s : List ℕ) → is_extension_subtag (fold_text s) ≡ is_extension_subtag s
 unfolding is_extension_subtag
 is_extension_subtag-fold s = rw (length-fold s, are_alphanumeric-fold s) refl
 
+-- a private use subtag
 is_private_subtag-fold : (s : List ℕ) → is_private_subtag (fold_text s) ≡ is_private_subtag s
 unfolding is_private_subtag
 is_private_subtag-fold s = rw (length-fold s, are_alphanumeric-fold s) refl
@@ -133,10 +151,12 @@ runs_private-fold (s ∷ ss) = rw (is_one-fold is_mark is_mark-fold s, runs-fold
 
 -- ---- hyphens
 
+-- a folded byte goes before the first of the folded segments
 onto-map : (b : ℕ) (ss : List (List ℕ)) → onto_first (fold_byte b) (map fold_text ss) ≡ map fold_text (onto_first b ss)
 onto-map b [] = refl
 onto-map b (s ∷ ss) = refl
 
+-- a choice of segments, folded
 cond-map : (v : Bool) (ss us : List (List ℕ)) → cond v (map fold_text ss) (map fold_text us) ≡ map fold_text (cond v ss us)
 cond-map true ss us = refl
 cond-map false ss us = refl
@@ -153,19 +173,19 @@ join-fold [] = refl
 join-fold (s ∷ []) = refl
 join-fold (s ∷ u ∷ us) = ap (λ (t : List ℕ). fold_text s ++ 45 ∷ t) (join-fold (u ∷ us)) ∙ sym (map-append fold_byte s (45 ∷ join (u ∷ us)))
 
-length-join-fold : (ss : List (List ℕ)) → length (join (map fold_text ss)) ≡ length (join ss)
-length-join-fold ss = ap length (join-fold ss) ∙ length-fold (join ss)
-
 -- ---- records
 
+-- the subtags of a folded script or region are those of the part, folded
 one_flat-fold : (o : Option (List ℕ)) → one_flat (option_map fold_text o) ≡ map fold_text (one_flat o)
 one_flat-fold None = refl
 one_flat-fold (Some s) = refl
 
+-- those of the extensions likewise
 extensions-fold : (es : List Extension) → flat_map extension_flat (map fold_extension es) ≡ map fold_text (flat_map extension_flat es)
 extensions-fold [] = refl
 extensions-fold (e ∷ es) = rw (extensions-fold es) (sym (map-append fold_text (extension_flat e) (flat_map extension_flat es)))
 
+-- those of the private use part
 private_part-fold : (o : Option PrivateUse) → private_part_flat (option_map fold_private_use o) ≡ map fold_text (private_part_flat o)
 private_part-fold None = refl
 private_part-fold (Some p) = refl
@@ -178,14 +198,17 @@ flat-fold r = simp (one_flat-fold, extensions-fold, private_part-fold, map-appen
 pub spell-fold : (r : Record) → spell (fold_record r) ≡ fold_text (spell r)
 spell-fold r = ap join (flat-fold r) ∙ join-fold (flat r)
 
+-- where the fold changes nothing of a test, the folds of all members of a list pass it
 each-fold : (p : List ℕ → Bool) → ((s : List ℕ) → p (fold_text s) ≡ p s) → (ss : List (List ℕ)) → AllByRecursion (λ s. IsTrue (p s)) ss → AllByRecursion (λ s. IsTrue (p s)) (map fold_text ss)
 each-fold p same [] fits = tt
 each-fold p same (s ∷ ss) fits = (same s ∙ fits.0, each-fold p same ss fits.1)
 
+-- and the fold of the one that may be there
 if_some-fold : (p : List ℕ → Bool) → ((s : List ℕ) → p (fold_text s) ≡ p s) → (o : Option (List ℕ)) → IfSome o (λ s. IsTrue (p s)) → IfSome (option_map fold_text o) (λ s. IsTrue (p s))
 if_some-fold p same None fits = tt
 if_some-fold p same (Some s) fits = same s ∙ fits
 
+-- folded extensions are extensions
 is_extension-fold : (es : List Extension) → AllByRecursion IsExtension es → AllByRecursion IsExtension (map fold_extension es)
 is_extension-fold [] fits = tt
 is_extension-fold (e ∷ es) fits =
@@ -196,6 +219,7 @@ is_extension-fold (e ∷ es) fits =
     } in
     (first, is_extension-fold es fits.1)
 
+-- a folded private use part is one
 is_private_use-fold : (o : Option PrivateUse) → IfSome o IsPrivateUse → IfSome (option_map fold_private_use o) IsPrivateUse
 is_private_use-fold None fits = tt
 is_private_use-fold (Some p) fits = record {
@@ -259,12 +283,12 @@ ends-fold r =
 
 -- ---- the law
 
--- one case of letters or another: well-formed records that are spelled alike are alike
-pub alike_records : (r q : Record) → IsWellFormed r → IsWellFormed q → Alike (spell r) (spell q) → fold_record r ≡ fold_record q
+-- well-formed records that are spelled alike are alike
+pub alike_records : (r q : Record) → IsWellFormed r → IsWellFormed q → Alike (spell r) (spell q) → AlikeRecords r q
 alike_records r q fits fit alike = spelled_once (fold_record r) (fold_record q) (well_formed-fold r fits) (well_formed-fold q fit) (spell-fold r ∙ alike ∙ sym (spell-fold q))
 
 -- and alike records have the same ends
-pub alike_ends : (r q : Record) → fold_record r ≡ fold_record q → ends_of r ≡ ends_of q
+pub alike_ends : (r q : Record) → AlikeRecords r q → ends_of r ≡ ends_of q
 alike_ends r q alike = sym (ends-fold r) ∙ ap ends_of alike ∙ ends-fold q
 
 -- the segments of alike texts are alike

@@ -1,14 +1,13 @@
 -- No text is of two of the three cases of a tag.
-use Rattle.std.proofs.Common.{◌≡◌, ℕ, ◌<◌, Bool, true, false, not, ◌&&◌, List, [], ◌∷◌, length, map, refl, sym, ap, ◌∙◌, arith}
+use Rattle.std.proofs.Common.{◌≡◌, ℕ, ◌<◌, Bool, true, false, not, List, [], ◌∷◌, length, map, refl, sym, ap, ◌∙◌, arith}
 use Rattle.std.specs.List.{list_all}
-use Rattle.std.specs.Option.{option_map_or}
-use Rattle.std.proofs.lemmas.Bool.{and_parts, not-true, true_from_ne_false, both_ways}
+use Rattle.std.proofs.lemmas.Bool.{not-true, true_from_ne_false, both_ways}
 use Rattle.std.proofs.lemmas.List.Folds.{list_all_at}
 use Rattle.langtag_scan.specs.declared.stage.Stage.TheVariants.{Start}
-use Rattle.langtag_scan.specs.Case.{fold_byte, fold_text}
+use Rattle.langtag_scan.specs.Case.{fold_text}
 use Rattle.langtag_scan.specs.Class.{is_letter, is_digit, is_primary, is_extended, is_script, is_region, is_variant, is_extension_subtag, is_private_subtag, is_mark, is_singleton}
 use Rattle.langtag_scan.specs.Irregular.{folded_texts, folded_at}
-use Rattle.langtag_scan.specs.Stage.{is_one, runs}
+use Rattle.langtag_scan.specs.Stage.{runs}
 use Rattle.langtag_scan.specs.Subtags.{segments}
 use Rattle.langtag_scan.specs.Tag.{IsNormal, IsPrivate, IsIrregular, IsIrregularAt}
 use Rattle.langtag_scan.proofs.Segments.{runs_from_normal}
@@ -29,6 +28,7 @@ runs_once ([] ∷ ss) normal private = absurd cc
 runs_once ((m ∷ c ∷ s) ∷ ss) normal private = absurd cc
 runs_once ((m ∷ []) ∷ ss) normal private = let none = rw (one_no_primary m) at normal in absurd cc
 
+-- no normal text is private
 pub normal_no_private : (t : List ℕ) → IsNormal t → IsPrivate t → ⊥
 normal_no_private t normal private = runs_once (segments t) (runs_from_normal t normal) (runs_from_private t private)
 
@@ -36,11 +36,13 @@ normal_no_private t normal private = runs_once (segments t) (runs_from_normal t 
 abbrev none_passes : (List (List ℕ) → Bool) → Bool
 none_passes test = list_all (λ text. not (test (segments text))) folded_texts
 
+-- it fails at each place of the table
 fails_at : (test : List (List ℕ) → Bool) → none_passes test ≡ true → (k : ℕ) → k < length folded_texts → test (segments (folded_at k)) ≡ false
 fails_at test none k lt =
     let wrong : List ℕ → Bool = λ text. not (test (segments text)) in
     not-true _ (true_from_ne_false (wrong (folded_at k)) (λ e. both_ways (list_all wrong folded_texts) (list_all_at wrong folded_texts k [] lt e) none))
 
+-- there are seventeen
 seventeen : length folded_texts ≡ 17
 unfolding folded_texts
 seventeen = refl
@@ -63,8 +65,10 @@ none_private : none_passes runs_private ≡ true
 unfolding runs folded_texts is_mark
 none_private = refl
 
+-- no normal text is irregular
 pub normal_no_irregular : (t : List ℕ) → IsNormal t → IsIrregular t → ⊥
 normal_no_irregular t normal irregular = both_ways (runs Start (segments t)) (irregular_fails (runs Start) (runs-fold Start) none_normal t irregular) (runs_from_normal t normal)
 
+-- no private text is irregular
 pub private_no_irregular : (t : List ℕ) → IsPrivate t → IsIrregular t → ⊥
 private_no_irregular t private irregular = both_ways (runs_private (segments t)) (irregular_fails runs_private runs_private-fold none_private t irregular) (runs_from_private t private)

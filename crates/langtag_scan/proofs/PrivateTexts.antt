@@ -1,12 +1,10 @@
 -- A text is private exactly where its segments are a mark and subtags that may follow it.
-use Rattle.std.proofs.Common.{◌≡◌, ℕ, ◌≤◌, Bool, true, false, ◌&&◌, List, [], ◌∷◌, length, Some, None, refl, sym, ap, ◌∙◌, arith}
-use Rattle.std.specs.Prelude.{IsTrue}
-use Rattle.std.specs.List.{AllByRecursion}
+use Rattle.std.proofs.Common.{◌≡◌, ℕ, Bool, true, false, ◌&&◌, List, [], ◌∷◌, Some, None, refl, sym, ap, ◌∙◌}
 use Rattle.std.specs.Option.{is_some}
 use Rattle.std.proofs.lemmas.Bool.{and_parts, and_from}
 use Rattle.std.proofs.lemmas.List.Splits.{join_with_byte-slice_split}
 use Rattle.langtag_scan.specs.declared.stage.Stage.TheVariants.{AfterMark, InExtension}
-use Rattle.langtag_scan.specs.Class.{is_private_subtag, is_mark}
+use Rattle.langtag_scan.specs.Class.{is_mark}
 use Rattle.langtag_scan.specs.Stage.{is_one, next_stage, runs}
 use Rattle.langtag_scan.specs.Subtags.{join, segments}
 use Rattle.langtag_scan.specs.Tag.{IsPrivate}

@@ -1,5 +1,3 @@
-use Rattle.std.proofs.Common.{◌≡◌, ℕ, ◌<◌, ◌≤◌, List, length}
-use Rattle.langtag_scan.specs.Names.{Follows}
 use Rattle.langtag_scan.proofs.IrregularNames.{Shrinks, shrunk, still_empty}
 use Rattle.langtag_scan.proofs.irregular.Names.keep.Goals as goal
 

@@ -1,6 +1,4 @@
-use Rattle.std.proofs.Common.{◌≡◌, ℕ, ◌<◌, ◌≤◌, List, length, sym, ap, ◌∙◌, arith}
-use Rattle.langtag_scan.specs.Irregular.{folded_at}
-use Rattle.langtag_scan.specs.Names.{Follows}
+use Rattle.std.proofs.Common.{◌<◌, length, sym, ap, ◌∙◌, arith}
 use Rattle.langtag_scan.proofs.IrregularNames.{in_range, irregular_from_length, irregular_first}
 use Rattle.langtag_scan.proofs.irregular.Names.whole.Goals as goal
 use Rattle.langtag_scan.proofs.irregular.Names.whole.Goals.{else-self-via-then-self+else-folded-len, else-self-via-else-self}
