@@ -14,7 +14,7 @@ use Rattle.langtag_scan.specs.Ends.{PartEnds, ends_of}
 use Rattle.langtag_scan.specs.Record.{Extension, PrivateUse, Record, IsExtension, IsPrivateUse, IsWellFormed, extension_flat, one_flat, private_part_flat, flat, spell}
 use Rattle.langtag_scan.specs.Stage.{is_one, classes_of, next_by, next_stage, runs}
 use Rattle.langtag_scan.specs.Subtags.{join, segments}
-use Rattle.langtag_scan.specs.Tag.{IsNormal, IsPrivate, IsIrregularAt}
+use Rattle.langtag_scan.specs.Tag.{IsNormal, IsPrivate, IsIrregular, IsIrregularAt, IsTag}
 use Rattle.langtag_scan.proofs.Segments.{normal_from_runs, runs_from_normal, spelled_once}
 use Rattle.langtag_scan.proofs.PrivateTexts.{runs_private, runs_from_private, private_from_runs}
 
@@ -309,3 +309,20 @@ alike_irregular k t u alike irregular = (irregular.0, irregular.1, irregular.2 �
 pub alike_private : (t u : List ℕ) → Alike t u → IsPrivate t → IsPrivate u
 alike_private t u alike private =
     private_from_runs u (sym (runs_private-fold (segments u)) ∙ ap runs_private (alike_segments t u alike) ∙ runs_private-fold (segments t) ∙ runs_from_private t private)
+
+-- a text that is alike a tag is a tag
+pub alike_tag : (t u : List ℕ) → Alike t u → IsTag t → IsTag u
+unfolding IsTag IsIrregular
+alike_tag t u alike tag =
+    elim tag [
+      | inl normal ↦ inl (alike_normal t u alike normal)
+      | inr other ↦ inr (elim other [ inl private ↦ inl (alike_private t u alike private) | inr irregular ↦ inr (irregular.0, alike_irregular irregular.0 t u alike irregular.1) ])
+    ]
+
+-- a text that is alike a normal one has an alike record, with the same ends
+pub alike_parts : (t u : List ℕ) → Alike t u → (r : Record) → IsWellFormed r → spell r ≡ t → (q : Record) × IsWellFormed q × (spell q ≡ u) × AlikeRecords r q × (ends_of r ≡ ends_of q)
+unfolding IsNormal
+alike_parts t u alike r fits e =
+    let other = alike_normal t u alike (r, fits, e) in
+    let same : AlikeRecords r other.0 = alike_records r other.0 fits other.1 (ap fold_text e ∙ alike ∙ ap fold_text (sym other.2)) in
+    (other.0, other.1, other.2, same, alike_ends r other.0 same)
