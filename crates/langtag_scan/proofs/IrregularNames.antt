@@ -2,6 +2,7 @@
 use Rattle.std.proofs.Common.{◌≡◌, ℕ, zero, suc, ◌-◌, ◌<◌, ◌≤◌, ◌⊎◌, inl, inr, Bool, true, false, eqb, ltb, leb, ◌&&◌, ◌||◌, List, [], ◌∷◌, ◌++◌, map, length, get_or, drop, Some, refl, sym, ap, ◌∙◌, arith}
 use Rattle.std.specs.Prelude.{slice_get}
 use Rattle.std.specs.List.{list_all}
+use Rattle.std.proofs.Math.Bool.{and_assoc}
 use Rattle.std.proofs.lemmas.Bool.{eqb-true, eq-eqb, ltb-true, leb-true, lt-ltb, le-leb, and_parts, and_from, and_left, and_right, or_cases, cases_order, cases_lt, true_from_ne_false, both_ways}
 use Rattle.std.proofs.lemmas.Bool.Decides.{nat_tests}
 use Rattle.std.proofs.lemmas.List.{map-append, drop-map, length-map, get_or-map}
@@ -19,6 +20,7 @@ pub folded_texts-fold : map fold_text irregular_texts ≡ folded_texts
 unfolding fold_byte folded_texts irregular_texts grandfathered_tags
 folded_texts-fold = refl
 
+-- there are seventeen
 seventeen : length irregular_texts ≡ 17
 unfolding irregular_texts grandfathered_tags
 seventeen = refl
@@ -73,12 +75,9 @@ front_whole (b ∷ p) (c ∷ text) h e =
     let rest : p ≡ text = front_whole p text k.1 (omega arith) in
     cc
 
+-- one less on both sides
 ltb-suc : (a b : ℕ) → ltb (suc a) (suc b) ≡ ltb a b
 ltb-suc a b = grind (arith, nat_tests)
-
-and_assoc : (a b c : Bool) → (a && (b && c)) ≡ ((a && b) && c)
-and_assoc true b c = refl
-and_assoc false b c = refl
 
 -- a front with one byte more
 is_front-push : (p text : List ℕ) (b : ℕ) → is_front (p ++ b ∷ []) text ≡ (is_front p text && has_at text (length p) b)
@@ -90,7 +89,7 @@ is_front-push [] (c ∷ text) b = first b c (length text)
 is_front-push (x ∷ p) [] b = refl
 is_front-push (x ∷ p) (c ∷ text) b =
     ap (λ (v : Bool). eqb x c && v) (is_front-push p text b)
-    ∙ and_assoc (eqb x c) (is_front p text) (has_at text (length p) b)
+    ∙ sym (and_assoc (eqb x c) (is_front p text) (has_at text (length p) b))
     ∙ ap (λ (v : Bool). (eqb x c && is_front p text) && (v && eqb (get_or text (length p) 0) b)) (sym (ltb-suc (length p) (length text)))
 
 -- what is possible after one byte more: what was, and has the byte, folded
@@ -179,13 +178,15 @@ possible_between p i j k le el lt fi fk =
 
 -- ---- the range of possible texts
 
--- which places a range has
+-- a place from `low` to below `high` is in their range
 pub in_range : (low high k : ℕ) → low ≤ k → k < high → (leb low k && ltb k high) ≡ true
 in_range low high k le lt = and_from (leb low k) (ltb k high) (le-leb low k le) (lt-ltb k high lt)
 
+-- a place below it is not
 below_range : (low high k : ℕ) → k < low → (leb low k && ltb k high) ≡ false
 below_range low high k lt = grind (arith, nat_tests)
 
+-- nor one above
 above_range : (low high k : ℕ) → high ≤ k → (leb low k && ltb k high) ≡ false
 above_range low high k le = grind (arith, nat_tests)
 
@@ -284,3 +285,18 @@ irregular_first p low high within possible h =
       | inr le ↦ omega arith
     ] in
     (omega arith, ap (λ (j : ℕ). length (folded_at j)) first ∙ ap length whole ∙ length-map p fold_byte)
+
+-- no text is irregular at two places
+pub irregular_once : (j k : ℕ) (t : List ℕ) → IsIrregularAt j t → IsIrregularAt k t → j ≡ k
+unfolding IsIrregularAt
+irregular_once j k t h g =
+    let here = irregular_here j h.0 h.1 in
+    let there = irregular_here k g.0 g.1 in
+    let same : folded_at j ≡ folded_at k = sym here.1 ∙ h.2 ∙ sym g.2 ∙ there.1 in
+    elim (cases_order j k) [
+      | inl e ↦ e
+      | inr other ↦ elim other [ inl lt ↦ absurd (no_before j k same (folded_before j k lt there.0)) | inr lt ↦ absurd (no_before k j (sym same) (folded_before k j lt here.0)) ]
+    ]
+  where
+    no_before : (a b : ℕ) → folded_at a ≡ folded_at b → is_before (folded_at a) (folded_at b) ≡ true → ⊥
+    no_before a b same before = front_before (folded_at a) (folded_at a) (ap (is_before (folded_at a)) same ∙ before) (is_front-self (folded_at a))

@@ -8,9 +8,12 @@ pub mod SubtagsLemmas
 pub mod ShapeLaws
 pub mod Running
 pub mod Filling
+pub mod PrivateRuns
 pub mod PrivateTexts
 pub mod ReadingLaws
 pub mod EndsLaw
 pub mod IrregularNames
 pub mod TagLaws
 pub mod FillLaw
+pub mod CaseLaw
+pub mod OneCase

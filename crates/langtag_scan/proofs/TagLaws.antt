@@ -3,6 +3,8 @@ use Rattle.std.proofs.Common.{◌≡◌, ℕ, ◌+◌, ◌<◌, ◌≤◌, Bool,
 use Rattle.std.specs.Prelude.{slice_get}
 use Rattle.std.proofs.lemmas.List.{take_more, take-append-drop, take_all, take-take, length-take}
 use Rattle.langtag_scan.specs.Tag.{IsNormal, IsPrivate, IsIrregular, IsIrregularAt, IsTag}
+use Rattle.langtag_scan.specs.Found.{Finding, Finding.normal, Finding.private_use, Finding.irregular, IsFoundOf, is_normal}
+use Rattle.langtag_scan.proofs.OneCase.{normal_no_private, normal_no_irregular}
 use Rattle.langtag_scan.specs.Viable.{IsViable, IsStop, filling, fill}
 use Rattle.langtag_scan.specs.Irregular.{is_possible}
 use Rattle.langtag_scan.specs.Names.{Follows}
@@ -35,6 +37,13 @@ unfolding IsTag
 no_tag t h never (inl n) = h.not_normal n
 no_tag t h never (inr (inl n)) = h.not_private n
 no_tag t h never (inr (inr n)) = never n
+
+-- what was found of a text is normal where the text is
+pub found_no_normal : (t : List ℕ) (found : Finding) → IsFoundOf t found → is_normal found ≡ false → IsNormal t → ⊥
+unfolding IsIrregular
+found_no_normal t (normal ends) f h n = cc
+found_no_normal t private_use f h n = normal_no_private t n f
+found_no_normal t (irregular place) f h n = normal_no_irregular t n (place, f)
 
 -- what begins a viable front is viable
 pub viable_front : (p u : List ℕ) → IsViable (p ++ u) → IsViable p

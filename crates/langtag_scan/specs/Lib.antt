@@ -11,6 +11,7 @@ pub mod Stage
 pub mod Shape
 pub mod Machine
 pub mod CaseLaws
+pub mod AlikeRecords
 pub mod Irregular
 pub mod Names
 pub mod Findings

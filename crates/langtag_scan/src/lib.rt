@@ -25,7 +25,7 @@ pub use class::{
 };
 pub use ends::Ends;
 pub use found::Found;
-pub use recogniser::recognise;
+pub use recogniser::{recognise, recognise_normal};
 pub use segment::{segment_end, segment_start};
 pub use source::{ByteSource, Metered};
 pub use subtags::Subtags;

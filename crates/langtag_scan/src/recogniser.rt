@@ -1,21 +1,29 @@
 //! The recognisers: one pass over a source of bytes.
-ghost use Rattle.std.specs.Prelude.{◌≡◌, ℕ, ◌≤◌, ◌+◌, ◌^◌, max, MatchOption};
-ghost use Rattle.langtag_scan.specs.Tag.{IsTag};
-ghost use Rattle.langtag_scan.specs.Viable.{IsStop};
-ghost use Rattle.langtag_scan.specs.Found.{IsFoundOf};
+ghost use Rattle.std.specs.Prelude.{◌≡◌, ◌↔◌, ◌⊎◌, ℕ, ◌≤◌, ◌+◌, ◌^◌, max, List, length, IsTrue, MatchOption};
+ghost use Rattle.langtag_scan.specs.Record.{Record, IsWellFormed, spell};
+ghost use Rattle.langtag_scan.specs.Tag.{IsNormal, IsPrivate, IsIrregular, IsTag};
+ghost use Rattle.langtag_scan.specs.Viable.{IsStop, IsViable, IsIrregularFront, fill};
+ghost use Rattle.langtag_scan.specs.Found.{IsFoundOf, is_normal};
 
 use crate::found::Found;
 use crate::machine::Machine;
 use crate::source::ByteSource;
 
-/// Decides whether the bytes of a source are a tag (RFC 5646 section 2.1), and of which kind.
+/// Decides whether the bytes of a source are a tag (RFC 5646 section 2.1), and of which kind. None says that they
+/// are none.
 ///
-/// It asks for the bytes in order, each once, up to the first one after which no tag can follow.
+/// It asks for the bytes in order, each once, up to the first one after which no tag can follow, and takes no
+/// memory. Its contract also has two laws: no text is of two kinds, and how to see which texts begin a tag.
 pub fn recognise<S: ByteSource>(source: &mut S) -> Option<Found>
     requires { S.reads source.old ≤ 2 ^ 126 }
     ensures found { MatchOption result (IsTag (S.bytes source.old) → ⊥) (λ found. IsFoundOf (S.bytes source.old) found) }
     ensures bytes { S.bytes source.new ≡ S.bytes source.old }
     ensures reads { (n : ℕ) × IsStop (S.bytes source.old) n × (S.reads source.new ≡ S.reads source.old + n) × (S.reach source.new ≡ max (S.reach source.old) n) }
+
+    ensures normal_not_private { (t : List ℕ) → IsNormal t → IsPrivate t → ⊥ }
+    ensures normal_not_irregular { (t : List ℕ) → IsNormal t → IsIrregular t → ⊥ }
+    ensures private_not_irregular { (t : List ℕ) → IsPrivate t → IsIrregular t → ⊥ }
+    ensures viable { (p : List ℕ) → IsViable p ↔ (IsTag (fill p) ⊎ IsIrregularFront p) }
 {
     let len = source.len();
     let mut machine = Machine::new();
@@ -26,4 +34,18 @@ pub fn recognise<S: ByteSource>(source: &mut S) -> Option<Found>
         }
     }
     machine.found(len)
+}
+
+/// Decides whether the bytes of a source are a normal tag (rule `langtag` of RFC 5646 section 2.1), as
+/// [`recognise`] does. Its contract also has the law that a normal tag has one record of its parts.
+pub fn recognise_normal<S: ByteSource>(source: &mut S) -> Option<Found>
+    requires { S.reads source.old ≤ 2 ^ 126 }
+    ensures found { MatchOption result (IsNormal (S.bytes source.old) → ⊥) (λ found. IsTrue (is_normal found) × IsFoundOf (S.bytes source.old) found) }
+    ensures bytes { S.bytes source.new ≡ S.bytes source.old }
+    ensures reads { S.reads source.new ≤ S.reads source.old + length (S.bytes source.old) }
+
+    ensures one_record { (r q : Record) → IsWellFormed r → IsWellFormed q → spell r ≡ spell q → r ≡ q }
+{
+    let found = recognise(source)?;
+    if found.is_normal() { Some(found) } else { None }
 }

@@ -2,6 +2,8 @@ use Rattle.std.proofs.Common.{◌≡◌, ◌+◌, ◌<◌, ◌≤◌, ◌∷◌,
 use Rattle.std.proofs.lemmas.List.{take_more, take_all, length-take}
 use Rattle.langtag_scan.specs.Viable.{IsViable}
 use Rattle.langtag_scan.specs.Tracking.{Tracks}
+use Rattle.langtag_scan.proofs.OneCase.{normal_no_private, normal_no_irregular, private_no_irregular}
+use Rattle.langtag_scan.proofs.FillLaw.{viable_fill}
 use Rattle.langtag_scan.proofs.TagLaws.{stop_dead, stop_end, no_tag_dead, viable_nothing, read_more}
 use Rattle.langtag_scan.proofs.recogniser.recognise.Goals as goal
 
@@ -56,3 +58,27 @@ pub returns-clause-reads : goal.returns-clause-reads
 returns-clause-reads g c =
     let t = g.S.ByteSource.bytes c.args.source.now in
     (c.loop-place.place, stop_end t c.loop-place.place (omega arith) c.loop-place.invariant.viable, omega arith, omega arith)
+
+pub returns-then-not-is_live-clause-normal_not_private : goal.returns-then-not-is_live-clause-normal_not_private
+returns-then-not-is_live-clause-normal_not_private g c = normal_no_private
+
+pub returns-then-not-is_live-clause-normal_not_irregular : goal.returns-then-not-is_live-clause-normal_not_irregular
+returns-then-not-is_live-clause-normal_not_irregular g c = normal_no_irregular
+
+pub returns-then-not-is_live-clause-private_not_irregular : goal.returns-then-not-is_live-clause-private_not_irregular
+returns-then-not-is_live-clause-private_not_irregular g c = private_no_irregular
+
+pub returns-then-not-is_live-clause-viable : goal.returns-then-not-is_live-clause-viable
+returns-then-not-is_live-clause-viable g c = viable_fill
+
+pub returns-clause-normal_not_private : goal.returns-clause-normal_not_private
+returns-clause-normal_not_private g c = normal_no_private
+
+pub returns-clause-normal_not_irregular : goal.returns-clause-normal_not_irregular
+returns-clause-normal_not_irregular g c = normal_no_irregular
+
+pub returns-clause-private_not_irregular : goal.returns-clause-private_not_irregular
+returns-clause-private_not_irregular g c = private_no_irregular
+
+pub returns-clause-viable : goal.returns-clause-viable
+returns-clause-viable g c = viable_fill

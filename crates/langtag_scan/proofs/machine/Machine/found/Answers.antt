@@ -1,4 +1,4 @@
-use Rattle.std.proofs.Common.{◌≡◌, sym, ◌∙◌, ap, subst}
+use Rattle.std.proofs.Common.{subst}
 use Rattle.langtag_scan.specs.Machine.{Reads}
 use Rattle.langtag_scan.proofs.TagLaws.{no_tag}
 use Rattle.langtag_scan.proofs.ReadingLaws.{IsRefused, normal_accepted, private_accepted, reads_rejected, stopped_refused}

@@ -1,4 +1,4 @@
-use Rattle.std.proofs.Common.{◌≡◌, ◌<◌, ◌≤◌, ℕ, inl, inr, sym, ◌∙◌, arith, ne_eqb}
+use Rattle.std.proofs.Common.{inl, inr, sym, ◌∙◌, arith, ne_eqb}
 use Rattle.langtag_scan.specs.Machine.{begun}
 use Rattle.langtag_scan.proofs.ReadingLaws.{reads_grown, reads_stuck}
 use Rattle.langtag_scan.proofs.machine.Machine.go_on.Goals as goal

@@ -1,5 +1,5 @@
-use Rattle.std.proofs.Common.{◌≡◌, false, true, not, sym, ◌∙◌, ap, subst}
-use Rattle.langtag_scan.specs.Machine.{Reads, begun, HasStopped}
+use Rattle.std.proofs.Common.{◌≡◌, false, true, subst}
+use Rattle.langtag_scan.specs.Machine.{Reads, begun}
 use Rattle.langtag_scan.specs.Viable.{filling}
 use Rattle.langtag_scan.proofs.Disjoint.{not_true, not_false}
 use Rattle.langtag_scan.proofs.TagLaws.{viable_from_tag, viable_possible, viable_reads, not_viable}

@@ -1,0 +1,74 @@
+-- No text is of two of the three cases of a tag.
+use Rattle.std.proofs.Common.{◌≡◌, ℕ, ◌<◌, Bool, true, false, not, List, [], ◌∷◌, length, map, refl, sym, ap, ◌∙◌, arith}
+use Rattle.std.specs.List.{list_all}
+use Rattle.std.proofs.lemmas.Bool.{not-true, true_from_ne_false, both_ways}
+use Rattle.std.proofs.lemmas.List.Folds.{list_all_at}
+use Rattle.langtag_scan.specs.declared.stage.Stage.TheVariants.{Start}
+use Rattle.langtag_scan.specs.Case.{fold_text}
+use Rattle.langtag_scan.specs.Class.{is_letter, is_digit, is_primary, is_extended, is_script, is_region, is_variant, is_extension_subtag, is_private_subtag, is_mark, is_singleton}
+use Rattle.langtag_scan.specs.Irregular.{folded_texts, folded_at}
+use Rattle.langtag_scan.specs.Stage.{runs}
+use Rattle.langtag_scan.specs.Subtags.{segments}
+use Rattle.langtag_scan.specs.Tag.{IsNormal, IsPrivate, IsIrregular, IsIrregularAt}
+use Rattle.langtag_scan.proofs.Segments.{runs_from_normal}
+use Rattle.langtag_scan.proofs.PrivateRuns.{runs_private, runs_from_private}
+use Rattle.langtag_scan.proofs.CaseLaw.{runs-fold, runs_private-fold, segments-fold}
+use Rattle.langtag_scan.proofs.IrregularNames.{irregular_here}
+
+-- no mark is a primary subtag
+one_no_primary : (m : ℕ) → is_primary (m ∷ []) ≡ false
+unfolding is_primary
+one_no_primary m = refl
+
+-- so no subtags are those of a normal text and of a private one
+runs_once : (ss : List (List ℕ)) → runs Start ss ≡ true → runs_private ss ≡ true → ⊥
+unfolding runs
+runs_once [] normal private = absurd cc
+runs_once ([] ∷ ss) normal private = absurd cc
+runs_once ((m ∷ c ∷ s) ∷ ss) normal private = absurd cc
+runs_once ((m ∷ []) ∷ ss) normal private = let none = rw (one_no_primary m) at normal in absurd cc
+
+-- no normal text is private
+pub normal_no_private : (t : List ℕ) → IsNormal t → IsPrivate t → ⊥
+normal_no_private t normal private = runs_once (segments t) (runs_from_normal t normal) (runs_from_private t private)
+
+-- a test of lists of subtags that no folded irregular text passes
+abbrev none_passes : (List (List ℕ) → Bool) → Bool
+none_passes test = list_all (λ text. not (test (segments text))) folded_texts
+
+-- it fails at each place of the table
+fails_at : (test : List (List ℕ) → Bool) → none_passes test ≡ true → (k : ℕ) → k < length folded_texts → test (segments (folded_at k)) ≡ false
+fails_at test none k lt =
+    let wrong : List ℕ → Bool = λ text. not (test (segments text)) in
+    not-true _ (true_from_ne_false (wrong (folded_at k)) (λ e. both_ways (list_all wrong folded_texts) (list_all_at wrong folded_texts k [] lt e) none))
+
+-- there are seventeen
+seventeen : length folded_texts ≡ 17
+unfolding folded_texts
+seventeen = refl
+
+-- where the fold changes nothing of the test, no irregular text passes it
+irregular_fails : (test : List (List ℕ) → Bool) → ((ss : List (List ℕ)) → test (map fold_text ss) ≡ test ss) → none_passes test ≡ true → (t : List ℕ) → IsIrregular t → test (segments t) ≡ false
+unfolding IsIrregular IsIrregularAt
+irregular_fails test same none t h =
+    let here = irregular_here h.0 h.1.0 h.1.1 in
+    let text : fold_text t ≡ folded_at h.0 = sym h.1.2 ∙ here.1 in
+    sym (same (segments t)) ∙ ap test (sym (segments-fold t) ∙ ap segments text) ∙ fails_at test none h.0 (omega (arith, seventeen, here.0))
+
+-- no irregular text begins with a primary subtag that the rest may follow
+none_normal : none_passes (runs Start) ≡ true
+unfolding runs folded_texts is_letter is_digit is_primary is_extended is_script is_region is_variant is_extension_subtag is_private_subtag is_mark is_singleton
+none_normal = refl
+
+-- and none with a mark
+none_private : none_passes runs_private ≡ true
+unfolding runs folded_texts is_mark
+none_private = refl
+
+-- no normal text is irregular
+pub normal_no_irregular : (t : List ℕ) → IsNormal t → IsIrregular t → ⊥
+normal_no_irregular t normal irregular = both_ways (runs Start (segments t)) (irregular_fails (runs Start) (runs-fold Start) none_normal t irregular) (runs_from_normal t normal)
+
+-- no private text is irregular
+pub private_no_irregular : (t : List ℕ) → IsPrivate t → IsIrregular t → ⊥
+private_no_irregular t private irregular = both_ways (runs_private (segments t)) (irregular_fails runs_private runs_private-fold none_private t irregular) (runs_from_private t private)

@@ -1,0 +1,27 @@
+-- Records of normal tags without regard to the case of letters (RFC 5646 section 2.1.1).
+use Rattle.std.specs.Prelude.{◌≡◌, map}
+use Rattle.std.specs.Option.{option_map}
+use Rattle.langtag_scan.specs.Case.{fold_byte, fold_text}
+use Rattle.langtag_scan.specs.Record.{Extension, PrivateUse, Record}
+
+abbrev pub fold_extension : Extension → Extension
+fold_extension e = record { singleton = fold_byte e.singleton; subtags = map fold_text e.subtags }
+
+abbrev pub fold_private_use : PrivateUse → PrivateUse
+fold_private_use p = record { mark = fold_byte p.mark; subtags = map fold_text p.subtags }
+
+-- a record with each of its subtags folded
+abbrev pub fold_record : Record → Record
+fold_record r = record {
+  primary = fold_text r.primary;
+  extended = map fold_text r.extended;
+  script = option_map fold_text r.script;
+  region = option_map fold_text r.region;
+  variants = map fold_text r.variants;
+  extensions = map fold_extension r.extensions;
+  private_use = option_map fold_private_use r.private_use;
+}
+
+-- two records have the same parts, with as many subtags, and corresponding subtags are alike
+abbrev pub AlikeRecords : Record → Record → Type 0
+AlikeRecords r q = fold_record r ≡ fold_record q
