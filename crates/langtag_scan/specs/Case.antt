@@ -1,6 +1,6 @@
 -- The case of ASCII letters, to which tags are indifferent (RFC 5646 section 2.1.1): the fold, texts that
 -- are alike, how texts are ordered, and what a text feeds to a hasher.
-use Rattle.std.specs.Prelude.{◌≡◌, ℕ, Bool, List, [], ◌∷◌, ◌++◌, map}
+use Rattle.std.specs.Prelude.{◌≡◌, ℕ, ◌<◌, Bool, List, [], ◌∷◌, ◌++◌, map, length, take}
 use Rattle.std.specs.Char.{to_ascii_lowercase}
 use Rattle.std.specs.Str.{bytes_eq}
 use Rattle.std.specs.declared.cmp.Ordering.{Ordering}
@@ -30,6 +30,10 @@ order_key text = fold_text text ++ 256 ∷ []
 
 abbrev pub case_cmp : List ℕ → List ℕ → Ordering
 case_cmp = on order_key (slice_cmp nat_cmp)
+
+-- b begins like a, and goes on where a has ended
+abbrev pub EndsFirst : List ℕ → List ℕ → Type 0
+EndsFirst a b = (length a < length b) × Alike a (take (length a) b)
 
 -- what a text feeds to a hasher: its folded bytes, each by a write of its own
 abbrev pub case_writes : List ℕ → HashWrites
