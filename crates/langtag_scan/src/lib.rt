@@ -9,7 +9,6 @@ mod found;
 mod recognise;
 mod segment;
 mod source;
-mod split;
 mod stage;
 mod subtag;
 mod subtags;
