@@ -12,6 +12,8 @@ mod source;
 mod stage;
 mod subtag;
 mod subtags;
+#[cfg(test)]
+mod tests;
 
 pub use case::{case_insensitive_cmp, case_insensitive_eq, case_insensitive_hash, into_smallcase};
 pub use caseless::Caseless;
