@@ -8,7 +8,7 @@ use Rattle.std.specs.Ordering.{nat_cmp, on}
 use Rattle.std.specs.Cmp.Lexicographic.{slice_cmp}
 use Rattle.std.specs.Hash.{HashWrites}
 
--- a capital ASCII letter as its small letter, any other byte as it stands
+-- a capital ASCII letter, 65 to 90, as its small letter, which is 32 above it; any other byte as it stands
 unfoldable pub fold_byte : ℕ → ℕ
 fold_byte b = to_ascii_lowercase b
 
@@ -19,7 +19,7 @@ fold_text text = map fold_byte text
 abbrev pub Alike : List ℕ → List ℕ → Type 0
 Alike a b = fold_text a ≡ fold_text b
 
--- the same as a test
+-- the same as a test, by which `==` of texts is computed
 abbrev pub are_alike : List ℕ → List ℕ → Bool
 are_alike = on fold_text bytes_eq
 

@@ -1,14 +1,19 @@
 -- The laws that `==`, the order and the hash of texts obey where case is ignored (RFC 5646 section 2.1.1): equality
 -- is an equivalence, the order is total and ties exactly where texts are alike, and alike texts feed alike writes.
 -- Each law is stated once over texts, and then over the values of a type K, f being the text of a value.
-use Rattle.std.specs.Prelude.{◌≡◌, ℕ, IsTrue, false, List, [], ◌∷◌, ◌++◌, map, refl, ◌==◌, ◌&&◌}
+use Rattle.std.specs.Prelude.{◌≡◌, ℕ, IsTrue, List, [], ◌∷◌, ◌++◌, map, refl, ◌==◌, ◌&&◌}
 use Rattle.std.proofs.Common.{ap, sym, ◌∙◌}
 use Rattle.std.proofs.Math.Bool.{and-false}
+use Rattle.std.specs.Bool.{Decides}
 use Rattle.std.specs.Str.{bytes_eq}
 use Rattle.std.specs.Ordering.{nat_cmp, on, eq_by_cmp, as_partial_cmp}
 use Rattle.std.specs.Cmp.{IsEquivalence, IsPartialEquivalence, IsTotalOrder, IsPartialOrder, Agrees, partial_equiv_from_equiv, on_equiv, on_total, unsigned_ties, partial_order_from_agreeing_total}
 use Rattle.std.specs.Cmp.Lexicographic.{nat_list_cmp_total, nat_list_eq_equiv, lists_ties, bytes_decides}
-use Rattle.langtag_scan.specs.Case.{fold_byte, fold_text, are_alike, order_key, case_cmp, case_writes}
+use Rattle.langtag_scan.specs.Case.{fold_byte, fold_text, Alike, are_alike, order_key, case_cmp, case_writes}
+
+-- the test `are_alike` decides whether texts are alike
+pub are_alike-decides : (a b : List ℕ) → Decides (are_alike a b) (Alike a b)
+are_alike-decides a b = bytes_decides (fold_text a) (fold_text b)
 
 are_alike-equivalence : IsEquivalence are_alike
 are_alike-equivalence = on_equiv fold_text nat_list_eq_equiv
@@ -36,7 +41,7 @@ case_writes-fold_text (b ∷ text) = ap (λ rest. (fold_byte b ∷ []) ∷ rest)
 
 case_writes-alike : (a b : List ℕ) → IsTrue (are_alike a b) → case_writes a ≡ case_writes b
 case_writes-alike a b alike =
-    case_writes-fold_text a ∙ ap (map (λ b. b ∷ [])) ((bytes_decides (fold_text a) (fold_text b)).0 alike) ∙ sym (case_writes-fold_text b)
+    case_writes-fold_text a ∙ ap (map (λ b. b ∷ [])) ((are_alike-decides a b).0 alike) ∙ sym (case_writes-fold_text b)
 
 module _ {K : Type 0} (f : K → List ℕ) where
   pub on_alike_equiv : IsEquivalence (on f are_alike)
