@@ -1,10 +1,9 @@
 -- How the order of texts without regard to case goes on from a place, and what it answers where a text has ended.
-use Rattle.std.proofs.Common.{◌≡◌, ℕ, suc, ◌+◌, ◌<◌, ◌≤◌, min, Bool, true, false, List, [], ◌∷◌, length, get_or, take, drop, refl, ap, sym, ◌∙◌, Fits, w8, arith, add-one, subst, length-drop, Less, Equal, Greater, Ordering}
+use Rattle.std.proofs.Common.{◌≡◌, ℕ, suc, ◌+◌, ◌<◌, min, true, false, List, [], ◌∷◌, length, get_or, take, drop, refl, ap, ◌∙◌, Fits, w8, arith, add-one, subst, length-drop, Less, Equal, Greater, Ordering}
 use Rattle.std.specs.Ordering.{nat_cmp, ordering_then, is_ne}
 use Rattle.std.proofs.Math.Seq.{drop-cons}
-use Rattle.std.proofs.lemmas.List.{drop_all}
 use Rattle.std.proofs.lemmas.Grind.{common_steps}
-use Rattle.langtag_scan.specs.Case.{fold_byte, fold_text, Alike, case_cmp, EndsFirst}
+use Rattle.langtag_scan.specs.Case.{fold_byte, Alike, case_cmp, EndsFirst}
 
 -- the order from a place on is that of the bytes there, and where they tie that of what follows
 case_cmp-drop : (a b : List ℕ) (i : ℕ) → i < length a → i < length b → case_cmp (drop i a) (drop i b) ≡ ordering_then (nat_cmp (fold_byte (get_or a i 0)) (fold_byte (get_or b i 0))) (case_cmp (drop (i + 1) a) (drop (i + 1) b))

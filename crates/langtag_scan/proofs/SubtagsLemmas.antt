@@ -27,7 +27,7 @@ segments-append (b ∷ front) back = by_first (is_hyphen b) refl (segments-appen
         rw (slice_split-cons_yes is_hyphen b (front ++ 45 ∷ back) cut, slice_split-cons_yes is_hyphen b front cut, others) refl
     by_first false kept others =
         rw (slice_split-cons_no is_hyphen b (front ++ 45 ∷ back) kept, slice_split-cons_no is_hyphen b front kept, others)
-          (onto_first-append b (segments front) (segments back) (omega (arith, length-slice_split is_hyphen front)))
+        (onto_first-append b (segments front) (segments back) (omega (arith, length-slice_split is_hyphen front)))
 
 -- one more segment, behind a hyphen
 pub segments-push : (front last : List ℕ) → IsHyphenFree last → segments (front ++ 45 ∷ last) ≡ segments front ++ last ∷ []
@@ -45,8 +45,8 @@ onto_first-hyphen_free b [] kept free =
     All-cons IsHyphenFree (b ∷ []) [] (All-cons (λ c. is_hyphen c ≡ false) b [] kept (All-nil (λ c. is_hyphen c ≡ false))) (All-nil IsHyphenFree)
 onto_first-hyphen_free b (text ∷ texts) kept free =
     All-cons IsHyphenFree (b ∷ text) texts
-      (All-cons (λ c. is_hyphen c ≡ false) b text kept (All-head IsHyphenFree text texts free))
-      (All-tail IsHyphenFree text texts free)
+    (All-cons (λ c. is_hyphen c ≡ false) b text kept (All-head IsHyphenFree text texts free))
+    (All-tail IsHyphenFree text texts free)
 
 pub segments-hyphen_free : (text : List ℕ) → All IsHyphenFree (segments text)
 segments-hyphen_free [] = All-cons IsHyphenFree [] [] (All-nil (λ c. is_hyphen c ≡ false)) (All-nil IsHyphenFree)

@@ -37,7 +37,11 @@ fn walks_from_both_ends(rt: HostRuntime) -> Result<(), Fail> {
         ("-a", 1, "><a"),
     ] {
         let found = walked(rt.alloc(), text, fronts)?;
-        assert_eq!(rt; found.as_str(), want, "walking {text} with {fronts} from the front");
+        assert_eq!(rt;
+            found.as_str(),
+            want,
+            "walking {text} with {fronts} from the front"
+        );
     }
     Ok(())
 }
