@@ -13,14 +13,14 @@ pub segments_left-first : (text first : List ℕ) (rest : Option (Bor (List ℕ)
 segments_left-first text first None free whole = rw whole (slice_split_none is_hyphen first free)
 segments_left-first text first (Some rest) free joined = rw joined (slice_split_at is_hyphen first 45 rest.now free refl)
 
-onto_first-append : (b : ℕ) (front back : List (List ℕ)) → 0 < length front → onto_first b (front ++ back) ≡ onto_first b front ++ back
+pub onto_first-append : (b : ℕ) (front back : List (List ℕ)) → 0 < length front → onto_first b (front ++ back) ≡ onto_first b front ++ back
 onto_first-append b [] back some = absurd (omega (arith, some))
 onto_first-append b (segment ∷ front) back some = refl
 
 -- the segments before and after any hyphen
-pub segments-append : (front back : List ℕ) → segments (front ++ 45 ∷ back) ≡ segments front ++ segments back
-segments-append [] back = refl
-segments-append (b ∷ front) back = by_first (is_hyphen b) refl (segments-append front back)
+pub slice_split-append : (front back : List ℕ) → segments (front ++ 45 ∷ back) ≡ segments front ++ segments back
+slice_split-append [] back = refl
+slice_split-append (b ∷ front) back = by_first (is_hyphen b) refl (slice_split-append front back)
   where
     by_first : (cut : Bool) → is_hyphen b ≡ cut → segments (front ++ 45 ∷ back) ≡ segments front ++ segments back → segments (b ∷ front ++ 45 ∷ back) ≡ segments (b ∷ front) ++ segments back
     by_first true cut others =
@@ -30,13 +30,13 @@ segments-append (b ∷ front) back = by_first (is_hyphen b) refl (segments-appen
         (onto_first-append b (segments front) (segments back) (omega (arith, length-slice_split is_hyphen front)))
 
 -- one more segment, behind a hyphen
-pub segments-push : (front last : List ℕ) → IsHyphenFree last → segments (front ++ 45 ∷ last) ≡ segments front ++ last ∷ []
-segments-push front last free = segments-append front last ∙ ap (λ back. segments front ++ back) (slice_split_none is_hyphen last free)
+pub slice_split-push : (front last : List ℕ) → IsHyphenFree last → segments (front ++ 45 ∷ last) ≡ segments front ++ last ∷ []
+slice_split-push front last free = slice_split-append front last ∙ ap (λ back. segments front ++ back) (slice_split_none is_hyphen last free)
 
 -- the last segment, and those of what stands before its hyphen
 pub segments_left-last : (text last : List ℕ) (front : Option (Bor (List ℕ))) → IsHyphenFree last → MatchOption front (text ≡ last) (λ f. text ≡ f.now ++ 45 ∷ last) → segments text ≡ segments_left front ++ last ∷ []
 segments_left-last text last None free whole = rw whole (slice_split_none is_hyphen last free)
-segments_left-last text last (Some front) free joined = rw joined (segments-push front.now last free)
+segments_left-last text last (Some front) free joined = rw joined (slice_split-push front.now last free)
 
 -- ---- no segment holds a hyphen
 
@@ -56,10 +56,6 @@ segments-hyphen_free (b ∷ text) = by_first (is_hyphen b) refl (segments-hyphen
     by_first true cut free =
         rw (slice_split-cons_yes is_hyphen b text cut) (All-cons IsHyphenFree [] (segments text) (All-nil (λ c. is_hyphen c ≡ false)) free)
     by_first false kept free = rw (slice_split-cons_no is_hyphen b text kept) (onto_first-hyphen_free b (segments text) kept free)
-
-pub subtags-hyphen_free : (text : List ℕ) → All IsHyphenFree (subtags text)
-subtags-hyphen_free [] = All-nil IsHyphenFree
-subtags-hyphen_free (b ∷ text) = segments-hyphen_free (b ∷ text)
 
 -- ---- joining and splitting
 
