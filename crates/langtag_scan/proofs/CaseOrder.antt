@@ -1,26 +1,69 @@
--- How `case_cmp` goes on where one text has ended.
-use Rattle.std.proofs.Common.{◌≡◌, ℕ, ◌<◌, ◌≤◌, List, length, get_or, drop, refl, Fits, w8, arith, Less, Greater}
-use Rattle.langtag_scan.specs.Case.{fold_byte}
-use Rattle.std.specs.Ordering.{nat_cmp}
+-- How the order of texts without regard to case goes on from a place, and what it answers where a text has ended.
+use Rattle.std.proofs.Common.{◌≡◌, ℕ, suc, ◌+◌, ◌<◌, min, true, false, List, [], ◌∷◌, length, get_or, take, drop, refl, ap, ◌∙◌, Fits, w8, arith, add-one, subst, length-drop, Less, Equal, Greater, Ordering}
+use Rattle.std.specs.Ordering.{nat_cmp, ordering_then, is_ne}
 use Rattle.std.proofs.Math.Seq.{drop-cons}
-use Rattle.std.proofs.lemmas.List.{drop_all}
-use Rattle.langtag_scan.specs.Case.{case_cmp}
 use Rattle.std.proofs.lemmas.Grind.{common_steps}
+use Rattle.langtag_scan.specs.Case.{fold_byte, Alike, case_cmp, EndsFirst}
 
-below_end : (x : ℕ) → Fits w8 x → nat_cmp (fold_byte x) 256 ≡ Less
+-- the order from a place on is that of the bytes there, and where they tie that of what follows
+case_cmp-drop : (a b : List ℕ) (i : ℕ) → i < length a → i < length b → case_cmp (drop i a) (drop i b) ≡ ordering_then (nat_cmp (fold_byte (get_or a i 0)) (fold_byte (get_or b i 0))) (case_cmp (drop (i + 1) a) (drop (i + 1) b))
+case_cmp-drop a b i in_a in_b = rw (add-one, drop-cons a i 0 in_a, drop-cons b i 0 in_b) refl
+
+ordering_then-tied : (first rest : Ordering) → is_ne first ≡ false → ordering_then first rest ≡ rest
+ordering_then-tied Less rest tied = absurd cc
+ordering_then-tied Equal rest tied = refl
+ordering_then-tied Greater rest tied = absurd cc
+
+ordering_then-decided : (first rest : Ordering) → is_ne first ≡ true → ordering_then first rest ≡ first
+ordering_then-decided Less rest decided = refl
+ordering_then-decided Equal rest decided = absurd cc
+ordering_then-decided Greater rest decided = refl
+
+module _ (a b : List ℕ) (i x y : ℕ) (o : Ordering) (in_a : i < length a) (in_b : i < length b) (at_a : x ≡ get_or a i 0) (at_b : y ≡ get_or b i 0) (at_place : o ≡ nat_cmp (fold_byte x) (fold_byte y)) where
+  -- the bytes at a place tie
+  pub case_cmp-tied : is_ne o ≡ false → case_cmp (drop i a) (drop i b) ≡ case_cmp (drop (i + 1) a) (drop (i + 1) b)
+  case_cmp-tied tied = case_cmp-drop a b i in_a in_b ∙ rw (← at_a, ← at_b, ← at_place) (ordering_then-tied o _ tied)
+
+  -- the bytes at a place differ
+  pub case_cmp-decided : is_ne o ≡ true → case_cmp (drop i a) (drop i b) ≡ o
+  case_cmp-decided decided = case_cmp-drop a b i in_a in_b ∙ rw (← at_a, ← at_b, ← at_place) (ordering_then-decided o _ decided)
+
+-- the end of a text is above every byte
+fold_byte-below_end : (x : ℕ) → Fits w8 x → nat_cmp (fold_byte x) 256 ≡ Less
 unfolding fold_byte
-below_end x low = grind (arith, common_steps)
+fold_byte-below_end x byte = grind (arith, common_steps)
 
-above_byte : (x : ℕ) → Fits w8 x → nat_cmp 256 (fold_byte x) ≡ Greater
+end-above_fold_byte : (x : ℕ) → Fits w8 x → nat_cmp 256 (fold_byte x) ≡ Greater
 unfolding fold_byte
-above_byte x low = grind (arith, common_steps)
+end-above_fold_byte x byte = grind (arith, common_steps)
 
--- the second text has ended
-pub case_cmp-second_ended : (xs ys : List ℕ) (i : ℕ) → i < length xs → length ys ≤ i → Fits w8 (get_or xs i 0) → case_cmp (drop i xs) (drop i ys) ≡ Less
-case_cmp-second_ended xs ys i more ended low =
-    rw (drop-cons xs i 0 more, drop_all i ys ended, below_end (get_or xs i 0) low) refl
+-- where one text has ended, the longer one is less
+pub case_cmp-ended : (a b : List ℕ) (i : ℕ) → ((k : ℕ) → Fits w8 (get_or a k 0)) → ((k : ℕ) → Fits w8 (get_or b k 0)) → i ≡ min (length a) (length b) → case_cmp (drop i a) (drop i b) ≡ nat_cmp (length b) (length a)
+case_cmp-ended a b i bytes_a bytes_b ended = by_rest (drop i a) (drop i b) refl refl
+  where
+    by_rest : (s t : List ℕ) → drop i a ≡ s → drop i b ≡ t → case_cmp s t ≡ nat_cmp (length b) (length a)
+    by_rest [] [] e f =
+        let same : length b ≡ length a = omega (arith, ended, ap length e, ap length f, length-drop i a, length-drop i b) in
+        grind (arith, common_steps, same)
+    by_rest [] (y ∷ t) e f =
+        let longer : length a < length b = omega (arith, ended, ap length e, ap length f, length-drop i a, length-drop i b) in
+        let at_end : drop i b ≡ get_or b i 0 ∷ drop (suc i) b = drop-cons b i 0 (omega (arith, ended)) in
+        let first : get_or b i 0 ≡ y = cc in
+        rw (end-above_fold_byte y (subst (Fits w8) first (bytes_b i))) (grind (arith, common_steps))
+    by_rest (x ∷ s) [] e f =
+        let longer : length b < length a = omega (arith, ended, ap length e, ap length f, length-drop i a, length-drop i b) in
+        let at_end : drop i a ≡ get_or a i 0 ∷ drop (suc i) a = drop-cons a i 0 (omega (arith, ended)) in
+        let first : get_or a i 0 ≡ x = cc in
+        rw (fold_byte-below_end x (subst (Fits w8) first (bytes_a i))) (grind (arith, common_steps))
+    by_rest (x ∷ s) (y ∷ t) e f = absurd (omega (arith, ended, ap length e, ap length f, length-drop i a, length-drop i b))
 
--- the first text has ended
-pub case_cmp-first_ended : (xs ys : List ℕ) (i : ℕ) → length xs ≤ i → i < length ys → Fits w8 (get_or ys i 0) → case_cmp (drop i xs) (drop i ys) ≡ Greater
-case_cmp-first_ended xs ys i ended more low =
-    rw (drop-cons ys i 0 more, drop_all i xs ended, above_byte (get_or ys i 0) low) refl
+-- a text that ends first is greater than any longer one that begins alike
+pub case_cmp-ends_first : (a b : List ℕ) → ((k : ℕ) → Fits w8 (get_or b k 0)) → EndsFirst a b → case_cmp a b ≡ Greater
+case_cmp-ends_first [] [] bytes ends = absurd (omega (arith, ends.0))
+case_cmp-ends_first [] (y ∷ b) bytes ends = rw (end-above_fold_byte y (bytes 0)) refl
+case_cmp-ends_first (x ∷ a) [] bytes ends = absurd (omega (arith, ends.0))
+case_cmp-ends_first (x ∷ a) (y ∷ b) bytes ends =
+    let longer : length a < length b = omega (arith, ends.0) in
+    let same : fold_byte x ≡ fold_byte y = cc (ends.1) in
+    let rest : Alike a (take (length a) b) = cc (ends.1) in
+    rw same (grind (arith, common_steps, case_cmp-ends_first a b (λ k. bytes (suc k)) (longer, rest)))

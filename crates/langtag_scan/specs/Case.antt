@@ -1,6 +1,6 @@
 -- The case of ASCII letters, to which tags are indifferent (RFC 5646 section 2.1.1): the fold, texts that
 -- are alike, how texts are ordered, and what a text feeds to a hasher.
-use Rattle.std.specs.Prelude.{◌≡◌, ℕ, Bool, List, [], ◌∷◌, ◌++◌, map}
+use Rattle.std.specs.Prelude.{◌≡◌, ℕ, ◌<◌, Bool, List, [], ◌∷◌, ◌++◌, map, length, take}
 use Rattle.std.specs.Char.{to_ascii_lowercase}
 use Rattle.std.specs.Str.{bytes_eq}
 use Rattle.std.specs.declared.cmp.Ordering.{Ordering}
@@ -8,7 +8,7 @@ use Rattle.std.specs.Ordering.{nat_cmp, on}
 use Rattle.std.specs.Cmp.Lexicographic.{slice_cmp}
 use Rattle.std.specs.Hash.{HashWrites}
 
--- a capital ASCII letter as its small letter, any other byte as it stands
+-- a capital ASCII letter, 65 to 90, as its small letter, which is 32 above it; any other byte as it stands
 unfoldable pub fold_byte : ℕ → ℕ
 fold_byte b = to_ascii_lowercase b
 
@@ -19,7 +19,7 @@ fold_text text = map fold_byte text
 abbrev pub Alike : List ℕ → List ℕ → Type 0
 Alike a b = fold_text a ≡ fold_text b
 
--- the same as a test
+-- the same as a test, by which `==` of texts is computed
 abbrev pub are_alike : List ℕ → List ℕ → Bool
 are_alike = on fold_text bytes_eq
 
@@ -30,6 +30,10 @@ order_key text = fold_text text ++ 256 ∷ []
 
 abbrev pub case_cmp : List ℕ → List ℕ → Ordering
 case_cmp = on order_key (slice_cmp nat_cmp)
+
+-- b begins like a, and goes on where a has ended
+abbrev pub EndsFirst : List ℕ → List ℕ → Type 0
+EndsFirst a b = (length a < length b) × Alike a (take (length a) b)
 
 -- what a text feeds to a hasher: its folded bytes, each by a write of its own
 abbrev pub case_writes : List ℕ → HashWrites

@@ -13,9 +13,10 @@ mod recogniser;
 mod segment;
 mod shape;
 mod source;
-mod split;
 mod stage;
 mod subtags;
+#[cfg(test)]
+mod tests;
 
 pub use case::{case_insensitive_cmp, case_insensitive_eq, case_insensitive_hash, into_smallcase};
 pub use caseless::Caseless;

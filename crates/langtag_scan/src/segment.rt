@@ -1,7 +1,11 @@
+//! Where a segment of a text, what stands between two hyphens, ends and begins (RFC 5646 section 2.1). Places count
+//! bytes.
 ghost use Rattle.std.specs.Prelude.{◌≡◌, ◌-◌, ◌≤◌, ◌<◌, length, slice_index};
 ghost use Rattle.langtag_scan.specs.Subtags.{NoHyphenWithin};
 
 /// The place of the first hyphen at or after `place`, else the length.
+///
+/// In `fr-FR` the segment that begins at 3 ends at 5.
 pub fn segment_end(bytes: &[u8], place: usize) -> usize
     requires { place ≤ length bytes.now }
     ensures at_or_after { place ≤ result }
@@ -17,6 +21,8 @@ pub fn segment_end(bytes: &[u8], place: usize) -> usize
 }
 
 /// One past the last hyphen before `end`, else 0.
+///
+/// In `fr-FR` the segment that ends at 5 begins at 3, and the one that ends at 2 begins at 0.
 pub fn segment_start(bytes: &[u8], end: usize) -> usize
     requires { end ≤ length bytes.now }
     ensures within { result ≤ end }

@@ -1,12 +1,15 @@
-//! The parts of a text between its hyphens.
-ghost use Rattle.std.specs.Prelude.{◌≡◌, List, ℕ, [], Some};
+//! The walk over the subtags of a text (RFC 5646 section 2.1), from both ends and without a copy.
+ghost use Rattle.std.specs.Prelude.{◌≡◌, ◌++◌, ◌∷◌, List, ℕ, [], Some, All, MatchOption};
 ghost use Rattle.std.specs.Iterator.{YieldsFirstRef, YieldsLastRef, item_count};
-ghost use Rattle.langtag_scan.specs.Subtags.{subtags, segments_left};
+ghost use Rattle.langtag_scan.specs.Subtags.{join, subtags, segments_left, IsHyphenFree};
 
-use crate::split::{split_first, split_last};
+use crate::segment::{segment_end, segment_start};
 use std::marker::Model;
 
-/// The parts of a text that are still to come, from either end.
+/// The subtags of a text that are still to come, from either end: slices of the text, none of which holds a hyphen.
+///
+/// Beside a hyphen at an end of the text, and between two hyphens in a row, stands an empty subtag, which is handed out
+/// like any other: `a--b-` has the subtags `a`, the empty one, `b` and the empty one again.
 #[derive(Drop)]
 pub struct Subtags<'a> {
     rest: Option<&'a str>,
@@ -15,13 +18,15 @@ pub struct Subtags<'a> {
 impl<'a> Model for Subtags<'a> {
     ghost Value = { List (List ℕ) };
 
-    ghost view = { λ p. segments_left p.rest };
+    ghost view = { λ walk. segments_left walk.rest };
 }
 
 impl<'a> Subtags<'a> {
-    /// What stands between the hyphens. The empty text has no parts.
+    /// All subtags of a text. The empty text has none.
     pub fn new(text: &'a str) -> Self
-        ensures { result ≡ subtags text.now }
+        ensures list { result ≡ subtags text.now }
+        ensures joined { join result ≡ text.now }
+        ensures hyphen_free { All IsHyphenFree result }
     {
         if text.is_empty() {
             return Subtags::empty();
@@ -29,7 +34,7 @@ impl<'a> Subtags<'a> {
         Subtags { rest: Some(text) }
     }
 
-    /// No parts.
+    /// No subtags.
     pub fn empty() -> Self
         ensures { result ≡ [] }
     {
@@ -45,8 +50,7 @@ impl<'a> Iterator for Subtags<'a> {
     ghost remaining = { item_count (λ walk. walk) };
 
     fn next(&mut self) -> Option<&'a str> {
-        let text = self.rest?;
-        let (first, rest) = split_first(text);
+        let (first, rest) = split_first(self.rest?);
         self.rest = rest;
         Some(first)
     }
@@ -56,9 +60,34 @@ impl<'a> DoubleEndedIterator for Subtags<'a> {
     ghost next_back_gives = { YieldsLastRef (λ walk. walk) };
 
     fn next_back(&mut self) -> Option<&'a str> {
-        let text = self.rest?;
-        let (front, last) = split_last(text);
+        let (front, last) = split_last(self.rest?);
         self.rest = front;
         Some(last)
     }
+}
+
+/// What stands before the first hyphen of a text, and what stands after it, where there is one.
+fn split_first<'a>(text: &'a str) -> (&'a str, Option<&'a str>)
+    ensures hyphen_free { IsHyphenFree result.0.now }
+    ensures joined { MatchOption result.1 (text.now ≡ result.0.now)
+        (λ rest. text.now ≡ result.0.now ++ 45 ∷ rest.now) }
+{
+    let end = segment_end(text.as_bytes(), 0);
+    if end == text.len() {
+        return (text, None);
+    }
+    (&text[..end], Some(&text[end + 1..]))
+}
+
+/// What stands before the last hyphen of a text, where there is one, and what stands after it.
+fn split_last<'a>(text: &'a str) -> (Option<&'a str>, &'a str)
+    ensures hyphen_free { IsHyphenFree result.1.now }
+    ensures joined { MatchOption result.0 (text.now ≡ result.1.now)
+        (λ front. text.now ≡ front.now ++ 45 ∷ result.1.now) }
+{
+    let start = segment_start(text.as_bytes(), text.len());
+    if start == 0 {
+        return (None, text);
+    }
+    (Some(&text[..start - 1]), &text[start..])
 }

@@ -6,11 +6,11 @@ use Rattle.langtag_scan.proofs.subtags.SubtagsDoubleEndedIterator.next_back.Goal
 
 pub returns-clause-steps : goal.returns-clause-steps
 returns-clause-steps c =
-    sym c.self.view_is ∙ ap segments_left c.in_ok-text.was ∙ segments_left-last _ _ _ c.split_last.ensures.hyphen_free c.split_last.ensures.joined
+    sym c.self.view_is ∙ ap segments_left c.in_ok-self.was ∙ segments_left-last _ _ _ c.split_last.ensures.hyphen_free c.split_last.ensures.joined
 
 pub returns-clause-goes : goal.returns-clause-goes
 returns-clause-goes c =
     let last =
-    sym c.self.view_is ∙ ap segments_left c.in_ok-text.was ∙ segments_left-last _ _ c.split_last.result.0 c.split_last.ensures.hyphen_free c.split_last.ensures.joined in
+    sym c.self.view_is ∙ ap segments_left c.in_ok-self.was ∙ segments_left-last _ _ c.split_last.result.0 c.split_last.ensures.hyphen_free c.split_last.ensures.joined in
     let longer = length_push (segments_left c.split_last.result.0) c.split_last.result.1.now in
     rw last (search (rules, longer))

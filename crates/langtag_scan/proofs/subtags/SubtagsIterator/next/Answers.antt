@@ -5,10 +5,10 @@ use Rattle.langtag_scan.proofs.subtags.SubtagsIterator.next.Goals as goal
 
 pub returns-clause-steps : goal.returns-clause-steps
 returns-clause-steps c =
-    sym c.self.view_is ∙ ap segments_left c.in_ok-text.was ∙ segments_left-first _ _ _ c.split_first.ensures.hyphen_free c.split_first.ensures.joined
+    sym c.self.view_is ∙ ap segments_left c.in_ok-self.was ∙ segments_left-first _ _ _ c.split_first.ensures.hyphen_free c.split_first.ensures.joined
 
 pub returns-clause-goes : goal.returns-clause-goes
 returns-clause-goes c =
     let first =
-    sym c.self.view_is ∙ ap segments_left c.in_ok-text.was ∙ segments_left-first _ _ c.split_first.result.1 c.split_first.ensures.hyphen_free c.split_first.ensures.joined in
+    sym c.self.view_is ∙ ap segments_left c.in_ok-self.was ∙ segments_left-first _ _ c.split_first.result.1 c.split_first.ensures.hyphen_free c.split_first.ensures.joined in
     rw first (search rules)

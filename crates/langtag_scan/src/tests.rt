@@ -1,0 +1,5 @@
+//! What no clause says, and the worked examples.
+mod case;
+mod caseless;
+mod segment;
+mod subtags;
