@@ -1,16 +1,13 @@
 -- A front is viable exactly where it fills to a tag or begins an irregular text.
-use Rattle.std.proofs.Common.{◌≡◌, ◌↔◌, ℕ, ◌<◌, ◌≤◌, Bool, true, false, eqb, eqb-true, ltb, List, [], ◌∷◌, ◌++◌, length, take, drop, map, Option, Some, None, inl, inr, ◌⊎◌, refl, sym, ap, subst, ◌∙◌, arith, append_assoc, append-nil}
-use Rattle.std.specs.Prelude.{slice_get}
+use Rattle.std.proofs.Common.{◌≡◌, ◌↔◌, ℕ, Bool, true, false, eqb, eqb-true, List, [], ◌∷◌, ◌++◌, length, take, drop, Option, Some, None, inl, inr, ◌⊎◌, refl, sym, ap, subst, ◌∙◌, append_assoc, append-nil}
 use Rattle.std.proofs.lemmas.Bool.{cases_lt}
 use Rattle.std.proofs.lemmas.List.{map-append, take-append-drop, length-map, take-map}
 use Rattle.std.proofs.Math.Seq.{take-append_seam}
-use Rattle.langtag_scan.specs.Case.{fold_byte, fold_text, Alike}
-use Rattle.langtag_scan.specs.Class.{is_mark}
-use Rattle.langtag_scan.specs.Tag.{IsNormal, IsPrivate, IsIrregular, IsIrregularAt, IsTag}
+use Rattle.langtag_scan.specs.Case.{fold_byte, fold_text}
+use Rattle.langtag_scan.specs.Tag.{IsIrregular, IsIrregularAt, IsTag}
 use Rattle.langtag_scan.specs.Viable.{IsViable, IsIrregularFront, filling, fill}
 use Rattle.langtag_scan.specs.Stage.{next_by}
 use Rattle.langtag_scan.specs.Shape.{shape_of, classes_of_shape}
-use Rattle.langtag_scan.specs.Irregular.{is_possible}
 use Rattle.langtag_scan.specs.Machine.{begun, may_hold, all_at, end_at, Reads, HasStopped}
 use Rattle.langtag_scan.specs.declared.ends.Ends.{Ends}
 use Rattle.langtag_scan.specs.declared.shape.Shape.{Shape}
@@ -18,7 +15,6 @@ use Rattle.langtag_scan.specs.declared.stage.Stage.{Stage}
 use Rattle.langtag_scan.specs.declared.stage.Stage.TheVariants.{Start, AfterMark}
 use Rattle.langtag_scan.specs.declared.machine.Reading.{Reading}
 use Rattle.langtag_scan.specs.declared.machine.Reading.TheVariants.{Normal, Private, Stopped}
-use Rattle.langtag_scan.proofs.IrregularNames.{possible_viable, possible_front}
 use Rattle.langtag_scan.proofs.ReadingLaws.{starting, reads_nothing, stopped_more, reads_grown, reads_stuck, reads_behind, reads_marked, reads_refused}
 use Rattle.langtag_scan.proofs.TagLaws.{tag_irregular, viable_from_tag, viable_reads}
 

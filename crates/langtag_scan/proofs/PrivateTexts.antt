@@ -1,17 +1,16 @@
 -- A private text is a mark, a hyphen, and subtags over which the stages run from behind a mark.
-use Rattle.std.proofs.Common.{◌≡◌, ℕ, ◌≤◌, Bool, true, false, eqb, eqb-true, ◌⊎◌, inl, inr, List, [], ◌∷◌, ◌++◌, length, Some, None, refl, sym, ap, ◌∙◌, arith}
+use Rattle.std.proofs.Common.{◌≡◌, ℕ, ◌≤◌, true, false, eqb, eqb-true, ◌⊎◌, inl, inr, List, [], ◌∷◌, ◌++◌, length, None, refl, sym, ap, ◌∙◌, arith}
 use Rattle.std.specs.Prelude.{IsTrue}
 use Rattle.std.specs.List.{AllByRecursion}
-use Rattle.std.specs.Option.{is_some, option_map_or}
+use Rattle.std.specs.Option.{is_some}
 use Rattle.std.proofs.lemmas.List.Splits.{join_with_byte-slice_split}
-use Rattle.langtag_scan.specs.declared.stage.Stage.TheVariants.{Start, AfterMark, InPrivate}
+use Rattle.langtag_scan.specs.declared.stage.Stage.TheVariants.{Start, AfterMark}
 use Rattle.langtag_scan.specs.Class.{is_letter, is_alphanumeric, are_alphanumeric, is_private_subtag, is_primary, is_mark}
 use Rattle.langtag_scan.specs.Subtags.{join, segments}
-use Rattle.langtag_scan.specs.Record.{IsPrivateUse, private_use_flat}
 use Rattle.langtag_scan.specs.Tag.{IsNormal, IsPrivate}
 use Rattle.langtag_scan.specs.Stage.{runs}
 use Rattle.langtag_scan.proofs.Disjoint.{both_true, one_true}
-use Rattle.langtag_scan.proofs.Decoding.{Read, decode, decode_sound, pending}
+use Rattle.langtag_scan.proofs.Decoding.{decode, decode_sound, pending}
 use Rattle.langtag_scan.proofs.Complete.{after_mark}
 use Rattle.langtag_scan.proofs.Segments.{runs-decode, is_there, segments-join, decoded_subtags, alphanumeric_no_hyphen, mark_alphanumeric, runs_from_normal}
 use Rattle.langtag_scan.proofs.Running.{runs-cons, segments-hyphen}

@@ -1,10 +1,9 @@
 -- What the machine knows of a front, and of the front with one more byte.
-use Rattle.std.proofs.Common.{◌≡◌, ℕ, suc, ◌+◌, ◌-◌, ◌<◌, ◌≤◌, Bool, true, false, cond, eqb, eqb-true, ltb, not, ◌⊎◌, ◌&&◌, List, [], ◌∷◌, ◌++◌, length, Option, Some, None, inl, inr, refl, sym, ap, subst, ◌∙◌, arith, append_assoc, append-nil, reverse, drop}
-use Rattle.std.specs.List.{after_last, suffix_len}
+use Rattle.std.proofs.Common.{◌≡◌, ℕ, ◌+◌, ◌-◌, ◌<◌, ◌≤◌, Bool, true, false, cond, eqb, ltb, not, ◌⊎◌, List, [], ◌∷◌, ◌++◌, length, Option, Some, None, inl, inr, refl, sym, ap, subst, ◌∙◌, arith, append_assoc, append-nil, drop}
+use Rattle.std.specs.List.{suffix_len}
 use Rattle.std.specs.Option.{option_map_or}
-use Rattle.std.proofs.lemmas.List.{length-append, length_push, drop-append-le, drop_all, reverse-append}
-use Rattle.std.proofs.lemmas.List.Sums.{suffix_len-le-length}
-use Rattle.langtag_scan.specs.Class.{is_letter, is_alphanumeric, are_letters, are_alphanumeric, is_primary, is_mark}
+use Rattle.std.proofs.lemmas.List.{length_push, drop-append-le, drop_all, reverse-append}
+use Rattle.langtag_scan.specs.Class.{is_letter, are_alphanumeric, is_mark}
 use Rattle.langtag_scan.specs.Subtags.{is_hyphen, segments}
 use Rattle.langtag_scan.specs.Tag.{IsNormal, IsPrivate}
 use Rattle.langtag_scan.specs.Stage.{Classes, classes_of, is_one, opened_by, after_region_by, after_script_by, after_language_by, next_by, next_stage, may_end, runs}
@@ -12,19 +11,17 @@ use Rattle.langtag_scan.specs.Record.{flat}
 use Rattle.langtag_scan.specs.Found.{Finding.normal, IsFoundOf}
 use Rattle.langtag_scan.specs.Viable.{filling, fill}
 use Rattle.langtag_scan.specs.Shape.{shape_of, classes_of_shape}
-use Rattle.langtag_scan.specs.Machine.{begun, may_hold, all_at, end_at, place_behind, ends_behind, IsBegun, GoesOn, ReadsNormal, ReadsPrivate, HasStopped, Reads}
+use Rattle.langtag_scan.specs.Machine.{begun, may_hold, all_at, end_at, place_behind, ends_behind, IsBegun, ReadsNormal, ReadsPrivate, HasStopped, Reads}
 use Rattle.langtag_scan.specs.declared.ends.Ends.{Ends}
 use Rattle.langtag_scan.specs.declared.shape.Shape.{Shape}
 use Rattle.langtag_scan.specs.declared.machine.Reading.{Reading}
 use Rattle.langtag_scan.specs.declared.machine.Reading.TheVariants.{Normal, Private, Stopped}
 use Rattle.langtag_scan.specs.declared.stage.Stage.{Stage}
 use Rattle.langtag_scan.specs.declared.stage.Stage.TheVariants.{Start, Language, Extended, AfterScript, AfterRegion, AfterVariant, AfterSingleton, InExtension, AfterMark, InPrivate}
-use Rattle.langtag_scan.proofs.Disjoint.{both_true}
-use Rattle.langtag_scan.proofs.Decoding.{chosen}
 use Rattle.langtag_scan.proofs.Segments.{normal_from_runs, runs_from_normal, spelled_segments}
 use Rattle.langtag_scan.proofs.EndsLaw.{ends_behind-flat}
-use Rattle.langtag_scan.proofs.Running.{IsStuck, stuck_full, stuck_other, empty_begun, held_alphanumeric, goes_grown, goes_behind, goes_refused, goes_stuck, goes_ended, segments-hyphen, segments-one, ends_behind-nil, ends_behind-cons}
-use Rattle.langtag_scan.proofs.PrivateTexts.{IsMarked, marked_from_private, private_from_marked, private_begun, private_no_hyphen, mark_letter, one_no_primary, marked_not_normal}
+use Rattle.langtag_scan.proofs.Running.{IsStuck, stuck_full, stuck_other, empty_begun, goes_grown, goes_behind, goes_refused, goes_stuck, goes_ended, segments-hyphen, segments-one, ends_behind-nil, ends_behind-cons}
+use Rattle.langtag_scan.proofs.PrivateTexts.{marked_from_private, private_from_marked, private_begun, private_no_hyphen, mark_letter, one_no_primary, marked_not_normal}
 use Rattle.langtag_scan.proofs.ShapeLaws.{mark-shape, next_stage-shape}
 use Rattle.langtag_scan.proofs.Filling.{goes_filled}
 

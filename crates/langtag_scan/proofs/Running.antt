@@ -1,24 +1,21 @@
 -- How the stages run over the segments of a text of which a front was read.
-use Rattle.std.proofs.Common.{◌≡◌, ℕ, zero, suc, ◌+◌, ◌-◌, ◌<◌, ◌≤◌, Bool, true, false, cond, eqb, ltb, leb, not, ◌&&◌, List, [], ◌∷◌, ◌++◌, length, Option, Some, None, inl, inr, refl, sym, ap, subst, ◌∙◌, arith, append_assoc, append-nil, reverse, drop}
-use Rattle.std.specs.Prelude.{replicate}
-use Rattle.std.specs.Int.{is_in_range}
-use Rattle.std.specs.List.{All, after_last, suffix_len, onto_first}
+use Rattle.std.proofs.Common.{◌≡◌, ℕ, ◌<◌, ◌≤◌, Bool, true, false, cond, eqb, leb, List, [], ◌∷◌, ◌++◌, length, Option, Some, None, inl, inr, refl, sym, ap, ◌∙◌, arith, append_assoc, append-nil}
+use Rattle.std.specs.List.{All, onto_first}
 use Rattle.std.specs.Option.{option_map_or}
-use Rattle.std.proofs.lemmas.Bool.{ltb-true, lt-ltb, le-leb}
-use Rattle.std.proofs.lemmas.List.{length-append, length_push, length-replicate, drop-append-le, drop_all}
+use Rattle.std.proofs.lemmas.List.{length-append, length_push}
 use Rattle.std.proofs.lemmas.List.Elements.{All-from_recursion}
 use Rattle.std.proofs.lemmas.List.Folds.{list_all-append}
 use Rattle.std.proofs.lemmas.List.Splits.{slice_split_none, slice_split_at, slice_split-cons_no, slice_split-cons_yes}
-use Rattle.langtag_scan.specs.Class.{is_letter, is_alphanumeric, has_length, are_letters, are_alphanumeric, is_primary, is_variant, is_extension_subtag, is_private_subtag}
+use Rattle.langtag_scan.specs.Class.{is_letter, is_alphanumeric, has_length, are_letters, are_alphanumeric, is_primary}
 use Rattle.langtag_scan.specs.Subtags.{is_hyphen, segments}
-use Rattle.langtag_scan.specs.Stage.{after_region, after_script, after_language, next_stage, may_end, runs}
+use Rattle.langtag_scan.specs.Stage.{next_stage, may_end, runs}
 use Rattle.langtag_scan.specs.Machine.{may_hold, end_at, place_behind, ends_behind, IsBegun, GoesOn}
 use Rattle.langtag_scan.specs.declared.ends.Ends.{Ends}
 use Rattle.langtag_scan.specs.declared.stage.Stage.{Stage}
 use Rattle.langtag_scan.specs.declared.stage.Stage.TheVariants.{Start, Language, Extended, AfterScript, AfterRegion, AfterVariant, AfterSingleton, InExtension, AfterMark, InPrivate}
-use Rattle.langtag_scan.proofs.Disjoint.{both_true, not_both, variant_no_extended, variant_no_script, variant_no_region}
+use Rattle.langtag_scan.proofs.Disjoint.{both_true}
 use Rattle.langtag_scan.proofs.Decoding.{chosen}
-use Rattle.langtag_scan.proofs.Segments.{IsSubtag, next_subtag, no_hyphen_each, alphanumeric_no_hyphen, letters_alphanumeric}
+use Rattle.langtag_scan.proofs.Segments.{IsSubtag, next_subtag, no_hyphen_each, alphanumeric_no_hyphen}
 
 pub runs-nil : (stage : Stage) → runs stage [] ≡ may_end stage
 unfolding runs

@@ -1,13 +1,11 @@
 -- Tags, and the fronts that some tag begins with.
-use Rattle.std.proofs.Common.{◌≡◌, ℕ, ◌+◌, ◌<◌, ◌≤◌, Bool, true, false, List, [], ◌∷◌, ◌++◌, length, take, drop, get_or, inl, inr, ◌⊎◌, refl, sym, ap, subst, ◌∙◌, arith, append_assoc, append-nil}
-use Rattle.std.specs.Prelude.{slice_get}
-use Rattle.std.proofs.lemmas.List.{take_more, take-append-drop, take_all, take-take, length-take}
+use Rattle.std.proofs.Common.{◌≡◌, ℕ, ◌+◌, ◌<◌, ◌≤◌, true, false, List, [], ◌∷◌, ◌++◌, length, take, drop, get_or, inl, inr, refl, sym, ap, subst, ◌∙◌, arith, append_assoc}
+use Rattle.std.proofs.lemmas.List.{take_more, take-append-drop, take-take, length-take}
 use Rattle.langtag_scan.specs.Tag.{IsNormal, IsPrivate, IsIrregular, IsIrregularAt, IsTag}
 use Rattle.langtag_scan.specs.Found.{Finding, Finding.normal, Finding.private_use, Finding.irregular, IsFoundOf, is_normal}
 use Rattle.langtag_scan.proofs.OneCase.{normal_no_private, normal_no_irregular}
 use Rattle.langtag_scan.specs.Viable.{IsViable, IsStop, filling, fill}
 use Rattle.langtag_scan.specs.Irregular.{is_possible}
-use Rattle.langtag_scan.specs.Names.{Follows}
 use Rattle.langtag_scan.specs.Machine.{begun, all_at, Reads, HasStopped}
 use Rattle.langtag_scan.specs.Shape.{shape_of}
 use Rattle.langtag_scan.specs.declared.stage.Stage.TheVariants.{Start}

@@ -1,5 +1,5 @@
 -- Where the parts of a normal tag end.
-use Rattle.std.specs.Prelude.{ℕ, ◌∷◌, ◌++◌, length}
+use Rattle.std.specs.Prelude.{◌∷◌, ◌++◌, length}
 use Rattle.std.specs.List.{flat_map}
 use Rattle.langtag_scan.specs.Subtags.{join}
 use Rattle.langtag_scan.specs.Record.{Record, extension_flat, one_flat, flat}

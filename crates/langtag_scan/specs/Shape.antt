@@ -1,7 +1,7 @@
 -- What is known of a subtag that has begun: its length, its first byte, and which bytes it has.
 -- Only contracts of private functions cite this page.
-use Rattle.std.specs.Prelude.{ℕ, ◌==◌, ◌&&◌, ◌||◌, not, nat_lt, nat_le, Bool, true, false, List, length, slice_index, if◌then◌else◌}
-use Rattle.langtag_scan.specs.Class.{is_letter, are_letters, are_digits, starts_with_digit, is_mark}
+use Rattle.std.specs.Prelude.{ℕ, ◌==◌, ◌&&◌, ◌||◌, not, nat_le, Bool, true, false, List, length, slice_index, if◌then◌else◌}
+use Rattle.langtag_scan.specs.Class.{are_letters, are_digits, starts_with_digit, is_mark}
 use Rattle.langtag_scan.specs.Stage.{Classes}
 use Rattle.langtag_scan.specs.declared.shape.Content.{Content}
 use Rattle.langtag_scan.specs.declared.shape.Content.TheVariants.{Letters, Digits, DigitFirst, Mixed}

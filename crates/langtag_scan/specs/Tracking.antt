@@ -1,10 +1,9 @@
 -- What the whole machine knows of the bytes that it has read.
 -- Only contracts of private functions cite this page.
-use Rattle.std.specs.Prelude.{◌≡◌, ℕ, List}
+use Rattle.std.specs.Prelude.{ℕ, List}
 use Rattle.langtag_scan.specs.Machine.{Reads}
 use Rattle.langtag_scan.specs.Names.{Follows}
 use Rattle.langtag_scan.specs.declared.machine.Machine.{Machine}
-use Rattle.langtag_scan.specs.declared.machine.Reading.TheVariants.{Stopped}
 
 -- the kinds of tag that the stages follow
 abbrev pub Reading : List ℕ → Machine → Type 0

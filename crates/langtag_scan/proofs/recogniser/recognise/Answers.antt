@@ -1,6 +1,5 @@
-use Rattle.std.proofs.Common.{◌≡◌, ◌+◌, ◌<◌, ◌≤◌, ◌∷◌, [], ◌++◌, get_or, take, length, refl, sym, ap, subst, ◌∙◌, arith}
-use Rattle.std.proofs.lemmas.List.{take_more, take_all, length-take}
-use Rattle.langtag_scan.specs.Viable.{IsViable}
+use Rattle.std.proofs.Common.{◌≡◌, ◌+◌, get_or, take, length, refl, subst, arith}
+use Rattle.std.proofs.lemmas.List.{take_all}
 use Rattle.langtag_scan.specs.Tracking.{Tracks}
 use Rattle.langtag_scan.proofs.OneCase.{normal_no_private, normal_no_irregular, private_no_irregular}
 use Rattle.langtag_scan.proofs.FillLaw.{viable_fill}
