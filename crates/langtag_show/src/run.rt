@@ -1,0 +1,87 @@
+//! From what is read to what is written.
+ghost use Rattle.std.specs.Prelude.{◌≡◌, ◌≢◌, ℕ, [], ◌∷◌, ◌++◌, take, OnOk, IfErr, IfSome, IsErrOf, IsOkUnless};
+ghost use Rattle.std.specs.Io.KnownBytes.{Keeps, IsAtEnd};
+ghost use Rattle.langtag_show.specs.Lines.{NoLineFeed, complete_lines, rest_of, last_line, lines_of};
+ghost use Rattle.langtag_show.specs.Report.{Answers, HavingRead};
+
+use crate::answer::write_answer;
+use crate::show_error::ShowError;
+use std::alloc::Global;
+use std::io::{Read, Write};
+
+/// How many bytes a read asks for.
+const BUFFER_LEN: usize = 4096;
+
+const LINE_FEED: u8 = b'\n';
+
+/// Writes the answer to each line of the input, and LF after each.
+pub fn run<R: Read, W: Write>(alloc: Global, input: &mut R, output: &mut W) -> Result<(), ShowError>
+    ensures whole { OnOk result (IsAtEnd (R.remaining input.new)) }
+    ensures report { OnOk result (IfSome (R.remaining input.old) (λ i.
+        Answers (W.contents output.old) (W.contents output.new) (lines_of i))) }
+    ensures after_read { IsErrOf result ShowError.Read → HavingRead (R.remaining input.old) (R.remaining input.new)
+        (λ i. Answers (W.contents output.old) (W.contents output.new) (complete_lines i)) }
+    ensures after_memory { IsErrOf result ShowError.Memory → HavingRead (R.remaining input.old) (R.remaining input.new)
+        (λ i. (k : ℕ) × Answers (W.contents output.old) (W.contents output.new) (take k (complete_lines i))) }
+{
+    let mut line = Vec::new(alloc);
+    let mut buffer = [0u8; BUFFER_LEN];
+    'reads: for _ in 0..u64::MAX {
+        let count = match input.read(&mut buffer) {
+            Ok(count) => count,
+            Err(_) => return Err(ShowError::Read),
+        };
+        if count == 0 {
+            return finish(&line, output);
+        }
+        take_bytes(&mut line, &buffer[..count], output)?;
+    }
+    Err(ShowError::Read)
+}
+
+/// Writes the answer to the last line, where there is one, and flushes.
+fn finish<W: Write>(rest: &[u8], output: &mut W) -> Result<(), ShowError>
+    ensures ok { OnOk result (Answers (W.contents output.old) (W.contents output.new) (last_line rest.now)) }
+    ensures err { IsOkUnless result ShowError.Write }
+{
+    if !rest.is_empty() {
+        write_answer(rest, output)?;
+    }
+    match output.flush() {
+        Ok(()) => Ok(()),
+        Err(_) => Err(ShowError::Write),
+    }
+}
+
+/// Takes bytes into the line that is gathered, and writes the answer to each line that they complete.
+fn take_bytes<W: Write>(line: &mut Vec<u8>, bytes: &[u8], output: &mut W) -> Result<(), ShowError>
+    requires { NoLineFeed line.old.items }
+    ensures ok { OnOk result (Answers (W.contents output.old) (W.contents output.new) (complete_lines (line.old.items ++ bytes.now))) }
+    ensures rest { OnOk result (line.new.items ≡ rest_of (line.old.items ++ bytes.now)) }
+    ensures memory { IsErrOf result ShowError.Memory → (k : ℕ) × Answers (W.contents output.old) (W.contents output.new) (take k (complete_lines (line.old.items ++ bytes.now))) }
+    ensures other { IfErr result (λ e. e ≢ ShowError.Read) }
+{
+    for b in bytes {
+        take_byte(line, *b, output)?;
+    }
+    Ok(())
+}
+
+/// Takes a byte into the line that is gathered, or at LF writes the answer to it.
+fn take_byte<W: Write>(line: &mut Vec<u8>, byte: u8, output: &mut W) -> Result<(), ShowError>
+    requires { NoLineFeed line.old.items }
+    ensures ok { OnOk result (Answers (W.contents output.old) (W.contents output.new) (complete_lines (line.old.items ++ byte ∷ []))) }
+    ensures rest { OnOk result (line.new.items ≡ rest_of (line.old.items ++ byte ∷ [])) }
+    ensures memory { IsErrOf result ShowError.Memory → Keeps (W.contents output.old) (W.contents output.new) }
+    ensures other { IfErr result (λ e. e ≢ ShowError.Read) }
+{
+    if byte == LINE_FEED {
+        write_answer(line, output)?;
+        line.clear();
+        return Ok(());
+    }
+    match line.push(byte) {
+        Ok(()) => Ok(()),
+        Err(_) => Err(ShowError::Memory),
+    }
+}
