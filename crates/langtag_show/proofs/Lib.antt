@@ -1,3 +1,4 @@
 pub mod Ascii
 pub mod Lines
+pub mod Outcomes
 pub mod Written

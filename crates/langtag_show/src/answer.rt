@@ -11,10 +11,7 @@ pub(crate) fn write_answer<W: Write>(line: &[u8], output: &mut W) -> Result<(), 
     ensures ok { OnOk result (Answers (W.contents output.old) (W.contents output.new) (line.now ∷ [])) }
     ensures err { IsOkUnless result ShowError.Write }
 {
-    match writeln!(output, "{}", answer_to(line)) {
-        Ok(()) => Ok(()),
-        Err(_) => Err(ShowError::Write),
-    }
+    writeln!(output, "{}", answer_to(line)).map_err(|_| ShowError::Write)
 }
 
 /// The answer to a line, without its LF. A tag is ASCII, so a line that is not UTF-8 is none.

@@ -1,8 +1,8 @@
 //! From what is read to what is written.
-ghost use Rattle.std.specs.Prelude.{◌≡◌, ◌≢◌, ℕ, [], ◌∷◌, ◌++◌, take, OnOk, IfErr, IfSome, IsErrOf, IsOkUnless};
+ghost use Rattle.std.specs.Prelude.{◌≡◌, ◌≢◌, ℕ, List, [], ◌∷◌, ◌++◌, take, OnOk, IfErr, IfSome, IsErrOf, IsOkUnless};
 ghost use Rattle.std.specs.Io.KnownBytes.{Keeps, IsAtEnd};
-ghost use Rattle.langtag_show.specs.Lines.{NoLineFeed, complete_lines, rest_of, last_line, lines_of};
-ghost use Rattle.langtag_show.specs.Report.{Answers, HavingRead};
+ghost use Rattle.langtag_show.specs.Lines.{IsCutInto, NoLineFeed, complete_lines, rest_of, last_line, lines_of};
+ghost use Rattle.langtag_show.specs.Report.{IsAnswer, Answers, HavingRead};
 
 use crate::answer::write_answer;
 use crate::show_error::ShowError;
@@ -14,7 +14,15 @@ const BUFFER_LEN: usize = 4096;
 
 const LINE_FEED: u8 = b'\n';
 
-/// Writes the answer to each line of the input, and LF after each.
+/// Writes the answer to each line of the input, each followed by LF, and flushes once at the end.
+///
+/// The answers of the lines that a read completed are written before the next read. The buffer of the reads has a
+/// fixed size, and only the line that is being gathered takes memory.
+///
+/// # Errors
+///
+/// `Memory` where that line could not grow. `Read` at the first error of the reader, an interruption among them, and
+/// where the input has not ended after 2^64 - 1 reads. `Write` where `write_all` or the flush failed.
 pub fn run<R: Read, W: Write>(alloc: Global, input: &mut R, output: &mut W) -> Result<(), ShowError>
     ensures whole { OnOk result (IsAtEnd (R.remaining input.new)) }
     ensures report { OnOk result (IfSome (R.remaining input.old) (λ i.
@@ -25,11 +33,10 @@ pub fn run<R: Read, W: Write>(alloc: Global, input: &mut R, output: &mut W) -> R
         (λ i. (k : ℕ) × Answers (W.contents output.old) (W.contents output.new) (take k (complete_lines i))) }
 {
     let mut line = Vec::new(alloc);
-    let mut buffer = [0u8; BUFFER_LEN];
+    let mut buffer = [0; BUFFER_LEN];
     'reads: for _ in 0..u64::MAX {
-        let count = match input.read(&mut buffer) {
-            Ok(count) => count,
-            Err(_) => return Err(ShowError::Read),
+        let Ok(count) = input.read(&mut buffer) else {
+            return Err(ShowError::Read);
         };
         if count == 0 {
             return finish(&line, output);
@@ -37,20 +44,6 @@ pub fn run<R: Read, W: Write>(alloc: Global, input: &mut R, output: &mut W) -> R
         take_bytes(&mut line, &buffer[..count], output)?;
     }
     Err(ShowError::Read)
-}
-
-/// Writes the answer to the last line, where there is one, and flushes.
-fn finish<W: Write>(rest: &[u8], output: &mut W) -> Result<(), ShowError>
-    ensures ok { OnOk result (Answers (W.contents output.old) (W.contents output.new) (last_line rest.now)) }
-    ensures err { IsOkUnless result ShowError.Write }
-{
-    if !rest.is_empty() {
-        write_answer(rest, output)?;
-    }
-    match output.flush() {
-        Ok(()) => Ok(()),
-        Err(_) => Err(ShowError::Write),
-    }
 }
 
 /// Takes bytes into the line that is gathered, and writes the answer to each line that they complete.
@@ -80,8 +73,16 @@ fn take_byte<W: Write>(line: &mut Vec<u8>, byte: u8, output: &mut W) -> Result<(
         line.clear();
         return Ok(());
     }
-    match line.push(byte) {
-        Ok(()) => Ok(()),
-        Err(_) => Err(ShowError::Memory),
+    line.push(byte).map_err(|_| ShowError::Memory)
+}
+
+/// Writes the answer to the rest where it is a line, and flushes.
+fn finish<W: Write>(rest: &[u8], output: &mut W) -> Result<(), ShowError>
+    ensures ok { OnOk result (Answers (W.contents output.old) (W.contents output.new) (last_line rest.now)) }
+    ensures err { IsOkUnless result ShowError.Write }
+{
+    if !rest.is_empty() {
+        write_answer(rest, output)?;
     }
+    output.flush().map_err(|_| ShowError::Write)
 }

@@ -1,5 +1,8 @@
+use Rattle.std.proofs.Common.{◌∙◌, sym}
+use Rattle.langtag_show.proofs.Outcomes.{OnOk-by, OnOk-at}
 use Rattle.langtag_show.proofs.Written.{Answers-one}
 use Rattle.langtag_show.proofs.answer.write_answer.Goals as goal
 
-pub returns-in-Ok-clause-ok : goal.returns-in-Ok-clause-ok
-returns-in-Ok-clause-ok g c = Answers-one _ _ _ _ c.answer_to.ensures c.in-Ok.ensures.bytes
+pub returns-clause-ok : goal.returns-clause-ok
+returns-clause-ok g c =
+    OnOk-by _ c.map_err.result (λ ok. Answers-one _ _ _ _ c.answer_to.ensures (OnOk-at _ c.writeln.result (sym c.map_err.ensures.variant ∙ ok) c.writeln.ensures.bytes))

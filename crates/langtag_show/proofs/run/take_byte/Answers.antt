@@ -1,5 +1,7 @@
-use Rattle.std.proofs.Common.{◌≡◌, ◌∙◌, [], ◌∷◌, ◌++◌, true, false, ap, sym, rules}
+use Rattle.std.proofs.Common.{true, ◌≡◌, ◌∙◌, [], ◌∷◌, ◌++◌, true, false, ap, sym, rules}
 use Rattle.langtag_show.specs.Lines.{is_line_feed, complete_lines}
+use Rattle.std.specs.Result.{is_ok}
+use Rattle.langtag_show.proofs.Outcomes.{OnOk-by}
 use Rattle.langtag_show.proofs.Lines.{complete_lines-ended, rest_of-ended, complete_lines-free, rest_of-free_text, free_push}
 use Rattle.langtag_show.proofs.Written.{Answers-nil, Answers-same}
 use Rattle.langtag_show.proofs.run.take_byte.Goals as goal
@@ -17,12 +19,14 @@ returns-then-byte-eq-LINE_FEED-clause-rest g c =
     let feed : is_line_feed c.args.byte ≡ true = search rules in
     c.clear.ensures.items ∙ sym (rest_of-ended _ c.args.byte c.requires feed)
 
-pub returns-in-Ok-clause-ok : goal.returns-in-Ok-clause-ok
-returns-in-Ok-clause-ok g c =
+pub returns-clause-ok : goal.returns-clause-ok
+returns-clause-ok g c =
     let plain : is_line_feed c.args.byte ≡ false = search rules in
-    Answers-same _ _ _ _ (sym (complete_lines-free _ (free_push _ c.args.byte c.requires plain))) (Answers-nil _)
+    OnOk-by _ c.map_err.result (λ ok. Answers-same _ _ _ _ (sym (complete_lines-free _ (free_push _ c.args.byte c.requires plain))) (Answers-nil _))
 
-pub returns-in-Ok-clause-rest : goal.returns-in-Ok-clause-rest
-returns-in-Ok-clause-rest g c =
+pub returns-clause-rest : goal.returns-clause-rest
+returns-clause-rest g c =
     let plain : is_line_feed c.args.byte ≡ false = search rules in
-    c.in-Ok.ensures.items ∙ sym (rest_of-free_text _ (free_push _ c.args.byte c.requires plain))
+    OnOk-by _ c.map_err.result (λ ok.
+    let pushed : is_ok c.push.result ≡ true = sym c.map_err.ensures.variant ∙ ok in
+    rw pushed at c.push.ensures.items ∙ sym (rest_of-free_text _ (free_push _ c.args.byte c.requires plain)))
