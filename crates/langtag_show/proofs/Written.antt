@@ -5,7 +5,7 @@ use Rattle.std.proofs.KnownBytes.{Appends-nil, Appends-trans, Appends-kept}
 use Rattle.std.proofs.Math.Seq.{take-append_seam, take-append-add}
 use Rattle.langtag_show.specs.Lines.{complete_lines, rest_of, last_line, lines_of, ended, NoLineFeed}
 use Rattle.langtag_show.specs.Report.{IsAnswer, AreAnswers, none, one_more, Answers}
-use Rattle.langtag_show.proofs.Lines.{complete_lines-append, rest_of-append, rest_of-free}
+use Rattle.langtag_show.proofs.Lines.{complete_lines-append, rest_of-append, lines_cut}
 
 AreAnswers-append : (xs ys : List (List ℕ)) (a b : List ℕ) → AreAnswers xs a → AreAnswers ys b → AreAnswers (xs ++ ys) (a ++ b)
 AreAnswers-append _ ys _ b none q = q
@@ -34,7 +34,7 @@ lines_more : (input rest more : List ℕ) → rest ≡ rest_of input → complet
 lines_more input rest more is = complete_lines-append input more ∙ ap (λ r. complete_lines input ++ complete_lines (r ++ more)) (sym is)
 
 pub free_rest : (input rest : List ℕ) → rest ≡ rest_of input → NoLineFeed rest
-free_rest input rest is = subst NoLineFeed (sym is) (rest_of-free input)
+free_rest input rest is = subst NoLineFeed (sym is) (lines_cut input).rest_free
 
 -- the answers to what stood, and then to what more bytes complete
 pub written_more : (a b c : Option (List ℕ)) (input rest more : List ℕ) → rest ≡ rest_of input → Answers a b (complete_lines input) → Answers b c (complete_lines (rest ++ more))

@@ -2,7 +2,7 @@
 ghost use Rattle.std.specs.Prelude.{◌≡◌, ◌≢◌, ℕ, List, [], ◌∷◌, ◌++◌, take, OnOk, IfErr, IfSome, IsErrOf, IsOkUnless};
 ghost use Rattle.std.specs.Io.KnownBytes.{Keeps, IsAtEnd};
 ghost use Rattle.langtag_show.specs.Lines.{IsCutInto, NoLineFeed, complete_lines, rest_of, last_line, lines_of};
-ghost use Rattle.langtag_show.specs.Report.{IsAnswer, Answers, HavingRead};
+ghost use Rattle.langtag_show.specs.Report.{IsAnswer, AreAnswers, Answers, HavingRead};
 
 use crate::answer::write_answer;
 use crate::show_error::ShowError;
@@ -23,6 +23,7 @@ const LINE_FEED: u8 = b'\n';
 ///
 /// `Memory` where that line could not grow. `Read` at the first error of the reader, an interruption among them, and
 /// where the input has not ended after 2^64 - 1 reads. `Write` where `write_all` or the flush failed.
+#[tactic(auto, using(crate::proofs::OneReport::one_answer, crate::proofs::OneReport::one_report))]
 pub fn run<R: Read, W: Write>(alloc: Global, input: &mut R, output: &mut W) -> Result<(), ShowError>
     ensures whole { OnOk result (IsAtEnd (R.remaining input.new)) }
     ensures report { OnOk result (IfSome (R.remaining input.old) (λ i.
@@ -31,6 +32,12 @@ pub fn run<R: Read, W: Write>(alloc: Global, input: &mut R, output: &mut W) -> R
         (λ i. Answers (W.contents output.old) (W.contents output.new) (complete_lines i)) }
     ensures after_memory { IsErrOf result ShowError.Memory → HavingRead (R.remaining input.old) (R.remaining input.new)
         (λ i. (k : ℕ) × Answers (W.contents output.old) (W.contents output.new) (take k (complete_lines i))) }
+
+    // What these words mean is one thing: an input has these lines, and a line one answer.
+    ensures cut { (i : List ℕ) → IsCutInto i (complete_lines i) (rest_of i) }
+    ensures one_answer { (l text other : List ℕ) → IsAnswer l text → IsAnswer l other → text ≡ other }
+    ensures one_report { (lines : List (List ℕ)) (texts others : List ℕ) →
+        AreAnswers lines texts → AreAnswers lines others → texts ≡ others }
 {
     let mut line = Vec::new(alloc);
     let mut buffer = [0; BUFFER_LEN];

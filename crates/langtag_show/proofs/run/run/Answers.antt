@@ -4,6 +4,7 @@ use Rattle.langtag_show.specs.declared.show_error.ShowError.TheVariants.{Memory}
 use Rattle.std.proofs.KnownBytes.{Consumes-nil, Consumes-trans, Consumes-whole}
 use Rattle.langtag_show.specs.Lines.{complete_lines, rest_of, lines_of}
 use Rattle.langtag_show.specs.Report.{Answers}
+use Rattle.langtag_show.proofs.Lines.{lines_cut}
 use Rattle.langtag_show.proofs.Written.{free_rest, rest_more, written_more, written_front, written_all, Answers-nil}
 use Rattle.langtag_show.proofs.run.run.Goals as goal
 
@@ -47,3 +48,15 @@ returns-then-count-eq0-clause-report g c =
     on_ok_weaker c.finish.result
     (λ last. Consumes-whole _ _ _ (λ i. Answers (g.W.Write.contents c.args.output.now) (g.W.Write.contents c.finish.new.output) (lines_of i)) all end
     (written_all _ _ _ seen _ rest written (rw c.deref.ensures.value at last))) c.finish.ensures.ok
+
+pub returns-in_default-clause-cut : goal.returns-in_default-clause-cut
+returns-in_default-clause-cut g c = lines_cut
+
+pub returns-then-count-eq0-clause-cut : goal.returns-then-count-eq0-clause-cut
+returns-then-count-eq0-clause-cut g c = lines_cut
+
+pub returns-in_err-take_bytes-clause-cut : goal.returns-in_err-take_bytes-clause-cut
+returns-in_err-take_bytes-clause-cut g c = lines_cut
+
+pub returns-clause-cut : goal.returns-clause-cut
+returns-clause-cut g c = lines_cut
