@@ -1,4 +1,5 @@
 pub mod Ascii
+pub mod Examples
 pub mod Lines
 pub mod OneReport
 pub mod Outcomes

@@ -160,10 +160,7 @@ fn answers_each_line(rt: HostRuntime) {
         (b"fr\r\n", b"refused\n"),
         (b"\xff\n", b"refused\n"),
         (b"fr", b"normal\n"),
-        (
-            b"fr-FR\nab--ab\nde-CH-1996\n",
-            b"normal\nrefused\nnormal\n",
-        ),
+        (b"fr-FR\nab--ab\nde-CH-1996\n", b"normal\nrefused\nnormal\n"),
         (
             b"fr-FR\n\nx-a\ni-ami\nde-CH-1996",
             b"normal\nrefused\nrefused\nrefused\nnormal\n",
@@ -196,7 +193,10 @@ fn answers_each_line(rt: HostRuntime) {
 fn answers_a_line_longer_than_a_read(rt: HostRuntime) {
     let long = long_input();
     let mut output = Page::new();
-    assert_eq!(rt; run(rt.alloc(), &mut Feed::new(&long, long.len()), &mut output), Ok(()));
+    assert_eq!(rt;
+        run(rt.alloc(), &mut Feed::new(&long, long.len()), &mut output),
+        Ok(())
+    );
     assert_eq!(rt; output.text(), b"normal\nnormal\n".as_slice());
 }
 
@@ -215,7 +215,10 @@ fn a_failing_read_ends_the_run(rt: HostRuntime) {
         for kind in [ErrorKind::Other, ErrorKind::Interrupted] {
             let mut input = Feed::failing(text, step, read, kind);
             let mut output = Page::new();
-            assert_eq!(rt; run(rt.alloc(), &mut input, &mut output), Err(ShowError::Read));
+            assert_eq!(rt;
+                run(rt.alloc(), &mut input, &mut output),
+                Err(ShowError::Read)
+            );
             assert_eq!(rt; output.text(), want);
             assert_eq!(rt; input.reads, read, "no read follows the one that failed");
             assert_eq!(rt; output.flushes, 0);
@@ -240,14 +243,20 @@ fn a_failing_write_ends_the_run(rt: HostRuntime) {
 }
 
 fn fails_to_write(rt: &impl Abort, alloc: Global, output: &mut Page) {
-    assert_eq!(rt; run(alloc, &mut Feed::new(b"fr\n", 3), output), Err(ShowError::Write));
+    assert_eq!(rt;
+        run(alloc, &mut Feed::new(b"fr\n", 3), output),
+        Err(ShowError::Write)
+    );
 }
 
 #[test]
 fn an_interrupted_write_is_tried_again(rt: HostRuntime) {
     let mut output = Page::new();
     output.fails_at = Some((1, ErrorKind::Interrupted));
-    assert_eq!(rt; run(rt.alloc(), &mut Feed::new(b"fr\n", 3), &mut output), Ok(()));
+    assert_eq!(rt;
+        run(rt.alloc(), &mut Feed::new(b"fr\n", 3), &mut output),
+        Ok(())
+    );
     assert_eq!(rt; output.text(), b"normal\n".as_slice());
 }
 
