@@ -7,6 +7,7 @@ use langtag_scan::{Metered, recognise_normal};
 use std::io::Write;
 
 /// Writes the answer to a line, and the LF that ends it.
+#[tactic(auto, using(crate::proofs::Written::answers_told))]
 pub(crate) fn write_answer<W: Write>(line: &[u8], output: &mut W) -> Result<(), ShowError>
     ensures ok { OnOk result (Answers (W.contents output.old) (W.contents output.new) (line.now ∷ [])) }
     ensures err { IsOkUnless result ShowError.Write }

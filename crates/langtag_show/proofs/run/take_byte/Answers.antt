@@ -17,7 +17,8 @@ returns-then-byte-eq-LINE_FEED-clause-ok g c =
 pub returns-then-byte-eq-LINE_FEED-clause-rest : goal.returns-then-byte-eq-LINE_FEED-clause-rest
 returns-then-byte-eq-LINE_FEED-clause-rest g c =
     let feed : is_line_feed c.args.byte ≡ true = search rules in
-    c.clear.ensures.items ∙ sym (rest_of-ended _ c.args.byte c.requires feed)
+    let ended = rest_of-ended c.args.line.now.items c.args.byte c.requires feed in
+    cc
 
 pub returns-clause-ok : goal.returns-clause-ok
 returns-clause-ok g c =
@@ -29,4 +30,6 @@ returns-clause-rest g c =
     let plain : is_line_feed c.args.byte ≡ false = search rules in
     OnOk-by _ c.map_err.result (λ ok.
     let pushed : is_ok c.push.result ≡ true = sym c.map_err.ensures.variant ∙ ok in
-    rw pushed at c.push.ensures.items ∙ sym (rest_of-free_text _ (free_push _ c.args.byte c.requires plain)))
+    let grown : c.push.new.self.items ≡ c.args.line.now.items ++ c.args.byte ∷ [] = rw pushed at c.push.ensures.items in
+    let rest = rest_of-free_text _ (free_push c.args.line.now.items c.args.byte c.requires plain) in
+    cc)
