@@ -41,7 +41,7 @@ pub fn run<R: Read, W: Write>(alloc: Global, input: &mut R, output: &mut W) -> R
 {
     let mut line = Vec::new(alloc);
     let mut buffer = [0; BUFFER_LEN];
-    'reads: for _ in 0..u64::MAX {
+    for _ in 0..u64::MAX {
         let Ok(count) = input.read(&mut buffer) else {
             return Err(ShowError::Read);
         };
