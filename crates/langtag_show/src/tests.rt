@@ -126,30 +126,33 @@ fn long_input() -> [u8; 20_007] {
     text
 }
 
-// It stands first, so that by `rt try --test --fail-alloc N` the refused growths are those of its runs.
-#[test]
-fn a_refused_growth_leaves_whole_answers(rt: HostRuntime) {
-    let long = long_input();
-    let rows: [(&[u8], &[u8]); 2] = [
-        (
-            b"fr-FR\n\nx-a\ni-ami\nde-CH-1996",
-            b"normal\nrefused\nrefused\nrefused\nnormal\n",
-        ),
-        (&long, b"normal\nnormal\n"),
-    ];
-    for (text, want) in rows {
-        let mut output = Page::new();
-        match run(rt.alloc(), &mut Feed::new(text, ROOM), &mut output) {
-            Ok(()) => {
-                assert_eq!(rt; output.text(), want);
-            }
-            Err(error) => {
-                assert_eq!(rt; error, ShowError::Memory);
-                assert!(rt; is_front(output.text(), want));
-                assert_eq!(rt; output.flushes, 0);
-            }
+// A run over the text gives the whole report, or meets a refused growth and leaves whole answers from its front.
+fn leaves_whole_answers(rt: &impl Abort, alloc: Global, text: &[u8], want: &[u8]) {
+    let mut output = Page::new();
+    match run(alloc, &mut Feed::new(text, ROOM), &mut output) {
+        Ok(()) => {
+            assert_eq!(rt; output.text(), want);
+        }
+        Err(error) => {
+            assert_eq!(rt; error, ShowError::Memory);
+            assert!(rt; is_front(output.text(), want));
+            assert_eq!(rt; output.flushes, 0);
         }
     }
+}
+
+// These two pass under `rt try --test --fail-alloc N` for each N: each counts the growths of its own run, and the
+// other tests want all their memory.
+#[test]
+fn a_refused_growth_leaves_whole_answers(rt: HostRuntime) {
+    let text = b"fr-FR\n\nx-a\ni-ami\nde-CH-1996";
+    let want = b"normal\nrefused\nrefused\nrefused\nnormal\n";
+    leaves_whole_answers(&rt, rt.alloc(), text, want);
+}
+
+#[test]
+fn a_refused_growth_of_a_long_line_leaves_whole_answers(rt: HostRuntime) {
+    leaves_whole_answers(&rt, rt.alloc(), &long_input(), b"normal\nnormal\n");
 }
 
 #[test]
