@@ -1,0 +1,6 @@
+pub mod Ascii
+pub mod Examples
+pub mod Lines
+pub mod OneReport
+pub mod Outcomes
+pub mod Written

@@ -1,0 +1,80 @@
+-- How the answers that a writer holds grow as bytes are taken.
+use Rattle.std.proofs.Common.{◌≡◌, ◌∙◌, ℕ, ◌+◌, Option, ◌<◌, arith, List, [], ◌∷◌, ◌++◌, length, take, refl, sym, ap, append_assoc, append-nil, subst}
+use Rattle.std.specs.Io.KnownBytes.{Appends, Keeps}
+use Rattle.std.proofs.KnownBytes.{Appends-nil, Appends-trans, Appends-kept}
+use Rattle.std.proofs.Math.Seq.{take-append_seam, take-append-add}
+use Rattle.std.specs.Result.{is_ok}
+use Rattle.std.specs.Prelude.{OnOk, Result}
+use Rattle.langtag_show.proofs.Outcomes.{OnOk-by, OnOk-at}
+use Rattle.langtag_show.specs.Lines.{complete_lines, rest_of, last_line, lines_of, ended, NoLineFeed}
+use Rattle.langtag_show.specs.Report.{IsAnswer, AreAnswers, none, one_more, Answers}
+use Rattle.langtag_show.proofs.Lines.{complete_lines-append, rest_of-append, lines_cut}
+
+AreAnswers-append : (xs ys : List (List ℕ)) (a b : List ℕ) → AreAnswers xs a → AreAnswers ys b → AreAnswers (xs ++ ys) (a ++ b)
+AreAnswers-append _ ys _ b none q = q
+AreAnswers-append _ ys _ b (one_more line text lines texts is p) q =
+    subst (AreAnswers (line ∷ (lines ++ ys))) (sym (append_assoc (ended text) texts b)) (one_more line text (lines ++ ys) (texts ++ b) is (AreAnswers-append lines ys texts b p q))
+
+pub Answers-nil : (a : Option (List ℕ)) → Answers a a []
+Answers-nil a = ([], none, Appends-nil a)
+
+Answers-one : (a b : Option (List ℕ)) (line text : List ℕ) → IsAnswer line text → Appends a b (ended text) → Answers a b (line ∷ [])
+Answers-one a b line text is p = (ended text ++ [], one_more line text [] [] is none, subst (Appends a b) (sym (append-nil (ended text))) p)
+
+-- an answer and its LF that were written are the answer to one line, also where the error is told as another
+pub answers_told : {E D : Type 0} (r : Result (Unit {0}) E) (s : Result (Unit {0}) D) (a b : Option (List ℕ)) (line text : List ℕ) → is_ok s ≡ is_ok r → IsAnswer line text
+    → OnOk r (Appends a b (ended text)) → OnOk s (Answers a b (line ∷ []))
+answers_told r s a b line text same is written = OnOk-by _ s (λ ok. Answers-one a b line text is (OnOk-at _ r (sym same ∙ ok) written))
+
+pub Answers-trans : (a b c : Option (List ℕ)) (xs ys : List (List ℕ)) → Answers a b xs → Answers b c ys → Answers a c (xs ++ ys)
+Answers-trans a b c xs ys (s, p, q) (t, p', q') = (s ++ t, AreAnswers-append xs ys s t p p', Appends-trans a b c s t q q')
+
+pub Answers-kept : (a b c : Option (List ℕ)) (xs : List (List ℕ)) → Answers a b xs → Keeps b c → Answers a c xs
+Answers-kept a b c xs (s, p, q) kept = (s, p, Appends-kept a b c s q kept)
+
+pub Answers-same : (a b : Option (List ℕ)) (xs ys : List (List ℕ)) → xs ≡ ys → Answers a b xs → Answers a b ys
+Answers-same a b xs ys same p = subst (Answers a b) same p
+
+pub rest_more : (input rest more : List ℕ) → rest ≡ rest_of input → rest_of (rest ++ more) ≡ rest_of (input ++ more)
+rest_more input rest more is = ap (λ r. rest_of (r ++ more)) is ∙ sym (rest_of-append input more)
+
+lines_more : (input rest more : List ℕ) → rest ≡ rest_of input → complete_lines (input ++ more) ≡ complete_lines input ++ complete_lines (rest ++ more)
+lines_more input rest more is = complete_lines-append input more ∙ ap (λ r. complete_lines input ++ complete_lines (r ++ more)) (sym is)
+
+pub free_rest : (input rest : List ℕ) → rest ≡ rest_of input → NoLineFeed rest
+free_rest input rest is = subst NoLineFeed (sym is) (lines_cut input).rest_free
+
+-- the answers to what stood, and then to what more bytes complete
+pub written_more : (a b c : Option (List ℕ)) (input rest more : List ℕ) → rest ≡ rest_of input → Answers a b (complete_lines input) → Answers b c (complete_lines (rest ++ more))
+    → Answers a c (complete_lines (input ++ more))
+written_more a b c input rest more is p q = Answers-same a c _ _ (sym (lines_more input rest more is)) (Answers-trans a b c _ _ p q)
+
+-- a run that stops keeps the answers to the first k lines
+pub written_front : (a b c : Option (List ℕ)) (input rest more : List ℕ) → rest ≡ rest_of input → Answers a b (complete_lines input)
+    → ((k : ℕ) × Answers b c (take k (complete_lines (rest ++ more)))) → (k : ℕ) × Answers a c (take k (complete_lines (input ++ more)))
+written_front a b c input rest more is p (k, q) =
+    let lines = complete_lines input in
+    let later = complete_lines (rest ++ more) in
+    let front : take (length lines + k) (complete_lines (input ++ more)) ≡ lines ++ take k later =
+    ap (take (length lines + k)) (lines_more input rest more is) ∙ take-append-add lines later k in
+    (length lines + k, Answers-same a c _ _ (sym front) (Answers-trans a b c _ _ p q))
+
+pub written_before : (a b c : Option (List ℕ)) (input more : List ℕ) → Answers a b (complete_lines input) → Keeps b c
+    → (k : ℕ) × Answers a c (take k (complete_lines (input ++ more)))
+written_before a b c input more p kept =
+    let lines = complete_lines input in
+    let front : take (length lines) (complete_lines (input ++ more)) ≡ lines =
+    ap (take (length lines)) (complete_lines-append input more) ∙ take-append_seam lines (complete_lines (rest_of input ++ more)) in
+    (length lines, Answers-same a c _ _ (sym front) (Answers-kept a b c _ p kept))
+
+-- the answers to the complete lines, and then to the last one
+pub written_all : (a b c : Option (List ℕ)) (input rest : List ℕ) → rest ≡ rest_of input → Answers a b (complete_lines input) → Answers b c (last_line rest) → Answers a c (lines_of input)
+written_all a b c input rest is p q = Answers-same a c _ _ (ap (λ r. complete_lines input ++ last_line r) is) (Answers-trans a b c _ _ p q)
+
+pub last_line-none : (rest : List ℕ) → length rest ≡ 0 → last_line rest ≡ []
+last_line-none [] empty = refl
+last_line-none (b ∷ bs) empty = absurd (omega arith)
+
+pub last_line-some : (rest : List ℕ) → 0 < length rest → last_line rest ≡ rest ∷ []
+last_line-some [] full = absurd (omega arith)
+last_line-some (b ∷ bs) full = refl

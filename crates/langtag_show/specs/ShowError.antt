@@ -1,0 +1,14 @@
+-- What the program says of a fault, and the status that it ends with.
+use Rattle.std.specs.Prelude.{ℕ, List, codes}
+use Rattle.langtag_show.specs.declared.show_error.ShowError.{ShowError}
+use Rattle.langtag_show.specs.declared.show_error.ShowError.TheVariants.{Memory, Read, Write}
+
+abbrev pub text_of : ShowError → List ℕ
+text_of Memory = codes "out of memory"
+text_of Read = codes "read failed"
+text_of Write = codes "write failed"
+
+abbrev pub status_of : ShowError → ℕ
+status_of Memory = 3
+status_of Read = 4
+status_of Write = 5

@@ -1,0 +1,29 @@
+//! The answer to one line.
+ghost use Rattle.std.specs.Prelude.{[], ◌∷◌, OnOk, IsOkUnless};
+ghost use Rattle.langtag_show.specs.Report.{IsAnswer, Answers};
+
+use crate::show_error::ShowError;
+use langtag_scan::{Metered, recognise_normal};
+use std::io::Write;
+
+/// Writes the answer to a line, and the LF that ends it.
+#[tactic(auto, using(crate::proofs::Written::answers_told))]
+pub(crate) fn write_answer<W: Write>(line: &[u8], output: &mut W) -> Result<(), ShowError>
+    ensures ok { OnOk result (Answers (W.contents output.old) (W.contents output.new) (line.now ∷ [])) }
+    ensures err { IsOkUnless result ShowError.Write }
+{
+    writeln!(output, "{}", answer_to(line)).map_err(|_| ShowError::Write)
+}
+
+/// The answer to a line, without its LF. A tag is ASCII, so a line that is not UTF-8 is none.
+fn answer_to(line: &[u8]) -> &'static str
+    ensures { IsAnswer line.now result.now }
+{
+    let Ok(text) = std::str::from_utf8(line) else {
+        return "refused";
+    };
+    match recognise_normal(&mut Metered::new(text)) {
+        Some(_) => "normal",
+        None => "refused",
+    }
+}

@@ -1,0 +1,28 @@
+//! Answers each line of standard input: whether it is a language tag of RFC 5646.
+//!
+//! A line ends at LF, and a last line without LF counts where it is not empty. CR is an ordinary byte. The answer
+//! is `normal` for a normal tag (section 2.1) and `refused` for any other line, also one that is not UTF-8.
+//! A run that a fault ends says so on standard error and by its status.
+#![tactic(auto)]
+
+mod answer;
+mod run;
+mod show_error;
+#[cfg(test)]
+mod tests;
+
+use std::io;
+use std::process::ExitCode;
+
+fn main(rt: HostRuntime) -> ExitCode {
+    let mut input = rt.stdin();
+    let mut output = io::writer(&rt);
+    match run::run(rt.alloc(), &mut input, &mut output) {
+        Ok(()) => ExitCode::SUCCESS,
+        Err(error) => {
+            // Where standard error takes nothing either, the status still tells.
+            let _ = rt.eprintln(error.text());
+            ExitCode::from(error.status())
+        }
+    }
+}

@@ -1,0 +1,95 @@
+//! From what is read to what is written.
+ghost use Rattle.std.specs.Prelude.{◌≡◌, ◌≢◌, ℕ, List, [], ◌∷◌, ◌++◌, take, OnOk, IfErr, IfSome, IsErrOf, IsOkUnless};
+ghost use Rattle.std.specs.Io.KnownBytes.{Keeps, IsAtEnd};
+ghost use Rattle.langtag_show.specs.Lines.{IsCutInto, NoLineFeed, complete_lines, rest_of, last_line, lines_of};
+ghost use Rattle.langtag_show.specs.Report.{IsAnswer, AreAnswers, Answers, HavingRead};
+
+use crate::answer::write_answer;
+use crate::show_error::ShowError;
+use std::alloc::Global;
+use std::io::{Read, Write};
+
+/// How many bytes a read asks for.
+const BUFFER_LEN: usize = 4096;
+
+const LINE_FEED: u8 = b'\n';
+
+/// Writes the answer to each line of the input, each followed by LF, and flushes once at the end.
+///
+/// The answers of the lines that a read completed are written before the next read. The buffer of the reads has a
+/// fixed size, and only the line that is being gathered takes memory.
+///
+/// # Errors
+///
+/// `Memory` where that line could not grow. `Read` at the first error of the reader, an interruption among them, and
+/// where the input has not ended after 2^64 - 1 reads. `Write` where `write_all` or the flush failed.
+#[tactic(auto, using(crate::proofs::OneReport::one_answer, crate::proofs::OneReport::one_report))]
+pub fn run<R: Read, W: Write>(alloc: Global, input: &mut R, output: &mut W) -> Result<(), ShowError>
+    ensures whole { OnOk result (IsAtEnd (R.remaining input.new)) }
+    ensures report { OnOk result (IfSome (R.remaining input.old) (λ i.
+        Answers (W.contents output.old) (W.contents output.new) (lines_of i))) }
+    ensures after_read { IsErrOf result ShowError.Read → HavingRead (R.remaining input.old) (R.remaining input.new)
+        (λ i. Answers (W.contents output.old) (W.contents output.new) (complete_lines i)) }
+    ensures after_memory { IsErrOf result ShowError.Memory → HavingRead (R.remaining input.old) (R.remaining input.new)
+        (λ i. (k : ℕ) × Answers (W.contents output.old) (W.contents output.new) (take k (complete_lines i))) }
+
+    // What these words mean is one thing: an input has these lines, and a line one answer.
+    ensures cut { (i : List ℕ) → IsCutInto i (complete_lines i) (rest_of i) }
+    ensures one_answer { (l text other : List ℕ) → IsAnswer l text → IsAnswer l other → text ≡ other }
+    ensures one_report { (lines : List (List ℕ)) (texts others : List ℕ) →
+        AreAnswers lines texts → AreAnswers lines others → texts ≡ others }
+{
+    let mut line = Vec::new(alloc);
+    let mut buffer = [0; BUFFER_LEN];
+    for _ in 0..u64::MAX {
+        let Ok(count) = input.read(&mut buffer) else {
+            return Err(ShowError::Read);
+        };
+        if count == 0 {
+            return finish(&line, output);
+        }
+        take_bytes(&mut line, &buffer[..count], output)?;
+    }
+    Err(ShowError::Read)
+}
+
+/// Takes bytes into the line that is gathered, and writes the answer to each line that they complete.
+fn take_bytes<W: Write>(line: &mut Vec<u8>, bytes: &[u8], output: &mut W) -> Result<(), ShowError>
+    requires { NoLineFeed line.old.items }
+    ensures ok { OnOk result (Answers (W.contents output.old) (W.contents output.new) (complete_lines (line.old.items ++ bytes.now))) }
+    ensures rest { OnOk result (line.new.items ≡ rest_of (line.old.items ++ bytes.now)) }
+    ensures memory { IsErrOf result ShowError.Memory → (k : ℕ) × Answers (W.contents output.old) (W.contents output.new) (take k (complete_lines (line.old.items ++ bytes.now))) }
+    ensures other { IfErr result (λ e. e ≢ ShowError.Read) }
+{
+    for b in bytes {
+        take_byte(line, *b, output)?;
+    }
+    Ok(())
+}
+
+/// Takes a byte into the line that is gathered, or at LF writes the answer to it.
+fn take_byte<W: Write>(line: &mut Vec<u8>, byte: u8, output: &mut W) -> Result<(), ShowError>
+    requires { NoLineFeed line.old.items }
+    ensures ok { OnOk result (Answers (W.contents output.old) (W.contents output.new) (complete_lines (line.old.items ++ byte ∷ []))) }
+    ensures rest { OnOk result (line.new.items ≡ rest_of (line.old.items ++ byte ∷ [])) }
+    ensures memory { IsErrOf result ShowError.Memory → Keeps (W.contents output.old) (W.contents output.new) }
+    ensures other { IfErr result (λ e. e ≢ ShowError.Read) }
+{
+    if byte == LINE_FEED {
+        write_answer(line, output)?;
+        line.clear();
+        return Ok(());
+    }
+    line.push(byte).map_err(|_| ShowError::Memory)
+}
+
+/// Writes the answer to the rest where it is a line, and flushes.
+fn finish<W: Write>(rest: &[u8], output: &mut W) -> Result<(), ShowError>
+    ensures ok { OnOk result (Answers (W.contents output.old) (W.contents output.new) (last_line rest.now)) }
+    ensures err { IsOkUnless result ShowError.Write }
+{
+    if !rest.is_empty() {
+        write_answer(rest, output)?;
+    }
+    output.flush().map_err(|_| ShowError::Write)
+}
