@@ -29,6 +29,10 @@ pub tag_irregular : (t : List ℕ) (k : ℕ) → IsIrregularAt k t → IsTag t
 unfolding IsTag IsIrregular
 tag_irregular t k n = inr (inr (k, n))
 
+pub tag_of_irregular : (t : List ℕ) → IsIrregular t → IsTag t
+unfolding IsTag
+tag_of_irregular t n = inr (inr n)
+
 -- a text that is of none of the three cases is no tag
 pub no_tag : (t : List ℕ) → IsRefused t → (IsIrregular t → ⊥) → IsTag t → ⊥
 unfolding IsTag

@@ -1,13 +1,15 @@
 -- The report of an input: the answer to each of its lines.
 use Rattle.std.specs.Prelude.{◌≡◌, ℕ, Option, List, [], ◌∷◌, ◌++◌, codes}
 use Rattle.std.specs.Io.KnownBytes.{Consumes, Appends}
-use Rattle.langtag_scan.specs.Tag.{IsNormal}
+use Rattle.langtag_scan.specs.Tag.{IsNormal, IsPrivate, IsIrregular, IsTag}
 use Rattle.langtag_show.specs.Lines.{ended}
 
 -- the answer to a line, by the kind of tag that it is
 pub data IsAnswer (line : List ℕ) (text : List ℕ) : Type 0 where
   normal : IsNormal line → text ≡ codes "normal" → IsAnswer line text
-  refused : ¬ (IsNormal line) → text ≡ codes "refused" → IsAnswer line text
+  private_use : IsPrivate line → text ≡ codes "private" → IsAnswer line text
+  irregular : IsIrregular line → text ≡ codes "irregular" → IsAnswer line text
+  refused : ¬ (IsTag line) → text ≡ codes "refused" → IsAnswer line text
 
 -- the answers to lines, in order, each followed by LF
 pub data AreAnswers : List (List ℕ) → List ℕ → Type 0 where

@@ -1,9 +1,10 @@
 //! The answer to one line.
-ghost use Rattle.std.specs.Prelude.{[], ◌∷◌, OnOk, IsOkUnless};
+ghost use Rattle.std.specs.Prelude.{ℕ, List, [], ◌∷◌, OnOk, IsOkUnless};
+ghost use Rattle.langtag_scan.specs.Found.{IsFoundOf};
 ghost use Rattle.langtag_show.specs.Report.{IsAnswer, Answers};
 
 use crate::show_error::ShowError;
-use langtag_scan::{Metered, recognise_normal};
+use langtag_scan::{Found, Metered, recognise};
 use std::io::Write;
 
 /// Writes the answer to a line, and the LF that ends it.
@@ -22,8 +23,21 @@ fn answer_to(line: &[u8]) -> &'static str
     let Ok(text) = std::str::from_utf8(line) else {
         return "refused";
     };
-    match recognise_normal(&mut Metered::new(text)) {
-        Some(_) => "normal",
+    match recognise(&mut Metered::new(text)) {
+        Some(found) => word_of(&found),
         None => "refused",
+    }
+}
+
+/// The word for the kind of a tag.
+fn word_of(found: &Found) -> &'static str
+    ensures { (line : List ℕ) → IsFoundOf line found.now → IsAnswer line result.now }
+{
+    if found.is_normal() {
+        "normal"
+    } else if found.is_private_use() {
+        "private"
+    } else {
+        "irregular"
     }
 }

@@ -146,7 +146,7 @@ fn leaves_whole_answers(rt: &impl Abort, alloc: Global, text: &[u8], want: &[u8]
 #[test]
 fn a_refused_growth_leaves_whole_answers(rt: HostRuntime) {
     let text = b"fr-FR\n\nx-a\ni-ami\nde-CH-1996";
-    let want = b"normal\nrefused\nrefused\nrefused\nnormal\n";
+    let want = b"normal\nrefused\nprivate\nirregular\nnormal\n";
     leaves_whole_answers(&rt, rt.alloc(), text, want);
 }
 
@@ -166,17 +166,17 @@ fn answers_each_line(rt: HostRuntime) {
         (b"fr-FR\nab--ab\nde-CH-1996\n", b"normal\nrefused\nnormal\n"),
         (
             b"fr-FR\n\nx-a\ni-ami\nde-CH-1996",
-            b"normal\nrefused\nrefused\nrefused\nnormal\n",
+            b"normal\nrefused\nprivate\nirregular\nnormal\n",
         ),
         (
             b"x-a\ni-ami\nzh-min\nen-a-bbb-x-a-ccc",
-            b"refused\nrefused\nnormal\nnormal\n",
+            b"private\nirregular\nnormal\nnormal\n",
         ),
         (
             b"X-bCrL5RL\nI-kLINgon\nzh-hakka\ni-notexist\n",
-            b"refused\nrefused\nnormal\nrefused\n",
+            b"private\nirregular\nnormal\nrefused\n",
         ),
-        (b"EN-gb-OED\n", b"refused\n"),
+        (b"EN-gb-OED\n", b"irregular\n"),
         (b"NO-Bok\n", b"normal\n"),
         (b"fr-a-bb-A-cc\n", b"normal\n"),
         (b"de-1996-1996\n", b"normal\n"),
@@ -212,7 +212,7 @@ fn a_failing_read_ends_the_run(rt: HostRuntime) {
         (b"fr-FR\nx-", 8, 2, b"normal\n"),
         (b"fr\n", 3, 1, b""),
         (b"fr\n", 3, 2, b"normal\n"),
-        (b"x-a\nen\n", 6, 2, b"refused\n"),
+        (b"x-a\nen\n", 6, 2, b"private\n"),
     ];
     for (text, step, read, want) in rows {
         for kind in [ErrorKind::Other, ErrorKind::Interrupted] {

@@ -1,5 +1,6 @@
 use Rattle.std.proofs.Common.{◌≡◌, ◌∙◌, [], ◌++◌, take, ap, append-nil, arith, Err}
 use Rattle.std.proofs.lemmas.Result.{err_from_is_err_and, on_ok_weaker}
+use Rattle.langtag_show.proofs.OneReport.{one_answer}
 use Rattle.langtag_show.specs.declared.show_error.ShowError.TheVariants.{Memory}
 use Rattle.std.proofs.KnownBytes.{Consumes-nil, Consumes-trans, Consumes-whole}
 use Rattle.langtag_show.specs.Lines.{complete_lines, rest_of, lines_of}
@@ -60,3 +61,15 @@ returns-in_err-take_bytes-clause-cut g c = lines_cut
 
 pub returns-clause-cut : goal.returns-clause-cut
 returns-clause-cut g c = lines_cut
+
+pub returns-in_default-clause-one_answer : goal.returns-in_default-clause-one_answer
+returns-in_default-clause-one_answer g c = one_answer
+
+pub returns-then-count-eq0-clause-one_answer : goal.returns-then-count-eq0-clause-one_answer
+returns-then-count-eq0-clause-one_answer g c = one_answer
+
+pub returns-in_err-take_bytes-clause-one_answer : goal.returns-in_err-take_bytes-clause-one_answer
+returns-in_err-take_bytes-clause-one_answer g c = one_answer
+
+pub returns-clause-one_answer : goal.returns-clause-one_answer
+returns-clause-one_answer g c = one_answer
