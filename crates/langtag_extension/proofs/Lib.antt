@@ -1,0 +1,3 @@
+pub mod SingletonLemmas
+pub mod WalkLemmas
+pub mod SpellingLemmas

@@ -1,0 +1,75 @@
+-- The subtags of a text in groups: those of the first extension, and those of the others.
+use Rattle.std.proofs.Common.{◌≡◌, ◌≢◌, ℕ, ◌<◌, ◌≤◌, suc, ◌+◌, ◌-◌, true, false, List, [], ◌∷◌, ◌++◌, length, get_or, take, drop, refl, ap, sym, ◌∙◌, arith, cond, Option, None, Some, Bor, MatchOption, map, append-nil}
+use Rattle.std.specs.List.{list_all}
+use Rattle.std.proofs.lemmas.List.{get_or-take, get_or-drop, drop-append-le, length-take, length-drop}
+use Rattle.std.proofs.lemmas.List.Folds.{list_all-append}
+use Rattle.std.proofs.Math.Seq.{drop-cons, take-add}
+use Rattle.std.proofs.lemmas.List.Splits.{length-slice_split, join_with_byte-slice_split, slice_split-cons_yes, slice_split-cons_no, slice_split_none}
+use Rattle.std.proofs.lemmas.Grind.{common_steps}
+use Rattle.langtag_scan.specs.Subtags.{is_hyphen, join, segments, segments_left, NoHyphenWithin, IsHyphenFree}
+use Rattle.langtag_scan.proofs.SubtagsLemmas.{slice_split-push, slice_split-append}
+use Rattle.langtag_extension.specs.ExtensionTexts.{goes_on, opens, groups, put_first, group_texts, texts_left}
+
+-- a first subtag of one byte opens an extension
+pub opens-one : (t : List ℕ) → 0 < length t → is_hyphen (get_or t 0 0) ≡ false → (1 < length t → get_or t 1 0 ≡ 45) → opens (segments t) ≡ true
+opens-one [] some first second = absurd (omega (arith, some))
+opens-one (b ∷ []) some first second = rw (slice_split-cons_no is_hyphen b [] first) refl
+opens-one (b ∷ c ∷ t) some first second =
+    let hyphen : is_hyphen c ≡ true = rw (second (grind (arith, common_steps))) refl in
+    rw (slice_split-cons_no is_hyphen b (c ∷ t) first, slice_split-cons_yes is_hyphen c t hyphen) refl
+
+-- up to the first hyphen there is one subtag
+pub list_all-first_subtag : (text : List ℕ) (end : ℕ) → end ≤ length text → NoHyphenWithin text 0 end → list_all goes_on (drop 1 (segments (take end text))) ≡ true
+list_all-first_subtag text end within free =
+    let kept : IsHyphenFree (take end text) = grind (arith, common_steps) in
+    rw (slice_split_none is_hyphen (take end text) kept) refl
+
+-- one more subtag, which is not of one byte
+pub list_all-next_subtag : (text : List ℕ) (end next : ℕ) → end < length text → get_or text end 0 ≡ 45 → end + 1 ≤ next → next ≤ length text → NoHyphenWithin text (end + 1) next → next ≢ end + 2 → list_all goes_on (drop 1 (segments (take end text))) ≡ true → list_all goes_on (drop 1 (segments (take next text))) ≡ true
+list_all-next_subtag text end next below hyphen after within free long before =
+    let more = next - (end + 1) in
+    let part = take more (drop (suc end) text) in
+    let place : next ≡ end + suc more = omega arith in
+    let cut : take next text ≡ take end text ++ 45 ∷ part =
+    ap (λ n. take n text) place ∙ take-add end (suc more) text ∙ ap (λ rest. take end text ++ take (suc more) rest) (drop-cons text end 0 below)
+    ∙ ap (λ b. take end text ++ b ∷ part) hyphen in
+    let size : length part ≡ more = grind (arith, common_steps, length-take more (drop (suc end) text), length-drop (suc end) text) in
+    let kept : IsHyphenFree part = λ k d inside.
+    rw (get_or-take more (drop (suc end) text) k d (omega (arith, size, inside)), get_or-drop (suc end) text k d)
+    (free (suc end + k) d (omega arith) (omega (arith, size, inside, place))) in
+    let parts = segments (take end text) in
+    let goes : list_all goes_on (part ∷ []) ≡ true = grind (arith, common_steps) in
+    rw (cut, slice_split-push (take end text) part kept, drop-append-le 1 parts (part ∷ []) (omega (arith, length-slice_split is_hyphen (take end text))), list_all-append goes_on (drop 1 parts) (part ∷ []), before) goes
+
+put_first-opened : (parts : List (List ℕ)) → opens parts ≡ true → (p : List ℕ) → put_first p (groups parts) ≡ (p ∷ []) ∷ groups parts
+put_first-opened [] opened p = refl
+put_first-opened (part ∷ more) opened p = by_groups (groups more)
+  where
+    by_groups : (gs : List (List (List ℕ))) → put_first p (put_first part gs) ≡ (p ∷ []) ∷ put_first part gs
+    by_groups [] = ap (λ b. cond b ((p ∷ []) ∷ (part ∷ []) ∷ []) ((p ∷ part ∷ []) ∷ [])) opened
+    by_groups (g ∷ gs) = grind (arith, common_steps)
+
+-- a subtag, those that go on with it, and others from one that opens
+pub groups-first : (p : List ℕ) (front rest : List (List ℕ)) → list_all goes_on front ≡ true → opens rest ≡ true → groups (p ∷ front ++ rest) ≡ (p ∷ front) ∷ groups rest
+groups-first p [] rest long opened = put_first-opened rest opened p
+groups-first p (f ∷ front) rest long opened =
+    let tail = groups-first f front rest (grind (arith, common_steps)) opened in
+    let not_one : opens (f ∷ front) ≡ false = grind (arith, common_steps) in
+    ap (put_first p) tail ∙ ap (λ b. cond b ((p ∷ []) ∷ (f ∷ front) ∷ groups rest) ((p ∷ f ∷ front) ∷ groups rest)) not_one
+
+groups-append : (first rest : List (List ℕ)) → 0 < length first → list_all goes_on (drop 1 first) ≡ true → opens rest ≡ true → groups (first ++ rest) ≡ first ∷ groups rest
+groups-append [] rest some long opened = absurd (omega (arith, some))
+groups-append (p ∷ front) rest some long opened = groups-first p front rest long opened
+
+groups-split : (text first : List ℕ) (rest : Option (Bor (List ℕ))) → MatchOption rest (text ≡ first) (λ r. text ≡ first ++ 45 ∷ r.now) → list_all goes_on (drop 1 (segments first)) ≡ true → opens (segments_left rest) ≡ true → groups (segments text) ≡ segments first ∷ groups (segments_left rest)
+groups-split text first None whole long opened =
+    ap (λ t. groups (segments t)) whole ∙ ap groups (sym (append-nil (segments first)))
+    ∙ groups-append (segments first) [] (omega (arith, length-slice_split is_hyphen first)) long opened
+groups-split text first (Some rest) joined long opened =
+    ap (λ t. groups (segments t)) joined ∙ ap groups (slice_split-append first rest.now)
+    ∙ groups-append (segments first) (segments rest.now) (omega (arith, length-slice_split is_hyphen first)) long opened
+
+-- the text of the first extension, and those of the others
+pub group_texts-split : (text first : List ℕ) (rest : Option (Bor (List ℕ))) → MatchOption rest (text ≡ first) (λ r. text ≡ first ++ 45 ∷ r.now) → list_all goes_on (drop 1 (segments first)) ≡ true → opens (segments_left rest) ≡ true → group_texts (segments text) ≡ first ∷ texts_left rest
+group_texts-split text first rest joined long opened =
+    ap (map join) (groups-split text first rest joined long opened) ∙ ap (λ t. t ∷ texts_left rest) (join_with_byte-slice_split 45 first)

@@ -1,0 +1,4 @@
+pub mod Text
+pub mod Conversion
+pub mod Spelling
+pub mod ExtensionTexts

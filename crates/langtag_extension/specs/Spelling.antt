@@ -1,0 +1,38 @@
+-- The rules of RFC 5646 section 2.2.6: which texts are an extension, and which are any number of them.
+use Rattle.std.specs.Prelude.{◌≡◌, ◌==◌, ℕ, Bool, false, List, [], ◌∷◌, Option, find}
+use Rattle.std.specs.List.{AllByRecursion, flat_map}
+use Rattle.langtag_scan.specs.Case.{fold_byte}
+use Rattle.langtag_scan.specs.Class.{is_singleton}
+use Rattle.langtag_scan.specs.Record.{Extension, IsExtension, extension_flat}
+use Rattle.langtag_scan.specs.Subtags.{join}
+
+-- one byte, which is a singleton
+abbrev pub is_singleton_text : List ℕ → Bool
+is_singleton_text (b ∷ []) = is_singleton b
+is_singleton_text text = false
+
+-- a singleton and its subtags, joined by hyphens
+abbrev pub extension_spelling : Extension → List ℕ
+extension_spelling e = join (extension_flat e)
+
+-- the text is the extension
+pub record SpellsExtension (e : Extension) (text : List ℕ) : Type 0 where
+  pub member : IsExtension e
+  pub joined : extension_spelling e ≡ text
+
+-- some extension spells the text
+abbrev pub IsExtensionText : List ℕ → Type 0
+IsExtensionText text = (e : Extension) × SpellsExtension e text
+
+-- the text is the subtags of all extensions, joined by hyphens
+pub record SpellsExtensions (es : List Extension) (text : List ℕ) : Type 0 where
+  pub members : AllByRecursion IsExtension es
+  pub joined : join (flat_map extension_flat es) ≡ text
+
+-- some list of extensions, which may be empty, spells the text
+abbrev pub IsExtensionsText : List ℕ → Type 0
+IsExtensionsText text = (es : List Extension) × SpellsExtensions es text
+
+-- the first extension whose singleton is the byte but for case
+abbrev pub find_extension : ℕ → List Extension → Option Extension
+find_extension singleton es = find (λ e. fold_byte e.singleton == fold_byte singleton) es

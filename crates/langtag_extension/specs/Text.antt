@@ -1,0 +1,39 @@
+-- The text of each type: its bytes; and the texts that an iterator has still to hand out.
+use Rattle.std.specs.Prelude.{ℕ, List}
+use Rattle.std.specs.String.{string_bytes}
+use Rattle.langtag_extension.specs.declared.singleton.Singleton.{Singleton}
+use Rattle.langtag_extension.specs.declared.extension_subtag.ExtensionSubtag.{ExtensionSubtag}
+use Rattle.langtag_extension.specs.declared.extension_subtag.ExtensionSubtagBuf.{ExtensionSubtagBuf}
+use Rattle.langtag_extension.specs.declared.extension.Extension.{Extension}
+use Rattle.langtag_extension.specs.declared.extension.ExtensionBuf.{ExtensionBuf}
+use Rattle.langtag_extension.specs.declared.extension_iter.ExtensionIter.{ExtensionIter}
+use Rattle.langtag_extension.specs.declared.extensions.Extensions.{Extensions}
+use Rattle.langtag_extension.specs.declared.extensions.ExtensionsBuf.{ExtensionsBuf}
+use Rattle.langtag_extension.specs.declared.extensions_iter.ExtensionsIter.{ExtensionsIter}
+
+abbrev pub singleton_byte : Singleton → ℕ
+singleton_byte singleton = singleton.byte
+
+abbrev pub extension_subtag_text : ExtensionSubtag → List ℕ
+extension_subtag_text subtag = subtag.text.0.now
+
+abbrev pub extension_subtag_buf_text : ExtensionSubtagBuf → List ℕ
+extension_subtag_buf_text subtag = string_bytes subtag.text.0
+
+abbrev pub extension_text : Extension → List ℕ
+extension_text extension = extension.text.0.now
+
+abbrev pub extension_buf_text : ExtensionBuf → List ℕ
+extension_buf_text extension = string_bytes extension.text.0
+
+abbrev pub extensions_text : Extensions → List ℕ
+extensions_text extensions = extensions.text.0.now
+
+abbrev pub extensions_buf_text : ExtensionsBuf → List ℕ
+extensions_buf_text extensions = string_bytes extensions.text.0
+
+abbrev pub extension_subtags_left : ExtensionIter → List (List ℕ)
+extension_subtags_left it = it.subtags
+
+abbrev pub extensions_left : ExtensionsIter → List (List ℕ)
+extensions_left it = it.texts

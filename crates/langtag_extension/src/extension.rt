@@ -1,0 +1,223 @@
+//! An extension (RFC 5646 section 2.2.6).
+ghost use Rattle.std.specs.Prelude.{◌≡◌, ◌↔◌, Some, IsTrue, IfOk, IfErr, is_ok, slice_index};
+ghost use Rattle.std.specs.String.{string_bytes};
+ghost use Rattle.langtag_scan.specs.Case.{are_alike};
+ghost use Rattle.langtag_scan.specs.Record as model;
+ghost use Rattle.langtag_extension.specs.Spelling.{SpellsExtension, IsExtensionText};
+ghost use Rattle.langtag_extension.specs.ExtensionTexts.{are_extension_subtags, is_extension_text, opens_alike};
+
+use crate::extension_iter::ExtensionIter;
+use crate::singleton::Singleton;
+use langtag_scan::{Caseless, Subtags, into_smallcase, is_extension_subtag, is_singleton};
+use std::alloc::{AllocError, Global};
+use std::fmt;
+use std::fmt::Debug;
+use thiserror::Error;
+
+/// A text that is no extension. It hands the text back.
+#[derive(Debug, Drop, Error)]
+#[error("invalid extension")]
+#[error_bound(T: Debug + Drop)]
+pub struct InvalidExtension<T>(pub T);
+
+/// An extension (RFC 5646 section 2.2.6): a singleton and one or more subtags of two to eight letters and digits, as
+/// `u-co-phonebk`.
+///
+/// Two extensions are equal where their texts differ at most in the case of ASCII letters.
+#[derive(Clone, Copy, Debug, PartialEq, Eq, PartialOrd, Ord, Hash)]
+pub struct Extension<'a> {
+    text: Caseless<&'a str>,
+    ghost in_class: { IsTrue (is_extension_text text.0.now) },
+}
+
+impl<'a> Extension<'a> {
+    ghost use Rattle.langtag_extension.specs.Text.{singleton_byte, extension_text, extension_buf_text, extension_subtags_left};
+
+    /// The extension of a text.
+    ///
+    /// # Errors
+    ///
+    /// A text that is not one extension comes back: one without a subtag, as `a`, or with two singletons, as
+    /// `a-bb-b-cc`, or with the mark of private use in the singleton's place, as `x-bb`.
+    #[tactic(auto, using(crate::proofs::SpellingLemmas::extension_answer))]
+    pub fn new(text: &'a str) -> Result<Extension<'a>, InvalidExtension<&'a str>>
+        ensures accepts { IsTrue (is_ok result) ↔ IsExtensionText text.now }
+        ensures same_text { IfOk result (λ extension. extension_text extension ≡ text.now) }
+        ensures given_back { IfErr result (λ error. error.0 ≡ text.entry) }
+    {
+        if !is_extension(text) {
+            return Err(InvalidExtension(text));
+        }
+        Ok(Extension::from_checked(text))
+    }
+
+    /// The extension of a text that is known to be one: it is not looked at again.
+    pub fn from_checked(text: &'a str) -> Extension<'a>
+        requires { IsTrue (is_extension_text text.now) }
+        ensures { extension_text result ≡ text.now }
+    {
+        Extension {
+            text: Caseless(text),
+        }
+    }
+
+    /// The text, with its case.
+    #[tactic(auto, using(crate::proofs::SpellingLemmas::extension_passed))]
+    pub fn as_str(&self) -> &'a str
+        ensures same_text { result.now ≡ extension_text self.now }
+        ensures in_class { IsExtensionText result.now }
+    {
+        self.text.0
+    }
+
+    /// The bytes of the text.
+    pub fn as_bytes(&self) -> &'a [u8]
+        ensures { result.now ≡ extension_text self.now }
+    {
+        self.as_str().as_bytes()
+    }
+
+    /// Whether another text, of any form, is equal but for the case of ASCII letters.
+    pub fn eq_str(&self, other: &str) -> bool
+        ensures { result ≡ are_alike (extension_text self.now) other.now }
+    {
+        self.text == Caseless(other)
+    }
+
+    /// The singleton that opens the extension, with its case.
+    pub fn singleton(&self) -> Singleton
+        ensures first_byte { singleton_byte result ≡ slice_index (extension_text self.now) 0 }
+        ensures member { (e : model.Extension) → SpellsExtension e (extension_text self.now) → singleton_byte result ≡ e.singleton }
+    {
+        Singleton::from_checked(self.text.0.as_bytes()[0])
+    }
+
+    /// Whether the extension is opened by the singleton, without regard to case.
+    pub(crate) fn has_singleton(&self, singleton: Singleton) -> bool
+        ensures { result ≡ opens_alike (singleton_byte singleton) (extension_text self.now) }
+    {
+        into_smallcase(self.singleton().unwrap()) == into_smallcase(singleton.unwrap())
+    }
+
+    /// The subtags behind the singleton, in order: `co` and `phonebk` of `u-co-phonebk`.
+    #[tactic(auto, using(crate::proofs::SpellingLemmas::subtags_spelled))]
+    pub fn iter(&self) -> ExtensionIter<'a>
+        ensures list { (e : model.Extension) → SpellsExtension e (extension_text self.now) → extension_subtags_left result ≡ e.subtags }
+    {
+        let mut subtags = Subtags::new(self.text.0);
+        let _singleton = subtags.next();
+        ExtensionIter::from_checked(subtags)
+    }
+
+    /// The owned form of the same text.
+    ///
+    /// # Errors
+    ///
+    /// No memory could be had.
+    pub fn try_to_owned(&self, alloc: Global) -> Result<ExtensionBuf, AllocError>
+        ensures { IfOk result (λ owned. extension_buf_text owned ≡ extension_text self.now) }
+    {
+        let text = String::from_str(alloc, self.text.0)?;
+        Ok(ExtensionBuf {
+            text: Caseless(text),
+        })
+    }
+}
+
+impl fmt::Display for Extension<'_> {
+    ghost use Rattle.langtag_extension.specs.Text.{extension_text};
+
+    ghost output = { λ extension. Some (extension_text extension) };
+
+    fn fmt<W: fmt::Write>(&self, f: &mut fmt::Formatter<W>) -> fmt::Result {
+        f.write_str(self.as_str())
+    }
+}
+
+/// An extension that owns its text.
+#[derive(Debug, Drop, PartialEq, Eq, PartialOrd, Ord, Hash)]
+pub struct ExtensionBuf {
+    text: Caseless<String>,
+    ghost in_class: { IsTrue (is_extension_text (string_bytes text.0)) },
+}
+
+impl ExtensionBuf {
+    ghost use Rattle.langtag_extension.specs.Text.{extension_text, extension_buf_text};
+
+    /// The extension of a text, which is neither copied nor moved in memory.
+    ///
+    /// # Errors
+    ///
+    /// A text that is not one extension comes back, the same `String`.
+    #[tactic(auto, using(crate::proofs::SpellingLemmas::extension_answer))]
+    pub fn new(text: String) -> Result<ExtensionBuf, InvalidExtension<String>>
+        ensures accepts { IsTrue (is_ok result) ↔ IsExtensionText (string_bytes text) }
+        ensures same_text { IfOk result (λ extension. extension_buf_text extension ≡ string_bytes text) }
+        ensures given_back { IfErr result (λ error. error.0 ≡ text) }
+    {
+        if !is_extension(text.as_str()) {
+            return Err(InvalidExtension(text));
+        }
+        Ok(ExtensionBuf {
+            text: Caseless(text),
+        })
+    }
+
+    /// The extension, lent.
+    pub fn as_extension(&self) -> Extension<'_>
+        ensures { extension_text result ≡ extension_buf_text self.now }
+    {
+        Extension::from_checked(self.text.0.as_str())
+    }
+
+    /// The text, with its case.
+    #[tactic(auto, using(crate::proofs::SpellingLemmas::extension_passed))]
+    pub fn as_str(&self) -> &str
+        ensures same_text { result.now ≡ extension_buf_text self.now }
+        ensures in_class { IsExtensionText result.now }
+    {
+        self.text.0.as_str()
+    }
+
+    /// The text itself, which is not copied.
+    #[tactic(auto, using(crate::proofs::SpellingLemmas::extension_passed))]
+    pub fn into_string(self) -> String
+        ensures same_text { string_bytes result ≡ extension_buf_text self }
+        ensures in_class { IsExtensionText (string_bytes result) }
+    {
+        self.text.0
+    }
+}
+
+impl fmt::Display for ExtensionBuf {
+    ghost use Rattle.langtag_extension.specs.Text.{extension_buf_text};
+
+    ghost output = { λ extension. Some (extension_buf_text extension) };
+
+    fn fmt<W: fmt::Write>(&self, f: &mut fmt::Formatter<W>) -> fmt::Result {
+        f.write_str(self.as_str())
+    }
+}
+
+/// Whether the text is a singleton and at least one subtag of an extension, joined by hyphens.
+pub(crate) fn is_extension(text: &str) -> bool
+    ensures { result ≡ is_extension_text text.now }
+{
+    let mut subtags = Subtags::new(text);
+    if let Some(opening) = subtags.next()
+        && let [singleton] = opening.as_bytes()
+        && is_singleton(*singleton)
+        && let Some(first) = subtags.next()
+        && is_extension_subtag(first.as_bytes())
+    {
+        return all_are_extension_subtags(subtags);
+    }
+    false
+}
+
+/// Whether all that is left is subtags of an extension.
+fn all_are_extension_subtags(mut subtags: Subtags<'_>) -> bool
+    ensures { result ≡ are_extension_subtags subtags.entry }
+{
+    subtags.all(|subtag| is_extension_subtag(subtag.as_bytes()))
+}

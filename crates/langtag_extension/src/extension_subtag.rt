@@ -1,0 +1,165 @@
+//! A subtag of an extension (RFC 5646 section 2.2.6).
+ghost use Rattle.std.specs.Prelude.{◌≡◌, Some, IsTrue, IfOk, IfErr, is_ok};
+ghost use Rattle.std.specs.String.{string_bytes};
+ghost use Rattle.langtag_scan.specs.Case.{are_alike};
+ghost use Rattle.langtag_scan.specs.Class as class;
+
+use langtag_scan::{Caseless, is_extension_subtag};
+use std::alloc::{AllocError, Global};
+use std::fmt;
+use std::fmt::Debug;
+use thiserror::Error;
+
+/// A text that is no subtag of an extension. It hands the text back.
+#[derive(Debug, Drop, Error)]
+#[error("invalid extension subtag")]
+#[error_bound(T: Debug + Drop)]
+pub struct InvalidExtensionSubtag<T>(pub T);
+
+/// A subtag of an extension (RFC 5646 section 2.2.6): two to eight letters and digits, as `phonebk` in
+/// `u-co-phonebk`.
+///
+/// Two subtags are equal where their texts differ at most in the case of ASCII letters.
+#[derive(Clone, Copy, Debug, PartialEq, Eq, PartialOrd, Ord, Hash)]
+pub struct ExtensionSubtag<'a> {
+    text: Caseless<&'a str>,
+    ghost in_class: { IsTrue (class.is_extension_subtag text.0.now) },
+}
+
+impl<'a> ExtensionSubtag<'a> {
+    ghost use Rattle.langtag_extension.specs.Text.{extension_subtag_text, extension_subtag_buf_text};
+
+    /// The subtag of a text.
+    ///
+    /// # Errors
+    ///
+    /// A text that is not two to eight letters and digits comes back.
+    pub fn new(text: &'a str) -> Result<ExtensionSubtag<'a>, InvalidExtensionSubtag<&'a str>>
+        ensures accepts { is_ok result ≡ class.is_extension_subtag text.now }
+        ensures same_text { IfOk result (λ subtag. extension_subtag_text subtag ≡ text.now) }
+        ensures given_back { IfErr result (λ error. error.0 ≡ text.entry) }
+    {
+        if !is_extension_subtag(text.as_bytes()) {
+            return Err(InvalidExtensionSubtag(text));
+        }
+        Ok(ExtensionSubtag::from_checked(text))
+    }
+
+    /// The subtag of a text that is known to be one: it is not looked at again.
+    pub fn from_checked(text: &'a str) -> ExtensionSubtag<'a>
+        requires { IsTrue (class.is_extension_subtag text.now) }
+        ensures { extension_subtag_text result ≡ text.now }
+    {
+        ExtensionSubtag {
+            text: Caseless(text),
+        }
+    }
+
+    /// The text, with its case.
+    pub fn as_str(&self) -> &'a str
+        ensures same_text { result.now ≡ extension_subtag_text self.now }
+        ensures in_class { IsTrue (class.is_extension_subtag result.now) }
+    {
+        self.text.0
+    }
+
+    /// The bytes of the text.
+    pub fn as_bytes(&self) -> &'a [u8]
+        ensures { result.now ≡ extension_subtag_text self.now }
+    {
+        self.as_str().as_bytes()
+    }
+
+    /// Whether another text, of any form, is equal but for the case of ASCII letters.
+    pub fn eq_str(&self, other: &str) -> bool
+        ensures { result ≡ are_alike (extension_subtag_text self.now) other.now }
+    {
+        self.text == Caseless(other)
+    }
+
+    /// The owned form of the same text.
+    ///
+    /// # Errors
+    ///
+    /// No memory could be had.
+    pub fn try_to_owned(&self, alloc: Global) -> Result<ExtensionSubtagBuf, AllocError>
+        ensures { IfOk result (λ owned. extension_subtag_buf_text owned ≡ extension_subtag_text self.now) }
+    {
+        let text = String::from_str(alloc, self.as_str())?;
+        Ok(ExtensionSubtagBuf {
+            text: Caseless(text),
+        })
+    }
+}
+
+impl fmt::Display for ExtensionSubtag<'_> {
+    ghost use Rattle.langtag_extension.specs.Text.{extension_subtag_text};
+
+    ghost output = { λ subtag. Some (extension_subtag_text subtag) };
+
+    fn fmt<W: fmt::Write>(&self, f: &mut fmt::Formatter<W>) -> fmt::Result {
+        f.write_str(self.as_str())
+    }
+}
+
+/// A subtag of an extension that owns its text.
+#[derive(Debug, Drop, PartialEq, Eq, PartialOrd, Ord, Hash)]
+pub struct ExtensionSubtagBuf {
+    text: Caseless<String>,
+    ghost in_class: { IsTrue (class.is_extension_subtag (string_bytes text.0)) },
+}
+
+impl ExtensionSubtagBuf {
+    ghost use Rattle.langtag_extension.specs.Text.{extension_subtag_text, extension_subtag_buf_text};
+
+    /// The subtag of a text, which is neither copied nor moved in memory.
+    ///
+    /// # Errors
+    ///
+    /// A text that is not two to eight letters and digits comes back, the same `String`.
+    pub fn new(text: String) -> Result<ExtensionSubtagBuf, InvalidExtensionSubtag<String>>
+        ensures accepts { is_ok result ≡ class.is_extension_subtag (string_bytes text) }
+        ensures same_text { IfOk result (λ subtag. extension_subtag_buf_text subtag ≡ string_bytes text) }
+        ensures given_back { IfErr result (λ error. error.0 ≡ text) }
+    {
+        if !is_extension_subtag(text.as_bytes()) {
+            return Err(InvalidExtensionSubtag(text));
+        }
+        Ok(ExtensionSubtagBuf {
+            text: Caseless(text),
+        })
+    }
+
+    /// The subtag, lent.
+    pub fn as_extension_subtag(&self) -> ExtensionSubtag<'_>
+        ensures { extension_subtag_text result ≡ extension_subtag_buf_text self.now }
+    {
+        ExtensionSubtag::from_checked(self.as_str())
+    }
+
+    /// The text, with its case.
+    pub fn as_str(&self) -> &str
+        ensures same_text { result.now ≡ extension_subtag_buf_text self.now }
+        ensures in_class { IsTrue (class.is_extension_subtag result.now) }
+    {
+        self.text.0.as_str()
+    }
+
+    /// The text itself, which is not copied.
+    pub fn into_string(self) -> String
+        ensures same_text { string_bytes result ≡ extension_subtag_buf_text self }
+        ensures in_class { IsTrue (class.is_extension_subtag (string_bytes result)) }
+    {
+        self.text.0
+    }
+}
+
+impl fmt::Display for ExtensionSubtagBuf {
+    ghost use Rattle.langtag_extension.specs.Text.{extension_subtag_buf_text};
+
+    ghost output = { λ subtag. Some (extension_subtag_buf_text subtag) };
+
+    fn fmt<W: fmt::Write>(&self, f: &mut fmt::Formatter<W>) -> fmt::Result {
+        f.write_str(self.as_str())
+    }
+}

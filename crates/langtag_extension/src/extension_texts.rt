@@ -1,0 +1,67 @@
+//! The walk over a text from one extension to the next.
+ghost use Rattle.std.specs.Prelude.{◌≡◌, ◌++◌, ◌∷◌, List, ℕ, IsTrue, MatchOption, drop};
+ghost use Rattle.std.specs.Iterator.{YieldsFirstRef, item_count};
+ghost use Rattle.std.specs.List.{list_all};
+ghost use Rattle.langtag_scan.specs.Subtags.{segments, segments_left};
+ghost use Rattle.langtag_extension.specs.ExtensionTexts.{extension_texts, texts_left, goes_on, opens};
+
+use langtag_scan::segment_end;
+use std::marker::Model;
+
+/// The texts of the extensions that are still to come: a text is cut before each subtag of one byte.
+#[derive(Drop)]
+pub(crate) struct ExtensionTexts<'a> {
+    rest: Option<&'a str>,
+}
+
+impl<'a> Model for ExtensionTexts<'a> {
+    ghost Value = { List (List ℕ) };
+
+    ghost view = { λ texts. texts_left texts.rest };
+}
+
+impl<'a> ExtensionTexts<'a> {
+    /// What stands from one subtag of one byte up to the next. The empty text has none.
+    pub(crate) fn new(text: &'a str) -> Self
+        ensures { result ≡ extension_texts text.now }
+    {
+        if text.is_empty() {
+            return ExtensionTexts { rest: None };
+        }
+        ExtensionTexts { rest: Some(text) }
+    }
+}
+
+impl<'a> Iterator for ExtensionTexts<'a> {
+    type Item = &'a str;
+
+    ghost next_gives = { YieldsFirstRef (λ texts. texts) };
+
+    ghost remaining = { item_count (λ texts. texts) };
+
+    fn next(&mut self) -> Option<&'a str> {
+        let text = self.rest?;
+        let (first, rest) = split_extension(text);
+        self.rest = rest;
+        Some(first)
+    }
+}
+
+/// The text up to the first hyphen before a subtag of one byte, and what stands after that hyphen.
+/// The subtag that the text begins with is not looked at.
+fn split_extension<'a>(text: &'a str) -> (&'a str, Option<&'a str>)
+    ensures joined { MatchOption result.1 (text.now ≡ result.0.now) (λ rest. text.now ≡ result.0.now ++ 45 ∷ rest.now) }
+    ensures one { IsTrue (list_all goes_on (drop 1 (segments result.0.now))) }
+    ensures next { IsTrue (opens (segments_left result.1)) }
+{
+    let bytes = text.as_bytes();
+    let mut end = segment_end(bytes, 0);
+    while end < bytes.len() {
+        let next = segment_end(bytes, end + 1);
+        if next == end + 2 {
+            return (&text[..end], Some(&text[end + 1..]));
+        }
+        end = next;
+    }
+    (text, None)
+}

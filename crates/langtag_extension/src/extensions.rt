@@ -1,0 +1,214 @@
+//! The extensions of a tag (RFC 5646 section 2.2.6).
+ghost use Rattle.std.specs.Prelude.{◌≡◌, ◌↔◌, Some, List, [], IsTrue, IfOk, IfErr, is_ok, map};
+ghost use Rattle.std.specs.Option.{option_map, option_map_or};
+ghost use Rattle.std.specs.String.{string_bytes};
+ghost use Rattle.langtag_scan.specs.Case.{are_alike};
+ghost use Rattle.langtag_scan.specs.Record as model;
+ghost use Rattle.langtag_extension.specs.Spelling.{SpellsExtensions, IsExtensionsText, extension_spelling, find_extension};
+ghost use Rattle.langtag_extension.specs.ExtensionTexts.{is_extensions_text};
+
+use crate::extension::{Extension, is_extension};
+use crate::extension_iter::ExtensionIter;
+use crate::extension_texts::ExtensionTexts;
+use crate::extensions_iter::ExtensionsIter;
+use crate::singleton::Singleton;
+use langtag_scan::Caseless;
+use std::alloc::{AllocError, Global};
+use std::fmt;
+use std::fmt::Debug;
+use thiserror::Error;
+
+/// A text that is not extensions. It hands the text back.
+#[derive(Debug, Drop, Error)]
+#[error("invalid extensions")]
+#[error_bound(T: Debug + Drop)]
+pub struct InvalidExtensions<T>(pub T);
+
+/// The extensions of a tag (RFC 5646 section 2.2.6), joined by hyphens, as `a-ext1-ext2-u-co-phonebk`, or none at
+/// all, which is the empty text.
+///
+/// A singleton may come twice: such a tag is well formed, though it is not valid (section 2.2.9). Two lists are equal
+/// where their texts differ at most in the case of ASCII letters.
+#[derive(Clone, Copy, Debug, PartialEq, Eq, PartialOrd, Ord, Hash)]
+pub struct Extensions<'a> {
+    text: Caseless<&'a str>,
+    ghost in_class: { IsTrue (is_extensions_text text.0.now) },
+}
+
+impl<'a> Extensions<'a> {
+    ghost use Rattle.langtag_extension.specs.Text.{singleton_byte, extension_text, extension_subtags_left, extensions_text, extensions_buf_text, extensions_left};
+
+    /// No extensions: the empty text.
+    pub const EMPTY: Extensions<'static> = Extensions { text: Caseless("") };
+
+    /// The extensions of a text.
+    ///
+    /// # Errors
+    ///
+    /// A text that is not extensions joined by hyphens comes back.
+    pub fn new(text: &'a str) -> Result<Extensions<'a>, InvalidExtensions<&'a str>>
+        ensures accepts { IsTrue (is_ok result) ↔ IsExtensionsText text.now }
+        ensures same_text { IfOk result (λ extensions. extensions_text extensions ≡ text.now) }
+        ensures given_back { IfErr result (λ error. error.0 ≡ text.entry) }
+    {
+        if !are_extensions(text) {
+            return Err(InvalidExtensions(text));
+        }
+        Ok(Extensions::from_checked(text))
+    }
+
+    /// The extensions of a text that is known to be some: it is not looked at again.
+    pub fn from_checked(text: &'a str) -> Extensions<'a>
+        requires { IsTrue (is_extensions_text text.now) }
+        ensures { extensions_text result ≡ text.now }
+    {
+        Extensions {
+            text: Caseless(text),
+        }
+    }
+
+    /// The text, with its case.
+    #[tactic(auto, using(crate::proofs::SpellingLemmas::extensions_passed))]
+    pub fn as_str(&self) -> &'a str
+        ensures same_text { result.now ≡ extensions_text self.now }
+        ensures in_class { IsExtensionsText result.now }
+    {
+        self.text.0
+    }
+
+    /// The bytes of the text.
+    pub fn as_bytes(&self) -> &'a [u8]
+        ensures { result.now ≡ extensions_text self.now }
+    {
+        self.as_str().as_bytes()
+    }
+
+    /// Whether another text, of any form, is equal but for the case of ASCII letters.
+    pub fn eq_str(&self, other: &str) -> bool
+        ensures { result ≡ are_alike (extensions_text self.now) other.now }
+    {
+        self.text == Caseless(other)
+    }
+
+    /// The extensions in order, those of a repeated singleton too.
+    #[tactic(auto, using(crate::proofs::SpellingLemmas::extension_texts_spelled))]
+    pub fn iter(&self) -> ExtensionsIter<'a>
+        ensures list { (es : List model.Extension) → SpellsExtensions es (extensions_text self.now) → extensions_left result ≡ map extension_spelling es }
+    {
+        ExtensionsIter::from_checked(ExtensionTexts::new(self.text.0))
+    }
+
+    /// The first extension of the singleton, without regard to case: `A` finds `a-bb` in `a-bb-A-cc`.
+    pub fn get(&self, singleton: Singleton) -> Option<Extension<'a>>
+        ensures first_match { (es : List model.Extension) → SpellsExtensions es (extensions_text self.now) → option_map extension_text result ≡ option_map extension_spelling (find_extension (singleton_byte singleton) es) }
+    {
+        self.iter()
+            .find(|extension| extension.has_singleton(singleton))
+    }
+
+    /// The subtags of the extension that `get` answers, and none where it answers none.
+    #[tactic(auto, using(crate::proofs::SpellingLemmas::subtags_not_found))]
+    pub fn iter_extension(&self, singleton: Singleton) -> ExtensionIter<'a>
+        ensures list { (es : List model.Extension) → SpellsExtensions es (extensions_text self.now) → extension_subtags_left result ≡ option_map_or (λ e. e.subtags) (find_extension (singleton_byte singleton) es) [] }
+    {
+        let Some(extension) = self.get(singleton) else {
+            return ExtensionIter::empty();
+        };
+        extension.iter()
+    }
+
+    /// The owned form of the same text.
+    ///
+    /// # Errors
+    ///
+    /// No memory could be had.
+    pub fn try_to_owned(&self, alloc: Global) -> Result<ExtensionsBuf, AllocError>
+        ensures { IfOk result (λ owned. extensions_buf_text owned ≡ extensions_text self.now) }
+    {
+        let text = String::from_str(alloc, self.text.0)?;
+        Ok(ExtensionsBuf {
+            text: Caseless(text),
+        })
+    }
+}
+
+impl fmt::Display for Extensions<'_> {
+    ghost use Rattle.langtag_extension.specs.Text.{extensions_text};
+
+    ghost output = { λ extensions. Some (extensions_text extensions) };
+
+    fn fmt<W: fmt::Write>(&self, f: &mut fmt::Formatter<W>) -> fmt::Result {
+        f.write_str(self.as_str())
+    }
+}
+
+/// The extensions of a tag, or none, that own their text.
+#[derive(Debug, Drop, PartialEq, Eq, PartialOrd, Ord, Hash)]
+pub struct ExtensionsBuf {
+    text: Caseless<String>,
+    ghost in_class: { IsTrue (is_extensions_text (string_bytes text.0)) },
+}
+
+impl ExtensionsBuf {
+    ghost use Rattle.langtag_extension.specs.Text.{extensions_text, extensions_buf_text};
+
+    /// The extensions of a text, which is neither copied nor moved in memory.
+    ///
+    /// # Errors
+    ///
+    /// A text that is not extensions joined by hyphens comes back, the same `String`.
+    pub fn new(text: String) -> Result<ExtensionsBuf, InvalidExtensions<String>>
+        ensures accepts { IsTrue (is_ok result) ↔ IsExtensionsText (string_bytes text) }
+        ensures same_text { IfOk result (λ extensions. extensions_buf_text extensions ≡ string_bytes text) }
+        ensures given_back { IfErr result (λ error. error.0 ≡ text) }
+    {
+        if !are_extensions(text.as_str()) {
+            return Err(InvalidExtensions(text));
+        }
+        Ok(ExtensionsBuf {
+            text: Caseless(text),
+        })
+    }
+
+    /// The extensions, lent.
+    pub fn as_extensions(&self) -> Extensions<'_>
+        ensures { extensions_text result ≡ extensions_buf_text self.now }
+    {
+        Extensions::from_checked(self.text.0.as_str())
+    }
+
+    /// The text, with its case.
+    #[tactic(auto, using(crate::proofs::SpellingLemmas::extensions_passed))]
+    pub fn as_str(&self) -> &str
+        ensures same_text { result.now ≡ extensions_buf_text self.now }
+        ensures in_class { IsExtensionsText result.now }
+    {
+        self.text.0.as_str()
+    }
+
+    /// The text itself, which is not copied.
+    #[tactic(auto, using(crate::proofs::SpellingLemmas::extensions_passed))]
+    pub fn into_string(self) -> String
+        ensures same_text { string_bytes result ≡ extensions_buf_text self }
+        ensures in_class { IsExtensionsText (string_bytes result) }
+    {
+        self.text.0
+    }
+}
+
+impl fmt::Display for ExtensionsBuf {
+    ghost use Rattle.langtag_extension.specs.Text.{extensions_buf_text};
+
+    ghost output = { λ extensions. Some (extensions_buf_text extensions) };
+
+    fn fmt<W: fmt::Write>(&self, f: &mut fmt::Formatter<W>) -> fmt::Result {
+        f.write_str(self.as_str())
+    }
+}
+
+/// Whether the text is extensions joined by hyphens, or nothing.
+fn are_extensions(text: &str) -> bool
+    ensures { result ≡ is_extensions_text text.now }
+{
+    ExtensionTexts::new(text).all(|text| is_extension(text))
+}

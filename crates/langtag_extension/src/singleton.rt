@@ -1,0 +1,123 @@
+//! The singleton, which opens an extension (RFC 5646 section 2.2.6).
+ghost use Rattle.std.specs.Prelude.{◌≡◌, ◌∷◌, [], Some, IsTrue, IfOk, IfErr, is_ok};
+ghost use Rattle.langtag_scan.specs.Class as class;
+ghost use Rattle.langtag_extension.specs.Spelling.{is_singleton_text};
+
+use langtag_scan::is_singleton;
+use std::convert::TryFrom;
+use std::fmt;
+use std::fmt::Debug;
+use thiserror::Error;
+
+/// A byte, character or text that is no singleton. It hands it back.
+#[derive(Debug, Drop, Error)]
+#[error("invalid extension identifier")]
+#[error_bound(T: Debug + Drop)]
+pub struct InvalidSingleton<T>(pub T);
+
+/// The letter or digit, other than `x` and `X`, that opens an extension (RFC 5646 section 2.2.6), as the `u` of
+/// `u-co-phonebk`.
+///
+/// It keeps its exact byte, and is compared, ordered and hashed by it: `u` and `U` open the same extension, but are
+/// different singletons here.
+#[derive(Clone, Copy, Debug, PartialEq, Eq, PartialOrd, Ord, Hash)]
+pub struct Singleton {
+    byte: u8,
+    ghost in_class: { IsTrue (class.is_singleton byte) },
+}
+
+impl Singleton {
+    ghost use Rattle.langtag_extension.specs.Text.{singleton_byte};
+
+    /// The singleton of a byte.
+    ///
+    /// # Errors
+    ///
+    /// A byte that is no ASCII letter or digit, or is `x` or `X`, comes back.
+    pub fn new(c: u8) -> Result<Self, InvalidSingleton<u8>>
+        ensures accepts { is_ok result ≡ class.is_singleton c }
+        ensures same_byte { IfOk result (λ singleton. singleton_byte singleton ≡ c) }
+        ensures given_back { IfErr result (λ error. error.0 ≡ c) }
+    {
+        if !is_singleton(c) {
+            return Err(InvalidSingleton(c));
+        }
+        Ok(Singleton { byte: c })
+    }
+
+    /// The singleton of a text of one byte.
+    ///
+    /// # Errors
+    ///
+    /// A text that is not one byte, or whose byte is no singleton, comes back.
+    pub fn from_string(str: &str) -> Result<Self, InvalidSingleton<&str>>
+        ensures accepts { is_ok result ≡ is_singleton_text str.now }
+        ensures same_byte { IfOk result (λ singleton. str.now ≡ singleton_byte singleton ∷ []) }
+        ensures given_back { IfErr result (λ error. error.0 ≡ str.entry) }
+    {
+        if let [c] = str.as_bytes()
+            && let Ok(singleton) = Singleton::new(*c)
+        {
+            return Ok(singleton);
+        }
+        Err(InvalidSingleton(str))
+    }
+
+    /// The singleton of a byte that is known to be one.
+    pub(crate) fn from_checked(byte: u8) -> Self
+        requires { IsTrue (class.is_singleton byte) }
+        ensures { singleton_byte result ≡ byte }
+    {
+        Singleton { byte }
+    }
+
+    /// The byte, with its case.
+    pub fn unwrap(self) -> u8
+        ensures same_byte { result ≡ singleton_byte self }
+        ensures in_class { IsTrue (class.is_singleton result) }
+    {
+        self.byte
+    }
+}
+
+impl TryFrom<u8> for Singleton {
+    ghost use Rattle.langtag_extension.specs.Conversion.{ConvertsToSingleton};
+
+    type Error = InvalidSingleton<u8>;
+
+    ghost try_from_gives = { ConvertsToSingleton };
+
+    fn try_from(c: u8) -> Result<Self, InvalidSingleton<u8>> {
+        Singleton::new(c)
+    }
+}
+
+impl TryFrom<char> for Singleton {
+    ghost use Rattle.langtag_extension.specs.Conversion.{ConvertsToSingleton};
+
+    type Error = InvalidSingleton<char>;
+
+    ghost try_from_gives = { ConvertsToSingleton };
+
+    #[tactic(auto, using(crate::proofs::SingletonLemmas::singleton_is_ascii))]
+    fn try_from(c: char) -> Result<Self, InvalidSingleton<char>> {
+        if !c.is_ascii() {
+            return Err(InvalidSingleton(c));
+        }
+        match Singleton::new(c as u8) {
+            Ok(singleton) => Ok(singleton),
+            Err(_) => Err(InvalidSingleton(c)),
+        }
+    }
+}
+
+impl fmt::Display for Singleton {
+    ghost use Rattle.langtag_extension.specs.Text.{singleton_byte};
+
+    ghost output = { λ singleton. Some (singleton_byte singleton ∷ []) };
+
+    #[tactic(auto, using(crate::proofs::SingletonLemmas::encode_singleton))]
+    fn fmt<W: fmt::Write>(&self, f: &mut fmt::Formatter<W>) -> fmt::Result {
+        f.write_char(self.byte as char)
+    }
+}

@@ -1,0 +1,6 @@
+mod extension;
+mod extension_iter;
+mod extension_subtag;
+mod extensions;
+mod extensions_iter;
+mod singleton;

@@ -1,0 +1,35 @@
+//! The walk over the extensions of a tag.
+use crate::Extensions;
+use std::test::Fail;
+
+#[test]
+fn the_extensions_come_in_order(rt: HostRuntime) -> Result<(), Fail> {
+    let extensions = Extensions::new("a-ext1-ext2-b-ext3-ext4-c-ext5-ext6")
+        .ok()
+        .ok_or("refused")?;
+    let mut items = extensions.iter();
+    for text in ["a-ext1-ext2", "b-ext3-ext4", "c-ext5-ext6"] {
+        assert_eq!(rt; items.next().ok_or("none")?.as_str(), text);
+    }
+    assert!(rt; items.next().is_none());
+    assert!(rt; items.next().is_none());
+
+    let extensions = Extensions::new("i-XE-E-JjWTEB8-f-DLSH-NVzLH-AtnFGWoH-SIDE")
+        .ok()
+        .ok_or("refused")?;
+    let mut items = extensions.iter();
+    for text in ["i-XE", "E-JjWTEB8", "f-DLSH-NVzLH-AtnFGWoH-SIDE"] {
+        assert_eq!(rt; items.next().ok_or("none")?.as_str(), text);
+    }
+    assert!(rt; items.next().is_none());
+    Ok(())
+}
+
+#[test]
+fn the_empty_text_has_no_extensions(rt: HostRuntime) -> Result<(), Fail> {
+    let read = Extensions::new("").ok().ok_or("refused")?;
+    assert!(rt; read == Extensions::EMPTY);
+    assert!(rt; read.iter().next().is_none());
+    assert!(rt; Extensions::EMPTY.iter().next().is_none());
+    Ok(())
+}

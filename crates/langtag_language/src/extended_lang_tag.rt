@@ -1,0 +1,160 @@
+//! The extended language subtag (RFC 5646 section 2.2.2).
+ghost use Rattle.std.specs.Prelude.{◌≡◌, Some, IsTrue, IfOk, IfErr, is_ok};
+ghost use Rattle.std.specs.String.{string_bytes};
+ghost use Rattle.langtag_scan.specs.Case.{are_alike};
+ghost use Rattle.langtag_scan.specs.Class as class;
+
+use langtag_scan::{Caseless, is_extended};
+use std::alloc::{AllocError, Global};
+use std::fmt;
+use std::fmt::Debug;
+use thiserror::Error;
+
+/// A text that is no extended language subtag. It hands the text back.
+#[derive(Debug, Drop, Error)]
+#[error("invalid extended language subtag")]
+#[error_bound(T: Debug + Drop)]
+pub struct InvalidExtendedLangTag<T>(pub T);
+
+/// An extended language subtag (RFC 5646 section 2.2.2): three letters, as `yue` in `zh-yue`.
+///
+/// Two of them are equal where their texts differ at most in the case of ASCII letters.
+#[derive(Clone, Copy, Debug, PartialEq, Eq, PartialOrd, Ord, Hash)]
+pub struct ExtendedLangTag<'a> {
+    text: Caseless<&'a str>,
+    ghost in_class: { IsTrue (class.is_extended text.0.now) },
+}
+
+impl<'a> ExtendedLangTag<'a> {
+    ghost use Rattle.langtag_language.specs.Text.{extended_lang_tag_text, extended_lang_tag_buf_text};
+
+    /// The extended language subtag of a text.
+    ///
+    /// # Errors
+    ///
+    /// A text that is not three letters comes back.
+    pub fn new(text: &'a str) -> Result<ExtendedLangTag<'a>, InvalidExtendedLangTag<&'a str>>
+        ensures accepts { is_ok result ≡ class.is_extended text.now }
+        ensures same_text { IfOk result (λ extended. extended_lang_tag_text extended ≡ text.now) }
+        ensures given_back { IfErr result (λ error. error.0 ≡ text.entry) }
+    {
+        if !is_extended(text.as_bytes()) {
+            return Err(InvalidExtendedLangTag(text));
+        }
+        Ok(ExtendedLangTag::from_checked(text))
+    }
+
+    /// The subtag of a text that is known to be one: it is not looked at again.
+    pub fn from_checked(text: &'a str) -> ExtendedLangTag<'a>
+        requires { IsTrue (class.is_extended text.now) }
+        ensures { extended_lang_tag_text result ≡ text.now }
+    {
+        ExtendedLangTag {
+            text: Caseless(text),
+        }
+    }
+
+    /// The text, with its case.
+    pub fn as_str(&self) -> &'a str
+        ensures same_text { result.now ≡ extended_lang_tag_text self.now }
+        ensures in_class { IsTrue (class.is_extended result.now) }
+    {
+        self.text.0
+    }
+
+    /// The bytes of the text.
+    pub fn as_bytes(&self) -> &'a [u8]
+        ensures { result.now ≡ extended_lang_tag_text self.now }
+    {
+        self.as_str().as_bytes()
+    }
+
+    /// Whether another text, of any form, is equal but for the case of ASCII letters.
+    pub fn eq_str(&self, other: &str) -> bool
+        ensures { result ≡ are_alike (extended_lang_tag_text self.now) other.now }
+    {
+        self.text == Caseless(other)
+    }
+
+    /// The owned form of the same text.
+    ///
+    /// # Errors
+    ///
+    /// No memory could be had.
+    pub fn try_to_owned(&self, alloc: Global) -> Result<ExtendedLangTagBuf, AllocError>
+        ensures { IfOk result (λ owned. extended_lang_tag_buf_text owned ≡ extended_lang_tag_text self.now) }
+    {
+        let text = String::from_str(alloc, self.as_str())?;
+        Ok(ExtendedLangTagBuf {
+            text: Caseless(text),
+        })
+    }
+}
+
+impl fmt::Display for ExtendedLangTag<'_> {
+    ghost output = { λ extended. Some extended.text.0.now };
+
+    fn fmt<W: fmt::Write>(&self, f: &mut fmt::Formatter<W>) -> fmt::Result {
+        f.write_str(self.as_str())
+    }
+}
+
+/// An extended language subtag that owns its text.
+#[derive(Debug, Drop, PartialEq, Eq, PartialOrd, Ord, Hash)]
+pub struct ExtendedLangTagBuf {
+    text: Caseless<String>,
+    ghost in_class: { IsTrue (class.is_extended (string_bytes text.0)) },
+}
+
+impl ExtendedLangTagBuf {
+    ghost use Rattle.langtag_language.specs.Text.{extended_lang_tag_text, extended_lang_tag_buf_text};
+
+    /// The subtag of a text, which is neither copied nor moved in memory.
+    ///
+    /// # Errors
+    ///
+    /// A text that is not three letters comes back, the same `String`.
+    pub fn new(text: String) -> Result<ExtendedLangTagBuf, InvalidExtendedLangTag<String>>
+        ensures accepts { is_ok result ≡ class.is_extended (string_bytes text) }
+        ensures same_text { IfOk result (λ extended. extended_lang_tag_buf_text extended ≡ string_bytes text) }
+        ensures given_back { IfErr result (λ error. error.0 ≡ text) }
+    {
+        if !is_extended(text.as_bytes()) {
+            return Err(InvalidExtendedLangTag(text));
+        }
+        Ok(ExtendedLangTagBuf {
+            text: Caseless(text),
+        })
+    }
+
+    /// The subtag, lent.
+    pub fn as_extended_lang_tag(&self) -> ExtendedLangTag<'_>
+        ensures { extended_lang_tag_text result ≡ extended_lang_tag_buf_text self.now }
+    {
+        ExtendedLangTag::from_checked(self.as_str())
+    }
+
+    /// The text, with its case.
+    pub fn as_str(&self) -> &str
+        ensures same_text { result.now ≡ extended_lang_tag_buf_text self.now }
+        ensures in_class { IsTrue (class.is_extended result.now) }
+    {
+        self.text.0.as_str()
+    }
+
+    /// The text itself, which is not copied.
+    pub fn into_string(self) -> String
+        ensures same_text { string_bytes result ≡ extended_lang_tag_buf_text self }
+        ensures in_class { IsTrue (class.is_extended (string_bytes result)) }
+    {
+        self.text.0
+    }
+}
+
+impl fmt::Display for ExtendedLangTagBuf {
+    ghost output = { λ extended. Some (string_bytes extended.text.0) };
+
+    fn fmt<W: fmt::Write>(&self, f: &mut fmt::Formatter<W>) -> fmt::Result {
+        f.write_str(self.as_str())
+    }
+}

@@ -1,0 +1,19 @@
+//! The subtags that may follow a primary language subtag (RFC 5646 section 2.2.2).
+ghost use Rattle.std.specs.Prelude.{◌≡◌};
+ghost use Rattle.langtag_language.specs.Language as rule;
+
+use langtag_scan::{Subtags, is_extended};
+
+/// Whether at most so many subtags are left, all of them extended.
+pub(crate) fn are_extended_within(places: usize, subtags: Subtags<'_>) -> bool
+    ensures { result ≡ rule.are_extended_within places subtags.entry }
+{
+    let mut free = places;
+    for subtag in subtags {
+        if free == 0 || !is_extended(subtag.as_bytes()) {
+            return false;
+        }
+        free -= 1;
+    }
+    true
+}

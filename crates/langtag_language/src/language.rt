@@ -1,0 +1,229 @@
+//! The language of a tag (RFC 5646 sections 2.2.1 and 2.2.2).
+ghost use Rattle.std.specs.Prelude.{◌≡◌, ◌↔◌, ◌∷◌, [], Some, IsTrue, is_ok, drop, slice_get};
+ghost use Rattle.std.specs.Prelude.{IsNone, IfSome, IfOk, IfErr};
+ghost use Rattle.std.specs.String.{string_bytes};
+ghost use Rattle.langtag_scan.specs.Case.{are_alike};
+ghost use Rattle.langtag_scan.specs.Subtags.{subtags};
+ghost use Rattle.langtag_language.specs.Language as rule;
+ghost use Rattle.langtag_language.specs.Language.{IsLanguage, EachSpelling, SpellsLanguageExtension};
+
+use crate::extended_subtags::are_extended_within;
+use crate::language_extension::LanguageExtension;
+use crate::language_extension_iter::LanguageExtensionIter;
+use crate::primary_language::PrimaryLanguage;
+use langtag_scan::{Caseless, Subtags, is_primary, segment_end};
+use std::alloc::{AllocError, Global};
+use std::fmt;
+use std::fmt::Debug;
+use thiserror::Error;
+
+/// A text that is no language. It hands the text back.
+#[derive(Debug, Drop, Error)]
+#[error("invalid language")]
+#[error_bound(T: Debug + Drop)]
+pub struct InvalidLanguage<T>(pub T);
+
+/// The language of a tag: a primary subtag (RFC 5646 section 2.2.1), as `fr`, behind which at most three extended
+/// subtags stand (section 2.2.2), as in `zh-min-nan`. They stand behind two or three letters alone.
+///
+/// Two languages are equal where their texts differ at most in the case of ASCII letters.
+#[derive(Clone, Copy, Debug, PartialEq, Eq, PartialOrd, Ord, Hash)]
+pub struct Language<'a> {
+    text: Caseless<&'a str>,
+    ghost in_class: { IsTrue (rule.is_language text.0.now) },
+}
+
+#[tactic(auto, using(crate::proofs::Rules::language_from_test))]
+impl<'a> Language<'a> {
+    ghost use Rattle.langtag_language.specs.Text.{language_text, language_buf_text, primary_language_text};
+    ghost use Rattle.langtag_language.specs.Text.{language_extension_text, extension_list, extended_left};
+
+    /// The language of a text.
+    ///
+    /// # Errors
+    ///
+    /// A text that is not a primary subtag, or one of two or three letters with one to three extended subtags behind
+    /// it, comes back.
+    pub fn new(text: &'a str) -> Result<Language<'a>, InvalidLanguage<&'a str>>
+        ensures accepts { IsTrue (is_ok result) ↔ (IsLanguage text.now) }
+        ensures same_text { IfOk result (λ language. language_text language ≡ text.now) }
+        ensures given_back { IfErr result (λ error. error.0 ≡ text.entry) }
+    {
+        if !is_language(text) {
+            return Err(InvalidLanguage(text));
+        }
+        Ok(Language::from_checked(text))
+    }
+
+    /// The language of a text that is known to be one: it is not looked at again.
+    pub fn from_checked(text: &'a str) -> Language<'a>
+        requires { IsTrue (rule.is_language text.now) }
+        ensures { language_text result ≡ text.now }
+    {
+        Language {
+            text: Caseless(text),
+        }
+    }
+
+    /// The text, with its case.
+    pub fn as_str(&self) -> &'a str
+        ensures same_text { result.now ≡ language_text self.now }
+        ensures in_class { IsLanguage result.now }
+    {
+        self.text.0
+    }
+
+    /// The bytes of the text.
+    pub fn as_bytes(&self) -> &'a [u8]
+        ensures { result.now ≡ language_text self.now }
+    {
+        self.as_str().as_bytes()
+    }
+
+    /// Whether another text, of any form, is equal but for the case of ASCII letters.
+    pub fn eq_str(&self, other: &str) -> bool
+        ensures { result ≡ are_alike (language_text self.now) other.now }
+    {
+        self.text == Caseless(other)
+    }
+
+    /// The primary subtag, `fr` of `fr-abc`.
+    pub fn primary(&self) -> PrimaryLanguage<'a>
+        ensures list { slice_get (subtags (language_text self.now)) 0 ≡ Some (primary_language_text result) }
+        ensures member { EachSpelling (language_text self.now) (λ primary extended. primary_language_text result ≡ primary) }
+    {
+        self.split().0
+    }
+
+    /// The extended subtags as one text, `abc-def` of `fr-abc-def`.
+    pub fn extension(&self) -> Option<LanguageExtension<'a>>
+        ensures absent { EachSpelling (language_text self.now) (λ primary extended. IsNone result ↔ (extended ≡ [])) }
+        ensures members { EachSpelling (language_text self.now) (λ primary extended.
+            IfSome result (λ extension. SpellsLanguageExtension extended (language_extension_text extension))) }
+    {
+        self.split().1
+    }
+
+    /// The extended subtags one by one; none where there is no extension.
+    pub fn extension_subtags(&self) -> LanguageExtensionIter<'a>
+        ensures list { extended_left result ≡ drop 1 (subtags (language_text self.now)) }
+        ensures members { EachSpelling (language_text self.now) (λ primary extended. extended_left result ≡ extended) }
+    {
+        let (_, extension) = self.split();
+        match extension {
+            Some(extension) => extension.iter(),
+            None => LanguageExtensionIter::empty(),
+        }
+    }
+
+    /// The primary subtag, and the extension where there is one.
+    fn split(&self) -> (PrimaryLanguage<'a>, Option<LanguageExtension<'a>>)
+        ensures { subtags (language_text self.now) ≡ primary_language_text result.0 ∷ extension_list result.1 }
+    {
+        let text = self.as_str();
+        let end = segment_end(text.as_bytes(), 0);
+        if end == text.len() {
+            return (PrimaryLanguage::from_checked(text), None);
+        }
+        let primary = PrimaryLanguage::from_checked(&text[..end]);
+        let extension = LanguageExtension::from_checked(&text[end + 1..]);
+        (primary, Some(extension))
+    }
+
+    /// The owned form of the same text.
+    ///
+    /// # Errors
+    ///
+    /// No memory could be had.
+    pub fn try_to_owned(&self, alloc: Global) -> Result<LanguageBuf, AllocError>
+        ensures { IfOk result (λ owned. language_buf_text owned ≡ language_text self.now) }
+    {
+        let text = String::from_str(alloc, self.as_str())?;
+        Ok(LanguageBuf {
+            text: Caseless(text),
+        })
+    }
+}
+
+/// Whether the text is a primary subtag and, behind two or three letters, at most three extended ones.
+fn is_language(text: &str) -> bool
+    ensures test { result ≡ rule.is_language text.now }
+    ensures spelled { IsTrue result ↔ (IsLanguage text.now) }
+{
+    let mut subtags = Subtags::new(text);
+    let Some(primary) = subtags.next() else {
+        return false;
+    };
+    let places = if primary.len() <= 3 { 3 } else { 0 };
+    is_primary(primary.as_bytes()) && are_extended_within(places, subtags)
+}
+
+impl fmt::Display for Language<'_> {
+    ghost output = { λ language. Some language.text.0.now };
+
+    fn fmt<W: fmt::Write>(&self, f: &mut fmt::Formatter<W>) -> fmt::Result {
+        f.write_str(self.as_str())
+    }
+}
+
+/// A language that owns its text.
+#[derive(Debug, Drop, PartialEq, Eq, PartialOrd, Ord, Hash)]
+pub struct LanguageBuf {
+    text: Caseless<String>,
+    ghost in_class: { IsTrue (rule.is_language (string_bytes text.0)) },
+}
+
+#[tactic(auto, using(crate::proofs::Rules::language_from_test))]
+impl LanguageBuf {
+    ghost use Rattle.langtag_language.specs.Text.{language_text, language_buf_text};
+
+    /// The language of a text, which is neither copied nor moved in memory.
+    ///
+    /// # Errors
+    ///
+    /// A text that is not a primary subtag, or one of two or three letters with one to three extended subtags behind
+    /// it, comes back, the same `String`.
+    pub fn new(text: String) -> Result<LanguageBuf, InvalidLanguage<String>>
+        ensures accepts { IsTrue (is_ok result) ↔ (IsLanguage (string_bytes text)) }
+        ensures same_text { IfOk result (λ language. language_buf_text language ≡ string_bytes text) }
+        ensures given_back { IfErr result (λ error. error.0 ≡ text) }
+    {
+        if !is_language(text.as_str()) {
+            return Err(InvalidLanguage(text));
+        }
+        Ok(LanguageBuf {
+            text: Caseless(text),
+        })
+    }
+
+    /// The language, lent.
+    pub fn as_language(&self) -> Language<'_>
+        ensures { language_text result ≡ language_buf_text self.now }
+    {
+        Language::from_checked(self.text.0.as_str())
+    }
+
+    /// The text, with its case.
+    pub fn as_str(&self) -> &str
+        ensures same_text { result.now ≡ language_buf_text self.now }
+        ensures in_class { IsLanguage result.now }
+    {
+        self.text.0.as_str()
+    }
+
+    /// The text itself, which is not copied.
+    pub fn into_string(self) -> String
+        ensures same_text { string_bytes result ≡ language_buf_text self }
+        ensures in_class { IsLanguage (string_bytes result) }
+    {
+        self.text.0
+    }
+}
+
+impl fmt::Display for LanguageBuf {
+    ghost output = { λ language. Some (string_bytes language.text.0) };
+
+    fn fmt<W: fmt::Write>(&self, f: &mut fmt::Formatter<W>) -> fmt::Result {
+        f.write_str(self.as_str())
+    }
+}

@@ -1,0 +1,183 @@
+//! The extended subtags of a language as one text (RFC 5646 section 2.2.2).
+ghost use Rattle.std.specs.Prelude.{◌≡◌, ◌↔◌, Some, IsTrue, IfOk, IfErr, is_ok};
+ghost use Rattle.std.specs.String.{string_bytes};
+ghost use Rattle.langtag_scan.specs.Case.{are_alike};
+ghost use Rattle.langtag_scan.specs.Subtags.{subtags};
+ghost use Rattle.langtag_language.specs.Language as rule;
+ghost use Rattle.langtag_language.specs.Language.{IsLanguageExtension, SpellsLanguageExtension};
+
+use crate::extended_subtags::are_extended_within;
+use crate::language_extension_iter::LanguageExtensionIter;
+use langtag_scan::{Caseless, Subtags};
+use std::alloc::{AllocError, Global};
+use std::fmt;
+use std::fmt::Debug;
+use thiserror::Error;
+
+/// A text that is no language extension. It hands the text back.
+#[derive(Debug, Drop, Error)]
+#[error("invalid language extension")]
+#[error_bound(T: Debug + Drop)]
+pub struct InvalidLanguageExtension<T>(pub T);
+
+/// The extended subtags of a language (RFC 5646 section 2.2.2): one to three, joined by hyphens, as `min-nan`.
+///
+/// Two of them are equal where their texts differ at most in the case of ASCII letters.
+#[derive(Clone, Copy, Debug, PartialEq, Eq, PartialOrd, Ord, Hash)]
+pub struct LanguageExtension<'a> {
+    text: Caseless<&'a str>,
+    ghost in_class: { IsTrue (rule.is_language_extension text.0.now) },
+}
+
+#[tactic(auto, using(crate::proofs::Rules::extension_from_test, crate::proofs::Rules::subtags_spell_extension))]
+impl<'a> LanguageExtension<'a> {
+    ghost use Rattle.langtag_language.specs.Text.{language_extension_text, language_extension_buf_text, extended_left};
+
+    /// The language extension of a text.
+    ///
+    /// # Errors
+    ///
+    /// A text that is not one to three extended subtags with one hyphen between neighbours comes back.
+    pub fn new(text: &'a str) -> Result<LanguageExtension<'a>, InvalidLanguageExtension<&'a str>>
+        ensures accepts { IsTrue (is_ok result) ↔ (IsLanguageExtension text.now) }
+        ensures same_text { IfOk result (λ extension. language_extension_text extension ≡ text.now) }
+        ensures given_back { IfErr result (λ error. error.0 ≡ text.entry) }
+    {
+        if !is_language_extension(text) {
+            return Err(InvalidLanguageExtension(text));
+        }
+        Ok(LanguageExtension::from_checked(text))
+    }
+
+    /// The language extension of a text that is known to be one: it is not looked at again.
+    pub fn from_checked(text: &'a str) -> LanguageExtension<'a>
+        requires { IsTrue (rule.is_language_extension text.now) }
+        ensures { language_extension_text result ≡ text.now }
+    {
+        LanguageExtension {
+            text: Caseless(text),
+        }
+    }
+
+    /// The text, with its case.
+    pub fn as_str(&self) -> &'a str
+        ensures same_text { result.now ≡ language_extension_text self.now }
+        ensures in_class { IsLanguageExtension result.now }
+    {
+        self.text.0
+    }
+
+    /// The bytes of the text.
+    pub fn as_bytes(&self) -> &'a [u8]
+        ensures { result.now ≡ language_extension_text self.now }
+    {
+        self.as_str().as_bytes()
+    }
+
+    /// Whether another text, of any form, is equal but for the case of ASCII letters.
+    pub fn eq_str(&self, other: &str) -> bool
+        ensures { result ≡ are_alike (language_extension_text self.now) other.now }
+    {
+        self.text == Caseless(other)
+    }
+
+    /// The extended subtags one by one.
+    pub fn iter(&self) -> LanguageExtensionIter<'a>
+        ensures list { extended_left result ≡ subtags (language_extension_text self.now) }
+        ensures spells { SpellsLanguageExtension (extended_left result) (language_extension_text self.now) }
+    {
+        LanguageExtensionIter::new(self.as_str())
+    }
+
+    /// The owned form of the same text.
+    ///
+    /// # Errors
+    ///
+    /// No memory could be had.
+    pub fn try_to_owned(&self, alloc: Global) -> Result<LanguageExtensionBuf, AllocError>
+        ensures { IfOk result (λ owned. language_extension_buf_text owned ≡ language_extension_text self.now) }
+    {
+        let text = String::from_str(alloc, self.as_str())?;
+        Ok(LanguageExtensionBuf {
+            text: Caseless(text),
+        })
+    }
+}
+
+/// Whether the text is one to three extended subtags, joined by hyphens.
+fn is_language_extension(text: &str) -> bool
+    ensures test { result ≡ rule.is_language_extension text.now }
+    ensures spelled { IsTrue result ↔ (IsLanguageExtension text.now) }
+{
+    !text.is_empty() && are_extended_within(3, Subtags::new(text))
+}
+
+impl fmt::Display for LanguageExtension<'_> {
+    ghost output = { λ extension. Some extension.text.0.now };
+
+    fn fmt<W: fmt::Write>(&self, f: &mut fmt::Formatter<W>) -> fmt::Result {
+        f.write_str(self.as_str())
+    }
+}
+
+/// A language extension that owns its text.
+#[derive(Debug, Drop, PartialEq, Eq, PartialOrd, Ord, Hash)]
+pub struct LanguageExtensionBuf {
+    text: Caseless<String>,
+    ghost in_class: { IsTrue (rule.is_language_extension (string_bytes text.0)) },
+}
+
+#[tactic(auto, using(crate::proofs::Rules::extension_from_test))]
+impl LanguageExtensionBuf {
+    ghost use Rattle.langtag_language.specs.Text.{language_extension_text, language_extension_buf_text};
+
+    /// The language extension of a text, which is neither copied nor moved in memory.
+    ///
+    /// # Errors
+    ///
+    /// A text that is not one to three extended subtags with one hyphen between neighbours comes back, the same
+    /// `String`.
+    pub fn new(text: String) -> Result<LanguageExtensionBuf, InvalidLanguageExtension<String>>
+        ensures accepts { IsTrue (is_ok result) ↔ (IsLanguageExtension (string_bytes text)) }
+        ensures same_text { IfOk result (λ extension. language_extension_buf_text extension ≡ string_bytes text) }
+        ensures given_back { IfErr result (λ error. error.0 ≡ text) }
+    {
+        if !is_language_extension(text.as_str()) {
+            return Err(InvalidLanguageExtension(text));
+        }
+        Ok(LanguageExtensionBuf {
+            text: Caseless(text),
+        })
+    }
+
+    /// The language extension, lent.
+    pub fn as_language_extension(&self) -> LanguageExtension<'_>
+        ensures { language_extension_text result ≡ language_extension_buf_text self.now }
+    {
+        LanguageExtension::from_checked(self.text.0.as_str())
+    }
+
+    /// The text, with its case.
+    pub fn as_str(&self) -> &str
+        ensures same_text { result.now ≡ language_extension_buf_text self.now }
+        ensures in_class { IsLanguageExtension result.now }
+    {
+        self.text.0.as_str()
+    }
+
+    /// The text itself, which is not copied.
+    pub fn into_string(self) -> String
+        ensures same_text { string_bytes result ≡ language_extension_buf_text self }
+        ensures in_class { IsLanguageExtension (string_bytes result) }
+    {
+        self.text.0
+    }
+}
+
+impl fmt::Display for LanguageExtensionBuf {
+    ghost output = { λ extension. Some (string_bytes extension.text.0) };
+
+    fn fmt<W: fmt::Write>(&self, f: &mut fmt::Formatter<W>) -> fmt::Result {
+        f.write_str(self.as_str())
+    }
+}

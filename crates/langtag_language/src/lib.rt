@@ -1,0 +1,21 @@
+//! The language of a tag: its primary subtag and its extended subtags (RFC 5646 sections 2.2.1 and 2.2.2).
+//!
+//! Of `zh-min-nan` the [`PrimaryLanguage`] is `zh`, the [`LanguageExtension`] is `min-nan`, whose subtags are the
+//! [`ExtendedLangTag`]s `min` and `nan`, and the whole is a [`Language`]. Each type has an owned form, as
+//! [`LanguageBuf`].
+#![tactic(auto)]
+
+mod extended_lang_tag;
+mod extended_subtags;
+mod language;
+mod language_extension;
+mod language_extension_iter;
+mod primary_language;
+#[cfg(test)]
+mod tests;
+
+pub use extended_lang_tag::{ExtendedLangTag, ExtendedLangTagBuf, InvalidExtendedLangTag};
+pub use language::{InvalidLanguage, Language, LanguageBuf};
+pub use language_extension::{InvalidLanguageExtension, LanguageExtension, LanguageExtensionBuf};
+pub use language_extension_iter::LanguageExtensionIter;
+pub use primary_language::{InvalidPrimaryLanguage, PrimaryLanguage, PrimaryLanguageBuf};

@@ -1,0 +1,160 @@
+//! The primary language subtag (RFC 5646 section 2.2.1).
+ghost use Rattle.std.specs.Prelude.{◌≡◌, Some, IsTrue, IfOk, IfErr, is_ok};
+ghost use Rattle.std.specs.String.{string_bytes};
+ghost use Rattle.langtag_scan.specs.Case.{are_alike};
+ghost use Rattle.langtag_scan.specs.Class as class;
+
+use langtag_scan::{Caseless, is_primary};
+use std::alloc::{AllocError, Global};
+use std::fmt;
+use std::fmt::Debug;
+use thiserror::Error;
+
+/// A text that is no primary language subtag. It hands the text back.
+#[derive(Debug, Drop, Error)]
+#[error("invalid primary language")]
+#[error_bound(T: Debug + Drop)]
+pub struct InvalidPrimaryLanguage<T>(pub T);
+
+/// A primary language subtag (RFC 5646 section 2.2.1): two to eight letters, as `fr`.
+///
+/// Two of them are equal where their texts differ at most in the case of ASCII letters.
+#[derive(Clone, Copy, Debug, PartialEq, Eq, PartialOrd, Ord, Hash)]
+pub struct PrimaryLanguage<'a> {
+    text: Caseless<&'a str>,
+    ghost in_class: { IsTrue (class.is_primary text.0.now) },
+}
+
+impl<'a> PrimaryLanguage<'a> {
+    ghost use Rattle.langtag_language.specs.Text.{primary_language_text, primary_language_buf_text};
+
+    /// The primary language subtag of a text.
+    ///
+    /// # Errors
+    ///
+    /// A text that is not two to eight letters comes back.
+    pub fn new(text: &'a str) -> Result<PrimaryLanguage<'a>, InvalidPrimaryLanguage<&'a str>>
+        ensures accepts { is_ok result ≡ class.is_primary text.now }
+        ensures same_text { IfOk result (λ primary. primary_language_text primary ≡ text.now) }
+        ensures given_back { IfErr result (λ error. error.0 ≡ text.entry) }
+    {
+        if !is_primary(text.as_bytes()) {
+            return Err(InvalidPrimaryLanguage(text));
+        }
+        Ok(PrimaryLanguage::from_checked(text))
+    }
+
+    /// The subtag of a text that is known to be one: it is not looked at again.
+    pub fn from_checked(text: &'a str) -> PrimaryLanguage<'a>
+        requires { IsTrue (class.is_primary text.now) }
+        ensures { primary_language_text result ≡ text.now }
+    {
+        PrimaryLanguage {
+            text: Caseless(text),
+        }
+    }
+
+    /// The text, with its case.
+    pub fn as_str(&self) -> &'a str
+        ensures same_text { result.now ≡ primary_language_text self.now }
+        ensures in_class { IsTrue (class.is_primary result.now) }
+    {
+        self.text.0
+    }
+
+    /// The bytes of the text.
+    pub fn as_bytes(&self) -> &'a [u8]
+        ensures { result.now ≡ primary_language_text self.now }
+    {
+        self.as_str().as_bytes()
+    }
+
+    /// Whether another text, of any form, is equal but for the case of ASCII letters.
+    pub fn eq_str(&self, other: &str) -> bool
+        ensures { result ≡ are_alike (primary_language_text self.now) other.now }
+    {
+        self.text == Caseless(other)
+    }
+
+    /// The owned form of the same text.
+    ///
+    /// # Errors
+    ///
+    /// No memory could be had.
+    pub fn try_to_owned(&self, alloc: Global) -> Result<PrimaryLanguageBuf, AllocError>
+        ensures { IfOk result (λ owned. primary_language_buf_text owned ≡ primary_language_text self.now) }
+    {
+        let text = String::from_str(alloc, self.as_str())?;
+        Ok(PrimaryLanguageBuf {
+            text: Caseless(text),
+        })
+    }
+}
+
+impl fmt::Display for PrimaryLanguage<'_> {
+    ghost output = { λ primary. Some primary.text.0.now };
+
+    fn fmt<W: fmt::Write>(&self, f: &mut fmt::Formatter<W>) -> fmt::Result {
+        f.write_str(self.as_str())
+    }
+}
+
+/// A primary language subtag that owns its text.
+#[derive(Debug, Drop, PartialEq, Eq, PartialOrd, Ord, Hash)]
+pub struct PrimaryLanguageBuf {
+    text: Caseless<String>,
+    ghost in_class: { IsTrue (class.is_primary (string_bytes text.0)) },
+}
+
+impl PrimaryLanguageBuf {
+    ghost use Rattle.langtag_language.specs.Text.{primary_language_text, primary_language_buf_text};
+
+    /// The subtag of a text, which is neither copied nor moved in memory.
+    ///
+    /// # Errors
+    ///
+    /// A text that is not two to eight letters comes back, the same `String`.
+    pub fn new(text: String) -> Result<PrimaryLanguageBuf, InvalidPrimaryLanguage<String>>
+        ensures accepts { is_ok result ≡ class.is_primary (string_bytes text) }
+        ensures same_text { IfOk result (λ primary. primary_language_buf_text primary ≡ string_bytes text) }
+        ensures given_back { IfErr result (λ error. error.0 ≡ text) }
+    {
+        if !is_primary(text.as_bytes()) {
+            return Err(InvalidPrimaryLanguage(text));
+        }
+        Ok(PrimaryLanguageBuf {
+            text: Caseless(text),
+        })
+    }
+
+    /// The subtag, lent.
+    pub fn as_primary_language(&self) -> PrimaryLanguage<'_>
+        ensures { primary_language_text result ≡ primary_language_buf_text self.now }
+    {
+        PrimaryLanguage::from_checked(self.as_str())
+    }
+
+    /// The text, with its case.
+    pub fn as_str(&self) -> &str
+        ensures same_text { result.now ≡ primary_language_buf_text self.now }
+        ensures in_class { IsTrue (class.is_primary result.now) }
+    {
+        self.text.0.as_str()
+    }
+
+    /// The text itself, which is not copied.
+    pub fn into_string(self) -> String
+        ensures same_text { string_bytes result ≡ primary_language_buf_text self }
+        ensures in_class { IsTrue (class.is_primary (string_bytes result)) }
+    {
+        self.text.0
+    }
+}
+
+impl fmt::Display for PrimaryLanguageBuf {
+    ghost output = { λ primary. Some (string_bytes primary.text.0) };
+
+    fn fmt<W: fmt::Write>(&self, f: &mut fmt::Formatter<W>) -> fmt::Result {
+        f.write_str(self.as_str())
+    }
+}

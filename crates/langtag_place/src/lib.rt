@@ -1,0 +1,16 @@
+//! What may stand behind the language of a tag: script, region and variants (RFC 5646 sections 2.2.3 to 2.2.5).
+#![tactic(auto)]
+
+mod region;
+mod script;
+#[cfg(test)]
+mod tests;
+mod variant;
+mod variants;
+mod variants_iter;
+
+pub use region::{InvalidRegion, Region, RegionBuf};
+pub use script::{InvalidScript, Script, ScriptBuf};
+pub use variant::{InvalidVariant, Variant, VariantBuf};
+pub use variants::{InvalidVariants, Variants, VariantsBuf};
+pub use variants_iter::VariantsIter;

@@ -1,0 +1,160 @@
+//! The region subtag (RFC 5646 section 2.2.4).
+ghost use Rattle.std.specs.Prelude.{◌≡◌, Some, IsTrue, IfOk, IfErr, is_ok};
+ghost use Rattle.std.specs.String.{string_bytes};
+ghost use Rattle.langtag_scan.specs.Case.{are_alike};
+ghost use Rattle.langtag_scan.specs.Class as class;
+
+use langtag_scan::{Caseless, is_region};
+use std::alloc::{AllocError, Global};
+use std::fmt;
+use std::fmt::Debug;
+use thiserror::Error;
+
+/// A text that is no region. It hands the text back.
+#[derive(Debug, Drop, Error)]
+#[error("invalid region")]
+#[error_bound(T: Debug + Drop)]
+pub struct InvalidRegion<T>(pub T);
+
+/// A region subtag (RFC 5646 section 2.2.4): two letters, as `FR`, or three digits, as `419`.
+///
+/// Two regions are equal where their texts differ at most in the case of ASCII letters.
+#[derive(Clone, Copy, Debug, PartialEq, Eq, PartialOrd, Ord, Hash)]
+pub struct Region<'a> {
+    text: Caseless<&'a str>,
+    ghost in_class: { IsTrue (class.is_region text.0.now) },
+}
+
+impl<'a> Region<'a> {
+    ghost use Rattle.langtag_place.specs.Text.{region_text, region_buf_text};
+
+    /// The region of a text.
+    ///
+    /// # Errors
+    ///
+    /// A text that is neither two letters nor three digits comes back.
+    pub fn new(text: &'a str) -> Result<Region<'a>, InvalidRegion<&'a str>>
+        ensures accepts { is_ok result ≡ class.is_region text.now }
+        ensures same_text { IfOk result (λ region. region_text region ≡ text.now) }
+        ensures given_back { IfErr result (λ error. error.0 ≡ text.entry) }
+    {
+        if !is_region(text.as_bytes()) {
+            return Err(InvalidRegion(text));
+        }
+        Ok(Region::from_checked(text))
+    }
+
+    /// The region of a text that is known to be one: it is not looked at again.
+    pub fn from_checked(text: &'a str) -> Region<'a>
+        requires { IsTrue (class.is_region text.now) }
+        ensures { region_text result ≡ text.now }
+    {
+        Region {
+            text: Caseless(text),
+        }
+    }
+
+    /// The text, with its case.
+    pub fn as_str(&self) -> &'a str
+        ensures same_text { result.now ≡ region_text self.now }
+        ensures in_class { IsTrue (class.is_region result.now) }
+    {
+        self.text.0
+    }
+
+    /// The bytes of the text.
+    pub fn as_bytes(&self) -> &'a [u8]
+        ensures { result.now ≡ region_text self.now }
+    {
+        self.as_str().as_bytes()
+    }
+
+    /// Whether another text, of any form, is equal but for the case of ASCII letters.
+    pub fn eq_str(&self, other: &str) -> bool
+        ensures { result ≡ are_alike (region_text self.now) other.now }
+    {
+        self.text == Caseless(other)
+    }
+
+    /// The owned form of the same text.
+    ///
+    /// # Errors
+    ///
+    /// No memory could be had.
+    pub fn try_to_owned(&self, alloc: Global) -> Result<RegionBuf, AllocError>
+        ensures { IfOk result (λ owned. region_buf_text owned ≡ region_text self.now) }
+    {
+        let text = String::from_str(alloc, self.as_str())?;
+        Ok(RegionBuf {
+            text: Caseless(text),
+        })
+    }
+}
+
+impl fmt::Display for Region<'_> {
+    ghost output = { λ region. Some region.text.0.now };
+
+    fn fmt<W: fmt::Write>(&self, f: &mut fmt::Formatter<W>) -> fmt::Result {
+        f.write_str(self.as_str())
+    }
+}
+
+/// A region subtag that owns its text.
+#[derive(Debug, Drop, PartialEq, Eq, PartialOrd, Ord, Hash)]
+pub struct RegionBuf {
+    text: Caseless<String>,
+    ghost in_class: { IsTrue (class.is_region (string_bytes text.0)) },
+}
+
+impl RegionBuf {
+    ghost use Rattle.langtag_place.specs.Text.{region_text, region_buf_text};
+
+    /// The region of a text, which is neither copied nor moved in memory.
+    ///
+    /// # Errors
+    ///
+    /// A text that is neither two letters nor three digits comes back, the same `String`.
+    pub fn new(text: String) -> Result<RegionBuf, InvalidRegion<String>>
+        ensures accepts { is_ok result ≡ class.is_region (string_bytes text) }
+        ensures same_text { IfOk result (λ region. region_buf_text region ≡ string_bytes text) }
+        ensures given_back { IfErr result (λ error. error.0 ≡ text) }
+    {
+        if !is_region(text.as_bytes()) {
+            return Err(InvalidRegion(text));
+        }
+        Ok(RegionBuf {
+            text: Caseless(text),
+        })
+    }
+
+    /// The region, lent.
+    pub fn as_region(&self) -> Region<'_>
+        ensures { region_text result ≡ region_buf_text self.now }
+    {
+        Region::from_checked(self.as_str())
+    }
+
+    /// The text, with its case.
+    pub fn as_str(&self) -> &str
+        ensures same_text { result.now ≡ region_buf_text self.now }
+        ensures in_class { IsTrue (class.is_region result.now) }
+    {
+        self.text.0.as_str()
+    }
+
+    /// The text itself, which is not copied.
+    pub fn into_string(self) -> String
+        ensures same_text { string_bytes result ≡ region_buf_text self }
+        ensures in_class { IsTrue (class.is_region (string_bytes result)) }
+    {
+        self.text.0
+    }
+}
+
+impl fmt::Display for RegionBuf {
+    ghost output = { λ region. Some (string_bytes region.text.0) };
+
+    fn fmt<W: fmt::Write>(&self, f: &mut fmt::Formatter<W>) -> fmt::Result {
+        f.write_str(self.as_str())
+    }
+}

@@ -1,0 +1,160 @@
+//! The script subtag (RFC 5646 section 2.2.3).
+ghost use Rattle.std.specs.Prelude.{◌≡◌, Some, IsTrue, IfOk, IfErr, is_ok};
+ghost use Rattle.std.specs.String.{string_bytes};
+ghost use Rattle.langtag_scan.specs.Case.{are_alike};
+ghost use Rattle.langtag_scan.specs.Class as class;
+
+use langtag_scan::{Caseless, is_script};
+use std::alloc::{AllocError, Global};
+use std::fmt;
+use std::fmt::Debug;
+use thiserror::Error;
+
+/// A text that is no script. It hands the text back.
+#[derive(Debug, Drop, Error)]
+#[error("invalid script")]
+#[error_bound(T: Debug + Drop)]
+pub struct InvalidScript<T>(pub T);
+
+/// A script subtag (RFC 5646 section 2.2.3): four letters, as `Latn`.
+///
+/// Two scripts are equal where their texts differ at most in the case of ASCII letters.
+#[derive(Clone, Copy, Debug, PartialEq, Eq, PartialOrd, Ord, Hash)]
+pub struct Script<'a> {
+    text: Caseless<&'a str>,
+    ghost in_class: { IsTrue (class.is_script text.0.now) },
+}
+
+impl<'a> Script<'a> {
+    ghost use Rattle.langtag_place.specs.Text.{script_text, script_buf_text};
+
+    /// The script of a text.
+    ///
+    /// # Errors
+    ///
+    /// A text that is not four letters comes back.
+    pub fn new(text: &'a str) -> Result<Script<'a>, InvalidScript<&'a str>>
+        ensures accepts { is_ok result ≡ class.is_script text.now }
+        ensures same_text { IfOk result (λ script. script_text script ≡ text.now) }
+        ensures given_back { IfErr result (λ error. error.0 ≡ text.entry) }
+    {
+        if !is_script(text.as_bytes()) {
+            return Err(InvalidScript(text));
+        }
+        Ok(Script::from_checked(text))
+    }
+
+    /// The script of a text that is known to be one: it is not looked at again.
+    pub fn from_checked(text: &'a str) -> Script<'a>
+        requires { IsTrue (class.is_script text.now) }
+        ensures { script_text result ≡ text.now }
+    {
+        Script {
+            text: Caseless(text),
+        }
+    }
+
+    /// The text, with its case.
+    pub fn as_str(&self) -> &'a str
+        ensures same_text { result.now ≡ script_text self.now }
+        ensures in_class { IsTrue (class.is_script result.now) }
+    {
+        self.text.0
+    }
+
+    /// The bytes of the text.
+    pub fn as_bytes(&self) -> &'a [u8]
+        ensures { result.now ≡ script_text self.now }
+    {
+        self.as_str().as_bytes()
+    }
+
+    /// Whether another text, of any form, is equal but for the case of ASCII letters.
+    pub fn eq_str(&self, other: &str) -> bool
+        ensures { result ≡ are_alike (script_text self.now) other.now }
+    {
+        self.text == Caseless(other)
+    }
+
+    /// The owned form of the same text.
+    ///
+    /// # Errors
+    ///
+    /// No memory could be had.
+    pub fn try_to_owned(&self, alloc: Global) -> Result<ScriptBuf, AllocError>
+        ensures { IfOk result (λ owned. script_buf_text owned ≡ script_text self.now) }
+    {
+        let text = String::from_str(alloc, self.as_str())?;
+        Ok(ScriptBuf {
+            text: Caseless(text),
+        })
+    }
+}
+
+impl fmt::Display for Script<'_> {
+    ghost output = { λ script. Some script.text.0.now };
+
+    fn fmt<W: fmt::Write>(&self, f: &mut fmt::Formatter<W>) -> fmt::Result {
+        f.write_str(self.as_str())
+    }
+}
+
+/// A script subtag that owns its text.
+#[derive(Debug, Drop, PartialEq, Eq, PartialOrd, Ord, Hash)]
+pub struct ScriptBuf {
+    text: Caseless<String>,
+    ghost in_class: { IsTrue (class.is_script (string_bytes text.0)) },
+}
+
+impl ScriptBuf {
+    ghost use Rattle.langtag_place.specs.Text.{script_text, script_buf_text};
+
+    /// The script of a text, which is neither copied nor moved in memory.
+    ///
+    /// # Errors
+    ///
+    /// A text that is not four letters comes back, the same `String`.
+    pub fn new(text: String) -> Result<ScriptBuf, InvalidScript<String>>
+        ensures accepts { is_ok result ≡ class.is_script (string_bytes text) }
+        ensures same_text { IfOk result (λ script. script_buf_text script ≡ string_bytes text) }
+        ensures given_back { IfErr result (λ error. error.0 ≡ text) }
+    {
+        if !is_script(text.as_bytes()) {
+            return Err(InvalidScript(text));
+        }
+        Ok(ScriptBuf {
+            text: Caseless(text),
+        })
+    }
+
+    /// The script, lent.
+    pub fn as_script(&self) -> Script<'_>
+        ensures { script_text result ≡ script_buf_text self.now }
+    {
+        Script::from_checked(self.as_str())
+    }
+
+    /// The text, with its case.
+    pub fn as_str(&self) -> &str
+        ensures same_text { result.now ≡ script_buf_text self.now }
+        ensures in_class { IsTrue (class.is_script result.now) }
+    {
+        self.text.0.as_str()
+    }
+
+    /// The text itself, which is not copied.
+    pub fn into_string(self) -> String
+        ensures same_text { string_bytes result ≡ script_buf_text self }
+        ensures in_class { IsTrue (class.is_script (string_bytes result)) }
+    {
+        self.text.0
+    }
+}
+
+impl fmt::Display for ScriptBuf {
+    ghost output = { λ script. Some (string_bytes script.text.0) };
+
+    fn fmt<W: fmt::Write>(&self, f: &mut fmt::Formatter<W>) -> fmt::Result {
+        f.write_str(self.as_str())
+    }
+}

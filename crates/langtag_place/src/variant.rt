@@ -1,0 +1,163 @@
+//! The variant subtag (RFC 5646 section 2.2.5).
+ghost use Rattle.std.specs.Prelude.{◌≡◌, Some, IsTrue, IfOk, IfErr, is_ok};
+ghost use Rattle.std.specs.String.{string_bytes};
+ghost use Rattle.langtag_scan.specs.Case.{are_alike};
+ghost use Rattle.langtag_scan.specs.Class as class;
+
+use langtag_scan::{Caseless, is_variant};
+use std::alloc::{AllocError, Global};
+use std::fmt;
+use std::fmt::Debug;
+use thiserror::Error;
+
+/// A text that is no variant. It hands the text back.
+#[derive(Debug, Drop, Error)]
+#[error("invalid variant")]
+#[error_bound(T: Debug + Drop)]
+pub struct InvalidVariant<T>(pub T);
+
+/// A variant subtag (RFC 5646 section 2.2.5): five to eight letters and digits, as `rozaj`, or four of which the
+/// first is a digit, as `1996`.
+///
+/// Two variants are equal where their texts differ at most in the case of ASCII letters.
+#[derive(Clone, Copy, Debug, PartialEq, Eq, PartialOrd, Ord, Hash)]
+pub struct Variant<'a> {
+    text: Caseless<&'a str>,
+    ghost in_class: { IsTrue (class.is_variant text.0.now) },
+}
+
+impl<'a> Variant<'a> {
+    ghost use Rattle.langtag_place.specs.Text.{variant_text, variant_buf_text};
+
+    /// The variant of a text.
+    ///
+    /// # Errors
+    ///
+    /// A text that is neither five to eight letters and digits nor four of which the first is a digit
+    /// comes back.
+    pub fn new(text: &'a str) -> Result<Variant<'a>, InvalidVariant<&'a str>>
+        ensures accepts { is_ok result ≡ class.is_variant text.now }
+        ensures same_text { IfOk result (λ variant. variant_text variant ≡ text.now) }
+        ensures given_back { IfErr result (λ error. error.0 ≡ text.entry) }
+    {
+        if !is_variant(text.as_bytes()) {
+            return Err(InvalidVariant(text));
+        }
+        Ok(Variant::from_checked(text))
+    }
+
+    /// The variant of a text that is known to be one: it is not looked at again.
+    pub fn from_checked(text: &'a str) -> Variant<'a>
+        requires { IsTrue (class.is_variant text.now) }
+        ensures { variant_text result ≡ text.now }
+    {
+        Variant {
+            text: Caseless(text),
+        }
+    }
+
+    /// The text, with its case.
+    pub fn as_str(&self) -> &'a str
+        ensures same_text { result.now ≡ variant_text self.now }
+        ensures in_class { IsTrue (class.is_variant result.now) }
+    {
+        self.text.0
+    }
+
+    /// The bytes of the text.
+    pub fn as_bytes(&self) -> &'a [u8]
+        ensures { result.now ≡ variant_text self.now }
+    {
+        self.as_str().as_bytes()
+    }
+
+    /// Whether another text, of any form, is equal but for the case of ASCII letters.
+    pub fn eq_str(&self, other: &str) -> bool
+        ensures { result ≡ are_alike (variant_text self.now) other.now }
+    {
+        self.text == Caseless(other)
+    }
+
+    /// The owned form of the same text.
+    ///
+    /// # Errors
+    ///
+    /// No memory could be had.
+    pub fn try_to_owned(&self, alloc: Global) -> Result<VariantBuf, AllocError>
+        ensures { IfOk result (λ owned. variant_buf_text owned ≡ variant_text self.now) }
+    {
+        let text = String::from_str(alloc, self.as_str())?;
+        Ok(VariantBuf {
+            text: Caseless(text),
+        })
+    }
+}
+
+impl fmt::Display for Variant<'_> {
+    ghost output = { λ variant. Some variant.text.0.now };
+
+    fn fmt<W: fmt::Write>(&self, f: &mut fmt::Formatter<W>) -> fmt::Result {
+        f.write_str(self.as_str())
+    }
+}
+
+/// A variant subtag that owns its text.
+#[derive(Debug, Drop, PartialEq, Eq, PartialOrd, Ord, Hash)]
+pub struct VariantBuf {
+    text: Caseless<String>,
+    ghost in_class: { IsTrue (class.is_variant (string_bytes text.0)) },
+}
+
+impl VariantBuf {
+    ghost use Rattle.langtag_place.specs.Text.{variant_text, variant_buf_text};
+
+    /// The variant of a text, which is neither copied nor moved in memory.
+    ///
+    /// # Errors
+    ///
+    /// A text that is neither five to eight letters and digits nor four of which the first is a digit
+    /// comes back, the same `String`.
+    pub fn new(text: String) -> Result<VariantBuf, InvalidVariant<String>>
+        ensures accepts { is_ok result ≡ class.is_variant (string_bytes text) }
+        ensures same_text { IfOk result (λ variant. variant_buf_text variant ≡ string_bytes text) }
+        ensures given_back { IfErr result (λ error. error.0 ≡ text) }
+    {
+        if !is_variant(text.as_bytes()) {
+            return Err(InvalidVariant(text));
+        }
+        Ok(VariantBuf {
+            text: Caseless(text),
+        })
+    }
+
+    /// The variant, lent.
+    pub fn as_variant(&self) -> Variant<'_>
+        ensures { variant_text result ≡ variant_buf_text self.now }
+    {
+        Variant::from_checked(self.as_str())
+    }
+
+    /// The text, with its case.
+    pub fn as_str(&self) -> &str
+        ensures same_text { result.now ≡ variant_buf_text self.now }
+        ensures in_class { IsTrue (class.is_variant result.now) }
+    {
+        self.text.0.as_str()
+    }
+
+    /// The text itself, which is not copied.
+    pub fn into_string(self) -> String
+        ensures same_text { string_bytes result ≡ variant_buf_text self }
+        ensures in_class { IsTrue (class.is_variant (string_bytes result)) }
+    {
+        self.text.0
+    }
+}
+
+impl fmt::Display for VariantBuf {
+    ghost output = { λ variant. Some (string_bytes variant.text.0) };
+
+    fn fmt<W: fmt::Write>(&self, f: &mut fmt::Formatter<W>) -> fmt::Result {
+        f.write_str(self.as_str())
+    }
+}

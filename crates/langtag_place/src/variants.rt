@@ -1,0 +1,199 @@
+//! The variants of a tag as one text (RFC 5646 section 2.2.5).
+ghost use Rattle.std.specs.Prelude.{◌≡◌, ◌↔◌, ◌-◌, ℕ, List, Some, IsTrue, IfOk, IfErr, is_ok, length, slice_get};
+ghost use Rattle.std.specs.Option.{option_map};
+ghost use Rattle.std.specs.String.{string_bytes};
+ghost use Rattle.langtag_scan.specs.Case.{are_alike};
+ghost use Rattle.langtag_scan.specs.Subtags.{subtags};
+ghost use Rattle.langtag_place.specs.Variants.{is_variants, IsVariants, SpellsVariants};
+
+use crate::variant::Variant;
+use crate::variants_iter::VariantsIter;
+use langtag_scan::{Caseless, Subtags, is_variant};
+use std::alloc::{AllocError, Global};
+use std::fmt;
+use std::fmt::Debug;
+use thiserror::Error;
+
+/// A text that no list of variants spells. It hands the text back.
+#[derive(Debug, Drop, Error)]
+#[error("invalid variants")]
+#[error_bound(T: Debug + Drop)]
+pub struct InvalidVariants<T>(pub T);
+
+/// The variants of a tag, joined by hyphens, or nothing (RFC 5646 section 2.2.5), as `rozaj-1994`.
+///
+/// A variant may stand twice: that makes a tag invalid, and leaves it well formed (section 2.2.9).
+/// Two values are equal where their texts differ at most in the case of ASCII letters.
+#[derive(Clone, Copy, Debug, PartialEq, Eq, PartialOrd, Ord, Hash)]
+pub struct Variants<'a> {
+    text: Caseless<&'a str>,
+    ghost in_class: { IsTrue (is_variants text.0.now) },
+}
+
+impl<'a> Variants<'a> {
+    ghost use Rattle.langtag_place.specs.Text.{variant_text, variants_text, variants_buf_text, variants_left};
+
+    /// No variants: the empty text.
+    pub const EMPTY: Variants<'static> = Variants { text: Caseless("") };
+
+    /// The variants of a text.
+    ///
+    /// # Errors
+    ///
+    /// A text that holds anything else than variants with one hyphen between neighbours comes back.
+    pub fn new(text: &'a str) -> Result<Variants<'a>, InvalidVariants<&'a str>>
+        ensures accepts { IsTrue (is_ok result) ↔ (IsVariants text.now) }
+        ensures same_text { IfOk result (λ variants. variants_text variants ≡ text.now) }
+        ensures given_back { IfErr result (λ error. error.0 ≡ text.entry) }
+    {
+        if !all_variants(text) {
+            return Err(InvalidVariants(text));
+        }
+        Ok(Variants::from_checked(text))
+    }
+
+    /// The variants of a text that is known to be spelled by a list of them: it is not looked at again.
+    pub fn from_checked(text: &'a str) -> Variants<'a>
+        requires { IsTrue (is_variants text.now) }
+        ensures { variants_text result ≡ text.now }
+    {
+        Variants {
+            text: Caseless(text),
+        }
+    }
+
+    /// The text, with its case.
+    pub fn as_str(&self) -> &'a str
+        ensures same_text { result.now ≡ variants_text self.now }
+        ensures in_class { IsVariants result.now }
+    {
+        self.text.0
+    }
+
+    /// The bytes of the text.
+    pub fn as_bytes(&self) -> &'a [u8]
+        ensures { result.now ≡ variants_text self.now }
+    {
+        self.as_str().as_bytes()
+    }
+
+    /// Whether another text, of any form, is equal but for the case of ASCII letters.
+    pub fn eq_str(&self, other: &str) -> bool
+        ensures { result ≡ are_alike (variants_text self.now) other.now }
+    {
+        self.text == Caseless(other)
+    }
+
+    /// The variants one by one, from either end.
+    pub fn iter(&self) -> VariantsIter<'a>
+        ensures list { variants_left result ≡ subtags (variants_text self.now) }
+        ensures spells { SpellsVariants (variants_left result) (variants_text self.now) }
+    {
+        VariantsIter::new(self.as_str())
+    }
+
+    /// The first variant, if there is one.
+    pub fn first(&self) -> Option<Variant<'a>>
+        ensures member { (variants : List (List ℕ)) → SpellsVariants variants (variants_text self.now)
+            → option_map variant_text result ≡ slice_get variants 0 }
+    {
+        self.iter().next()
+    }
+
+    /// The last variant, if there is one; it is the first where there is just one.
+    pub fn last(&self) -> Option<Variant<'a>>
+        ensures member { (variants : List (List ℕ)) → SpellsVariants variants (variants_text self.now)
+            → option_map variant_text result ≡ slice_get variants (length variants - 1) }
+    {
+        self.iter().next_back()
+    }
+
+    /// The owned form of the same text.
+    ///
+    /// # Errors
+    ///
+    /// No memory could be had.
+    pub fn try_to_owned(&self, alloc: Global) -> Result<VariantsBuf, AllocError>
+        ensures { IfOk result (λ owned. variants_buf_text owned ≡ variants_text self.now) }
+    {
+        let text = String::from_str(alloc, self.as_str())?;
+        Ok(VariantsBuf {
+            text: Caseless(text),
+        })
+    }
+}
+
+impl fmt::Display for Variants<'_> {
+    ghost output = { λ variants. Some variants.text.0.now };
+
+    fn fmt<W: fmt::Write>(&self, f: &mut fmt::Formatter<W>) -> fmt::Result {
+        f.write_str(self.as_str())
+    }
+}
+
+/// Variants that own their text.
+#[derive(Debug, Drop, PartialEq, Eq, PartialOrd, Ord, Hash)]
+pub struct VariantsBuf {
+    text: Caseless<String>,
+    ghost in_class: { IsTrue (is_variants (string_bytes text.0)) },
+}
+
+impl VariantsBuf {
+    ghost use Rattle.langtag_place.specs.Text.{variants_text, variants_buf_text};
+
+    /// The variants of a text, which is neither copied nor moved in memory.
+    ///
+    /// # Errors
+    ///
+    /// A text that holds anything else than variants with one hyphen between neighbours comes back, the same `String`.
+    pub fn new(text: String) -> Result<VariantsBuf, InvalidVariants<String>>
+        ensures accepts { IsTrue (is_ok result) ↔ (IsVariants (string_bytes text)) }
+        ensures same_text { IfOk result (λ variants. variants_buf_text variants ≡ string_bytes text) }
+        ensures given_back { IfErr result (λ error. error.0 ≡ text) }
+    {
+        if !all_variants(text.as_str()) {
+            return Err(InvalidVariants(text));
+        }
+        Ok(VariantsBuf {
+            text: Caseless(text),
+        })
+    }
+
+    /// The variants, lent.
+    pub fn as_variants(&self) -> Variants<'_>
+        ensures { variants_text result ≡ variants_buf_text self.now }
+    {
+        Variants::from_checked(self.as_str())
+    }
+
+    /// The text, with its case.
+    pub fn as_str(&self) -> &str
+        ensures same_text { result.now ≡ variants_buf_text self.now }
+        ensures in_class { IsVariants result.now }
+    {
+        self.text.0.as_str()
+    }
+
+    /// The text itself, which is not copied.
+    pub fn into_string(self) -> String
+        ensures same_text { string_bytes result ≡ variants_buf_text self }
+        ensures in_class { IsVariants (string_bytes result) }
+    {
+        self.text.0
+    }
+}
+
+impl fmt::Display for VariantsBuf {
+    ghost output = { λ variants. Some (string_bytes variants.text.0) };
+
+    fn fmt<W: fmt::Write>(&self, f: &mut fmt::Formatter<W>) -> fmt::Result {
+        f.write_str(self.as_str())
+    }
+}
+
+/// Whether a text is variants with one hyphen between neighbours, or nothing.
+fn all_variants(text: &str) -> bool
+    ensures { result ≡ is_variants text.now }
+{
+    Subtags::new(text).all(|subtag| is_variant(subtag.as_bytes()))
+}

@@ -1,0 +1,75 @@
+//! The variants of a tag one by one, from either end.
+ghost use Rattle.std.specs.Prelude.{◌≡◌, IsTrue, []};
+ghost use Rattle.std.specs.Iterator.{YieldsFirstBy, YieldsLastBy, item_count};
+ghost use Rattle.langtag_scan.specs.Subtags.{subtags};
+ghost use Rattle.langtag_place.specs.Variants.{are_variants, is_variants};
+
+use crate::variant::Variant;
+use langtag_scan::Subtags;
+
+/// The variants of a tag that are still to come, in the order in which they are written (RFC 5646
+/// section 2.2.5), from either end.
+#[derive(Drop)]
+pub struct VariantsIter<'a> {
+    rest: Subtags<'a>,
+    ghost in_class: { IsTrue (are_variants rest) },
+}
+
+impl<'a> VariantsIter<'a> {
+    ghost use Rattle.langtag_place.specs.Text.{variants_left};
+
+    /// The walk over no variants.
+    pub fn empty() -> Self
+        ensures { variants_left result ≡ [] }
+    {
+        VariantsIter {
+            rest: Subtags::empty(),
+        }
+    }
+
+    /// The walk over the variants of a text that is known to be spelled by a list of them.
+    pub(crate) fn new(text: &'a str) -> Self
+        requires { IsTrue (is_variants text.now) }
+        ensures { variants_left result ≡ subtags text.now }
+    {
+        VariantsIter {
+            rest: Subtags::new(text),
+        }
+    }
+}
+
+impl Default for VariantsIter<'_> {
+    ghost use Rattle.langtag_place.specs.Text.{variants_left};
+
+    ghost is_default = { λ walk. variants_left walk ≡ [] };
+
+    fn default() -> Self {
+        VariantsIter::empty()
+    }
+}
+
+impl<'a> Iterator for VariantsIter<'a> {
+    ghost use Rattle.langtag_place.specs.Text.{variant_text, variants_left};
+
+    type Item = Variant<'a>;
+
+    ghost next_gives = { YieldsFirstBy variant_text variants_left };
+
+    ghost remaining = { item_count variants_left };
+
+    fn next(&mut self) -> Option<Variant<'a>> {
+        let text = self.rest.next()?;
+        Some(Variant::from_checked(text))
+    }
+}
+
+impl<'a> DoubleEndedIterator for VariantsIter<'a> {
+    ghost use Rattle.langtag_place.specs.Text.{variant_text, variants_left};
+
+    ghost next_back_gives = { YieldsLastBy variant_text variants_left };
+
+    fn next_back(&mut self) -> Option<Variant<'a>> {
+        let text = self.rest.next_back()?;
+        Some(Variant::from_checked(text))
+    }
+}

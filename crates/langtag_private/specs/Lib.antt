@@ -1,0 +1,2 @@
+pub mod PrivateUse
+pub mod Text

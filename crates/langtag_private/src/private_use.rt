@@ -1,0 +1,208 @@
+//! The private use part of a tag (RFC 5646 section 2.2.7).
+ghost use Rattle.std.specs.Prelude.{◌≡◌, ◌↔◌, Some, IsTrue, IfOk, IfErr, is_ok, drop};
+ghost use Rattle.std.specs.String.{string_bytes};
+ghost use Rattle.langtag_scan.specs.Case.{are_alike};
+ghost use Rattle.langtag_scan.specs.Subtags.{subtags};
+ghost use Rattle.langtag_private.specs.PrivateUse as rule;
+ghost use Rattle.langtag_scan.specs.Tag.{IsPrivate};
+ghost use Rattle.langtag_private.specs.PrivateUse.{EachSpelling};
+
+use crate::private_use_iter::PrivateUseIter;
+use langtag_scan::{Caseless, Subtags, is_mark, is_private_subtag};
+use std::alloc::{AllocError, Global};
+use std::fmt;
+use std::fmt::Debug;
+use thiserror::Error;
+
+/// A text that is no private use part. It hands the text back.
+#[derive(Debug, Drop, Error)]
+#[error("invalid private use")]
+#[error_bound(T: Debug + Drop)]
+pub struct InvalidPrivateUse<T>(pub T);
+
+/// A private use part (RFC 5646 section 2.2.7): the mark `x`, in either case, and one subtag or more behind it, joined by
+/// hyphens, as `x-twain`. It may stand at the end of a tag, and alone as a tag of its own.
+///
+/// Two of them are equal where their texts differ at most in the case of ASCII letters.
+#[derive(Clone, Copy, Debug, PartialEq, Eq, PartialOrd, Ord, Hash)]
+pub struct PrivateUse<'a> {
+    text: Caseless<&'a str>,
+    ghost in_class: { IsTrue (rule.is_private_use text.0.now) },
+}
+
+#[tactic(auto, using(crate::proofs::Rules::private_from_test))]
+impl<'a> PrivateUse<'a> {
+    ghost use Rattle.langtag_private.specs.Text.{private_use_text, private_use_buf_text, private_left};
+
+    /// The private use part of a text.
+    ///
+    /// # Errors
+    ///
+    /// A text that is not a mark and private use subtags with one hyphen between neighbours comes back.
+    pub fn new(text: &'a str) -> Result<PrivateUse<'a>, InvalidPrivateUse<&'a str>>
+        ensures accepts { IsTrue (is_ok result) ↔ (IsPrivate text.now) }
+        ensures same_text { IfOk result (λ private_use. private_use_text private_use ≡ text.now) }
+        ensures given_back { IfErr result (λ error. error.0 ≡ text.entry) }
+    {
+        if !is_private_use(text) {
+            return Err(InvalidPrivateUse(text));
+        }
+        Ok(PrivateUse::from_checked(text))
+    }
+
+    /// The private use part of a text that is known to be one: it is not looked at again.
+    pub fn from_checked(text: &'a str) -> PrivateUse<'a>
+        requires { IsTrue (rule.is_private_use text.now) }
+        ensures { private_use_text result ≡ text.now }
+    {
+        PrivateUse {
+            text: Caseless(text),
+        }
+    }
+
+    /// The text, with its case.
+    pub fn as_str(&self) -> &'a str
+        ensures same_text { result.now ≡ private_use_text self.now }
+        ensures in_class { IsPrivate result.now }
+    {
+        self.text.0
+    }
+
+    /// The bytes of the text.
+    pub fn as_bytes(&self) -> &'a [u8]
+        ensures { result.now ≡ private_use_text self.now }
+    {
+        self.as_str().as_bytes()
+    }
+
+    /// Whether another text, of any form, is equal but for the case of ASCII letters.
+    pub fn eq_str(&self, other: &str) -> bool
+        ensures { result ≡ are_alike (private_use_text self.now) other.now }
+    {
+        self.text == Caseless(other)
+    }
+
+    /// The subtags one by one, without the mark: `a` and `b` of `x-a-b`.
+    pub fn iter(&self) -> PrivateUseIter<'a>
+        ensures list { private_left result ≡ drop 1 (subtags (private_use_text self.now)) }
+        ensures members { EachSpelling (private_use_text self.now) (λ mark members. private_left result ≡ members) }
+    {
+        PrivateUseIter::new(self.as_str())
+    }
+
+    /// The owned form of the same text.
+    ///
+    /// # Errors
+    ///
+    /// No memory could be had.
+    pub fn try_to_owned(&self, alloc: Global) -> Result<PrivateUseBuf, AllocError>
+        ensures { IfOk result (λ owned. private_use_buf_text owned ≡ private_use_text self.now) }
+    {
+        let text = String::from_str(alloc, self.as_str())?;
+        Ok(PrivateUseBuf {
+            text: Caseless(text),
+        })
+    }
+}
+
+/// Whether the text is a mark and private use subtags, at least one, joined by hyphens.
+fn is_private_use(text: &str) -> bool
+    ensures test { result ≡ rule.is_private_use text.now }
+    ensures spelled { IsTrue result ↔ (IsPrivate text.now) }
+{
+    let mut subtags = Subtags::new(text);
+    let marked = subtags
+        .next()
+        .is_some_and(|mark| is_mark_alone(mark.as_bytes()));
+    let followed = subtags
+        .next()
+        .is_some_and(|first| is_private_subtag(first.as_bytes()));
+    marked && followed && are_private(subtags)
+}
+
+/// Whether the bytes are the mark alone.
+fn is_mark_alone(bytes: &[u8]) -> bool
+    ensures { result ≡ rule.is_mark_alone bytes.now }
+{
+    match bytes {
+        [byte] => is_mark(*byte),
+        _ => false,
+    }
+}
+
+/// Whether all subtags that are left are private use subtags.
+fn are_private(mut subtags: Subtags<'_>) -> bool
+    ensures { result ≡ rule.are_private subtags.entry }
+{
+    subtags.all(|subtag| is_private_subtag(subtag.as_bytes()))
+}
+
+impl fmt::Display for PrivateUse<'_> {
+    ghost output = { λ private_use. Some private_use.text.0.now };
+
+    fn fmt<W: fmt::Write>(&self, f: &mut fmt::Formatter<W>) -> fmt::Result {
+        f.write_str(self.as_str())
+    }
+}
+
+/// A private use part that owns its text.
+#[derive(Debug, Drop, PartialEq, Eq, PartialOrd, Ord, Hash)]
+pub struct PrivateUseBuf {
+    text: Caseless<String>,
+    ghost in_class: { IsTrue (rule.is_private_use (string_bytes text.0)) },
+}
+
+#[tactic(auto, using(crate::proofs::Rules::private_from_test))]
+impl PrivateUseBuf {
+    ghost use Rattle.langtag_private.specs.Text.{private_use_text, private_use_buf_text};
+
+    /// The language extension of a text, which is neither copied nor moved in memory.
+    ///
+    /// # Errors
+    ///
+    /// A text that is not a mark and private use subtags with one hyphen between neighbours comes back, the same
+    /// `String`.
+    pub fn new(text: String) -> Result<PrivateUseBuf, InvalidPrivateUse<String>>
+        ensures accepts { IsTrue (is_ok result) ↔ (IsPrivate (string_bytes text)) }
+        ensures same_text { IfOk result (λ private_use. private_use_buf_text private_use ≡ string_bytes text) }
+        ensures given_back { IfErr result (λ error. error.0 ≡ text) }
+    {
+        if !is_private_use(text.as_str()) {
+            return Err(InvalidPrivateUse(text));
+        }
+        Ok(PrivateUseBuf {
+            text: Caseless(text),
+        })
+    }
+
+    /// The private use part, lent.
+    pub fn as_private_use(&self) -> PrivateUse<'_>
+        ensures { private_use_text result ≡ private_use_buf_text self.now }
+    {
+        PrivateUse::from_checked(self.text.0.as_str())
+    }
+
+    /// The text, with its case.
+    pub fn as_str(&self) -> &str
+        ensures same_text { result.now ≡ private_use_buf_text self.now }
+        ensures in_class { IsPrivate result.now }
+    {
+        self.text.0.as_str()
+    }
+
+    /// The text itself, which is not copied.
+    pub fn into_string(self) -> String
+        ensures same_text { string_bytes result ≡ private_use_buf_text self }
+        ensures in_class { IsPrivate (string_bytes result) }
+    {
+        self.text.0
+    }
+}
+
+impl fmt::Display for PrivateUseBuf {
+    ghost output = { λ private_use. Some (string_bytes private_use.text.0) };
+
+    fn fmt<W: fmt::Write>(&self, f: &mut fmt::Formatter<W>) -> fmt::Result {
+        f.write_str(self.as_str())
+    }
+}

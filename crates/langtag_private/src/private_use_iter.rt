@@ -1,0 +1,63 @@
+//! The subtags of a private use part one by one.
+ghost use Rattle.std.specs.Prelude.{◌≡◌, IsTrue, [], drop};
+ghost use Rattle.std.specs.Iterator.{YieldsFirstBy, item_count};
+ghost use Rattle.langtag_scan.specs.Subtags.{subtags};
+ghost use Rattle.langtag_private.specs.PrivateUse.{are_private, is_private_use};
+
+use crate::private_use_subtag::PrivateUseSubtag;
+use langtag_scan::Subtags;
+
+/// The private use subtags that are still to come (RFC 5646 section 2.2.7).
+#[derive(Drop)]
+pub struct PrivateUseIter<'a> {
+    rest: Subtags<'a>,
+    ghost in_class: { IsTrue (are_private rest) },
+}
+
+impl<'a> PrivateUseIter<'a> {
+    ghost use Rattle.langtag_private.specs.Text.{private_left};
+
+    /// No subtags.
+    pub fn empty() -> Self
+        ensures { private_left result ≡ [] }
+    {
+        PrivateUseIter {
+            rest: Subtags::empty(),
+        }
+    }
+
+    /// The subtags of a private use part, without its mark.
+    pub(crate) fn new(text: &'a str) -> Self
+        requires { IsTrue (is_private_use text.now) }
+        ensures { private_left result ≡ drop 1 (subtags text.now) }
+    {
+        let mut rest = Subtags::new(text);
+        let _mark = rest.next();
+        PrivateUseIter { rest }
+    }
+}
+
+impl Default for PrivateUseIter<'_> {
+    ghost use Rattle.langtag_private.specs.Text.{private_left};
+
+    ghost is_default = { λ subtags. private_left subtags ≡ [] };
+
+    fn default() -> Self {
+        PrivateUseIter::empty()
+    }
+}
+
+impl<'a> Iterator for PrivateUseIter<'a> {
+    ghost use Rattle.langtag_private.specs.Text.{private_use_subtag_text, private_left};
+
+    type Item = PrivateUseSubtag<'a>;
+
+    ghost next_gives = { YieldsFirstBy private_use_subtag_text private_left };
+
+    ghost remaining = { item_count private_left };
+
+    fn next(&mut self) -> Option<PrivateUseSubtag<'a>> {
+        let text = self.rest.next()?;
+        Some(PrivateUseSubtag::from_checked(text))
+    }
+}

@@ -1,0 +1,2 @@
+mod private_use;
+mod private_use_subtag;
