@@ -2,8 +2,11 @@ ghost use Rattle.std.specs.Prelude.{[], Some, IfOk};
 ghost use Rattle.langtag_show.specs.Lines.{lines_of};
 ghost use Rattle.langtag_show.specs.Report.{Answers};
 
-use crate::run::run;
+mod small;
+
+use crate::run::{run, run_in};
 use crate::show_error::ShowError;
+use small::Small;
 use std::alloc::Global;
 use std::io;
 use std::io::{ErrorKind, Read, Write};
@@ -153,6 +156,17 @@ fn a_refused_growth_leaves_whole_answers(rt: HostRuntime) {
 #[test]
 fn a_refused_growth_of_a_long_line_leaves_whole_answers(rt: HostRuntime) {
     leaves_whole_answers(&rt, rt.alloc(), &long_input(), b"normal\nnormal\n");
+}
+
+// The line that can't grow is the one that is gathered: all answers before it stand, and nothing else.
+#[test]
+fn the_answers_before_a_refused_growth_stand(rt: HostRuntime) {
+    let heap = Small { inner: rt.alloc() };
+    let mut output = Page::new();
+    let outcome = run_in(heap, &mut Feed::new(&long_input(), ROOM), &mut output);
+    assert_eq!(rt; outcome, Err(ShowError::Memory));
+    assert_eq!(rt; output.text(), b"normal\n".as_slice());
+    assert_eq!(rt; output.flushes, 0);
 }
 
 #[test]
