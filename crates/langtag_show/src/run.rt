@@ -43,7 +43,11 @@ pub fn run<R: Read, W: Write>(alloc: Global, input: &mut R, output: &mut W) -> R
 }
 
 /// `run` over any allocator.
-pub(crate) fn run_in<A: Allocator, R: Read, W: Write>(alloc: A, input: &mut R, output: &mut W) -> Result<(), ShowError>
+pub(crate) fn run_in<A: Allocator, R: Read, W: Write>(
+    alloc: A,
+    input: &mut R,
+    output: &mut W,
+) -> Result<(), ShowError>
     ensures whole { OnOk result (IsAtEnd (R.remaining input.new)) }
     ensures report { OnOk result (IfSome (R.remaining input.old) (λ i.
         Answers (W.contents output.old) (W.contents output.new) (lines_of i))) }
@@ -67,7 +71,11 @@ pub(crate) fn run_in<A: Allocator, R: Read, W: Write>(alloc: A, input: &mut R, o
 }
 
 /// Takes bytes into the line that is gathered, and writes the answer to each line that they complete.
-fn take_bytes<A: Allocator, W: Write>(line: &mut Vec<u8, A>, bytes: &[u8], output: &mut W) -> Result<(), ShowError>
+fn take_bytes<A: Allocator, W: Write>(
+    line: &mut Vec<u8, A>,
+    bytes: &[u8],
+    output: &mut W,
+) -> Result<(), ShowError>
     requires { NoLineFeed line.old.items }
     ensures ok { OnOk result (Answers (W.contents output.old) (W.contents output.new) (complete_lines (line.old.items ++ bytes.now))) }
     ensures rest { OnOk result (line.new.items ≡ rest_of (line.old.items ++ bytes.now)) }
@@ -81,7 +89,11 @@ fn take_bytes<A: Allocator, W: Write>(line: &mut Vec<u8, A>, bytes: &[u8], outpu
 }
 
 /// Takes a byte into the line that is gathered, or at LF writes the answer to it.
-fn take_byte<A: Allocator, W: Write>(line: &mut Vec<u8, A>, byte: u8, output: &mut W) -> Result<(), ShowError>
+fn take_byte<A: Allocator, W: Write>(
+    line: &mut Vec<u8, A>,
+    byte: u8,
+    output: &mut W,
+) -> Result<(), ShowError>
     requires { NoLineFeed line.old.items }
     ensures ok { OnOk result (Answers (W.contents output.old) (W.contents output.new) (complete_lines (line.old.items ++ byte ∷ []))) }
     ensures rest { OnOk result (line.new.items ≡ rest_of (line.old.items ++ byte ∷ [])) }

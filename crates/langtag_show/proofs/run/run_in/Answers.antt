@@ -4,7 +4,6 @@ use Rattle.langtag_show.specs.declared.show_error.ShowError.TheVariants.{Memory}
 use Rattle.std.proofs.KnownBytes.{Consumes-nil, Consumes-trans, Consumes-whole}
 use Rattle.langtag_show.specs.Lines.{complete_lines, rest_of, lines_of}
 use Rattle.langtag_show.specs.Report.{Answers}
-use Rattle.langtag_show.proofs.Lines.{lines_cut}
 use Rattle.langtag_show.proofs.Written.{free_rest, rest_more, written_more, written_front, written_all, Answers-nil}
 use Rattle.langtag_show.proofs.run.run_in.Goals as goal
 
