@@ -6,7 +6,7 @@ ghost use Rattle.langtag_show.specs.Report.{IsAnswer, AreAnswers, Answers, Havin
 
 use crate::answer::write_answer;
 use crate::show_error::ShowError;
-use std::alloc::Global;
+use std::alloc::{Allocator, Global};
 use std::io::{Read, Write};
 
 /// How many bytes a read asks for.
@@ -39,6 +39,23 @@ pub fn run<R: Read, W: Write>(alloc: Global, input: &mut R, output: &mut W) -> R
     ensures one_report { (lines : List (List ℕ)) (texts others : List ℕ) →
         AreAnswers lines texts → AreAnswers lines others → texts ≡ others }
 {
+    run_in(alloc, input, output)
+}
+
+/// `run` over any allocator.
+pub(crate) fn run_in<A: Allocator, R: Read, W: Write>(
+    alloc: A,
+    input: &mut R,
+    output: &mut W,
+) -> Result<(), ShowError>
+    ensures whole { OnOk result (IsAtEnd (R.remaining input.new)) }
+    ensures report { OnOk result (IfSome (R.remaining input.old) (λ i.
+        Answers (W.contents output.old) (W.contents output.new) (lines_of i))) }
+    ensures after_read { IsErrOf result ShowError.Read → HavingRead (R.remaining input.old) (R.remaining input.new)
+        (λ i. Answers (W.contents output.old) (W.contents output.new) (complete_lines i)) }
+    ensures after_memory { IsErrOf result ShowError.Memory → HavingRead (R.remaining input.old) (R.remaining input.new)
+        (λ i. (k : ℕ) × Answers (W.contents output.old) (W.contents output.new) (take k (complete_lines i))) }
+{
     let mut line = Vec::new(alloc);
     let mut buffer = [0; BUFFER_LEN];
     for _ in 0..u64::MAX {
@@ -54,7 +71,11 @@ pub fn run<R: Read, W: Write>(alloc: Global, input: &mut R, output: &mut W) -> R
 }
 
 /// Takes bytes into the line that is gathered, and writes the answer to each line that they complete.
-fn take_bytes<W: Write>(line: &mut Vec<u8>, bytes: &[u8], output: &mut W) -> Result<(), ShowError>
+fn take_bytes<A: Allocator, W: Write>(
+    line: &mut Vec<u8, A>,
+    bytes: &[u8],
+    output: &mut W,
+) -> Result<(), ShowError>
     requires { NoLineFeed line.old.items }
     ensures ok { OnOk result (Answers (W.contents output.old) (W.contents output.new) (complete_lines (line.old.items ++ bytes.now))) }
     ensures rest { OnOk result (line.new.items ≡ rest_of (line.old.items ++ bytes.now)) }
@@ -68,7 +89,11 @@ fn take_bytes<W: Write>(line: &mut Vec<u8>, bytes: &[u8], output: &mut W) -> Res
 }
 
 /// Takes a byte into the line that is gathered, or at LF writes the answer to it.
-fn take_byte<W: Write>(line: &mut Vec<u8>, byte: u8, output: &mut W) -> Result<(), ShowError>
+fn take_byte<A: Allocator, W: Write>(
+    line: &mut Vec<u8, A>,
+    byte: u8,
+    output: &mut W,
+) -> Result<(), ShowError>
     requires { NoLineFeed line.old.items }
     ensures ok { OnOk result (Answers (W.contents output.old) (W.contents output.new) (complete_lines (line.old.items ++ byte ∷ []))) }
     ensures rest { OnOk result (line.new.items ≡ rest_of (line.old.items ++ byte ∷ [])) }

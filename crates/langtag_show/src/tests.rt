@@ -2,8 +2,11 @@ ghost use Rattle.std.specs.Prelude.{[], Some, IfOk};
 ghost use Rattle.langtag_show.specs.Lines.{lines_of};
 ghost use Rattle.langtag_show.specs.Report.{Answers};
 
-use crate::run::run;
+mod small;
+
+use crate::run::{run, run_in};
 use crate::show_error::ShowError;
+use small::Small;
 use std::alloc::Global;
 use std::io;
 use std::io::{ErrorKind, Read, Write};
@@ -153,6 +156,49 @@ fn a_refused_growth_leaves_whole_answers(rt: HostRuntime) {
 #[test]
 fn a_refused_growth_of_a_long_line_leaves_whole_answers(rt: HostRuntime) {
     leaves_whole_answers(&rt, rt.alloc(), &long_input(), b"normal\nnormal\n");
+}
+
+// A front of whole lines, and then a line that is longer than the largest block of `Small`.
+fn before_a_long_line(front: &[u8]) -> [u8; 20_007] {
+    let mut text = [b'a'; 20_007];
+    for (place, byte) in text.iter_mut().zip(front) {
+        *place = *byte;
+    }
+    text
+}
+
+// The line that can't grow is the one that is gathered: all answers before it stand, and nothing else.
+#[test]
+fn the_answers_before_a_refused_growth_stand(rt: HostRuntime) {
+    let rows: [(&[u8], &[u8]); 5] = [
+        (b"", b""),
+        (b"fr-FR\n", b"normal\n"),
+        (b"fr-FR\n\n", b"normal\nrefused\n"),
+        (b"fr-FR\n\nx-a\n", b"normal\nrefused\nprivate\n"),
+        (
+            b"fr-FR\n\nx-a\nde-CH-1996\n",
+            b"normal\nrefused\nprivate\nnormal\n",
+        ),
+    ];
+    for (front, want) in rows {
+        let heap = Small { inner: rt.alloc() };
+        let text = before_a_long_line(front);
+        let mut output = Page::new();
+        let outcome = run_in(heap, &mut Feed::new(&text, ROOM), &mut output);
+        assert_eq!(rt; outcome, Err(ShowError::Memory));
+        assert_eq!(rt; output.text(), want);
+        assert_eq!(rt; output.flushes, 0);
+    }
+}
+
+// So that it is the last growth of a run on this input that is refused.
+#[test]
+fn the_answer_before_the_last_growth_stands(rt: HostRuntime) {
+    let heap = Small { inner: rt.alloc() };
+    let mut output = Page::new();
+    let outcome = run_in(heap, &mut Feed::new(&long_input(), ROOM), &mut output);
+    assert_eq!(rt; outcome, Err(ShowError::Memory));
+    assert_eq!(rt; output.text(), b"normal\n".as_slice());
 }
 
 #[test]

@@ -2,7 +2,7 @@ use Rattle.std.proofs.Common.{◌≡◌, ℕ, List}
 use Rattle.std.specs.Io.KnownBytes.{Consumes}
 use Rattle.langtag_show.specs.Lines.{complete_lines, rest_of}
 use Rattle.langtag_show.specs.Report.{Answers}
-use Rattle.langtag_show.proofs.run.run.Given as goal
+use Rattle.langtag_show.proofs.run.run_in.Given as goal
 
 abbrev pub invariant-loop : goal.invariant-loop
 invariant-loop g l = (seen : List ℕ) × Consumes (g.R.Read.remaining l.initial.input) (g.R.Read.remaining l.input) seen
