@@ -17,7 +17,7 @@ use Rattle.langtag_scan.specs.Stage.{is_one, classes_of, next_by, next_stage, ru
 use Rattle.langtag_scan.specs.Subtags.{join, segments}
 use Rattle.langtag_scan.specs.Tag.{IsNormal, IsPrivate, IsIrregular, IsIrregularAt, IsTag}
 use Rattle.langtag_scan.proofs.Segments.{normal_from_runs, runs_from_normal, spelled_once}
-use Rattle.langtag_scan.proofs.PrivateRuns.{runs_private, runs_from_private, private_from_runs}
+use Rattle.langtag_scan.proofs.PrivateTexts.{runs_private, runs_from_private, private_from_runs}
 
 -- ---- bytes
 

@@ -21,11 +21,13 @@ abbrev weight : List (List ℕ) → ℕ
 weight [] = 0
 weight (s ∷ ss) = 1 + length s + weight ss
 
+-- a join is as long as its first subtag and what the others weigh
 length-join : (s : List ℕ) (ss : List (List ℕ)) → length (join (s ∷ ss)) ≡ length s + weight ss
 length-join s [] = omega arith
 length-join s (u ∷ us) = omega (arith, length-append s (45 ∷ join (u ∷ us)), length-join u us)
 
-record Same (a b : Ends) : Type 0 where
+-- each end is the same
+record SameEnds (a b : Ends) : Type 0 where
   language : a.language ≡ b.language
   script : a.script ≡ b.script
   region : a.region ≡ b.region
@@ -33,118 +35,123 @@ record Same (a b : Ends) : Type 0 where
   extensions : a.extensions ≡ b.extensions
   whole : a.whole ≡ b.whole
 
-abbrev plus : Ends → Ends → Ends
-plus a b = record { language = a.language + b.language; script = a.script + b.script; region = a.region + b.region; variants = a.variants + b.variants; extensions = a.extensions + b.extensions; whole = a.whole + b.whole }
+-- the sums, end by end
+abbrev sum_of : Ends → Ends → Ends
+sum_of a b = record { language = a.language + b.language; script = a.script + b.script; region = a.region + b.region; variants = a.variants + b.variants; extensions = a.extensions + b.extensions; whole = a.whole + b.whole }
 
-abbrev ext : Read → List (List ℕ)
-ext b = flat_map extension_flat b.parts.extensions
+-- the subtags of all extensions, and of the private use part
+abbrev extension_subtags : Read → List (List ℕ)
+extension_subtags b = flat_map extension_flat b.parts.extensions
 
-abbrev prv : Read → List (List ℕ)
-prv b = private_part_flat b.parts.private_use
+abbrev private_subtags : Read → List (List ℕ)
+private_subtags b = private_part_flat b.parts.private_use
 
 -- what is still to come, part by part
 abbrev left_from : Stage → Read → Ends
-left_from AfterScript b = record { language = 0; script = 0; region = weight (one_flat b.parts.region); variants = weight (one_flat b.parts.region ++ b.parts.variants); extensions = weight (one_flat b.parts.region ++ (b.parts.variants ++ ext b)); whole = weight (one_flat b.parts.region ++ (b.parts.variants ++ (ext b ++ prv b))) }
-left_from AfterRegion b = record { language = 0; script = 0; region = 0; variants = weight b.parts.variants; extensions = weight (b.parts.variants ++ ext b); whole = weight (b.parts.variants ++ (ext b ++ prv b)) }
-left_from AfterVariant b = record { language = 0; script = 0; region = 0; variants = weight b.parts.variants; extensions = weight (b.parts.variants ++ ext b); whole = weight (b.parts.variants ++ (ext b ++ prv b)) }
-left_from AfterSingleton b = record { language = 0; script = 0; region = 0; variants = 0; extensions = weight (b.behind ++ ext b); whole = weight (b.behind ++ (ext b ++ prv b)) }
-left_from InExtension b = record { language = 0; script = 0; region = 0; variants = 0; extensions = weight (b.behind ++ ext b); whole = weight (b.behind ++ (ext b ++ prv b)) }
+left_from AfterScript b = record { language = 0; script = 0; region = weight (one_flat b.parts.region); variants = weight (one_flat b.parts.region ++ b.parts.variants); extensions = weight (one_flat b.parts.region ++ (b.parts.variants ++ extension_subtags b)); whole = weight (one_flat b.parts.region ++ (b.parts.variants ++ (extension_subtags b ++ private_subtags b))) }
+left_from AfterRegion b = record { language = 0; script = 0; region = 0; variants = weight b.parts.variants; extensions = weight (b.parts.variants ++ extension_subtags b); whole = weight (b.parts.variants ++ (extension_subtags b ++ private_subtags b)) }
+left_from AfterVariant b = record { language = 0; script = 0; region = 0; variants = weight b.parts.variants; extensions = weight (b.parts.variants ++ extension_subtags b); whole = weight (b.parts.variants ++ (extension_subtags b ++ private_subtags b)) }
+left_from AfterSingleton b = record { language = 0; script = 0; region = 0; variants = 0; extensions = weight (b.behind ++ extension_subtags b); whole = weight (b.behind ++ (extension_subtags b ++ private_subtags b)) }
+left_from InExtension b = record { language = 0; script = 0; region = 0; variants = 0; extensions = weight (b.behind ++ extension_subtags b); whole = weight (b.behind ++ (extension_subtags b ++ private_subtags b)) }
 left_from AfterMark b = record { language = 0; script = 0; region = 0; variants = 0; extensions = 0; whole = weight b.behind }
 left_from InPrivate b = record { language = 0; script = 0; region = 0; variants = 0; extensions = 0; whole = weight b.behind }
-left_from _ b = record { language = weight b.parts.extended; script = weight (b.parts.extended ++ one_flat b.parts.script); region = weight (b.parts.extended ++ (one_flat b.parts.script ++ one_flat b.parts.region)); variants = weight (b.parts.extended ++ (one_flat b.parts.script ++ (one_flat b.parts.region ++ b.parts.variants))); extensions = weight (b.parts.extended ++ (one_flat b.parts.script ++ (one_flat b.parts.region ++ (b.parts.variants ++ ext b)))); whole = weight (b.parts.extended ++ (one_flat b.parts.script ++ (one_flat b.parts.region ++ (b.parts.variants ++ (ext b ++ prv b))))) }
+left_from _ b = record { language = weight b.parts.extended; script = weight (b.parts.extended ++ one_flat b.parts.script); region = weight (b.parts.extended ++ (one_flat b.parts.script ++ one_flat b.parts.region)); variants = weight (b.parts.extended ++ (one_flat b.parts.script ++ (one_flat b.parts.region ++ b.parts.variants))); extensions = weight (b.parts.extended ++ (one_flat b.parts.script ++ (one_flat b.parts.region ++ (b.parts.variants ++ extension_subtags b)))); whole = weight (b.parts.extended ++ (one_flat b.parts.script ++ (one_flat b.parts.region ++ (b.parts.variants ++ (extension_subtags b ++ private_subtags b))))) }
 
 -- the later parts end where the text so far does
-abbrev Flat4 : Ends → Type 0
-Flat4 e = e.extensions ≡ e.whole
+abbrev TogetherFromExtensions : Ends → Type 0
+TogetherFromExtensions e = e.extensions ≡ e.whole
 
-abbrev Flat3 : Ends → Type 0
-Flat3 e = (e.variants ≡ e.whole) × Flat4 e
+abbrev TogetherFromVariants : Ends → Type 0
+TogetherFromVariants e = (e.variants ≡ e.whole) × TogetherFromExtensions e
 
-abbrev Flat2 : Ends → Type 0
-Flat2 e = (e.region ≡ e.whole) × Flat3 e
+abbrev TogetherFromRegion : Ends → Type 0
+TogetherFromRegion e = (e.region ≡ e.whole) × TogetherFromVariants e
 
-abbrev Flat0 : Ends → Type 0
-Flat0 e = (e.language ≡ e.whole) × (e.script ≡ e.whole) × Flat2 e
+abbrev TogetherFromLanguage : Ends → Type 0
+TogetherFromLanguage e = (e.language ≡ e.whole) × (e.script ≡ e.whole) × TogetherFromRegion e
 
-abbrev IsFlat : Stage → Ends → Type 0
-IsFlat Start e = ⊥
-IsFlat (Language taken) e = Flat0 e
-IsFlat (Extended taken) e = Flat0 e
-IsFlat AfterScript e = Flat2 e
-IsFlat AfterRegion e = Flat3 e
-IsFlat AfterVariant e = Flat3 e
-IsFlat AfterSingleton e = Flat4 e
-IsFlat InExtension e = Flat4 e
-IsFlat AfterMark e = Unit {0}
-IsFlat InPrivate e = Unit {0}
+-- behind a stage its part and all later ones end where the text so far does
+abbrev EndTogether : Stage → Ends → Type 0
+EndTogether Start e = ⊥
+EndTogether (Language taken) e = TogetherFromLanguage e
+EndTogether (Extended taken) e = TogetherFromLanguage e
+EndTogether AfterScript e = TogetherFromRegion e
+EndTogether AfterRegion e = TogetherFromVariants e
+EndTogether AfterVariant e = TogetherFromVariants e
+EndTogether AfterSingleton e = TogetherFromExtensions e
+EndTogether InExtension e = TogetherFromExtensions e
+EndTogether AfterMark e = Unit {0}
+EndTogether InPrivate e = Unit {0}
 
 -- one step: the ends behind it, and what is still to come then
 abbrev Stepped : Stage → List ℕ → Read → Ends → Stage → Type 0
-Stepped stage s b e after = Same (plus e (left_from stage (put after s b))) (plus (end_at after (e.whole + 1 + length s) e) (left_from after b)) × IsFlat after (end_at after (e.whole + 1 + length s) e)
+Stepped stage s b e after = SameEnds (sum_of e (left_from stage (put after s b))) (sum_of (end_at after (e.whole + 1 + length s) e) (left_from after b)) × EndTogether after (end_at after (e.whole + 1 + length s) e)
 
+-- ---- the steps, by the stage that they lead to
 to_mark : (c : ℕ) (b : Read) (e : Ends) → Stepped (Language 0) (c ∷ []) b e AfterMark
 to_mark c b e = (record { language = omega arith; script = omega arith; region = omega arith; variants = omega arith; extensions = omega arith; whole = omega arith }, tt)
 
-to_singleton : (c : ℕ) (b : Read) (e : Ends) → Flat4 e → Stepped (Language 0) (c ∷ []) b e AfterSingleton
+to_singleton : (c : ℕ) (b : Read) (e : Ends) → TogetherFromExtensions e → Stepped (Language 0) (c ∷ []) b e AfterSingleton
 to_singleton c b e f =
-    let assoc = ap weight (append_assoc b.behind (ext b) (prv b)) in
+    let assoc = ap weight (append_assoc b.behind (extension_subtags b) (private_subtags b)) in
     (record { language = omega arith; script = omega arith; region = omega arith; variants = omega arith; extensions = omega arith; whole = omega (arith, assoc) }, refl)
 
-to_variant : (s : List ℕ) (b : Read) (e : Ends) → Flat3 e → Stepped (Language 0) s b e AfterVariant
+to_variant : (s : List ℕ) (b : Read) (e : Ends) → TogetherFromVariants e → Stepped (Language 0) s b e AfterVariant
 to_variant s b e f = (record { language = omega arith; script = omega arith; region = omega arith; variants = omega (arith, f.0); extensions = omega (arith, f.1); whole = omega arith }, (refl, refl))
 
-to_region : (s : List ℕ) (b : Read) (e : Ends) → Flat2 e → Stepped (Language 0) s b e AfterRegion
+to_region : (s : List ℕ) (b : Read) (e : Ends) → TogetherFromRegion e → Stepped (Language 0) s b e AfterRegion
 to_region s b e f = (record { language = omega arith; script = omega arith; region = omega (arith, f.0); variants = omega (arith, f.1.0); extensions = omega (arith, f.1.1); whole = omega arith }, (refl, refl))
 
-to_script : (s : List ℕ) (b : Read) (e : Ends) → Flat0 e → Stepped (Language 0) s b e AfterScript
+to_script : (s : List ℕ) (b : Read) (e : Ends) → TogetherFromLanguage e → Stepped (Language 0) s b e AfterScript
 to_script s b e f = (record { language = omega arith; script = omega (arith, f.1); region = omega (arith, f.2.0); variants = omega (arith, f.2.1.0); extensions = omega (arith, f.2.1.1); whole = omega arith }, (refl, (refl, refl)))
 
-to_extended : (taken : ℕ) (s : List ℕ) (b : Read) (e : Ends) → Flat0 e → Stepped (Language 0) s b e (Extended taken)
+to_extended : (taken : ℕ) (s : List ℕ) (b : Read) (e : Ends) → TogetherFromLanguage e → Stepped (Language 0) s b e (Extended taken)
 to_extended taken s b e f = (record { language = omega (arith, f.0); script = omega (arith, f.1); region = omega (arith, f.2.0); variants = omega (arith, f.2.1.0); extensions = omega (arith, f.2.1.1); whole = omega arith }, (refl, refl, (refl, (refl, refl))))
 
 -- ---- by what may follow at a stage: the same at each stage, since what `put` leaves out weighs nothing
-record Opened (s : List ℕ) (b : Read) (e : Ends) (after : Stage) : Type 0 where
+record OpenedEnds (s : List ℕ) (b : Read) (e : Ends) (after : Stage) : Type 0 where
   at_language : Stepped (Language 0) s b e after
   at_script : Stepped AfterScript s b e after
   at_region : Stepped AfterRegion s b e after
   at_extension : Stepped InExtension s b e after
 
-opened_ends : (s : List ℕ) (b : Read) (e : Ends) (after : Stage) → opened s ≡ Some after → Flat4 e → Opened s b e after
+opened_ends : (s : List ℕ) (b : Read) (e : Ends) (after : Stage) → opened s ≡ Some after → TogetherFromExtensions e → OpenedEnds s b e after
 opened_ends [] b e after h f = absurd cc
 opened_ends (c ∷ d ∷ s) b e after h f = absurd cc
 opened_ends (c ∷ []) b e after h f =
     elim (chosen (is_mark c) (Some AfterMark) (cond (is_singleton c) (Some AfterSingleton) None) (Some after) h) [
-      | inl k ↦ let t = to_mark c b e in subst (Opened (c ∷ []) b e) (same_stage AfterMark after k.1) (record { at_language = t; at_script = t; at_region = t; at_extension = t })
+      | inl k ↦ let t = to_mark c b e in subst (OpenedEnds (c ∷ []) b e) (same_stage AfterMark after k.1) (record { at_language = t; at_script = t; at_region = t; at_extension = t })
       | inr k ↦ elim (chosen (is_singleton c) (Some AfterSingleton) None (Some after) k.1) [
-        | inl m ↦ let t = to_singleton c b e f in subst (Opened (c ∷ []) b e) (same_stage AfterSingleton after m.1) (record { at_language = t; at_script = t; at_region = t; at_extension = t })
+        | inl m ↦ let t = to_singleton c b e f in subst (OpenedEnds (c ∷ []) b e) (same_stage AfterSingleton after m.1) (record { at_language = t; at_script = t; at_region = t; at_extension = t })
         | inr m ↦ absurd cc
       ]
     ]
 
-record Regioned (s : List ℕ) (b : Read) (e : Ends) (after : Stage) : Type 0 where
+-- the same behind the region, and behind the script
+record AfterRegionEnds (s : List ℕ) (b : Read) (e : Ends) (after : Stage) : Type 0 where
   at_language : Stepped (Language 0) s b e after
   at_script : Stepped AfterScript s b e after
   at_region : Stepped AfterRegion s b e after
 
-after_region_ends : (s : List ℕ) (b : Read) (e : Ends) (after : Stage) → after_region s ≡ Some after → Flat3 e → Regioned s b e after
+after_region_ends : (s : List ℕ) (b : Read) (e : Ends) (after : Stage) → after_region s ≡ Some after → TogetherFromVariants e → AfterRegionEnds s b e after
 after_region_ends s b e after h f =
     elim (chosen (is_variant s) (Some AfterVariant) (opened s) (Some after) h) [
-      | inl k ↦ let t = to_variant s b e f in subst (Regioned s b e) (same_stage AfterVariant after k.1) (record { at_language = t; at_script = t; at_region = t })
+      | inl k ↦ let t = to_variant s b e f in subst (AfterRegionEnds s b e) (same_stage AfterVariant after k.1) (record { at_language = t; at_script = t; at_region = t })
       | inr k ↦ let t = opened_ends s b e after k.1 f.1 in record { at_language = t.at_language; at_script = t.at_script; at_region = t.at_region }
     ]
 
-record Scripted (s : List ℕ) (b : Read) (e : Ends) (after : Stage) : Type 0 where
+record AfterScriptEnds (s : List ℕ) (b : Read) (e : Ends) (after : Stage) : Type 0 where
   at_language : Stepped (Language 0) s b e after
   at_script : Stepped AfterScript s b e after
 
-after_script_ends : (s : List ℕ) (b : Read) (e : Ends) (after : Stage) → after_script s ≡ Some after → Flat2 e → Scripted s b e after
+after_script_ends : (s : List ℕ) (b : Read) (e : Ends) (after : Stage) → after_script s ≡ Some after → TogetherFromRegion e → AfterScriptEnds s b e after
 after_script_ends s b e after h f =
     elim (chosen (is_region s) (Some AfterRegion) (after_region s) (Some after) h) [
-      | inl k ↦ let t = to_region s b e f in subst (Scripted s b e) (same_stage AfterRegion after k.1) (record { at_language = t; at_script = t })
+      | inl k ↦ let t = to_region s b e f in subst (AfterScriptEnds s b e) (same_stage AfterRegion after k.1) (record { at_language = t; at_script = t })
       | inr k ↦ let t = after_region_ends s b e after k.1 f.1 in record { at_language = t.at_language; at_script = t.at_script }
     ]
 
-after_language_ends : (taken : ℕ) (s : List ℕ) (b : Read) (e : Ends) (after : Stage) → after_language taken s ≡ Some after → Flat0 e → Stepped (Language 0) s b e after
+after_language_ends : (taken : ℕ) (s : List ℕ) (b : Read) (e : Ends) (after : Stage) → after_language taken s ≡ Some after → TogetherFromLanguage e → Stepped (Language 0) s b e after
 after_language_ends taken s b e after h f =
     elim (chosen (is_extended s) (cond (ltb taken 3) (Some (Extended (taken + 1))) None) (cond (is_script s) (Some AfterScript) (after_script s)) (Some after) h) [
       | inl k ↦ elim (chosen (ltb taken 3) (Some (Extended (taken + 1))) None (Some after) k.1) [
@@ -157,13 +164,14 @@ after_language_ends taken s b e after h f =
       ]
     ]
 
-in_extension_ends : (s : List ℕ) (b : Read) (e : Ends) → Flat4 e → Stepped InExtension s b e InExtension
+in_extension_ends : (s : List ℕ) (b : Read) (e : Ends) → TogetherFromExtensions e → Stepped InExtension s b e InExtension
 in_extension_ends s b e f = (record { language = omega arith; script = omega arith; region = omega arith; variants = omega arith; extensions = omega arith; whole = omega arith }, refl)
 
 in_private_ends : (s : List ℕ) (b : Read) (e : Ends) → Stepped InPrivate s b e InPrivate
 in_private_ends s b e = (record { language = omega arith; script = omega arith; region = omega arith; variants = omega arith; extensions = omega arith; whole = omega arith }, tt)
 
-step_ends : (stage : Stage) (s : List ℕ) (b : Read) (e : Ends) (after : Stage) → next_stage stage s ≡ Some after → IsFlat stage e → Stepped stage s b e after
+-- each step of the stages keeps the law
+step_ends : (stage : Stage) (s : List ℕ) (b : Read) (e : Ends) (after : Stage) → next_stage stage s ≡ Some after → EndTogether stage e → Stepped stage s b e after
 step_ends Start s b e after h f = absurd f
 step_ends (Language taken) s b e after h f = after_language_ends taken s b e after h f
 step_ends (Extended taken) s b e after h f = after_language_ends taken s b e after h f
@@ -191,10 +199,12 @@ step_ends InPrivate s b e after h f =
       | inr k ↦ absurd cc
     ]
 
-Same-trans : (a b c : Ends) → Same a b → Same b c → Same a c
-Same-trans a b c p q = record { language = p.language ∙ q.language; script = p.script ∙ q.script; region = p.region ∙ q.region; variants = p.variants ∙ q.variants; extensions = p.extensions ∙ q.extensions; whole = p.whole ∙ q.whole }
+-- ---- the law
+SameEnds-trans : (a b c : Ends) → SameEnds a b → SameEnds b c → SameEnds a c
+SameEnds-trans a b c p q = record { language = p.language ∙ q.language; script = p.script ∙ q.script; region = p.region ∙ q.region; variants = p.variants ∙ q.variants; extensions = p.extensions ∙ q.extensions; whole = p.whole ∙ q.whole }
 
-nothing_left : (stage : Stage) (e : Ends) → IsFlat stage e → Same e (plus e (left_from stage nothing))
+-- where no subtag is left the ends are those so far
+nothing_left : (stage : Stage) (e : Ends) → EndTogether stage e → SameEnds e (sum_of e (left_from stage nothing))
 nothing_left Start e f = absurd f
 nothing_left (Language taken) e f = record { language = omega arith; script = omega arith; region = omega arith; variants = omega arith; extensions = omega arith; whole = omega arith }
 nothing_left (Extended taken) e f = record { language = omega arith; script = omega arith; region = omega arith; variants = omega arith; extensions = omega arith; whole = omega arith }
@@ -206,13 +216,14 @@ nothing_left InExtension e f = record { language = omega arith; script = omega a
 nothing_left AfterMark e f = record { language = omega arith; script = omega arith; region = omega arith; variants = omega arith; extensions = omega arith; whole = omega arith }
 nothing_left InPrivate e f = record { language = omega arith; script = omega arith; region = omega arith; variants = omega arith; extensions = omega arith; whole = omega arith }
 
-Same-sym : (a b : Ends) → Same a b → Same b a
-Same-sym a b p = record { language = sym p.language; script = sym p.script; region = sym p.region; variants = sym p.variants; extensions = sym p.extensions; whole = sym p.whole }
+SameEnds-sym : (a b : Ends) → SameEnds a b → SameEnds b a
+SameEnds-sym a b p = record { language = sym p.language; script = sym p.script; region = sym p.region; variants = sym p.variants; extensions = sym p.extensions; whole = sym p.whole }
 
-abbrev LawAt : Stage → Ends → List (List ℕ) → Read → Type 0
-LawAt stage e ss b = Same (ends_behind stage e ss) (plus e (left_from stage b))
+abbrev IsLawAt : Stage → Ends → List (List ℕ) → Read → Type 0
+IsLawAt stage e ss b = SameEnds (ends_behind stage e ss) (sum_of e (left_from stage b))
 
-place_later : (stage : Stage) (e : Ends) (s : List ℕ) → IsFlat stage e → place_behind stage e s ≡ e.whole + 1 + length s
+-- behind the first subtag each further one begins one place behind the whole so far
+place_later : (stage : Stage) (e : Ends) (s : List ℕ) → EndTogether stage e → place_behind stage e s ≡ e.whole + 1 + length s
 place_later Start e s f = absurd f
 place_later (Language taken) e s f = refl
 place_later (Extended taken) e s f = refl
@@ -225,11 +236,11 @@ place_later AfterMark e s f = refl
 place_later InPrivate e s f = refl
 
 -- behind all subtags of a stage the ends are those so far and what was left
-ends_law : (ss : List (List ℕ)) (stage : Stage) (e : Ends) (b : Read) → IsFlat stage e → decode stage ss ≡ Some b → LawAt stage e ss b
+ends_law : (ss : List (List ℕ)) (stage : Stage) (e : Ends) (b : Read) → EndTogether stage e → decode stage ss ≡ Some b → IsLawAt stage e ss b
 unfolding decode
 ends_law [] stage e b f h =
     elim (chosen (may_end stage) (Some nothing) None (Some b) h) [
-      | inl k ↦ let same : nothing ≡ b = cc in subst (LawAt stage e []) same (subst (λ o. Same o (plus e (left_from stage nothing))) (sym (ends_behind-nil stage e)) (nothing_left stage e f))
+      | inl k ↦ let same : nothing ≡ b = cc in subst (IsLawAt stage e []) same (subst (λ o. SameEnds o (sum_of e (left_from stage nothing))) (sym (ends_behind-nil stage e)) (nothing_left stage e f))
       | inr k ↦ absurd cc
     ]
 ends_law (s ∷ ss) stage e b f h =
@@ -239,11 +250,11 @@ ends_law (s ∷ ss) stage e b f h =
     let next : Ends = end_at x.0 (e.whole + 1 + length s) e in
     let ih = ends_law ss x.0 next y.0 st.1 y.1 in
     let run : ends_behind x.0 next ss ≡ ends_behind stage e (s ∷ ss) = sym (ends_behind-cons stage e s ss ∙ ap (λ o. option_map_or (λ after. ends_behind after (end_at after (place_behind stage e s) e) ss) o e) x.1 ∙ ap (λ k. ends_behind x.0 (end_at x.0 k e) ss) (place_later stage e s f)) in
-    let so_far = Same-trans (ends_behind x.0 next ss) (plus next (left_from x.0 y.0)) (plus e (left_from stage (put x.0 s y.0))) ih (Same-sym _ _ st.0) in
-    subst (λ (c : Read). LawAt stage e (s ∷ ss) c) y.2 (subst (λ (o : Ends). Same o (plus e (left_from stage (put x.0 s y.0)))) run so_far)
+    let so_far = SameEnds-trans (ends_behind x.0 next ss) (sum_of next (left_from x.0 y.0)) (sum_of e (left_from stage (put x.0 s y.0))) ih (SameEnds-sym _ _ st.0) in
+    subst (λ (c : Read). IsLawAt stage e (s ∷ ss) c) y.2 (subst (λ (o : Ends). SameEnds o (sum_of e (left_from stage (put x.0 s y.0)))) run so_far)
 
 -- those of a record are the primary subtag's length and what its other subtags weigh
-ends_of-weights : (r : Record) → Same (plus (all_at (length r.primary)) (left_from (Language 0) (record { behind = []; parts = r }))) (ends_of r)
+ends_of-weights : (r : Record) → SameEnds (sum_of (all_at (length r.primary)) (left_from (Language 0) (record { behind = []; parts = r }))) (ends_of r)
 ends_of-weights r = record {
   language = sym (length-join r.primary r.extended);
   script = sym (length-join r.primary (r.extended ++ one_flat r.script));
@@ -253,7 +264,8 @@ ends_of-weights r = record {
   whole = sym (length-join r.primary (r.extended ++ (one_flat r.script ++ (one_flat r.region ++ (r.variants ++ (flat_map extension_flat r.extensions ++ private_part_flat r.private_use))))));
 }
 
-same_ends : (a b : Ends) → Same a b → a ≡ b
+-- ends are equal where each of them is
+same_ends : (a b : Ends) → SameEnds a b → a ≡ b
 same_ends a b s =
     ap (λ x. let e : Ends = record { language = x; script = a.script; region = a.region; variants = a.variants; extensions = a.extensions; whole = a.whole } in e) s.language
     ∙ ap (λ x. let e : Ends = record { language = b.language; script = x; region = a.region; variants = a.variants; extensions = a.extensions; whole = a.whole } in e) s.script
@@ -273,7 +285,7 @@ ends_behind-flat r fits =
     let first : option_map (put stage r.primary) (decode stage rest) ≡ Some (whole r) =
     sym (ap (option_and_then (λ after. option_map (put after r.primary) (decode after rest))) next) ∙ decode_complete r fits in
     let y = map_some (put stage r.primary) (decode stage rest) (whole r) first in
-    let law : Same (ends_behind stage (all_at n) rest) (plus (all_at n) (left_from (Language 0) (put stage r.primary y.0))) = ends_law rest stage (all_at n) y.0 (refl, refl, (refl, (refl, refl))) y.1 in
-    let weighs : Same (ends_behind stage (all_at n) rest) (plus (all_at n) (left_from (Language 0) (whole r))) = subst (λ (b : Read). Same (ends_behind stage (all_at n) rest) (plus (all_at n) (left_from (Language 0) b))) y.2 law in
+    let law : SameEnds (ends_behind stage (all_at n) rest) (sum_of (all_at n) (left_from (Language 0) (put stage r.primary y.0))) = ends_law rest stage (all_at n) y.0 (refl, refl, (refl, (refl, refl))) y.1 in
+    let weighs : SameEnds (ends_behind stage (all_at n) rest) (sum_of (all_at n) (left_from (Language 0) (whole r))) = subst (λ (b : Read). SameEnds (ends_behind stage (all_at n) rest) (sum_of (all_at n) (left_from (Language 0) b))) y.2 law in
     ends_behind-cons Start (all_at 0) r.primary rest ∙ ap (λ o. option_map_or (λ after. ends_behind after (end_at after n (all_at 0)) rest) o (all_at 0)) next
-    ∙ same_ends _ _ (Same-trans _ _ _ weighs (ends_of-weights r))
+    ∙ same_ends _ _ (SameEnds-trans _ _ _ weighs (ends_of-weights r))

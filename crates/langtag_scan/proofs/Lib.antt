@@ -8,7 +8,6 @@ pub mod SubtagsLemmas
 pub mod ShapeLaws
 pub mod Running
 pub mod Filling
-pub mod PrivateRuns
 pub mod PrivateTexts
 pub mod ReadingLaws
 pub mod EndsLaw
@@ -17,3 +16,4 @@ pub mod TagLaws
 pub mod FillLaw
 pub mod CaseLaw
 pub mod OneCase
+pub mod Ascii

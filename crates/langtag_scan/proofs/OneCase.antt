@@ -11,16 +11,11 @@ use Rattle.langtag_scan.specs.Stage.{runs}
 use Rattle.langtag_scan.specs.Subtags.{segments}
 use Rattle.langtag_scan.specs.Tag.{IsNormal, IsPrivate, IsIrregular, IsIrregularAt}
 use Rattle.langtag_scan.proofs.Segments.{runs_from_normal}
-use Rattle.langtag_scan.proofs.PrivateRuns.{runs_private, runs_from_private}
+use Rattle.langtag_scan.proofs.PrivateTexts.{runs_private, runs_from_private, one_no_primary}
 use Rattle.langtag_scan.proofs.CaseLaw.{runs-fold, runs_private-fold, segments-fold}
 use Rattle.langtag_scan.proofs.IrregularNames.{irregular_here}
 
--- no mark is a primary subtag
-one_no_primary : (m : ℕ) → is_primary (m ∷ []) ≡ false
-unfolding is_primary
-one_no_primary m = refl
-
--- so no subtags are those of a normal text and of a private one
+-- no subtags are those of a normal text and of a private one
 runs_once : (ss : List (List ℕ)) → runs Start ss ≡ true → runs_private ss ≡ true → ⊥
 unfolding runs
 runs_once [] normal private = absurd cc

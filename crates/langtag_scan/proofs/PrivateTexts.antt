@@ -1,14 +1,15 @@
--- A private text is a mark, a hyphen, and subtags over which the stages run from behind a mark.
-use Rattle.std.proofs.Common.{◌≡◌, ℕ, ◌≤◌, true, false, eqb, eqb-true, ◌⊎◌, inl, inr, List, [], ◌∷◌, ◌++◌, length, None, refl, sym, ap, ◌∙◌, arith}
+-- A private text is a mark, a hyphen, and subtags over which the stages run from behind a mark; no other text is.
+use Rattle.std.proofs.Common.{Bool, ◌≡◌, ℕ, ◌≤◌, true, false, eqb, eqb-true, ◌&&◌, ◌⊎◌, inl, inr, List, [], ◌∷◌, ◌++◌, length, None, refl, sym, ap, ◌∙◌, arith}
 use Rattle.std.specs.Prelude.{IsTrue}
 use Rattle.std.specs.List.{AllByRecursion}
 use Rattle.std.specs.Option.{is_some}
+use Rattle.std.proofs.lemmas.Bool.{and_parts, and_from}
 use Rattle.std.proofs.lemmas.List.Splits.{join_with_byte-slice_split}
 use Rattle.langtag_scan.specs.declared.stage.Stage.TheVariants.{Start, AfterMark}
 use Rattle.langtag_scan.specs.Class.{is_letter, is_alphanumeric, are_alphanumeric, is_private_subtag, is_primary, is_mark}
 use Rattle.langtag_scan.specs.Subtags.{join, segments}
 use Rattle.langtag_scan.specs.Tag.{IsNormal, IsPrivate}
-use Rattle.langtag_scan.specs.Stage.{runs}
+use Rattle.langtag_scan.specs.Stage.{is_one, runs}
 use Rattle.langtag_scan.proofs.Disjoint.{both_true, one_true}
 use Rattle.langtag_scan.proofs.Decoding.{decode, decode_sound, pending}
 use Rattle.langtag_scan.proofs.Complete.{after_mark}
@@ -34,16 +35,40 @@ marked_from_private t h = by_subtags h.0.mark h.0.subtags h.1.mark h.1.some h.1.
         let split : segments (join (s ∷ ss)) ≡ s ∷ ss = segments-join s ss (decoded_subtags (s ∷ ss) AfterMark (pending (s ∷ ss) [] None) d) in
         record { mark = m; rest = join (s ∷ ss); split = sym e; marked = mark; run = ap (runs AfterMark) split ∙ runs-decode (s ∷ ss) AfterMark ∙ ap is_some d }
 
-private_joined : (m : ℕ) (ss : List (List ℕ)) (t : List ℕ) → 1 ≤ length ss → join ss ≡ t → join ((m ∷ []) ∷ ss) ≡ m ∷ 45 ∷ t
-private_joined m [] t some e = absurd (omega arith)
-private_joined m (s ∷ ss) t some e = ap (λ (u : List ℕ). m ∷ 45 ∷ u) e
+-- whether the subtags are a mark and what may follow it
+abbrev pub runs_private : List (List ℕ) → Bool
+runs_private [] = false
+runs_private (s ∷ ss) = is_one is_mark s && runs AfterMark ss
+
+-- the segments of a mark, a hyphen and more
+segments-marked : (m : ℕ) (u : List ℕ) → is_mark m ≡ true → segments (m ∷ 45 ∷ u) ≡ (m ∷ []) ∷ segments u
+segments-marked m u mark = segments-hyphen (m ∷ []) u (rw (mark_alphanumeric m mark) refl)
+
+-- the segments of a private text
+pub runs_from_private : (t : List ℕ) → IsPrivate t → runs_private (segments t) ≡ true
+runs_from_private t h =
+    let k = marked_from_private t h in
+    ap (λ u. runs_private (segments u)) k.split ∙ ap runs_private (segments-marked k.mark k.rest k.marked) ∙ and_from (is_mark k.mark) (runs AfterMark (segments k.rest)) k.marked k.run
+
+-- what such subtags spell is private
+private_from_subtags : (t : List ℕ) (ss : List (List ℕ)) → join ss ≡ t → runs_private ss ≡ true → IsPrivate t
+unfolding IsPrivate
+private_from_subtags t [] e h = absurd cc
+private_from_subtags t ([] ∷ ss) e h = absurd cc
+private_from_subtags t ((m ∷ c ∷ s) ∷ ss) e h = absurd cc
+private_from_subtags t ((m ∷ []) ∷ ss) e h =
+    let k = and_parts (is_mark m) (runs AfterMark ss) h in
+    let d = is_there (decode AfterMark ss) (sym (runs-decode ss AfterMark) ∙ k.1) in
+    let a = decode_sound ss AfterMark d.0 d.1 in
+    (record { mark = m; subtags = d.0.behind }, record { mark = k.0; some = a.0.0; subtags = a.0.1 }, ap (λ (us : List (List ℕ)). join ((m ∷ []) ∷ us)) a.1 ∙ e)
+
+-- and only a private text has such segments
+pub private_from_runs : (t : List ℕ) → runs_private (segments t) ≡ true → IsPrivate t
+private_from_runs t h = private_from_subtags t (segments t) (join_with_byte-slice_split 45 t) h
 
 pub private_from_marked : (m : ℕ) (u : List ℕ) → is_mark m ≡ true → runs AfterMark (segments u) ≡ true → IsPrivate (m ∷ 45 ∷ u)
-unfolding IsPrivate
 private_from_marked m u mark run =
-    let d = is_there (decode AfterMark (segments u)) (sym (runs-decode (segments u) AfterMark) ∙ run) in
-    let a = decode_sound (segments u) AfterMark d.0 d.1 in
-    (record { mark = m; subtags = d.0.behind }, record { mark = mark; some = a.0.0; subtags = a.0.1 }, private_joined m d.0.behind u a.0.0 (ap join a.1 ∙ join_with_byte-slice_split 45 u))
+    private_from_runs (m ∷ 45 ∷ u) (ap runs_private (segments-marked m u mark) ∙ and_from (is_mark m) (runs AfterMark (segments u)) mark run)
 
 -- a private text that begins with letters and digits and then another byte
 pub private_begun : (s : List ℕ) (b : ℕ) (u : List ℕ) → are_alphanumeric s ≡ true → IsPrivate (s ++ b ∷ u) → ((s ≡ []) × (is_mark b ≡ true)) ⊎ ((m : ℕ) × (s ≡ m ∷ []) × (is_mark m ≡ true) × (b ≡ 45))
@@ -98,8 +123,7 @@ one_no_primary m = refl
 -- no normal tag begins with a mark and a hyphen
 pub marked_not_normal : (m : ℕ) (u : List ℕ) → is_mark m ≡ true → IsNormal (m ∷ 45 ∷ u) → ⊥
 marked_not_normal m u mark n =
-    let held : are_alphanumeric (m ∷ []) ≡ true = rw (mark_alphanumeric m mark) refl in
     let stops : runs Start (segments (m ∷ 45 ∷ u)) ≡ false =
-    ap (runs Start) (segments-hyphen (m ∷ []) u held) ∙ runs-cons Start (m ∷ []) (segments u) ∙ rw (one_no_primary m) refl in
+    ap (runs Start) (segments-marked m u mark) ∙ runs-cons Start (m ∷ []) (segments u) ∙ rw (one_no_primary m) refl in
     let run : runs Start (segments (m ∷ 45 ∷ u)) ≡ true = runs_from_normal (m ∷ 45 ∷ u) n in
     cc

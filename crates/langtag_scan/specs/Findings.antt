@@ -1,4 +1,5 @@
 -- How a `Found` keeps what was found.
+-- Only the model of that type cites this page.
 use Rattle.langtag_scan.specs.Found.{Finding, Finding.normal, Finding.private_use, Finding.irregular}
 use Rattle.langtag_scan.specs.declared.found.Case.{Case}
 use Rattle.langtag_scan.specs.declared.found.Case.TheVariants.{Normal, PrivateUse, Irregular}

@@ -1,4 +1,3 @@
-pub mod Ascii
 pub mod Examples
 pub mod Lines
 pub mod OneReport

@@ -1,6 +1,6 @@
 use Rattle.std.proofs.Common.{refl}
 use Rattle.langtag_show.specs.Report.{refused}
-use Rattle.langtag_show.proofs.Ascii.{IsUtf8-tag}
+use Rattle.langtag_scan.proofs.Ascii.{IsUtf8-tag}
 use Rattle.langtag_show.proofs.answer.answer_to.Goals as goal
 
 pub returns-in_default : goal.returns-in_default
