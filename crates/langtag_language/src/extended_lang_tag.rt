@@ -92,7 +92,9 @@ impl<'a> ExtendedLangTag<'a> {
 }
 
 impl fmt::Display for ExtendedLangTag<'_> {
-    ghost output = { λ extended. Some extended.text.0.now };
+    ghost use Rattle.langtag_language.specs.Text.{extended_lang_tag_text};
+
+    ghost output = { λ extended. Some (extended_lang_tag_text extended) };
 
     fn fmt<W: fmt::Write>(&self, f: &mut fmt::Formatter<W>) -> fmt::Result {
         f.write_str(self.as_str())
@@ -152,7 +154,9 @@ impl ExtendedLangTagBuf {
 }
 
 impl fmt::Display for ExtendedLangTagBuf {
-    ghost output = { λ extended. Some (string_bytes extended.text.0) };
+    ghost use Rattle.langtag_language.specs.Text.{extended_lang_tag_buf_text};
+
+    ghost output = { λ extended. Some (extended_lang_tag_buf_text extended) };
 
     fn fmt<W: fmt::Write>(&self, f: &mut fmt::Formatter<W>) -> fmt::Result {
         f.write_str(self.as_str())

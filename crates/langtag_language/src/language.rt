@@ -159,7 +159,9 @@ fn is_language(text: &str) -> bool
 }
 
 impl fmt::Display for Language<'_> {
-    ghost output = { λ language. Some language.text.0.now };
+    ghost use Rattle.langtag_language.specs.Text.{language_text};
+
+    ghost output = { λ language. Some (language_text language) };
 
     fn fmt<W: fmt::Write>(&self, f: &mut fmt::Formatter<W>) -> fmt::Result {
         f.write_str(self.as_str())
@@ -221,7 +223,9 @@ impl LanguageBuf {
 }
 
 impl fmt::Display for LanguageBuf {
-    ghost output = { λ language. Some (string_bytes language.text.0) };
+    ghost use Rattle.langtag_language.specs.Text.{language_buf_text};
+
+    ghost output = { λ language. Some (language_buf_text language) };
 
     fn fmt<W: fmt::Write>(&self, f: &mut fmt::Formatter<W>) -> fmt::Result {
         f.write_str(self.as_str())

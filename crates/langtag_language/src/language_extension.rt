@@ -113,7 +113,9 @@ fn is_language_extension(text: &str) -> bool
 }
 
 impl fmt::Display for LanguageExtension<'_> {
-    ghost output = { λ extension. Some extension.text.0.now };
+    ghost use Rattle.langtag_language.specs.Text.{language_extension_text};
+
+    ghost output = { λ extension. Some (language_extension_text extension) };
 
     fn fmt<W: fmt::Write>(&self, f: &mut fmt::Formatter<W>) -> fmt::Result {
         f.write_str(self.as_str())
@@ -175,7 +177,9 @@ impl LanguageExtensionBuf {
 }
 
 impl fmt::Display for LanguageExtensionBuf {
-    ghost output = { λ extension. Some (string_bytes extension.text.0) };
+    ghost use Rattle.langtag_language.specs.Text.{language_extension_buf_text};
+
+    ghost output = { λ extension. Some (language_extension_buf_text extension) };
 
     fn fmt<W: fmt::Write>(&self, f: &mut fmt::Formatter<W>) -> fmt::Result {
         f.write_str(self.as_str())

@@ -92,7 +92,9 @@ impl<'a> PrimaryLanguage<'a> {
 }
 
 impl fmt::Display for PrimaryLanguage<'_> {
-    ghost output = { λ primary. Some primary.text.0.now };
+    ghost use Rattle.langtag_language.specs.Text.{primary_language_text};
+
+    ghost output = { λ primary. Some (primary_language_text primary) };
 
     fn fmt<W: fmt::Write>(&self, f: &mut fmt::Formatter<W>) -> fmt::Result {
         f.write_str(self.as_str())
@@ -152,7 +154,9 @@ impl PrimaryLanguageBuf {
 }
 
 impl fmt::Display for PrimaryLanguageBuf {
-    ghost output = { λ primary. Some (string_bytes primary.text.0) };
+    ghost use Rattle.langtag_language.specs.Text.{primary_language_buf_text};
+
+    ghost output = { λ primary. Some (primary_language_buf_text primary) };
 
     fn fmt<W: fmt::Write>(&self, f: &mut fmt::Formatter<W>) -> fmt::Result {
         f.write_str(self.as_str())

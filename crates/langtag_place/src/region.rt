@@ -92,7 +92,9 @@ impl<'a> Region<'a> {
 }
 
 impl fmt::Display for Region<'_> {
-    ghost output = { λ region. Some region.text.0.now };
+    ghost use Rattle.langtag_place.specs.Text.{region_text};
+
+    ghost output = { λ region. Some (region_text region) };
 
     fn fmt<W: fmt::Write>(&self, f: &mut fmt::Formatter<W>) -> fmt::Result {
         f.write_str(self.as_str())
@@ -152,7 +154,9 @@ impl RegionBuf {
 }
 
 impl fmt::Display for RegionBuf {
-    ghost output = { λ region. Some (string_bytes region.text.0) };
+    ghost use Rattle.langtag_place.specs.Text.{region_buf_text};
+
+    ghost output = { λ region. Some (region_buf_text region) };
 
     fn fmt<W: fmt::Write>(&self, f: &mut fmt::Formatter<W>) -> fmt::Result {
         f.write_str(self.as_str())

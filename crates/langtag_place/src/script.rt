@@ -92,7 +92,9 @@ impl<'a> Script<'a> {
 }
 
 impl fmt::Display for Script<'_> {
-    ghost output = { λ script. Some script.text.0.now };
+    ghost use Rattle.langtag_place.specs.Text.{script_text};
+
+    ghost output = { λ script. Some (script_text script) };
 
     fn fmt<W: fmt::Write>(&self, f: &mut fmt::Formatter<W>) -> fmt::Result {
         f.write_str(self.as_str())
@@ -152,7 +154,9 @@ impl ScriptBuf {
 }
 
 impl fmt::Display for ScriptBuf {
-    ghost output = { λ script. Some (string_bytes script.text.0) };
+    ghost use Rattle.langtag_place.specs.Text.{script_buf_text};
+
+    ghost output = { λ script. Some (script_buf_text script) };
 
     fn fmt<W: fmt::Write>(&self, f: &mut fmt::Formatter<W>) -> fmt::Result {
         f.write_str(self.as_str())

@@ -94,7 +94,9 @@ impl<'a> Variant<'a> {
 }
 
 impl fmt::Display for Variant<'_> {
-    ghost output = { λ variant. Some variant.text.0.now };
+    ghost use Rattle.langtag_place.specs.Text.{variant_text};
+
+    ghost output = { λ variant. Some (variant_text variant) };
 
     fn fmt<W: fmt::Write>(&self, f: &mut fmt::Formatter<W>) -> fmt::Result {
         f.write_str(self.as_str())
@@ -155,7 +157,9 @@ impl VariantBuf {
 }
 
 impl fmt::Display for VariantBuf {
-    ghost output = { λ variant. Some (string_bytes variant.text.0) };
+    ghost use Rattle.langtag_place.specs.Text.{variant_buf_text};
+
+    ghost output = { λ variant. Some (variant_buf_text variant) };
 
     fn fmt<W: fmt::Write>(&self, f: &mut fmt::Formatter<W>) -> fmt::Result {
         f.write_str(self.as_str())

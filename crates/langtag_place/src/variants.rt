@@ -124,7 +124,9 @@ impl<'a> Variants<'a> {
 }
 
 impl fmt::Display for Variants<'_> {
-    ghost output = { λ variants. Some variants.text.0.now };
+    ghost use Rattle.langtag_place.specs.Text.{variants_text};
+
+    ghost output = { λ variants. Some (variants_text variants) };
 
     fn fmt<W: fmt::Write>(&self, f: &mut fmt::Formatter<W>) -> fmt::Result {
         f.write_str(self.as_str())
@@ -184,7 +186,9 @@ impl VariantsBuf {
 }
 
 impl fmt::Display for VariantsBuf {
-    ghost output = { λ variants. Some (string_bytes variants.text.0) };
+    ghost use Rattle.langtag_place.specs.Text.{variants_buf_text};
+
+    ghost output = { λ variants. Some (variants_buf_text variants) };
 
     fn fmt<W: fmt::Write>(&self, f: &mut fmt::Formatter<W>) -> fmt::Result {
         f.write_str(self.as_str())

@@ -138,7 +138,9 @@ fn are_private(mut subtags: Subtags<'_>) -> bool
 }
 
 impl fmt::Display for PrivateUse<'_> {
-    ghost output = { λ private_use. Some private_use.text.0.now };
+    ghost use Rattle.langtag_private.specs.Text.{private_use_text};
+
+    ghost output = { λ private_use. Some (private_use_text private_use) };
 
     fn fmt<W: fmt::Write>(&self, f: &mut fmt::Formatter<W>) -> fmt::Result {
         f.write_str(self.as_str())
@@ -200,7 +202,9 @@ impl PrivateUseBuf {
 }
 
 impl fmt::Display for PrivateUseBuf {
-    ghost output = { λ private_use. Some (string_bytes private_use.text.0) };
+    ghost use Rattle.langtag_private.specs.Text.{private_use_buf_text};
+
+    ghost output = { λ private_use. Some (private_use_buf_text private_use) };
 
     fn fmt<W: fmt::Write>(&self, f: &mut fmt::Formatter<W>) -> fmt::Result {
         f.write_str(self.as_str())

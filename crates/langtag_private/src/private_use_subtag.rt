@@ -92,7 +92,9 @@ impl<'a> PrivateUseSubtag<'a> {
 }
 
 impl fmt::Display for PrivateUseSubtag<'_> {
-    ghost output = { λ subtag. Some subtag.text.0.now };
+    ghost use Rattle.langtag_private.specs.Text.{private_use_subtag_text};
+
+    ghost output = { λ subtag. Some (private_use_subtag_text subtag) };
 
     fn fmt<W: fmt::Write>(&self, f: &mut fmt::Formatter<W>) -> fmt::Result {
         f.write_str(self.as_str())
@@ -152,7 +154,9 @@ impl PrivateUseSubtagBuf {
 }
 
 impl fmt::Display for PrivateUseSubtagBuf {
-    ghost output = { λ subtag. Some (string_bytes subtag.text.0) };
+    ghost use Rattle.langtag_private.specs.Text.{private_use_subtag_buf_text};
+
+    ghost output = { λ subtag. Some (private_use_subtag_buf_text subtag) };
 
     fn fmt<W: fmt::Write>(&self, f: &mut fmt::Formatter<W>) -> fmt::Result {
         f.write_str(self.as_str())
