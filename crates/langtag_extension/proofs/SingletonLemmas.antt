@@ -19,13 +19,16 @@ alphanumeric_below b h =
       | inr digit ↦ let m = between_true 48 57 b digit in omega arith
     ]
 
+-- a singleton is a letter or digit
 pub singleton_alphanumeric : (b : ℕ) → is_singleton b ≡ true → is_alphanumeric b ≡ true
 unfolding is_singleton
 singleton_alphanumeric b h = (both_true (is_alphanumeric b) (not (is_mark b)) h).0
 
+-- so it is ASCII
 pub singleton_below : (b : ℕ) → is_singleton b ≡ true → b < 128
 singleton_below b h = alphanumeric_below b (singleton_alphanumeric b h)
 
+-- and no greater number is one
 pub is_singleton_above : (b : ℕ) → 128 ≤ b → is_singleton b ≡ false
 is_singleton_above b above = not_both (is_singleton b) (λ h. let below = singleton_below b h in omega arith)
 

@@ -21,21 +21,21 @@ use Rattle.langtag_extension.proofs.WalkLemmas.{groups-first}
 subtag-singleton : (b : ℕ) → is_singleton b ≡ true → IsSubtag (b ∷ [])
 subtag-singleton b h = record { some = omega arith; short = omega arith; alnum = rw (singleton_alphanumeric b h) refl }
 
-subtag-extension_subtag : (s : List ℕ) → is_extension_subtag s ≡ true → IsSubtag s
+extension_subtag_long : (s : List ℕ) → is_extension_subtag s ≡ true → (2 ≤ length s) × (length s ≤ 8) × (are_alphanumeric s ≡ true)
 unfolding is_extension_subtag
-subtag-extension_subtag s h =
+extension_subtag_long s h =
     let k = both_true (has_length 2 8 s) (are_alphanumeric s) h in
     let m = between_true 2 8 (length s) k.0 in
-    record { some = omega arith; short = omega arith; alnum = k.1 }
+    (m.0, m.1, k.1)
+
+subtag-extension_subtag : (s : List ℕ) → is_extension_subtag s ≡ true → IsSubtag s
+subtag-extension_subtag s h = let k = extension_subtag_long s h in record { some = omega arith; short = omega arith; alnum = k.2 }
 
 -- no subtag behind the singleton opens an extension
 goes_on-extension_subtag : (s : List ℕ) → is_extension_subtag s ≡ true → goes_on s ≡ true
-unfolding is_extension_subtag
-goes_on-extension_subtag s h =
-    let k = both_true (has_length 2 8 s) (are_alphanumeric s) h in
-    let m = between_true 2 8 (length s) k.0 in
-    grind (arith, common_steps)
+goes_on-extension_subtag s h = let k = extension_subtag_long s h in grind (arith, common_steps)
 
+-- what a list of them is, as a fact and as a test
 subtags-each : (ss : List (List ℕ)) → AllByRecursion (λ s. IsTrue (is_extension_subtag s)) ss → AllByRecursion IsSubtag ss
 subtags-each [] fits = tt
 subtags-each (s ∷ ss) fits = (subtag-extension_subtag s fits.0, subtags-each ss fits.1)
@@ -54,6 +54,7 @@ each-are_extension_subtags (s ∷ ss) pass =
     let both = both_true (is_extension_subtag s) (are_extension_subtags ss) pass in
     (both.0, each-are_extension_subtags ss both.1)
 
+-- each of an extension's subtags is one to eight letters and digits
 subtags-flat : (e : Extension) → IsExtension e → AllByRecursion IsSubtag (extension_flat e)
 subtags-flat e fits = (subtag-singleton e.singleton fits.singleton, subtags-each e.subtags fits.subtags)
 
@@ -75,16 +76,18 @@ first_byte-spelling e = by_subtags e.subtags
     by_subtags [] = refl
     by_subtags (s ∷ ss) = refl
 
+-- the test passes a singleton and subtags
 is_extension_list-flat : (b : ℕ) (ss : List (List ℕ)) → is_singleton b ≡ true → 1 ≤ length ss → are_extension_subtags ss ≡ true → is_extension_list ((b ∷ []) ∷ ss) ≡ true
 is_extension_list-flat b [] one some pass = absurd (omega arith)
 is_extension_list-flat b (s ∷ ss) one some pass = rw one pass
 
 -- what the rule accepts passes the test
-pub is_extension_text-spelled : (text : List ℕ) → IsExtensionText text → is_extension_text text ≡ true
-is_extension_text-spelled text (e, spells) =
+pub is_extension_text_spelled : (text : List ℕ) → IsExtensionText text → is_extension_text text ≡ true
+is_extension_text_spelled text (e, spells) =
     ap is_extension_list (subtags_spelled e text spells)
     ∙ is_extension_list-flat e.singleton e.subtags spells.member.singleton spells.member.some (are_extension_subtags-each e.subtags spells.member.subtags)
 
+-- the extension that the subtags are
 extension_of_list : (ss : List (List ℕ)) → is_extension_list ss ≡ true → (e : Extension) × IsExtension e × (extension_flat e ≡ ss)
 extension_of_list [] pass = absurd cc
 extension_of_list ([] ∷ ss) pass = absurd cc
@@ -100,12 +103,14 @@ extension_passed text pass =
     let found = extension_of_list (subtags text) pass in
     (found.0, record { member = found.1; joined = ap join found.2 ∙ join-subtags text })
 
+-- so an answer that is the test is the rule
 pub extension_answer : (text : List ℕ) (b : Bool) → b ≡ is_extension_text text → IsTrue b ↔ IsExtensionText text
 extension_answer text b same =
-    (λ yes. extension_passed text (sym same ∙ yes), λ spelled. same ∙ is_extension_text-spelled text spelled)
+    (λ yes. extension_passed text (sym same ∙ yes), λ spelled. same ∙ is_extension_text_spelled text spelled)
 
 -- ---- a list of extensions
 
+-- the subtags of all extensions begin with a singleton
 opens-flat : (es : List Extension) → opens (flat_map extension_flat es) ≡ true
 opens-flat [] = refl
 opens-flat (e ∷ es) = refl
@@ -117,6 +122,7 @@ groups-flat (e ∷ es) fits =
     groups-first (e.singleton ∷ []) e.subtags (flat_map extension_flat es) (goes_on-each e.subtags fits.0.subtags) (opens-flat es)
     ∙ ap (λ gs. extension_flat e ∷ gs) (groups-flat es fits.1)
 
+-- all of them are subtags, so they are found again in their join
 all_subtags-append : (xs ys : List (List ℕ)) → AllByRecursion IsSubtag xs → AllByRecursion IsSubtag ys → AllByRecursion IsSubtag (xs ++ ys)
 all_subtags-append [] ys here there = there
 all_subtags-append (x ∷ xs) ys here there = (here.0, all_subtags-append xs ys here.1 there)
@@ -142,13 +148,14 @@ extension_texts_spelled es text spells =
 are_extension_texts_spelled : (es : List Extension) → AllByRecursion IsExtension es → are_extension_texts (map extension_spelling es) ≡ true
 are_extension_texts_spelled [] fits = refl
 are_extension_texts_spelled (e ∷ es) fits =
-    rw (is_extension_text-spelled (extension_spelling e) (e, record { member = fits.0; joined = refl })) (are_extension_texts_spelled es fits.1)
+    rw (is_extension_text_spelled (extension_spelling e) (e, record { member = fits.0; joined = refl })) (are_extension_texts_spelled es fits.1)
 
 -- what the rule accepts passes the test
-pub is_extensions_text-spelled : (text : List ℕ) → IsExtensionsText text → is_extensions_text text ≡ true
-is_extensions_text-spelled text (es, spells) =
+pub is_extensions_text_spelled : (text : List ℕ) → IsExtensionsText text → is_extensions_text text ≡ true
+is_extensions_text_spelled text (es, spells) =
     ap are_extension_texts (extension_texts_spelled es text spells) ∙ are_extension_texts_spelled es spells.members
 
+-- the extensions that the texts are
 extensions_of_texts : (ts : List (List ℕ)) → are_extension_texts ts ≡ true → (es : List Extension) × AllByRecursion IsExtension es × (map extension_spelling es ≡ ts)
 extensions_of_texts [] pass = ([], tt, refl)
 extensions_of_texts (t ∷ ts) pass =
@@ -195,6 +202,7 @@ join-group_texts (s ∷ x ∷ ss) =
     ap (λ gs. join (map join (put_first s gs))) first.2 ∙ join-put_first s x first.0 first.1
     ∙ ap (λ gs. s ++ 45 ∷ join (map join gs)) (sym first.2) ∙ ap (λ t. s ++ 45 ∷ t) (join-group_texts (x ∷ ss))
 
+-- the texts of extensions, joined, are the subtags joined
 join-spellings : (es : List Extension) → join (map extension_spelling es) ≡ join (flat_map extension_flat es)
 join-spellings [] = refl
 join-spellings (e ∷ []) = ap (λ ss. join ((e.singleton ∷ []) ∷ ss)) (sym (append-nil e.subtags))
@@ -207,12 +215,14 @@ extensions_passed text pass =
     let found = extensions_of_texts (extension_texts text) pass in
     (found.0, record { members = found.1; joined = sym (join-spellings found.0) ∙ ap join found.2 ∙ join-group_texts (subtags text) ∙ join-subtags text })
 
+-- so an answer that is the test is the rule
 pub extensions_answer : (text : List ℕ) (b : Bool) → b ≡ is_extensions_text text → IsTrue b ↔ IsExtensionsText text
 extensions_answer text b same =
-    (λ yes. extensions_passed text (sym same ∙ yes), λ spelled. same ∙ is_extensions_text-spelled text spelled)
+    (λ yes. extensions_passed text (sym same ∙ yes), λ spelled. same ∙ is_extensions_text_spelled text spelled)
 
 -- ---- the look-up
 
+-- a choice, after a function
 cond-map : {A B : Type 0} (f : A → B) (b : Bool) (x : A) (o : Option A) (p : Option B) → p ≡ option_map f o → cond b (Some (f x)) p ≡ option_map f (cond b (Some x) o)
 cond-map f true x o p same = refl
 cond-map f false x o p same = same

@@ -41,6 +41,7 @@ list_all-next_subtag text end next below hyphen after within free long before =
     let goes : list_all goes_on (part ∷ []) ≡ true = grind (arith, common_steps) in
     rw (cut, slice_split-push (take end text) part kept, drop-append-le 1 parts (part ∷ []) (omega (arith, length-slice_split is_hyphen (take end text))), list_all-append goes_on (drop 1 parts) (part ∷ []), before) goes
 
+-- before an opening subtag a group ends
 put_first-opened : (parts : List (List ℕ)) → opens parts ≡ true → (p : List ℕ) → put_first p (groups parts) ≡ (p ∷ []) ∷ groups parts
 put_first-opened [] opened p = refl
 put_first-opened (part ∷ more) opened p = by_groups (groups more)
@@ -57,10 +58,12 @@ groups-first p (f ∷ front) rest long opened =
     let not_one : opens (f ∷ front) ≡ false = grind (arith, common_steps) in
     ap (put_first p) tail ∙ ap (λ b. cond b ((p ∷ []) ∷ (f ∷ front) ∷ groups rest) ((p ∷ f ∷ front) ∷ groups rest)) not_one
 
+-- the groups of two lists, of which the second begins with an opening subtag
 groups-append : (first rest : List (List ℕ)) → 0 < length first → list_all goes_on (drop 1 first) ≡ true → opens rest ≡ true → groups (first ++ rest) ≡ first ∷ groups rest
 groups-append [] rest some long opened = absurd (omega (arith, some))
 groups-append (p ∷ front) rest some long opened = groups-first p front rest long opened
 
+-- the groups of a text that is cut before an opening subtag
 groups-split : (text first : List ℕ) (rest : Option (Bor (List ℕ))) → MatchOption rest (text ≡ first) (λ r. text ≡ first ++ 45 ∷ r.now) → list_all goes_on (drop 1 (segments first)) ≡ true → opens (segments_left rest) ≡ true → groups (segments text) ≡ segments first ∷ groups (segments_left rest)
 groups-split text first None whole long opened =
     ap (λ t. groups (segments t)) whole ∙ ap groups (sym (append-nil (segments first)))

@@ -53,7 +53,7 @@ pub subtags-private : (text : List ℕ) (p : PrivateUse) → IsPrivateUse p → 
 subtags-private text p fits joined =
     ap subtags (sym joined) ∙ subtags-joined (private_use_flat p) (of_mark p.mark fits.mark, are_subtags p.subtags fits.subtags)
 
-pub others_spelled : (text : List ℕ) (others : List (List ℕ)) → others ≡ drop 1 (subtags text) → EachSpelling text (λ mark members. others ≡ members)
+pub others_spelled : (text : List ℕ) (others : List (List ℕ)) → others ≡ drop 1 (subtags text) → EachSpelling text (λ members. others ≡ members)
 others_spelled text others list p fits joined = list ∙ ap (drop 1) (subtags-private text p fits joined)
 
 test_from_rule : (mark : ℕ) (ss : List (List ℕ)) → IsPrivateUse (record { mark = mark; subtags = ss }) → are_private_use ((mark ∷ []) ∷ ss) ≡ true

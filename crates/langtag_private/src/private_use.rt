@@ -20,8 +20,8 @@ use thiserror::Error;
 #[error_bound(T: Debug + Drop)]
 pub struct InvalidPrivateUse<T>(pub T);
 
-/// A private use part (RFC 5646 section 2.2.7): the mark `x`, in either case, and one subtag or more behind it, joined by
-/// hyphens, as `x-twain`. It may stand at the end of a tag, and alone as a tag of its own.
+/// A private use part (RFC 5646 section 2.2.7): the mark `x`, in either case, and one subtag or more behind it,
+/// joined by hyphens, as `x-twain`. It may stand at the end of a tag, and alone as a tag of its own.
 ///
 /// Two of them are equal where their texts differ at most in the case of ASCII letters.
 #[derive(Clone, Copy, Debug, PartialEq, Eq, PartialOrd, Ord, Hash)]
@@ -85,7 +85,7 @@ impl<'a> PrivateUse<'a> {
     /// The subtags one by one, without the mark: `a` and `b` of `x-a-b`.
     pub fn iter(&self) -> PrivateUseIter<'a>
         ensures list { private_left result ≡ drop 1 (subtags (private_use_text self.now)) }
-        ensures members { EachSpelling (private_use_text self.now) (λ mark members. private_left result ≡ members) }
+        ensures members { EachSpelling (private_use_text self.now) (λ members. private_left result ≡ members) }
     {
         PrivateUseIter::new(self.as_str())
     }
