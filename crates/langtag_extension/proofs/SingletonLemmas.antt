@@ -1,30 +1,14 @@
 -- Singletons are ASCII.
-use Rattle.std.proofs.Common.{◌≡◌, ℕ, ◌<◌, ◌≤◌, false, true, not, inl, inr, arith, ◌∷◌, [], encode_utf8}
+use Rattle.std.proofs.Common.{◌≡◌, ℕ, ◌<◌, ◌≤◌, false, true, arith, ◌∷◌, [], encode_utf8}
 use Rattle.std.proofs.lemmas.Str.{encode_ascii}
 use Rattle.std.proofs.lemmas.Grind.{common_steps}
 use Rattle.std.specs.Char.{is_ascii}
-use Rattle.std.specs.Int.{is_in_range}
-use Rattle.langtag_scan.specs.Class.{is_letter, is_digit, is_alphanumeric, is_mark, is_singleton}
-use Rattle.langtag_scan.proofs.Disjoint.{both_true, one_true, not_both, between_true}
+use Rattle.langtag_scan.specs.Class.{is_singleton}
+use Rattle.langtag_scan.proofs.Disjoint.{not_both}
+use Rattle.langtag_scan.proofs.Ascii.{alphanumeric_below}
+use Rattle.langtag_scan.proofs.Segments.{singleton_alphanumeric}
 
--- letters and digits are ASCII
-alphanumeric_below : (b : ℕ) → is_alphanumeric b ≡ true → b < 128
-unfolding is_letter is_digit
-alphanumeric_below b h =
-    elim (one_true (is_letter b) (is_digit b) h) [
-      | inl letter ↦ elim (one_true (is_in_range 65 90 b) (is_in_range 97 122 b) letter) [
-        | inl k ↦ let m = between_true 65 90 b k in omega arith
-        | inr k ↦ let m = between_true 97 122 b k in omega arith
-      ]
-      | inr digit ↦ let m = between_true 48 57 b digit in omega arith
-    ]
-
--- a singleton is a letter or digit
-pub singleton_alphanumeric : (b : ℕ) → is_singleton b ≡ true → is_alphanumeric b ≡ true
-unfolding is_singleton
-singleton_alphanumeric b h = (both_true (is_alphanumeric b) (not (is_mark b)) h).0
-
--- so it is ASCII
+-- a singleton is ASCII
 pub singleton_below : (b : ℕ) → is_singleton b ≡ true → b < 128
 singleton_below b h = alphanumeric_below b (singleton_alphanumeric b h)
 

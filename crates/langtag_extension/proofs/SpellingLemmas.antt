@@ -9,17 +9,14 @@ use Rattle.langtag_scan.specs.Record.{Extension, IsExtension, extension_flat}
 use Rattle.langtag_scan.specs.Subtags.{join, subtags}
 use Rattle.langtag_scan.proofs.Disjoint.{both_true, between_true}
 use Rattle.langtag_scan.proofs.Decoding.{chosen}
-use Rattle.langtag_scan.proofs.Segments.{IsSubtag, segments-join}
+use Rattle.langtag_scan.proofs.Segments.{IsSubtag, of_one, of_extension_subtag, singleton_alphanumeric}
+use Rattle.langtag_scan.proofs.SubtagLists.{each_from_test, test_from_each, each_subtag, subtags-joined}
 use Rattle.langtag_scan.proofs.SubtagsLemmas.{join-subtags}
 use Rattle.langtag_extension.specs.ExtensionTexts.{goes_on, opens, groups, put_first, group_texts, extension_texts, are_extension_subtags, is_extension_list, is_extension_text, are_extension_texts, is_extensions_text, opens_alike}
 use Rattle.langtag_extension.specs.Spelling.{extension_spelling, SpellsExtension, IsExtensionText, SpellsExtensions, IsExtensionsText, find_extension}
-use Rattle.langtag_extension.proofs.SingletonLemmas.{singleton_alphanumeric}
 use Rattle.langtag_extension.proofs.WalkLemmas.{groups-first}
 
 -- ---- one extension
-
-subtag-singleton : (b : ℕ) → is_singleton b ≡ true → IsSubtag (b ∷ [])
-subtag-singleton b h = record { some = omega arith; short = omega arith; alnum = rw (singleton_alphanumeric b h) refl }
 
 extension_subtag_long : (s : List ℕ) → is_extension_subtag s ≡ true → (2 ≤ length s) × (length s ≤ 8) × (are_alphanumeric s ≡ true)
 unfolding is_extension_subtag
@@ -28,45 +25,22 @@ extension_subtag_long s h =
     let m = between_true 2 8 (length s) k.0 in
     (m.0, m.1, k.1)
 
-subtag-extension_subtag : (s : List ℕ) → is_extension_subtag s ≡ true → IsSubtag s
-subtag-extension_subtag s h = let k = extension_subtag_long s h in record { some = omega arith; short = omega arith; alnum = k.2 }
-
 -- no subtag behind the singleton opens an extension
 goes_on-extension_subtag : (s : List ℕ) → is_extension_subtag s ≡ true → goes_on s ≡ true
 goes_on-extension_subtag s h = let k = extension_subtag_long s h in grind (arith, common_steps)
-
--- what a list of them is, as a fact and as a test
-subtags-each : (ss : List (List ℕ)) → AllByRecursion (λ s. IsTrue (is_extension_subtag s)) ss → AllByRecursion IsSubtag ss
-subtags-each [] fits = tt
-subtags-each (s ∷ ss) fits = (subtag-extension_subtag s fits.0, subtags-each ss fits.1)
 
 goes_on-each : (ss : List (List ℕ)) → AllByRecursion (λ s. IsTrue (is_extension_subtag s)) ss → list_all goes_on ss ≡ true
 goes_on-each [] fits = refl
 goes_on-each (s ∷ ss) fits = rw (goes_on-extension_subtag s fits.0, goes_on-each ss fits.1) refl
 
-are_extension_subtags-each : (ss : List (List ℕ)) → AllByRecursion (λ s. IsTrue (is_extension_subtag s)) ss → are_extension_subtags ss ≡ true
-are_extension_subtags-each [] fits = refl
-are_extension_subtags-each (s ∷ ss) fits = rw (fits.0, are_extension_subtags-each ss fits.1) refl
-
-each-are_extension_subtags : (ss : List (List ℕ)) → are_extension_subtags ss ≡ true → AllByRecursion (λ s. IsTrue (is_extension_subtag s)) ss
-each-are_extension_subtags [] pass = tt
-each-are_extension_subtags (s ∷ ss) pass =
-    let both = both_true (is_extension_subtag s) (are_extension_subtags ss) pass in
-    (both.0, each-are_extension_subtags ss both.1)
-
 -- each of an extension's subtags is one to eight letters and digits
 subtags-flat : (e : Extension) → IsExtension e → AllByRecursion IsSubtag (extension_flat e)
-subtags-flat e fits = (subtag-singleton e.singleton fits.singleton, subtags-each e.subtags fits.subtags)
-
--- subtags that begin with a singleton and were joined are found again
-subtags-joined : (b : ℕ) (ss : List (List ℕ)) → AllByRecursion IsSubtag ((b ∷ []) ∷ ss) → subtags (join ((b ∷ []) ∷ ss)) ≡ (b ∷ []) ∷ ss
-subtags-joined b [] fits = segments-join (b ∷ []) [] fits
-subtags-joined b (s ∷ ss) fits = segments-join (b ∷ []) (s ∷ ss) fits
+subtags-flat e fits = (of_one e.singleton (singleton_alphanumeric e.singleton fits.singleton), each_subtag is_extension_subtag of_extension_subtag e.subtags fits.subtags)
 
 -- the subtags of an extension's text
 pub subtags_spelled : (e : Extension) (text : List ℕ) → SpellsExtension e text → subtags text ≡ extension_flat e
 subtags_spelled e text spells =
-    ap subtags (sym spells.joined) ∙ subtags-joined e.singleton e.subtags (subtags-flat e spells.member)
+    ap subtags (sym spells.joined) ∙ subtags-joined (extension_flat e) (subtags-flat e spells.member)
 
 -- the text of an extension begins with the singleton
 first_byte-spelling : (e : Extension) → slice_index (extension_spelling e) 0 ≡ e.singleton
@@ -85,7 +59,7 @@ is_extension_list-flat b (s ∷ ss) one some pass = rw one pass
 pub is_extension_text_spelled : (text : List ℕ) → IsExtensionText text → is_extension_text text ≡ true
 is_extension_text_spelled text (e, spells) =
     ap is_extension_list (subtags_spelled e text spells)
-    ∙ is_extension_list-flat e.singleton e.subtags spells.member.singleton spells.member.some (are_extension_subtags-each e.subtags spells.member.subtags)
+    ∙ is_extension_list-flat e.singleton e.subtags spells.member.singleton spells.member.some (test_from_each is_extension_subtag e.subtags spells.member.subtags)
 
 -- the extension that the subtags are
 extension_of_list : (ss : List (List ℕ)) → is_extension_list ss ≡ true → (e : Extension) × IsExtension e × (extension_flat e ≡ ss)
@@ -95,7 +69,7 @@ extension_of_list ((b ∷ c ∷ s) ∷ ss) pass = absurd cc
 extension_of_list ((b ∷ []) ∷ []) pass = absurd cc
 extension_of_list ((b ∷ []) ∷ s ∷ ss) pass =
     let both = both_true (is_singleton b) (are_extension_subtags (s ∷ ss)) pass in
-    (record { singleton = b; subtags = s ∷ ss }, record { singleton = both.0; some = omega arith; subtags = each-are_extension_subtags (s ∷ ss) both.1 }, refl)
+    (record { singleton = b; subtags = s ∷ ss }, record { singleton = both.0; some = omega arith; subtags = each_from_test is_extension_subtag (s ∷ ss) both.1 }, refl)
 
 -- what passes the test meets the rule
 pub extension_passed : (text : List ℕ) → is_extension_text text ≡ true → IsExtensionText text
@@ -133,7 +107,7 @@ all_subtags-flat (e ∷ es) fits = all_subtags-append (extension_flat e) (flat_m
 
 subtags-flat_map : (es : List Extension) → AllByRecursion IsExtension es → subtags (join (flat_map extension_flat es)) ≡ flat_map extension_flat es
 subtags-flat_map [] fits = refl
-subtags-flat_map (e ∷ es) fits = subtags-joined e.singleton (e.subtags ++ flat_map extension_flat es) (all_subtags-flat (e ∷ es) fits)
+subtags-flat_map (e ∷ es) fits = subtags-joined ((e.singleton ∷ []) ∷ (e.subtags ++ flat_map extension_flat es)) (all_subtags-flat (e ∷ es) fits)
 
 map-spelling : (es : List Extension) → map join (map extension_flat es) ≡ map extension_spelling es
 map-spelling [] = refl

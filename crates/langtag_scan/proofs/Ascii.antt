@@ -20,7 +20,8 @@ use Rattle.langtag_scan.proofs.Segments.{IsSubtag, decoded_subtags}
 
 -- ---- subtags and the hyphens between them
 
-alphanumeric_below : (b : ℕ) → is_alphanumeric b ≡ true → b < 128
+-- letters and digits are
+pub alphanumeric_below : (b : ℕ) → is_alphanumeric b ≡ true → b < 128
 unfolding is_letter is_digit
 alphanumeric_below b h = grind (arith, nat_tests)
 

@@ -17,3 +17,4 @@ pub mod FillLaw
 pub mod CaseLaw
 pub mod OneCase
 pub mod Ascii
+pub mod SubtagLists

@@ -34,41 +34,41 @@ digits_alphanumeric : (s : List ℕ) → are_digits s ≡ true → are_alphanume
 digits_alphanumeric [] h = refl
 digits_alphanumeric (b ∷ s) h = let k = both_true (is_digit b) (are_digits s) h in rw (k.0, or_right (is_letter b), digits_alphanumeric s k.1) refl
 
-of_primary : (s : List ℕ) → is_primary s ≡ true → IsSubtag s
+pub of_primary : (s : List ℕ) → is_primary s ≡ true → IsSubtag s
 unfolding is_primary
 of_primary s h =
     let k = both_true (has_length 2 8 s) (are_letters s) h in
     let m = between_true 2 8 (length s) k.0 in
     record { some = omega arith; short = omega arith; alnum = letters_alphanumeric s k.1 }
 
-of_extended : (s : List ℕ) → is_extended s ≡ true → IsSubtag s
+pub of_extended : (s : List ℕ) → is_extended s ≡ true → IsSubtag s
 of_extended s h = let k = extended_three s h in record { some = omega arith; short = omega arith; alnum = letters_alphanumeric s k.1 }
 
-of_script : (s : List ℕ) → is_script s ≡ true → IsSubtag s
+pub of_script : (s : List ℕ) → is_script s ≡ true → IsSubtag s
 of_script s h = let k = script_four s h in record { some = omega arith; short = omega arith; alnum = letters_alphanumeric s k.1 }
 
-of_region : (s : List ℕ) → is_region s ≡ true → IsSubtag s
+pub of_region : (s : List ℕ) → is_region s ≡ true → IsSubtag s
 of_region s h =
     elim (region_two_three s h) [
       | inl k ↦ record { some = omega arith; short = omega arith; alnum = letters_alphanumeric s k.1 }
       | inr k ↦ record { some = omega arith; short = omega arith; alnum = digits_alphanumeric s k.1 }
     ]
 
-of_variant : (s : List ℕ) → is_variant s ≡ true → IsSubtag s
+pub of_variant : (s : List ℕ) → is_variant s ≡ true → IsSubtag s
 of_variant s h =
     elim (variant_long s h) [
       | inl k ↦ record { some = omega arith; short = omega arith; alnum = k.2 }
       | inr k ↦ record { some = omega arith; short = omega arith; alnum = k.1 }
     ]
 
-of_extension_subtag : (s : List ℕ) → is_extension_subtag s ≡ true → IsSubtag s
+pub of_extension_subtag : (s : List ℕ) → is_extension_subtag s ≡ true → IsSubtag s
 unfolding is_extension_subtag
 of_extension_subtag s h =
     let k = both_true (has_length 2 8 s) (are_alphanumeric s) h in
     let m = between_true 2 8 (length s) k.0 in
     record { some = omega arith; short = omega arith; alnum = k.1 }
 
-of_private_subtag : (s : List ℕ) → is_private_subtag s ≡ true → IsSubtag s
+pub of_private_subtag : (s : List ℕ) → is_private_subtag s ≡ true → IsSubtag s
 unfolding is_private_subtag
 of_private_subtag s h =
     let k = both_true (has_length 1 8 s) (are_alphanumeric s) h in
@@ -83,11 +83,11 @@ mark_alphanumeric c h =
       | inr e ↦ let same : c ≡ 88 = eqb-true _ _ e in rw same refl
     ]
 
-singleton_alphanumeric : (c : ℕ) → is_singleton c ≡ true → is_alphanumeric c ≡ true
+pub singleton_alphanumeric : (c : ℕ) → is_singleton c ≡ true → is_alphanumeric c ≡ true
 unfolding is_singleton
 singleton_alphanumeric c h = (both_true (is_alphanumeric c) (not (is_mark c)) h).0
 
-of_one : (c : ℕ) → is_alphanumeric c ≡ true → IsSubtag (c ∷ [])
+pub of_one : (c : ℕ) → is_alphanumeric c ≡ true → IsSubtag (c ∷ [])
 of_one c h = record { some = omega arith; short = omega arith; alnum = rw h refl }
 
 of_opened : (s : List ℕ) (after : Stage) → opened s ≡ Some after → IsSubtag s

@@ -1,6 +1,6 @@
 use Rattle.std.proofs.Common.{◌≡◌, ◌∷◌, List, ℕ, drop, rules}
 use Rattle.langtag_scan.specs.Subtags.{subtags}
-use Rattle.langtag_private.proofs.BehindMark.{are_private-behind}
+use Rattle.langtag_private.proofs.Rules.{are_private-behind}
 use Rattle.langtag_private.proofs.private_use_iter.PrivateUseIter.new.Goals as goal
 
 pub invariant_of-result : goal.invariant_of-result
