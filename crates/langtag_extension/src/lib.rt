@@ -1,4 +1,12 @@
 //! Extensions of language tags, and the singletons that open them (RFC 5646 section 2.2.6).
+//!
+//! ```rust
+//! use langtag_extension::{Extensions, Singleton};
+//!
+//! let extensions = Extensions::new("a-ext1-u-co-phonebk")?;
+//! let unicode = extensions.get(Singleton::new(b'U')?).ok_or("no such extension")?;
+//! assert_eq!(rt; unicode.as_str(), "u-co-phonebk");
+//! ```
 #![tactic(auto)]
 
 mod extension;
