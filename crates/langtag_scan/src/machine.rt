@@ -60,6 +60,7 @@ impl Machine {
     }
 
     /// Takes the byte at a place, the bytes before it having been taken.
+    #[inline(always)]
     pub(crate) fn step(&mut self, place: usize, byte: u8)
         ensures { (p : List ℕ) → length p ≡ place → Tracks p self.old → Tracks (p ++ byte ∷ []) self.new }
     {
@@ -75,6 +76,7 @@ impl Machine {
     }
 
     /// The subtag that has begun ends before a hyphen.
+    #[inline(always)]
     fn end_subtag(&mut self, place: usize)
         ensures reads { (p : List ℕ) → length p ≡ place → self.old.reading ≢ Reading.Stopped → Reads self.old.reading p self.old.stage self.old.begun self.old.ends → Reads self.new.reading (p ++ 45 ∷ []) self.new.stage self.new.begun self.new.ends }
         ensures names { self.new.names ≡ self.old.names }
@@ -125,6 +127,7 @@ impl Machine {
     }
 
     /// What the bytes that were read are, as a whole text of this length.
+    #[inline(always)]
     pub(crate) fn found(mut self, len: usize) -> Option<Found>
         ensures { (p : List ℕ) → length p ≡ len → Tracks p self → MatchOption result (IsTag p → ⊥) (λ found. IsFoundOf p found) }
     {
