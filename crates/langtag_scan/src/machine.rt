@@ -8,7 +8,7 @@ ghost use Rattle.langtag_scan.specs.Machine.{may_hold, Reads};
 ghost use Rattle.langtag_scan.specs.Shape.{classes_of_shape};
 ghost use Rattle.langtag_scan.specs.Stage.{next_by, may_end};
 
-use crate::class::{is_alphanumeric, is_letter};
+use crate::class::{is_digit, is_letter};
 use crate::ends::Ends;
 use crate::found::Found;
 use crate::irregular::Names;
@@ -112,10 +112,7 @@ impl Machine {
     fn may_hold(&self, byte: u8) -> bool
         ensures { result ≡ may_hold self.now.stage byte }
     {
-        match self.stage {
-            Stage::Start => is_letter(byte),
-            _ => is_alphanumeric(byte),
-        }
+        is_letter(byte) || (is_digit(byte) && !self.stage.is_start())
     }
 
     /// Whether some tag begins with the bytes that were read.

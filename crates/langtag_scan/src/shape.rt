@@ -64,12 +64,17 @@ impl Shape {
     fn content_with(&self, byte: u8) -> Content
         ensures { (s : List ℕ) → IsTrue (alphanumeric byte) → self.now ≡ shape_of s → result ≡ content_of (s ++ byte ∷ []) }
     {
-        match self.content {
-            Content::Letters if is_letter(byte) => Content::Letters,
-            Content::Letters if self.len == 0 => Content::Digits,
-            Content::Letters => Content::Mixed,
-            Content::Digits if is_letter(byte) => Content::DigitFirst,
-            content => content,
+        if is_letter(byte) {
+            match self.content {
+                Content::Digits => Content::DigitFirst,
+                content => content,
+            }
+        } else {
+            match self.content {
+                Content::Letters if self.len == 0 => Content::Digits,
+                Content::Letters => Content::Mixed,
+                content => content,
+            }
         }
     }
 
