@@ -114,6 +114,7 @@ fn has_byte(k: usize, place: usize, byte: u8) -> bool
 }
 
 /// The first place from `low` on whose text has this byte, or `high` where there is none.
+#[cold]
 #[inline(never)]
 fn first_with(low: usize, high: usize, place: usize, byte: u8) -> usize
     requires ordered { low ≤ high }
@@ -131,6 +132,7 @@ fn first_with(low: usize, high: usize, place: usize, byte: u8) -> usize
 }
 
 /// The place behind the last one below `high` whose text has this byte, or `low` where there is none.
+#[cold]
 #[inline(never)]
 fn end_with(low: usize, high: usize, place: usize, byte: u8) -> usize
     requires ordered { low ≤ high }
