@@ -145,6 +145,7 @@ impl Machine {
     }
 
     /// The stage behind the subtag that has begun, if a tag may end there.
+    #[inline(always)]
     fn last_stage(&self) -> Option<Stage>
         ensures { MatchOption result (option_map_or may_end (next_by self.now.stage (classes_of_shape self.now.begun)) false ≡ false) (λ stage. (next_by self.now.stage (classes_of_shape self.now.begun) ≡ Some stage) × (may_end stage ≡ true)) }
     {
