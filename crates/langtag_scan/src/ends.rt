@@ -46,32 +46,28 @@ impl Ends {
         ensures { self.new ≡ end_at stage place self.old }
     {
         let kept = *self;
-        *self = match stage {
-            Stage::Start | Stage::Language(_) | Stage::Extended(_) => Ends::all_at(place),
-            Stage::AfterScript => Ends {
-                language: kept.language,
-                ..Ends::all_at(place)
-            },
-            Stage::AfterRegion => Ends {
-                language: kept.language,
-                script: kept.script,
-                ..Ends::all_at(place)
-            },
-            Stage::AfterVariant => Ends {
-                variants: place,
-                extensions: place,
-                whole: place,
-                ..kept
-            },
-            Stage::AfterSingleton | Stage::InExtension => Ends {
-                extensions: place,
-                whole: place,
-                ..kept
-            },
-            Stage::AfterMark | Stage::InPrivate => Ends {
-                whole: place,
-                ..kept
-            },
-        };
+        *self = Ends::all_at(place);
+        match stage {
+            Stage::Start | Stage::Language(_) | Stage::Extended(_) => {}
+            Stage::AfterScript => self.language = kept.language,
+            Stage::AfterRegion => {
+                self.language = kept.language;
+                self.script = kept.script;
+            }
+            Stage::AfterVariant => {
+                self.language = kept.language;
+                self.script = kept.script;
+                self.region = kept.region;
+            }
+            Stage::AfterSingleton | Stage::InExtension => {
+                *self = kept;
+                self.extensions = place;
+                self.whole = place;
+            }
+            Stage::AfterMark | Stage::InPrivate => {
+                *self = kept;
+                self.whole = place;
+            }
+        }
     }
 }
