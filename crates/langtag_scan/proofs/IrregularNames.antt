@@ -1,5 +1,5 @@
 -- Which texts may still become an irregular one, and why the places of these make a range of the table.
-use Rattle.std.proofs.Common.{◌≡◌, ℕ, zero, suc, ◌-◌, ◌<◌, ◌≤◌, ◌⊎◌, inl, inr, Bool, true, false, eqb, ltb, leb, ◌&&◌, ◌||◌, List, [], ◌∷◌, ◌++◌, map, length, get_or, drop, Some, refl, sym, ap, ◌∙◌, arith}
+use Rattle.std.proofs.Common.{◌≡◌, ℕ, zero, suc, ◌-◌, ◌<◌, ◌≤◌, ◌⊎◌, inl, inr, Bool, true, false, eqb, ltb, leb, ◌&&◌, ◌||◌, List, [], ◌∷◌, ◌++◌, map, length, get_or, drop, Some, refl, sym, ap, ◌∙◌, arith, ne_eqb}
 use Rattle.std.specs.Prelude.{slice_get}
 use Rattle.std.specs.List.{list_all}
 use Rattle.std.proofs.Math.Bool.{and_assoc}
@@ -189,6 +189,65 @@ below_range low high k lt = grind (arith, nat_tests)
 -- nor one above
 above_range : (low high k : ℕ) → high ≤ k → (leb low k && ltb k high) ≡ false
 above_range low high k le = grind (arith, nat_tests)
+
+-- ---- the first byte
+
+-- the first byte of the text at a place
+first_byte : (c k : ℕ) → k < 17 → ((k < 1) × (has_at (folded_at k) 0 c ≡ eqb 101 c)) ⊎ ((1 ≤ k) × (k < 14) × (has_at (folded_at k) 0 c ≡ eqb 105 c)) ⊎ ((14 ≤ k) × (has_at (folded_at k) 0 c ≡ eqb 115 c))
+unfolding folded_texts
+first_byte c zero lt = inl (omega arith, refl)
+first_byte c (suc zero) lt = inr (inl (omega arith, omega arith, refl))
+first_byte c (suc (suc zero)) lt = inr (inl (omega arith, omega arith, refl))
+first_byte c (suc (suc (suc zero))) lt = inr (inl (omega arith, omega arith, refl))
+first_byte c (suc (suc (suc (suc zero)))) lt = inr (inl (omega arith, omega arith, refl))
+first_byte c (suc (suc (suc (suc (suc zero))))) lt = inr (inl (omega arith, omega arith, refl))
+first_byte c (suc (suc (suc (suc (suc (suc zero)))))) lt = inr (inl (omega arith, omega arith, refl))
+first_byte c (suc (suc (suc (suc (suc (suc (suc zero))))))) lt = inr (inl (omega arith, omega arith, refl))
+first_byte c (suc (suc (suc (suc (suc (suc (suc (suc zero)))))))) lt = inr (inl (omega arith, omega arith, refl))
+first_byte c (suc (suc (suc (suc (suc (suc (suc (suc (suc zero))))))))) lt = inr (inl (omega arith, omega arith, refl))
+first_byte c (suc (suc (suc (suc (suc (suc (suc (suc (suc (suc zero)))))))))) lt = inr (inl (omega arith, omega arith, refl))
+first_byte c (suc (suc (suc (suc (suc (suc (suc (suc (suc (suc (suc zero))))))))))) lt = inr (inl (omega arith, omega arith, refl))
+first_byte c (suc (suc (suc (suc (suc (suc (suc (suc (suc (suc (suc (suc zero)))))))))))) lt = inr (inl (omega arith, omega arith, refl))
+first_byte c (suc (suc (suc (suc (suc (suc (suc (suc (suc (suc (suc (suc (suc zero))))))))))))) lt = inr (inl (omega arith, omega arith, refl))
+first_byte c (suc (suc (suc (suc (suc (suc (suc (suc (suc (suc (suc (suc (suc (suc zero)))))))))))))) lt = inr (inr (omega arith, refl))
+first_byte c (suc (suc (suc (suc (suc (suc (suc (suc (suc (suc (suc (suc (suc (suc (suc zero))))))))))))))) lt = inr (inr (omega arith, refl))
+first_byte c (suc (suc (suc (suc (suc (suc (suc (suc (suc (suc (suc (suc (suc (suc (suc (suc zero)))))))))))))))) lt = inr (inr (omega arith, refl))
+first_byte c (suc (suc (suc (suc (suc (suc (suc (suc (suc (suc (suc (suc (suc (suc (suc (suc (suc k))))))))))))))))) lt = absurd (omega arith)
+
+-- so the texts that begin with one byte are neighbours
+pub begun_by_e : (k : ℕ) → k < 17 → has_at (folded_at k) 0 101 ≡ (leb 0 k && ltb k 1)
+begun_by_e k lt = elim (first_byte 101 k lt) [
+  | inl h ↦ h.1 ∙ sym (in_range 0 1 k (omega arith) h.0)
+  | inr (inl h) ↦ h.2 ∙ sym (above_range 0 1 k h.0)
+  | inr (inr h) ↦ h.1 ∙ sym (above_range 0 1 k (omega (arith, h.0)))
+]
+
+pub begun_by_i : (k : ℕ) → k < 17 → has_at (folded_at k) 0 105 ≡ (leb 1 k && ltb k 14)
+begun_by_i k lt = elim (first_byte 105 k lt) [
+  | inl h ↦ h.1 ∙ sym (below_range 1 14 k h.0)
+  | inr (inl h) ↦ h.2 ∙ sym (in_range 1 14 k h.0 h.1)
+  | inr (inr h) ↦ h.1 ∙ sym (above_range 1 14 k h.0)
+]
+
+pub begun_by_s : (k : ℕ) → k < 17 → has_at (folded_at k) 0 115 ≡ (leb 14 k && ltb k 17)
+begun_by_s k lt = elim (first_byte 115 k lt) [
+  | inl h ↦ h.1 ∙ sym (below_range 14 17 k (omega (arith, h.0)))
+  | inr (inl h) ↦ h.2 ∙ sym (below_range 14 17 k h.1)
+  | inr (inr h) ↦ h.1 ∙ sym (in_range 14 17 k h.0 lt)
+]
+
+-- and no text begins with another
+pub begun_by_other : (c k : ℕ) → (c ≡ 101 → ⊥) → (c ≡ 105 → ⊥) → (c ≡ 115 → ⊥) → k < 17 → has_at (folded_at k) 0 c ≡ (leb 0 k && ltb k 0)
+begun_by_other c k e i s lt = elim (first_byte c k lt) [
+  | inl h ↦ h.1 ∙ ne_eqb 101 c (λ x. e (sym x)) ∙ sym (above_range 0 0 k (omega arith))
+  | inr (inl h) ↦ h.2 ∙ ne_eqb 105 c (λ x. i (sym x)) ∙ sym (above_range 0 0 k (omega arith))
+  | inr (inr h) ↦ h.1 ∙ ne_eqb 115 c (λ x. s (sym x)) ∙ sym (above_range 0 0 k (omega arith))
+]
+
+-- what is possible after the first byte
+pub possible_first : (p : List ℕ) (b small k : ℕ) → length p ≡ 0 → small ≡ fold_byte b → is_possible (p ++ b ∷ []) k ≡ has_at (folded_at k) 0 small
+possible_first [] b small k e same = possible-push [] b k ∙ ap (has_at (folded_at k) 0) (sym same)
+possible_first (a ∷ p) b small k e same = absurd (omega (arith, e))
 
 -- how the range `low` to `high` of a front shrinks to `from` and `to` by a folded byte at a place
 pub record Shrinks (p : List ℕ) (place byte low high from to : ℕ) : Type 0 where

@@ -1,6 +1,8 @@
 -- The shape of a subtag tells its classes, and grows as the subtag does.
-use Rattle.std.proofs.Common.{◌≡◌, ℕ, suc, ◌≤◌, Bool, true, false, cond, eqb, eqb-true, ne_eqb, not, leb, ◌&&◌, ◌||◌, List, [], ◌∷◌, ◌++◌, length, refl, sym, ap, ◌∙◌, arith, get_or}
+use Rattle.std.proofs.Common.{◌≡◌, ℕ, suc, ◌-◌, ◌≤◌, Bool, true, false, cond, eqb, eqb-true, ne_eqb, not, leb, ◌&&◌, ◌||◌, List, [], ◌∷◌, ◌++◌, length, refl, sym, ap, ◌∙◌, arith, get_or}
+use Rattle.std.proofs.Math.Seq.{get_or-append_seam}
 use Rattle.std.proofs.lemmas.Bool.{le-leb}
+use Rattle.std.proofs.lemmas.List.{length-append}
 use Rattle.std.proofs.lemmas.List.Folds.{list_all-append}
 use Rattle.langtag_scan.specs.Class.{is_letter, is_digit, is_alphanumeric, are_letters, are_digits, are_alphanumeric, starts_with_digit, has_length, is_primary, is_extended, is_script, is_region, is_variant, is_extension_subtag, is_private_subtag, is_mark, is_singleton}
 use Rattle.langtag_scan.specs.Stage.{is_one, classes_of, next_stage, next_by}
@@ -73,6 +75,12 @@ pub content_push : (s : List ℕ) (b : ℕ) → is_alphanumeric b ≡ true → c
 content_push [] b h = content-one b h ∙ ap (λ (c : Content). pushed true c (is_letter b)) (sym content-empty)
 content_push (a ∷ s) b h =
     content-more a s b h ∙ ap (λ (empty : Bool). pushed empty (content_of (a ∷ s)) (is_letter b)) (sym (ne_eqb (suc (length s)) 0 (λ e. omega arith)))
+
+-- the byte that was pushed is the last one
+pub last_pushed : (s : List ℕ) (b : ℕ) → get_or (s ++ b ∷ []) (length (s ++ b ∷ []) - 1) 0 ≡ b
+last_pushed s b =
+    let at : length (s ++ b ∷ []) - 1 ≡ length s = omega (arith, length-append s (b ∷ [])) in
+    ap (λ (n : ℕ). get_or (s ++ b ∷ []) n 0) at ∙ get_or-append_seam s b [] 0
 
 -- ---- the classes
 
@@ -173,16 +181,16 @@ private_subtag-shape s h = long_shape 1 s h
 not_one : (n : ℕ) (v : Bool) → (eqb (suc (suc n)) 1 && v) ≡ false
 not_one n v = rw (ne_eqb (suc (suc n)) 1 (λ e. omega arith)) refl
 
-pub mark-shape : (s : List ℕ) → is_one is_mark s ≡ (eqb (length s) 1 && is_mark (get_or s 0 0))
+pub mark-shape : (s : List ℕ) → is_one is_mark s ≡ (eqb (length s) 1 && is_mark (get_or s (length s - 1) 0))
 mark-shape [] = refl
 mark-shape (b ∷ []) = refl
-mark-shape (b ∷ c ∷ s) = sym (not_one (length s) (is_mark b))
+mark-shape (b ∷ c ∷ s) = sym (not_one (length s) _)
 
-singleton-shape : (s : List ℕ) → IsShort s → is_one is_singleton s ≡ (eqb (length s) 1 && not (is_mark (get_or s 0 0)))
+singleton-shape : (s : List ℕ) → IsShort s → is_one is_singleton s ≡ (eqb (length s) 1 && not (is_mark (get_or s (length s - 1) 0)))
 unfolding is_singleton
 singleton-shape [] h = refl
 singleton-shape (b ∷ []) h = rw ((both_true (is_alphanumeric b) true h.alphanumeric).0) refl
-singleton-shape (b ∷ c ∷ s) h = sym (not_one (length s) (not (is_mark b)))
+singleton-shape (b ∷ c ∷ s) h = sym (not_one (length s) _)
 
 -- the shape tells the classes
 pub classes_of-shape : (s : List ℕ) → IsShort s → classes_of s ≡ classes_of_shape (shape_of s)

@@ -10,7 +10,7 @@ pub(crate) fn is_letter(byte: u8) -> bool
 }
 
 #[tactic(auto, unfolding(crate::specs::Class::is_digit))]
-fn is_digit(byte: u8) -> bool
+pub(crate) fn is_digit(byte: u8) -> bool
     ensures { result ≡ class.is_digit byte }
 {
     byte.is_ascii_digit()

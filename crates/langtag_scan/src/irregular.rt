@@ -1,5 +1,5 @@
 //! The irregular tags (RFC 5646 section 2.2.8) that a text may still become.
-ghost use Rattle.std.specs.Prelude.{◌≡◌, ℕ, ◌-◌, ◌<◌, ◌≤◌, List, [], ◌∷◌, ◌++◌, length, IsTrue, true, false, MatchOption};
+ghost use Rattle.std.specs.Prelude.{◌≡◌, ℕ, ◌-◌, ◌<◌, ◌≤◌, List, [], ◌∷◌, ◌++◌, length, ◌&&◌, nat_le, nat_lt, IsTrue, true, false, MatchOption};
 ghost use Rattle.langtag_scan.specs.Irregular.{folded_at, has_at, is_possible};
 ghost use Rattle.langtag_scan.specs.Tag.{IsIrregular, IsIrregularAt};
 
@@ -53,8 +53,12 @@ impl Names {
     {
         if self.low < self.high {
             let small = into_smallcase(byte);
-            self.low = first_with(self.low, self.high, place, small);
-            self.high = end_with(self.low, self.high, place, small);
+            if place == 0 {
+                *self = begun_by(small);
+            } else {
+                self.low = first_with(self.low, self.high, place, small);
+                self.high = end_with(self.low, self.high, place, small);
+            }
         }
     }
 
@@ -79,6 +83,18 @@ impl Names {
     }
 }
 
+/// The texts that begin with this folded byte.
+fn begun_by(small: u8) -> Names
+    ensures { (k : ℕ) → k < 17 → has_at (folded_at k) 0 small ≡ (nat_le result.low k && nat_lt k result.high) }
+{
+    match small {
+        b'e' => Names { low: 0, high: 1 },
+        b'i' => Names { low: 1, high: 14 },
+        b's' => Names { low: 14, high: 17 },
+        _ => Names { low: 0, high: 0 },
+    }
+}
+
 /// The folded irregular text at a place of the table.
 #[tactic(auto, unfolding(crate::specs::Irregular::folded_texts))]
 fn folded(k: usize) -> &'static [u8]
@@ -98,6 +114,8 @@ fn has_byte(k: usize, place: usize, byte: u8) -> bool
 }
 
 /// The first place from `low` on whose text has this byte, or `high` where there is none.
+#[cold]
+#[inline(never)]
 fn first_with(low: usize, high: usize, place: usize, byte: u8) -> usize
     requires ordered { low ≤ high }
     requires within { high ≤ 17 }
@@ -114,6 +132,8 @@ fn first_with(low: usize, high: usize, place: usize, byte: u8) -> usize
 }
 
 /// The place behind the last one below `high` whose text has this byte, or `low` where there is none.
+#[cold]
+#[inline(never)]
 fn end_with(low: usize, high: usize, place: usize, byte: u8) -> usize
     requires ordered { low ≤ high }
     requires within { high ≤ 17 }

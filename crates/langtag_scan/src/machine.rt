@@ -8,7 +8,7 @@ ghost use Rattle.langtag_scan.specs.Machine.{may_hold, Reads};
 ghost use Rattle.langtag_scan.specs.Shape.{classes_of_shape};
 ghost use Rattle.langtag_scan.specs.Stage.{next_by, may_end};
 
-use crate::class::{is_alphanumeric, is_letter};
+use crate::class::{is_digit, is_letter};
 use crate::ends::Ends;
 use crate::found::Found;
 use crate::irregular::Names;
@@ -60,6 +60,7 @@ impl Machine {
     }
 
     /// Takes the byte at a place, the bytes before it having been taken.
+    #[inline(always)]
     pub(crate) fn step(&mut self, place: usize, byte: u8)
         ensures { (p : List ℕ) → length p ≡ place → Tracks p self.old → Tracks (p ++ byte ∷ []) self.new }
     {
@@ -75,6 +76,7 @@ impl Machine {
     }
 
     /// The subtag that has begun ends before a hyphen.
+    #[inline(always)]
     fn end_subtag(&mut self, place: usize)
         ensures reads { (p : List ℕ) → length p ≡ place → self.old.reading ≢ Reading.Stopped → Reads self.old.reading p self.old.stage self.old.begun self.old.ends → Reads self.new.reading (p ++ 45 ∷ []) self.new.stage self.new.begun self.new.ends }
         ensures names { self.new.names ≡ self.old.names }
@@ -110,10 +112,7 @@ impl Machine {
     fn may_hold(&self, byte: u8) -> bool
         ensures { result ≡ may_hold self.now.stage byte }
     {
-        match self.stage {
-            Stage::Start => is_letter(byte),
-            _ => is_alphanumeric(byte),
-        }
+        is_letter(byte) || (is_digit(byte) && !self.stage.is_start())
     }
 
     /// Whether some tag begins with the bytes that were read.
@@ -125,6 +124,7 @@ impl Machine {
     }
 
     /// What the bytes that were read are, as a whole text of this length.
+    #[inline(always)]
     pub(crate) fn found(mut self, len: usize) -> Option<Found>
         ensures { (p : List ℕ) → length p ≡ len → Tracks p self → MatchOption result (IsTag p → ⊥) (λ found. IsFoundOf p found) }
     {
@@ -145,6 +145,7 @@ impl Machine {
     }
 
     /// The stage behind the subtag that has begun, if a tag may end there.
+    #[inline(always)]
     fn last_stage(&self) -> Option<Stage>
         ensures { MatchOption result (option_map_or may_end (next_by self.now.stage (classes_of_shape self.now.begun)) false ≡ false) (λ stage. (next_by self.now.stage (classes_of_shape self.now.begun) ≡ Some stage) × (may_end stage ≡ true)) }
     {

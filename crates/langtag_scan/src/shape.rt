@@ -22,7 +22,8 @@ pub(crate) enum Content {
 #[derive(Clone, Copy)]
 pub(crate) struct Shape {
     len: u8,
-    first: u8,
+    /// The last byte, which is all of a subtag that has one byte.
+    last: u8,
     content: Content,
 }
 
@@ -36,7 +37,7 @@ impl Shape {
     {
         Shape {
             len: 0,
-            first: 0,
+            last: 0,
             content: Content::Letters,
         }
     }
@@ -48,15 +49,14 @@ impl Shape {
     }
 
     /// Adds a letter or a digit.
+    #[tactic(auto, using(crate::proofs::ShapeLaws::last_pushed))]
     pub(crate) fn push(&mut self, byte: u8)
         requires room { self.old.len < 8 }
         requires class { IsTrue (alphanumeric byte) }
         ensures { (s : List ℕ) → self.old ≡ shape_of s → self.new ≡ shape_of (s ++ byte ∷ []) }
     {
         self.content = self.content_with(byte);
-        if self.len == 0 {
-            self.first = byte;
-        }
+        self.last = byte;
         self.len += 1;
     }
 
@@ -64,12 +64,17 @@ impl Shape {
     fn content_with(&self, byte: u8) -> Content
         ensures { (s : List ℕ) → IsTrue (alphanumeric byte) → self.now ≡ shape_of s → result ≡ content_of (s ++ byte ∷ []) }
     {
-        match self.content {
-            Content::Letters if is_letter(byte) => Content::Letters,
-            Content::Letters if self.len == 0 => Content::Digits,
-            Content::Letters => Content::Mixed,
-            Content::Digits if is_letter(byte) => Content::DigitFirst,
-            content => content,
+        if is_letter(byte) {
+            match self.content {
+                Content::Digits => Content::DigitFirst,
+                content => content,
+            }
+        } else {
+            match self.content {
+                Content::Letters if self.len == 0 => Content::Digits,
+                Content::Letters => Content::Mixed,
+                content => content,
+            }
         }
     }
 
@@ -131,14 +136,14 @@ impl Shape {
     pub(crate) fn is_mark(&self) -> bool
         ensures { result ≡ (classes_of_shape self.now).mark }
     {
-        self.len == 1 && is_mark(self.first)
+        self.len == 1 && is_mark(self.last)
     }
 
     /// Whether this is a singleton, which opens an extension.
     pub(crate) fn is_singleton(&self) -> bool
         ensures { result ≡ (classes_of_shape self.now).singleton }
     {
-        self.len == 1 && !is_mark(self.first)
+        self.len == 1 && !is_mark(self.last)
     }
 
     /// Whether this is as short as a primary subtag before extended ones.

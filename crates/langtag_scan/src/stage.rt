@@ -35,6 +35,7 @@ pub(crate) enum Stage {
 
 impl Stage {
     /// The stage behind one more subtag, or None where no such subtag may follow.
+    #[inline(always)]
     pub(crate) fn next(self, subtag: &Shape) -> Option<Stage>
         ensures { result ≡ next_by self (classes_of_shape subtag.now) }
     {

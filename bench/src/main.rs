@@ -1,0 +1,207 @@
+//! Times `recognise` on a file of tags beside plain loops over the same bytes, in one run.
+//!
+//! `bench FILE` times, `bench make COUNT` writes tags of 18 bytes, and `bench once ENTRY FILE` calls one entry once
+//! for each tag, for a tool that counts instructions.
+
+use std::hint::black_box;
+use std::io::Write;
+use std::time::Instant;
+
+/// The ends that `langtag_bench_recognise` leaves of a normal tag.
+#[repr(C)]
+#[derive(Default)]
+struct PartEnds {
+    language: usize,
+    script: usize,
+    region: usize,
+    variants: usize,
+    extensions: usize,
+    whole: usize,
+}
+
+// A slice crosses as a pointer and a length.
+unsafe extern "C" {
+    fn langtag_bench_recognise(bytes: *const u8, len: usize, ends: *mut PartEnds) -> bool;
+    fn langtag_bench_recognise_text(bytes: *const u8, len: usize, ends: *mut PartEnds) -> bool;
+    fn langtag_bench_copy(bytes: *const u8, len: usize, into: *mut u8, into_len: usize) -> u8;
+    fn langtag_bench_fold_and_sum(bytes: *const u8, len: usize) -> u8;
+}
+
+/// What is timed.
+#[derive(Clone, Copy, PartialEq)]
+enum Entry {
+    Recognise,
+    RecogniseText,
+    FoldAndSum,
+    Copy,
+}
+
+const ENTRIES: [Entry; 4] = [Entry::Recognise, Entry::RecogniseText, Entry::FoldAndSum, Entry::Copy];
+
+impl Entry {
+    /// The name of the function, without its common front.
+    fn name(self) -> &'static str {
+        match self {
+            Entry::Recognise => "recognise",
+            Entry::RecogniseText => "recognise_text",
+            Entry::FoldAndSum => "fold_and_sum",
+            Entry::Copy => "copy",
+        }
+    }
+
+    /// Calls the function for one tag.
+    fn call(self, tag: &[u8], into: &mut [u8]) -> u64 {
+        let mut ends = PartEnds::default();
+        // SAFETY: each pointer and length is a live slice's, and `into` is as long as the longest tag.
+        unsafe {
+            match self {
+                Entry::Recognise => {
+                    let found = langtag_bench_recognise(tag.as_ptr(), tag.len(), &mut ends);
+                    u64::from(found) + ends.whole as u64
+                }
+                Entry::RecogniseText => {
+                    let found = langtag_bench_recognise_text(tag.as_ptr(), tag.len(), &mut ends);
+                    u64::from(found) + ends.whole as u64
+                }
+                Entry::FoldAndSum => langtag_bench_fold_and_sum(tag.as_ptr(), tag.len()).into(),
+                Entry::Copy => {
+                    langtag_bench_copy(tag.as_ptr(), tag.len(), into.as_mut_ptr(), into.len()).into()
+                }
+            }
+        }
+    }
+}
+
+/// The tags of a file, one a line.
+struct Tags {
+    text: Vec<u8>,
+    places: Vec<(usize, usize)>,
+    longest: usize,
+}
+
+impl Tags {
+    fn read(path: &str) -> std::io::Result<Tags> {
+        let text = std::fs::read(path)?;
+        let mut places = Vec::new();
+        let mut start = 0;
+        for line in text.split_inclusive(|byte| *byte == b'\n') {
+            let end = start + line.len() - usize::from(line.ends_with(b"\n"));
+            places.push((start, end));
+            start += line.len();
+        }
+        let longest = places.iter().map(|(start, end)| end - start).max().unwrap_or(0);
+        Ok(Tags { text, places, longest })
+    }
+
+    fn iter(&self) -> impl Iterator<Item = &[u8]> {
+        self.places.iter().map(|(start, end)| &self.text[*start..*end])
+    }
+
+    fn bytes(&self) -> usize {
+        self.iter().map(<[u8]>::len).sum()
+    }
+}
+
+/// Goes once over all tags, and gives the nanoseconds that it took.
+fn pass(entry: Entry, tags: &Tags, into: &mut [u8]) -> u128 {
+    let start = Instant::now();
+    let mut sum = 0u64;
+    for tag in tags.iter() {
+        sum = sum.wrapping_add(entry.call(black_box(tag), into));
+    }
+    black_box(sum);
+    start.elapsed().as_nanos()
+}
+
+fn time(path: &str) -> std::io::Result<()> {
+    const PASSES: usize = 31;
+    let tags = Tags::read(path)?;
+    let mut into = vec![0; tags.longest];
+    let mut times = [const { Vec::new() }; ENTRIES.len()];
+    // The entries take turns, so that a slow moment of the machine meets each of them.
+    for _ in 0..PASSES {
+        for (entry, times) in ENTRIES.iter().zip(&mut times) {
+            times.push(pass(*entry, &tags, &mut into));
+        }
+    }
+    let count = tags.places.len().max(1) as f64;
+    let bytes = tags.bytes().max(1) as f64;
+    let found = tags.iter().filter(|tag| Entry::Recognise.call(tag, &mut []) > 0).count();
+    println!("{count} lines, {found} of them tags, {:.1} bytes each", bytes / count);
+    for times in &mut times {
+        times.sort_unstable();
+    }
+    let median = |k: usize| times[k][PASSES / 2] as f64;
+    let place = |entry: Entry| ENTRIES.iter().position(|other| *other == entry).unwrap();
+    let (fold, copy) = (median(place(Entry::FoldAndSum)), median(place(Entry::Copy)));
+    println!("                    ns a tag   ns a byte   times fold_and_sum   times copy");
+    for (k, entry) in ENTRIES.iter().enumerate() {
+        println!(
+            "{:<18} {:>9.1} {:>11.2} {:>20.1} {:>12.1}",
+            entry.name(),
+            median(k) / count,
+            median(k) / bytes,
+            median(k) / fold,
+            median(k) / copy
+        );
+    }
+    Ok(())
+}
+
+fn once(name: &str, path: &str) -> std::io::Result<()> {
+    let entry = ENTRIES.iter().find(|entry| entry.name() == name).expect("no such entry");
+    let tags = Tags::read(path)?;
+    let mut into = vec![0; tags.longest];
+    pass(*entry, &tags, &mut into);
+    println!("{} {}", tags.places.len(), tags.bytes());
+    Ok(())
+}
+
+/// Shapes of tags of 18 bytes. `a` stands for any small letter, `A` for any capital, `0` for any digit, and any
+/// other byte for itself. Letters that are not to be `x` or `a` are written out.
+const SHAPES: [&str; 8] = [
+    "en-Aaaa-AA-aaaaaa0",
+    "en-Aaaa-AA-x-aaaa0",
+    "zh-yue-Aaaa-AA-x-a",
+    "de-AA-u-co-aaaaaaa",
+    "sl-aaaaa-0000-x-aa",
+    "x-aaaaaaaa-0a-aaaa",
+    "es-000-u-aaa-t-aa0",
+    "aaaaaaa-Aaaa-x-a00",
+];
+
+fn make(count: usize) -> std::io::Result<()> {
+    let mut state = 1u64;
+    let mut next = |below: u64| {
+        state = state.wrapping_mul(6364136223846793005).wrapping_add(1442695040888963407);
+        (state >> 33) % below
+    };
+    let mut out = std::io::BufWriter::new(std::io::stdout());
+    for _ in 0..count {
+        let shape = SHAPES[next(SHAPES.len() as u64) as usize];
+        for byte in shape.bytes() {
+            let byte = match byte {
+                b'a' => b'a' + next(26) as u8,
+                b'A' => b'A' + next(26) as u8,
+                b'0' => b'0' + next(10) as u8,
+                byte => byte,
+            };
+            out.write_all(&[byte])?;
+        }
+        out.write_all(b"\n")?;
+    }
+    out.flush()
+}
+
+fn main() -> std::io::Result<()> {
+    let arguments: Vec<String> = std::env::args().skip(1).collect();
+    match arguments.iter().map(String::as_str).collect::<Vec<_>>()[..] {
+        ["make", count] => make(count.parse().expect("COUNT is a number")),
+        ["once", entry, path] => once(entry, path),
+        [path] => time(path),
+        _ => {
+            eprintln!("usage: bench FILE | bench make COUNT | bench once ENTRY FILE");
+            std::process::exit(2)
+        }
+    }
+}

@@ -1,0 +1,26 @@
+//! Plain loops over the bytes of a tag, to which the recogniser is compared.
+ghost use Rattle.std.specs.Prelude.{◌≡◌, ◌≤◌, length};
+
+use langtag_scan::into_smallcase;
+
+/// Copies the bytes to the front of others.
+#[unsafe(no_mangle)]
+pub extern "C" fn langtag_bench_copy(bytes: &[u8], into: &mut [u8]) -> u8
+    requires room { length bytes.now ≤ length into.old }
+    ensures len { length into.new ≡ length into.old }
+{
+    for place in 0..bytes.len() {
+        into[place] = bytes[place];
+    }
+    0
+}
+
+/// The sum of the folded bytes, as far as eight bits hold it.
+#[unsafe(no_mangle)]
+pub extern "C" fn langtag_bench_fold_and_sum(bytes: &[u8]) -> u8 {
+    let mut sum: u8 = 0;
+    for byte in bytes {
+        sum = sum.wrapping_add(into_smallcase(*byte));
+    }
+    sum
+}

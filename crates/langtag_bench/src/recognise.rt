@@ -1,0 +1,63 @@
+//! The recogniser over bytes, and over a text.
+ghost use Rattle.std.specs.Prelude.{◌≡◌, IsTrue, false};
+ghost use Rattle.langtag_scan.specs.Tag.{IsTag};
+
+use crate::source::MeteredBytes;
+use langtag_scan::{Found, Metered, recognise};
+
+/// The ends of the parts of a normal tag, in bytes from its start, as `langtag_scan::Ends` has them.
+#[repr(C)]
+pub struct PartEnds {
+    pub language: usize,
+    pub script: usize,
+    pub region: usize,
+    pub variants: usize,
+    pub extensions: usize,
+    pub whole: usize,
+}
+
+/// Whether the bytes are a tag. Those of a normal one leave the ends of its parts.
+#[tactic(auto, using(crate::proofs::FoundTags::found_tag))]
+#[unsafe(no_mangle)]
+pub extern "C" fn langtag_bench_recognise(bytes: &[u8], ends: &mut PartEnds) -> bool
+    ensures tag { IsTrue result → IsTag bytes.now }
+    ensures no_tag { result ≡ false → IsTag bytes.now → ⊥ }
+{
+    match recognise(&mut MeteredBytes::new(bytes)) {
+        Some(found) => {
+            keep(&found, ends);
+            true
+        }
+        None => false,
+    }
+}
+
+/// The same with the check that the bytes are UTF-8 before it.
+#[tactic(auto, using(crate::proofs::FoundTags::found_tag))]
+#[unsafe(no_mangle)]
+pub extern "C" fn langtag_bench_recognise_text(bytes: &[u8], ends: &mut PartEnds) -> bool
+    ensures tag { IsTrue result → IsTag bytes.now }
+{
+    let Ok(text) = str::from_utf8(bytes) else {
+        return false;
+    };
+    match recognise(&mut Metered::new(text)) {
+        Some(found) => {
+            keep(&found, ends);
+            true
+        }
+        None => false,
+    }
+}
+
+/// Keeps the ends of a normal tag.
+fn keep(found: &Found, ends: &mut PartEnds) {
+    if let Some(found) = found.ends() {
+        ends.language = found.language;
+        ends.script = found.script;
+        ends.region = found.region;
+        ends.variants = found.variants;
+        ends.extensions = found.extensions;
+        ends.whole = found.whole;
+    }
+}
