@@ -1,12 +1,10 @@
 -- A rule and its test say the same: one list of subtags spells a text, and it is what stands between the hyphens.
-use Rattle.std.proofs.Common.{◌≡◌, ◌↔◌, ℕ, ◌≤◌, ◌<◌, ◌⊎◌, inl, inr, true, false, Bool, leb, cond, IsTrue, List, [], ◌∷◌, length, refl, sym, ap, ◌∙◌, arith}
-use Rattle.std.specs.List.{AllByRecursion}
+use Rattle.std.proofs.Common.{◌≡◌, ◌↔◌, ℕ, ◌≤◌, ◌⊎◌, inl, inr, true, false, Bool, leb, cond, IsTrue, List, [], ◌∷◌, length, refl, sym, ap, ◌∙◌, arith}
 use Rattle.std.proofs.lemmas.Bool.{leb-true, le-leb}
 use Rattle.std.proofs.lemmas.List.{nil_from_length}
-use Rattle.std.proofs.lemmas.List.Elements.{All-from_recursion, All-weaker}
-use Rattle.langtag_scan.specs.Class.{are_letters, has_length, is_primary, is_extended}
-use Rattle.langtag_scan.specs.Subtags.{join, subtags, IsHyphenFree}
-use Rattle.langtag_scan.proofs.Disjoint.{both_true, between_true, extended_three}
+use Rattle.langtag_scan.specs.Class.{is_primary, is_extended}
+use Rattle.langtag_scan.specs.Subtags.{join, subtags}
+use Rattle.langtag_scan.proofs.Disjoint.{both_true}
 use Rattle.langtag_scan.proofs.Segments.{of_primary, of_extended}
 use Rattle.langtag_scan.proofs.SubtagLists.{each_from_test, test_from_each, each_subtag, subtags-joined}
 use Rattle.langtag_scan.proofs.SubtagsLemmas.{join-subtags}

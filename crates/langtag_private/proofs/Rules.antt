@@ -1,12 +1,10 @@
 -- The rule and its test say the same: one private list spells a text, and it is what stands between the hyphens.
-use Rattle.std.proofs.Common.{◌≡◌, ◌↔◌, ℕ, ◌<◌, inl, inr, true, Bool, eqb, eqb-true, IsTrue, List, [], ◌∷◌, length, drop, refl, sym, ap, ◌∙◌, arith}
-use Rattle.std.specs.List.{AllByRecursion}
-use Rattle.std.proofs.lemmas.List.Elements.{All-from_recursion, All-weaker}
-use Rattle.langtag_scan.specs.Class.{is_letter, is_alphanumeric, are_alphanumeric, has_length, is_mark, is_private_subtag}
+use Rattle.std.proofs.Common.{◌≡◌, ◌↔◌, ℕ, true, Bool, IsTrue, List, [], ◌∷◌, drop, refl, sym, ap, ◌∙◌, arith}
+use Rattle.langtag_scan.specs.Class.{is_mark, is_private_subtag}
 use Rattle.langtag_scan.specs.Record.{PrivateUse, IsPrivateUse, private_use_flat}
-use Rattle.langtag_scan.specs.Subtags.{join, subtags, IsHyphenFree}
+use Rattle.langtag_scan.specs.Subtags.{join, subtags}
 use Rattle.langtag_scan.specs.Tag.{IsPrivate}
-use Rattle.langtag_scan.proofs.Disjoint.{both_true, one_true, between_true}
+use Rattle.langtag_scan.proofs.Disjoint.{both_true}
 use Rattle.langtag_scan.proofs.Segments.{of_one, of_private_subtag, mark_alphanumeric}
 use Rattle.langtag_scan.proofs.SubtagLists.{each_from_test, test_from_each, each_subtag, subtags-joined}
 use Rattle.langtag_scan.proofs.SubtagsLemmas.{join-subtags}

@@ -1,4 +1,4 @@
-use Rattle.std.proofs.Common.{◌≡◌, ◌∷◌, List, ℕ, drop, rules}
+use Rattle.std.proofs.Common.{◌≡◌, drop, rules}
 use Rattle.langtag_scan.specs.Subtags.{subtags}
 use Rattle.langtag_private.proofs.Rules.{are_private-behind}
 use Rattle.langtag_private.proofs.private_use_iter.PrivateUseIter.new.Goals as goal
