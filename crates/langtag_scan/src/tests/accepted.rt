@@ -49,7 +49,7 @@ fn private(rt: HostRuntime) {
 
 #[test]
 fn irregular(rt: HostRuntime) {
-    for (text, place) in IRREGULAR {
+    for &(text, place) in IRREGULAR {
         is_not_normal(&rt, text, Answer::Irregular(place));
     }
     for (place, text) in TABLE.iter().enumerate() {

@@ -10,7 +10,7 @@ const NO: bool = false;
 
 /// Subtags, and whether they are a primary and an extended language subtag, a script, a region, a variant, a subtag
 /// of an extension and a private use subtag.
-const SUBTAGS: [(&[u8], [bool; 7]); 20] = [
+const SUBTAGS: &[(&[u8], [bool; 7])] = &[
     (b"a", [NO, NO, NO, NO, NO, NO, YES]),
     (b"1", [NO, NO, NO, NO, NO, NO, YES]),
     (b"ab", [YES, NO, NO, YES, NO, YES, YES]),
@@ -34,7 +34,7 @@ const SUBTAGS: [(&[u8], [bool; 7]); 20] = [
 ];
 
 /// What is of no class: too short, too long, or with a byte that is no letter and no digit.
-const NO_SUBTAGS: [&[u8]; 16] = [
+const NO_SUBTAGS: &[&[u8]] = &[
     b"",
     b"abcdefghi",
     b"123456789",
@@ -67,7 +67,7 @@ fn classes(subtag: &[u8]) -> [bool; 7] {
 
 #[test]
 fn of_subtags(rt: HostRuntime) {
-    for (subtag, want) in SUBTAGS {
+    for &(subtag, want) in SUBTAGS {
         assert_eq!(rt; classes(subtag), want, "at {subtag:?}");
     }
     for bytes in NO_SUBTAGS {

@@ -1,9 +1,9 @@
 //! The ends of the parts of normal tags.
-use crate::tests::answer::{Answer, case_swapped, ends, of_bytes, of_text};
+use crate::tests::answer::{Answer, case_swapped, ends, of_bytes, of_normal, of_text};
 use std::process::Abort;
 
 /// The ends of language, script, region, variants and extensions, and the length.
-pub(crate) const ENDS: [(&str, [usize; 6]); 13] = [
+pub(crate) const ENDS: &[(&str, [usize; 6])] = &[
     ("fr", [2, 2, 2, 2, 2, 2]),
     ("fr-FR", [2, 2, 5, 5, 5, 5]),
     ("de-CH-1996", [2, 2, 5, 10, 10, 10]),
@@ -27,15 +27,16 @@ pub(crate) const ENDS: [(&str, [usize; 6]); 13] = [
 
 #[test]
 fn of_each_part(rt: HostRuntime) {
-    for (text, places) in ENDS {
-        let want = (Answer::Normal(ends(places)), text.len());
-        assert_eq!(rt; of_text(&rt, text), want, "at {text}");
+    for &(text, places) in ENDS {
+        let want = Answer::Normal(ends(places));
+        assert_eq!(rt; of_text(&rt, text), (want, text.len()), "at {text}");
+        assert_eq!(rt; of_normal(&rt, text), want, "at {text}");
     }
 }
 
 #[test]
 fn in_the_other_case(rt: HostRuntime) {
-    for (text, places) in ENDS {
+    for &(text, places) in ENDS {
         assert!(rt; text.len() <= 64);
         let swapped = case_swapped(text);
         let want = (Answer::Normal(ends(places)), text.len());
@@ -59,7 +60,7 @@ fn part<'a>(rt: &impl Abort, text: &'a str, before: usize, end: usize) -> &'a [u
 }
 
 /// The parts: language, script, region, variants, extensions and private use.
-pub(crate) const PARTS: [(&str, [&str; 6]); 10] = [
+pub(crate) const PARTS: &[(&str, [&str; 6])] = &[
     ("fr", ["fr", "", "", "", "", ""]),
     ("fr-FR", ["fr", "", "FR", "", "", ""]),
     (
@@ -79,12 +80,13 @@ pub(crate) const PARTS: [(&str, [&str; 6]); 10] = [
     ("fr-1-aa-1-aa", ["fr", "", "", "", "1-aa-1-aa", ""]),
     ("de-1996-1996", ["de", "", "", "1996-1996", "", ""]),
     ("en-Latn-x-US", ["en", "Latn", "", "", "", "x-US"]),
+    ("en-GB-oedxx", ["en", "", "GB", "oedxx", "", ""]),
 ];
 
 #[test]
 fn around_the_parts(rt: HostRuntime) {
-    for (text, parts) in PARTS {
-        let (Answer::Normal(ends), _) = of_text(&rt, text) else {
+    for &(text, parts) in PARTS {
+        let (Answer::Normal(ends), reads) = of_text(&rt, text) else {
             panic!(rt; "{text} was refused");
         };
         assert_eq!(rt;
@@ -101,6 +103,7 @@ fn around_the_parts(rt: HostRuntime) {
         ] {
             assert_eq!(rt; part(&rt, text, before, end), want.as_bytes(), "in {text}");
         }
-        assert_eq!(rt; ends.whole, text.len(), "at {text}");
+        assert_eq!(rt; ends.whole, text.len(), "in {text}");
+        assert_eq!(rt; reads, text.len(), "in {text}");
     }
 }

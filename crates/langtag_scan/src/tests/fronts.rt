@@ -2,7 +2,7 @@
 use crate::tests::answer::{Answer, case_swapped, followed, of_bytes, of_text};
 
 /// Fronts, each with a tag that begins with it, if there is one.
-const FRONTS: [(&str, Option<&str>); 14] = [
+const FRONTS: &[(&str, Option<&str>)] = &[
     ("", Some("fr")),
     ("i-n", Some("i-navajo")),
     ("i-no", None),
@@ -21,7 +21,7 @@ const FRONTS: [(&str, Option<&str>); 14] = [
 
 #[test]
 fn an_underscore_is_read_behind_those_that_go_on(rt: HostRuntime) {
-    for (front, tag) in FRONTS {
+    for &(front, tag) in FRONTS {
         let len = front.len();
         assert!(rt; len < 64);
         let want = (Answer::Refused, len + usize::from(tag.is_some()));
@@ -40,7 +40,7 @@ fn an_underscore_is_read_behind_those_that_go_on(rt: HostRuntime) {
 
 #[test]
 fn those_that_go_on_begin_a_tag(rt: HostRuntime) {
-    for (front, tag) in FRONTS {
+    for &(front, tag) in FRONTS {
         let Some(tag) = tag else { continue };
         assert!(rt; tag.starts_with(front), "at {front}");
         let (answer, reads) = of_text(&rt, tag);

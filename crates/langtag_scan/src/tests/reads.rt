@@ -3,7 +3,7 @@ use crate::tests::answer::{Answer, ends, of_bytes, of_normal, of_text};
 use crate::tests::source::{Bytes, PrivateSubtags};
 use crate::{ByteSource, recognise, recognise_normal};
 
-const REFUSED: [(&str, usize); 33] = [
+const REFUSED: &[(&str, usize)] = &[
     ("", 0),
     ("-", 1),
     ("1996", 1),
@@ -41,7 +41,7 @@ const REFUSED: [(&str, usize); 33] = [
 
 #[test]
 fn refused(rt: HostRuntime) {
-    for (text, reads) in REFUSED {
+    for &(text, reads) in REFUSED {
         assert_eq!(rt; of_text(&rt, text), (Answer::Refused, reads), "at {text}");
         assert_eq!(rt; of_normal(&rt, text), Answer::Refused, "at {text}");
     }

@@ -10,14 +10,14 @@ fn is_refused_after(rt: &impl Abort, text: &str, reads: usize) {
 
 #[test]
 fn broken(rt: HostRuntime) {
-    for (text, reads) in BROKEN {
+    for &(text, reads) in BROKEN {
         is_refused_after(&rt, text, reads);
     }
 }
 
 #[test]
 fn random_broken(rt: HostRuntime) {
-    for (text, reads) in RANDOM_BROKEN {
+    for &(text, reads) in RANDOM_BROKEN {
         is_refused_after(&rt, text, reads);
     }
     for text in MORE_RANDOM_BROKEN {

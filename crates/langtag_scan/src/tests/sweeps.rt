@@ -39,10 +39,10 @@ fn normal(rt: HostRuntime) {
 
 #[test]
 fn with_ends(rt: HostRuntime) {
-    for (text, _) in ENDS {
+    for &(text, _) in ENDS {
         sweep(&rt, text, 2);
     }
-    for (text, _) in PARTS {
+    for &(text, _) in PARTS {
         sweep(&rt, text, 2);
     }
 }

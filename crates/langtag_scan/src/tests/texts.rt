@@ -1,7 +1,7 @@
 //! Texts that are tags and texts that are none, most of them from the tests of the Rust crate `langtag`.
 
 /// Normal tags.
-pub(crate) const NORMAL: [&str; 50] = [
+pub(crate) const NORMAL: &[&str] = &[
     "fr",
     "fr-Latn",
     "fr-fra",
@@ -55,7 +55,7 @@ pub(crate) const NORMAL: [&str; 50] = [
 ];
 
 /// Random normal tags.
-pub(crate) const RANDOM_NORMAL: [&str; 49] = [
+pub(crate) const RANDOM_NORMAL: &[&str] = &[
     "zszLDm-sCVS-es-x-gn762vG-83-S-mlL",
     "IIJdFI-cfZv",
     "kbAxSgJ-685",
@@ -108,7 +108,7 @@ pub(crate) const RANDOM_NORMAL: [&str; 49] = [
 ];
 
 /// More of them.
-pub(crate) const MORE_RANDOM_NORMAL: [&str; 48] = [
+pub(crate) const MORE_RANDOM_NORMAL: &[&str] = &[
     "PydSwHRI-TYfF",
     "zKmWDD",
     "HK",
@@ -160,7 +160,7 @@ pub(crate) const MORE_RANDOM_NORMAL: [&str; 48] = [
 ];
 
 /// The regular grandfathered tags, which are normal.
-pub(crate) const REGULAR: [&str; 10] = [
+pub(crate) const REGULAR: &[&str] = &[
     "art-lojban",
     "cel-gaulish",
     "no-bok",
@@ -174,20 +174,20 @@ pub(crate) const REGULAR: [&str; 10] = [
 ];
 
 /// More normal tags.
-pub(crate) const OTHER_NORMAL: [&str; 9] = [
+pub(crate) const OTHER_NORMAL: &[&str] = &[
     "zh",
     "zh-Latn",
     "de",
     "abcd-efgh",
     "ab-1-bb",
-    "en-GB-oedxx",
+    "dE-AraB-lY",
     "fr-a-bb-A-cc",
     "fr-a-ext1-ext2-b-ext3",
     "fr-a-ext1-ext2-b-ext3-ext4-c-ext5-ext6",
 ];
 
 /// Private use tags.
-pub(crate) const PRIVATE: [&str; 5] = [
+pub(crate) const PRIVATE: &[&str] = &[
     "x-fr-CH",
     "X-bCrL5RL",
     "x-CHsHx-VDcOUAur-FqagDTx-H-V0e74R",
@@ -196,7 +196,7 @@ pub(crate) const PRIVATE: [&str; 5] = [
 ];
 
 /// The irregular tags in the order of the table.
-pub(crate) const TABLE: [&str; 17] = [
+pub(crate) const TABLE: &[&str] = &[
     "en-GB-oed",
     "i-ami",
     "i-bnn",
@@ -217,7 +217,7 @@ pub(crate) const TABLE: [&str; 17] = [
 ];
 
 /// Irregular tags, with their places in the table.
-pub(crate) const IRREGULAR: [(&str, usize); 6] = [
+pub(crate) const IRREGULAR: &[(&str, usize)] = &[
     ("i-klingon", 6),
     ("I-kLINgon", 6),
     ("i-enochian", 4),
@@ -227,7 +227,7 @@ pub(crate) const IRREGULAR: [(&str, usize); 6] = [
 ];
 
 /// Texts that are no tags, with how many bytes decide it.
-pub(crate) const BROKEN: [(&str, usize); 27] = [
+pub(crate) const BROKEN: &[(&str, usize)] = &[
     ("", 0),
     ("ab-abcd-abc", 11),
     ("ab-abcde-abcd", 13),
@@ -258,7 +258,7 @@ pub(crate) const BROKEN: [(&str, usize); 27] = [
 ];
 
 /// Random texts that are no tags, with how many bytes decide it.
-pub(crate) const RANDOM_BROKEN: [(&str, usize); 19] = [
+pub(crate) const RANDOM_BROKEN: &[(&str, usize)] = &[
     ("VzyL2", 5),
     ("u-t", 2),
     ("laiY-5", 6),
@@ -281,7 +281,7 @@ pub(crate) const RANDOM_BROKEN: [(&str, usize); 19] = [
 ];
 
 /// More random texts that are no tags.
-pub(crate) const MORE_RANDOM_BROKEN: [&str; 75] = [
+pub(crate) const MORE_RANDOM_BROKEN: &[&str] = &[
     "y-oF-chnavU-H",
     "Yw-F",
     "b-UTn33HF",
