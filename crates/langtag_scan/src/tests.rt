@@ -1,5 +1,15 @@
 //! What no clause says, and the worked examples.
+mod accepted;
+mod answer;
 mod case;
 mod caseless;
+mod class;
+mod ends;
+mod fronts;
+mod reads;
+mod refused;
 mod segment;
+mod source;
 mod subtags;
+mod sweeps;
+mod texts;

@@ -1,0 +1,117 @@
+//! The sources of bytes that the tests read, and what a source keeps of its reads.
+ghost use Rattle.std.specs.Prelude.{◌≡◌, ◌≤◌, ◌^◌, ◌%◌, ◌==◌, nat_lt, map, slice_index, codes, if◌then◌else◌};
+ghost use Rattle.std.specs.List.{range_with_len};
+
+use crate::{ByteSource, Metered};
+
+/// Bytes, which need not be UTF-8.
+#[derive(Drop)]
+pub(crate) struct Bytes<'a> {
+    bytes: &'a [u8],
+    reads: u128,
+    reach: usize,
+}
+
+impl<'a> Bytes<'a> {
+    /// Bytes of which so many reads were made, which reached so far.
+    pub(crate) fn new(bytes: &'a [u8], reads: u128, reach: usize) -> Self
+        ensures { ⟦<Bytes<'a> as ByteSource>⟧.reads result ≡ reads }
+    {
+        Bytes {
+            bytes,
+            reads,
+            reach,
+        }
+    }
+}
+
+impl<'a> ByteSource for Bytes<'a> {
+    ghost bytes = { λ s. s.bytes.now };
+
+    ghost reads = { λ s. s.reads };
+
+    ghost reach = { λ s. s.reach };
+
+    fn len(&self) -> usize {
+        self.bytes.len()
+    }
+
+    fn reads(&self) -> u128 {
+        self.reads
+    }
+
+    fn reach(&self) -> usize {
+        self.reach
+    }
+
+    fn byte(&mut self, place: usize) -> u8 {
+        self.reads += 1;
+        self.reach = self.reach.max(place + 1);
+        self.bytes[place]
+    }
+}
+
+/// `en-x` followed by so many times `-a`, of which no byte is stored.
+#[derive(Drop)]
+pub(crate) struct PrivateSubtags {
+    len: usize,
+    reads: u128,
+    reach: usize,
+    ghost short: { len ≤ 2 ^ 18 },
+}
+
+impl PrivateSubtags {
+    pub(crate) fn new(count: u16) -> Self
+        ensures { ⟦<PrivateSubtags as ByteSource>⟧.reads result ≡ 0 }
+    {
+        PrivateSubtags {
+            len: 4 + 2 * usize::from(count),
+            reads: 0,
+            reach: 0,
+        }
+    }
+}
+
+impl ByteSource for PrivateSubtags {
+    ghost bytes = { λ s. map (λ place. if nat_lt place 4 then slice_index (codes "en-x") place else if place % 2 == 0 then 45 else 97) (range_with_len 0 s.len) };
+
+    ghost reads = { λ s. s.reads };
+
+    ghost reach = { λ s. s.reach };
+
+    fn len(&self) -> usize {
+        self.len
+    }
+
+    fn reads(&self) -> u128 {
+        self.reads
+    }
+
+    fn reach(&self) -> usize {
+        self.reach
+    }
+
+    fn byte(&mut self, place: usize) -> u8 {
+        self.reads += 1;
+        self.reach = self.reach.max(place + 1);
+        if place < 4 {
+            b"en-x"[place]
+        } else if place % 2 == 0 {
+            b'-'
+        } else {
+            b'a'
+        }
+    }
+}
+
+#[test]
+fn metered_counts_each_read(rt: HostRuntime) {
+    let mut source = Metered::new("fr-é");
+    assert_eq!(rt; (source.len(), source.reads(), source.reach()), (5, 0, 0));
+    assert_eq!(rt; source.byte(2), b'-');
+    assert_eq!(rt; (source.reads(), source.reach()), (1, 3));
+    assert_eq!(rt; source.byte(0), b'f');
+    assert_eq!(rt; (source.reads(), source.reach()), (2, 3));
+    assert_eq!(rt; source.byte(4), 0xa9);
+    assert_eq!(rt; (source.len(), source.reads(), source.reach()), (5, 3, 5));
+}
