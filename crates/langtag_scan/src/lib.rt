@@ -1,5 +1,19 @@
 //! Language tags over bytes, by RFC 5646 section 2.1: the fold, the classes of subtags, and what decides whether
 //! the bytes of a source are a tag.
+//!
+//! ```
+//! use langtag_scan::{ByteSource, Metered, recognise};
+//!
+//! let mut source = Metered::new("fr-abc-bz-x-a");
+//! let ends = recognise(&mut source)?.ends()?;
+//! (ends.language, ends.script, ends.region, ends.whole); // 6, 6, 9, 13: no script, and the region is `bz`
+//!
+//! let mut source = Metered::new("i-notexist");
+//! recognise(&mut source);                                // None
+//! source.reads();                                        // 4: no tag begins with `i-no`
+//! ```
+//!
+//! `Caseless` and `Subtags` serve the crates of this workspace that build the text types.
 #![tactic(auto)]
 
 mod case;
