@@ -1,5 +1,6 @@
 -- Tags, and the fronts that some tag begins with.
 use Rattle.std.proofs.Common.{◌≡◌, ℕ, ◌+◌, ◌<◌, ◌≤◌, true, false, List, [], ◌∷◌, ◌++◌, length, take, drop, get_or, inl, inr, refl, sym, ap, subst, ◌∙◌, arith, append_assoc}
+use Rattle.std.proofs.lemmas.Bool.{cases_lt}
 use Rattle.std.proofs.lemmas.List.{take_more, take-append-drop, take-take, length-take}
 use Rattle.langtag_scan.specs.Tag.{IsNormal, IsPrivate, IsIrregular, IsIrregularAt, IsTag}
 use Rattle.langtag_scan.specs.Found.{Finding, Finding.normal, Finding.private_use, Finding.irregular, IsFoundOf, is_normal}
@@ -87,6 +88,21 @@ stop_dead t i lt v dead = record { within = omega arith; before = λ k h. fronts
 
 pub stop_end : (t : List ℕ) (i : ℕ) → i ≡ length t → IsViable (take i t) → IsStop t i
 stop_end t i end v = record { within = omega arith; before = λ k h. fronts_viable t i k v (omega arith); at = inl (v, end) }
+
+-- a text has one stop
+no_later_stop : (t : List ℕ) (n m : ℕ) → n < m → IsStop t n → IsStop t m → ⊥
+no_later_stop t n m lt stop later =
+    elim stop.at [
+      | inl whole ↦ let within = later.within in let end : n ≡ length t = whole.1 in omega arith
+      | inr dead ↦ dead (later.before n lt)
+    ]
+
+pub stop_once : (t : List ℕ) (n m : ℕ) → IsStop t n → IsStop t m → n ≡ m
+stop_once t n m stop other =
+    elim (cases_lt n m) [
+      | inl lt ↦ absurd (no_later_stop t n m lt stop other)
+      | inr le ↦ elim (cases_lt m n) [ inl lt ↦ absurd (no_later_stop t m n lt other stop) | inr ge ↦ omega arith ]
+    ]
 
 -- a text with a front that is not viable is no tag
 pub no_tag_dead : (t : List ℕ) (i : ℕ) → (IsViable (take i t) → ⊥) → IsTag t → ⊥

@@ -1,7 +1,7 @@
 //! The recognisers: one pass over a source of bytes.
 ghost use Rattle.std.specs.Prelude.{◌≡◌, ◌↔◌, ◌⊎◌, ℕ, ◌≤◌, ◌+◌, ◌^◌, max, List, length, IsTrue, MatchOption};
 ghost use Rattle.langtag_scan.specs.Record.{Record, IsWellFormed, spell};
-ghost use Rattle.langtag_scan.specs.Tag.{IsNormal, IsPrivate, IsIrregular, IsTag};
+ghost use Rattle.langtag_scan.specs.Tag.{IsNormal, IsPrivate, IsIrregularAt, IsIrregular, IsTag};
 ghost use Rattle.langtag_scan.specs.Viable.{IsStop, IsViable, IsIrregularFront, fill};
 ghost use Rattle.langtag_scan.specs.Found.{IsFoundOf, is_normal};
 
@@ -13,7 +13,7 @@ use crate::source::ByteSource;
 /// are none.
 ///
 /// It asks for the bytes in order, each once, up to the first one after which no tag can follow, and takes no
-/// memory. Its contract also has two laws: no text is of two kinds, and how to see which texts begin a tag.
+/// memory. Its contract also has the laws that make its answer the only one, and says which texts begin a tag.
 pub fn recognise<S: ByteSource>(source: &mut S) -> Option<Found>
     requires { S.reads source.old ≤ 2 ^ 126 }
     ensures found { MatchOption result (IsTag (S.bytes source.old) → ⊥) (λ found. IsFoundOf (S.bytes source.old) found) }
@@ -23,6 +23,8 @@ pub fn recognise<S: ByteSource>(source: &mut S) -> Option<Found>
     ensures normal_not_private { (t : List ℕ) → IsNormal t → IsPrivate t → ⊥ }
     ensures normal_not_irregular { (t : List ℕ) → IsNormal t → IsIrregular t → ⊥ }
     ensures private_not_irregular { (t : List ℕ) → IsPrivate t → IsIrregular t → ⊥ }
+    ensures one_place { (j k : ℕ) (t : List ℕ) → IsIrregularAt j t → IsIrregularAt k t → j ≡ k }
+    ensures one_stop { (t : List ℕ) (n m : ℕ) → IsStop t n → IsStop t m → n ≡ m }
     ensures viable { (p : List ℕ) → IsViable p ↔ (IsTag (fill p) ⊎ IsIrregularFront p) }
 {
     let len = source.len();

@@ -2,8 +2,9 @@ use Rattle.std.proofs.Common.{◌≡◌, ◌+◌, get_or, take, length, refl, su
 use Rattle.std.proofs.lemmas.List.{take_all}
 use Rattle.langtag_scan.specs.Tracking.{Tracks}
 use Rattle.langtag_scan.proofs.OneCase.{normal_no_private, normal_no_irregular, private_no_irregular}
+use Rattle.langtag_scan.proofs.IrregularNames.{irregular_once}
 use Rattle.langtag_scan.proofs.FillLaw.{viable_fill}
-use Rattle.langtag_scan.proofs.TagLaws.{stop_dead, stop_end, no_tag_dead, viable_nothing, read_more}
+use Rattle.langtag_scan.proofs.TagLaws.{stop_once, stop_dead, stop_end, no_tag_dead, viable_nothing, read_more}
 use Rattle.langtag_scan.proofs.recogniser.recognise.Goals as goal
 
 pub loop-place-init : goal.loop-place-init
@@ -81,3 +82,15 @@ returns-clause-private_not_irregular g c = private_no_irregular
 
 pub returns-clause-viable : goal.returns-clause-viable
 returns-clause-viable g c = viable_fill
+
+pub returns-then-not-is_live-clause-one_place : goal.returns-then-not-is_live-clause-one_place
+returns-then-not-is_live-clause-one_place g c = irregular_once
+
+pub returns-then-not-is_live-clause-one_stop : goal.returns-then-not-is_live-clause-one_stop
+returns-then-not-is_live-clause-one_stop g c = stop_once
+
+pub returns-clause-one_place : goal.returns-clause-one_place
+returns-clause-one_place g c = irregular_once
+
+pub returns-clause-one_stop : goal.returns-clause-one_stop
+returns-clause-one_stop g c = stop_once
