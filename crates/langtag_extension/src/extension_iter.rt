@@ -6,7 +6,7 @@ ghost use Rattle.langtag_extension.specs.ExtensionTexts.{are_extension_subtags};
 use crate::extension_subtag::ExtensionSubtag;
 use langtag_scan::Subtags;
 
-/// The subtags of an extension that are still to come, without the singleton.
+/// The subtags of an extension that are still to come (RFC 5646 section 2.2.6), without the singleton.
 #[derive(Drop)]
 pub struct ExtensionIter<'a> {
     subtags: Subtags<'a>,

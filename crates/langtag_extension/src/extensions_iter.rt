@@ -6,7 +6,7 @@ ghost use Rattle.langtag_extension.specs.ExtensionTexts.{are_extension_texts};
 use crate::extension::Extension;
 use crate::extension_texts::ExtensionTexts;
 
-/// The extensions that are still to come.
+/// The extensions that are still to come (RFC 5646 section 2.2.6), in the order in which they are written.
 #[derive(Drop)]
 pub struct ExtensionsIter<'a> {
     texts: ExtensionTexts<'a>,

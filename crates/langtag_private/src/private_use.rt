@@ -158,7 +158,7 @@ pub struct PrivateUseBuf {
 impl PrivateUseBuf {
     ghost use Rattle.langtag_private.specs.Text.{private_use_text, private_use_buf_text};
 
-    /// The language extension of a text, which is neither copied nor moved in memory.
+    /// The private use part of a text, which is neither copied nor moved in memory.
     ///
     /// # Errors
     ///

@@ -1,7 +1,8 @@
-//! Answers each line of standard input: whether it is a language tag of RFC 5646.
+//! Answers each line of standard input: which kind of language tag of RFC 5646 it is, if any.
 //!
 //! A line ends at LF, and a last line without LF counts where it is not empty. CR is an ordinary byte. The answer
-//! is `normal` for a normal tag (section 2.1) and `refused` for any other line, also one that is not UTF-8.
+//! is `normal`, `private` or `irregular` by the three forms of a tag (section 2.1), and `refused` for any other line,
+//! also one that is not UTF-8.
 //! A run that a fault ends says so on standard error and by its status.
 #![tactic(auto)]
 
