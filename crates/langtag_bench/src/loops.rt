@@ -1,5 +1,6 @@
 //! Plain loops over the bytes of a tag, to which the recogniser is compared.
-ghost use Rattle.std.specs.Prelude.{◌≡◌, ◌≤◌, length};
+ghost use Rattle.std.specs.Prelude.{◌≡◌, ◌≤◌, ◌+◌, ◌%◌, length, take, fold};
+ghost use Rattle.langtag_scan.specs.Case.{fold_byte};
 
 use langtag_scan::into_smallcase;
 
@@ -8,6 +9,8 @@ use langtag_scan::into_smallcase;
 pub extern "C" fn langtag_bench_copy(bytes: &[u8], into: &mut [u8]) -> u8
     requires room { length bytes.now ≤ length into.old }
     ensures len { length into.new ≡ length into.old }
+    ensures copied { take (length bytes.now) into.new ≡ bytes.now }
+    ensures zero { result ≡ 0 }
 {
     for place in 0..bytes.len() {
         into[place] = bytes[place];
@@ -17,7 +20,9 @@ pub extern "C" fn langtag_bench_copy(bytes: &[u8], into: &mut [u8]) -> u8
 
 /// The sum of the folded bytes, as far as eight bits hold it.
 #[unsafe(no_mangle)]
-pub extern "C" fn langtag_bench_fold_and_sum(bytes: &[u8]) -> u8 {
+pub extern "C" fn langtag_bench_fold_and_sum(bytes: &[u8]) -> u8
+    ensures { result ≡ fold (λ sum byte. (sum + fold_byte byte) % 256) 0 bytes.now }
+{
     let mut sum: u8 = 0;
     for byte in bytes {
         sum = sum.wrapping_add(into_smallcase(*byte));

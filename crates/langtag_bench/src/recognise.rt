@@ -37,6 +37,7 @@ pub extern "C" fn langtag_bench_recognise(bytes: &[u8], ends: &mut PartEnds) -> 
 #[unsafe(no_mangle)]
 pub extern "C" fn langtag_bench_recognise_text(bytes: &[u8], ends: &mut PartEnds) -> bool
     ensures tag { IsTrue result → IsTag bytes.now }
+    ensures no_tag { result ≡ false → IsTag bytes.now → ⊥ }
 {
     let Ok(text) = str::from_utf8(bytes) else {
         return false;
