@@ -329,14 +329,17 @@ fn reports_what_memory_holds(rt: HostRuntime) -> Result<(), Fail> {
 }
 
 #[test]
-fn tells_each_fault(rt: HostRuntime) {
+fn tells_each_fault(rt: HostRuntime) -> Result<(), Fail> {
     let rows = [
-        (ShowError::Memory, "out of memory", 3),
-        (ShowError::Read, "read failed", 4),
-        (ShowError::Write, "write failed", 5),
+        (ShowError::Memory, "out of memory", 3, "Memory"),
+        (ShowError::Read, "read failed", 4, "Read"),
+        (ShowError::Write, "write failed", 5, "Write"),
     ];
-    for (error, text, status) in rows {
+    for (error, text, status, debug) in rows {
         assert_eq!(rt; error.text(), text);
         assert_eq!(rt; error.status(), status);
+        let shown = format!(in rt.alloc(); "{error:?}")?;
+        assert_eq!(rt; shown.as_str(), debug);
     }
+    Ok(())
 }

@@ -129,3 +129,18 @@ fn copies_own_the_same_text(rt: HostRuntime) -> Result<(), Fail> {
     assert!(rt; copied, "both copies were refused");
     Ok(())
 }
+
+#[test]
+fn debug_shows_the_text(rt: HostRuntime) -> Result<(), Fail> {
+    let alloc = rt.alloc();
+    let lent = Extension::new("u-Co").ok().ok_or("refused")?;
+    let shown = format!(in alloc; "{lent:?}")?;
+    assert_eq!(rt; shown.as_str(), "Extension { text: Caseless(\"u-Co\") }");
+    let owned = lent.try_to_owned(alloc)?;
+    let shown = format!(in alloc; "{owned:?}")?;
+    assert_eq!(rt; shown.as_str(), "ExtensionBuf { text: Caseless(\"u-Co\") }");
+    let refused = Extension::new("u").err().ok_or("accepted")?;
+    let shown = format!(in alloc; "{refused:?}")?;
+    assert_eq!(rt; shown.as_str(), "InvalidExtension(\"u\")");
+    Ok(())
+}

@@ -74,3 +74,15 @@ fn comparisons_are_by_the_exact_byte(rt: HostRuntime) -> Result<(), Fail> {
     assert!(rt; !seen.contains(&capital));
     Ok(())
 }
+
+#[test]
+fn debug_shows_the_byte(rt: HostRuntime) -> Result<(), Fail> {
+    let alloc = rt.alloc();
+    let singleton = Singleton::new(b'U').ok().ok_or("refused")?;
+    let shown = format!(in alloc; "{singleton:?}")?;
+    assert_eq!(rt; shown.as_str(), "Singleton { byte: 85 }");
+    let refused = Singleton::from_string("x").err().ok_or("accepted")?;
+    let shown = format!(in alloc; "{refused:?}")?;
+    assert_eq!(rt; shown.as_str(), "InvalidSingleton(\"x\")");
+    Ok(())
+}

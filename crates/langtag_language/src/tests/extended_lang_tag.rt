@@ -115,3 +115,24 @@ fn copies_own_the_same_text(rt: HostRuntime) -> Result<(), Fail> {
     assert!(rt; copied, "both copies were refused");
     Ok(())
 }
+
+#[test]
+fn debug_shows_the_text(rt: HostRuntime) -> Result<(), Fail> {
+    let alloc = rt.alloc();
+    let lent = ExtendedLangTag::new("aBc").ok().ok_or("refused")?;
+    let shown = format!(in alloc; "{lent:?}")?;
+    assert_eq!(rt;
+        shown.as_str(),
+        "ExtendedLangTag { text: Caseless(\"aBc\") }"
+    );
+    let owned = lent.try_to_owned(alloc)?;
+    let shown = format!(in alloc; "{owned:?}")?;
+    assert_eq!(rt;
+        shown.as_str(),
+        "ExtendedLangTagBuf { text: Caseless(\"aBc\") }"
+    );
+    let refused = ExtendedLangTag::new("ab").err().ok_or("accepted")?;
+    let shown = format!(in alloc; "{refused:?}")?;
+    assert_eq!(rt; shown.as_str(), "InvalidExtendedLangTag(\"ab\")");
+    Ok(())
+}

@@ -144,3 +144,21 @@ fn a_primary_subtag_alone(rt: HostRuntime) -> Result<(), Fail> {
     assert!(rt; language.extension_subtags().next().is_none());
     Ok(())
 }
+
+#[test]
+fn debug_shows_the_text(rt: HostRuntime) -> Result<(), Fail> {
+    let alloc = rt.alloc();
+    let lent = Language::new("zh-MiN").ok().ok_or("refused")?;
+    let shown = format!(in alloc; "{lent:?}")?;
+    assert_eq!(rt; shown.as_str(), "Language { text: Caseless(\"zh-MiN\") }");
+    let owned = lent.try_to_owned(alloc)?;
+    let shown = format!(in alloc; "{owned:?}")?;
+    assert_eq!(rt;
+        shown.as_str(),
+        "LanguageBuf { text: Caseless(\"zh-MiN\") }"
+    );
+    let refused = Language::new("f").err().ok_or("accepted")?;
+    let shown = format!(in alloc; "{refused:?}")?;
+    assert_eq!(rt; shown.as_str(), "InvalidLanguage(\"f\")");
+    Ok(())
+}

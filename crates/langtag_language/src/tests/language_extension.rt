@@ -144,3 +144,24 @@ fn no_subtags(rt: HostRuntime) {
         assert!(rt; subtags.next().is_none());
     }
 }
+
+#[test]
+fn debug_shows_the_text(rt: HostRuntime) -> Result<(), Fail> {
+    let alloc = rt.alloc();
+    let lent = LanguageExtension::new("abc-DEF").ok().ok_or("refused")?;
+    let shown = format!(in alloc; "{lent:?}")?;
+    assert_eq!(rt;
+        shown.as_str(),
+        "LanguageExtension { text: Caseless(\"abc-DEF\") }"
+    );
+    let owned = lent.try_to_owned(alloc)?;
+    let shown = format!(in alloc; "{owned:?}")?;
+    assert_eq!(rt;
+        shown.as_str(),
+        "LanguageExtensionBuf { text: Caseless(\"abc-DEF\") }"
+    );
+    let refused = LanguageExtension::new("ab").err().ok_or("accepted")?;
+    let shown = format!(in alloc; "{refused:?}")?;
+    assert_eq!(rt; shown.as_str(), "InvalidLanguageExtension(\"ab\")");
+    Ok(())
+}

@@ -101,3 +101,18 @@ fn copies_own_the_same_text(rt: HostRuntime) -> Result<(), Fail> {
     assert!(rt; copied, "both copies were refused");
     Ok(())
 }
+
+#[test]
+fn debug_shows_the_text(rt: HostRuntime) -> Result<(), Fail> {
+    let alloc = rt.alloc();
+    let lent = Region::new("fR").ok().ok_or("refused")?;
+    let shown = format!(in alloc; "{lent:?}")?;
+    assert_eq!(rt; shown.as_str(), "Region { text: Caseless(\"fR\") }");
+    let owned = lent.try_to_owned(alloc)?;
+    let shown = format!(in alloc; "{owned:?}")?;
+    assert_eq!(rt; shown.as_str(), "RegionBuf { text: Caseless(\"fR\") }");
+    let refused = Region::new("F").err().ok_or("accepted")?;
+    let shown = format!(in alloc; "{refused:?}")?;
+    assert_eq!(rt; shown.as_str(), "InvalidRegion(\"F\")");
+    Ok(())
+}

@@ -97,3 +97,18 @@ fn copies_own_the_same_text(rt: HostRuntime) -> Result<(), Fail> {
     assert!(rt; copied, "both copies were refused");
     Ok(())
 }
+
+#[test]
+fn debug_shows_the_text(rt: HostRuntime) -> Result<(), Fail> {
+    let alloc = rt.alloc();
+    let lent = Script::new("laTN").ok().ok_or("refused")?;
+    let shown = format!(in alloc; "{lent:?}")?;
+    assert_eq!(rt; shown.as_str(), "Script { text: Caseless(\"laTN\") }");
+    let owned = lent.try_to_owned(alloc)?;
+    let shown = format!(in alloc; "{owned:?}")?;
+    assert_eq!(rt; shown.as_str(), "ScriptBuf { text: Caseless(\"laTN\") }");
+    let refused = Script::new("F").err().ok_or("accepted")?;
+    let shown = format!(in alloc; "{refused:?}")?;
+    assert_eq!(rt; shown.as_str(), "InvalidScript(\"F\")");
+    Ok(())
+}

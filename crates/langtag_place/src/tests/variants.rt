@@ -143,3 +143,24 @@ fn copies_own_the_same_text(rt: HostRuntime) -> Result<(), Fail> {
     assert!(rt; copied, "both copies were refused");
     Ok(())
 }
+
+#[test]
+fn debug_shows_the_text(rt: HostRuntime) -> Result<(), Fail> {
+    let alloc = rt.alloc();
+    let lent = Variants::new("roZAJ-1996").ok().ok_or("refused")?;
+    let shown = format!(in alloc; "{lent:?}")?;
+    assert_eq!(rt;
+        shown.as_str(),
+        "Variants { text: Caseless(\"roZAJ-1996\") }"
+    );
+    let owned = lent.try_to_owned(alloc)?;
+    let shown = format!(in alloc; "{owned:?}")?;
+    assert_eq!(rt;
+        shown.as_str(),
+        "VariantsBuf { text: Caseless(\"roZAJ-1996\") }"
+    );
+    let refused = Variants::new("F").err().ok_or("accepted")?;
+    let shown = format!(in alloc; "{refused:?}")?;
+    assert_eq!(rt; shown.as_str(), "InvalidVariants(\"F\")");
+    Ok(())
+}

@@ -157,3 +157,24 @@ fn no_subtags(rt: HostRuntime) {
         assert!(rt; subtags.next().is_none());
     }
 }
+
+#[test]
+fn debug_shows_the_text(rt: HostRuntime) -> Result<(), Fail> {
+    let alloc = rt.alloc();
+    let lent = PrivateUse::new("x-tWain").ok().ok_or("refused")?;
+    let shown = format!(in alloc; "{lent:?}")?;
+    assert_eq!(rt;
+        shown.as_str(),
+        "PrivateUse { text: Caseless(\"x-tWain\") }"
+    );
+    let owned = lent.try_to_owned(alloc)?;
+    let shown = format!(in alloc; "{owned:?}")?;
+    assert_eq!(rt;
+        shown.as_str(),
+        "PrivateUseBuf { text: Caseless(\"x-tWain\") }"
+    );
+    let refused = PrivateUse::new("x").err().ok_or("accepted")?;
+    let shown = format!(in alloc; "{refused:?}")?;
+    assert_eq!(rt; shown.as_str(), "InvalidPrivateUse(\"x\")");
+    Ok(())
+}

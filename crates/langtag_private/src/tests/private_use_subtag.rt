@@ -119,3 +119,24 @@ fn copies_own_the_same_text(rt: HostRuntime) -> Result<(), Fail> {
     assert!(rt; copied, "both copies were refused");
     Ok(())
 }
+
+#[test]
+fn debug_shows_the_text(rt: HostRuntime) -> Result<(), Fail> {
+    let alloc = rt.alloc();
+    let lent = PrivateUseSubtag::new("tWain").ok().ok_or("refused")?;
+    let shown = format!(in alloc; "{lent:?}")?;
+    assert_eq!(rt;
+        shown.as_str(),
+        "PrivateUseSubtag { text: Caseless(\"tWain\") }"
+    );
+    let owned = lent.try_to_owned(alloc)?;
+    let shown = format!(in alloc; "{owned:?}")?;
+    assert_eq!(rt;
+        shown.as_str(),
+        "PrivateUseSubtagBuf { text: Caseless(\"tWain\") }"
+    );
+    let refused = PrivateUseSubtag::new("a-b").err().ok_or("accepted")?;
+    let shown = format!(in alloc; "{refused:?}")?;
+    assert_eq!(rt; shown.as_str(), "InvalidPrivateUseSubtag(\"a-b\")");
+    Ok(())
+}

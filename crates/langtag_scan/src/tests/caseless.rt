@@ -32,3 +32,11 @@ fn owned_texts(rt: HostRuntime) -> Result<(), Fail> {
     assert_eq!(rt; last.0.as_str(), "zh");
     Ok(())
 }
+
+#[test]
+fn debug_shows_the_text(rt: HostRuntime) -> Result<(), Fail> {
+    let text = Caseless("fR");
+    let shown = format!(in rt.alloc(); "{text:?}")?;
+    assert_eq!(rt; shown.as_str(), "Caseless(\"fR\")");
+    Ok(())
+}

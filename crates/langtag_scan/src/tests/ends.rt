@@ -1,6 +1,7 @@
 //! The ends of the parts of normal tags.
 use crate::tests::answer::{Answer, case_swapped, ends, of_bytes, of_normal, of_text};
 use std::process::Abort;
+use std::test::Fail;
 
 /// The ends of language, script, region, variants and extensions, and the length.
 pub(crate) const ENDS: &[(&str, [usize; 6])] = &[
@@ -106,4 +107,15 @@ fn around_the_parts(rt: HostRuntime) {
         assert_eq!(rt; ends.whole, text.len(), "in {text}");
         assert_eq!(rt; reads, text.len(), "in {text}");
     }
+}
+
+#[test]
+fn debug_shows_each_end(rt: HostRuntime) -> Result<(), Fail> {
+    let ends = ends([6, 11, 14, 14, 20, 20]);
+    let shown = format!(in rt.alloc(); "{ends:?}")?;
+    assert_eq!(rt;
+        shown.as_str(),
+        "Ends { language: 6, script: 11, region: 14, variants: 14, extensions: 20, whole: 20 }"
+    );
+    Ok(())
 }
