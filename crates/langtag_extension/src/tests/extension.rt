@@ -39,6 +39,10 @@ fn refusals_hand_the_text_back(rt: HostRuntime) -> Result<(), Fail> {
     let refused = Extension::new("a-bb-b-cc").err().ok_or("accepted")?;
     assert_eq!(rt; refused.0, "a-bb-b-cc");
     assert_eq!(rt;
+        format!(in rt.alloc(); "{refused:?}")?.as_str(),
+        "InvalidExtension(\"a-bb-b-cc\")"
+    );
+    assert_eq!(rt;
         refused.to_string(rt.alloc())?.as_str(),
         "invalid extension"
     );
@@ -58,6 +62,10 @@ fn the_text_keeps_its_case(rt: HostRuntime) -> Result<(), Fail> {
     assert_eq!(rt; extension.as_str(), "U-Co-PhoneBk");
     assert_eq!(rt; extension.as_bytes(), b"U-Co-PhoneBk".as_slice());
     assert_eq!(rt; extension.to_string(rt.alloc())?.as_str(), "U-Co-PhoneBk");
+    assert_eq!(rt;
+        format!(in rt.alloc(); "{extension:?}")?.as_str(),
+        "Extension { text: Caseless(\"U-Co-PhoneBk\") }"
+    );
     assert_eq!(rt; extension.singleton().unwrap(), b'U');
     Ok(())
 }
@@ -93,6 +101,10 @@ fn owned_extensions(rt: HostRuntime) -> Result<(), Fail> {
     assert_eq!(rt; owned.as_str(), "u-Co-phonebk");
     assert_eq!(rt; owned.as_extension().as_str(), "u-Co-phonebk");
     assert_eq!(rt; owned.to_string(rt.alloc())?.as_str(), "u-Co-phonebk");
+    assert_eq!(rt;
+        format!(in rt.alloc(); "{owned:?}")?.as_str(),
+        "ExtensionBuf { text: Caseless(\"u-Co-phonebk\") }"
+    );
     let text = String::from_str(rt.alloc(), "U-CO-PHONEBK")?;
     let capital = ExtensionBuf::new(text).ok().ok_or("refused")?;
     assert!(rt; owned == capital);
@@ -127,20 +139,5 @@ fn copies_own_the_same_text(rt: HostRuntime) -> Result<(), Fail> {
         assert!(rt; extension.eq_str("u-co-phonebk"));
     }
     assert!(rt; copied, "both copies were refused");
-    Ok(())
-}
-
-#[test]
-fn debug_shows_the_text(rt: HostRuntime) -> Result<(), Fail> {
-    let alloc = rt.alloc();
-    let lent = Extension::new("u-Co").ok().ok_or("refused")?;
-    let shown = format!(in alloc; "{lent:?}")?;
-    assert_eq!(rt; shown.as_str(), "Extension { text: Caseless(\"u-Co\") }");
-    let owned = lent.try_to_owned(alloc)?;
-    let shown = format!(in alloc; "{owned:?}")?;
-    assert_eq!(rt; shown.as_str(), "ExtensionBuf { text: Caseless(\"u-Co\") }");
-    let refused = Extension::new("u").err().ok_or("accepted")?;
-    let shown = format!(in alloc; "{refused:?}")?;
-    assert_eq!(rt; shown.as_str(), "InvalidExtension(\"u\")");
     Ok(())
 }

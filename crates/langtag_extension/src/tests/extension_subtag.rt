@@ -29,6 +29,10 @@ fn refusals_hand_the_text_back(rt: HostRuntime) -> Result<(), Fail> {
     let refused = ExtensionSubtag::new("a").err().ok_or("accepted")?;
     assert_eq!(rt; refused.0, "a");
     assert_eq!(rt;
+        format!(in rt.alloc(); "{refused:?}")?.as_str(),
+        "InvalidExtensionSubtag(\"a\")"
+    );
+    assert_eq!(rt;
         refused.to_string(rt.alloc())?.as_str(),
         "invalid extension subtag"
     );
@@ -48,6 +52,10 @@ fn the_text_keeps_its_case(rt: HostRuntime) -> Result<(), Fail> {
     assert_eq!(rt; subtag.as_str(), "PhoneBk");
     assert_eq!(rt; subtag.as_bytes(), b"PhoneBk".as_slice());
     assert_eq!(rt; subtag.to_string(rt.alloc())?.as_str(), "PhoneBk");
+    assert_eq!(rt;
+        format!(in rt.alloc(); "{subtag:?}")?.as_str(),
+        "ExtensionSubtag { text: Caseless(\"PhoneBk\") }"
+    );
     assert_eq!(rt;
         ExtensionSubtag::from_checked(subtag.as_str()).as_str(),
         "PhoneBk"
@@ -80,6 +88,10 @@ fn owned_subtags(rt: HostRuntime) -> Result<(), Fail> {
     assert_eq!(rt; owned.as_str(), "PhoneBk");
     assert_eq!(rt; owned.as_extension_subtag().as_str(), "PhoneBk");
     assert_eq!(rt; owned.to_string(rt.alloc())?.as_str(), "PhoneBk");
+    assert_eq!(rt;
+        format!(in rt.alloc(); "{owned:?}")?.as_str(),
+        "ExtensionSubtagBuf { text: Caseless(\"PhoneBk\") }"
+    );
     let text = String::from_str(rt.alloc(), "PHONEBK")?;
     let capital = ExtensionSubtagBuf::new(text).ok().ok_or("refused")?;
     assert!(rt; owned == capital);
@@ -112,26 +124,5 @@ fn copies_own_the_same_text(rt: HostRuntime) -> Result<(), Fail> {
         assert!(rt; subtag.eq_str("phonebk"));
     }
     assert!(rt; copied, "both copies were refused");
-    Ok(())
-}
-
-#[test]
-fn debug_shows_the_text(rt: HostRuntime) -> Result<(), Fail> {
-    let alloc = rt.alloc();
-    let lent = ExtensionSubtag::new("Co").ok().ok_or("refused")?;
-    let shown = format!(in alloc; "{lent:?}")?;
-    assert_eq!(rt;
-        shown.as_str(),
-        "ExtensionSubtag { text: Caseless(\"Co\") }"
-    );
-    let owned = lent.try_to_owned(alloc)?;
-    let shown = format!(in alloc; "{owned:?}")?;
-    assert_eq!(rt;
-        shown.as_str(),
-        "ExtensionSubtagBuf { text: Caseless(\"Co\") }"
-    );
-    let refused = ExtensionSubtag::new("c").err().ok_or("accepted")?;
-    let shown = format!(in alloc; "{refused:?}")?;
-    assert_eq!(rt; shown.as_str(), "InvalidExtensionSubtag(\"c\")");
     Ok(())
 }

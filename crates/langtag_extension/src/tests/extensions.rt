@@ -36,6 +36,10 @@ fn refusals_hand_the_text_back(rt: HostRuntime) -> Result<(), Fail> {
     let refused = Extensions::new("a-bb-x-c").err().ok_or("accepted")?;
     assert_eq!(rt; refused.0, "a-bb-x-c");
     assert_eq!(rt;
+        format!(in rt.alloc(); "{refused:?}")?.as_str(),
+        "InvalidExtensions(\"a-bb-x-c\")"
+    );
+    assert_eq!(rt;
         refused.to_string(rt.alloc())?.as_str(),
         "invalid extensions"
     );
@@ -55,6 +59,10 @@ fn the_text_keeps_its_case(rt: HostRuntime) -> Result<(), Fail> {
     assert_eq!(rt; extensions.as_str(), "A-bB-c-DD");
     assert_eq!(rt; extensions.as_bytes(), b"A-bB-c-DD".as_slice());
     assert_eq!(rt; extensions.to_string(rt.alloc())?.as_str(), "A-bB-c-DD");
+    assert_eq!(rt;
+        format!(in rt.alloc(); "{extensions:?}")?.as_str(),
+        "Extensions { text: Caseless(\"A-bB-c-DD\") }"
+    );
     assert_eq!(rt; Extensions::EMPTY.to_string(rt.alloc())?.as_str(), "");
     Ok(())
 }
@@ -142,6 +150,10 @@ fn owned_extensions(rt: HostRuntime) -> Result<(), Fail> {
     assert_eq!(rt; owned.as_str(), "A-bb-c-Dd");
     assert_eq!(rt; owned.as_extensions().as_str(), "A-bb-c-Dd");
     assert_eq!(rt; owned.to_string(rt.alloc())?.as_str(), "A-bb-c-Dd");
+    assert_eq!(rt;
+        format!(in rt.alloc(); "{owned:?}")?.as_str(),
+        "ExtensionsBuf { text: Caseless(\"A-bb-c-Dd\") }"
+    );
     let text = String::from_str(rt.alloc(), "A-BB-C-DD")?;
     let capital = ExtensionsBuf::new(text).ok().ok_or("refused")?;
     assert!(rt; owned == capital);
@@ -182,26 +194,5 @@ fn copies_own_the_same_text(rt: HostRuntime) -> Result<(), Fail> {
         assert!(rt; extensions.eq_str("a-bb-c-dd"));
     }
     assert!(rt; copied, "both copies were refused");
-    Ok(())
-}
-
-#[test]
-fn debug_shows_the_text(rt: HostRuntime) -> Result<(), Fail> {
-    let alloc = rt.alloc();
-    let lent = Extensions::new("a-bb-U-Co").ok().ok_or("refused")?;
-    let shown = format!(in alloc; "{lent:?}")?;
-    assert_eq!(rt;
-        shown.as_str(),
-        "Extensions { text: Caseless(\"a-bb-U-Co\") }"
-    );
-    let owned = lent.try_to_owned(alloc)?;
-    let shown = format!(in alloc; "{owned:?}")?;
-    assert_eq!(rt;
-        shown.as_str(),
-        "ExtensionsBuf { text: Caseless(\"a-bb-U-Co\") }"
-    );
-    let refused = Extensions::new("u").err().ok_or("accepted")?;
-    let shown = format!(in alloc; "{refused:?}")?;
-    assert_eq!(rt; shown.as_str(), "InvalidExtensions(\"u\")");
     Ok(())
 }

@@ -27,6 +27,10 @@ fn refusals_hand_the_text_back(rt: HostRuntime) -> Result<(), Fail> {
     let refused = ExtendedLangTag::new("ab1").err().ok_or("accepted")?;
     assert_eq!(rt; refused.0, "ab1");
     assert_eq!(rt;
+        format!(in rt.alloc(); "{refused:?}")?.as_str(),
+        "InvalidExtendedLangTag(\"ab1\")"
+    );
+    assert_eq!(rt;
         refused.to_string(rt.alloc())?.as_str(),
         "invalid extended language subtag"
     );
@@ -46,6 +50,10 @@ fn the_text_keeps_its_case(rt: HostRuntime) -> Result<(), Fail> {
     assert_eq!(rt; extended_lang_tag.as_str(), "yUe");
     assert_eq!(rt; extended_lang_tag.as_bytes(), b"yUe".as_slice());
     assert_eq!(rt; extended_lang_tag.to_string(rt.alloc())?.as_str(), "yUe");
+    assert_eq!(rt;
+        format!(in rt.alloc(); "{extended_lang_tag:?}")?.as_str(),
+        "ExtendedLangTag { text: Caseless(\"yUe\") }"
+    );
     Ok(())
 }
 
@@ -81,6 +89,10 @@ fn owned_texts(rt: HostRuntime) -> Result<(), Fail> {
     assert_eq!(rt; owned.as_str(), "yUe");
     assert_eq!(rt; owned.as_extended_lang_tag().as_str(), "yUe");
     assert_eq!(rt; owned.to_string(rt.alloc())?.as_str(), "yUe");
+    assert_eq!(rt;
+        format!(in rt.alloc(); "{owned:?}")?.as_str(),
+        "ExtendedLangTagBuf { text: Caseless(\"yUe\") }"
+    );
     let text = String::from_str(rt.alloc(), "YUE")?;
     let capital = ExtendedLangTagBuf::new(text).ok().ok_or("refused")?;
     assert!(rt; owned == capital);
@@ -113,26 +125,5 @@ fn copies_own_the_same_text(rt: HostRuntime) -> Result<(), Fail> {
         assert!(rt; extended_lang_tag.eq_str("yue"));
     }
     assert!(rt; copied, "both copies were refused");
-    Ok(())
-}
-
-#[test]
-fn debug_shows_the_text(rt: HostRuntime) -> Result<(), Fail> {
-    let alloc = rt.alloc();
-    let lent = ExtendedLangTag::new("aBc").ok().ok_or("refused")?;
-    let shown = format!(in alloc; "{lent:?}")?;
-    assert_eq!(rt;
-        shown.as_str(),
-        "ExtendedLangTag { text: Caseless(\"aBc\") }"
-    );
-    let owned = lent.try_to_owned(alloc)?;
-    let shown = format!(in alloc; "{owned:?}")?;
-    assert_eq!(rt;
-        shown.as_str(),
-        "ExtendedLangTagBuf { text: Caseless(\"aBc\") }"
-    );
-    let refused = ExtendedLangTag::new("ab").err().ok_or("accepted")?;
-    let shown = format!(in alloc; "{refused:?}")?;
-    assert_eq!(rt; shown.as_str(), "InvalidExtendedLangTag(\"ab\")");
     Ok(())
 }

@@ -35,6 +35,10 @@ fn a_primary_subtag_and_extended_ones_are_a_language(rt: HostRuntime) {
 fn refusals_hand_the_text_back(rt: HostRuntime) -> Result<(), Fail> {
     let refused = Language::new("abcd-efg").err().ok_or("accepted")?;
     assert_eq!(rt; refused.0, "abcd-efg");
+    assert_eq!(rt;
+        format!(in rt.alloc(); "{refused:?}")?.as_str(),
+        "InvalidLanguage(\"abcd-efg\")"
+    );
     assert_eq!(rt; refused.to_string(rt.alloc())?.as_str(), "invalid language");
     let text = String::from_str(rt.alloc(), "fr-abc-def-ghi-jkl")?;
     let refused = LanguageBuf::new(text).err().ok_or("accepted")?;
@@ -49,6 +53,10 @@ fn the_text_keeps_its_case(rt: HostRuntime) -> Result<(), Fail> {
     assert_eq!(rt; language.as_str(), "zh-MiN");
     assert_eq!(rt; language.as_bytes(), b"zh-MiN".as_slice());
     assert_eq!(rt; language.to_string(rt.alloc())?.as_str(), "zh-MiN");
+    assert_eq!(rt;
+        format!(in rt.alloc(); "{language:?}")?.as_str(),
+        "Language { text: Caseless(\"zh-MiN\") }"
+    );
     Ok(())
 }
 
@@ -84,6 +92,10 @@ fn owned_texts(rt: HostRuntime) -> Result<(), Fail> {
     assert_eq!(rt; owned.as_str(), "zh-MiN");
     assert_eq!(rt; owned.as_language().as_str(), "zh-MiN");
     assert_eq!(rt; owned.to_string(rt.alloc())?.as_str(), "zh-MiN");
+    assert_eq!(rt;
+        format!(in rt.alloc(); "{owned:?}")?.as_str(),
+        "LanguageBuf { text: Caseless(\"zh-MiN\") }"
+    );
     let text = String::from_str(rt.alloc(), "ZH-MIN")?;
     let capital = LanguageBuf::new(text).ok().ok_or("refused")?;
     assert!(rt; owned == capital);
@@ -142,23 +154,5 @@ fn a_primary_subtag_alone(rt: HostRuntime) -> Result<(), Fail> {
     assert_eq!(rt; language.primary().as_str(), "abcd");
     assert!(rt; language.extension().is_none());
     assert!(rt; language.extension_subtags().next().is_none());
-    Ok(())
-}
-
-#[test]
-fn debug_shows_the_text(rt: HostRuntime) -> Result<(), Fail> {
-    let alloc = rt.alloc();
-    let lent = Language::new("zh-MiN").ok().ok_or("refused")?;
-    let shown = format!(in alloc; "{lent:?}")?;
-    assert_eq!(rt; shown.as_str(), "Language { text: Caseless(\"zh-MiN\") }");
-    let owned = lent.try_to_owned(alloc)?;
-    let shown = format!(in alloc; "{owned:?}")?;
-    assert_eq!(rt;
-        shown.as_str(),
-        "LanguageBuf { text: Caseless(\"zh-MiN\") }"
-    );
-    let refused = Language::new("f").err().ok_or("accepted")?;
-    let shown = format!(in alloc; "{refused:?}")?;
-    assert_eq!(rt; shown.as_str(), "InvalidLanguage(\"f\")");
     Ok(())
 }

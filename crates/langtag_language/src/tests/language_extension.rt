@@ -31,6 +31,10 @@ fn refusals_hand_the_text_back(rt: HostRuntime) -> Result<(), Fail> {
     let refused = LanguageExtension::new("abc-").err().ok_or("accepted")?;
     assert_eq!(rt; refused.0, "abc-");
     assert_eq!(rt;
+        format!(in rt.alloc(); "{refused:?}")?.as_str(),
+        "InvalidLanguageExtension(\"abc-\")"
+    );
+    assert_eq!(rt;
         refused.to_string(rt.alloc())?.as_str(),
         "invalid language extension"
     );
@@ -52,6 +56,10 @@ fn the_text_keeps_its_case(rt: HostRuntime) -> Result<(), Fail> {
     assert_eq!(rt;
         language_extension.to_string(rt.alloc())?.as_str(),
         "min-NaN"
+    );
+    assert_eq!(rt;
+        format!(in rt.alloc(); "{language_extension:?}")?.as_str(),
+        "LanguageExtension { text: Caseless(\"min-NaN\") }"
     );
     Ok(())
 }
@@ -88,6 +96,10 @@ fn owned_texts(rt: HostRuntime) -> Result<(), Fail> {
     assert_eq!(rt; owned.as_str(), "min-NaN");
     assert_eq!(rt; owned.as_language_extension().as_str(), "min-NaN");
     assert_eq!(rt; owned.to_string(rt.alloc())?.as_str(), "min-NaN");
+    assert_eq!(rt;
+        format!(in rt.alloc(); "{owned:?}")?.as_str(),
+        "LanguageExtensionBuf { text: Caseless(\"min-NaN\") }"
+    );
     let text = String::from_str(rt.alloc(), "MIN-NAN")?;
     let capital = LanguageExtensionBuf::new(text).ok().ok_or("refused")?;
     assert!(rt; owned == capital);
@@ -143,25 +155,4 @@ fn no_subtags(rt: HostRuntime) {
     ] {
         assert!(rt; subtags.next().is_none());
     }
-}
-
-#[test]
-fn debug_shows_the_text(rt: HostRuntime) -> Result<(), Fail> {
-    let alloc = rt.alloc();
-    let lent = LanguageExtension::new("abc-DEF").ok().ok_or("refused")?;
-    let shown = format!(in alloc; "{lent:?}")?;
-    assert_eq!(rt;
-        shown.as_str(),
-        "LanguageExtension { text: Caseless(\"abc-DEF\") }"
-    );
-    let owned = lent.try_to_owned(alloc)?;
-    let shown = format!(in alloc; "{owned:?}")?;
-    assert_eq!(rt;
-        shown.as_str(),
-        "LanguageExtensionBuf { text: Caseless(\"abc-DEF\") }"
-    );
-    let refused = LanguageExtension::new("ab").err().ok_or("accepted")?;
-    let shown = format!(in alloc; "{refused:?}")?;
-    assert_eq!(rt; shown.as_str(), "InvalidLanguageExtension(\"ab\")");
-    Ok(())
 }

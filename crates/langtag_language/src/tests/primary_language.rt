@@ -30,6 +30,10 @@ fn refusals_hand_the_text_back(rt: HostRuntime) -> Result<(), Fail> {
     let refused = PrimaryLanguage::new("f1").err().ok_or("accepted")?;
     assert_eq!(rt; refused.0, "f1");
     assert_eq!(rt;
+        format!(in rt.alloc(); "{refused:?}")?.as_str(),
+        "InvalidPrimaryLanguage(\"f1\")"
+    );
+    assert_eq!(rt;
         refused.to_string(rt.alloc())?.as_str(),
         "invalid primary language"
     );
@@ -49,6 +53,10 @@ fn the_text_keeps_its_case(rt: HostRuntime) -> Result<(), Fail> {
     assert_eq!(rt; primary_language.as_str(), "fR");
     assert_eq!(rt; primary_language.as_bytes(), b"fR".as_slice());
     assert_eq!(rt; primary_language.to_string(rt.alloc())?.as_str(), "fR");
+    assert_eq!(rt;
+        format!(in rt.alloc(); "{primary_language:?}")?.as_str(),
+        "PrimaryLanguage { text: Caseless(\"fR\") }"
+    );
     Ok(())
 }
 
@@ -84,6 +92,10 @@ fn owned_texts(rt: HostRuntime) -> Result<(), Fail> {
     assert_eq!(rt; owned.as_str(), "fR");
     assert_eq!(rt; owned.as_primary_language().as_str(), "fR");
     assert_eq!(rt; owned.to_string(rt.alloc())?.as_str(), "fR");
+    assert_eq!(rt;
+        format!(in rt.alloc(); "{owned:?}")?.as_str(),
+        "PrimaryLanguageBuf { text: Caseless(\"fR\") }"
+    );
     let text = String::from_str(rt.alloc(), "FR")?;
     let capital = PrimaryLanguageBuf::new(text).ok().ok_or("refused")?;
     assert!(rt; owned == capital);
@@ -116,26 +128,5 @@ fn copies_own_the_same_text(rt: HostRuntime) -> Result<(), Fail> {
         assert!(rt; primary_language.eq_str("fr"));
     }
     assert!(rt; copied, "both copies were refused");
-    Ok(())
-}
-
-#[test]
-fn debug_shows_the_text(rt: HostRuntime) -> Result<(), Fail> {
-    let alloc = rt.alloc();
-    let lent = PrimaryLanguage::new("fR").ok().ok_or("refused")?;
-    let shown = format!(in alloc; "{lent:?}")?;
-    assert_eq!(rt;
-        shown.as_str(),
-        "PrimaryLanguage { text: Caseless(\"fR\") }"
-    );
-    let owned = lent.try_to_owned(alloc)?;
-    let shown = format!(in alloc; "{owned:?}")?;
-    assert_eq!(rt;
-        shown.as_str(),
-        "PrimaryLanguageBuf { text: Caseless(\"fR\") }"
-    );
-    let refused = PrimaryLanguage::new("f").err().ok_or("accepted")?;
-    let shown = format!(in alloc; "{refused:?}")?;
-    assert_eq!(rt; shown.as_str(), "InvalidPrimaryLanguage(\"f\")");
     Ok(())
 }

@@ -30,6 +30,10 @@ fn two_letters_or_three_digits_are_a_region(rt: HostRuntime) {
 fn refusals_hand_the_text_back(rt: HostRuntime) -> Result<(), Fail> {
     let refused = Region::new("4a9").err().ok_or("accepted")?;
     assert_eq!(rt; refused.0, "4a9");
+    assert_eq!(rt;
+        format!(in rt.alloc(); "{refused:?}")?.as_str(),
+        "InvalidRegion(\"4a9\")"
+    );
     assert_eq!(rt; refused.to_string(rt.alloc())?.as_str(), "invalid region");
     let text = String::from_str(rt.alloc(), "F")?;
     let refused = RegionBuf::new(text).err().ok_or("accepted")?;
@@ -44,6 +48,10 @@ fn the_text_keeps_its_case(rt: HostRuntime) -> Result<(), Fail> {
     assert_eq!(rt; region.as_str(), "fR");
     assert_eq!(rt; region.as_bytes(), b"fR".as_slice());
     assert_eq!(rt; region.to_string(rt.alloc())?.as_str(), "fR");
+    assert_eq!(rt;
+        format!(in rt.alloc(); "{region:?}")?.as_str(),
+        "Region { text: Caseless(\"fR\") }"
+    );
     assert_eq!(rt; Region::from_checked(region.as_str()).as_str(), "fR");
     Ok(())
 }
@@ -71,6 +79,10 @@ fn owned_regions(rt: HostRuntime) -> Result<(), Fail> {
     assert_eq!(rt; owned.as_str(), "Fr");
     assert_eq!(rt; owned.as_region().as_str(), "Fr");
     assert_eq!(rt; owned.to_string(rt.alloc())?.as_str(), "Fr");
+    assert_eq!(rt;
+        format!(in rt.alloc(); "{owned:?}")?.as_str(),
+        "RegionBuf { text: Caseless(\"Fr\") }"
+    );
     let text = String::from_str(rt.alloc(), "FR")?;
     let capital = RegionBuf::new(text).ok().ok_or("refused")?;
     assert!(rt; owned == capital);
@@ -99,20 +111,5 @@ fn copies_own_the_same_text(rt: HostRuntime) -> Result<(), Fail> {
         assert!(rt; region.eq_str("fr"));
     }
     assert!(rt; copied, "both copies were refused");
-    Ok(())
-}
-
-#[test]
-fn debug_shows_the_text(rt: HostRuntime) -> Result<(), Fail> {
-    let alloc = rt.alloc();
-    let lent = Region::new("fR").ok().ok_or("refused")?;
-    let shown = format!(in alloc; "{lent:?}")?;
-    assert_eq!(rt; shown.as_str(), "Region { text: Caseless(\"fR\") }");
-    let owned = lent.try_to_owned(alloc)?;
-    let shown = format!(in alloc; "{owned:?}")?;
-    assert_eq!(rt; shown.as_str(), "RegionBuf { text: Caseless(\"fR\") }");
-    let refused = Region::new("F").err().ok_or("accepted")?;
-    let shown = format!(in alloc; "{refused:?}")?;
-    assert_eq!(rt; shown.as_str(), "InvalidRegion(\"F\")");
     Ok(())
 }

@@ -26,6 +26,10 @@ fn four_letters_are_a_script(rt: HostRuntime) {
 fn refusals_hand_the_text_back(rt: HostRuntime) -> Result<(), Fail> {
     let refused = Script::new("Lat1").err().ok_or("accepted")?;
     assert_eq!(rt; refused.0, "Lat1");
+    assert_eq!(rt;
+        format!(in rt.alloc(); "{refused:?}")?.as_str(),
+        "InvalidScript(\"Lat1\")"
+    );
     assert_eq!(rt; refused.to_string(rt.alloc())?.as_str(), "invalid script");
     let text = String::from_str(rt.alloc(), "abc")?;
     let refused = ScriptBuf::new(text).err().ok_or("accepted")?;
@@ -40,6 +44,10 @@ fn the_text_keeps_its_case(rt: HostRuntime) -> Result<(), Fail> {
     assert_eq!(rt; script.as_str(), "lAtN");
     assert_eq!(rt; script.as_bytes(), b"lAtN".as_slice());
     assert_eq!(rt; script.to_string(rt.alloc())?.as_str(), "lAtN");
+    assert_eq!(rt;
+        format!(in rt.alloc(); "{script:?}")?.as_str(),
+        "Script { text: Caseless(\"lAtN\") }"
+    );
     assert_eq!(rt; Script::from_checked(script.as_str()).as_str(), "lAtN");
     Ok(())
 }
@@ -67,6 +75,10 @@ fn owned_scripts(rt: HostRuntime) -> Result<(), Fail> {
     assert_eq!(rt; owned.as_str(), "Latn");
     assert_eq!(rt; owned.as_script().as_str(), "Latn");
     assert_eq!(rt; owned.to_string(rt.alloc())?.as_str(), "Latn");
+    assert_eq!(rt;
+        format!(in rt.alloc(); "{owned:?}")?.as_str(),
+        "ScriptBuf { text: Caseless(\"Latn\") }"
+    );
     let text = String::from_str(rt.alloc(), "LATN")?;
     let capital = ScriptBuf::new(text).ok().ok_or("refused")?;
     assert!(rt; owned == capital);
@@ -95,20 +107,5 @@ fn copies_own_the_same_text(rt: HostRuntime) -> Result<(), Fail> {
         assert!(rt; script.eq_str("latn"));
     }
     assert!(rt; copied, "both copies were refused");
-    Ok(())
-}
-
-#[test]
-fn debug_shows_the_text(rt: HostRuntime) -> Result<(), Fail> {
-    let alloc = rt.alloc();
-    let lent = Script::new("laTN").ok().ok_or("refused")?;
-    let shown = format!(in alloc; "{lent:?}")?;
-    assert_eq!(rt; shown.as_str(), "Script { text: Caseless(\"laTN\") }");
-    let owned = lent.try_to_owned(alloc)?;
-    let shown = format!(in alloc; "{owned:?}")?;
-    assert_eq!(rt; shown.as_str(), "ScriptBuf { text: Caseless(\"laTN\") }");
-    let refused = Script::new("F").err().ok_or("accepted")?;
-    let shown = format!(in alloc; "{refused:?}")?;
-    assert_eq!(rt; shown.as_str(), "InvalidScript(\"F\")");
     Ok(())
 }

@@ -30,6 +30,10 @@ fn five_to_eight_or_four_from_a_digit_are_a_variant(rt: HostRuntime) {
 fn refusals_hand_the_text_back(rt: HostRuntime) -> Result<(), Fail> {
     let refused = Variant::new("abcd").err().ok_or("accepted")?;
     assert_eq!(rt; refused.0, "abcd");
+    assert_eq!(rt;
+        format!(in rt.alloc(); "{refused:?}")?.as_str(),
+        "InvalidVariant(\"abcd\")"
+    );
     assert_eq!(rt; refused.to_string(rt.alloc())?.as_str(), "invalid variant");
     let text = String::from_str(rt.alloc(), "abcdefghi")?;
     let refused = VariantBuf::new(text).err().ok_or("accepted")?;
@@ -44,6 +48,10 @@ fn the_text_keeps_its_case(rt: HostRuntime) -> Result<(), Fail> {
     assert_eq!(rt; variant.as_str(), "rOzAj");
     assert_eq!(rt; variant.as_bytes(), b"rOzAj".as_slice());
     assert_eq!(rt; variant.to_string(rt.alloc())?.as_str(), "rOzAj");
+    assert_eq!(rt;
+        format!(in rt.alloc(); "{variant:?}")?.as_str(),
+        "Variant { text: Caseless(\"rOzAj\") }"
+    );
     assert_eq!(rt; Variant::from_checked(variant.as_str()).as_str(), "rOzAj");
     Ok(())
 }
@@ -71,6 +79,10 @@ fn owned_variants(rt: HostRuntime) -> Result<(), Fail> {
     assert_eq!(rt; owned.as_str(), "Rozaj");
     assert_eq!(rt; owned.as_variant().as_str(), "Rozaj");
     assert_eq!(rt; owned.to_string(rt.alloc())?.as_str(), "Rozaj");
+    assert_eq!(rt;
+        format!(in rt.alloc(); "{owned:?}")?.as_str(),
+        "VariantBuf { text: Caseless(\"Rozaj\") }"
+    );
     let text = String::from_str(rt.alloc(), "ROZAJ")?;
     let capital = VariantBuf::new(text).ok().ok_or("refused")?;
     assert!(rt; owned == capital);
@@ -99,20 +111,5 @@ fn copies_own_the_same_text(rt: HostRuntime) -> Result<(), Fail> {
         assert!(rt; variant.eq_str("rozaj"));
     }
     assert!(rt; copied, "both copies were refused");
-    Ok(())
-}
-
-#[test]
-fn debug_shows_the_text(rt: HostRuntime) -> Result<(), Fail> {
-    let alloc = rt.alloc();
-    let lent = Variant::new("1996").ok().ok_or("refused")?;
-    let shown = format!(in alloc; "{lent:?}")?;
-    assert_eq!(rt; shown.as_str(), "Variant { text: Caseless(\"1996\") }");
-    let owned = lent.try_to_owned(alloc)?;
-    let shown = format!(in alloc; "{owned:?}")?;
-    assert_eq!(rt; shown.as_str(), "VariantBuf { text: Caseless(\"1996\") }");
-    let refused = Variant::new("F").err().ok_or("accepted")?;
-    let shown = format!(in alloc; "{refused:?}")?;
-    assert_eq!(rt; shown.as_str(), "InvalidVariant(\"F\")");
     Ok(())
 }

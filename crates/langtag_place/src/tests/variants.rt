@@ -31,6 +31,10 @@ fn lists_of_variants_are_variants(rt: HostRuntime) {
 fn refusals_hand_the_text_back(rt: HostRuntime) -> Result<(), Fail> {
     let refused = Variants::new("1996-").err().ok_or("accepted")?;
     assert_eq!(rt; refused.0, "1996-");
+    assert_eq!(rt;
+        format!(in rt.alloc(); "{refused:?}")?.as_str(),
+        "InvalidVariants(\"1996-\")"
+    );
     assert_eq!(rt; refused.to_string(rt.alloc())?.as_str(), "invalid variants");
     let text = String::from_str(rt.alloc(), "1996-abcd")?;
     let refused = VariantsBuf::new(text).err().ok_or("accepted")?;
@@ -45,6 +49,10 @@ fn the_text_keeps_its_case(rt: HostRuntime) -> Result<(), Fail> {
     assert_eq!(rt; variants.as_str(), "rOzAj-1994");
     assert_eq!(rt; variants.as_bytes(), b"rOzAj-1994".as_slice());
     assert_eq!(rt; variants.to_string(rt.alloc())?.as_str(), "rOzAj-1994");
+    assert_eq!(rt;
+        format!(in rt.alloc(); "{variants:?}")?.as_str(),
+        "Variants { text: Caseless(\"rOzAj-1994\") }"
+    );
     assert_eq!(rt; Variants::EMPTY.to_string(rt.alloc())?.as_str(), "");
     Ok(())
 }
@@ -106,6 +114,10 @@ fn owned_variants(rt: HostRuntime) -> Result<(), Fail> {
     assert_eq!(rt; owned.as_str(), "Rozaj-1994");
     assert_eq!(rt; owned.as_variants().as_str(), "Rozaj-1994");
     assert_eq!(rt; owned.to_string(rt.alloc())?.as_str(), "Rozaj-1994");
+    assert_eq!(rt;
+        format!(in rt.alloc(); "{owned:?}")?.as_str(),
+        "VariantsBuf { text: Caseless(\"Rozaj-1994\") }"
+    );
     let text = String::from_str(rt.alloc(), "ROZAJ-1994")?;
     let capital = VariantsBuf::new(text).ok().ok_or("refused")?;
     assert!(rt; owned == capital);
@@ -141,26 +153,5 @@ fn copies_own_the_same_text(rt: HostRuntime) -> Result<(), Fail> {
         assert!(rt; variants.eq_str("rozaj-1994"));
     }
     assert!(rt; copied, "both copies were refused");
-    Ok(())
-}
-
-#[test]
-fn debug_shows_the_text(rt: HostRuntime) -> Result<(), Fail> {
-    let alloc = rt.alloc();
-    let lent = Variants::new("roZAJ-1996").ok().ok_or("refused")?;
-    let shown = format!(in alloc; "{lent:?}")?;
-    assert_eq!(rt;
-        shown.as_str(),
-        "Variants { text: Caseless(\"roZAJ-1996\") }"
-    );
-    let owned = lent.try_to_owned(alloc)?;
-    let shown = format!(in alloc; "{owned:?}")?;
-    assert_eq!(rt;
-        shown.as_str(),
-        "VariantsBuf { text: Caseless(\"roZAJ-1996\") }"
-    );
-    let refused = Variants::new("F").err().ok_or("accepted")?;
-    let shown = format!(in alloc; "{refused:?}")?;
-    assert_eq!(rt; shown.as_str(), "InvalidVariants(\"F\")");
     Ok(())
 }

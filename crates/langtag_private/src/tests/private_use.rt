@@ -36,6 +36,10 @@ fn refusals_hand_the_text_back(rt: HostRuntime) -> Result<(), Fail> {
     let refused = PrivateUse::new("a-b").err().ok_or("accepted")?;
     assert_eq!(rt; refused.0, "a-b");
     assert_eq!(rt;
+        format!(in rt.alloc(); "{refused:?}")?.as_str(),
+        "InvalidPrivateUse(\"a-b\")"
+    );
+    assert_eq!(rt;
         refused.to_string(rt.alloc())?.as_str(),
         "invalid private use"
     );
@@ -55,6 +59,10 @@ fn the_text_keeps_its_case(rt: HostRuntime) -> Result<(), Fail> {
     assert_eq!(rt; private_use.as_str(), "X-tWaIn");
     assert_eq!(rt; private_use.as_bytes(), b"X-tWaIn".as_slice());
     assert_eq!(rt; private_use.to_string(rt.alloc())?.as_str(), "X-tWaIn");
+    assert_eq!(rt;
+        format!(in rt.alloc(); "{private_use:?}")?.as_str(),
+        "PrivateUse { text: Caseless(\"X-tWaIn\") }"
+    );
     Ok(())
 }
 
@@ -90,6 +98,10 @@ fn owned_texts(rt: HostRuntime) -> Result<(), Fail> {
     assert_eq!(rt; owned.as_str(), "X-tWaIn");
     assert_eq!(rt; owned.as_private_use().as_str(), "X-tWaIn");
     assert_eq!(rt; owned.to_string(rt.alloc())?.as_str(), "X-tWaIn");
+    assert_eq!(rt;
+        format!(in rt.alloc(); "{owned:?}")?.as_str(),
+        "PrivateUseBuf { text: Caseless(\"X-tWaIn\") }"
+    );
     let text = String::from_str(rt.alloc(), "X-TWAIN")?;
     let capital = PrivateUseBuf::new(text).ok().ok_or("refused")?;
     assert!(rt; owned == capital);
@@ -156,25 +168,4 @@ fn no_subtags(rt: HostRuntime) {
     for mut subtags in [PrivateUseIter::empty(), PrivateUseIter::default()] {
         assert!(rt; subtags.next().is_none());
     }
-}
-
-#[test]
-fn debug_shows_the_text(rt: HostRuntime) -> Result<(), Fail> {
-    let alloc = rt.alloc();
-    let lent = PrivateUse::new("x-tWain").ok().ok_or("refused")?;
-    let shown = format!(in alloc; "{lent:?}")?;
-    assert_eq!(rt;
-        shown.as_str(),
-        "PrivateUse { text: Caseless(\"x-tWain\") }"
-    );
-    let owned = lent.try_to_owned(alloc)?;
-    let shown = format!(in alloc; "{owned:?}")?;
-    assert_eq!(rt;
-        shown.as_str(),
-        "PrivateUseBuf { text: Caseless(\"x-tWain\") }"
-    );
-    let refused = PrivateUse::new("x").err().ok_or("accepted")?;
-    let shown = format!(in alloc; "{refused:?}")?;
-    assert_eq!(rt; shown.as_str(), "InvalidPrivateUse(\"x\")");
-    Ok(())
 }
