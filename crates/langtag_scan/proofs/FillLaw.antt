@@ -14,63 +14,60 @@ use Rattle.langtag_scan.specs.declared.shape.Shape.{Shape}
 use Rattle.langtag_scan.specs.declared.stage.Stage.{Stage}
 use Rattle.langtag_scan.specs.declared.stage.Stage.TheVariants.{Start, AfterMark}
 use Rattle.langtag_scan.specs.declared.machine.Reading.{Reading}
-use Rattle.langtag_scan.specs.declared.machine.Reading.TheVariants.{Normal, Private, Stopped}
+use Rattle.langtag_scan.specs.declared.machine.Reading.TheVariants.{Normal, Private}
 use Rattle.langtag_scan.proofs.ReadingLaws.{starting, reads_nothing, stopped_more, reads_grown, reads_stuck, reads_behind, reads_marked, reads_refused}
 use Rattle.langtag_scan.proofs.TagLaws.{tag_irregular, viable_from_tag, viable_reads}
 
 -- ---- what is known of any front
 
-record IsRead (p : List ℕ) : Type 0 where
+record Going (p : List ℕ) : Type 0 where
   reading : Reading
   stage : Stage
   shape : Shape
   ends : Ends
   reads : Reads reading p stage shape ends
 
-stopped_at : (p : List ℕ) → HasStopped p → IsRead p
-stopped_at p h = record { reading = Stopped; stage = Start; shape = shape_of []; ends = all_at 0; reads = h }
+-- the stages have stopped, or go on
+abbrev IsRead : List ℕ → Type 0
+IsRead p = HasStopped p ⊎ Going p
 
-at_hyphen : (r : Reading) (p : List ℕ) (stage : Stage) (shape : Shape) (e : Ends) → (r ≡ Stopped → ⊥) → Reads r p stage shape e → IsRead (p ++ 45 ∷ [])
-at_hyphen r p stage shape e live h = by_next (next_by stage (classes_of_shape shape)) refl
+at_hyphen : (r : Reading) (p : List ℕ) (stage : Stage) (shape : Shape) (e : Ends) → Reads r p stage shape e → IsRead (p ++ 45 ∷ [])
+at_hyphen r p stage shape e h = by_next (next_by stage (classes_of_shape shape)) refl
   where
     by_mark : None ≡ next_by stage (classes_of_shape shape) → ((stage ≡ Start) ⊎ (stage ≡ Start → ⊥)) → (v : Bool) → (classes_of_shape shape).mark ≡ v → IsRead (p ++ 45 ∷ [])
-    by_mark next (inl first) true mark = record { reading = Private; stage = AfterMark; shape = shape_of []; ends = e; reads = reads_marked r p stage shape e e live first mark h }
-    by_mark next (inl first) false mark = stopped_at (p ++ 45 ∷ []) (reads_refused r p stage shape e next (λ x. mark) h)
-    by_mark next (inr later) v mark = stopped_at (p ++ 45 ∷ []) (reads_refused r p stage shape e next (λ x. absurd (later x)) h)
+    by_mark next (inl first) true mark = inr (record { reading = Private; stage = AfterMark; shape = shape_of []; ends = e; reads = reads_marked r p stage shape e e first mark h })
+    by_mark next (inl first) false mark = inl (reads_refused r p stage shape e next (λ x. mark) h)
+    by_mark next (inr later) v mark = inl (reads_refused r p stage shape e next (λ x. absurd (later x)) h)
 
     by_next : (o : Option Stage) → o ≡ next_by stage (classes_of_shape shape) → IsRead (p ++ 45 ∷ [])
-    by_next (Some after) next = record { reading = r; stage = after; shape = shape_of []; ends = end_at after (length p) e; reads = reads_behind r p stage after shape e next h }
+    by_next (Some after) next = inr (record { reading = r; stage = after; shape = shape_of []; ends = end_at after (length p) e; reads = reads_behind r p stage after shape e next h })
     by_next None next = by_mark next (starting stage) (classes_of_shape shape).mark refl
 
 at_other : (r : Reading) (p : List ℕ) (b : ℕ) (stage : Stage) (shape : Shape) (e : Ends) → eqb b 45 ≡ false → Reads r p stage shape e → IsRead (p ++ b ∷ [])
 at_other r p b stage shape e other h = by_held (may_hold stage b) refl
   where
     by_held : (v : Bool) → may_hold stage b ≡ v → IsRead (p ++ b ∷ [])
-    by_held false held = stopped_at (p ++ b ∷ []) (reads_stuck r p b stage shape e other (inl held) h)
+    by_held false held = inl (reads_stuck r p b stage shape e other (inl held) h)
     by_held true held =
         elim (cases_lt shape.len 8) [
-          | inl short ↦ record { reading = r; stage = stage; shape = shape_of (begun p ++ b ∷ []); ends = e; reads = reads_grown r p b stage shape (shape_of (begun p ++ b ∷ [])) e other held short (λ x. refl) h }
-          | inr long ↦ stopped_at (p ++ b ∷ []) (reads_stuck r p b stage shape e other (inr long) h)
+          | inl short ↦ inr (record { reading = r; stage = stage; shape = shape_of (begun p ++ b ∷ []); ends = e; reads = reads_grown r p b stage shape (shape_of (begun p ++ b ∷ [])) e other held short (λ x. refl) h })
+          | inr long ↦ inl (reads_stuck r p b stage shape e other (inr long) h)
         ]
 
 read_byte : (p : List ℕ) (b : ℕ) → IsRead p → IsRead (p ++ b ∷ [])
-read_byte p b k = by_reading k.reading k.reads
+read_byte p b (inl h) = inl (stopped_more p b h)
+read_byte p b (inr k) = by_hyphen (eqb b 45) refl
   where
-    by_hyphen : (r : Reading) → (r ≡ Stopped → ⊥) → Reads r p k.stage k.shape k.ends → (v : Bool) → eqb b 45 ≡ v → IsRead (p ++ b ∷ [])
-    by_hyphen r live h true e = let same : b ≡ 45 = eqb-true b 45 e in subst (λ x. IsRead (p ++ x ∷ [])) (sym same) (at_hyphen r p k.stage k.shape k.ends live h)
-    by_hyphen r live h false e = at_other r p b k.stage k.shape k.ends e h
-
-    by_reading : (r : Reading) → Reads r p k.stage k.shape k.ends → IsRead (p ++ b ∷ [])
-    by_reading Normal h = by_hyphen Normal (λ x. cc) h (eqb b 45) refl
-    by_reading Private h = by_hyphen Private (λ x. cc) h (eqb b 45) refl
-    by_reading Stopped h = stopped_at (p ++ b ∷ []) (stopped_more p b h)
+    by_hyphen : (v : Bool) → eqb b 45 ≡ v → IsRead (p ++ b ∷ [])
+    by_hyphen true e = let same : b ≡ 45 = eqb-true b 45 e in subst (λ x. IsRead (p ++ x ∷ [])) (sym same) (at_hyphen k.reading p k.stage k.shape k.ends k.reads)
+    by_hyphen false e = at_other k.reading p b k.stage k.shape k.ends e k.reads
 
 read_all : (p u : List ℕ) → IsRead p → IsRead (p ++ u)
-read_all p [] k = subst IsRead (sym (append-nil p)) k
-read_all p (b ∷ u) k = subst IsRead (append_assoc p (b ∷ []) u) (read_all (p ++ b ∷ []) u (read_byte p b k))
+read_all p [] k = subst (λ x. IsRead x) (sym (append-nil p)) k
+read_all p (b ∷ u) k = subst (λ x. IsRead x) (append_assoc p (b ∷ []) u) (read_all (p ++ b ∷ []) u (read_byte p b k))
 
 read_front : (p : List ℕ) → IsRead p
-read_front p = read_all [] p (record { reading = Normal; stage = Start; shape = shape_of []; ends = all_at 0; reads = reads_nothing })
+read_front p = read_all [] p (inr (record { reading = Normal; stage = Start; shape = shape_of []; ends = all_at 0; reads = reads_nothing }))
 
 -- ---- fronts of irregular texts
 
@@ -99,13 +96,12 @@ stopped_front p h (u, inl n) = absurd (h.not_normal u n)
 stopped_front p h (u, inr (inl n)) = absurd (h.not_private u n)
 stopped_front p h (u, inr (inr (k, n))) = front_from_irregular p u k n
 
-fill_from_reads : (r : Reading) (p : List ℕ) (stage : Stage) (shape : Shape) (e : Ends) → Reads r p stage shape e → IsViable p → IsTag (fill p) ⊎ IsIrregularFront p
-fill_from_reads Normal p stage shape e h v = inl (viable_reads Normal p stage shape e (λ x. cc) h)
-fill_from_reads Private p stage shape e h v = inl (viable_reads Private p stage shape e (λ x. cc) h)
-fill_from_reads Stopped p stage shape e h v = inr (stopped_front p h v)
-
 fill_from_viable : (p : List ℕ) → IsViable p → IsTag (fill p) ⊎ IsIrregularFront p
-fill_from_viable p v = let k = read_front p in fill_from_reads k.reading p k.stage k.shape k.ends k.reads v
+fill_from_viable p v =
+    elim (read_front p) [
+      | inl stopped ↦ inr (stopped_front p stopped v)
+      | inr k ↦ inl (viable_reads k.reading p k.stage k.shape k.ends k.reads)
+    ]
 
 viable_from_fill : (p : List ℕ) → IsTag (fill p) ⊎ IsIrregularFront p → IsViable p
 viable_from_fill p (inl tag) = viable_from_tag p (filling (begun p)) tag

@@ -10,7 +10,7 @@ use Rattle.std.proofs.lemmas.List.Folds.{list_all_at}
 use Rattle.std.proofs.lemmas.Option.{slice_get-get_or, slice_get_cases}
 use Rattle.langtag_scan.specs.Case.{fold_byte, fold_text}
 use Rattle.langtag_scan.specs.Grandfathered.{grandfathered_tags, irregular_texts}
-use Rattle.langtag_scan.specs.Irregular.{folded_texts, folded_at, is_front, has_at, is_possible}
+use Rattle.langtag_scan.specs.Irregular.{folded_texts, folded_at, is_front, has_at, is_possible, matters, is_followed}
 use Rattle.langtag_scan.specs.Tag.{IsIrregular, IsIrregularAt}
 
 -- ---- the two tables
@@ -244,15 +244,78 @@ begun_by_other c k e i s lt = elim (first_byte c k lt) [
   | inr (inr h) ↦ h.1 ∙ ne_eqb 115 c (λ x. s (sym x)) ∙ sym (above_range 0 0 k (omega arith))
 ]
 
+-- ---- the texts that matter
+
+or_true : (a : Bool) → (a || true) ≡ true
+or_true true = refl
+or_true false = refl
+
+-- what stands between two that matter does, too
+matters_between : (len i j k : ℕ) → i ≤ j → j ≤ k → matters len i ≡ true → matters len k ≡ true → matters len j ≡ true
+matters_between len i j k le el fi fk =
+    elim (or_cases (eqb len 9) (leb 1 i && ltb i 14) fi) [
+      | inl nine ↦ ap (λ (v : Bool). v || (leb 1 j && ltb j 14)) nine
+      | inr low ↦ elim (or_cases (eqb len 9) (leb 1 k && ltb k 14) fk) [
+        | inl nine ↦ ap (λ (v : Bool). v || (leb 1 j && ltb j 14)) nine
+        | inr high ↦
+            let from : 1 ≤ i = leb-true 1 i (and_parts (leb 1 i) (ltb i 14) low).0 in
+            let to : k < 14 = ltb-true k 14 (and_parts (leb 1 k) (ltb k 14) high).1 in
+            ap (λ (v : Bool). eqb len 9 || v) (in_range 1 14 j (omega arith) (omega arith)) ∙ or_true (eqb len 9)
+      ]
+    ]
+
+followed_between : (len : ℕ) (p : List ℕ) (i j k : ℕ) → i ≤ j → j ≤ k → k < 17 → is_followed len p i ≡ true → is_followed len p k ≡ true → is_followed len p j ≡ true
+followed_between len p i j k le el lt fi fk =
+    let a = and_parts (matters len i) (is_possible p i) fi in
+    let b = and_parts (matters len k) (is_possible p k) fk in
+    and_from (matters len j) (is_possible p j) (matters_between len i j k le el a.0 b.0) (possible_between p i j k le el lt a.1 b.1)
+
+pub followed-push : (len : ℕ) (p : List ℕ) (b k : ℕ) → is_followed len (p ++ b ∷ []) k ≡ (is_followed len p k && has_at (folded_at k) (length p) (fold_byte b))
+followed-push len p b k = ap (λ (v : Bool). matters len k && v) (possible-push p b k) ∙ sym (and_assoc (matters len k) (is_possible p k) (has_at (folded_at k) (length p) (fold_byte b)))
+
+-- before the first byte all that matter are possible
+and_true : (a : Bool) → (a && true) ≡ a
+and_true true = refl
+and_true false = refl
+
+pub followed_nine : (len k : ℕ) → len ≡ 9 → k < 17 → is_followed len [] k ≡ (leb 0 k && ltb k 17)
+followed_nine len k nine lt = and_true (matters len k) ∙ ap (λ (v : Bool). v || (leb 1 k && ltb k 14)) (eq-eqb len 9 nine) ∙ sym (in_range 0 17 k (omega arith) lt)
+
+pub followed_other : (len k : ℕ) → (len ≡ 9 → ⊥) → is_followed len [] k ≡ (leb 1 k && ltb k 14)
+followed_other len k other = and_true (matters len k) ∙ ap (λ (v : Bool). v || (leb 1 k && ltb k 14)) (ne_eqb len 9 other)
+
+-- after it, those that begin with it
+absorb : (a r : Bool) → ((a || r) && r) ≡ r
+absorb true true = refl
+absorb true false = refl
+absorb false true = refl
+absorb false false = refl
+
+pub begun_i : (len k : ℕ) → k < 17 → (matters len k && has_at (folded_at k) 0 105) ≡ (leb 1 k && ltb k 14)
+begun_i len k lt = ap (λ (v : Bool). matters len k && v) (begun_by_i k lt) ∙ absorb (eqb len 9) (leb 1 k && ltb k 14)
+
+pub begun_nine : (len k : ℕ) (v r : Bool) → len ≡ 9 → v ≡ r → (matters len k && v) ≡ r
+begun_nine len k v r nine same = ap (λ (m : Bool). (m || (leb 1 k && ltb k 14)) && v) (eq-eqb len 9 nine) ∙ same
+
+pub begun_short : (len small k : ℕ) → (len ≡ 9 → ⊥) → (small ≡ 105 → ⊥) → k < 17 → (matters len k && has_at (folded_at k) 0 small) ≡ (leb 0 k && ltb k 0)
+begun_short len small k other no_i lt =
+    ap (λ (m : Bool). (m || (leb 1 k && ltb k 14)) && has_at (folded_at k) 0 small) (ne_eqb len 9 other)
+    ∙ elim (first_byte small k lt) [
+      | inl h ↦ and_left (leb 1 k && ltb k 14) _ (below_range 1 14 k h.0)
+      | inr (inl h) ↦ and_right (leb 1 k && ltb k 14) _ (h.2 ∙ ne_eqb 105 small (λ x. no_i (sym x)))
+      | inr (inr h) ↦ and_left (leb 1 k && ltb k 14) _ (above_range 1 14 k h.0)
+    ]
+    ∙ sym (above_range 0 0 k (omega arith))
+
 -- what is possible after the first byte
-pub possible_first : (p : List ℕ) (b small k : ℕ) → length p ≡ 0 → small ≡ fold_byte b → is_possible (p ++ b ∷ []) k ≡ has_at (folded_at k) 0 small
-possible_first [] b small k e same = possible-push [] b k ∙ ap (has_at (folded_at k) 0) (sym same)
-possible_first (a ∷ p) b small k e same = absurd (omega (arith, e))
+pub followed_first : (len : ℕ) (p : List ℕ) (b small k : ℕ) → length p ≡ 0 → small ≡ fold_byte b → is_followed len (p ++ b ∷ []) k ≡ (matters len k && has_at (folded_at k) 0 small)
+followed_first len [] b small k e same = followed-push len [] b k ∙ ap (λ (v : Bool). v && has_at (folded_at k) 0 (fold_byte b)) (and_true (matters len k)) ∙ ap (λ (n : ℕ). matters len k && has_at (folded_at k) 0 n) (sym same)
+followed_first len (a ∷ p) b small k e same = absurd (omega (arith, e))
 
 -- how the range `low` to `high` of a front shrinks to `from` and `to` by a folded byte at a place
-pub record Shrinks (p : List ℕ) (place byte low high from to : ℕ) : Type 0 where
+pub record Shrinks (len : ℕ) (p : List ℕ) (place byte low high from to : ℕ) : Type 0 where
   pub within : high ≤ 17
-  pub possible : (k : ℕ) → k < 17 → is_possible p k ≡ (leb low k && ltb k high)
+  pub possible : (k : ℕ) → k < 17 → is_followed len p k ≡ (leb low k && ltb k high)
   pub above : low ≤ from
   pub below : to ≤ high
   pub none_before : (k : ℕ) → low ≤ k → k < from → has_at (folded_at k) place byte ≡ false
@@ -261,43 +324,41 @@ pub record Shrinks (p : List ℕ) (place byte low high from to : ℕ) : Type 0 w
   pub last : from < to → has_at (folded_at (to - 1)) place byte ≡ true
 
 -- a place below the new range: not possible, or another byte
-shrunk_below : (p : List ℕ) (place byte low high from to : ℕ) → Shrinks p place byte low high from to → (k : ℕ) → k < 17 → k < from → (is_possible p k && has_at (folded_at k) place byte) ≡ false
-shrunk_below p place byte low high from to s k lt h =
+shrunk_below : (len : ℕ) (p : List ℕ) (place byte low high from to : ℕ) → Shrinks len p place byte low high from to → (k : ℕ) → k < 17 → k < from → (is_followed len p k && has_at (folded_at k) place byte) ≡ false
+shrunk_below len p place byte low high from to s k lt h =
     elim (cases_lt k low) [
-      | inl less ↦ and_left (is_possible p k) _ (s.possible k lt ∙ below_range low high k less)
-      | inr le ↦ and_right (is_possible p k) _ (s.none_before k le h)
+      | inl less ↦ and_left (is_followed len p k) _ (s.possible k lt ∙ below_range low high k less)
+      | inr le ↦ and_right (is_followed len p k) _ (s.none_before k le h)
     ]
 
 -- a place above it, likewise
-shrunk_above : (p : List ℕ) (place byte low high from to : ℕ) → Shrinks p place byte low high from to → (k : ℕ) → k < 17 → to ≤ k → (is_possible p k && has_at (folded_at k) place byte) ≡ false
-shrunk_above p place byte low high from to s k lt h =
+shrunk_above : (len : ℕ) (p : List ℕ) (place byte low high from to : ℕ) → Shrinks len p place byte low high from to → (k : ℕ) → k < 17 → to ≤ k → (is_followed len p k && has_at (folded_at k) place byte) ≡ false
+shrunk_above len p place byte low high from to s k lt h =
     elim (cases_lt k high) [
-      | inl less ↦ and_right (is_possible p k) _ (s.none_behind k h less)
-      | inr le ↦ and_left (is_possible p k) _ (s.possible k lt ∙ above_range low high k le)
+      | inl less ↦ and_right (is_followed len p k) _ (s.none_behind k h less)
+      | inr le ↦ and_left (is_followed len p k) _ (s.possible k lt ∙ above_range low high k le)
     ]
 
 -- the new range has just the places of the texts that are possible with that byte
-pub shrunk : (p : List ℕ) (b place byte low high from to : ℕ) → length p ≡ place → byte ≡ fold_byte b → Shrinks p place byte low high from to → (k : ℕ) → k < 17 → is_possible (p ++ b ∷ []) k ≡ (leb from k && ltb k to)
-shrunk p b place byte low high from to at is s k lt =
+pub shrunk : (len : ℕ) (p : List ℕ) (b place byte low high from to : ℕ) → length p ≡ place → byte ≡ fold_byte b → Shrinks len p place byte low high from to → (k : ℕ) → k < 17 → is_followed len (p ++ b ∷ []) k ≡ (leb from k && ltb k to)
+shrunk len p b place byte low high from to at is s k lt =
     elim (cases_lt k from) [
-      | inl h ↦ pushed k ∙ shrunk_below p place byte low high from to s k lt h ∙ sym (below_range from to k h)
+      | inl h ↦ pushed k ∙ shrunk_below len p place byte low high from to s k lt h ∙ sym (below_range from to k h)
       | inr le ↦ elim (cases_lt k to) [
-        | inl h ↦ possible_between (p ++ b ∷ []) from k (to - 1) le (omega arith) (omega (arith, s.within, s.below)) (possible from (omega arith) (omega arith) (s.first (omega (arith, s.below)))) (possible (to - 1) (omega arith) (omega arith) (s.last (omega arith))) ∙ sym (in_range from to k le h)
-        | inr h ↦ pushed k ∙ shrunk_above p place byte low high from to s k lt h ∙ sym (above_range from to k h)
+        | inl h ↦ followed_between len (p ++ b ∷ []) from k (to - 1) le (omega arith) (omega (arith, s.within, s.below)) (possible from (omega arith) (omega arith) (s.first (omega (arith, s.below)))) (possible (to - 1) (omega arith) (omega arith) (s.last (omega arith))) ∙ sym (in_range from to k le h)
+        | inr h ↦ pushed k ∙ shrunk_above len p place byte low high from to s k lt h ∙ sym (above_range from to k h)
       ]
     ]
   where
-    pushed : (j : ℕ) → is_possible (p ++ b ∷ []) j ≡ (is_possible p j && has_at (folded_at j) place byte)
-    pushed j = possible-push p b j ∙ ap (λ (n : ℕ). is_possible p j && has_at (folded_at j) n (fold_byte b)) at ∙ ap (λ (n : ℕ). is_possible p j && has_at (folded_at j) place n) (sym is)
+    pushed : (j : ℕ) → is_followed len (p ++ b ∷ []) j ≡ (is_followed len p j && has_at (folded_at j) place byte)
+    pushed j = followed-push len p b j ∙ ap (λ (n : ℕ). is_followed len p j && has_at (folded_at j) n (fold_byte b)) at ∙ ap (λ (n : ℕ). is_followed len p j && has_at (folded_at j) place n) (sym is)
 
-    possible : (j : ℕ) → from ≤ j → j < to → has_at (folded_at j) place byte ≡ true → is_possible (p ++ b ∷ []) j ≡ true
-    possible j ge less has = pushed j ∙ and_from (is_possible p j) _ (s.possible j (omega (arith, s.within, s.below)) ∙ in_range low high j (omega (arith, s.above)) (omega (arith, s.below))) has
+    possible : (j : ℕ) → from ≤ j → j < to → has_at (folded_at j) place byte ≡ true → is_followed len (p ++ b ∷ []) j ≡ true
+    possible j ge less has = pushed j ∙ and_from (is_followed len p j) _ (s.possible j (omega (arith, s.within, s.below)) ∙ in_range low high j (omega (arith, s.above)) (omega (arith, s.below))) has
 
--- an empty range stays so
-pub still_empty : (p : List ℕ) (b low high : ℕ) → ((k : ℕ) → k < 17 → is_possible p k ≡ (leb low k && ltb k high)) → high ≤ low → (k : ℕ) → k < 17 → is_possible (p ++ b ∷ []) k ≡ (leb low k && ltb k high)
-still_empty p b low high possible le k lt =
-    let none : (leb low k && ltb k high) ≡ false = elim (cases_lt k low) [ inl h ↦ below_range low high k h | inr h ↦ above_range low high k (omega arith) ] in
-    possible-push p b k ∙ and_left (is_possible p k) _ (possible k lt ∙ none) ∙ sym none
+-- nothing is in an empty range
+pub empty_range : (low high k : ℕ) → high ≤ low → (leb low k && ltb k high) ≡ false
+empty_range low high k le = elim (cases_lt k low) [ inl h ↦ below_range low high k h | inr h ↦ above_range low high k (omega arith) ]
 
 -- ---- the texts that are reached
 
@@ -328,19 +389,42 @@ irregular_from_length p k lt h e =
     let there = irregular_there k lt in
     (there.0, there.1, there.2 ∙ sym (front_whole (fold_text p) (folded_at k) h (length-map p fold_byte ∙ sym e)))
 
+-- an irregular text matters to a text of its own length
+matters_itself : (k : ℕ) → k < 17 → matters (length (folded_at k)) k ≡ true
+unfolding folded_texts
+matters_itself zero lt = refl
+matters_itself (suc zero) lt = refl
+matters_itself (suc (suc zero)) lt = refl
+matters_itself (suc (suc (suc zero))) lt = refl
+matters_itself (suc (suc (suc (suc zero)))) lt = refl
+matters_itself (suc (suc (suc (suc (suc zero))))) lt = refl
+matters_itself (suc (suc (suc (suc (suc (suc zero)))))) lt = refl
+matters_itself (suc (suc (suc (suc (suc (suc (suc zero))))))) lt = refl
+matters_itself (suc (suc (suc (suc (suc (suc (suc (suc zero)))))))) lt = refl
+matters_itself (suc (suc (suc (suc (suc (suc (suc (suc (suc zero))))))))) lt = refl
+matters_itself (suc (suc (suc (suc (suc (suc (suc (suc (suc (suc zero)))))))))) lt = refl
+matters_itself (suc (suc (suc (suc (suc (suc (suc (suc (suc (suc (suc zero))))))))))) lt = refl
+matters_itself (suc (suc (suc (suc (suc (suc (suc (suc (suc (suc (suc (suc zero)))))))))))) lt = refl
+matters_itself (suc (suc (suc (suc (suc (suc (suc (suc (suc (suc (suc (suc (suc zero))))))))))))) lt = refl
+matters_itself (suc (suc (suc (suc (suc (suc (suc (suc (suc (suc (suc (suc (suc (suc zero)))))))))))))) lt = refl
+matters_itself (suc (suc (suc (suc (suc (suc (suc (suc (suc (suc (suc (suc (suc (suc (suc zero))))))))))))))) lt = refl
+matters_itself (suc (suc (suc (suc (suc (suc (suc (suc (suc (suc (suc (suc (suc (suc (suc (suc zero)))))))))))))))) lt = refl
+matters_itself (suc (suc (suc (suc (suc (suc (suc (suc (suc (suc (suc (suc (suc (suc (suc (suc (suc k))))))))))))))))) lt = absurd (omega arith)
+
 -- an irregular text is the first of those that are possible, and has its length
-pub irregular_first : (p : List ℕ) (low high : ℕ) → high ≤ 17 → ((k : ℕ) → k < 17 → is_possible p k ≡ (leb low k && ltb k high)) → IsIrregular p → (low < high) × (length (folded_at low) ≡ length p)
+pub irregular_first : (p : List ℕ) (low high : ℕ) → high ≤ 17 → ((k : ℕ) → k < 17 → is_followed (length p) p k ≡ (leb low k && ltb k high)) → IsIrregular p → (low < high) × (length (folded_at low) ≡ length p)
 unfolding IsIrregular IsIrregularAt
 irregular_first p low high within possible h =
     let k : ℕ = h.0 in
     let here = irregular_here k h.1.0 h.1.1 in
     let whole : folded_at k ≡ fold_text p = sym here.1 ∙ h.1.2 in
     let front : is_possible p k ≡ true = ap (is_front (fold_text p)) whole ∙ is_front-self (fold_text p) in
-    let place = and_parts (leb low k) (ltb k high) (sym (possible k here.0) ∙ front) in
+    let long : length p ≡ length (folded_at k) = sym (length-map p fold_byte) ∙ ap length (sym whole) in
+    let place = and_parts (leb low k) (ltb k high) (sym (possible k here.0) ∙ and_from (matters (length p) k) _ (ap (λ (n : ℕ). matters n k) long ∙ matters_itself k here.0) front) in
     let from : low ≤ k = leb-true low k place.0 in
     let to : k < high = ltb-true k high place.1 in
     let first : low ≡ k = elim (cases_lt low k) [
-      | inl lt ↦ absurd (front_before (fold_text p) (folded_at low) (ap (is_before (folded_at low)) (sym whole) ∙ folded_before low k lt here.0) (possible low (omega arith) ∙ in_range low high low (omega arith) (omega arith)))
+      | inl lt ↦ absurd (front_before (fold_text p) (folded_at low) (ap (is_before (folded_at low)) (sym whole) ∙ folded_before low k lt here.0) (and_parts (matters (length p) low) (is_possible p low) (possible low (omega arith) ∙ in_range low high low (omega arith) (omega arith))).1)
       | inr le ↦ omega arith
     ] in
     (omega arith, ap (λ (j : ℕ). length (folded_at j)) first ∙ ap length whole ∙ length-map p fold_byte)
@@ -359,3 +443,7 @@ irregular_once j k t h g =
   where
     no_before : (a b : ℕ) → folded_at a ≡ folded_at b → is_before (folded_at a) (folded_at b) ≡ true → ⊥
     no_before a b same before = front_before (folded_at a) (folded_at a) (ap (is_before (folded_at a)) same ∙ before) (is_front-self (folded_at a))
+
+-- what is followed is possible
+pub followed_possible : (len : ℕ) (p : List ℕ) (k : ℕ) → is_followed len p k ≡ true → is_possible p k ≡ true
+followed_possible len p k h = (and_parts (matters len k) (is_possible p k) h).1

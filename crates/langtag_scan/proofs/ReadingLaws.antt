@@ -1,9 +1,9 @@
 -- What the machine knows of a front, and of the front with one more byte.
-use Rattle.std.proofs.Common.{◌≡◌, ℕ, ◌+◌, ◌-◌, ◌<◌, ◌≤◌, Bool, true, false, cond, eqb, ltb, not, ◌⊎◌, List, [], ◌∷◌, ◌++◌, length, Option, Some, None, inl, inr, refl, sym, ap, subst, ◌∙◌, arith, append_assoc, append-nil, drop}
+use Rattle.std.proofs.Common.{◌≡◌, ℕ, ◌+◌, ◌-◌, ◌<◌, ◌≤◌, Bool, true, false, cond, eqb, ltb, not, ◌||◌, ◌⊎◌, List, [], ◌∷◌, ◌++◌, length, Option, Some, None, inl, inr, refl, sym, ap, subst, ◌∙◌, arith, append_assoc, append-nil, drop}
 use Rattle.std.specs.List.{suffix_len}
 use Rattle.std.specs.Option.{option_map_or}
 use Rattle.std.proofs.lemmas.List.{length_push, drop-append-le, drop_all, reverse-append}
-use Rattle.langtag_scan.specs.Class.{is_letter, are_alphanumeric, is_mark}
+use Rattle.langtag_scan.specs.Class.{is_letter, is_digit, is_alphanumeric, are_alphanumeric, is_mark}
 use Rattle.langtag_scan.specs.Subtags.{is_hyphen, segments}
 use Rattle.langtag_scan.specs.Tag.{IsNormal, IsPrivate}
 use Rattle.langtag_scan.specs.Stage.{Classes, classes_of, is_one, opened_by, after_region_by, after_script_by, after_language_by, next_by, next_stage, may_end, runs}
@@ -11,11 +11,11 @@ use Rattle.langtag_scan.specs.Record.{flat}
 use Rattle.langtag_scan.specs.Found.{Finding.normal, IsFoundOf}
 use Rattle.langtag_scan.specs.Viable.{filling, fill}
 use Rattle.langtag_scan.specs.Shape.{shape_of, classes_of_shape}
-use Rattle.langtag_scan.specs.Machine.{begun, may_hold, all_at, end_at, place_behind, ends_behind, IsBegun, ReadsNormal, ReadsPrivate, HasStopped, Reads}
+use Rattle.langtag_scan.specs.Machine.{begun, may_hold, all_at, end_at, place_behind, ends_behind, IsBegun, ReadsNormal, ReadsPrivate, HasStopped, IsRefused, Reads, found_by}
 use Rattle.langtag_scan.specs.declared.ends.Ends.{Ends}
 use Rattle.langtag_scan.specs.declared.shape.Shape.{Shape}
 use Rattle.langtag_scan.specs.declared.machine.Reading.{Reading}
-use Rattle.langtag_scan.specs.declared.machine.Reading.TheVariants.{Normal, Private, Stopped}
+use Rattle.langtag_scan.specs.declared.machine.Reading.TheVariants.{Normal, Private}
 use Rattle.langtag_scan.specs.declared.stage.Stage.{Stage}
 use Rattle.langtag_scan.specs.declared.stage.Stage.TheVariants.{Start, Language, Extended, AfterScript, AfterRegion, AfterVariant, AfterSingleton, InExtension, AfterMark, InPrivate}
 use Rattle.langtag_scan.proofs.Segments.{normal_from_runs, runs_from_normal, spelled_segments}
@@ -183,7 +183,6 @@ reads_grown Private p b stage shape next e other held short grows h =
     let more = begun-push p b other in
     let fits : length (begun p) < 8 = omega (arith, ap (λ (x : Shape). x.len) h.0) in
     (grows h.0 ∙ ap shape_of (sym more), subst (λ s. ReadsPrivate (p ++ b ∷ []) stage s) (sym more) (private_grown p b stage held fits h.1))
-reads_grown Stopped p b stage shape next e other held short grows h = stopped_more p b h
 
 -- ---- one byte that ends all
 
@@ -234,7 +233,6 @@ reads_stuck Normal p b stage shape e other why h =
     normal_stuck p b stage e other how (stuck_why stage (begun p) b how) h.1
 reads_stuck Private p b stage shape e other why h =
     private_stuck p b stage other (stuck_why stage (begun p) b (length_of shape (begun p) stage b h.0 why)) h.1
-reads_stuck Stopped p b stage shape e other why h = stopped_more p b h
 
 -- ---- a hyphen
 
@@ -294,7 +292,6 @@ reads_behind Private p stage after shape e next h =
     let none = begun-hyphen p in
     let there = next_of stage shape (begun p) h.0 h.1.goes.begun ∙ sym next in
     (ap shape_of (sym none), subst (λ s. ReadsPrivate (p ++ 45 ∷ []) after s) (sym none) (private_behind p stage after there h.1))
-reads_behind Stopped p stage after shape e next h = stopped_more p 45 h
 
 -- a mark is the whole first subtag
 one_mark : (s : List ℕ) → is_one is_mark s ≡ true → (m : ℕ) × (s ≡ m ∷ []) × (is_mark m ≡ true)
@@ -353,7 +350,6 @@ pub reads_refused : (r : Reading) (p : List ℕ) (stage : Stage) (shape : Shape)
 reads_refused Normal p stage shape e next unmarked h =
     normal_refused p stage e (next_of stage shape (begun p) h.0 h.1.goes.begun ∙ sym next) (λ x. sym (is_mark_of shape (begun p) h.0) ∙ unmarked x) h.1
 reads_refused Private p stage shape e next unmarked h = private_refused p stage (next_of stage shape (begun p) h.0 h.1.goes.begun ∙ sym next) h.1
-reads_refused Stopped p stage shape e next unmarked h = stopped_more p 45 h
 
 -- ---- a front that goes on is viable, and at its end the stages tell whether it is a tag
 
@@ -368,11 +364,7 @@ private_filled p stage n =
 
 -- ---- the end of the text
 
--- the stages refuse: the whole text is no normal tag and no private one
-pub record IsRefused (p : List ℕ) : Type 0 where
-  pub not_normal : IsNormal p → ⊥
-  pub not_private : IsPrivate p → ⊥
-
+-- the stages refuse
 pub reads_rejected : (r : Reading) (p : List ℕ) (stage : Stage) (shape : Shape) (e : Ends) → option_map_or may_end (next_by stage (classes_of_shape shape)) false ≡ false → Reads r p stage shape e → IsRefused p
 reads_rejected Normal p stage shape e none h =
     let n = h.1 in
@@ -391,16 +383,6 @@ reads_rejected Private p stage shape e none h =
       not_normal = λ q. n.not_normal [] (subst IsNormal (sym (append-nil p)) q);
       not_private = λ q. not_marked n.mark n.rest p [] n.split (ap (λ t. runs AfterMark (segments t)) (append-nil n.rest) ∙ goes_ended AfterMark stage n.rest (begun p) n.goes ∙ stops) (subst IsPrivate (sym (append-nil p)) q);
     }
-reads_rejected Stopped p stage shape e none h = record {
-  not_normal = λ q. h.not_normal [] (subst IsNormal (sym (append-nil p)) q);
-  not_private = λ q. h.not_private [] (subst IsPrivate (sym (append-nil p)) q);
-}
-
-pub stopped_refused : (p : List ℕ) → HasStopped p → IsRefused p
-stopped_refused p h = record {
-  not_normal = λ q. h.not_normal [] (subst IsNormal (sym (append-nil p)) q);
-  not_private = λ q. h.not_private [] (subst IsPrivate (sym (append-nil p)) q);
-}
 
 -- where they accept, the ends are those of the record
 found_with : (p : List ℕ) (found : Ends) → ends_behind Start (all_at 0) (segments p) ≡ found → IsNormal p → IsFoundOf p (normal found)
@@ -429,7 +411,50 @@ private_accepted p stage after shape e next ends h =
     subst IsPrivate (sym n.split) (private_from_marked n.mark n.rest n.marked run)
 
 -- a first subtag that is a mark opens a private text, whatever else was read
-pub reads_marked : (r : Reading) (p : List ℕ) (stage : Stage) (shape : Shape) (e d : Ends) → (r ≡ Stopped → ⊥) → stage ≡ Start → (classes_of_shape shape).mark ≡ true → Reads r p stage shape e → Reads Private (p ++ 45 ∷ []) AfterMark (shape_of []) d
-reads_marked Normal p stage shape e d live first mark h = reads_opened p shape e d mark (subst (λ s. Reads Normal p s shape e) first h)
-reads_marked Private p stage shape e d live first mark h = absurd (h.1.later first)
-reads_marked Stopped p stage shape e d live first mark h = absurd (live refl)
+pub reads_marked : (r : Reading) (p : List ℕ) (stage : Stage) (shape : Shape) (e d : Ends) → stage ≡ Start → (classes_of_shape shape).mark ≡ true → Reads r p stage shape e → Reads Private (p ++ 45 ∷ []) AfterMark (shape_of []) d
+reads_marked Normal p stage shape e d first mark h = reads_opened p shape e d mark (subst (λ s. Reads Normal p s shape e) first h)
+reads_marked Private p stage shape e d first mark h = absurd (h.1.later first)
+
+-- at the end of the text, where a tag may end
+pub reads_accepted : (r : Reading) (p : List ℕ) (stage after : Stage) (shape : Shape) (e : Ends) → next_by stage (classes_of_shape shape) ≡ Some after → may_end after ≡ true → Reads r p stage shape e → IsFoundOf p (found_by r (end_at after (length p) e))
+reads_accepted Normal p stage after shape e next ends h = normal_accepted p stage after shape e next ends h
+reads_accepted Private p stage after shape e next ends h = private_accepted p stage after shape e next ends h
+
+-- ---- which bytes a subtag may hold
+
+pub letter_held : (stage : Stage) (b : ℕ) → is_letter b ≡ true → may_hold stage b ≡ true
+letter_held Start b h = h
+letter_held (Language taken) b h = rw h refl
+letter_held (Extended taken) b h = rw h refl
+letter_held AfterScript b h = rw h refl
+letter_held AfterRegion b h = rw h refl
+letter_held AfterVariant b h = rw h refl
+letter_held AfterSingleton b h = rw h refl
+letter_held InExtension b h = rw h refl
+letter_held AfterMark b h = rw h refl
+letter_held InPrivate b h = rw h refl
+
+-- behind the first subtag, any letter or digit
+pub held_later : (stage : Stage) (b : ℕ) → (stage ≡ Start → ⊥) → may_hold stage b ≡ is_alphanumeric b
+held_later Start b later = absurd (later refl)
+held_later (Language taken) b later = refl
+held_later (Extended taken) b later = refl
+held_later AfterScript b later = refl
+held_later AfterRegion b later = refl
+held_later AfterVariant b later = refl
+held_later AfterSingleton b later = refl
+held_later InExtension b later = refl
+held_later AfterMark b later = refl
+held_later InPrivate b later = refl
+
+pub or_digit : (l d : Bool) → d ≡ true → (l || d) ≡ true
+or_digit true d h = refl
+or_digit false d h = h
+
+-- nothing but a letter or a digit
+pub nothing_held : (stage : Stage) (b : ℕ) → is_letter b ≡ false → is_digit b ≡ false → may_hold stage b ≡ false
+nothing_held stage b l d =
+    elim (starting stage) [
+      | inl first ↦ rw first l
+      | inr later ↦ held_later stage b later ∙ ap (λ v. v || is_digit b) l ∙ d
+    ]

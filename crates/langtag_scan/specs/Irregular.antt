@@ -1,6 +1,6 @@
 -- Which irregular texts (RFC 5646 section 2.2.8) a text may still become.
 -- Only contracts of private functions cite this page.
-use Rattle.std.specs.Prelude.{ℕ, ◌==◌, ◌&&◌, nat_lt, Bool, true, false, List, [], ◌∷◌, length, codes, slice_index, slice_index_or}
+use Rattle.std.specs.Prelude.{ℕ, ◌==◌, ◌&&◌, ◌||◌, nat_le, nat_lt, Bool, true, false, List, [], ◌∷◌, length, codes, slice_index, slice_index_or}
 use Rattle.langtag_scan.specs.Case.{fold_text}
 
 -- the irregular texts, folded: they stand in alphabetical order
@@ -41,3 +41,12 @@ has_at text place b = nat_lt place (length text) && (slice_index text place == b
 -- whether a text that is alike the irregular one at a place of the table may begin with a front
 abbrev pub is_possible : List ℕ → ℕ → Bool
 is_possible p k = is_front (fold_text p) (folded_at k)
+
+-- whether a text of this length has to be compared with the irregular one at a place of the table. Those that do not
+-- begin with `i` have nine bytes, and each front of them begins a normal tag, too.
+abbrev pub matters : ℕ → ℕ → Bool
+matters len k = (len == 9) || (nat_le 1 k && nat_lt k 14)
+
+-- whether it does, and a text with this front may be alike it
+abbrev pub is_followed : ℕ → List ℕ → ℕ → Bool
+is_followed len p k = matters len k && is_possible p k

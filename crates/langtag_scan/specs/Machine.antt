@@ -8,12 +8,13 @@ use Rattle.langtag_scan.specs.Subtags.{is_hyphen, segments}
 use Rattle.langtag_scan.specs.Tag.{IsNormal, IsPrivate}
 use Rattle.langtag_scan.specs.Stage.{next_stage, runs}
 use Rattle.langtag_scan.specs.Shape.{shape_of}
+use Rattle.langtag_scan.specs.Found.{Finding, Finding.normal, Finding.private_use}
 use Rattle.langtag_scan.specs.declared.stage.Stage.{Stage}
 use Rattle.langtag_scan.specs.declared.stage.Stage.TheVariants.{Start, Language, Extended, AfterScript, AfterRegion, AfterVariant, AfterSingleton, InExtension, AfterMark, InPrivate}
 use Rattle.langtag_scan.specs.declared.shape.Shape.{Shape}
 use Rattle.langtag_scan.specs.declared.ends.Ends.{Ends}
 use Rattle.langtag_scan.specs.declared.machine.Reading.{Reading}
-use Rattle.langtag_scan.specs.declared.machine.Reading.TheVariants.{Normal, Private, Stopped}
+use Rattle.langtag_scan.specs.declared.machine.Reading.TheVariants.{Normal, Private}
 
 -- the subtag that has begun: the bytes behind the last hyphen
 abbrev pub begun : List ℕ → List ℕ
@@ -88,7 +89,16 @@ pub record HasStopped (p : List ℕ) : Type 0 where
   pub not_normal : (u : List ℕ) → IsNormal (p ++ u) → ⊥
   pub not_private : (u : List ℕ) → IsPrivate (p ++ u) → ⊥
 
+-- the whole text is neither
+pub record IsRefused (p : List ℕ) : Type 0 where
+  pub not_normal : IsNormal p → ⊥
+  pub not_private : IsPrivate p → ⊥
+
 abbrev pub Reads : Reading → List ℕ → Stage → Shape → Ends → Type 0
 Reads Normal p stage shape ends = (shape ≡ shape_of (begun p)) × ReadsNormal p stage (begun p) ends
 Reads Private p stage shape ends = (shape ≡ shape_of (begun p)) × ReadsPrivate p stage (begun p)
-Reads Stopped p stage shape ends = HasStopped p
+
+-- what is found where the text ends so
+abbrev pub found_by : Reading → Ends → Finding
+found_by Normal ends = normal ends
+found_by Private ends = private_use

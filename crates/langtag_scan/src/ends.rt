@@ -42,32 +42,35 @@ impl Ends {
     }
 
     /// The ends behind one more subtag, which ends at `place` and belongs to the part of the stage.
+    #[inline(always)]
     pub(crate) fn end_at(&mut self, stage: Stage, place: usize)
         ensures { self.new ≡ end_at stage place self.old }
     {
-        let kept = *self;
-        *self = Ends::all_at(place);
         match stage {
-            Stage::Start | Stage::Language(_) | Stage::Extended(_) => {}
-            Stage::AfterScript => self.language = kept.language,
-            Stage::AfterRegion => {
-                self.language = kept.language;
-                self.script = kept.script;
-            }
-            Stage::AfterVariant => {
-                self.language = kept.language;
-                self.script = kept.script;
-                self.region = kept.region;
-            }
-            Stage::AfterSingleton | Stage::InExtension => {
-                *self = kept;
+            Stage::Start | Stage::Language(_) | Stage::Extended(_) => *self = Ends::all_at(place),
+            Stage::AfterScript => {
+                self.script = place;
+                self.region = place;
+                self.variants = place;
                 self.extensions = place;
                 self.whole = place;
             }
-            Stage::AfterMark | Stage::InPrivate => {
-                *self = kept;
+            Stage::AfterRegion => {
+                self.region = place;
+                self.variants = place;
+                self.extensions = place;
                 self.whole = place;
             }
+            Stage::AfterVariant => {
+                self.variants = place;
+                self.extensions = place;
+                self.whole = place;
+            }
+            Stage::AfterSingleton | Stage::InExtension => {
+                self.extensions = place;
+                self.whole = place;
+            }
+            Stage::AfterMark | Stage::InPrivate => self.whole = place,
         }
     }
 }

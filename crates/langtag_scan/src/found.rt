@@ -1,10 +1,9 @@
 //! What a recogniser found.
 ghost use Rattle.std.specs.Prelude.{◌≡◌};
-ghost use Rattle.langtag_scan.specs.Found.{Finding, Finding.normal, Finding.private_use, Finding.irregular, is_normal, is_private_use, irregular_place, normal_ends};
-ghost use Rattle.langtag_scan.specs.Findings.{finding_of, case_of};
+ghost use Rattle.langtag_scan.specs.Found.{Finding.normal, Finding.private_use, Finding.irregular, is_normal, is_private_use, irregular_place, normal_ends};
+ghost use Rattle.langtag_scan.specs.Findings.{finding};
 
 use crate::ends::Ends;
-use std::marker::Model;
 
 #[derive(Clone, Copy)]
 enum Case {
@@ -22,17 +21,9 @@ pub struct Found {
     case: Case,
 }
 
-impl Model for Found {
-    ghost Value = { Finding };
-
-    ghost view = { λ found. finding_of found.case };
-
-    ghost inverse = { λ finding. record { case = case_of finding } };
-}
-
 impl Found {
     pub(crate) fn normal(ends: Ends) -> Self
-        ensures { result ≡ normal ends }
+        ensures { finding result ≡ normal ends }
     {
         Found {
             case: Case::Normal(ends),
@@ -40,7 +31,7 @@ impl Found {
     }
 
     pub(crate) fn private_use() -> Self
-        ensures { result ≡ private_use }
+        ensures { finding result ≡ private_use }
     {
         Found {
             case: Case::PrivateUse,
@@ -48,7 +39,7 @@ impl Found {
     }
 
     pub(crate) fn at_irregular(place: usize) -> Self
-        ensures { result ≡ irregular place }
+        ensures { finding result ≡ irregular place }
     {
         Found {
             case: Case::Irregular(place),
@@ -57,14 +48,14 @@ impl Found {
 
     /// Whether the text is a normal tag. The regular grandfathered tags are.
     pub fn is_normal(&self) -> bool
-        ensures { result ≡ is_normal self.now }
+        ensures { result ≡ is_normal (finding self.now) }
     {
         matches!(self.case, Case::Normal(_))
     }
 
     /// Whether the text is a private use tag (section 2.2.7), which has a mark and private use subtags alone.
     pub fn is_private_use(&self) -> bool
-        ensures { result ≡ is_private_use self.now }
+        ensures { result ≡ is_private_use (finding self.now) }
     {
         matches!(self.case, Case::PrivateUse)
     }
@@ -72,7 +63,7 @@ impl Found {
     /// The place in the table of an irregular grandfathered tag (section 2.2.8): 0 to 16, in the order in which
     /// section 2.1 lists them.
     pub fn irregular(&self) -> Option<usize>
-        ensures { result ≡ irregular_place self.now }
+        ensures { result ≡ irregular_place (finding self.now) }
     {
         match self.case {
             Case::Irregular(place) => Some(place),
@@ -82,7 +73,7 @@ impl Found {
 
     /// The ends of the parts of a normal tag.
     pub fn ends(&self) -> Option<Ends>
-        ensures { result ≡ normal_ends self.now }
+        ensures { result ≡ normal_ends (finding self.now) }
     {
         match self.case {
             Case::Normal(ends) => Some(ends),

@@ -1,9 +1,12 @@
 //! The irregular tags (RFC 5646 section 2.2.8) that a text may still become.
 ghost use Rattle.std.specs.Prelude.{◌≡◌, ℕ, ◌-◌, ◌<◌, ◌≤◌, List, [], ◌∷◌, ◌++◌, length, ◌&&◌, nat_le, nat_lt, IsTrue, true, false, MatchOption};
-ghost use Rattle.langtag_scan.specs.Irregular.{folded_at, has_at, is_possible};
-ghost use Rattle.langtag_scan.specs.Tag.{IsIrregular, IsIrregularAt};
+ghost use Rattle.langtag_scan.specs.Irregular.{folded_at, has_at, matters, is_possible, is_followed};
+ghost use Rattle.langtag_scan.specs.Tag.{IsIrregular};
+ghost use Rattle.langtag_scan.specs.Findings.{finding};
+ghost use Rattle.langtag_scan.specs.Found.{IsFoundOf};
 
 use crate::case::into_smallcase;
+use crate::found::Found;
 
 /// The irregular texts with small letters. They stand in alphabetical order.
 const FOLDED: [&[u8]; 17] = [
@@ -26,13 +29,21 @@ const FOLDED: [&[u8]; 17] = [
     b"sgn-ch-de",
 ];
 
-/// The places of the irregular texts that begin with what was read. Since these texts are neighbours, the places
-/// make a range, which is empty after a byte or two of nearly every text.
+/// The length of the irregular texts that do not begin with `i`.
+const NINE: usize = 9;
+
+/// The places of the irregular texts that a text of a length may still become. Since these texts are neighbours, the
+/// places make a range, which is empty after the first byte of nearly every text.
+///
+/// The irregular texts that do not begin with `i` matter to a text of nine bytes alone: what begins like one of them
+/// begins a normal tag, too.
 #[derive(Clone, Copy)]
 pub(crate) struct Names {
     low: usize,
     /// The place behind the last.
     high: usize,
+    /// The length of the text.
+    len: usize,
     ghost ordered: { low ≤ high },
     ghost within: { high ≤ 17 },
 }
@@ -40,58 +51,97 @@ pub(crate) struct Names {
 impl Names {
     ghost use Rattle.langtag_scan.specs.Names.{Follows};
 
-    /// Before the first byte every irregular text is possible.
-    pub(crate) fn new() -> Self
-        ensures { Follows [] result }
+    /// Before the first byte of a text of this length.
+    pub(crate) fn new(len: usize) -> Self
+        ensures len { result.len ≡ len }
+        ensures follows { Follows [] result }
     {
-        Names { low: 0, high: 17 }
+        if len == NINE {
+            Names {
+                low: 0,
+                high: 17,
+                len,
+            }
+        } else {
+            Names {
+                low: 1,
+                high: 14,
+                len,
+            }
+        }
     }
 
     /// Keeps the texts that have this byte at this place, in either case.
+    #[inline(always)]
     pub(crate) fn keep(&mut self, place: usize, byte: u8)
-        ensures { (p : List ℕ) → length p ≡ place → Follows p self.old → Follows (p ++ byte ∷ []) self.new }
+        ensures len { self.new.len ≡ self.old.len }
+        ensures follows { (p : List ℕ) → length p ≡ place → Follows p self.old → Follows (p ++ byte ∷ []) self.new }
     {
-        if self.low < self.high {
-            let small = into_smallcase(byte);
-            if place == 0 {
-                *self = begun_by(small);
-            } else {
-                self.low = first_with(self.low, self.high, place, small);
-                self.high = end_with(self.low, self.high, place, small);
-            }
+        let small = into_smallcase(byte);
+        if place == 0 {
+            *self = begun_by(small, self.len);
+        } else {
+            self.low = first_with(self.low, self.high, place, small);
+            self.high = end_with(self.low, self.high, place, small);
         }
     }
 
     /// Whether no irregular text is possible.
     pub(crate) fn is_empty(&self) -> bool
-        ensures gone { (p : List ℕ) → Follows p self.now → IsTrue result → (k : ℕ) → k < 17 → is_possible p k ≡ false }
+        ensures gone { (p : List ℕ) → Follows p self.now → IsTrue result → (k : ℕ) → k < 17 → is_followed self.now.len p k ≡ false }
         ensures left { (p : List ℕ) → Follows p self.now → result ≡ false → (k : ℕ) × (k < 17) × (is_possible p k ≡ true) }
     {
         self.low == self.high
     }
 
-    /// The place of the irregular text that was read, by the number of bytes that were.
-    pub(crate) fn whole(&self, len: usize) -> Option<usize>
-        ensures { (p : List ℕ) → length p ≡ len → Follows p self.now → MatchOption result (IsIrregular p → ⊥) (λ k. (k < 17) × IsIrregularAt k p) }
+    /// What was found, where the bytes that were read are the whole text.
+    pub(crate) fn found(&self) -> Option<Found>
+        ensures { (p : List ℕ) → length p ≡ self.now.len → Follows p self.now → MatchOption result (IsIrregular p → ⊥) (λ found. IsFoundOf p (finding found)) }
     {
         // No text of the table begins another, so only the first can be whole.
-        if self.low < self.high && folded(self.low).len() == len {
-            Some(self.low)
+        if self.low < self.high && folded(self.low).len() == self.len {
+            Some(Found::at_irregular(self.low))
         } else {
             None
         }
     }
 }
 
-/// The texts that begin with this folded byte.
-fn begun_by(small: u8) -> Names
-    ensures { (k : ℕ) → k < 17 → has_at (folded_at k) 0 small ≡ (nat_le result.low k && nat_lt k result.high) }
+/// The texts that matter to a text of this length and begin with this folded byte.
+fn begun_by(small: u8, len: usize) -> Names
+    ensures len { result.len ≡ len }
+    ensures range { (k : ℕ) → k < 17 → (matters len k && has_at (folded_at k) 0 small) ≡ (nat_le result.low k && nat_lt k result.high) }
 {
+    if small == b'i' {
+        return Names {
+            low: 1,
+            high: 14,
+            len,
+        };
+    }
+    if len != NINE {
+        return Names {
+            low: 0,
+            high: 0,
+            len,
+        };
+    }
     match small {
-        b'e' => Names { low: 0, high: 1 },
-        b'i' => Names { low: 1, high: 14 },
-        b's' => Names { low: 14, high: 17 },
-        _ => Names { low: 0, high: 0 },
+        b'e' => Names {
+            low: 0,
+            high: 1,
+            len,
+        },
+        b's' => Names {
+            low: 14,
+            high: 17,
+            len,
+        },
+        _ => Names {
+            low: 0,
+            high: 0,
+            len,
+        },
     }
 }
 

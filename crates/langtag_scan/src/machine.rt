@@ -1,32 +1,23 @@
-//! The machine that reads a text byte by byte and follows every kind of tag at once (RFC 5646 section 2.1).
-ghost use Rattle.std.specs.Prelude.{◌≡◌, ◌≢◌, ◌∷◌, [], ◌++◌, List, ℕ, IsTrue, true, false, Some, MatchOption, length};
-ghost use Rattle.std.specs.Option.{option_map_or};
-ghost use Rattle.langtag_scan.specs.Tag.{IsTag};
-ghost use Rattle.langtag_scan.specs.Viable.{IsViable};
+//! The machine that reads a text byte by byte and follows normal tags and private ones (RFC 5646 section 2.1).
+ghost use Rattle.std.specs.Prelude.{◌≡◌, ◌∷◌, [], ◌++◌, ◌⊎◌, List, ℕ, IsTrue, false, MatchOption, length};
+ghost use Rattle.langtag_scan.specs.Findings.{finding};
 ghost use Rattle.langtag_scan.specs.Found.{IsFoundOf};
-ghost use Rattle.langtag_scan.specs.Machine.{may_hold, Reads};
-ghost use Rattle.langtag_scan.specs.Shape.{classes_of_shape};
-ghost use Rattle.langtag_scan.specs.Stage.{next_by, may_end};
+ghost use Rattle.langtag_scan.specs.Stage.{may_end};
+ghost use Rattle.langtag_scan.specs.Machine.{HasStopped, IsRefused};
 
 use crate::class::{is_digit, is_letter};
 use crate::ends::Ends;
 use crate::found::Found;
-use crate::irregular::Names;
 use crate::shape::Shape;
 use crate::stage::Stage;
 
-/// How many bytes a subtag has at most.
-const LONGEST_SUBTAG: u8 = 8;
-
-/// Which kind of tag, the irregular ones aside, the bytes that were read may go on to.
+/// Which kind of tag the bytes that were read may go on to.
 #[derive(Clone, Copy)]
 pub(crate) enum Reading {
     /// A normal tag.
     Normal,
     /// A private use tag.
     Private,
-    /// Neither.
-    Stopped,
 }
 
 /// What is known of the bytes that were read.
@@ -39,12 +30,10 @@ pub(crate) struct Machine {
     begun: Shape,
     /// The ends of the parts so far.
     ends: Ends,
-    /// The irregular texts that are still possible.
-    names: Names,
 }
 
 impl Machine {
-    ghost use Rattle.langtag_scan.specs.Tracking.{Tracks};
+    ghost use Rattle.langtag_scan.specs.Tracking.{Tracks, IsReadAs};
 
     /// Before the first byte.
     pub(crate) fn new() -> Self
@@ -55,31 +44,34 @@ impl Machine {
             stage: Stage::Start,
             begun: Shape::empty(),
             ends: Ends::all_at(0),
-            names: Names::new(),
         }
     }
 
-    /// Takes the byte at a place, the bytes before it having been taken.
+    /// Takes the byte at a place, the bytes before it having been taken. Where no normal tag and no private one begins
+    /// so, it answers false.
     #[inline(always)]
-    pub(crate) fn step(&mut self, place: usize, byte: u8)
-        ensures { (p : List ℕ) → length p ≡ place → Tracks p self.old → Tracks (p ++ byte ∷ []) self.new }
+    pub(crate) fn step(&mut self, place: usize, byte: u8) -> bool
+        ensures goes_on { (p : List ℕ) → length p ≡ place → Tracks p self.old → IsTrue result → Tracks (p ++ byte ∷ []) self.new }
+        ensures stops { (p : List ℕ) → length p ≡ place → Tracks p self.old → result ≡ false → HasStopped (p ++ byte ∷ []) }
     {
-        self.names.keep(place, byte);
-        if matches!(self.reading, Reading::Stopped) {
-            return;
-        }
-        if byte == b'-' {
-            self.end_subtag(place);
+        if is_letter(byte) {
+            self.begun.push(byte)
+        } else if byte == b'-' {
+            self.end_subtag(place)
+        } else if is_digit(byte) && !self.stage.is_start() {
+            self.begun.push(byte)
         } else {
-            self.go_on(byte);
+            false
         }
     }
 
-    /// The subtag that has begun ends before a hyphen.
+    /// The subtag that has begun ends before this place, at a hyphen or at the end of the text, if it may.
     #[inline(always)]
-    fn end_subtag(&mut self, place: usize)
-        ensures reads { (p : List ℕ) → length p ≡ place → self.old.reading ≢ Reading.Stopped → Reads self.old.reading p self.old.stage self.old.begun self.old.ends → Reads self.new.reading (p ++ 45 ∷ []) self.new.stage self.new.begun self.new.ends }
-        ensures names { self.new.names ≡ self.old.names }
+    fn end_subtag(&mut self, place: usize) -> bool
+        ensures goes_on { (p : List ℕ) → length p ≡ place → Tracks p self.old → IsTrue result → Tracks (p ++ 45 ∷ []) self.new }
+        ensures stops { (p : List ℕ) → length p ≡ place → Tracks p self.old → result ≡ false → HasStopped (p ++ 45 ∷ []) }
+        ensures read { (p : List ℕ) → length p ≡ place → Tracks p self.old → IsTrue result → IsReadAs p self.new }
+        ensures refused { (p : List ℕ) → length p ≡ place → Tracks p self.old → (result ≡ false) ⊎ (may_end self.new.stage ≡ false) → IsRefused p }
     {
         let subtag = self.begun;
         self.begun = Shape::empty();
@@ -87,71 +79,29 @@ impl Machine {
             Some(stage) => {
                 self.stage = stage;
                 self.ends.end_at(stage, place);
+                true
             }
             None if self.stage.is_start() && subtag.is_mark() => {
                 self.reading = Reading::Private;
                 self.stage = Stage::AfterMark;
+                true
             }
-            None => self.reading = Reading::Stopped,
+            None => false,
         }
-    }
-
-    /// The subtag that has begun goes on, if it may.
-    fn go_on(&mut self, byte: u8)
-        ensures reads { (p : List ℕ) → byte ≢ 45 → Reads self.old.reading p self.old.stage self.old.begun self.old.ends → Reads self.new.reading (p ++ byte ∷ []) self.new.stage self.new.begun self.new.ends }
-        ensures names { self.new.names ≡ self.old.names }
-    {
-        if self.begun.len() < LONGEST_SUBTAG && self.may_hold(byte) {
-            self.begun.push(byte);
-        } else {
-            self.reading = Reading::Stopped;
-        }
-    }
-
-    /// Whether the subtag that has begun may hold this byte.
-    fn may_hold(&self, byte: u8) -> bool
-        ensures { result ≡ may_hold self.now.stage byte }
-    {
-        is_letter(byte) || (is_digit(byte) && !self.stage.is_start())
-    }
-
-    /// Whether some tag begins with the bytes that were read.
-    pub(crate) fn is_live(&self) -> bool
-        ensures live { (p : List ℕ) → Tracks p self.now → IsTrue result → IsViable p }
-        ensures dead { (p : List ℕ) → Tracks p self.now → result ≡ false → IsViable p → ⊥ }
-    {
-        !matches!(self.reading, Reading::Stopped) || !self.names.is_empty()
     }
 
     /// What the bytes that were read are, as a whole text of this length.
     #[inline(always)]
     pub(crate) fn found(mut self, len: usize) -> Option<Found>
-        ensures { (p : List ℕ) → length p ≡ len → Tracks p self → MatchOption result (IsTag p → ⊥) (λ found. IsFoundOf p found) }
+        ensures { (p : List ℕ) → length p ≡ len → Tracks p self → MatchOption result (IsRefused p) (λ found. IsFoundOf p (finding found)) }
     {
-        if let Some(stage) = self.last_stage() {
-            match self.reading {
-                Reading::Normal => {
-                    self.ends.end_at(stage, len);
-                    return Some(Found::normal(self.ends));
-                }
-                Reading::Private => return Some(Found::private_use()),
-                Reading::Stopped => {}
-            }
-        }
-        match self.names.whole(len) {
-            Some(place) => Some(Found::at_irregular(place)),
-            None => None,
-        }
-    }
-
-    /// The stage behind the subtag that has begun, if a tag may end there.
-    #[inline(always)]
-    fn last_stage(&self) -> Option<Stage>
-        ensures { MatchOption result (option_map_or may_end (next_by self.now.stage (classes_of_shape self.now.begun)) false ≡ false) (λ stage. (next_by self.now.stage (classes_of_shape self.now.begun) ≡ Some stage) × (may_end stage ≡ true)) }
-    {
-        match self.stage.next(&self.begun) {
-            Some(stage) if stage.may_end() => Some(stage),
-            _ => None,
+        if self.end_subtag(len) && self.stage.may_end() {
+            Some(match self.reading {
+                Reading::Normal => Found::normal(self.ends),
+                Reading::Private => Found::private_use(),
+            })
+        } else {
+            None
         }
     }
 }

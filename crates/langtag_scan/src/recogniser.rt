@@ -3,9 +3,11 @@ ghost use Rattle.std.specs.Prelude.{◌≡◌, ◌↔◌, ◌⊎◌, ℕ, ◌≤
 ghost use Rattle.langtag_scan.specs.Record.{Record, IsWellFormed, spell};
 ghost use Rattle.langtag_scan.specs.Tag.{IsNormal, IsPrivate, IsIrregularAt, IsIrregular, IsTag};
 ghost use Rattle.langtag_scan.specs.Viable.{IsStop, IsViable, IsIrregularFront, fill};
+ghost use Rattle.langtag_scan.specs.Findings.{finding};
 ghost use Rattle.langtag_scan.specs.Found.{IsFoundOf, is_normal};
 
 use crate::found::Found;
+use crate::irregular::Names;
 use crate::machine::Machine;
 use crate::source::ByteSource;
 
@@ -14,9 +16,10 @@ use crate::source::ByteSource;
 ///
 /// It asks for the bytes in order, each once, up to the first one after which no tag can follow, and takes no
 /// memory. Its contract also has the laws that make its answer the only one, and says which texts begin a tag.
+#[inline(always)]
 pub fn recognise<S: ByteSource>(source: &mut S) -> Option<Found>
     requires { S.reads source.old ≤ 2 ^ 126 }
-    ensures found { MatchOption result (IsTag (S.bytes source.old) → ⊥) (λ found. IsFoundOf (S.bytes source.old) found) }
+    ensures found { MatchOption result (IsTag (S.bytes source.old) → ⊥) (λ found. IsFoundOf (S.bytes source.old) (finding found)) }
     ensures bytes { S.bytes source.new ≡ S.bytes source.old }
     ensures reads { (n : ℕ) × IsStop (S.bytes source.old) n × (S.reads source.new ≡ S.reads source.old + n) × (S.reach source.new ≡ max (S.reach source.old) n) }
 
@@ -29,20 +32,36 @@ pub fn recognise<S: ByteSource>(source: &mut S) -> Option<Found>
 {
     let len = source.len();
     let mut machine = Machine::new();
-    for place in 0..len {
-        machine.step(place, source.byte(place));
-        if !machine.is_live() {
+    let mut names = Names::new(len);
+    let mut goes_on = true;
+    let mut place = 0;
+    // While an irregular text is possible: for nearly every text, that is the first byte.
+    'irregular: while place < len && !names.is_empty() {
+        let byte = source.byte(place);
+        names.keep(place, byte);
+        goes_on = goes_on && machine.step(place, byte);
+        place += 1;
+    }
+    if !goes_on {
+        return if place < len { None } else { names.found() };
+    }
+    'stages: while place < len {
+        if !machine.step(place, source.byte(place)) {
             return None;
         }
+        place += 1;
     }
-    machine.found(len)
+    match machine.found(len) {
+        Some(found) => Some(found),
+        None => names.found(),
+    }
 }
 
 /// Decides whether the bytes of a source are a normal tag (rule `langtag` of RFC 5646 section 2.1), as
 /// [`recognise`] does. Its contract also has the law that a normal tag has one record of its parts.
 pub fn recognise_normal<S: ByteSource>(source: &mut S) -> Option<Found>
     requires { S.reads source.old ≤ 2 ^ 126 }
-    ensures found { MatchOption result (IsNormal (S.bytes source.old) → ⊥) (λ found. IsTrue (is_normal found) × IsFoundOf (S.bytes source.old) found) }
+    ensures found { MatchOption result (IsNormal (S.bytes source.old) → ⊥) (λ found. IsTrue (is_normal (finding found)) × IsFoundOf (S.bytes source.old) (finding found)) }
     ensures bytes { S.bytes source.new ≡ S.bytes source.old }
     ensures reads { S.reads source.new ≤ S.reads source.old + length (S.bytes source.old) }
 

@@ -1,22 +1,11 @@
 //! What is known of a subtag that has begun, in a few bytes: each class of subtags can be told from it.
-ghost use Rattle.std.specs.Prelude.{◌≡◌, ◌<◌, ◌≤◌, ◌∷◌, [], ◌++◌, List, ℕ, IsTrue};
+ghost use Rattle.std.specs.Prelude.{◌≡◌, ◌<◌, ◌≤◌, ◌∷◌, [], ◌++◌, List, ℕ, IsTrue, false};
 ghost use Rattle.langtag_scan.specs.Class.{is_alphanumeric as alphanumeric};
-ghost use Rattle.langtag_scan.specs.declared.shape.Content.{Content};
 
 use crate::class::{is_letter, is_mark};
 
-/// Which bytes a subtag of letters and digits has.
-#[derive(Clone, Copy, PartialEq, Eq)]
-pub(crate) enum Content {
-    /// Letters alone. The empty subtag counts here.
-    Letters,
-    /// Digits alone.
-    Digits,
-    /// A digit first, and a letter behind it.
-    DigitFirst,
-    /// A letter first, and a digit behind it.
-    Mixed,
-}
+/// How many bytes a subtag has at most.
+const LONGEST: u8 = 8;
 
 /// A subtag of at most eight letters and digits, by what the classes of subtags ask of it.
 #[derive(Clone, Copy)]
@@ -24,79 +13,69 @@ pub(crate) struct Shape {
     len: u8,
     /// The last byte, which is all of a subtag that has one byte.
     last: u8,
-    content: Content,
+    /// Whether all bytes are letters.
+    letters: bool,
+    /// How many digits it begins with.
+    leading_digits: u8,
 }
 
 impl Shape {
-    ghost use Rattle.langtag_scan.specs.Shape.{content_of, shape_of, classes_of_shape};
+    ghost use Rattle.langtag_scan.specs.Shape.{shape_of, classes_of_shape};
 
     /// The subtag without a byte.
-    #[tactic(auto, unfolding(crate::specs::Shape::content_of))]
+    #[tactic(auto, unfolding(crate::specs::Shape::leading_digits))]
     pub(crate) fn empty() -> Self
         ensures { result ≡ shape_of [] }
     {
         Shape {
             len: 0,
             last: 0,
-            content: Content::Letters,
+            letters: true,
+            leading_digits: 0,
         }
     }
 
-    pub(crate) fn len(&self) -> u8
-        ensures { result ≡ self.now.len }
-    {
-        self.len
-    }
-
-    /// Adds a letter or a digit.
-    #[tactic(auto, using(crate::proofs::ShapeLaws::last_pushed))]
-    pub(crate) fn push(&mut self, byte: u8)
-        requires room { self.old.len < 8 }
+    /// Adds a letter or a digit, if there is room for it.
+    #[inline(always)]
+    pub(crate) fn push(&mut self, byte: u8) -> bool
         requires class { IsTrue (alphanumeric byte) }
-        ensures { (s : List ℕ) → self.old ≡ shape_of s → self.new ≡ shape_of (s ++ byte ∷ []) }
+        ensures room { IsTrue result → self.old.len < 8 }
+        ensures pushed { (s : List ℕ) → self.old ≡ shape_of s → IsTrue result → self.new ≡ shape_of (s ++ byte ∷ []) }
+        ensures full { result ≡ false → 8 ≤ self.old.len }
     {
-        self.content = self.content_with(byte);
+        if self.len >= LONGEST {
+            return false;
+        }
+        if !is_letter(byte) {
+            self.letters = false;
+            if self.leading_digits == self.len {
+                self.leading_digits = self.len + 1;
+            }
+        }
         self.last = byte;
         self.len += 1;
-    }
-
-    #[tactic(auto, using(crate::proofs::ShapeLaws::content_push))]
-    fn content_with(&self, byte: u8) -> Content
-        ensures { (s : List ℕ) → IsTrue (alphanumeric byte) → self.now ≡ shape_of s → result ≡ content_of (s ++ byte ∷ []) }
-    {
-        if is_letter(byte) {
-            match self.content {
-                Content::Digits => Content::DigitFirst,
-                content => content,
-            }
-        } else {
-            match self.content {
-                Content::Letters if self.len == 0 => Content::Digits,
-                Content::Letters => Content::Mixed,
-                content => content,
-            }
-        }
+        true
     }
 
     /// Whether this is a primary language subtag.
     pub(crate) fn is_primary(&self) -> bool
         ensures { result ≡ (classes_of_shape self.now).primary }
     {
-        self.len >= 2 && self.content == Content::Letters
+        self.len >= 2 && self.letters
     }
 
     /// Whether this is an extended language subtag.
     pub(crate) fn is_extended(&self) -> bool
         ensures { result ≡ (classes_of_shape self.now).extended }
     {
-        self.len == 3 && self.content == Content::Letters
+        self.len == 3 && self.letters
     }
 
     /// Whether this is a script.
     pub(crate) fn is_script(&self) -> bool
         ensures { result ≡ (classes_of_shape self.now).script }
     {
-        self.len == 4 && self.content == Content::Letters
+        self.len == 4 && self.letters
     }
 
     /// Whether this is a region.
@@ -104,8 +83,8 @@ impl Shape {
         ensures { result ≡ (classes_of_shape self.now).region }
     {
         match self.len {
-            2 => self.content == Content::Letters,
-            3 => self.content == Content::Digits,
+            2 => self.letters,
+            3 => self.leading_digits == 3,
             _ => false,
         }
     }
@@ -114,8 +93,7 @@ impl Shape {
     pub(crate) fn is_variant(&self) -> bool
         ensures { result ≡ (classes_of_shape self.now).variant }
     {
-        self.len >= 5
-            || (self.len == 4 && matches!(self.content, Content::Digits | Content::DigitFirst))
+        self.len >= 5 || (self.len == 4 && self.leading_digits > 0)
     }
 
     /// Whether this is a subtag of an extension.

@@ -1,6 +1,7 @@
 //! The answer to one line.
 ghost use Rattle.std.specs.Prelude.{ℕ, List, [], ◌∷◌, OnOk, IsOkUnless};
 ghost use Rattle.langtag_scan.specs.Found.{IsFoundOf};
+ghost use Rattle.langtag_scan.specs.Findings.{finding};
 ghost use Rattle.langtag_show.specs.Report.{IsAnswer, Answers};
 
 use crate::show_error::ShowError;
@@ -31,7 +32,7 @@ fn answer_to(line: &[u8]) -> &'static str
 
 /// The word for the kind of a tag.
 fn word_of(found: &Found) -> &'static str
-    ensures { (line : List ℕ) → IsFoundOf line found.now → IsAnswer line result.now }
+    ensures { (line : List ℕ) → IsFoundOf line (finding found.now) → IsAnswer line result.now }
 {
     if found.is_normal() {
         "normal"
