@@ -39,7 +39,7 @@ enum Entry {
 const ENTRIES: [Entry; 4] = [Entry::Recognise, Entry::RecogniseText, Entry::FoldAndSum, Entry::Copy];
 
 impl Entry {
-    /// The name of the function, without its common front.
+    /// The name of the function, without its common prefix.
     fn name(self) -> &'static str {
         match self {
             Entry::Recognise => "recognise",
@@ -75,26 +75,26 @@ impl Entry {
 /// The tags of a file, one a line.
 struct Tags {
     text: Vec<u8>,
-    places: Vec<(usize, usize)>,
+    indices: Vec<(usize, usize)>,
     longest: usize,
 }
 
 impl Tags {
     fn read(path: &str) -> std::io::Result<Tags> {
         let text = std::fs::read(path)?;
-        let mut places = Vec::new();
+        let mut indices = Vec::new();
         let mut start = 0;
         for line in text.split_inclusive(|byte| *byte == b'\n') {
             let end = start + line.len() - usize::from(line.ends_with(b"\n"));
-            places.push((start, end));
+            indices.push((start, end));
             start += line.len();
         }
-        let longest = places.iter().map(|(start, end)| end - start).max().unwrap_or(0);
-        Ok(Tags { text, places, longest })
+        let longest = indices.iter().map(|(start, end)| end - start).max().unwrap_or(0);
+        Ok(Tags { text, indices, longest })
     }
 
     fn iter(&self) -> impl Iterator<Item = &[u8]> {
-        self.places.iter().map(|(start, end)| &self.text[*start..*end])
+        self.indices.iter().map(|(start, end)| &self.text[*start..*end])
     }
 
     fn bytes(&self) -> usize {
@@ -124,7 +124,7 @@ fn time(path: &str) -> std::io::Result<()> {
             times.push(pass(*entry, &tags, &mut into));
         }
     }
-    let count = tags.places.len().max(1) as f64;
+    let count = tags.indices.len().max(1) as f64;
     let bytes = tags.bytes().max(1) as f64;
     let found = tags.iter().filter(|tag| Entry::Recognise.call(tag, &mut []) > 0).count();
     println!("{count} lines, {found} of them tags, {:.1} bytes each", bytes / count);
@@ -132,8 +132,8 @@ fn time(path: &str) -> std::io::Result<()> {
         times.sort_unstable();
     }
     let median = |k: usize| times[k][PASSES / 2] as f64;
-    let place = |entry: Entry| ENTRIES.iter().position(|other| *other == entry).unwrap();
-    let (fold, copy) = (median(place(Entry::FoldAndSum)), median(place(Entry::Copy)));
+    let index = |entry: Entry| ENTRIES.iter().position(|other| *other == entry).unwrap();
+    let (fold, copy) = (median(index(Entry::FoldAndSum)), median(index(Entry::Copy)));
     println!("                    ns a tag   ns a byte   times fold_and_sum   times copy");
     for (k, entry) in ENTRIES.iter().enumerate() {
         println!(
@@ -153,7 +153,7 @@ fn once(name: &str, path: &str) -> std::io::Result<()> {
     let tags = Tags::read(path)?;
     let mut into = vec![0; tags.longest];
     pass(*entry, &tags, &mut into);
-    println!("{} {}", tags.places.len(), tags.bytes());
+    println!("{} {}", tags.indices.len(), tags.bytes());
     Ok(())
 }
 

@@ -8,4 +8,4 @@ pub found_tag : (t : List ℕ) (found : Finding) → IsFoundOf t found → IsTag
 unfolding IsTag IsNormal IsIrregular
 found_tag t (normal ends) (r, good, spelt, same) = inl (r, good, spelt)
 found_tag t private_use f = inr (inl f)
-found_tag t (irregular place) f = inr (inr (place, f))
+found_tag t (irregular index) f = inr (inr (index, f))

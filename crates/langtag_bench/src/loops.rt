@@ -4,7 +4,7 @@ ghost use Rattle.langtag_scan.specs.Case.{fold_byte};
 
 use langtag_scan::into_smallcase;
 
-/// Copies the bytes to the front of others.
+/// Copies the bytes to the start of others.
 #[unsafe(no_mangle)]
 pub extern "C" fn langtag_bench_copy(bytes: &[u8], into: &mut [u8]) -> u8
     requires room { length bytes.now ≤ length into.old }
@@ -12,8 +12,8 @@ pub extern "C" fn langtag_bench_copy(bytes: &[u8], into: &mut [u8]) -> u8
     ensures copied { take (length bytes.now) into.new ≡ bytes.now }
     ensures zero { result ≡ 0 }
 {
-    for place in 0..bytes.len() {
-        into[place] = bytes[place];
+    for index in 0..bytes.len() {
+        into[index] = bytes[index];
     }
     0
 }

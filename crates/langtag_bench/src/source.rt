@@ -44,11 +44,11 @@ impl<'a> ByteSource for MeteredBytes<'a> {
         self.reach
     }
 
-    fn byte(&mut self, place: usize) -> u8 {
+    fn byte(&mut self, index: usize) -> u8 {
         self.reads += 1;
-        if self.reach <= place {
-            self.reach = place + 1;
+        if self.reach <= index {
+            self.reach = index + 1;
         }
-        self.bytes[place]
+        self.bytes[index]
     }
 }

@@ -25,7 +25,7 @@ extension_subtag_long s h =
     let m = between_true 2 8 (length s) k.0 in
     (m.0, m.1, k.1)
 
--- no subtag behind the singleton opens an extension
+-- no subtag after the singleton opens an extension
 goes_on-extension_subtag : (s : List ℕ) → is_extension_subtag s ≡ true → goes_on s ≡ true
 goes_on-extension_subtag s h = let k = extension_subtag_long s h in grind (arith, common_steps)
 
@@ -144,28 +144,28 @@ join-append x [] y ys = refl
 join-append x (z ∷ xs) y ys = ap (λ t. x ++ 45 ∷ t) (join-append z xs y ys) ∙ grind (arith, common_steps)
 
 -- the first group begins with the first subtag
-groups-cons : (s : List ℕ) (ss : List (List ℕ)) → (front : List (List ℕ)) × (others : List (List (List ℕ))) × (groups (s ∷ ss) ≡ (s ∷ front) ∷ others)
+groups-cons : (s : List ℕ) (ss : List (List ℕ)) → (prefix : List (List ℕ)) × (others : List (List (List ℕ))) × (groups (s ∷ ss) ≡ (s ∷ prefix) ∷ others)
 groups-cons s ss = by_groups (groups ss)
   where
-    by_groups : (gs : List (List (List ℕ))) → (front : List (List ℕ)) × (others : List (List (List ℕ))) × (put_first s gs ≡ (s ∷ front) ∷ others)
+    by_groups : (gs : List (List (List ℕ))) → (prefix : List (List ℕ)) × (others : List (List (List ℕ))) × (put_first s gs ≡ (s ∷ prefix) ∷ others)
     by_groups [] = ([], [], refl)
     by_groups (g ∷ gs) =
-        elim (opens g) as (λ b. (front : List (List ℕ)) × (others : List (List (List ℕ))) × (cond b ((s ∷ []) ∷ g ∷ gs) ((s ∷ g) ∷ gs) ≡ (s ∷ front) ∷ others)) [
+        elim (opens g) as (λ b. (prefix : List (List ℕ)) × (others : List (List (List ℕ))) × (cond b ((s ∷ []) ∷ g ∷ gs) ((s ∷ g) ∷ gs) ≡ (s ∷ prefix) ∷ others)) [
           | true ↦ ([], g ∷ gs, refl)
           | false ↦ (g, gs, refl)
         ]
 
 -- one more subtag before groups is one more before their texts
-join-put_first : (s x : List ℕ) (front : List (List ℕ)) (others : List (List (List ℕ))) → join (map join (put_first s ((x ∷ front) ∷ others))) ≡ s ++ 45 ∷ join (map join ((x ∷ front) ∷ others))
-join-put_first s x front others =
-    elim (opens (x ∷ front)) as (λ b. join (map join (cond b ((s ∷ []) ∷ (x ∷ front) ∷ others) ((s ∷ x ∷ front) ∷ others))) ≡ s ++ 45 ∷ join (map join ((x ∷ front) ∷ others))) [
+join-put_first : (s x : List ℕ) (prefix : List (List ℕ)) (others : List (List (List ℕ))) → join (map join (put_first s ((x ∷ prefix) ∷ others))) ≡ s ++ 45 ∷ join (map join ((x ∷ prefix) ∷ others))
+join-put_first s x prefix others =
+    elim (opens (x ∷ prefix)) as (λ b. join (map join (cond b ((s ∷ []) ∷ (x ∷ prefix) ∷ others) ((s ∷ x ∷ prefix) ∷ others))) ≡ s ++ 45 ∷ join (map join ((x ∷ prefix) ∷ others))) [
       | true ↦ refl
       | false ↦ by_others others
     ]
   where
-    by_others : (gs : List (List (List ℕ))) → join (map join ((s ∷ x ∷ front) ∷ gs)) ≡ s ++ 45 ∷ join (map join ((x ∷ front) ∷ gs))
+    by_others : (gs : List (List (List ℕ))) → join (map join ((s ∷ x ∷ prefix) ∷ gs)) ≡ s ++ 45 ∷ join (map join ((x ∷ prefix) ∷ gs))
     by_others [] = refl
-    by_others (g ∷ gs) = append_assoc s (45 ∷ join (x ∷ front)) (45 ∷ join (map join (g ∷ gs)))
+    by_others (g ∷ gs) = append_assoc s (45 ∷ join (x ∷ prefix)) (45 ∷ join (map join (g ∷ gs)))
 
 -- the texts of groups, joined, are the subtags joined
 join-group_texts : (ss : List (List ℕ)) → join (group_texts ss) ≡ join ss

@@ -29,14 +29,14 @@ pub list_all-next_subtag : (text : List ℕ) (end next : ℕ) → end < length t
 list_all-next_subtag text end next below hyphen after within free long before =
     let more = next - (end + 1) in
     let part = take more (drop (suc end) text) in
-    let place : next ≡ end + suc more = omega arith in
+    let index : next ≡ end + suc more = omega arith in
     let cut : take next text ≡ take end text ++ 45 ∷ part =
-    ap (λ n. take n text) place ∙ take-add end (suc more) text ∙ ap (λ rest. take end text ++ take (suc more) rest) (drop-cons text end 0 below)
+    ap (λ n. take n text) index ∙ take-add end (suc more) text ∙ ap (λ rest. take end text ++ take (suc more) rest) (drop-cons text end 0 below)
     ∙ ap (λ b. take end text ++ b ∷ part) hyphen in
     let size : length part ≡ more = grind (arith, common_steps, length-take more (drop (suc end) text), length-drop (suc end) text) in
     let kept : IsHyphenFree part = λ k d inside.
     rw (get_or-take more (drop (suc end) text) k d (omega (arith, size, inside)), get_or-drop (suc end) text k d)
-    (free (suc end + k) d (omega arith) (omega (arith, size, inside, place))) in
+    (free (suc end + k) d (omega arith) (omega (arith, size, inside, index))) in
     let parts = segments (take end text) in
     let goes : list_all goes_on (part ∷ []) ≡ true = grind (arith, common_steps) in
     rw (cut, slice_split-push (take end text) part kept, drop-append-le 1 parts (part ∷ []) (omega (arith, length-slice_split is_hyphen (take end text))), list_all-append goes_on (drop 1 parts) (part ∷ []), before) goes
@@ -51,17 +51,17 @@ put_first-opened (part ∷ more) opened p = by_groups (groups more)
     by_groups (g ∷ gs) = grind (arith, common_steps)
 
 -- a subtag, those that go on with it, and others from one that opens
-pub groups-first : (p : List ℕ) (front rest : List (List ℕ)) → list_all goes_on front ≡ true → opens rest ≡ true → groups (p ∷ front ++ rest) ≡ (p ∷ front) ∷ groups rest
+pub groups-first : (p : List ℕ) (prefix rest : List (List ℕ)) → list_all goes_on prefix ≡ true → opens rest ≡ true → groups (p ∷ prefix ++ rest) ≡ (p ∷ prefix) ∷ groups rest
 groups-first p [] rest long opened = put_first-opened rest opened p
-groups-first p (f ∷ front) rest long opened =
-    let tail = groups-first f front rest (grind (arith, common_steps)) opened in
-    let not_one : opens (f ∷ front) ≡ false = grind (arith, common_steps) in
-    ap (put_first p) tail ∙ ap (λ b. cond b ((p ∷ []) ∷ (f ∷ front) ∷ groups rest) ((p ∷ f ∷ front) ∷ groups rest)) not_one
+groups-first p (f ∷ prefix) rest long opened =
+    let tail = groups-first f prefix rest (grind (arith, common_steps)) opened in
+    let not_one : opens (f ∷ prefix) ≡ false = grind (arith, common_steps) in
+    ap (put_first p) tail ∙ ap (λ b. cond b ((p ∷ []) ∷ (f ∷ prefix) ∷ groups rest) ((p ∷ f ∷ prefix) ∷ groups rest)) not_one
 
 -- the groups of two lists, of which the second begins with an opening subtag
 groups-append : (first rest : List (List ℕ)) → 0 < length first → list_all goes_on (drop 1 first) ≡ true → opens rest ≡ true → groups (first ++ rest) ≡ first ∷ groups rest
 groups-append [] rest some long opened = absurd (omega (arith, some))
-groups-append (p ∷ front) rest some long opened = groups-first p front rest long opened
+groups-append (p ∷ prefix) rest some long opened = groups-first p prefix rest long opened
 
 -- the groups of a text that is cut before an opening subtag
 groups-split : (text first : List ℕ) (rest : Option (Bor (List ℕ))) → MatchOption rest (text ≡ first) (λ r. text ≡ first ++ 45 ∷ r.now) → list_all goes_on (drop 1 (segments first)) ≡ true → opens (segments_left rest) ≡ true → groups (segments text) ≡ segments first ∷ groups (segments_left rest)

@@ -99,7 +99,7 @@ impl<'a> Extension<'a> {
         into_smallcase(self.singleton().unwrap()) == into_smallcase(singleton.unwrap())
     }
 
-    /// The subtags behind the singleton, in order: `co` and `phonebk` of `u-co-phonebk`.
+    /// The subtags after the singleton, in order: `co` and `phonebk` of `u-co-phonebk`.
     #[tactic(auto, using(crate::proofs::SpellingLemmas::subtags_spelled))]
     pub fn iter(&self) -> ExtensionIter<'a>
         ensures list { (e : model.Extension) → SpellsExtension e (extension_text self.now) → extension_subtags_left result ≡ e.subtags }

@@ -8,7 +8,7 @@ use Rattle.std.proofs.lemmas.Grind.{common_steps}
 use Rattle.langtag_scan.specs.Class.{is_primary, is_extended}
 use Rattle.langtag_scan.specs.Subtags.{is_hyphen, segments, subtags, NoHyphenWithin, IsHyphenFree}
 use Rattle.langtag_scan.proofs.Disjoint.{both_true}
-use Rattle.langtag_language.specs.Language.{are_extended, are_extended_within, places_behind, are_language_extension, are_language, is_language_extension, is_language}
+use Rattle.langtag_language.specs.Language.{are_extended, are_extended_within, extended_room, are_language_extension, are_language, is_language_extension, is_language}
 
 -- the first subtag ends at the first hyphen
 segments_cut : (text : List ℕ) (end : ℕ) → end < length text → NoHyphenWithin text 0 end → get_or text end 0 ≡ 45 → segments text ≡ take end text ∷ segments (drop (end + 1) text)
@@ -22,8 +22,8 @@ subtags_some : (text : List ℕ) → IsTrue (is_language text) → subtags text 
 subtags_some [] h = absurd cc
 subtags_some (b ∷ text) h = refl
 
-few_behind : (primary : List ℕ) (n : ℕ) → n ≤ places_behind primary → n ≤ 3
-few_behind primary n within = by_length (leb (length primary) 3) within
+few_after : (primary : List ℕ) (n : ℕ) → n ≤ extended_room primary → n ≤ 3
+few_after primary n within = by_length (leb (length primary) 3) within
   where
     by_length : (b : Bool) → n ≤ cond b 3 0 → n ≤ 3
     by_length true within = within
@@ -33,18 +33,18 @@ some_extended : (ss : List (List ℕ)) → 1 ≤ length ss → length ss ≤ 3 �
 some_extended [] some few h = absurd (omega arith)
 some_extended (s ∷ ss) some few h = rw (le-leb _ _ few, h) refl
 
--- what stands behind the primary subtag is an extension
-is_extension_behind : (primary rest : List ℕ) → are_language (primary ∷ segments rest) ≡ true → IsTrue (is_language_extension rest) × (segments rest ≡ subtags rest)
+-- what stands after the primary subtag is an extension
+is_extension_after : (primary rest : List ℕ) → are_language (primary ∷ segments rest) ≡ true → IsTrue (is_language_extension rest) × (segments rest ≡ subtags rest)
 unfolding is_extended
-is_extension_behind primary [] h =
-    let k = both_true (is_primary primary) (are_extended_within (places_behind primary) (segments [])) h in
-    let m = both_true (leb 1 (places_behind primary)) (are_extended (segments [])) k.1 in
+is_extension_after primary [] h =
+    let k = both_true (is_primary primary) (are_extended_within (extended_room primary) (segments [])) h in
+    let m = both_true (leb 1 (extended_room primary)) (are_extended (segments [])) k.1 in
     absurd cc
-is_extension_behind primary (b ∷ rest) h =
-    let k = both_true (is_primary primary) (are_extended_within (places_behind primary) (segments (b ∷ rest))) h in
-    let m = both_true (leb (length (segments (b ∷ rest))) (places_behind primary)) (are_extended (segments (b ∷ rest))) k.1 in
+is_extension_after primary (b ∷ rest) h =
+    let k = both_true (is_primary primary) (are_extended_within (extended_room primary) (segments (b ∷ rest))) h in
+    let m = both_true (leb (length (segments (b ∷ rest))) (extended_room primary)) (are_extended (segments (b ∷ rest))) k.1 in
     let some : 1 ≤ length (segments (b ∷ rest)) = omega (arith, length-slice_split is_hyphen (b ∷ rest)) in
-    (some_extended (segments (b ∷ rest)) some (few_behind primary _ (leb-true _ _ m.0)) m.1, refl)
+    (some_extended (segments (b ∷ rest)) some (few_after primary _ (leb-true _ _ m.0)) m.1, refl)
 
 -- a language without a hyphen
 pub record IsAlone (text : List ℕ) : Type 0 where
@@ -56,7 +56,7 @@ language_alone text bytes end h same free whole =
     let kept : IsHyphenFree text = grind (arith, common_steps) in
     let list = subtags_some text h ∙ slice_split_none is_hyphen text kept in
     let pass : are_language (text ∷ []) ≡ true = sym (ap are_language list) ∙ h in
-    record { primary = (both_true (is_primary text) (are_extended_within (places_behind text) []) pass).0; list = list }
+    record { primary = (both_true (is_primary text) (are_extended_within (extended_room text) []) pass).0; list = list }
 
 -- a language with one
 pub record IsCut (text primary rest : List ℕ) : Type 0 where
@@ -71,10 +71,10 @@ language_cut text bytes end h same within free hyphen more =
     let at : get_or text end 0 ≡ 45 = rw (← same) (hyphen (grind arith)) in
     let list = subtags_some text h ∙ segments_cut text end (grind arith) (rw (← same) free) at in
     let pass : are_language (primary ∷ segments rest) ≡ true = sym (ap are_language list) ∙ h in
-    let behind = is_extension_behind primary rest pass in
+    let after = is_extension_after primary rest pass in
     let up_to : slice_range text 0 end ≡ primary = grind (arith, common_steps) in
     rw up_to record {
-      primary_class = (both_true (is_primary primary) (are_extended_within (places_behind primary) (segments rest)) pass).0;
-      extension = behind.0;
-      list = list ∙ ap (λ ss. primary ∷ ss) behind.1;
+      primary_class = (both_true (is_primary primary) (are_extended_within (extended_room primary) (segments rest)) pass).0;
+      extension = after.0;
+      list = list ∙ ap (λ ss. primary ∷ ss) after.1;
     }

@@ -8,7 +8,7 @@ use Rattle.langtag_scan.proofs.Disjoint.{both_true}
 use Rattle.langtag_scan.proofs.Segments.{of_primary, of_extended}
 use Rattle.langtag_scan.proofs.SubtagLists.{each_from_test, test_from_each, each_subtag, subtags-joined}
 use Rattle.langtag_scan.proofs.SubtagsLemmas.{join-subtags}
-use Rattle.langtag_language.specs.Language.{SpellsLanguageExtension, IsLanguageExtension, SpellsLanguage, IsLanguage, are_extended, are_extended_within, places_behind, are_language_extension, are_language, is_language_extension, is_language}
+use Rattle.langtag_language.specs.Language.{SpellsLanguageExtension, IsLanguageExtension, SpellsLanguage, IsLanguage, are_extended, are_extended_within, extended_room, are_language_extension, are_language, is_language_extension, is_language}
 
 -- ---- extlang
 
@@ -47,12 +47,12 @@ pub subtags-language : (primary : List ℕ) (extended : List (List ℕ)) (text :
 subtags-language primary extended text spells =
     ap subtags (sym spells.joined) ∙ subtags-joined (primary ∷ extended) (of_primary primary spells.first, each_subtag is_extended of_extended extended spells.others)
 
-within_places : (n : ℕ) (extended : List (List ℕ)) → length extended ≤ 3 → (n ≤ 3) ⊎ (extended ≡ []) → leb (length extended) (cond (leb n 3) 3 0) ≡ true
-within_places n extended few (inl short) = rw (le-leb n 3 short) (le-leb _ _ few)
-within_places n extended few (inr none) = rw none (le-leb 0 _ (omega arith))
+within_room : (n : ℕ) (extended : List (List ℕ)) → length extended ≤ 3 → (n ≤ 3) ⊎ (extended ≡ []) → leb (length extended) (cond (leb n 3) 3 0) ≡ true
+within_room n extended few (inl short) = rw (le-leb n 3 short) (le-leb _ _ few)
+within_room n extended few (inr none) = rw none (le-leb 0 _ (omega arith))
 
-rule_from_places : (n : ℕ) (extended : List (List ℕ)) → leb (length extended) (cond (leb n 3) 3 0) ≡ true → (length extended ≤ 3) × ((n ≤ 3) ⊎ (extended ≡ []))
-rule_from_places n extended h = by_length (leb n 3) refl h
+rule_from_room : (n : ℕ) (extended : List (List ℕ)) → leb (length extended) (cond (leb n 3) 3 0) ≡ true → (length extended ≤ 3) × ((n ≤ 3) ⊎ (extended ≡ []))
+rule_from_room n extended h = by_length (leb n 3) refl h
   where
     by_length : (b : Bool) → leb n 3 ≡ b → leb (length extended) (cond b 3 0) ≡ true → (length extended ≤ 3) × ((n ≤ 3) ⊎ (extended ≡ []))
     by_length true short h = (leb-true _ _ h, inl (leb-true _ _ short))
@@ -60,14 +60,14 @@ rule_from_places n extended h = by_length (leb n 3) refl h
 
 are_language_from_rule : (primary : List ℕ) (extended : List (List ℕ)) (text : List ℕ) → SpellsLanguage primary extended text → are_language (primary ∷ extended) ≡ true
 are_language_from_rule primary extended text spells =
-    rw (spells.first, within_places (length primary) extended spells.few spells.short, test_from_each is_extended extended spells.others) refl
+    rw (spells.first, within_room (length primary) extended spells.few spells.short, test_from_each is_extended extended spells.others) refl
 
 rule_from_are_language : (ss : List (List ℕ)) (text : List ℕ) → join ss ≡ text → are_language ss ≡ true → IsLanguage text
 rule_from_are_language [] text joined h = absurd cc
 rule_from_are_language (primary ∷ extended) text joined h =
-    let k = both_true (is_primary primary) (are_extended_within (places_behind primary) extended) h in
-    let m = both_true (leb (length extended) (places_behind primary)) (are_extended extended) k.1 in
-    let few = rule_from_places (length primary) extended m.0 in
+    let k = both_true (is_primary primary) (are_extended_within (extended_room primary) extended) h in
+    let m = both_true (leb (length extended) (extended_room primary)) (are_extended extended) k.1 in
+    let few = rule_from_room (length primary) extended m.0 in
     (primary, extended, record { first = k.0; others = each_from_test is_extended extended m.1; few = few.0; short = few.1; joined = joined })
 
 -- from the test to the rule

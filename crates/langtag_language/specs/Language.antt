@@ -1,5 +1,5 @@
 -- The rules `extlang` and `language` (RFC 5646 section 2.1): the texts that extended subtags spell, and those that a
--- primary subtag spells with what may stand behind it.
+-- primary subtag spells with what may stand after it.
 use Rattle.std.specs.Prelude.{◌≡◌, ℕ, ◌≤◌, ◌⊎◌, Bool, false, ◌&&◌, nat_le, if◌then◌else◌, IsTrue, List, [], ◌∷◌, length}
 use Rattle.std.specs.List.{AllByRecursion, list_all}
 use Rattle.langtag_scan.specs.Class.{is_primary, is_extended}
@@ -40,11 +40,11 @@ are_extended subtags = list_all is_extended subtags
 
 -- at most so many, all of them extended
 abbrev pub are_extended_within : ℕ → List (List ℕ) → Bool
-are_extended_within places subtags = nat_le (length subtags) places && are_extended subtags
+are_extended_within room subtags = nat_le (length subtags) room && are_extended subtags
 
 -- how many extended subtags may follow
-abbrev pub places_behind : List ℕ → ℕ
-places_behind primary = if nat_le (length primary) 3 then 3 else 0
+abbrev pub extended_room : List ℕ → ℕ
+extended_room primary = if nat_le (length primary) 3 then 3 else 0
 
 abbrev pub are_language_extension : List (List ℕ) → Bool
 are_language_extension [] = false
@@ -52,7 +52,7 @@ are_language_extension (first ∷ others) = are_extended_within 3 (first ∷ oth
 
 abbrev pub are_language : List (List ℕ) → Bool
 are_language [] = false
-are_language (primary ∷ extended) = is_primary primary && are_extended_within (places_behind primary) extended
+are_language (primary ∷ extended) = is_primary primary && are_extended_within (extended_room primary) extended
 
 abbrev pub is_language_extension : List ℕ → Bool
 is_language_extension text = are_language_extension (subtags text)

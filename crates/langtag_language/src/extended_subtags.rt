@@ -5,10 +5,10 @@ ghost use Rattle.langtag_language.specs.Language as rule;
 use langtag_scan::{Subtags, is_extended};
 
 /// Whether at most so many subtags are left, all of them extended.
-pub(crate) fn are_extended_within(places: usize, subtags: Subtags<'_>) -> bool
-    ensures { result ≡ rule.are_extended_within places subtags.entry }
+pub(crate) fn are_extended_within(room: usize, subtags: Subtags<'_>) -> bool
+    ensures { result ≡ rule.are_extended_within room subtags.entry }
 {
-    let mut free = places;
+    let mut free = room;
     for subtag in subtags {
         if free == 0 || !is_extended(subtag.as_bytes()) {
             return false;

@@ -23,8 +23,8 @@ use thiserror::Error;
 #[error_bound(T: Debug + Drop)]
 pub struct InvalidLanguage<T>(pub T);
 
-/// The language of a tag: a primary subtag (RFC 5646 section 2.2.1), as `fr`, behind which at most three extended
-/// subtags stand (section 2.2.2), as in `zh-min-nan`. They stand behind two or three letters alone.
+/// The language of a tag: a primary subtag (RFC 5646 section 2.2.1), as `fr`, after which at most three extended
+/// subtags stand (section 2.2.2), as in `zh-min-nan`. They stand after two or three letters alone.
 ///
 /// Two languages are equal where their texts differ at most in the case of ASCII letters.
 #[derive(Clone, Copy, Debug, PartialEq, Eq, PartialOrd, Ord, Hash)]
@@ -42,7 +42,7 @@ impl<'a> Language<'a> {
     ///
     /// # Errors
     ///
-    /// A text that is not a primary subtag, or one of two or three letters with one to three extended subtags behind
+    /// A text that is not a primary subtag, or one of two or three letters with one to three extended subtags after
     /// it, comes back.
     pub fn new(text: &'a str) -> Result<Language<'a>, InvalidLanguage<&'a str>>
         ensures accepts { IsTrue (is_ok result) ↔ (IsLanguage text.now) }
@@ -145,7 +145,7 @@ impl<'a> Language<'a> {
     }
 }
 
-/// Whether the text is a primary subtag and, behind two or three letters, at most three extended ones.
+/// Whether the text is a primary subtag and, after two or three letters, at most three extended ones.
 fn is_language(text: &str) -> bool
     ensures test { result ≡ rule.is_language text.now }
     ensures spelled { IsTrue result ↔ (IsLanguage text.now) }
@@ -154,8 +154,8 @@ fn is_language(text: &str) -> bool
     let Some(primary) = subtags.next() else {
         return false;
     };
-    let places = if primary.len() <= 3 { 3 } else { 0 };
-    is_primary(primary.as_bytes()) && are_extended_within(places, subtags)
+    let room = if primary.len() <= 3 { 3 } else { 0 };
+    is_primary(primary.as_bytes()) && are_extended_within(room, subtags)
 }
 
 impl fmt::Display for Language<'_> {
@@ -183,7 +183,7 @@ impl LanguageBuf {
     ///
     /// # Errors
     ///
-    /// A text that is not a primary subtag, or one of two or three letters with one to three extended subtags behind
+    /// A text that is not a primary subtag, or one of two or three letters with one to three extended subtags after
     /// it, comes back, the same `String`.
     pub fn new(text: String) -> Result<LanguageBuf, InvalidLanguage<String>>
         ensures accepts { IsTrue (is_ok result) ↔ (IsLanguage (string_bytes text)) }

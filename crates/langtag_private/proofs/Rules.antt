@@ -44,8 +44,8 @@ private_from_rule text r = ap are_private_use (subtags-private text r.0 r.1 r.2)
 pub private_spelled : (text : List ℕ) (b : Bool) → b ≡ is_private_use text → IsTrue b ↔ IsPrivate text
 private_spelled text b same = (λ h. private_from_test text (sym same ∙ h), λ r. same ∙ private_from_rule text r)
 
--- behind the mark there are private use subtags alone
-pub are_private-behind : (ss : List (List ℕ)) → are_private_use ss ≡ true → are_private (drop 1 ss) ≡ true
-are_private-behind [] h = absurd cc
-are_private-behind (mark ∷ []) h = absurd cc
-are_private-behind (mark ∷ first ∷ others) h = (both_true (is_mark_alone mark) (are_private (first ∷ others)) h).1
+-- after the mark there are private use subtags alone
+pub are_private-after : (ss : List (List ℕ)) → are_private_use ss ≡ true → are_private (drop 1 ss) ≡ true
+are_private-after [] h = absurd cc
+are_private-after (mark ∷ []) h = absurd cc
+are_private-after (mark ∷ first ∷ others) h = (both_true (is_mark_alone mark) (are_private (first ∷ others)) h).1

@@ -6,7 +6,7 @@ use Rattle.langtag_scan.specs.Class.{is_mark, is_private_subtag}
 use Rattle.langtag_scan.specs.Record.{PrivateUse, IsPrivateUse, private_use_flat}
 use Rattle.langtag_scan.specs.Subtags.{join, subtags}
 
--- P holds of the subtags behind the mark in each private list that spells the text
+-- P holds of the subtags after the mark in each private list that spells the text
 abbrev pub EachSpelling : List ℕ → (List (List ℕ) → Type 0) → Type 0
 EachSpelling text P = (p : PrivateUse) → IsPrivateUse p → join (private_use_flat p) ≡ text → P p.subtags
 

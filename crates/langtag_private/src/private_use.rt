@@ -20,7 +20,7 @@ use thiserror::Error;
 #[error_bound(T: Debug + Drop)]
 pub struct InvalidPrivateUse<T>(pub T);
 
-/// A private use part (RFC 5646 section 2.2.7): the mark `x`, in either case, and one subtag or more behind it,
+/// A private use part (RFC 5646 section 2.2.7): the mark `x`, in either case, and one subtag or more after it,
 /// joined by hyphens, as `x-twain`. It may stand at the end of a tag, and alone as a tag of its own.
 ///
 /// Two of them are equal where their texts differ at most in the case of ASCII letters.

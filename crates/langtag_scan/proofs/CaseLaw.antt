@@ -130,7 +130,7 @@ classes-fold : (s : List ℕ) → classes_of (fold_text s) ≡ classes_of s
 classes-fold s =
     rw (is_primary-fold s, is_extended-fold s, is_script-fold s, is_region-fold s, is_variant-fold s, is_extension_subtag-fold s, is_private_subtag-fold s, is_one-fold is_mark is_mark-fold s, is_one-fold is_singleton is_singleton-fold s, length-fold s) refl
 
--- so the same stage is behind them
+-- so the same stage is after them
 pub next_stage-fold : (stage : Stage) (s : List ℕ) → next_stage stage (fold_text s) ≡ next_stage stage s
 next_stage-fold stage s = ap (next_by stage) (classes-fold s)
 
@@ -145,7 +145,7 @@ unfolding runs
 runs-fold stage [] = refl
 runs-fold stage (s ∷ ss) = rw (next_stage-fold stage s) (agree (λ after. runs after (map fold_text ss)) (λ after. runs after ss) (λ after. runs-fold after ss) (next_stage stage s))
 
--- behind a mark likewise
+-- after a mark likewise
 pub runs_private-fold : (ss : List (List ℕ)) → runs_private (map fold_text ss) ≡ runs_private ss
 runs_private-fold [] = refl
 runs_private-fold (s ∷ ss) = rw (is_one-fold is_mark is_mark-fold s, runs-fold AfterMark ss) refl

@@ -103,7 +103,7 @@ tail_extensions stage o (e ∷ es) p fits fit =
     let one = decode_cons stage (e.singleton ∷ []) AfterSingleton (e.subtags ++ rest) (pending e.subtags es p) (o.one e.singleton ∙ opens) (after_singleton es p rest ih e.subtags fits.0.some fits.0.subtags) in
     ap (λ (us : List (List ℕ)). decode stage ((e.singleton ∷ []) ∷ us)) (append_assoc e.subtags (flat_map extension_flat es) (private_part_flat p)) ∙ one
 
--- what stands behind the variants
+-- what stands after the variants
 abbrev rest_of : List Extension → Option PrivateUse → List (List ℕ)
 rest_of es p = flat_map extension_flat es ++ private_part_flat p
 
@@ -121,20 +121,20 @@ tail_region vs es p fits ends stage r None fit = tail_variants es p ends stage r
 tail_region vs es p fits ends stage r (Some s) fit =
     decode_cons stage s AfterRegion (vs ++ rest_of es p) (whole (from_variants vs es p)) (r.region s fit) (tail_variants es p ends AfterRegion varying_after_region vs fits)
 
-record Places (g : Option (List ℕ)) (vs : List (List ℕ)) : Type 0 where
+record Indices (g : Option (List ℕ)) (vs : List (List ℕ)) : Type 0 where
   region : IfSome g (λ s. IsTrue (is_region s))
   variants : AllByRecursion (λ s. IsTrue (is_variant s)) vs
 
-tail_script : (g : Option (List ℕ)) (vs : List (List ℕ)) (es : List Extension) (p : Option PrivateUse) → Places g vs → Ends es p → (taken : ℕ) (stage : Stage) → Speaking taken stage → (c : Option (List ℕ)) → IfSome c (λ s. IsTrue (is_script s)) → decode stage (one_flat c ++ (one_flat g ++ (vs ++ rest_of es p))) ≡ Some (whole (from_script c g vs es p))
-tail_script g vs es p places ends taken stage k None fit = tail_region vs es p places.variants ends stage k.regional g places.region
-tail_script g vs es p places ends taken stage k (Some s) fit =
-    decode_cons stage s AfterScript (one_flat g ++ (vs ++ rest_of es p)) (whole (from_region g vs es p)) (k.script s fit) (tail_region vs es p places.variants ends AfterScript regional_after_script g places.region)
+tail_script : (g : Option (List ℕ)) (vs : List (List ℕ)) (es : List Extension) (p : Option PrivateUse) → Indices g vs → Ends es p → (taken : ℕ) (stage : Stage) → Speaking taken stage → (c : Option (List ℕ)) → IfSome c (λ s. IsTrue (is_script s)) → decode stage (one_flat c ++ (one_flat g ++ (vs ++ rest_of es p))) ≡ Some (whole (from_script c g vs es p))
+tail_script g vs es p indices ends taken stage k None fit = tail_region vs es p indices.variants ends stage k.regional g indices.region
+tail_script g vs es p indices ends taken stage k (Some s) fit =
+    decode_cons stage s AfterScript (one_flat g ++ (vs ++ rest_of es p)) (whole (from_region g vs es p)) (k.script s fit) (tail_region vs es p indices.variants ends AfterScript regional_after_script g indices.region)
 
-tail_extended : (c g : Option (List ℕ)) (vs : List (List ℕ)) (es : List Extension) (p : Option PrivateUse) → IfSome c (λ s. IsTrue (is_script s)) → Places g vs → Ends es p → (xs : List (List ℕ)) → AllByRecursion (λ s. IsTrue (is_extended s)) xs → (taken : ℕ) → ((length xs + taken ≤ 3) ⊎ (xs ≡ [])) → (stage : Stage) → Speaking taken stage → decode stage (xs ++ (one_flat c ++ (one_flat g ++ (vs ++ rest_of es p)))) ≡ Some (whole (from_extended xs c g vs es p))
-tail_extended c g vs es p fit places ends [] fits taken few stage k = tail_script g vs es p places ends taken stage k c fit
-tail_extended c g vs es p fit places ends (x ∷ xs) fits taken (inr none_left) stage k = absurd cc
-tail_extended c g vs es p fit places ends (x ∷ xs) fits taken (inl few) stage k =
-    decode_cons stage x (Extended (taken + 1)) (xs ++ (one_flat c ++ (one_flat g ++ (vs ++ rest_of es p)))) (whole (from_extended xs c g vs es p)) (k.extended x fits.0 (omega arith)) (tail_extended c g vs es p fit places ends xs fits.1 (taken + 1) (inl (omega arith)) (Extended (taken + 1)) (speaking_extended (taken + 1)))
+tail_extended : (c g : Option (List ℕ)) (vs : List (List ℕ)) (es : List Extension) (p : Option PrivateUse) → IfSome c (λ s. IsTrue (is_script s)) → Indices g vs → Ends es p → (xs : List (List ℕ)) → AllByRecursion (λ s. IsTrue (is_extended s)) xs → (taken : ℕ) → ((length xs + taken ≤ 3) ⊎ (xs ≡ [])) → (stage : Stage) → Speaking taken stage → decode stage (xs ++ (one_flat c ++ (one_flat g ++ (vs ++ rest_of es p)))) ≡ Some (whole (from_extended xs c g vs es p))
+tail_extended c g vs es p fit indices ends [] fits taken few stage k = tail_script g vs es p indices ends taken stage k c fit
+tail_extended c g vs es p fit indices ends (x ∷ xs) fits taken (inr none_left) stage k = absurd cc
+tail_extended c g vs es p fit indices ends (x ∷ xs) fits taken (inl few) stage k =
+    decode_cons stage x (Extended (taken + 1)) (xs ++ (one_flat c ++ (one_flat g ++ (vs ++ rest_of es p)))) (whole (from_extended xs c g vs es p)) (k.extended x fits.0 (omega arith)) (tail_extended c g vs es p fit indices ends xs fits.1 (taken + 1) (inl (omega arith)) (Extended (taken + 1)) (speaking_extended (taken + 1)))
 
 taken_by : (n : ℕ) (xs : List (List ℕ)) → length xs ≤ 3 → ((n ≤ 3) ⊎ (xs ≡ [])) → (length xs + cond (leb n 3) 0 3 ≤ 3) ⊎ (xs ≡ [])
 taken_by n xs few (inr none_left) = inr none_left

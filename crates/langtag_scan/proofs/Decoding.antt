@@ -14,7 +14,7 @@ use Rattle.langtag_scan.specs.Stage.{opened, after_region, after_script, after_l
 -- what was read so far from the right: the subtags of an extension or private list whose head is still
 -- to come, and the parts
 pub record Read : Type 0 where
-  pub behind : List (List ℕ)
+  pub after : List (List ℕ)
   pub parts : Record
 
 -- parts without what stands before the extensions, the variants, ..
@@ -37,10 +37,10 @@ abbrev pub from_extended : List (List ℕ) → Option (List ℕ) → Option (Lis
 from_extended xs c g vs es p = record { primary = []; extended = xs; script = c; region = g; variants = vs; extensions = es; private_use = p }
 
 abbrev pub whole : Record → Read
-whole r = record { behind = []; parts = r }
+whole r = record { after = []; parts = r }
 
 abbrev pub pending : List (List ℕ) → List Extension → Option PrivateUse → Read
-pending ss es p = record { behind = ss; parts = from_extensions es p }
+pending ss es p = record { after = ss; parts = from_extensions es p }
 
 abbrev first_byte : List ℕ → ℕ
 first_byte s = get_or s 0 0
@@ -53,10 +53,10 @@ put (Extended taken) s b = whole (from_extended (s ∷ b.parts.extended) b.parts
 put AfterScript s b = whole (from_script (Some s) b.parts.region b.parts.variants b.parts.extensions b.parts.private_use)
 put AfterRegion s b = whole (from_region (Some s) b.parts.variants b.parts.extensions b.parts.private_use)
 put AfterVariant s b = whole (from_variants (s ∷ b.parts.variants) b.parts.extensions b.parts.private_use)
-put AfterSingleton s b = whole (from_extensions (record { singleton = first_byte s; subtags = b.behind } ∷ b.parts.extensions) b.parts.private_use)
-put InExtension s b = pending (s ∷ b.behind) b.parts.extensions b.parts.private_use
-put AfterMark s b = whole (from_private (Some (record { mark = first_byte s; subtags = b.behind })))
-put InPrivate s b = pending (s ∷ b.behind) [] None
+put AfterSingleton s b = whole (from_extensions (record { singleton = first_byte s; subtags = b.after } ∷ b.parts.extensions) b.parts.private_use)
+put InExtension s b = pending (s ∷ b.after) b.parts.extensions b.parts.private_use
+put AfterMark s b = whole (from_private (Some (record { mark = first_byte s; subtags = b.after })))
+put InPrivate s b = pending (s ∷ b.after) [] None
 
 abbrev pub nothing : Read
 nothing = whole (from_private None)
@@ -103,10 +103,10 @@ flat_from (Extended taken) b = flat_extended b.parts
 flat_from AfterScript b = flat_region b.parts
 flat_from AfterRegion b = flat_variants b.parts
 flat_from AfterVariant b = flat_variants b.parts
-flat_from AfterSingleton b = b.behind ++ flat_extensions b.parts
-flat_from InExtension b = b.behind ++ flat_extensions b.parts
-flat_from AfterMark b = b.behind
-flat_from InPrivate b = b.behind
+flat_from AfterSingleton b = b.after ++ flat_extensions b.parts
+flat_from InExtension b = b.after ++ flat_extensions b.parts
+flat_from AfterMark b = b.after
+flat_from InPrivate b = b.after
 
 -- what holds of the parts from a part on (products and no records: they are to compute at `put`)
 abbrev FitExtensions : Record → Type 0
@@ -131,10 +131,10 @@ Fits (Extended taken) b = FitExtended taken b.parts
 Fits AfterScript b = FitRegion b.parts
 Fits AfterRegion b = FitVariants b.parts
 Fits AfterVariant b = FitVariants b.parts
-Fits AfterSingleton b = (1 ≤ length b.behind) × AllByRecursion (λ s. IsTrue (is_extension_subtag s)) b.behind × FitExtensions b.parts
-Fits InExtension b = AllByRecursion (λ s. IsTrue (is_extension_subtag s)) b.behind × FitExtensions b.parts
-Fits AfterMark b = (1 ≤ length b.behind) × AllByRecursion (λ s. IsTrue (is_private_subtag s)) b.behind
-Fits InPrivate b = AllByRecursion (λ s. IsTrue (is_private_subtag s)) b.behind
+Fits AfterSingleton b = (1 ≤ length b.after) × AllByRecursion (λ s. IsTrue (is_extension_subtag s)) b.after × FitExtensions b.parts
+Fits InExtension b = AllByRecursion (λ s. IsTrue (is_extension_subtag s)) b.after × FitExtensions b.parts
+Fits AfterMark b = (1 ≤ length b.after) × AllByRecursion (λ s. IsTrue (is_private_subtag s)) b.after
+Fits InPrivate b = AllByRecursion (λ s. IsTrue (is_private_subtag s)) b.after
 
 -- What one subtag more makes of what was read, where the parts before its own are absent: it stands in
 -- front of the rest, from its own part on and from each part before.
@@ -155,7 +155,7 @@ record AtVariant (s : List ℕ) (ss : List (List ℕ)) (r : Read) : Type 0 where
 record AtExtension (s : List ℕ) (ss : List (List ℕ)) (r : Read) : Type 0 where
   base : AtVariant s ss r
   flat_x : flat_extensions r.parts ≡ s ∷ ss
-  none_behind : r.behind ≡ []
+  none_after : r.after ≡ []
 
 pub same_stage : (a b : Stage) → ◌≡◌ {A = Option Stage} (Some a) (Some b) → a ≡ b
 same_stage a b e = cc
@@ -179,7 +179,7 @@ step_mark c b h fits = record {
     flat_v = refl;
   };
   flat_x = refl;
-  none_behind = refl;
+  none_after = refl;
 }
 
 step_singleton : (c : ℕ) (b : Read) → is_singleton c ≡ true → Step AtExtension (c ∷ []) b AfterSingleton
@@ -199,7 +199,7 @@ step_singleton c b h fits =
         flat_v = same;
       };
       flat_x = same;
-      none_behind = refl;
+      none_after = refl;
     }
 
 step_opened : (s : List ℕ) (after : Stage) (b : Read) → opened s ≡ Some after → Step AtExtension s b after
@@ -303,8 +303,8 @@ step_primary s b h fits =
 
 in_extension : (s : List ℕ) (ss : List (List ℕ)) (r : Read) → AtExtension s ss r → Sound InExtension s ss r
 in_extension s ss r a = record {
-  fits = (subst (λ (xs : List (List ℕ)). AllByRecursion (λ u. IsTrue (is_extension_subtag u)) xs) (sym a.none_behind) tt, a.base.base.base.fits.1.1.1);
-  spells = rw a.none_behind a.flat_x;
+  fits = (subst (λ (xs : List (List ℕ)). AllByRecursion (λ u. IsTrue (is_extension_subtag u)) xs) (sym a.none_after) tt, a.base.base.base.fits.1.1.1);
+  spells = rw a.none_after a.flat_x;
 }
 
 step : (stage : Stage) (s : List ℕ) (after : Stage) (b : Read) → next_stage stage s ≡ Some after → Steps stage s b after

@@ -7,16 +7,16 @@ use Rattle.langtag_scan.specs.declared.stage.Stage.{Stage}
 use Rattle.langtag_scan.specs.declared.stage.Stage.TheVariants.{Start, Language, Extended, AfterScript, AfterRegion, AfterVariant, AfterSingleton, InExtension, AfterMark, InPrivate}
 use Rattle.langtag_scan.specs.Class.{is_extended, is_script, is_region, is_variant, is_extension_subtag, is_private_subtag, is_mark, is_singleton}
 use Rattle.langtag_scan.specs.Ends.{ends_of}
-use Rattle.langtag_scan.specs.Machine.{all_at, end_at, place_behind, ends_behind}
+use Rattle.langtag_scan.specs.Machine.{all_at, end_at, index_after, ends_after}
 use Rattle.langtag_scan.specs.declared.ends.Ends.{Ends}
 use Rattle.langtag_scan.specs.Record.{Record, IsWellFormed, extension_flat, one_flat, private_part_flat, flat}
 use Rattle.langtag_scan.specs.Stage.{opened, after_region, after_script, after_language, next_stage, may_end}
 use Rattle.langtag_scan.specs.Subtags.{join}
-use Rattle.langtag_scan.proofs.Running.{ends_behind-nil, ends_behind-cons}
+use Rattle.langtag_scan.proofs.Running.{ends_after-nil, ends_after-cons}
 use Rattle.langtag_scan.proofs.Complete.{decode_complete}
 use Rattle.langtag_scan.proofs.Decoding.{whole, Read, put, nothing, decode, bind_some, map_some, chosen, same_stage}
 
--- the length of these subtags, each behind a hyphen
+-- the length of these subtags, each after a hyphen
 abbrev weight : List (List ℕ) → ℕ
 weight [] = 0
 weight (s ∷ ss) = 1 + length s + weight ss
@@ -51,10 +51,10 @@ abbrev left_from : Stage → Read → Ends
 left_from AfterScript b = record { language = 0; script = 0; region = weight (one_flat b.parts.region); variants = weight (one_flat b.parts.region ++ b.parts.variants); extensions = weight (one_flat b.parts.region ++ (b.parts.variants ++ extension_subtags b)); whole = weight (one_flat b.parts.region ++ (b.parts.variants ++ (extension_subtags b ++ private_subtags b))) }
 left_from AfterRegion b = record { language = 0; script = 0; region = 0; variants = weight b.parts.variants; extensions = weight (b.parts.variants ++ extension_subtags b); whole = weight (b.parts.variants ++ (extension_subtags b ++ private_subtags b)) }
 left_from AfterVariant b = record { language = 0; script = 0; region = 0; variants = weight b.parts.variants; extensions = weight (b.parts.variants ++ extension_subtags b); whole = weight (b.parts.variants ++ (extension_subtags b ++ private_subtags b)) }
-left_from AfterSingleton b = record { language = 0; script = 0; region = 0; variants = 0; extensions = weight (b.behind ++ extension_subtags b); whole = weight (b.behind ++ (extension_subtags b ++ private_subtags b)) }
-left_from InExtension b = record { language = 0; script = 0; region = 0; variants = 0; extensions = weight (b.behind ++ extension_subtags b); whole = weight (b.behind ++ (extension_subtags b ++ private_subtags b)) }
-left_from AfterMark b = record { language = 0; script = 0; region = 0; variants = 0; extensions = 0; whole = weight b.behind }
-left_from InPrivate b = record { language = 0; script = 0; region = 0; variants = 0; extensions = 0; whole = weight b.behind }
+left_from AfterSingleton b = record { language = 0; script = 0; region = 0; variants = 0; extensions = weight (b.after ++ extension_subtags b); whole = weight (b.after ++ (extension_subtags b ++ private_subtags b)) }
+left_from InExtension b = record { language = 0; script = 0; region = 0; variants = 0; extensions = weight (b.after ++ extension_subtags b); whole = weight (b.after ++ (extension_subtags b ++ private_subtags b)) }
+left_from AfterMark b = record { language = 0; script = 0; region = 0; variants = 0; extensions = 0; whole = weight b.after }
+left_from InPrivate b = record { language = 0; script = 0; region = 0; variants = 0; extensions = 0; whole = weight b.after }
 left_from _ b = record { language = weight b.parts.extended; script = weight (b.parts.extended ++ one_flat b.parts.script); region = weight (b.parts.extended ++ (one_flat b.parts.script ++ one_flat b.parts.region)); variants = weight (b.parts.extended ++ (one_flat b.parts.script ++ (one_flat b.parts.region ++ b.parts.variants))); extensions = weight (b.parts.extended ++ (one_flat b.parts.script ++ (one_flat b.parts.region ++ (b.parts.variants ++ extension_subtags b)))); whole = weight (b.parts.extended ++ (one_flat b.parts.script ++ (one_flat b.parts.region ++ (b.parts.variants ++ (extension_subtags b ++ private_subtags b))))) }
 
 -- the later parts end where the text so far does
@@ -70,7 +70,7 @@ TogetherFromRegion e = (e.region ≡ e.whole) × TogetherFromVariants e
 abbrev TogetherFromLanguage : Ends → Type 0
 TogetherFromLanguage e = (e.language ≡ e.whole) × (e.script ≡ e.whole) × TogetherFromRegion e
 
--- behind a stage its part and all later ones end where the text so far does
+-- after a stage its part and all later ones end where the text so far does
 abbrev EndTogether : Stage → Ends → Type 0
 EndTogether Start e = ⊥
 EndTogether (Language taken) e = TogetherFromLanguage e
@@ -83,7 +83,7 @@ EndTogether InExtension e = TogetherFromExtensions e
 EndTogether AfterMark e = Unit {0}
 EndTogether InPrivate e = Unit {0}
 
--- one step: the ends behind it, and what is still to come then
+-- one step: the ends after it, and what is still to come then
 abbrev Stepped : Stage → List ℕ → Read → Ends → Stage → Type 0
 Stepped stage s b e after = SameEnds (sum_of e (left_from stage (put after s b))) (sum_of (end_at after (e.whole + 1 + length s) e) (left_from after b)) × EndTogether after (end_at after (e.whole + 1 + length s) e)
 
@@ -93,7 +93,7 @@ to_mark c b e = (record { language = omega arith; script = omega arith; region =
 
 to_singleton : (c : ℕ) (b : Read) (e : Ends) → TogetherFromExtensions e → Stepped (Language 0) (c ∷ []) b e AfterSingleton
 to_singleton c b e f =
-    let assoc = ap weight (append_assoc b.behind (extension_subtags b) (private_subtags b)) in
+    let assoc = ap weight (append_assoc b.after (extension_subtags b) (private_subtags b)) in
     (record { language = omega arith; script = omega arith; region = omega arith; variants = omega arith; extensions = omega arith; whole = omega (arith, assoc) }, refl)
 
 to_variant : (s : List ℕ) (b : Read) (e : Ends) → TogetherFromVariants e → Stepped (Language 0) s b e AfterVariant
@@ -127,7 +127,7 @@ opened_ends (c ∷ []) b e after h f =
       ]
     ]
 
--- the same behind the region, and behind the script
+-- the same after the region, and after the script
 record AfterRegionEnds (s : List ℕ) (b : Read) (e : Ends) (after : Stage) : Type 0 where
   at_language : Stepped (Language 0) s b e after
   at_script : Stepped AfterScript s b e after
@@ -220,27 +220,27 @@ SameEnds-sym : (a b : Ends) → SameEnds a b → SameEnds b a
 SameEnds-sym a b p = record { language = sym p.language; script = sym p.script; region = sym p.region; variants = sym p.variants; extensions = sym p.extensions; whole = sym p.whole }
 
 abbrev IsLawAt : Stage → Ends → List (List ℕ) → Read → Type 0
-IsLawAt stage e ss b = SameEnds (ends_behind stage e ss) (sum_of e (left_from stage b))
+IsLawAt stage e ss b = SameEnds (ends_after stage e ss) (sum_of e (left_from stage b))
 
--- behind the first subtag each further one begins one place behind the whole so far
-place_later : (stage : Stage) (e : Ends) (s : List ℕ) → EndTogether stage e → place_behind stage e s ≡ e.whole + 1 + length s
-place_later Start e s f = absurd f
-place_later (Language taken) e s f = refl
-place_later (Extended taken) e s f = refl
-place_later AfterScript e s f = refl
-place_later AfterRegion e s f = refl
-place_later AfterVariant e s f = refl
-place_later AfterSingleton e s f = refl
-place_later InExtension e s f = refl
-place_later AfterMark e s f = refl
-place_later InPrivate e s f = refl
+-- after the first subtag each further one begins one byte after the whole so far
+index_later : (stage : Stage) (e : Ends) (s : List ℕ) → EndTogether stage e → index_after stage e s ≡ e.whole + 1 + length s
+index_later Start e s f = absurd f
+index_later (Language taken) e s f = refl
+index_later (Extended taken) e s f = refl
+index_later AfterScript e s f = refl
+index_later AfterRegion e s f = refl
+index_later AfterVariant e s f = refl
+index_later AfterSingleton e s f = refl
+index_later InExtension e s f = refl
+index_later AfterMark e s f = refl
+index_later InPrivate e s f = refl
 
--- behind all subtags of a stage the ends are those so far and what was left
+-- after all subtags of a stage the ends are those so far and what was left
 ends_law : (ss : List (List ℕ)) (stage : Stage) (e : Ends) (b : Read) → EndTogether stage e → decode stage ss ≡ Some b → IsLawAt stage e ss b
 unfolding decode
 ends_law [] stage e b f h =
     elim (chosen (may_end stage) (Some nothing) None (Some b) h) [
-      | inl k ↦ let same : nothing ≡ b = cc in subst (IsLawAt stage e []) same (subst (λ o. SameEnds o (sum_of e (left_from stage nothing))) (sym (ends_behind-nil stage e)) (nothing_left stage e f))
+      | inl k ↦ let same : nothing ≡ b = cc in subst (IsLawAt stage e []) same (subst (λ o. SameEnds o (sum_of e (left_from stage nothing))) (sym (ends_after-nil stage e)) (nothing_left stage e f))
       | inr k ↦ absurd cc
     ]
 ends_law (s ∷ ss) stage e b f h =
@@ -249,12 +249,12 @@ ends_law (s ∷ ss) stage e b f h =
     let st = step_ends stage s y.0 e x.0 x.1 f in
     let next : Ends = end_at x.0 (e.whole + 1 + length s) e in
     let ih = ends_law ss x.0 next y.0 st.1 y.1 in
-    let run : ends_behind x.0 next ss ≡ ends_behind stage e (s ∷ ss) = sym (ends_behind-cons stage e s ss ∙ ap (λ o. option_map_or (λ after. ends_behind after (end_at after (place_behind stage e s) e) ss) o e) x.1 ∙ ap (λ k. ends_behind x.0 (end_at x.0 k e) ss) (place_later stage e s f)) in
-    let so_far = SameEnds-trans (ends_behind x.0 next ss) (sum_of next (left_from x.0 y.0)) (sum_of e (left_from stage (put x.0 s y.0))) ih (SameEnds-sym _ _ st.0) in
+    let run : ends_after x.0 next ss ≡ ends_after stage e (s ∷ ss) = sym (ends_after-cons stage e s ss ∙ ap (λ o. option_map_or (λ after. ends_after after (end_at after (index_after stage e s) e) ss) o e) x.1 ∙ ap (λ k. ends_after x.0 (end_at x.0 k e) ss) (index_later stage e s f)) in
+    let so_far = SameEnds-trans (ends_after x.0 next ss) (sum_of next (left_from x.0 y.0)) (sum_of e (left_from stage (put x.0 s y.0))) ih (SameEnds-sym _ _ st.0) in
     subst (λ (c : Read). IsLawAt stage e (s ∷ ss) c) y.2 (subst (λ (o : Ends). SameEnds o (sum_of e (left_from stage (put x.0 s y.0)))) run so_far)
 
 -- those of a record are the primary subtag's length and what its other subtags weigh
-ends_of-weights : (r : Record) → SameEnds (sum_of (all_at (length r.primary)) (left_from (Language 0) (record { behind = []; parts = r }))) (ends_of r)
+ends_of-weights : (r : Record) → SameEnds (sum_of (all_at (length r.primary)) (left_from (Language 0) (record { after = []; parts = r }))) (ends_of r)
 ends_of-weights r = record {
   language = sym (length-join r.primary r.extended);
   script = sym (length-join r.primary (r.extended ++ one_flat r.script));
@@ -274,10 +274,10 @@ same_ends a b s =
     ∙ ap (λ x. let e : Ends = record { language = b.language; script = b.script; region = b.region; variants = b.variants; extensions = x; whole = a.whole } in e) s.extensions
     ∙ ap (λ x. let e : Ends = record { language = b.language; script = b.script; region = b.region; variants = b.variants; extensions = b.extensions; whole = x } in e) s.whole
 
--- behind all subtags of a well-formed record the ends are those of its parts
-pub ends_behind-flat : (r : Record) → IsWellFormed r → ends_behind Start (all_at 0) (flat r) ≡ ends_of r
+-- after all subtags of a well-formed record the ends are those of its parts
+pub ends_after-flat : (r : Record) → IsWellFormed r → ends_after Start (all_at 0) (flat r) ≡ ends_of r
 unfolding decode
-ends_behind-flat r fits =
+ends_after-flat r fits =
     let stage : Stage = Language (cond (leb (length r.primary) 3) 0 3) in
     let rest : List (List ℕ) = r.extended ++ (one_flat r.script ++ (one_flat r.region ++ (r.variants ++ (flat_map extension_flat r.extensions ++ private_part_flat r.private_use)))) in
     let n : ℕ = length r.primary in
@@ -285,7 +285,7 @@ ends_behind-flat r fits =
     let first : option_map (put stage r.primary) (decode stage rest) ≡ Some (whole r) =
     sym (ap (option_and_then (λ after. option_map (put after r.primary) (decode after rest))) next) ∙ decode_complete r fits in
     let y = map_some (put stage r.primary) (decode stage rest) (whole r) first in
-    let law : SameEnds (ends_behind stage (all_at n) rest) (sum_of (all_at n) (left_from (Language 0) (put stage r.primary y.0))) = ends_law rest stage (all_at n) y.0 (refl, refl, (refl, (refl, refl))) y.1 in
-    let weighs : SameEnds (ends_behind stage (all_at n) rest) (sum_of (all_at n) (left_from (Language 0) (whole r))) = subst (λ (b : Read). SameEnds (ends_behind stage (all_at n) rest) (sum_of (all_at n) (left_from (Language 0) b))) y.2 law in
-    ends_behind-cons Start (all_at 0) r.primary rest ∙ ap (λ o. option_map_or (λ after. ends_behind after (end_at after n (all_at 0)) rest) o (all_at 0)) next
+    let law : SameEnds (ends_after stage (all_at n) rest) (sum_of (all_at n) (left_from (Language 0) (put stage r.primary y.0))) = ends_law rest stage (all_at n) y.0 (refl, refl, (refl, (refl, refl))) y.1 in
+    let weighs : SameEnds (ends_after stage (all_at n) rest) (sum_of (all_at n) (left_from (Language 0) (whole r))) = subst (λ (b : Read). SameEnds (ends_after stage (all_at n) rest) (sum_of (all_at n) (left_from (Language 0) b))) y.2 law in
+    ends_after-cons Start (all_at 0) r.primary rest ∙ ap (λ o. option_map_or (λ after. ends_after after (end_at after n (all_at 0)) rest) o (all_at 0)) next
     ∙ same_ends _ _ (SameEnds-trans _ _ _ weighs (ends_of-weights r))

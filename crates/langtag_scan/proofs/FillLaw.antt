@@ -1,11 +1,11 @@
--- A front is viable exactly where it fills to a tag or begins an irregular text.
+-- A prefix is viable exactly where it fills to a tag or begins an irregular text.
 use Rattle.std.proofs.Common.{◌≡◌, ◌↔◌, ℕ, Bool, true, false, eqb, eqb-true, List, [], ◌∷◌, ◌++◌, length, take, drop, Option, Some, None, inl, inr, ◌⊎◌, refl, sym, ap, subst, ◌∙◌, append_assoc, append-nil}
 use Rattle.std.proofs.lemmas.Bool.{cases_lt}
 use Rattle.std.proofs.lemmas.List.{map-append, take-append-drop, length-map, take-map}
 use Rattle.std.proofs.Math.Seq.{take-append_seam}
 use Rattle.langtag_scan.specs.Case.{fold_byte, fold_text}
 use Rattle.langtag_scan.specs.Tag.{IsIrregular, IsIrregularAt, IsTag}
-use Rattle.langtag_scan.specs.Viable.{IsViable, IsIrregularFront, filling, fill}
+use Rattle.langtag_scan.specs.Viable.{IsViable, IsIrregularPrefix, filling, fill}
 use Rattle.langtag_scan.specs.Stage.{next_by}
 use Rattle.langtag_scan.specs.Shape.{shape_of, classes_of_shape}
 use Rattle.langtag_scan.specs.Machine.{begun, may_hold, all_at, end_at, Reads, HasStopped}
@@ -15,10 +15,10 @@ use Rattle.langtag_scan.specs.declared.stage.Stage.{Stage}
 use Rattle.langtag_scan.specs.declared.stage.Stage.TheVariants.{Start, AfterMark}
 use Rattle.langtag_scan.specs.declared.machine.Reading.{Reading}
 use Rattle.langtag_scan.specs.declared.machine.Reading.TheVariants.{Normal, Private}
-use Rattle.langtag_scan.proofs.ReadingLaws.{starting, reads_nothing, stopped_more, reads_grown, reads_stuck, reads_behind, reads_marked, reads_refused}
+use Rattle.langtag_scan.proofs.ReadingLaws.{starting, reads_nothing, stopped_more, reads_grown, reads_stuck, reads_after, reads_marked, reads_refused}
 use Rattle.langtag_scan.proofs.TagLaws.{tag_irregular, viable_from_tag, viable_reads}
 
--- ---- what is known of any front
+-- ---- what is known of any prefix
 
 record Going (p : List ℕ) : Type 0 where
   reading : Reading
@@ -40,7 +40,7 @@ at_hyphen r p stage shape e h = by_next (next_by stage (classes_of_shape shape))
     by_mark next (inr later) v mark = inl (reads_refused r p stage shape e next (λ x. absurd (later x)) h)
 
     by_next : (o : Option Stage) → o ≡ next_by stage (classes_of_shape shape) → IsRead (p ++ 45 ∷ [])
-    by_next (Some after) next = inr (record { reading = r; stage = after; shape = shape_of []; ends = end_at after (length p) e; reads = reads_behind r p stage after shape e next h })
+    by_next (Some after) next = inr (record { reading = r; stage = after; shape = shape_of []; ends = end_at after (length p) e; reads = reads_after r p stage after shape e next h })
     by_next None next = by_mark next (starting stage) (classes_of_shape shape).mark refl
 
 at_other : (r : Reading) (p : List ℕ) (b : ℕ) (stage : Stage) (shape : Shape) (e : Ends) → eqb b 45 ≡ false → Reads r p stage shape e → IsRead (p ++ b ∷ [])
@@ -66,23 +66,23 @@ read_all : (p u : List ℕ) → IsRead p → IsRead (p ++ u)
 read_all p [] k = subst (λ x. IsRead x) (sym (append-nil p)) k
 read_all p (b ∷ u) k = subst (λ x. IsRead x) (append_assoc p (b ∷ []) u) (read_all (p ++ b ∷ []) u (read_byte p b k))
 
-read_front : (p : List ℕ) → IsRead p
-read_front p = read_all [] p (inr (record { reading = Normal; stage = Start; shape = shape_of []; ends = all_at 0; reads = reads_nothing }))
+read_prefix : (p : List ℕ) → IsRead p
+read_prefix p = read_all [] p (inr (record { reading = Normal; stage = Start; shape = shape_of []; ends = all_at 0; reads = reads_nothing }))
 
--- ---- fronts of irregular texts
+-- ---- prefixes of irregular texts
 
--- a text that is alike an irregular one begins with fronts of it
-front_from_irregular : (p u : List ℕ) (k : ℕ) → IsIrregularAt k (p ++ u) → IsIrregularFront p
-unfolding IsIrregularAt IsIrregularFront
-front_from_irregular p u k (name, at, same) =
+-- a text that is alike an irregular one begins with prefixes of it
+prefix_from_irregular : (p u : List ℕ) (k : ℕ) → IsIrregularAt k (p ++ u) → IsIrregularPrefix p
+unfolding IsIrregularAt IsIrregularPrefix
+prefix_from_irregular p u k (name, at, same) =
     let whole : fold_text name ≡ fold_text p ++ fold_text u = same ∙ map-append fold_byte p u in
-    let front : take (length p) (fold_text name) ≡ fold_text p =
+    let prefix : take (length p) (fold_text name) ≡ fold_text p =
     ap (take (length p)) whole ∙ ap (λ n. take n (fold_text p ++ fold_text u)) (sym (length-map p fold_byte)) ∙ take-append_seam (fold_text p) (fold_text u) in
-    (k, name, at, sym front ∙ take-map fold_byte (length p) name)
+    (k, name, at, sym prefix ∙ take-map fold_byte (length p) name)
 
-irregular_from_front : (p : List ℕ) → IsIrregularFront p → IsViable p
-unfolding IsIrregularAt IsIrregularFront
-irregular_from_front p (k, name, at, same) =
+irregular_from_prefix : (p : List ℕ) → IsIrregularPrefix p → IsViable p
+unfolding IsIrregularAt IsIrregularPrefix
+irregular_from_prefix p (k, name, at, same) =
     let rest = drop (length p) name in
     let whole : fold_text (p ++ rest) ≡ fold_text name =
     map-append fold_byte p rest ∙ ap (λ t. t ++ fold_text rest) same ∙ sym (map-append fold_byte (take (length p) name) rest) ∙ ap fold_text (take-append-drop (length p) name) in
@@ -90,22 +90,22 @@ irregular_from_front p (k, name, at, same) =
 
 -- ---- the law
 
-stopped_front : (p : List ℕ) → HasStopped p → IsViable p → IsIrregularFront p
+stopped_prefix : (p : List ℕ) → HasStopped p → IsViable p → IsIrregularPrefix p
 unfolding IsViable IsTag IsIrregular
-stopped_front p h (u, inl n) = absurd (h.not_normal u n)
-stopped_front p h (u, inr (inl n)) = absurd (h.not_private u n)
-stopped_front p h (u, inr (inr (k, n))) = front_from_irregular p u k n
+stopped_prefix p h (u, inl n) = absurd (h.not_normal u n)
+stopped_prefix p h (u, inr (inl n)) = absurd (h.not_private u n)
+stopped_prefix p h (u, inr (inr (k, n))) = prefix_from_irregular p u k n
 
-fill_from_viable : (p : List ℕ) → IsViable p → IsTag (fill p) ⊎ IsIrregularFront p
+fill_from_viable : (p : List ℕ) → IsViable p → IsTag (fill p) ⊎ IsIrregularPrefix p
 fill_from_viable p v =
-    elim (read_front p) [
-      | inl stopped ↦ inr (stopped_front p stopped v)
+    elim (read_prefix p) [
+      | inl stopped ↦ inr (stopped_prefix p stopped v)
       | inr k ↦ inl (viable_reads k.reading p k.stage k.shape k.ends k.reads)
     ]
 
-viable_from_fill : (p : List ℕ) → IsTag (fill p) ⊎ IsIrregularFront p → IsViable p
+viable_from_fill : (p : List ℕ) → IsTag (fill p) ⊎ IsIrregularPrefix p → IsViable p
 viable_from_fill p (inl tag) = viable_from_tag p (filling (begun p)) tag
-viable_from_fill p (inr front) = irregular_from_front p front
+viable_from_fill p (inr prefix) = irregular_from_prefix p prefix
 
-pub viable_fill : (p : List ℕ) → IsViable p ↔ (IsTag (fill p) ⊎ IsIrregularFront p)
+pub viable_fill : (p : List ℕ) → IsViable p ↔ (IsTag (fill p) ⊎ IsIrregularPrefix p)
 viable_fill p = (fill_from_viable p, viable_from_fill p)

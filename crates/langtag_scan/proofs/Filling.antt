@@ -1,4 +1,4 @@
--- A subtag that has begun, filled to five letters, may stand wherever it has begun, and a tag may end behind it.
+-- A subtag that has begun, filled to five letters, may stand wherever it has begun, and a tag may end after it.
 use Rattle.std.proofs.Common.{◌≡◌, ℕ, zero, suc, ◌-◌, ◌≤◌, true, false, cond, leb, List, [], ◌++◌, length, Some, refl, ap, ◌∙◌, arith}
 use Rattle.std.specs.Prelude.{replicate}
 use Rattle.std.specs.Int.{is_in_range}
@@ -50,7 +50,7 @@ full_after_script f h = rw (variant_no_region f (full_variant f h)) (full_after_
 full_after_language : (taken : ℕ) (f : List ℕ) → IsFull f → after_language taken f ≡ Some AfterVariant
 full_after_language taken f h = rw (variant_no_extended f (full_variant f h), variant_no_script f (full_variant f h)) (full_after_script f h)
 
--- it may stand there, and a tag may end behind it
+-- it may stand there, and a tag may end after it
 Finishes : Stage → List ℕ → Type 0
 Finishes stage f = (after : Stage) × (next_stage stage f ≡ Some after) × (may_end after ≡ true)
 

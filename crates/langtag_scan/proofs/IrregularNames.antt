@@ -1,4 +1,4 @@
--- Which texts may still become an irregular one, and why the places of these make a range of the table.
+-- Which texts may still become an irregular one, and why the indices of these make a range of the table.
 use Rattle.std.proofs.Common.{◌≡◌, ℕ, zero, suc, ◌-◌, ◌<◌, ◌≤◌, ◌⊎◌, inl, inr, Bool, true, false, eqb, ltb, leb, ◌&&◌, ◌||◌, List, [], ◌∷◌, ◌++◌, map, length, get_or, drop, Some, refl, sym, ap, ◌∙◌, arith, ne_eqb}
 use Rattle.std.specs.Prelude.{slice_get}
 use Rattle.std.specs.List.{list_all}
@@ -10,7 +10,7 @@ use Rattle.std.proofs.lemmas.List.Folds.{list_all_at}
 use Rattle.std.proofs.lemmas.Option.{slice_get-get_or, slice_get_cases}
 use Rattle.langtag_scan.specs.Case.{fold_byte, fold_text}
 use Rattle.langtag_scan.specs.Grandfathered.{grandfathered_tags, irregular_texts}
-use Rattle.langtag_scan.specs.Irregular.{folded_texts, folded_at, is_front, has_at, is_possible, matters, is_followed}
+use Rattle.langtag_scan.specs.Irregular.{folded_texts, folded_at, is_prefix, has_at, is_possible, matters, is_followed}
 use Rattle.langtag_scan.specs.Tag.{IsIrregular, IsIrregularAt}
 
 -- ---- the two tables
@@ -25,13 +25,13 @@ seventeen : length irregular_texts ≡ 17
 unfolding irregular_texts grandfathered_tags
 seventeen = refl
 
--- the irregular text at a place of the table, and its fold
+-- the irregular text at an index of the table, and its fold
 pub irregular_there : (k : ℕ) → k < 17 → (name : List ℕ) × (slice_get irregular_texts k ≡ Some name) × (fold_text name ≡ folded_at k)
 irregular_there k lt =
     let within : k < length irregular_texts = omega (arith, seventeen) in
     (get_or irregular_texts k [], slice_get-get_or irregular_texts k [] within, sym (get_or-map fold_text irregular_texts k [] [] within) ∙ ap (λ (names : List (List ℕ)). get_or names k []) folded_texts-fold)
 
--- an irregular text stands at one of seventeen places
+-- an irregular text stands at one of seventeen indices
 pub irregular_here : (k : ℕ) (name : List ℕ) → slice_get irregular_texts k ≡ Some name → (k < 17) × (fold_text name ≡ folded_at k)
 irregular_here k name e =
     elim (slice_get_cases irregular_texts k).1 [
@@ -43,61 +43,61 @@ irregular_here k name e =
       | inr past ↦ absurd (cc (past.1, e))
     ]
 
--- ---- fronts
+-- ---- prefixes
 
--- a text begins with each of its fronts
-is_front-append : (p u : List ℕ) → is_front p (p ++ u) ≡ true
-is_front-append [] u = refl
-is_front-append (b ∷ p) u = and_from (eqb b b) (is_front p (p ++ u)) (eq-eqb b b refl) (is_front-append p u)
+-- a text begins with each of its prefixes
+is_prefix-append : (p u : List ℕ) → is_prefix p (p ++ u) ≡ true
+is_prefix-append [] u = refl
+is_prefix-append (b ∷ p) u = and_from (eqb b b) (is_prefix p (p ++ u)) (eq-eqb b b refl) (is_prefix-append p u)
 
 -- a text begins with itself
-is_front-self : (p : List ℕ) → is_front p p ≡ true
-is_front-self [] = refl
-is_front-self (b ∷ p) = and_from (eqb b b) (is_front p p) (eq-eqb b b refl) (is_front-self p)
+is_prefix-self : (p : List ℕ) → is_prefix p p ≡ true
+is_prefix-self [] = refl
+is_prefix-self (b ∷ p) = and_from (eqb b b) (is_prefix p p) (eq-eqb b b refl) (is_prefix-self p)
 
--- a text is a front and what stands behind it
-front_rest : (p text : List ℕ) → is_front p text ≡ true → p ++ drop (length p) text ≡ text
-front_rest [] text h = refl
-front_rest (b ∷ p) [] h = absurd cc
-front_rest (b ∷ p) (c ∷ text) h =
-    let k = and_parts (eqb b c) (is_front p text) h in
+-- a text is a prefix and what stands after it
+prefix_rest : (p text : List ℕ) → is_prefix p text ≡ true → p ++ drop (length p) text ≡ text
+prefix_rest [] text h = refl
+prefix_rest (b ∷ p) [] h = absurd cc
+prefix_rest (b ∷ p) (c ∷ text) h =
+    let k = and_parts (eqb b c) (is_prefix p text) h in
     let same : b ≡ c = eqb-true _ _ k.0 in
-    rw (same, front_rest p text k.1) refl
+    rw (same, prefix_rest p text k.1) refl
 
--- a front of the same length is the whole text
-front_whole : (p text : List ℕ) → is_front p text ≡ true → length p ≡ length text → p ≡ text
-front_whole [] [] h e = refl
-front_whole [] (c ∷ text) h e = absurd (omega arith)
-front_whole (b ∷ p) [] h e = absurd cc
-front_whole (b ∷ p) (c ∷ text) h e =
-    let k = and_parts (eqb b c) (is_front p text) h in
+-- a prefix of the same length is the whole text
+prefix_whole : (p text : List ℕ) → is_prefix p text ≡ true → length p ≡ length text → p ≡ text
+prefix_whole [] [] h e = refl
+prefix_whole [] (c ∷ text) h e = absurd (omega arith)
+prefix_whole (b ∷ p) [] h e = absurd cc
+prefix_whole (b ∷ p) (c ∷ text) h e =
+    let k = and_parts (eqb b c) (is_prefix p text) h in
     let same : b ≡ c = eqb-true _ _ k.0 in
-    let rest : p ≡ text = front_whole p text k.1 (omega arith) in
+    let rest : p ≡ text = prefix_whole p text k.1 (omega arith) in
     cc
 
 -- one less on both sides
 ltb-suc : (a b : ℕ) → ltb (suc a) (suc b) ≡ ltb a b
 ltb-suc a b = grind (arith, nat_tests)
 
--- a front with one byte more
-is_front-push : (p text : List ℕ) (b : ℕ) → is_front (p ++ b ∷ []) text ≡ (is_front p text && has_at text (length p) b)
-is_front-push [] [] b = refl
-is_front-push [] (c ∷ text) b = first b c (length text)
+-- a prefix with one byte more
+is_prefix-push : (p text : List ℕ) (b : ℕ) → is_prefix (p ++ b ∷ []) text ≡ (is_prefix p text && has_at text (length p) b)
+is_prefix-push [] [] b = refl
+is_prefix-push [] (c ∷ text) b = first b c (length text)
   where
     first : (b c n : ℕ) → (eqb b c && true) ≡ (true && (ltb 0 (suc n) && eqb c b))
     first b c n = grind (arith, nat_tests)
-is_front-push (x ∷ p) [] b = refl
-is_front-push (x ∷ p) (c ∷ text) b =
-    ap (λ (v : Bool). eqb x c && v) (is_front-push p text b)
-    ∙ sym (and_assoc (eqb x c) (is_front p text) (has_at text (length p) b))
-    ∙ ap (λ (v : Bool). (eqb x c && is_front p text) && (v && eqb (get_or text (length p) 0) b)) (sym (ltb-suc (length p) (length text)))
+is_prefix-push (x ∷ p) [] b = refl
+is_prefix-push (x ∷ p) (c ∷ text) b =
+    ap (λ (v : Bool). eqb x c && v) (is_prefix-push p text b)
+    ∙ sym (and_assoc (eqb x c) (is_prefix p text) (has_at text (length p) b))
+    ∙ ap (λ (v : Bool). (eqb x c && is_prefix p text) && (v && eqb (get_or text (length p) 0) b)) (sym (ltb-suc (length p) (length text)))
 
 -- what is possible after one byte more: what was, and has the byte, folded
 pub possible-push : (p : List ℕ) (b k : ℕ) → is_possible (p ++ b ∷ []) k ≡ (is_possible p k && has_at (folded_at k) (length p) (fold_byte b))
 possible-push p b k =
-    ap (λ (q : List ℕ). is_front q (folded_at k)) (map-append fold_byte p (b ∷ []))
-    ∙ is_front-push (fold_text p) (folded_at k) (fold_byte b)
-    ∙ ap (λ (n : ℕ). is_front (fold_text p) (folded_at k) && has_at (folded_at k) n (fold_byte b)) (length-map p fold_byte)
+    ap (λ (q : List ℕ). is_prefix q (folded_at k)) (map-append fold_byte p (b ∷ []))
+    ∙ is_prefix-push (fold_text p) (folded_at k) (fold_byte b)
+    ∙ ap (λ (n : ℕ). is_prefix (fold_text p) (folded_at k) && has_at (folded_at k) n (fold_byte b)) (length-map p fold_byte)
 
 -- ---- alphabetical order
 
@@ -108,7 +108,7 @@ is_before [] (c ∷ y) = true
 is_before (b ∷ x) [] = false
 is_before (b ∷ x) (c ∷ y) = ltb b c || (eqb b c && is_before x y)
 
--- whether each text stands before all behind it
+-- whether each text stands before all after it
 abbrev are_sorted : List (List ℕ) → Bool
 are_sorted [] = true
 are_sorted (x ∷ xs) = list_all (is_before x) xs && are_sorted xs
@@ -121,68 +121,68 @@ first_tells b c x y h =
       | inr rest ↦ let k = and_parts (eqb b c) (is_before x y) rest in inr (eqb-true b c k.0, k.1)
     ]
 
--- what stands between two texts with one front has it too
-between_fronts : (p x y z : List ℕ) → is_before x y ≡ true → is_before y z ≡ true → is_front p x ≡ true → is_front p z ≡ true → is_front p y ≡ true
-between_fronts [] x y z xy yz fx fz = refl
-between_fronts (b ∷ p) [] y z xy yz fx fz = absurd cc
-between_fronts (b ∷ p) (c ∷ x) y [] xy yz fx fz = absurd cc
-between_fronts (b ∷ p) (c ∷ x) [] (e ∷ z) xy yz fx fz = absurd cc
-between_fronts (b ∷ p) (c ∷ x) (d ∷ y) (e ∷ z) xy yz fx fz =
-    let f = and_parts (eqb b c) (is_front p x) fx in
-    let g = and_parts (eqb b e) (is_front p z) fz in
+-- what stands between two texts with one prefix has it too
+between_prefixes : (p x y z : List ℕ) → is_before x y ≡ true → is_before y z ≡ true → is_prefix p x ≡ true → is_prefix p z ≡ true → is_prefix p y ≡ true
+between_prefixes [] x y z xy yz fx fz = refl
+between_prefixes (b ∷ p) [] y z xy yz fx fz = absurd cc
+between_prefixes (b ∷ p) (c ∷ x) y [] xy yz fx fz = absurd cc
+between_prefixes (b ∷ p) (c ∷ x) [] (e ∷ z) xy yz fx fz = absurd cc
+between_prefixes (b ∷ p) (c ∷ x) (d ∷ y) (e ∷ z) xy yz fx fz =
+    let f = and_parts (eqb b c) (is_prefix p x) fx in
+    let g = and_parts (eqb b e) (is_prefix p z) fz in
     let bc : b ≡ c = eqb-true b c f.0 in
     let be : b ≡ e = eqb-true b e g.0 in
     elim (first_tells c d x y xy) [
       | inl less ↦ elim (first_tells d e y z yz) [ inl more ↦ absurd (omega arith) | inr same ↦ absurd (omega (arith, same.0)) ]
       | inr same ↦ elim (first_tells d e y z yz) [
         | inl more ↦ absurd (omega (arith, same.0))
-        | inr also ↦ and_from (eqb b d) (is_front p y) (eq-eqb b d (bc ∙ same.0)) (between_fronts p x y z same.1 also.1 f.1 g.1)
+        | inr also ↦ and_from (eqb b d) (is_prefix p y) (eq-eqb b d (bc ∙ same.0)) (between_prefixes p x y z same.1 also.1 f.1 g.1)
       ]
     ]
 
 -- no text begins one that stands before it
-front_before : (p x : List ℕ) → is_before x p ≡ true → is_front p x ≡ true → ⊥
-front_before [] [] h f = cc
-front_before [] (c ∷ x) h f = cc
-front_before (b ∷ p) [] h f = cc
-front_before (b ∷ p) (c ∷ x) h f =
-    let k = and_parts (eqb b c) (is_front p x) f in
+prefix_before : (p x : List ℕ) → is_before x p ≡ true → is_prefix p x ≡ true → ⊥
+prefix_before [] [] h f = cc
+prefix_before [] (c ∷ x) h f = cc
+prefix_before (b ∷ p) [] h f = cc
+prefix_before (b ∷ p) (c ∷ x) h f =
+    let k = and_parts (eqb b c) (is_prefix p x) f in
     let same : b ≡ c = eqb-true b c k.0 in
-    elim (first_tells c b x p h) [ inl less ↦ omega arith | inr rest ↦ front_before p x rest.1 k.1 ]
+    elim (first_tells c b x p h) [ inl less ↦ omega arith | inr rest ↦ prefix_before p x rest.1 k.1 ]
 
--- in a sorted list the text at a lower place stands before the text at a higher one
-sorted_places : (xs : List (List ℕ)) → are_sorted xs ≡ true → (i j : ℕ) → i < j → j < length xs → is_before (get_or xs i []) (get_or xs j []) ≡ true
-sorted_places [] h i j lt within = absurd (omega arith)
-sorted_places (x ∷ xs) h i zero lt within = absurd (omega arith)
-sorted_places (x ∷ xs) h zero (suc j) lt within =
+-- in a sorted list the text at a lower index stands before the text at a higher one
+sorted_indices : (xs : List (List ℕ)) → are_sorted xs ≡ true → (i j : ℕ) → i < j → j < length xs → is_before (get_or xs i []) (get_or xs j []) ≡ true
+sorted_indices [] h i j lt within = absurd (omega arith)
+sorted_indices (x ∷ xs) h i zero lt within = absurd (omega arith)
+sorted_indices (x ∷ xs) h zero (suc j) lt within =
     let k = and_parts (list_all (is_before x) xs) (are_sorted xs) h in
     true_from_ne_false (is_before x (get_or xs j [])) (λ e. both_ways (list_all (is_before x) xs) (list_all_at (is_before x) xs j [] (omega arith) e) k.0)
-sorted_places (x ∷ xs) h (suc i) (suc j) lt within =
-    sorted_places xs (and_parts (list_all (is_before x) xs) (are_sorted xs) h).1 i j (omega arith) (omega arith)
+sorted_indices (x ∷ xs) h (suc i) (suc j) lt within =
+    sorted_indices xs (and_parts (list_all (is_before x) xs) (are_sorted xs) h).1 i j (omega arith) (omega arith)
 
 -- the table of folded texts is sorted
 folded_before : (i j : ℕ) → i < j → j < 17 → is_before (folded_at i) (folded_at j) ≡ true
 unfolding folded_texts
-folded_before i j lt within = sorted_places folded_texts refl i j lt within
+folded_before i j lt within = sorted_indices folded_texts refl i j lt within
 
--- so the places of the texts with one front are neighbours
+-- so the indices of the texts with one prefix are neighbours
 pub possible_between : (p : List ℕ) (i j k : ℕ) → i ≤ j → j ≤ k → k < 17 → is_possible p i ≡ true → is_possible p k ≡ true → is_possible p j ≡ true
 possible_between p i j k le el lt fi fk =
     elim (cases_order i j) [
       | inl e ↦ ap (is_possible p) (sym e) ∙ fi
       | inr a ↦ elim (cases_order j k) [
         | inl e ↦ ap (is_possible p) e ∙ fk
-        | inr b ↦ between_fronts (fold_text p) (folded_at i) (folded_at j) (folded_at k) (folded_before i j (elim a [ inl h ↦ h | inr h ↦ omega arith ]) (omega arith)) (folded_before j k (elim b [ inl h ↦ h | inr h ↦ omega arith ]) lt) fi fk
+        | inr b ↦ between_prefixes (fold_text p) (folded_at i) (folded_at j) (folded_at k) (folded_before i j (elim a [ inl h ↦ h | inr h ↦ omega arith ]) (omega arith)) (folded_before j k (elim b [ inl h ↦ h | inr h ↦ omega arith ]) lt) fi fk
       ]
     ]
 
 -- ---- the range of possible texts
 
--- a place from `low` to below `high` is in their range
+-- an index from `low` to below `high` is in their range
 pub in_range : (low high k : ℕ) → low ≤ k → k < high → (leb low k && ltb k high) ≡ true
 in_range low high k le lt = and_from (leb low k) (ltb k high) (le-leb low k le) (lt-ltb k high lt)
 
--- a place below it is not
+-- an index below it is not
 below_range : (low high k : ℕ) → k < low → (leb low k && ltb k high) ≡ false
 below_range low high k lt = grind (arith, nat_tests)
 
@@ -192,7 +192,7 @@ above_range low high k le = grind (arith, nat_tests)
 
 -- ---- the first byte
 
--- the first byte of the text at a place
+-- the first byte of the text at an index
 first_byte : (c k : ℕ) → k < 17 → ((k < 1) × (has_at (folded_at k) 0 c ≡ eqb 101 c)) ⊎ ((1 ≤ k) × (k < 14) × (has_at (folded_at k) 0 c ≡ eqb 105 c)) ⊎ ((14 ≤ k) × (has_at (folded_at k) 0 c ≡ eqb 115 c))
 unfolding folded_texts
 first_byte c zero lt = inl (omega arith, refl)
@@ -312,48 +312,48 @@ pub followed_first : (len : ℕ) (p : List ℕ) (b small k : ℕ) → length p �
 followed_first len [] b small k e same = followed-push len [] b k ∙ ap (λ (v : Bool). v && has_at (folded_at k) 0 (fold_byte b)) (and_true (matters len k)) ∙ ap (λ (n : ℕ). matters len k && has_at (folded_at k) 0 n) (sym same)
 followed_first len (a ∷ p) b small k e same = absurd (omega (arith, e))
 
--- how the range `low` to `high` of a front shrinks to `from` and `to` by a folded byte at a place
-pub record Shrinks (len : ℕ) (p : List ℕ) (place byte low high from to : ℕ) : Type 0 where
+-- how the range `low` to `high` of a prefix shrinks to `from` and `to` by a folded byte at an index
+pub record Shrinks (len : ℕ) (p : List ℕ) (index byte low high from to : ℕ) : Type 0 where
   pub within : high ≤ 17
   pub possible : (k : ℕ) → k < 17 → is_followed len p k ≡ (leb low k && ltb k high)
   pub above : low ≤ from
   pub below : to ≤ high
-  pub none_before : (k : ℕ) → low ≤ k → k < from → has_at (folded_at k) place byte ≡ false
-  pub first : from < high → has_at (folded_at from) place byte ≡ true
-  pub none_behind : (k : ℕ) → to ≤ k → k < high → has_at (folded_at k) place byte ≡ false
-  pub last : from < to → has_at (folded_at (to - 1)) place byte ≡ true
+  pub none_before : (k : ℕ) → low ≤ k → k < from → has_at (folded_at k) index byte ≡ false
+  pub first : from < high → has_at (folded_at from) index byte ≡ true
+  pub none_after : (k : ℕ) → to ≤ k → k < high → has_at (folded_at k) index byte ≡ false
+  pub last : from < to → has_at (folded_at (to - 1)) index byte ≡ true
 
--- a place below the new range: not possible, or another byte
-shrunk_below : (len : ℕ) (p : List ℕ) (place byte low high from to : ℕ) → Shrinks len p place byte low high from to → (k : ℕ) → k < 17 → k < from → (is_followed len p k && has_at (folded_at k) place byte) ≡ false
-shrunk_below len p place byte low high from to s k lt h =
+-- an index below the new range: not possible, or another byte
+shrunk_below : (len : ℕ) (p : List ℕ) (index byte low high from to : ℕ) → Shrinks len p index byte low high from to → (k : ℕ) → k < 17 → k < from → (is_followed len p k && has_at (folded_at k) index byte) ≡ false
+shrunk_below len p index byte low high from to s k lt h =
     elim (cases_lt k low) [
       | inl less ↦ and_left (is_followed len p k) _ (s.possible k lt ∙ below_range low high k less)
       | inr le ↦ and_right (is_followed len p k) _ (s.none_before k le h)
     ]
 
--- a place above it, likewise
-shrunk_above : (len : ℕ) (p : List ℕ) (place byte low high from to : ℕ) → Shrinks len p place byte low high from to → (k : ℕ) → k < 17 → to ≤ k → (is_followed len p k && has_at (folded_at k) place byte) ≡ false
-shrunk_above len p place byte low high from to s k lt h =
+-- an index above it, likewise
+shrunk_above : (len : ℕ) (p : List ℕ) (index byte low high from to : ℕ) → Shrinks len p index byte low high from to → (k : ℕ) → k < 17 → to ≤ k → (is_followed len p k && has_at (folded_at k) index byte) ≡ false
+shrunk_above len p index byte low high from to s k lt h =
     elim (cases_lt k high) [
-      | inl less ↦ and_right (is_followed len p k) _ (s.none_behind k h less)
+      | inl less ↦ and_right (is_followed len p k) _ (s.none_after k h less)
       | inr le ↦ and_left (is_followed len p k) _ (s.possible k lt ∙ above_range low high k le)
     ]
 
--- the new range has just the places of the texts that are possible with that byte
-pub shrunk : (len : ℕ) (p : List ℕ) (b place byte low high from to : ℕ) → length p ≡ place → byte ≡ fold_byte b → Shrinks len p place byte low high from to → (k : ℕ) → k < 17 → is_followed len (p ++ b ∷ []) k ≡ (leb from k && ltb k to)
-shrunk len p b place byte low high from to at is s k lt =
+-- the new range has just the indices of the texts that are possible with that byte
+pub shrunk : (len : ℕ) (p : List ℕ) (b index byte low high from to : ℕ) → length p ≡ index → byte ≡ fold_byte b → Shrinks len p index byte low high from to → (k : ℕ) → k < 17 → is_followed len (p ++ b ∷ []) k ≡ (leb from k && ltb k to)
+shrunk len p b index byte low high from to at is s k lt =
     elim (cases_lt k from) [
-      | inl h ↦ pushed k ∙ shrunk_below len p place byte low high from to s k lt h ∙ sym (below_range from to k h)
+      | inl h ↦ pushed k ∙ shrunk_below len p index byte low high from to s k lt h ∙ sym (below_range from to k h)
       | inr le ↦ elim (cases_lt k to) [
         | inl h ↦ followed_between len (p ++ b ∷ []) from k (to - 1) le (omega arith) (omega (arith, s.within, s.below)) (possible from (omega arith) (omega arith) (s.first (omega (arith, s.below)))) (possible (to - 1) (omega arith) (omega arith) (s.last (omega arith))) ∙ sym (in_range from to k le h)
-        | inr h ↦ pushed k ∙ shrunk_above len p place byte low high from to s k lt h ∙ sym (above_range from to k h)
+        | inr h ↦ pushed k ∙ shrunk_above len p index byte low high from to s k lt h ∙ sym (above_range from to k h)
       ]
     ]
   where
-    pushed : (j : ℕ) → is_followed len (p ++ b ∷ []) j ≡ (is_followed len p j && has_at (folded_at j) place byte)
-    pushed j = followed-push len p b j ∙ ap (λ (n : ℕ). is_followed len p j && has_at (folded_at j) n (fold_byte b)) at ∙ ap (λ (n : ℕ). is_followed len p j && has_at (folded_at j) place n) (sym is)
+    pushed : (j : ℕ) → is_followed len (p ++ b ∷ []) j ≡ (is_followed len p j && has_at (folded_at j) index byte)
+    pushed j = followed-push len p b j ∙ ap (λ (n : ℕ). is_followed len p j && has_at (folded_at j) n (fold_byte b)) at ∙ ap (λ (n : ℕ). is_followed len p j && has_at (folded_at j) index n) (sym is)
 
-    possible : (j : ℕ) → from ≤ j → j < to → has_at (folded_at j) place byte ≡ true → is_followed len (p ++ b ∷ []) j ≡ true
+    possible : (j : ℕ) → from ≤ j → j < to → has_at (folded_at j) index byte ≡ true → is_followed len (p ++ b ∷ []) j ≡ true
     possible j ge less has = pushed j ∙ and_from (is_followed len p j) _ (s.possible j (omega (arith, s.within, s.below)) ∙ in_range low high j (omega (arith, s.above)) (omega (arith, s.below))) has
 
 -- nothing is in an empty range
@@ -372,22 +372,22 @@ possible_viable p k lt h =
     let folded : fold_text (p ++ rest) ≡ fold_text p ++ drop (length (fold_text p)) text =
     map-append fold_byte p rest
     ∙ ap (λ (u : List ℕ). fold_text p ++ u) (sym (drop-map fold_byte (length p) there.0) ∙ ap (drop (length p)) there.2 ∙ ap (λ (n : ℕ). drop n text) (sym (length-map p fold_byte))) in
-    (rest, (there.0, there.1, there.2 ∙ sym (folded ∙ front_rest (fold_text p) text h)))
+    (rest, (there.0, there.1, there.2 ∙ sym (folded ∙ prefix_rest (fold_text p) text h)))
 
--- and each front of an irregular text keeps it possible
-pub possible_front : (p u : List ℕ) (k : ℕ) → IsIrregularAt k (p ++ u) → (k < 17) × (is_possible p k ≡ true)
+-- and each prefix of an irregular text keeps it possible
+pub possible_prefix : (p u : List ℕ) (k : ℕ) → IsIrregularAt k (p ++ u) → (k < 17) × (is_possible p k ≡ true)
 unfolding IsIrregularAt
-possible_front p u k h =
+possible_prefix p u k h =
     let here = irregular_here k h.0 h.1 in
     let text : folded_at k ≡ fold_text p ++ fold_text u = sym here.1 ∙ h.2 ∙ map-append fold_byte p u in
-    (here.0, ap (is_front (fold_text p)) text ∙ is_front-append (fold_text p) (fold_text u))
+    (here.0, ap (is_prefix (fold_text p)) text ∙ is_prefix-append (fold_text p) (fold_text u))
 
 -- of the same length it is the text
 pub irregular_from_length : (p : List ℕ) (k : ℕ) → k < 17 → is_possible p k ≡ true → length (folded_at k) ≡ length p → IsIrregularAt k p
 unfolding IsIrregularAt
 irregular_from_length p k lt h e =
     let there = irregular_there k lt in
-    (there.0, there.1, there.2 ∙ sym (front_whole (fold_text p) (folded_at k) h (length-map p fold_byte ∙ sym e)))
+    (there.0, there.1, there.2 ∙ sym (prefix_whole (fold_text p) (folded_at k) h (length-map p fold_byte ∙ sym e)))
 
 -- an irregular text matters to a text of its own length
 matters_itself : (k : ℕ) → k < 17 → matters (length (folded_at k)) k ≡ true
@@ -418,18 +418,18 @@ irregular_first p low high within possible h =
     let k : ℕ = h.0 in
     let here = irregular_here k h.1.0 h.1.1 in
     let whole : folded_at k ≡ fold_text p = sym here.1 ∙ h.1.2 in
-    let front : is_possible p k ≡ true = ap (is_front (fold_text p)) whole ∙ is_front-self (fold_text p) in
+    let prefix : is_possible p k ≡ true = ap (is_prefix (fold_text p)) whole ∙ is_prefix-self (fold_text p) in
     let long : length p ≡ length (folded_at k) = sym (length-map p fold_byte) ∙ ap length (sym whole) in
-    let place = and_parts (leb low k) (ltb k high) (sym (possible k here.0) ∙ and_from (matters (length p) k) _ (ap (λ (n : ℕ). matters n k) long ∙ matters_itself k here.0) front) in
-    let from : low ≤ k = leb-true low k place.0 in
-    let to : k < high = ltb-true k high place.1 in
+    let index = and_parts (leb low k) (ltb k high) (sym (possible k here.0) ∙ and_from (matters (length p) k) _ (ap (λ (n : ℕ). matters n k) long ∙ matters_itself k here.0) prefix) in
+    let from : low ≤ k = leb-true low k index.0 in
+    let to : k < high = ltb-true k high index.1 in
     let first : low ≡ k = elim (cases_lt low k) [
-      | inl lt ↦ absurd (front_before (fold_text p) (folded_at low) (ap (is_before (folded_at low)) (sym whole) ∙ folded_before low k lt here.0) (and_parts (matters (length p) low) (is_possible p low) (possible low (omega arith) ∙ in_range low high low (omega arith) (omega arith))).1)
+      | inl lt ↦ absurd (prefix_before (fold_text p) (folded_at low) (ap (is_before (folded_at low)) (sym whole) ∙ folded_before low k lt here.0) (and_parts (matters (length p) low) (is_possible p low) (possible low (omega arith) ∙ in_range low high low (omega arith) (omega arith))).1)
       | inr le ↦ omega arith
     ] in
     (omega arith, ap (λ (j : ℕ). length (folded_at j)) first ∙ ap length whole ∙ length-map p fold_byte)
 
--- no text is irregular at two places
+-- no text is irregular at two indices
 pub irregular_once : (j k : ℕ) (t : List ℕ) → IsIrregularAt j t → IsIrregularAt k t → j ≡ k
 unfolding IsIrregularAt
 irregular_once j k t h g =
@@ -442,7 +442,7 @@ irregular_once j k t h g =
     ]
   where
     no_before : (a b : ℕ) → folded_at a ≡ folded_at b → is_before (folded_at a) (folded_at b) ≡ true → ⊥
-    no_before a b same before = front_before (folded_at a) (folded_at a) (ap (is_before (folded_at a)) same ∙ before) (is_front-self (folded_at a))
+    no_before a b same before = prefix_before (folded_at a) (folded_at a) (ap (is_before (folded_at a)) same ∙ before) (is_prefix-self (folded_at a))
 
 -- what is followed is possible
 pub followed_possible : (len : ℕ) (p : List ℕ) (k : ℕ) → is_followed len p k ≡ true → is_possible p k ≡ true

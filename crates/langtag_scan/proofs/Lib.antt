@@ -15,6 +15,6 @@ pub mod IrregularNames
 pub mod TagLaws
 pub mod FillLaw
 pub mod CaseLaw
-pub mod OneCase
+pub mod OneKind
 pub mod Ascii
 pub mod SubtagLists

@@ -1,4 +1,4 @@
--- A private text is a mark, a hyphen, and subtags over which the stages run from behind a mark; no other text is.
+-- A private text is a mark, a hyphen, and subtags over which the stages run from after a mark; no other text is.
 use Rattle.std.proofs.Common.{Bool, ◌≡◌, ℕ, ◌≤◌, true, false, eqb, eqb-true, ◌&&◌, ◌⊎◌, inl, inr, List, [], ◌∷◌, ◌++◌, length, None, refl, sym, ap, ◌∙◌, arith}
 use Rattle.std.specs.Prelude.{IsTrue}
 use Rattle.std.specs.List.{AllByRecursion}
@@ -16,7 +16,7 @@ use Rattle.langtag_scan.proofs.Complete.{after_mark}
 use Rattle.langtag_scan.proofs.Segments.{runs-decode, is_there, segments-join, decoded_subtags, alphanumeric_no_hyphen, mark_alphanumeric, runs_from_normal}
 use Rattle.langtag_scan.proofs.Running.{runs-cons, segments-hyphen}
 
--- a private text, cut behind its mark and hyphen
+-- a private text, cut after its mark and hyphen
 pub record IsMarked (t : List ℕ) : Type 0 where
   pub mark : ℕ
   pub rest : List ℕ
@@ -60,7 +60,7 @@ private_from_subtags t ((m ∷ []) ∷ ss) e h =
     let k = and_parts (is_mark m) (runs AfterMark ss) h in
     let d = is_there (decode AfterMark ss) (sym (runs-decode ss AfterMark) ∙ k.1) in
     let a = decode_sound ss AfterMark d.0 d.1 in
-    (record { mark = m; subtags = d.0.behind }, record { mark = k.0; some = a.0.0; subtags = a.0.1 }, ap (λ (us : List (List ℕ)). join ((m ∷ []) ∷ us)) a.1 ∙ e)
+    (record { mark = m; subtags = d.0.after }, record { mark = k.0; some = a.0.0; subtags = a.0.1 }, ap (λ (us : List (List ℕ)). join ((m ∷ []) ∷ us)) a.1 ∙ e)
 
 -- and only a private text has such segments
 pub private_from_runs : (t : List ℕ) → runs_private (segments t) ≡ true → IsPrivate t

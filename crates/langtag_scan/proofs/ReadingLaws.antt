@@ -1,4 +1,4 @@
--- What the machine knows of a front, and of the front with one more byte.
+-- What the machine knows of a prefix, and of the prefix with one more byte.
 use Rattle.std.proofs.Common.{◌≡◌, ℕ, ◌+◌, ◌-◌, ◌<◌, ◌≤◌, Bool, true, false, cond, eqb, ltb, not, ◌||◌, ◌⊎◌, List, [], ◌∷◌, ◌++◌, length, Option, Some, None, inl, inr, refl, sym, ap, subst, ◌∙◌, arith, append_assoc, append-nil, drop}
 use Rattle.std.specs.List.{suffix_len}
 use Rattle.std.specs.Option.{option_map_or}
@@ -11,7 +11,7 @@ use Rattle.langtag_scan.specs.Record.{flat}
 use Rattle.langtag_scan.specs.Found.{Finding.normal, IsFoundOf}
 use Rattle.langtag_scan.specs.Viable.{filling, fill}
 use Rattle.langtag_scan.specs.Shape.{shape_of, classes_of_shape}
-use Rattle.langtag_scan.specs.Machine.{begun, may_hold, all_at, end_at, place_behind, ends_behind, IsBegun, ReadsNormal, ReadsPrivate, HasStopped, IsRefused, Reads, found_by}
+use Rattle.langtag_scan.specs.Machine.{begun, may_hold, all_at, end_at, index_after, ends_after, IsBegun, ReadsNormal, ReadsPrivate, HasStopped, IsRefused, Reads, found_by}
 use Rattle.langtag_scan.specs.declared.ends.Ends.{Ends}
 use Rattle.langtag_scan.specs.declared.shape.Shape.{Shape}
 use Rattle.langtag_scan.specs.declared.machine.Reading.{Reading}
@@ -19,8 +19,8 @@ use Rattle.langtag_scan.specs.declared.machine.Reading.TheVariants.{Normal, Priv
 use Rattle.langtag_scan.specs.declared.stage.Stage.{Stage}
 use Rattle.langtag_scan.specs.declared.stage.Stage.TheVariants.{Start, Language, Extended, AfterScript, AfterRegion, AfterVariant, AfterSingleton, InExtension, AfterMark, InPrivate}
 use Rattle.langtag_scan.proofs.Segments.{normal_from_runs, runs_from_normal, spelled_segments}
-use Rattle.langtag_scan.proofs.EndsLaw.{ends_behind-flat}
-use Rattle.langtag_scan.proofs.Running.{IsStuck, stuck_full, stuck_other, empty_begun, goes_grown, goes_behind, goes_refused, goes_stuck, goes_ended, segments-hyphen, segments-one, ends_behind-nil, ends_behind-cons}
+use Rattle.langtag_scan.proofs.EndsLaw.{ends_after-flat}
+use Rattle.langtag_scan.proofs.Running.{IsStuck, stuck_full, stuck_other, empty_begun, goes_grown, goes_after, goes_refused, goes_stuck, goes_ended, segments-hyphen, segments-one, ends_after-nil, ends_after-cons}
 use Rattle.langtag_scan.proofs.PrivateTexts.{marked_from_private, private_from_marked, private_begun, private_no_hyphen, mark_letter, one_no_primary, marked_not_normal}
 use Rattle.langtag_scan.proofs.ShapeLaws.{mark-shape, next_stage-shape}
 use Rattle.langtag_scan.proofs.Filling.{goes_filled}
@@ -35,7 +35,7 @@ begun-push p b other =
     let n = suffix_len (λ x. not (is_hyphen x)) p in
     rw (reverse-append p (b ∷ []), other) (ap (λ k. drop k (p ++ b ∷ [])) (omega (arith, length_push p b)) ∙ drop-append-le (length p - n) p (b ∷ []) (omega arith))
 
--- ---- the stage behind a subtag is not the first one
+-- ---- the stage after a subtag is not the first one
 
 is_start : Stage → Bool
 is_start Start = true
@@ -91,30 +91,30 @@ starting _ = inr (λ h. cc)
 
 -- ---- where a subtag ends
 
-place_behind-push : (stage : Stage) (e : Ends) (s : List ℕ) (b : ℕ) → place_behind stage e (s ++ b ∷ []) ≡ place_behind stage e s + 1
-place_behind-push Start e s b = length_push s b
-place_behind-push (Language taken) e s b = omega (arith, length_push s b)
-place_behind-push (Extended taken) e s b = omega (arith, length_push s b)
-place_behind-push AfterScript e s b = omega (arith, length_push s b)
-place_behind-push AfterRegion e s b = omega (arith, length_push s b)
-place_behind-push AfterVariant e s b = omega (arith, length_push s b)
-place_behind-push AfterSingleton e s b = omega (arith, length_push s b)
-place_behind-push InExtension e s b = omega (arith, length_push s b)
-place_behind-push AfterMark e s b = omega (arith, length_push s b)
-place_behind-push InPrivate e s b = omega (arith, length_push s b)
+index_after-push : (stage : Stage) (e : Ends) (s : List ℕ) (b : ℕ) → index_after stage e (s ++ b ∷ []) ≡ index_after stage e s + 1
+index_after-push Start e s b = length_push s b
+index_after-push (Language taken) e s b = omega (arith, length_push s b)
+index_after-push (Extended taken) e s b = omega (arith, length_push s b)
+index_after-push AfterScript e s b = omega (arith, length_push s b)
+index_after-push AfterRegion e s b = omega (arith, length_push s b)
+index_after-push AfterVariant e s b = omega (arith, length_push s b)
+index_after-push AfterSingleton e s b = omega (arith, length_push s b)
+index_after-push InExtension e s b = omega (arith, length_push s b)
+index_after-push AfterMark e s b = omega (arith, length_push s b)
+index_after-push InPrivate e s b = omega (arith, length_push s b)
 
--- behind a hyphen the next subtag begins one place on
-place_behind-end : (after : Stage) (n : ℕ) (e : Ends) → (after ≡ Start → ⊥) → place_behind after (end_at after n e) [] ≡ n + 1
-place_behind-end Start n e h = absurd (h refl)
-place_behind-end (Language taken) n e h = omega arith
-place_behind-end (Extended taken) n e h = omega arith
-place_behind-end AfterScript n e h = omega arith
-place_behind-end AfterRegion n e h = omega arith
-place_behind-end AfterVariant n e h = omega arith
-place_behind-end AfterSingleton n e h = omega arith
-place_behind-end InExtension n e h = omega arith
-place_behind-end AfterMark n e h = omega arith
-place_behind-end InPrivate n e h = omega arith
+-- after a hyphen the next subtag begins one byte on
+index_after-end : (after : Stage) (n : ℕ) (e : Ends) → (after ≡ Start → ⊥) → index_after after (end_at after n e) [] ≡ n + 1
+index_after-end Start n e h = absurd (h refl)
+index_after-end (Language taken) n e h = omega arith
+index_after-end (Extended taken) n e h = omega arith
+index_after-end AfterScript n e h = omega arith
+index_after-end AfterRegion n e h = omega arith
+index_after-end AfterVariant n e h = omega arith
+index_after-end AfterSingleton n e h = omega arith
+index_after-end InExtension n e h = omega arith
+index_after-end AfterMark n e h = omega arith
+index_after-end InPrivate n e h = omega arith
 
 -- ---- no normal tag, and no private text
 
@@ -146,7 +146,7 @@ reads_nothing = (
   record {
     goes = record { begun = empty_begun Start; same = λ u. refl };
     ends = λ u. refl;
-    place = refl;
+    index = refl;
     first = λ h. refl;
     later = λ h. absurd (h refl);
   },
@@ -157,8 +157,8 @@ reads_nothing = (
 normal_grown : (p : List ℕ) (b : ℕ) (stage : Stage) (e : Ends) → eqb b 45 ≡ false → may_hold stage b ≡ true → length (begun p) < 8 → ReadsNormal p stage (begun p) e → ReadsNormal (p ++ b ∷ []) stage (begun p ++ b ∷ []) e
 normal_grown p b stage e other held short n = record {
   goes = goes_grown Start stage p (begun p) b held short n.goes;
-  ends = λ u. ap (λ t. ends_behind Start (all_at 0) (segments t)) (append_assoc p (b ∷ []) u) ∙ n.ends (b ∷ u) ∙ ap (λ t. ends_behind stage e (segments t)) (sym (append_assoc (begun p) (b ∷ []) u));
-  place = place_behind-push stage e (begun p) b ∙ ap (λ k. k + 1) n.place ∙ sym (length_push p b);
+  ends = λ u. ap (λ t. ends_after Start (all_at 0) (segments t)) (append_assoc p (b ∷ []) u) ∙ n.ends (b ∷ u) ∙ ap (λ t. ends_after stage e (segments t)) (sym (append_assoc (begun p) (b ∷ []) u));
+  index = index_after-push stage e (begun p) b ∙ ap (λ k. k + 1) n.index ∙ sym (length_push p b);
   first = λ h. ap (λ t. t ++ b ∷ []) (n.first h);
   later = λ h. later_private p b (n.later h);
 }
@@ -244,7 +244,7 @@ hyphen_no_mark : is_mark 45 ≡ false
 unfolding is_mark
 hyphen_no_mark = refl
 
--- a first subtag behind which a stage follows is no mark
+-- a first subtag after which a stage follows is no mark
 not_private_start : (p : List ℕ) (u : List ℕ) (after : Stage) → are_alphanumeric p ≡ true → next_stage Start p ≡ Some after → IsPrivate ((p ++ 45 ∷ []) ++ u) → ⊥
 not_private_start p u after held e n =
     elim (private_begun p 45 u held (subst IsPrivate (append_assoc p (45 ∷ []) u) n)) [
@@ -255,13 +255,13 @@ not_private_start p u after held e n =
           cc
     ]
 
-normal_behind : (p : List ℕ) (stage after : Stage) (e : Ends) → next_stage stage (begun p) ≡ Some after → ReadsNormal p stage (begun p) e → ReadsNormal (p ++ 45 ∷ []) after [] (end_at after (length p) e)
-normal_behind p stage after e next n = record {
-  goes = goes_behind Start stage after p (begun p) next n.goes;
-  ends = λ u. ap (λ t. ends_behind Start (all_at 0) (segments t)) (append_assoc p (45 ∷ []) u) ∙ n.ends (45 ∷ u) ∙ ap (ends_behind stage e) (segments-hyphen (begun p) u n.goes.begun.alphanumeric)
-      ∙ ends_behind-cons stage e (begun p) (segments u) ∙ ap (λ o. option_map_or (λ x. ends_behind x (end_at x (place_behind stage e (begun p)) e) (segments u)) o e) next
-      ∙ ap (λ k. ends_behind after (end_at after k e) (segments u)) n.place;
-  place = place_behind-end after (length p) e (next_not_start stage after (begun p) next) ∙ sym (length_push p 45);
+normal_after : (p : List ℕ) (stage after : Stage) (e : Ends) → next_stage stage (begun p) ≡ Some after → ReadsNormal p stage (begun p) e → ReadsNormal (p ++ 45 ∷ []) after [] (end_at after (length p) e)
+normal_after p stage after e next n = record {
+  goes = goes_after Start stage after p (begun p) next n.goes;
+  ends = λ u. ap (λ t. ends_after Start (all_at 0) (segments t)) (append_assoc p (45 ∷ []) u) ∙ n.ends (45 ∷ u) ∙ ap (ends_after stage e) (segments-hyphen (begun p) u n.goes.begun.alphanumeric)
+      ∙ ends_after-cons stage e (begun p) (segments u) ∙ ap (λ o. option_map_or (λ x. ends_after x (end_at x (index_after stage e (begun p)) e) (segments u)) o e) next
+      ∙ ap (λ k. ends_after after (end_at after k e) (segments u)) n.index;
+  index = index_after-end after (length p) e (next_not_start stage after (begun p) next) ∙ sym (length_push p 45);
   first = λ h. absurd (next_not_start stage after (begun p) next h);
   later = λ h u q. by_start (starting stage) u q;
 }
@@ -272,26 +272,26 @@ normal_behind p stage after e next n = record {
         not_private_start p u after (rw whole n.goes.begun.alphanumeric) (ap (next_stage Start) whole ∙ (rw h at next)) q
     by_start (inr h) u q = later_private p 45 (n.later h) u q
 
-private_behind : (p : List ℕ) (stage after : Stage) → next_stage stage (begun p) ≡ Some after → ReadsPrivate p stage (begun p) → ReadsPrivate (p ++ 45 ∷ []) after []
-private_behind p stage after next n = record {
+private_after : (p : List ℕ) (stage after : Stage) → next_stage stage (begun p) ≡ Some after → ReadsPrivate p stage (begun p) → ReadsPrivate (p ++ 45 ∷ []) after []
+private_after p stage after next n = record {
   mark = n.mark;
   rest = n.rest ++ 45 ∷ [];
   split = ap (λ t. t ++ 45 ∷ []) n.split;
   marked = n.marked;
-  goes = goes_behind AfterMark stage after n.rest (begun p) next n.goes;
+  goes = goes_after AfterMark stage after n.rest (begun p) next n.goes;
   later = next_not_start stage after (begun p) next;
   not_normal = later_normal p 45 n.not_normal;
 }
 
-pub reads_behind : (r : Reading) (p : List ℕ) (stage after : Stage) (shape : Shape) (e : Ends) → Some after ≡ next_by stage (classes_of_shape shape) → Reads r p stage shape e → Reads r (p ++ 45 ∷ []) after (shape_of []) (end_at after (length p) e)
-reads_behind Normal p stage after shape e next h =
+pub reads_after : (r : Reading) (p : List ℕ) (stage after : Stage) (shape : Shape) (e : Ends) → Some after ≡ next_by stage (classes_of_shape shape) → Reads r p stage shape e → Reads r (p ++ 45 ∷ []) after (shape_of []) (end_at after (length p) e)
+reads_after Normal p stage after shape e next h =
     let none = begun-hyphen p in
     let there = next_of stage shape (begun p) h.0 h.1.goes.begun ∙ sym next in
-    (ap shape_of (sym none), subst (λ s. ReadsNormal (p ++ 45 ∷ []) after s (end_at after (length p) e)) (sym none) (normal_behind p stage after e there h.1))
-reads_behind Private p stage after shape e next h =
+    (ap shape_of (sym none), subst (λ s. ReadsNormal (p ++ 45 ∷ []) after s (end_at after (length p) e)) (sym none) (normal_after p stage after e there h.1))
+reads_after Private p stage after shape e next h =
     let none = begun-hyphen p in
     let there = next_of stage shape (begun p) h.0 h.1.goes.begun ∙ sym next in
-    (ap shape_of (sym none), subst (λ s. ReadsPrivate (p ++ 45 ∷ []) after s) (sym none) (private_behind p stage after there h.1))
+    (ap shape_of (sym none), subst (λ s. ReadsPrivate (p ++ 45 ∷ []) after s) (sym none) (private_after p stage after there h.1))
 
 -- a mark is the whole first subtag
 one_mark : (s : List ℕ) → is_one is_mark s ≡ true → (m : ℕ) × (s ≡ m ∷ []) × (is_mark m ≡ true)
@@ -345,13 +345,13 @@ private_refused p stage next n = record {
   not_private = λ u. not_marked n.mark (n.rest ++ 45 ∷ []) (p ++ 45 ∷ []) u (ap (λ t. t ++ 45 ∷ []) n.split) (goes_refused AfterMark stage n.rest (begun p) u next n.goes);
 }
 
--- a hyphen behind which nothing follows
+-- a hyphen after which nothing follows
 pub reads_refused : (r : Reading) (p : List ℕ) (stage : Stage) (shape : Shape) (e : Ends) → None ≡ next_by stage (classes_of_shape shape) → (stage ≡ Start → (classes_of_shape shape).mark ≡ false) → Reads r p stage shape e → HasStopped (p ++ 45 ∷ [])
 reads_refused Normal p stage shape e next unmarked h =
     normal_refused p stage e (next_of stage shape (begun p) h.0 h.1.goes.begun ∙ sym next) (λ x. sym (is_mark_of shape (begun p) h.0) ∙ unmarked x) h.1
 reads_refused Private p stage shape e next unmarked h = private_refused p stage (next_of stage shape (begun p) h.0 h.1.goes.begun ∙ sym next) h.1
 
--- ---- a front that goes on is viable, and at its end the stages tell whether it is a tag
+-- ---- a prefix that goes on is viable, and at its end the stages tell whether it is a tag
 
 pub normal_filled : (p : List ℕ) (stage : Stage) (e : Ends) → ReadsNormal p stage (begun p) e → IsNormal (fill p)
 normal_filled p stage e n = normal_from_runs (fill p) (goes_filled Start stage p (begun p) n.goes)
@@ -385,22 +385,22 @@ reads_rejected Private p stage shape e none h =
     }
 
 -- where they accept, the ends are those of the record
-found_with : (p : List ℕ) (found : Ends) → ends_behind Start (all_at 0) (segments p) ≡ found → IsNormal p → IsFoundOf p (normal found)
+found_with : (p : List ℕ) (found : Ends) → ends_after Start (all_at 0) (segments p) ≡ found → IsNormal p → IsFoundOf p (normal found)
 unfolding IsNormal
 found_with p found ends n =
     let same : flat n.0 ≡ segments p = sym (spelled_segments n.0 n.1) ∙ ap segments n.2 in
-    (n.0, n.1, n.2, sym ends ∙ ap (ends_behind Start (all_at 0)) (sym same) ∙ ends_behind-flat n.0 n.1)
+    (n.0, n.1, n.2, sym ends ∙ ap (ends_after Start (all_at 0)) (sym same) ∙ ends_after-flat n.0 n.1)
 
 pub normal_accepted : (p : List ℕ) (stage after : Stage) (shape : Shape) (e : Ends) → next_by stage (classes_of_shape shape) ≡ Some after → may_end after ≡ true → Reads Normal p stage shape e → IsFoundOf p (normal (end_at after (length p) e))
 normal_accepted p stage after shape e next ends h =
     let n = h.1 in
     let there : next_stage stage (begun p) ≡ Some after = next_of stage shape (begun p) h.0 n.goes.begun ∙ next in
     let run : runs Start (segments p) ≡ true = goes_ended Start stage p (begun p) n.goes ∙ ap (λ o. option_map_or may_end o false) there ∙ ends in
-    let last : ends_behind Start (all_at 0) (segments p) ≡ end_at after (length p) e =
-    ap (λ t. ends_behind Start (all_at 0) (segments t)) (sym (append-nil p)) ∙ n.ends [] ∙ ap (λ t. ends_behind stage e (segments t)) (append-nil (begun p))
-    ∙ ap (ends_behind stage e) (segments-one (begun p) n.goes.begun.alphanumeric) ∙ ends_behind-cons stage e (begun p) []
-    ∙ ap (λ o. option_map_or (λ x. ends_behind x (end_at x (place_behind stage e (begun p)) e) []) o e) there
-    ∙ ends_behind-nil after (end_at after (place_behind stage e (begun p)) e) ∙ ap (λ k. end_at after k e) n.place in
+    let last : ends_after Start (all_at 0) (segments p) ≡ end_at after (length p) e =
+    ap (λ t. ends_after Start (all_at 0) (segments t)) (sym (append-nil p)) ∙ n.ends [] ∙ ap (λ t. ends_after stage e (segments t)) (append-nil (begun p))
+    ∙ ap (ends_after stage e) (segments-one (begun p) n.goes.begun.alphanumeric) ∙ ends_after-cons stage e (begun p) []
+    ∙ ap (λ o. option_map_or (λ x. ends_after x (end_at x (index_after stage e (begun p)) e) []) o e) there
+    ∙ ends_after-nil after (end_at after (index_after stage e (begun p)) e) ∙ ap (λ k. end_at after k e) n.index in
     found_with p (end_at after (length p) e) last (normal_from_runs p run)
 
 pub private_accepted : (p : List ℕ) (stage after : Stage) (shape : Shape) (e : Ends) → next_by stage (classes_of_shape shape) ≡ Some after → may_end after ≡ true → Reads Private p stage shape e → IsPrivate p
@@ -434,7 +434,7 @@ letter_held InExtension b h = rw h refl
 letter_held AfterMark b h = rw h refl
 letter_held InPrivate b h = rw h refl
 
--- behind the first subtag, any letter or digit
+-- after the first subtag, any letter or digit
 pub held_later : (stage : Stage) (b : ℕ) → (stage ≡ Start → ⊥) → may_hold stage b ≡ is_alphanumeric b
 held_later Start b later = absurd (later refl)
 held_later (Language taken) b later = refl

@@ -1,4 +1,4 @@
--- How the stages run over the segments of a text of which a front was read.
+-- How the stages run over the segments of a text of which a prefix was read.
 use Rattle.std.proofs.Common.{◌≡◌, ℕ, ◌<◌, ◌≤◌, Bool, true, false, cond, eqb, leb, List, [], ◌∷◌, ◌++◌, length, Option, Some, None, inl, inr, refl, sym, ap, ◌∙◌, arith, append_assoc, append-nil}
 use Rattle.std.specs.List.{All, onto_first}
 use Rattle.std.specs.Option.{option_map_or}
@@ -9,7 +9,7 @@ use Rattle.std.proofs.lemmas.List.Splits.{slice_split_none, slice_split_at, slic
 use Rattle.langtag_scan.specs.Class.{is_letter, is_alphanumeric, has_length, are_letters, are_alphanumeric, is_primary}
 use Rattle.langtag_scan.specs.Subtags.{is_hyphen, segments}
 use Rattle.langtag_scan.specs.Stage.{next_stage, may_end, runs}
-use Rattle.langtag_scan.specs.Machine.{may_hold, end_at, place_behind, ends_behind, IsBegun, GoesOn}
+use Rattle.langtag_scan.specs.Machine.{may_hold, end_at, index_after, ends_after, IsBegun, GoesOn}
 use Rattle.langtag_scan.specs.declared.ends.Ends.{Ends}
 use Rattle.langtag_scan.specs.declared.stage.Stage.{Stage}
 use Rattle.langtag_scan.specs.declared.stage.Stage.TheVariants.{Start, Language, Extended, AfterScript, AfterRegion, AfterVariant, AfterSingleton, InExtension, AfterMark, InPrivate}
@@ -25,13 +25,13 @@ pub runs-cons : (stage : Stage) (s : List ℕ) (ss : List (List ℕ)) → runs s
 unfolding runs
 runs-cons stage s ss = refl
 
-pub ends_behind-nil : (stage : Stage) (e : Ends) → ends_behind stage e [] ≡ e
-unfolding ends_behind
-ends_behind-nil stage e = refl
+pub ends_after-nil : (stage : Stage) (e : Ends) → ends_after stage e [] ≡ e
+unfolding ends_after
+ends_after-nil stage e = refl
 
-pub ends_behind-cons : (stage : Stage) (e : Ends) (s : List ℕ) (ss : List (List ℕ)) → ends_behind stage e (s ∷ ss) ≡ option_map_or (λ after. ends_behind after (end_at after (place_behind stage e s) e) ss) (next_stage stage s) e
-unfolding ends_behind
-ends_behind-cons stage e s ss = refl
+pub ends_after-cons : (stage : Stage) (e : Ends) (s : List ℕ) (ss : List (List ℕ)) → ends_after stage e (s ∷ ss) ≡ option_map_or (λ after. ends_after after (end_at after (index_after stage e s) e) ss) (next_stage stage s) e
+unfolding ends_after
+ends_after-cons stage e s ss = refl
 
 -- ---- segments of a text that begins without a hyphen
 
@@ -54,11 +54,11 @@ first_of (b ∷ u) = by_hyphen (eqb b 45) refl (first_of u)
     by_hyphen true e k = ([], segments u, slice_split-cons_yes is_hyphen b u e)
     by_hyphen false e k = (b ∷ k.0, k.1, slice_split-cons_no is_hyphen b u e ∙ ap (onto_first b) k.2)
 
-segments-front : (s u v : List ℕ) (ss : List (List ℕ)) → are_alphanumeric s ≡ true → segments u ≡ v ∷ ss → segments (s ++ u) ≡ (s ++ v) ∷ ss
-segments-front [] u v ss h e = e
-segments-front (b ∷ s) u v ss h e =
+segments-prefix : (s u v : List ℕ) (ss : List (List ℕ)) → are_alphanumeric s ≡ true → segments u ≡ v ∷ ss → segments (s ++ u) ≡ (s ++ v) ∷ ss
+segments-prefix [] u v ss h e = e
+segments-prefix (b ∷ s) u v ss h e =
     let k = both_true (is_alphanumeric b) (are_alphanumeric s) h in
-    slice_split-cons_no is_hyphen b (s ++ u) (alphanumeric_no_hyphen b k.0) ∙ ap (onto_first b) (segments-front s u v ss k.1 e)
+    slice_split-cons_no is_hyphen b (s ++ u) (alphanumeric_no_hyphen b k.0) ∙ ap (onto_first b) (segments-prefix s u v ss k.1 e)
 
 -- ---- a byte that a subtag may hold
 
@@ -148,7 +148,7 @@ unfolding IsStuck
 runs-stuck stage s b u h other stuck =
     let k = first_of u in
     let here : segments (b ∷ u) ≡ (b ∷ k.0) ∷ k.1 = slice_split-cons_no is_hyphen b u other ∙ ap (onto_first b) k.2 in
-    ap (runs stage) (segments-front s (b ∷ u) (b ∷ k.0) k.1 h here) ∙ runs-cons stage (s ++ b ∷ k.0) k.1
+    ap (runs stage) (segments-prefix s (b ∷ u) (b ∷ k.0) k.1 h here) ∙ runs-cons stage (s ++ b ∷ k.0) k.1
     ∙ ap (λ o. option_map_or (λ after. runs after k.1) o false) (none_next stage (s ++ b ∷ k.0) (stuck k.0))
 
 -- ---- one byte more of a text that goes on
@@ -159,8 +159,8 @@ goes_grown first stage q s b m short g = record {
   same = λ u. ap (λ t. runs first (segments t)) (append_assoc q (b ∷ []) u) ∙ g.same (b ∷ u) ∙ ap (λ t. runs stage (segments t)) (sym (append_assoc s (b ∷ []) u));
 }
 
-pub goes_behind : (first stage after : Stage) (q s : List ℕ) → next_stage stage s ≡ Some after → GoesOn first q stage s → GoesOn first (q ++ 45 ∷ []) after []
-goes_behind first stage after q s e g = record {
+pub goes_after : (first stage after : Stage) (q s : List ℕ) → next_stage stage s ≡ Some after → GoesOn first q stage s → GoesOn first (q ++ 45 ∷ []) after []
+goes_after first stage after q s e g = record {
   begun = empty_begun after;
   same = λ u. ap (λ t. runs first (segments t)) (append_assoc q (45 ∷ []) u) ∙ g.same (45 ∷ u) ∙ ap (runs stage) (segments-hyphen s u g.begun.alphanumeric) ∙ runs-cons stage s (segments u)
       ∙ ap (λ o. option_map_or (λ x. runs x (segments u)) o false) e;

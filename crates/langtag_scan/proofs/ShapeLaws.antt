@@ -41,7 +41,7 @@ letters_letter s b h = letters-push s b ∙ ap (λ (v : Bool). are_letters s && 
 letters_other : (s : List ℕ) (b : ℕ) → is_letter b ≡ false → are_letters (s ++ b ∷ []) ≡ false
 letters_other s b h = letters-push s b ∙ and_right (are_letters s) (is_letter b) h
 
--- the digits in front, with one byte more that is no digit
+-- the leading digits, with one byte more that is no digit
 leading_no_digit : (s : List ℕ) (b : ℕ) → is_digit b ≡ false → leading_digits (s ++ b ∷ []) ≡ leading_digits s
 unfolding leading_digits
 leading_no_digit [] b h = rw h refl
@@ -81,7 +81,7 @@ last_pushed s b =
     let at : length (s ++ b ∷ []) - 1 ≡ length s = omega (arith, length-append s (b ∷ [])) in
     ap (λ (n : ℕ). get_or (s ++ b ∷ []) n 0) at ∙ get_or-append_seam s b [] 0
 
--- the shape behind one more byte: a letter, a digit behind digits alone, or another digit
+-- the shape after one more byte: a letter, a digit after digits alone, or another digit
 pub shape_letter : (s : List ℕ) (b : ℕ) → is_letter b ≡ true → shape_of (s ++ b ∷ []) ≡ record { len = length s + 1; last = b; letters = are_letters s; leading_digits = leading_digits s }
 shape_letter s b h = rw (letters_letter s b h, leading_letter s b h, last_pushed s b, length_push s b) refl
 
@@ -93,7 +93,7 @@ shape_off s b h e = rw (letters_other s b h, leading_off s b e, last_pushed s b,
 
 -- ---- the classes
 
--- digits alone are all in front
+-- digits alone are all leading
 all_digits-leading : (s : List ℕ) → are_digits s ≡ eqb (leading_digits s) (length s)
 unfolding leading_digits
 all_digits-leading [] = refl

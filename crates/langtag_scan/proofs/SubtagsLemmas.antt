@@ -13,30 +13,30 @@ pub segments_left-first : (text first : List ℕ) (rest : Option (Bor (List ℕ)
 segments_left-first text first None free whole = rw whole (slice_split_none is_hyphen first free)
 segments_left-first text first (Some rest) free joined = rw joined (slice_split_at is_hyphen first 45 rest.now free refl)
 
-pub onto_first-append : (b : ℕ) (front back : List (List ℕ)) → 0 < length front → onto_first b (front ++ back) ≡ onto_first b front ++ back
+pub onto_first-append : (b : ℕ) (prefix back : List (List ℕ)) → 0 < length prefix → onto_first b (prefix ++ back) ≡ onto_first b prefix ++ back
 onto_first-append b [] back some = absurd (omega (arith, some))
-onto_first-append b (segment ∷ front) back some = refl
+onto_first-append b (segment ∷ prefix) back some = refl
 
 -- the segments before and after any hyphen
-pub slice_split-append : (front back : List ℕ) → segments (front ++ 45 ∷ back) ≡ segments front ++ segments back
+pub slice_split-append : (prefix back : List ℕ) → segments (prefix ++ 45 ∷ back) ≡ segments prefix ++ segments back
 slice_split-append [] back = refl
-slice_split-append (b ∷ front) back = by_first (is_hyphen b) refl (slice_split-append front back)
+slice_split-append (b ∷ prefix) back = by_first (is_hyphen b) refl (slice_split-append prefix back)
   where
-    by_first : (cut : Bool) → is_hyphen b ≡ cut → segments (front ++ 45 ∷ back) ≡ segments front ++ segments back → segments (b ∷ front ++ 45 ∷ back) ≡ segments (b ∷ front) ++ segments back
+    by_first : (cut : Bool) → is_hyphen b ≡ cut → segments (prefix ++ 45 ∷ back) ≡ segments prefix ++ segments back → segments (b ∷ prefix ++ 45 ∷ back) ≡ segments (b ∷ prefix) ++ segments back
     by_first true cut others =
-        rw (slice_split-cons_yes is_hyphen b (front ++ 45 ∷ back) cut, slice_split-cons_yes is_hyphen b front cut, others) refl
+        rw (slice_split-cons_yes is_hyphen b (prefix ++ 45 ∷ back) cut, slice_split-cons_yes is_hyphen b prefix cut, others) refl
     by_first false kept others =
-        rw (slice_split-cons_no is_hyphen b (front ++ 45 ∷ back) kept, slice_split-cons_no is_hyphen b front kept, others)
-        (onto_first-append b (segments front) (segments back) (omega (arith, length-slice_split is_hyphen front)))
+        rw (slice_split-cons_no is_hyphen b (prefix ++ 45 ∷ back) kept, slice_split-cons_no is_hyphen b prefix kept, others)
+        (onto_first-append b (segments prefix) (segments back) (omega (arith, length-slice_split is_hyphen prefix)))
 
--- one more segment, behind a hyphen
-pub slice_split-push : (front last : List ℕ) → IsHyphenFree last → segments (front ++ 45 ∷ last) ≡ segments front ++ last ∷ []
-slice_split-push front last free = slice_split-append front last ∙ ap (λ back. segments front ++ back) (slice_split_none is_hyphen last free)
+-- one more segment, after a hyphen
+pub slice_split-push : (prefix last : List ℕ) → IsHyphenFree last → segments (prefix ++ 45 ∷ last) ≡ segments prefix ++ last ∷ []
+slice_split-push prefix last free = slice_split-append prefix last ∙ ap (λ back. segments prefix ++ back) (slice_split_none is_hyphen last free)
 
 -- the last segment, and those of what stands before its hyphen
-pub segments_left-last : (text last : List ℕ) (front : Option (Bor (List ℕ))) → IsHyphenFree last → MatchOption front (text ≡ last) (λ f. text ≡ f.now ++ 45 ∷ last) → segments text ≡ segments_left front ++ last ∷ []
+pub segments_left-last : (text last : List ℕ) (prefix : Option (Bor (List ℕ))) → IsHyphenFree last → MatchOption prefix (text ≡ last) (λ f. text ≡ f.now ++ 45 ∷ last) → segments text ≡ segments_left prefix ++ last ∷ []
 segments_left-last text last None free whole = rw whole (slice_split_none is_hyphen last free)
-segments_left-last text last (Some front) free joined = rw joined (slice_split-push front.now last free)
+segments_left-last text last (Some prefix) free joined = rw joined (slice_split-push prefix.now last free)
 
 -- ---- no segment holds a hyphen
 

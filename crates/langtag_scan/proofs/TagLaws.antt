@@ -1,4 +1,4 @@
--- Tags, and the fronts that some tag begins with.
+-- Tags, and the prefixes that some tag begins with.
 use Rattle.std.proofs.Common.{◌≡◌, ℕ, zero, suc, ◌+◌, ◌<◌, ◌≤◌, Bool, true, false, eqb, ◌||◌, ◌&&◌, List, [], ◌∷◌, ◌++◌, length, take, drop, get_or, inl, inr, refl, sym, ap, subst, ◌∙◌, arith, append_assoc, append-nil}
 use Rattle.std.proofs.lemmas.Bool.{cases_lt, and_left}
 use Rattle.std.proofs.lemmas.List.{map-append, take_more, take-append-drop, take-take, length-take}
@@ -6,7 +6,7 @@ use Rattle.langtag_scan.specs.Tag.{IsNormal, IsPrivate, IsIrregular, IsIrregular
 use Rattle.langtag_scan.specs.declared.found.Found.{Found}
 use Rattle.langtag_scan.specs.Findings.{finding}
 use Rattle.langtag_scan.specs.Found.{Finding, Finding.normal, Finding.private_use, Finding.irregular, IsFoundOf, is_normal}
-use Rattle.langtag_scan.proofs.OneCase.{normal_no_private, normal_no_irregular}
+use Rattle.langtag_scan.proofs.OneKind.{normal_no_private, normal_no_irregular}
 use Rattle.langtag_scan.specs.Viable.{IsViable, IsStop, filling, fill}
 use Rattle.langtag_scan.specs.Case.{fold_byte, fold_text}
 use Rattle.langtag_scan.specs.Class.{is_letter, is_digit, is_primary, is_extended, is_script, is_region, is_variant, is_mark, is_singleton}
@@ -28,7 +28,7 @@ use Rattle.std.specs.Prelude.{Option, Some, None, MatchOption}
 use Rattle.langtag_scan.specs.declared.irregular.Names.{Names}
 use Rattle.langtag_scan.proofs.Segments.{normal_from_runs}
 use Rattle.langtag_scan.proofs.CaseLaw.{runs-fold, segments-fold}
-use Rattle.langtag_scan.proofs.IrregularNames.{irregular_here, possible_viable, possible_front, followed-push, followed_possible, in_range, empty_range}
+use Rattle.langtag_scan.proofs.IrregularNames.{irregular_here, possible_viable, possible_prefix, followed-push, followed_possible, in_range, empty_range}
 use Rattle.langtag_scan.proofs.ReadingLaws.{reads_nothing, normal_filled, private_filled}
 
 pub tag_normal : (t : List ℕ) → IsNormal t → IsTag t
@@ -59,12 +59,12 @@ pub found_no_normal : (t : List ℕ) (found : Finding) → IsFoundOf t found →
 unfolding IsIrregular
 found_no_normal t (normal ends) f h n = cc
 found_no_normal t private_use f h n = normal_no_private t n f
-found_no_normal t (irregular place) f h n = normal_no_irregular t n (place, f)
+found_no_normal t (irregular index) f h n = normal_no_irregular t n (index, f)
 
--- what begins a viable front is viable
-pub viable_front : (p u : List ℕ) → IsViable (p ++ u) → IsViable p
+-- what begins a viable prefix is viable
+pub viable_prefix : (p u : List ℕ) → IsViable (p ++ u) → IsViable p
 unfolding IsViable
-viable_front p u (v, tag) = (u ++ v, subst IsTag (append_assoc p u v) tag)
+viable_prefix p u (v, tag) = (u ++ v, subst IsTag (append_assoc p u v) tag)
 
 pub viable_from_tag : (p u : List ℕ) → IsTag (p ++ u) → IsViable p
 unfolding IsViable
@@ -79,7 +79,7 @@ viable_reads Private p stage shape e h = tag_private (fill p) (private_filled p 
 
 -- ---- the irregular texts that do not matter
 
--- a text that stands behind such a text and makes a normal tag of it
+-- a text that stands after such a text and makes a normal tag of it
 abbrev more : List ℕ
 more = 97 ∷ 97 ∷ 97 ∷ []
 
@@ -136,7 +136,7 @@ unfolding IsViable IsTag IsIrregular
 not_viable len p h gone (u, inl n) = h.not_normal u n
 not_viable len p h gone (u, inr (inl n)) = h.not_private u n
 not_viable len p h gone (u, inr (inr (k, n))) =
-    let f = possible_front p u k n in
+    let f = possible_prefix p u k n in
     let none : is_possible p k ≡ false = by_matter (matters len k) (is_possible p k) (gone k f.0) (λ e. stopped_other len k p f.0 h e) in
     let yes_possible : is_possible p k ≡ true = f.1 in
     cc
@@ -147,19 +147,19 @@ not_viable len p h gone (u, inr (inr (k, n))) =
 
 -- ---- the stop
 
-pub fronts_viable : (t : List ℕ) (i k : ℕ) → IsViable (take i t) → k ≤ i → IsViable (take k t)
-fronts_viable t i k v le =
+pub prefixes_viable : (t : List ℕ) (i k : ℕ) → IsViable (take i t) → k ≤ i → IsViable (take k t)
+prefixes_viable t i k v le =
     let split : take k t ++ drop k (take i t) ≡ take i t = ap (λ (u : List ℕ). u ++ drop k (take i t)) (sym (take-take k i t le)) ∙ take-append-drop k (take i t) in
-    viable_front (take k t) (drop k (take i t)) (subst IsViable (sym split) v)
+    viable_prefix (take k t) (drop k (take i t)) (subst IsViable (sym split) v)
 
 pub stop_dead : (t : List ℕ) (i : ℕ) → i < length t → IsViable (take i t) → (IsViable (take (i + 1) t) → ⊥) → IsStop t (i + 1)
-stop_dead t i lt v dead = record { within = omega arith; before = λ k h. fronts_viable t i k v (omega arith); at = inr dead }
+stop_dead t i lt v dead = record { within = omega arith; before = λ k h. prefixes_viable t i k v (omega arith); at = inr dead }
 
 pub stop_at : (t : List ℕ) (i : ℕ) → i ≤ length t → ((k : ℕ) → k < i → IsViable (take k t)) → (IsViable (take i t) → ⊥) → IsStop t i
 stop_at t i within before dead = record { within = within; before = before; at = inr dead }
 
 pub stop_end : (t : List ℕ) (i : ℕ) → i ≡ length t → IsViable (take i t) → IsStop t i
-stop_end t i end v = record { within = omega arith; before = λ k h. fronts_viable t i k v (omega arith); at = inl (v, end) }
+stop_end t i end v = record { within = omega arith; before = λ k h. prefixes_viable t i k v (omega arith); at = inl (v, end) }
 
 -- a text has one stop
 no_later_stop : (t : List ℕ) (n m : ℕ) → n < m → IsStop t n → IsStop t m → ⊥
@@ -176,15 +176,15 @@ stop_once t n m stop other =
       | inr le ↦ elim (cases_lt m n) [ inl lt ↦ absurd (no_later_stop t m n lt other stop) | inr ge ↦ omega arith ]
     ]
 
--- a text with a front that is not viable is no tag
+-- a text with a prefix that is not viable is no tag
 pub no_tag_dead : (t : List ℕ) (i : ℕ) → (IsViable (take i t) → ⊥) → IsTag t → ⊥
 no_tag_dead t i dead tag = dead (viable_from_tag (take i t) (drop i t) (subst IsTag (sym (take-append-drop i t)) tag))
 
--- the empty front is viable
+-- the empty prefix is viable
 pub viable_nothing : IsViable []
 viable_nothing = viable_from_tag [] (filling (begun [])) (viable_reads Normal [] Start (shape_of []) (all_at 0) reads_nothing)
 
--- what is known of a front becomes known of the front with the next byte
+-- what is known of a prefix becomes known of the prefix with the next byte
 pub read_more : (t : List ℕ) (i b : ℕ) (P Q : List ℕ → Type 0) → i < length t → b ≡ get_or t i 0 → ((p : List ℕ) → length p ≡ i → P p → Q (p ++ b ∷ [])) → P (take i t) → Q (take (i + 1) t)
 read_more t i b P Q lt read step known =
     subst Q (ap (λ x. take i t ++ x ∷ []) read ∙ sym (take_more t i 0 lt)) (step (take i t) (omega (arith, length-take i t)) known)

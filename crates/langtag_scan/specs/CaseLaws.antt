@@ -21,7 +21,7 @@ are_alike-equivalence = on_equiv fold_text nat_list_eq_equiv
 case_cmp-total : IsTotalOrder case_cmp
 case_cmp-total = on_total order_key nat_list_cmp_total
 
--- one end behind both texts changes nothing in whether they are equal
+-- one end after both texts changes nothing in whether they are equal
 bytes_eq-push : (end : ℕ) (xs ys : List ℕ) → bytes_eq (xs ++ end ∷ []) (ys ++ end ∷ []) ≡ bytes_eq xs ys
 bytes_eq-push end [] [] = nat_list_eq_equiv.refl (end ∷ [])
 bytes_eq-push end [] (y ∷ []) = and-false (end == y)

@@ -5,34 +5,34 @@ use Rattle.langtag_scan.specs.Tag.{IsPrivate, IsIrregularAt}
 use Rattle.langtag_scan.specs.Ends.{ends_of}
 use Rattle.langtag_scan.specs.declared.ends.Ends.{Ends}
 
--- one of the three cases: normal with the ends of its parts, private use, or irregular with the place in the table
+-- one of the three cases: normal with the ends of its parts, private use, or irregular with the index in the table
 pub data Finding : Type 0 where
   normal : Ends → Finding
   private_use : Finding
   irregular : ℕ → Finding
 
--- the text is a tag of this case, with these ends or at this place
+-- the text is a tag of this case, with these ends or at this index
 abbrev pub IsFoundOf : List ℕ → Finding → Type 0
 IsFoundOf t (normal ends) = (r : Record) × IsWellFormed r × (spell r ≡ t) × (ends ≡ ends_of r)
 IsFoundOf t private_use = IsPrivate t
-IsFoundOf t (irregular place) = IsIrregularAt place t
+IsFoundOf t (irregular index) = IsIrregularAt index t
 
 abbrev pub is_normal : Finding → Bool
 is_normal (normal ends) = true
 is_normal private_use = false
-is_normal (irregular place) = false
+is_normal (irregular index) = false
 
 abbrev pub is_private_use : Finding → Bool
 is_private_use (normal ends) = false
 is_private_use private_use = true
-is_private_use (irregular place) = false
+is_private_use (irregular index) = false
 
-abbrev pub irregular_place : Finding → Option ℕ
-irregular_place (normal ends) = None
-irregular_place private_use = None
-irregular_place (irregular place) = Some place
+abbrev pub irregular_index : Finding → Option ℕ
+irregular_index (normal ends) = None
+irregular_index private_use = None
+irregular_index (irregular index) = Some index
 
 abbrev pub normal_ends : Finding → Option Ends
 normal_ends (normal ends) = Some ends
 normal_ends private_use = None
-normal_ends (irregular place) = None
+normal_ends (irregular index) = None

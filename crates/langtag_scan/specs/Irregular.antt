@@ -28,25 +28,25 @@ folded_texts =
 abbrev pub folded_at : ℕ → List ℕ
 folded_at k = slice_index_or folded_texts k []
 
--- whether a text begins with a front
-abbrev pub is_front : List ℕ → List ℕ → Bool
-is_front [] text = true
-is_front (b ∷ p) [] = false
-is_front (b ∷ p) (c ∷ text) = (b == c) && is_front p text
+-- whether a text begins with a prefix
+abbrev pub is_prefix : List ℕ → List ℕ → Bool
+is_prefix [] text = true
+is_prefix (b ∷ p) [] = false
+is_prefix (b ∷ p) (c ∷ text) = (b == c) && is_prefix p text
 
--- whether a text has this byte at a place
+-- whether a text has this byte at an index
 abbrev pub has_at : List ℕ → ℕ → ℕ → Bool
-has_at text place b = nat_lt place (length text) && (slice_index text place == b)
+has_at text index b = nat_lt index (length text) && (slice_index text index == b)
 
--- whether a text that is alike the irregular one at a place of the table may begin with a front
+-- whether a text that is alike the irregular one at an index of the table may begin with a prefix
 abbrev pub is_possible : List ℕ → ℕ → Bool
-is_possible p k = is_front (fold_text p) (folded_at k)
+is_possible p k = is_prefix (fold_text p) (folded_at k)
 
--- whether a text of this length has to be compared with the irregular one at a place of the table. Those that do not
--- begin with `i` have nine bytes, and each front of them begins a normal tag, too.
+-- whether a text of this length has to be compared with the irregular one at an index of the table. Those that do not
+-- begin with `i` have nine bytes, and each prefix of them begins a normal tag, too.
 abbrev pub matters : ℕ → ℕ → Bool
 matters len k = (len == 9) || (nat_le 1 k && nat_lt k 14)
 
--- whether it does, and a text with this front may be alike it
+-- whether it does, and a text with this prefix may be alike it
 abbrev pub is_followed : ℕ → List ℕ → ℕ → Bool
 is_followed len p k = matters len k && is_possible p k

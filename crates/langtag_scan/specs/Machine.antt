@@ -16,7 +16,7 @@ use Rattle.langtag_scan.specs.declared.ends.Ends.{Ends}
 use Rattle.langtag_scan.specs.declared.machine.Reading.{Reading}
 use Rattle.langtag_scan.specs.declared.machine.Reading.TheVariants.{Normal, Private}
 
--- the subtag that has begun: the bytes behind the last hyphen
+-- the subtag that has begun: the bytes after the last hyphen
 abbrev pub begun : List ℕ → List ℕ
 begun p = after_last is_hyphen p
 
@@ -30,7 +30,7 @@ may_hold _ b = is_alphanumeric b
 abbrev pub all_at : ℕ → Ends
 all_at p = record { language = p; script = p; region = p; variants = p; extensions = p; whole = p }
 
--- the ends behind one more subtag, which ends at a place and has brought the machine into a stage
+-- the ends after one more subtag, which ends at an index and has brought the machine into a stage
 abbrev pub end_at : Stage → ℕ → Ends → Ends
 end_at Start p e = all_at p
 end_at (Language taken) p e = all_at p
@@ -43,17 +43,17 @@ end_at InExtension p e = record { language = e.language; script = e.script; regi
 end_at AfterMark p e = record { language = e.language; script = e.script; region = e.region; variants = e.variants; extensions = e.extensions; whole = p }
 end_at InPrivate p e = record { language = e.language; script = e.script; region = e.region; variants = e.variants; extensions = e.extensions; whole = p }
 
--- where a subtag ends that begins behind the hyphen after all others
-abbrev pub place_behind : Stage → Ends → List ℕ → ℕ
-place_behind Start e s = length s
-place_behind _ e s = e.whole + 1 + length s
+-- where a subtag ends that begins after the hyphen after all others
+abbrev pub index_after : Stage → Ends → List ℕ → ℕ
+index_after Start e s = length s
+index_after _ e s = e.whole + 1 + length s
 
--- the ends behind all these subtags
-unfoldable pub ends_behind : Stage → Ends → List (List ℕ) → Ends
-ends_behind stage e [] = e
-ends_behind stage e (s ∷ ss) = option_map_or (λ after. ends_behind after (end_at after (place_behind stage e s) e) ss) (next_stage stage s) e
+-- the ends after all these subtags
+unfoldable pub ends_after : Stage → Ends → List (List ℕ) → Ends
+ends_after stage e [] = e
+ends_after stage e (s ∷ ss) = option_map_or (λ after. ends_after after (end_at after (index_after stage e s) e) ss) (next_stage stage s) e
 
--- ---- the front that was read
+-- ---- the prefix that was read
 
 -- at most eight letters and digits, of which the first subtag has letters alone
 pub record IsBegun (stage : Stage) (s : List ℕ) : Type 0 where
@@ -61,20 +61,20 @@ pub record IsBegun (stage : Stage) (s : List ℕ) : Type 0 where
   pub alphanumeric : are_alphanumeric s ≡ true
   pub letters : stage ≡ Start → are_letters s ≡ true
 
--- however a text goes on behind the front q, from one stage it runs as what has begun does from another
+-- however a text goes on after the prefix q, from one stage it runs as what has begun does from another
 pub record GoesOn (first : Stage) (q : List ℕ) (stage : Stage) (s : List ℕ) : Type 0 where
   pub begun : IsBegun stage s
   pub same : (u : List ℕ) → runs first (segments (q ++ u)) ≡ runs stage (segments (s ++ u))
 
--- a normal tag may begin with the front p
+-- a normal tag may begin with the prefix p
 pub record ReadsNormal (p : List ℕ) (stage : Stage) (s : List ℕ) (e : Ends) : Type 0 where
   pub goes : GoesOn Start p stage s
-  pub ends : (u : List ℕ) → ends_behind Start (all_at 0) (segments (p ++ u)) ≡ ends_behind stage e (segments (s ++ u))
-  pub place : place_behind stage e s ≡ length p
+  pub ends : (u : List ℕ) → ends_after Start (all_at 0) (segments (p ++ u)) ≡ ends_after stage e (segments (s ++ u))
+  pub index : index_after stage e s ≡ length p
   pub first : stage ≡ Start → p ≡ s
   pub later : (stage ≡ Start → ⊥) → (u : List ℕ) → IsPrivate (p ++ u) → ⊥
 
--- a private text, and no normal one, may begin with the front p
+-- a private text, and no normal one, may begin with the prefix p
 pub record ReadsPrivate (p : List ℕ) (stage : Stage) (s : List ℕ) : Type 0 where
   pub mark : ℕ
   pub rest : List ℕ

@@ -4,12 +4,12 @@ use Rattle.std.specs.List.{AllByRecursion, flat_map}
 use Rattle.langtag_scan.specs.Class.{is_primary, is_extended, is_script, is_region, is_variant, is_extension_subtag, is_private_subtag, is_mark, is_singleton}
 use Rattle.langtag_scan.specs.Subtags.{join}
 
--- extension: a singleton and the subtags behind it (section 2.2.6)
+-- extension: a singleton and the subtags after it (section 2.2.6)
 pub record Extension : Type 0 where
   pub singleton : ℕ
   pub subtags : List (List ℕ)
 
--- privateuse: a mark, `x` or `X`, and the subtags behind it (section 2.2.7)
+-- privateuse: a mark, `x` or `X`, and the subtags after it (section 2.2.7)
 pub record PrivateUse : Type 0 where
   pub mark : ℕ
   pub subtags : List (List ℕ)

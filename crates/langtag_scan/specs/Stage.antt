@@ -50,11 +50,11 @@ after_region_by c = if c.variant then Some AfterVariant else opened_by c
 abbrev pub after_script_by : Classes → Option Stage
 after_script_by c = if c.region then Some AfterRegion else after_region_by c
 
--- behind the primary subtag, where so many of the three places for extended subtags are taken
+-- after the primary subtag, where so many of the three places for extended subtags are taken
 abbrev pub after_language_by : ℕ → Classes → Option Stage
 after_language_by taken c = if c.extended then (if nat_lt taken 3 then Some (Extended (taken + 1)) else None) else if c.script then Some AfterScript else after_script_by c
 
--- the stage behind one more subtag, of these classes
+-- the stage after one more subtag, of these classes
 abbrev pub next_by : Stage → Classes → Option Stage
 next_by Start c = if c.primary then Some (Language (if c.short then 0 else 3)) else None
 next_by (Language taken) c = after_language_by taken c

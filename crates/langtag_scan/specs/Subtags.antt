@@ -24,7 +24,7 @@ abbrev pub segments_left : Option (Bor (List ℕ)) → List (List ℕ)
 segments_left None = []
 segments_left (Some text) = segments text.now
 
--- no byte from the place `low` up to the place `high` is a hyphen
+-- no byte from the index `low` up to the index `high` is a hyphen
 abbrev pub NoHyphenWithin : List ℕ → ℕ → ℕ → Type 0
 NoHyphenWithin text low high = AllWithin (λ b. is_hyphen b ≡ false) text low high
 

@@ -13,7 +13,7 @@ IsNormal t = (r : Record) × IsWellFormed r × (spell r ≡ t)
 unfoldable pub IsPrivate : List ℕ → Type 0
 IsPrivate t = (p : PrivateUse) × IsPrivateUse p × (join (private_use_flat p) ≡ t)
 
--- the text is alike the irregular one at a place of the table
+-- the text is alike the irregular one at an index of the table
 unfoldable pub IsIrregularAt : ℕ → List ℕ → Type 0
 IsIrregularAt k t = (name : List ℕ) × (slice_get irregular_texts k ≡ Some name) × Alike name t
 

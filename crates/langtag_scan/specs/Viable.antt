@@ -1,4 +1,4 @@
--- Which fronts of a text some tag begins with.
+-- Which prefixes of a text some tag begins with.
 use Rattle.std.specs.Prelude.{◌≡◌, ℕ, ◌-◌, ◌<◌, ◌≤◌, ◌⊎◌, List, ◌++◌, length, take, replicate, slice_get, Some}
 use Rattle.std.specs.List.{after_last}
 use Rattle.langtag_scan.specs.Subtags.{is_hyphen}
@@ -10,7 +10,7 @@ use Rattle.langtag_scan.specs.Tag.{IsTag}
 unfoldable pub IsViable : List ℕ → Type 0
 IsViable p = (u : List ℕ) × IsTag (p ++ u)
 
--- n is the length of the shortest front that is not viable, or the length of the text where all fronts are
+-- n is the length of the shortest prefix that is not viable, or the length of the text where all prefixes are
 pub record IsStop (t : List ℕ) (n : ℕ) : Type 0 where
   pub within : n ≤ length t
   pub before : (k : ℕ) → k < n → IsViable (take k t)
@@ -20,10 +20,10 @@ pub record IsStop (t : List ℕ) (n : ℕ) : Type 0 where
 abbrev pub filling : List ℕ → List ℕ
 filling s = replicate (5 - length s) 97
 
--- the text, with the bytes behind its last hyphen, or all where it has none, brought to five
+-- the text, with the bytes after its last hyphen, or all where it has none, brought to five
 abbrev pub fill : List ℕ → List ℕ
 fill p = p ++ filling (after_last is_hyphen p)
 
--- the text is alike a front of an irregular one
-unfoldable pub IsIrregularFront : List ℕ → Type 0
-IsIrregularFront p = (place : ℕ) × (name : List ℕ) × (slice_get irregular_texts place ≡ Some name) × Alike p (take (length p) name)
+-- the text is alike a prefix of an irregular one
+unfoldable pub IsIrregularPrefix : List ℕ → Type 0
+IsIrregularPrefix p = (index : ℕ) × (name : List ℕ) × (slice_get irregular_texts index ≡ Some name) × Alike p (take (length p) name)

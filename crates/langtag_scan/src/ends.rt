@@ -3,10 +3,10 @@ ghost use Rattle.std.specs.Prelude.{◌≡◌};
 
 use crate::stage::Stage;
 
-/// The end of each part of a normal tag, or, where a part is absent, of the part before: places in bytes from
+/// The end of each part of a normal tag, or, where a part is absent, of the part before: offsets in bytes from
 /// the start of the text, each one past the last byte (RFC 5646 section 2.1).
 ///
-/// The language begins at 0. Any other part that is there begins one past the end of the part before, behind a
+/// The language begins at 0. Any other part that is there begins one past the end of the part before, after a
 /// hyphen. In `en-Latn-x-a` they are 2, 7, 7, 7, 7 and 11.
 #[derive(Clone, Copy, Debug, PartialEq, Eq)]
 pub struct Ends {
@@ -27,50 +27,50 @@ pub struct Ends {
 impl Ends {
     ghost use Rattle.langtag_scan.specs.Machine.{all_at, end_at};
 
-    /// Each end at one place.
-    pub(crate) fn all_at(place: usize) -> Self
-        ensures { result ≡ all_at place }
+    /// Each end at one index.
+    pub(crate) fn all_at(index: usize) -> Self
+        ensures { result ≡ all_at index }
     {
         Ends {
-            language: place,
-            script: place,
-            region: place,
-            variants: place,
-            extensions: place,
-            whole: place,
+            language: index,
+            script: index,
+            region: index,
+            variants: index,
+            extensions: index,
+            whole: index,
         }
     }
 
-    /// The ends behind one more subtag, which ends at `place` and belongs to the part of the stage.
+    /// The ends after one more subtag, which ends at `index` and belongs to the part of the stage.
     #[inline(always)]
-    pub(crate) fn end_at(&mut self, stage: Stage, place: usize)
-        ensures { self.new ≡ end_at stage place self.old }
+    pub(crate) fn end_at(&mut self, stage: Stage, index: usize)
+        ensures { self.new ≡ end_at stage index self.old }
     {
         match stage {
-            Stage::Start | Stage::Language(_) | Stage::Extended(_) => *self = Ends::all_at(place),
+            Stage::Start | Stage::Language(_) | Stage::Extended(_) => *self = Ends::all_at(index),
             Stage::AfterScript => {
-                self.script = place;
-                self.region = place;
-                self.variants = place;
-                self.extensions = place;
-                self.whole = place;
+                self.script = index;
+                self.region = index;
+                self.variants = index;
+                self.extensions = index;
+                self.whole = index;
             }
             Stage::AfterRegion => {
-                self.region = place;
-                self.variants = place;
-                self.extensions = place;
-                self.whole = place;
+                self.region = index;
+                self.variants = index;
+                self.extensions = index;
+                self.whole = index;
             }
             Stage::AfterVariant => {
-                self.variants = place;
-                self.extensions = place;
-                self.whole = place;
+                self.variants = index;
+                self.extensions = index;
+                self.whole = index;
             }
             Stage::AfterSingleton | Stage::InExtension => {
-                self.extensions = place;
-                self.whole = place;
+                self.extensions = index;
+                self.whole = index;
             }
-            Stage::AfterMark | Stage::InPrivate => self.whole = place,
+            Stage::AfterMark | Stage::InPrivate => self.whole = index,
         }
     }
 }

@@ -1,24 +1,24 @@
 //! What a recogniser found.
 ghost use Rattle.std.specs.Prelude.{◌≡◌};
-ghost use Rattle.langtag_scan.specs.Found.{Finding.normal, Finding.private_use, Finding.irregular, is_normal, is_private_use, irregular_place, normal_ends};
+ghost use Rattle.langtag_scan.specs.Found.{Finding.normal, Finding.private_use, Finding.irregular, is_normal, is_private_use, irregular_index, normal_ends};
 ghost use Rattle.langtag_scan.specs.Findings.{finding};
 
 use crate::ends::Ends;
 
 #[derive(Clone, Copy)]
-enum Case {
+enum Kind {
     Normal(Ends),
     PrivateUse,
     Irregular(usize),
 }
 
 /// What a recogniser found of a text that is a tag (RFC 5646 section 2.1): which of the three kinds it is, with
-/// the ends of the parts of a normal tag, and the place in the table of an irregular one.
+/// the ends of the parts of a normal tag, and the index in the table of an irregular one.
 ///
 /// Only the recognisers make one.
 #[derive(Clone, Copy)]
 pub struct Found {
-    case: Case,
+    kind: Kind,
 }
 
 impl Found {
@@ -26,7 +26,7 @@ impl Found {
         ensures { finding result ≡ normal ends }
     {
         Found {
-            case: Case::Normal(ends),
+            kind: Kind::Normal(ends),
         }
     }
 
@@ -34,15 +34,15 @@ impl Found {
         ensures { finding result ≡ private_use }
     {
         Found {
-            case: Case::PrivateUse,
+            kind: Kind::PrivateUse,
         }
     }
 
-    pub(crate) fn at_irregular(place: usize) -> Self
-        ensures { finding result ≡ irregular place }
+    pub(crate) fn at_irregular(index: usize) -> Self
+        ensures { finding result ≡ irregular index }
     {
         Found {
-            case: Case::Irregular(place),
+            kind: Kind::Irregular(index),
         }
     }
 
@@ -50,23 +50,23 @@ impl Found {
     pub fn is_normal(&self) -> bool
         ensures { result ≡ is_normal (finding self.now) }
     {
-        matches!(self.case, Case::Normal(_))
+        matches!(self.kind, Kind::Normal(_))
     }
 
     /// Whether the text is a private use tag (section 2.2.7), which has a mark and private use subtags alone.
     pub fn is_private_use(&self) -> bool
         ensures { result ≡ is_private_use (finding self.now) }
     {
-        matches!(self.case, Case::PrivateUse)
+        matches!(self.kind, Kind::PrivateUse)
     }
 
-    /// The place in the table of an irregular grandfathered tag (section 2.2.8): 0 to 16, in the order in which
+    /// The index in the table of an irregular grandfathered tag (section 2.2.8): 0 to 16, in the order in which
     /// section 2.1 lists them.
     pub fn irregular(&self) -> Option<usize>
-        ensures { result ≡ irregular_place (finding self.now) }
+        ensures { result ≡ irregular_index (finding self.now) }
     {
-        match self.case {
-            Case::Irregular(place) => Some(place),
+        match self.kind {
+            Kind::Irregular(index) => Some(index),
             _ => None,
         }
     }
@@ -75,8 +75,8 @@ impl Found {
     pub fn ends(&self) -> Option<Ends>
         ensures { result ≡ normal_ends (finding self.now) }
     {
-        match self.case {
-            Case::Normal(ends) => Some(ends),
+        match self.kind {
+            Kind::Normal(ends) => Some(ends),
             _ => None,
         }
     }

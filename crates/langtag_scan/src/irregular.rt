@@ -32,15 +32,15 @@ const FOLDED: [&[u8]; 17] = [
 /// The length of the irregular texts that do not begin with `i`.
 const NINE: usize = 9;
 
-/// The places of the irregular texts that a text of a length may still become. Since these texts are neighbours, the
-/// places make a range, which is empty after the first byte of nearly every text.
+/// The indices of the irregular texts that a text of a length may still become. Since these texts are neighbours, the
+/// indices make a range, which is empty after the first byte of nearly every text.
 ///
 /// The irregular texts that do not begin with `i` matter to a text of nine bytes alone: what begins like one of them
 /// begins a normal tag, too.
 #[derive(Clone, Copy)]
 pub(crate) struct Names {
     low: usize,
-    /// The place behind the last.
+    /// The index after the last.
     high: usize,
     /// The length of the text.
     len: usize,
@@ -71,18 +71,18 @@ impl Names {
         }
     }
 
-    /// Keeps the texts that have this byte at this place, in either case.
+    /// Keeps the texts that have this byte at this index, in either case.
     #[inline(always)]
-    pub(crate) fn keep(&mut self, place: usize, byte: u8)
+    pub(crate) fn keep(&mut self, index: usize, byte: u8)
         ensures len { self.new.len ≡ self.old.len }
-        ensures follows { (p : List ℕ) → length p ≡ place → Follows p self.old → Follows (p ++ byte ∷ []) self.new }
+        ensures follows { (p : List ℕ) → length p ≡ index → Follows p self.old → Follows (p ++ byte ∷ []) self.new }
     {
         let small = into_smallcase(byte);
-        if place == 0 {
+        if index == 0 {
             *self = begun_by(small, self.len);
         } else {
-            self.low = first_with(self.low, self.high, place, small);
-            self.high = end_with(self.low, self.high, place, small);
+            self.low = first_with(self.low, self.high, index, small);
+            self.high = end_with(self.low, self.high, index, small);
         }
     }
 
@@ -145,7 +145,7 @@ fn begun_by(small: u8, len: usize) -> Names
     }
 }
 
-/// The folded irregular text at a place of the table.
+/// The folded irregular text at an index of the table.
 #[tactic(auto, unfolding(crate::specs::Irregular::folded_texts))]
 fn folded(k: usize) -> &'static [u8]
     requires { k < 17 }
@@ -154,46 +154,46 @@ fn folded(k: usize) -> &'static [u8]
     FOLDED[k]
 }
 
-/// Whether the text at a place of the table has this byte at this place.
-fn has_byte(k: usize, place: usize, byte: u8) -> bool
+/// Whether the text at an index of the table has this byte at this index.
+fn has_byte(k: usize, index: usize, byte: u8) -> bool
     requires { k < 17 }
-    ensures { result ≡ has_at (folded_at k) place byte }
+    ensures { result ≡ has_at (folded_at k) index byte }
 {
     let text = folded(k);
-    place < text.len() && text[place] == byte
+    index < text.len() && text[index] == byte
 }
 
-/// The first place from `low` on whose text has this byte, or `high` where there is none.
+/// The first index from `low` on whose text has this byte, or `high` where there is none.
 #[cold]
 #[inline(never)]
-fn first_with(low: usize, high: usize, place: usize, byte: u8) -> usize
+fn first_with(low: usize, high: usize, index: usize, byte: u8) -> usize
     requires ordered { low ≤ high }
     requires within { high ≤ 17 }
     ensures from { low ≤ result }
     ensures to { result ≤ high }
-    ensures others { (k : ℕ) → low ≤ k → k < result → has_at (folded_at k) place byte ≡ false }
-    ensures first { result < high → has_at (folded_at result) place byte ≡ true }
+    ensures others { (k : ℕ) → low ≤ k → k < result → has_at (folded_at k) index byte ≡ false }
+    ensures first { result < high → has_at (folded_at result) index byte ≡ true }
 {
     let mut first = low;
-    while first < high && !has_byte(first, place, byte) {
+    while first < high && !has_byte(first, index, byte) {
         first += 1;
     }
     first
 }
 
-/// The place behind the last one below `high` whose text has this byte, or `low` where there is none.
+/// The index after the last one below `high` whose text has this byte, or `low` where there is none.
 #[cold]
 #[inline(never)]
-fn end_with(low: usize, high: usize, place: usize, byte: u8) -> usize
+fn end_with(low: usize, high: usize, index: usize, byte: u8) -> usize
     requires ordered { low ≤ high }
     requires within { high ≤ 17 }
     ensures from { low ≤ result }
     ensures to { result ≤ high }
-    ensures others { (k : ℕ) → result ≤ k → k < high → has_at (folded_at k) place byte ≡ false }
-    ensures last { low < result → has_at (folded_at (result - 1)) place byte ≡ true }
+    ensures others { (k : ℕ) → result ≤ k → k < high → has_at (folded_at k) index byte ≡ false }
+    ensures last { low < result → has_at (folded_at (result - 1)) index byte ≡ true }
 {
     let mut end = high;
-    while low < end && !has_byte(end - 1, place, byte) {
+    while low < end && !has_byte(end - 1, index, byte) {
         end -= 1;
     }
     end

@@ -24,7 +24,7 @@ pub(crate) enum Reading {
 #[derive(Drop)]
 pub(crate) struct Machine {
     reading: Reading,
-    /// The stage behind the last whole subtag.
+    /// The stage after the last whole subtag.
     stage: Stage,
     /// The subtag that has begun.
     begun: Shape,
@@ -47,17 +47,17 @@ impl Machine {
         }
     }
 
-    /// Takes the byte at a place, the bytes before it having been taken. Where no normal tag and no private one begins
+    /// Takes the byte at an index, the bytes before it having been taken. Where no normal tag and no private one begins
     /// so, it answers false.
     #[inline(always)]
-    pub(crate) fn step(&mut self, place: usize, byte: u8) -> bool
-        ensures goes_on { (p : List ℕ) → length p ≡ place → Tracks p self.old → IsTrue result → Tracks (p ++ byte ∷ []) self.new }
-        ensures stops { (p : List ℕ) → length p ≡ place → Tracks p self.old → result ≡ false → HasStopped (p ++ byte ∷ []) }
+    pub(crate) fn step(&mut self, index: usize, byte: u8) -> bool
+        ensures goes_on { (p : List ℕ) → length p ≡ index → Tracks p self.old → IsTrue result → Tracks (p ++ byte ∷ []) self.new }
+        ensures stops { (p : List ℕ) → length p ≡ index → Tracks p self.old → result ≡ false → HasStopped (p ++ byte ∷ []) }
     {
         if is_letter(byte) {
             self.begun.push(byte)
         } else if byte == b'-' {
-            self.end_subtag(place)
+            self.end_subtag(index)
         } else if is_digit(byte) && !self.stage.is_start() {
             self.begun.push(byte)
         } else {
@@ -65,20 +65,20 @@ impl Machine {
         }
     }
 
-    /// The subtag that has begun ends before this place, at a hyphen or at the end of the text, if it may.
+    /// The subtag that has begun ends before this index, at a hyphen or at the end of the text, if it may.
     #[inline(always)]
-    fn end_subtag(&mut self, place: usize) -> bool
-        ensures goes_on { (p : List ℕ) → length p ≡ place → Tracks p self.old → IsTrue result → Tracks (p ++ 45 ∷ []) self.new }
-        ensures stops { (p : List ℕ) → length p ≡ place → Tracks p self.old → result ≡ false → HasStopped (p ++ 45 ∷ []) }
-        ensures read { (p : List ℕ) → length p ≡ place → Tracks p self.old → IsTrue result → IsReadAs p self.new }
-        ensures refused { (p : List ℕ) → length p ≡ place → Tracks p self.old → (result ≡ false) ⊎ (may_end self.new.stage ≡ false) → IsRefused p }
+    fn end_subtag(&mut self, index: usize) -> bool
+        ensures goes_on { (p : List ℕ) → length p ≡ index → Tracks p self.old → IsTrue result → Tracks (p ++ 45 ∷ []) self.new }
+        ensures stops { (p : List ℕ) → length p ≡ index → Tracks p self.old → result ≡ false → HasStopped (p ++ 45 ∷ []) }
+        ensures read { (p : List ℕ) → length p ≡ index → Tracks p self.old → IsTrue result → IsReadAs p self.new }
+        ensures refused { (p : List ℕ) → length p ≡ index → Tracks p self.old → (result ≡ false) ⊎ (may_end self.new.stage ≡ false) → IsRefused p }
     {
         let subtag = self.begun;
         self.begun = Shape::empty();
         match self.stage.next(&subtag) {
             Some(stage) => {
                 self.stage = stage;
-                self.ends.end_at(stage, place);
+                self.ends.end_at(stage, index);
                 true
             }
             None if self.stage.is_start() && subtag.is_mark() => {

@@ -2,7 +2,7 @@
 ghost use Rattle.std.specs.Prelude.{◌≡◌, ◌↔◌, ◌⊎◌, ℕ, ◌≤◌, ◌+◌, ◌^◌, max, List, length, IsTrue, MatchOption};
 ghost use Rattle.langtag_scan.specs.Record.{Record, IsWellFormed, spell};
 ghost use Rattle.langtag_scan.specs.Tag.{IsNormal, IsPrivate, IsIrregularAt, IsIrregular, IsTag};
-ghost use Rattle.langtag_scan.specs.Viable.{IsStop, IsViable, IsIrregularFront, fill};
+ghost use Rattle.langtag_scan.specs.Viable.{IsStop, IsViable, IsIrregularPrefix, fill};
 ghost use Rattle.langtag_scan.specs.Findings.{finding};
 ghost use Rattle.langtag_scan.specs.Found.{IsFoundOf, is_normal};
 
@@ -26,30 +26,30 @@ pub fn recognise<S: ByteSource>(source: &mut S) -> Option<Found>
     ensures normal_not_private { (t : List ℕ) → IsNormal t → IsPrivate t → ⊥ }
     ensures normal_not_irregular { (t : List ℕ) → IsNormal t → IsIrregular t → ⊥ }
     ensures private_not_irregular { (t : List ℕ) → IsPrivate t → IsIrregular t → ⊥ }
-    ensures one_place { (j k : ℕ) (t : List ℕ) → IsIrregularAt j t → IsIrregularAt k t → j ≡ k }
+    ensures one_index { (j k : ℕ) (t : List ℕ) → IsIrregularAt j t → IsIrregularAt k t → j ≡ k }
     ensures one_stop { (t : List ℕ) (n m : ℕ) → IsStop t n → IsStop t m → n ≡ m }
-    ensures viable { (p : List ℕ) → IsViable p ↔ (IsTag (fill p) ⊎ IsIrregularFront p) }
+    ensures viable { (p : List ℕ) → IsViable p ↔ (IsTag (fill p) ⊎ IsIrregularPrefix p) }
 {
     let len = source.len();
     let mut machine = Machine::new();
     let mut names = Names::new(len);
     let mut goes_on = true;
-    let mut place = 0;
+    let mut index = 0;
     // While an irregular text is possible: for nearly every text, that is the first byte.
-    'irregular: while place < len && !names.is_empty() {
-        let byte = source.byte(place);
-        names.keep(place, byte);
-        goes_on = goes_on && machine.step(place, byte);
-        place += 1;
+    'irregular: while index < len && !names.is_empty() {
+        let byte = source.byte(index);
+        names.keep(index, byte);
+        goes_on = goes_on && machine.step(index, byte);
+        index += 1;
     }
     if !goes_on {
-        return if place < len { None } else { names.found() };
+        return if index < len { None } else { names.found() };
     }
-    'stages: while place < len {
-        if !machine.step(place, source.byte(place)) {
+    'stages: while index < len {
+        if !machine.step(index, source.byte(index)) {
             return None;
         }
-        place += 1;
+        index += 1;
     }
     match machine.found(len) {
         Some(found) => Some(found),

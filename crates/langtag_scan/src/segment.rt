@@ -1,19 +1,19 @@
-//! Where a segment of a text, what stands between two hyphens, ends and begins (RFC 5646 section 2.1). Places count
+//! Where a segment of a text, what stands between two hyphens, ends and begins (RFC 5646 section 2.1). Indices count
 //! bytes.
 ghost use Rattle.std.specs.Prelude.{◌≡◌, ◌-◌, ◌≤◌, ◌<◌, length, slice_index};
 ghost use Rattle.langtag_scan.specs.Subtags.{NoHyphenWithin};
 
-/// The place of the first hyphen at or after `place`, else the length.
+/// The index of the first hyphen at or after `index`, else the length.
 ///
 /// In `fr-FR` the segment that begins at 3 ends at 5.
-pub fn segment_end(bytes: &[u8], place: usize) -> usize
-    requires { place ≤ length bytes.now }
-    ensures at_or_after { place ≤ result }
+pub fn segment_end(bytes: &[u8], index: usize) -> usize
+    requires { index ≤ length bytes.now }
+    ensures at_or_after { index ≤ result }
     ensures within { result ≤ length bytes.now }
-    ensures first { NoHyphenWithin bytes.now place result }
+    ensures first { NoHyphenWithin bytes.now index result }
     ensures hyphen { result < length bytes.now → slice_index bytes.now result ≡ 45 }
 {
-    let mut end = place;
+    let mut end = index;
     while end < bytes.len() && bytes[end] != b'-' {
         end += 1;
     }

@@ -5,7 +5,7 @@ ghost use Rattle.langtag_scan.specs.Stage.{opened_by, after_region_by, after_scr
 
 use crate::shape::Shape;
 
-/// How many extended subtags may stand behind a primary subtag.
+/// How many extended subtags may stand after a primary subtag.
 const MOST_EXTENDED: u8 = 3;
 
 /// Which part of a tag the last whole subtag belongs to.
@@ -13,28 +13,28 @@ const MOST_EXTENDED: u8 = 3;
 pub(crate) enum Stage {
     /// Before the first subtag.
     Start,
-    /// Behind a primary subtag. So many places for extended subtags are taken: all behind one of four letters or more.
+    /// After a primary subtag. So many places for extended subtags are taken: all after one of four letters or more.
     Language(u8),
-    /// Behind an extended subtag, with so many places taken.
+    /// After an extended subtag, with so many places taken.
     Extended(u8),
-    /// Behind the script.
+    /// After the script.
     AfterScript,
-    /// Behind the region.
+    /// After the region.
     AfterRegion,
-    /// Behind a variant.
+    /// After a variant.
     AfterVariant,
-    /// Behind a singleton, whose extension needs a subtag.
+    /// After a singleton, whose extension needs a subtag.
     AfterSingleton,
-    /// Behind a subtag of an extension.
+    /// After a subtag of an extension.
     InExtension,
-    /// Behind the mark of a private use part, which needs a subtag.
+    /// After the mark of a private use part, which needs a subtag.
     AfterMark,
-    /// Behind a private use subtag.
+    /// After a private use subtag.
     InPrivate,
 }
 
 impl Stage {
-    /// The stage behind one more subtag, or None where no such subtag may follow.
+    /// The stage after one more subtag, or None where no such subtag may follow.
     #[inline(always)]
     pub(crate) fn next(self, subtag: &Shape) -> Option<Stage>
         ensures { result ≡ next_by self (classes_of_shape subtag.now) }

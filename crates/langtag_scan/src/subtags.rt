@@ -60,8 +60,8 @@ impl<'a> DoubleEndedIterator for Subtags<'a> {
     ghost next_back_gives = { YieldsLastRef (λ walk. walk) };
 
     fn next_back(&mut self) -> Option<&'a str> {
-        let (front, last) = split_last(self.rest?);
-        self.rest = front;
+        let (prefix, last) = split_last(self.rest?);
+        self.rest = prefix;
         Some(last)
     }
 }
@@ -83,7 +83,7 @@ fn split_first<'a>(text: &'a str) -> (&'a str, Option<&'a str>)
 fn split_last<'a>(text: &'a str) -> (Option<&'a str>, &'a str)
     ensures hyphen_free { IsHyphenFree result.1.now }
     ensures joined { MatchOption result.0 (text.now ≡ result.1.now)
-        (λ front. text.now ≡ front.now ++ 45 ∷ result.1.now) }
+        (λ prefix. text.now ≡ prefix.now ++ 45 ∷ result.1.now) }
 {
     let start = segment_start(text.as_bytes(), text.len());
     if start == 0 {

@@ -5,7 +5,7 @@ mod case;
 mod caseless;
 mod class;
 mod ends;
-mod fronts;
+mod prefixes;
 mod reads;
 mod refused;
 mod segment;

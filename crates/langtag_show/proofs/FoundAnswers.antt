@@ -9,15 +9,15 @@ pub answer_normal : (line text : List ℕ) (found : Finding) → is_normal found
 unfolding IsNormal
 answer_normal line text (found_normal ends) h says (r, fits, spells, same) = normal (r, fits, spells) says
 answer_normal line text found_private h says is = absurd cc
-answer_normal line text (found_irregular place) h says is = absurd cc
+answer_normal line text (found_irregular index) h says is = absurd cc
 
 pub answer_private : (line text : List ℕ) (found : Finding) → is_private_use found ≡ true → text ≡ codes "private" → IsFoundOf line found → IsAnswer line text
 answer_private line text (found_normal ends) h says is = absurd cc
 answer_private line text found_private h says is = private_use is says
-answer_private line text (found_irregular place) h says is = absurd cc
+answer_private line text (found_irregular index) h says is = absurd cc
 
 pub answer_irregular : (line text : List ℕ) (found : Finding) → is_normal found ≡ false → is_private_use found ≡ false → text ≡ codes "irregular" → IsFoundOf line found → IsAnswer line text
 unfolding IsIrregular
 answer_irregular line text (found_normal ends) h k says is = absurd cc
 answer_irregular line text found_private h k says is = absurd cc
-answer_irregular line text (found_irregular place) h k says is = irregular (place, is) says
+answer_irregular line text (found_irregular index) h k says is = irregular (index, is) says

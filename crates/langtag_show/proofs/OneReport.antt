@@ -1,6 +1,6 @@
 -- A line has one answer, and so an input one report.
 use Rattle.std.proofs.Common.{◌≡◌, ◌∙◌, ℕ, List, ◌++◌, refl, sym, ap}
-use Rattle.langtag_scan.proofs.OneCase.{normal_no_private, normal_no_irregular, private_no_irregular}
+use Rattle.langtag_scan.proofs.OneKind.{normal_no_private, normal_no_irregular, private_no_irregular}
 use Rattle.langtag_scan.proofs.TagLaws.{tag_normal, tag_private, tag_of_irregular}
 use Rattle.langtag_show.specs.Lines.{ended}
 use Rattle.langtag_show.specs.Report.{IsAnswer, normal, private_use, irregular, refused, AreAnswers, none, one_more}

@@ -50,22 +50,22 @@ pub written_more : (a b c : Option (List ℕ)) (input rest more : List ℕ) → 
 written_more a b c input rest more is p q = Answers-same a c _ _ (sym (lines_more input rest more is)) (Answers-trans a b c _ _ p q)
 
 -- a run that stops keeps the answers to the first k lines
-pub written_front : (a b c : Option (List ℕ)) (input rest more : List ℕ) → rest ≡ rest_of input → Answers a b (complete_lines input)
+pub written_prefix : (a b c : Option (List ℕ)) (input rest more : List ℕ) → rest ≡ rest_of input → Answers a b (complete_lines input)
     → ((k : ℕ) × Answers b c (take k (complete_lines (rest ++ more)))) → (k : ℕ) × Answers a c (take k (complete_lines (input ++ more)))
-written_front a b c input rest more is p (k, q) =
+written_prefix a b c input rest more is p (k, q) =
     let lines = complete_lines input in
     let later = complete_lines (rest ++ more) in
-    let front : take (length lines + k) (complete_lines (input ++ more)) ≡ lines ++ take k later =
+    let prefix : take (length lines + k) (complete_lines (input ++ more)) ≡ lines ++ take k later =
     ap (take (length lines + k)) (lines_more input rest more is) ∙ take-append-add lines later k in
-    (length lines + k, Answers-same a c _ _ (sym front) (Answers-trans a b c _ _ p q))
+    (length lines + k, Answers-same a c _ _ (sym prefix) (Answers-trans a b c _ _ p q))
 
 pub written_before : (a b c : Option (List ℕ)) (input more : List ℕ) → Answers a b (complete_lines input) → Keeps b c
     → (k : ℕ) × Answers a c (take k (complete_lines (input ++ more)))
 written_before a b c input more p kept =
     let lines = complete_lines input in
-    let front : take (length lines) (complete_lines (input ++ more)) ≡ lines =
+    let prefix : take (length lines) (complete_lines (input ++ more)) ≡ lines =
     ap (take (length lines)) (complete_lines-append input more) ∙ take-append_seam lines (complete_lines (rest_of input ++ more)) in
-    (length lines, Answers-same a c _ _ (sym front) (Answers-kept a b c _ p kept))
+    (length lines, Answers-same a c _ _ (sym prefix) (Answers-kept a b c _ p kept))
 
 -- the answers to the complete lines, and then to the last one
 pub written_all : (a b c : Option (List ℕ)) (input rest : List ℕ) → rest ≡ rest_of input → Answers a b (complete_lines input) → Answers b c (last_line rest) → Answers a c (lines_of input)

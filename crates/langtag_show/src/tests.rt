@@ -114,8 +114,8 @@ impl Write for Page {
     }
 }
 
-// Whether a text is whole lines at the front of another.
-fn is_front(text: &[u8], whole: &[u8]) -> bool {
+// Whether a text is whole lines at the start of another.
+fn is_prefix(text: &[u8], whole: &[u8]) -> bool {
     whole.starts_with(text) && (text.is_empty() || text.ends_with(b"\n"))
 }
 
@@ -129,7 +129,7 @@ fn long_input() -> [u8; 20_007] {
     text
 }
 
-// A run over the text gives the whole report, or meets a refused growth and leaves whole answers from its front.
+// A run over the text gives the whole report, or meets a refused growth and leaves whole answers from its start.
 fn leaves_whole_answers(rt: &impl Abort, alloc: Global, text: &[u8], want: &[u8]) {
     let mut output = Page::new();
     match run(alloc, &mut Feed::new(text, ROOM), &mut output) {
@@ -138,7 +138,7 @@ fn leaves_whole_answers(rt: &impl Abort, alloc: Global, text: &[u8], want: &[u8]
         }
         Err(error) => {
             assert_eq!(rt; error, ShowError::Memory);
-            assert!(rt; is_front(output.text(), want));
+            assert!(rt; is_prefix(output.text(), want));
             assert_eq!(rt; output.flushes, 0);
         }
     }
@@ -158,11 +158,11 @@ fn a_refused_growth_of_a_long_line_leaves_whole_answers(rt: HostRuntime) {
     leaves_whole_answers(&rt, rt.alloc(), &long_input(), b"normal\nnormal\n");
 }
 
-// A front of whole lines, and then a line that is longer than the largest block of `Small`.
-fn before_a_long_line(front: &[u8]) -> [u8; 20_007] {
+// A prefix of whole lines, and then a line that is longer than the largest block of `Small`.
+fn before_a_long_line(prefix: &[u8]) -> [u8; 20_007] {
     let mut text = [b'a'; 20_007];
-    for (place, byte) in text.iter_mut().zip(front) {
-        *place = *byte;
+    for (slot, byte) in text.iter_mut().zip(prefix) {
+        *slot = *byte;
     }
     text
 }
@@ -180,9 +180,9 @@ fn the_answers_before_a_refused_growth_stand(rt: HostRuntime) {
             b"normal\nrefused\nprivate\nnormal\n",
         ),
     ];
-    for (front, want) in rows {
+    for (prefix, want) in rows {
         let heap = Small { inner: rt.alloc() };
-        let text = before_a_long_line(front);
+        let text = before_a_long_line(prefix);
         let mut output = Page::new();
         let outcome = run_in(heap, &mut Feed::new(&text, ROOM), &mut output);
         assert_eq!(rt; outcome, Err(ShowError::Memory));

@@ -49,10 +49,10 @@ fn private(rt: HostRuntime) {
 
 #[test]
 fn irregular(rt: HostRuntime) {
-    for &(text, place) in IRREGULAR {
-        is_not_normal(&rt, text, Answer::Irregular(place));
+    for &(text, index) in IRREGULAR {
+        is_not_normal(&rt, text, Answer::Irregular(index));
     }
-    for (place, text) in TABLE.iter().enumerate() {
-        is_not_normal(&rt, text, Answer::Irregular(place));
+    for (index, text) in TABLE.iter().enumerate() {
+        is_not_normal(&rt, text, Answer::Irregular(index));
     }
 }

@@ -27,7 +27,7 @@ impl Answer {
         ) {
             (true, false, None, Some(ends)) => Answer::Normal(ends),
             (false, true, None, None) => Answer::Private,
-            (false, false, Some(place), None) => Answer::Irregular(place),
+            (false, false, Some(index), None) => Answer::Irregular(index),
             _ => Answer::Torn,
         }
     }
@@ -38,8 +38,8 @@ impl Answer {
 }
 
 /// The ends in the order of the parts, the whole length last.
-pub(crate) fn ends(places: [usize; 6]) -> Ends {
-    let [language, script, region, variants, extensions, whole] = places;
+pub(crate) fn ends(indices: [usize; 6]) -> Ends {
+    let [language, script, region, variants, extensions, whole] = indices;
     Ends {
         language,
         script,
@@ -74,7 +74,7 @@ pub(crate) fn of_normal(rt: &impl Abort, text: &str) -> Answer {
     Answer::of(found)
 }
 
-/// The text, and behind it one byte again and again.
+/// The text, and after it one byte again and again.
 pub(crate) fn followed(text: &str, tail: u8) -> [u8; 160] {
     let mut bytes = [tail; 160];
     for (to, from) in bytes.iter_mut().zip(text.as_bytes()) {
@@ -83,7 +83,7 @@ pub(crate) fn followed(text: &str, tail: u8) -> [u8; 160] {
     bytes
 }
 
-/// The text with each letter in the other case, and underscores behind it.
+/// The text with each letter in the other case, and underscores after it.
 pub(crate) fn case_swapped(text: &str) -> [u8; 64] {
     let mut bytes = [b'_'; 64];
     for (to, from) in bytes.iter_mut().zip(text.as_bytes()) {

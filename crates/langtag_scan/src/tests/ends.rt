@@ -28,8 +28,8 @@ pub(crate) const ENDS: &[(&str, [usize; 6])] = &[
 
 #[test]
 fn of_each_part(rt: HostRuntime) {
-    for &(text, places) in ENDS {
-        let want = Answer::Normal(ends(places));
+    for &(text, indices) in ENDS {
+        let want = Answer::Normal(ends(indices));
         assert_eq!(rt; of_text(&rt, text), (want, text.len()), "at {text}");
         assert_eq!(rt; of_normal(&rt, text), want, "at {text}");
     }
@@ -37,15 +37,15 @@ fn of_each_part(rt: HostRuntime) {
 
 #[test]
 fn in_the_other_case(rt: HostRuntime) {
-    for &(text, places) in ENDS {
+    for &(text, indices) in ENDS {
         assert!(rt; text.len() <= 64);
         let swapped = case_swapped(text);
-        let want = (Answer::Normal(ends(places)), text.len());
+        let want = (Answer::Normal(ends(indices)), text.len());
         assert_eq!(rt; of_bytes(&rt, &swapped[..text.len()]), want, "at {text}");
     }
 }
 
-/// The bytes from one place to another.
+/// The bytes from one index to another.
 fn between<'a>(rt: &impl Abort, text: &'a str, begin: usize, end: usize) -> &'a [u8] {
     assert!(rt; begin <= end && end <= text.len(), "in {text}");
     &text.as_bytes()[begin..end]

@@ -49,7 +49,7 @@ fn refused(rt: HostRuntime) {
 
 #[test]
 fn bytes_that_are_no_text(rt: HostRuntime) {
-    for (place, (bytes, reads)) in [
+    for (index, (bytes, reads)) in [
         (b"\xff".as_slice(), 1),
         (b"fr-\xc3", 4),
         (b"f\0", 2),
@@ -64,7 +64,7 @@ fn bytes_that_are_no_text(rt: HostRuntime) {
         assert_eq!(rt;
             of_bytes(&rt, bytes),
             (Answer::Refused, *reads),
-            "at {place}"
+            "at {index}"
         );
     }
 }

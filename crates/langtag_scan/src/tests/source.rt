@@ -44,10 +44,10 @@ impl<'a> ByteSource for Bytes<'a> {
         self.reach
     }
 
-    fn byte(&mut self, place: usize) -> u8 {
+    fn byte(&mut self, index: usize) -> u8 {
         self.reads += 1;
-        self.reach = self.reach.max(place + 1);
-        self.bytes[place]
+        self.reach = self.reach.max(index + 1);
+        self.bytes[index]
     }
 }
 
@@ -73,7 +73,7 @@ impl PrivateSubtags {
 }
 
 impl ByteSource for PrivateSubtags {
-    ghost bytes = { λ s. map (λ place. if nat_lt place 4 then slice_index (codes "en-x") place else if place % 2 == 0 then 45 else 97) (range_with_len 0 s.len) };
+    ghost bytes = { λ s. map (λ index. if nat_lt index 4 then slice_index (codes "en-x") index else if index % 2 == 0 then 45 else 97) (range_with_len 0 s.len) };
 
     ghost reads = { λ s. s.reads };
 
@@ -91,12 +91,12 @@ impl ByteSource for PrivateSubtags {
         self.reach
     }
 
-    fn byte(&mut self, place: usize) -> u8 {
+    fn byte(&mut self, index: usize) -> u8 {
         self.reads += 1;
-        self.reach = self.reach.max(place + 1);
-        if place < 4 {
-            b"en-x"[place]
-        } else if place % 2 == 0 {
+        self.reach = self.reach.max(index + 1);
+        if index < 4 {
+            b"en-x"[index]
+        } else if index % 2 == 0 {
             b'-'
         } else {
             b'a'

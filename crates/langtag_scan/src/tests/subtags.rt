@@ -3,12 +3,12 @@ use crate::Subtags;
 use std::alloc::Global;
 use std::test::Fail;
 
-/// What a walk gives: at most `fronts` subtags from the front, a `>` behind each, and then all others from the back, a
+/// What a walk gives: at most `first` subtags from the front, a `>` after each, and then all others from the back, a
 /// `<` before each.
-fn walked(alloc: Global, text: &str, fronts: u8) -> Result<String, Fail> {
+fn walked(alloc: Global, text: &str, first: u8) -> Result<String, Fail> {
     let mut walk = Subtags::new(text);
     let mut out = String::new(alloc);
-    for _ in 0..fronts {
+    for _ in 0..first {
         if let Some(subtag) = walk.next() {
             out.push_str(subtag)?;
             out.push_str(">")?;
@@ -23,7 +23,7 @@ fn walked(alloc: Global, text: &str, fronts: u8) -> Result<String, Fail> {
 
 #[test]
 fn walks_from_both_ends(rt: HostRuntime) -> Result<(), Fail> {
-    for (text, fronts, want) in [
+    for (text, first, want) in [
         ("zh-cmn-Hans-CN", 0, "<CN<Hans<cmn<zh"),
         ("zh-cmn-Hans-CN", 2, "zh>cmn><CN<Hans"),
         ("zh-cmn-Hans-CN", 9, "zh>cmn>Hans>CN>"),
@@ -36,11 +36,11 @@ fn walks_from_both_ends(rt: HostRuntime) -> Result<(), Fail> {
         ("a--b-", 0, "<<b<<a"),
         ("-a", 1, "><a"),
     ] {
-        let found = walked(rt.alloc(), text, fronts)?;
+        let found = walked(rt.alloc(), text, first)?;
         assert_eq!(rt;
             found.as_str(),
             want,
-            "walking {text} with {fronts} from the front"
+            "walking {text} with {first} from the front"
         );
     }
     Ok(())

@@ -6,21 +6,21 @@ use crate::tests::texts::{
 };
 use std::process::Abort;
 
-/// Reads each front of a tag, the tag with an underscore behind it, and with two hyphens, of which so many are read.
+/// Reads each prefix of a tag, the tag with an underscore after it, and with two hyphens, of which so many are read.
 fn sweep(rt: &impl Abort, text: &str, hyphens: u8) {
     let len = text.len();
     assert!(rt; len <= 158);
-    for front in 0..=len {
-        let (_, reads) = of_bytes(rt, &text.as_bytes()[..front]);
-        assert_eq!(rt; reads, front, "in {text}");
+    for prefix in 0..=len {
+        let (_, reads) = of_bytes(rt, &text.as_bytes()[..prefix]);
+        assert_eq!(rt; reads, prefix, "in {text}");
     }
     let refused = of_bytes(rt, &followed(text, b'_')[..len + 1]);
-    assert_eq!(rt; refused, (Answer::Refused, len + 1), "behind {text}");
+    assert_eq!(rt; refused, (Answer::Refused, len + 1), "after {text}");
     let refused = of_bytes(rt, &followed(text, b'-')[..len + 2]);
     assert_eq!(rt;
         refused,
         (Answer::Refused, len + usize::from(hyphens)),
-        "behind {text}"
+        "after {text}"
     );
 }
 

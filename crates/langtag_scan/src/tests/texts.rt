@@ -216,7 +216,7 @@ pub(crate) const TABLE: &[&str] = &[
     "sgn-CH-DE",
 ];
 
-/// Irregular tags, with their places in the table.
+/// Irregular tags, with their indices in the table.
 pub(crate) const IRREGULAR: &[(&str, usize)] = &[
     ("i-klingon", 6),
     ("I-kLINgon", 6),

@@ -4,7 +4,7 @@ use Rattle.langtag_scan.specs.Subtags.{segments}
 use Rattle.langtag_extension.specs.ExtensionTexts.{goes_on}
 use Rattle.langtag_extension.proofs.extension_texts.split_extension.Given as goal
 
--- up to the place, which is a hyphen or the end, no subtag but the first is of one byte
+-- up to the index, which is a hyphen or the end, no subtag but the first is of one byte
 abbrev pub invariant-loop-end : goal.invariant-loop-end
 invariant-loop-end l = record {
   within : l.end ≤ length l.bytes;

@@ -6,7 +6,7 @@ abbrev pub invariant-loop-end : goal.invariant-loop-end
 invariant-loop-end l = record {
   from : l.low ≤ l.end;
   to : l.end ≤ l.high;
-  others : (k : ℕ) → l.end ≤ k → k < l.high → has_at (folded_at k) l.place l.byte ≡ false;
+  others : (k : ℕ) → l.end ≤ k → k < l.high → has_at (folded_at k) l.index l.byte ≡ false;
 }
 
 abbrev pub decreases-loop-end : goal.decreases-loop-end

@@ -6,7 +6,7 @@ abbrev pub invariant-loop-first : goal.invariant-loop-first
 invariant-loop-first l = record {
   from : l.low ≤ l.first;
   to : l.first ≤ l.high;
-  others : (k : ℕ) → l.low ≤ k → k < l.first → has_at (folded_at k) l.place l.byte ≡ false;
+  others : (k : ℕ) → l.low ≤ k → k < l.first → has_at (folded_at k) l.index l.byte ≡ false;
 }
 
 abbrev pub decreases-loop-first : goal.decreases-loop-first

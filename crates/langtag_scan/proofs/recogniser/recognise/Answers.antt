@@ -5,7 +5,7 @@ use Rattle.langtag_scan.specs.Machine.{HasStopped, IsRefused}
 use Rattle.langtag_scan.specs.Names.{Follows}
 use Rattle.langtag_scan.specs.Tracking.{Tracks}
 use Rattle.langtag_scan.specs.Viable.{IsViable}
-use Rattle.langtag_scan.proofs.OneCase.{normal_no_private, normal_no_irregular, private_no_irregular}
+use Rattle.langtag_scan.proofs.OneKind.{normal_no_private, normal_no_irregular, private_no_irregular}
 use Rattle.langtag_scan.proofs.IrregularNames.{irregular_once}
 use Rattle.langtag_scan.proofs.FillLaw.{viable_fill}
 use Rattle.langtag_scan.proofs.ReadingLaws.{stopped_more}
@@ -16,7 +16,7 @@ use Rattle.langtag_scan.proofs.recogniser.recognise.Goals.{then-goes_on, else-go
 pub irregular-preserved : goal.irregular-preserved
 irregular-preserved g c =
     let t = g.S.ByteSource.bytes c.args.source.now in
-    let i = c.irregular.place in
+    let i = c.irregular.index in
     let inv = c.irregular.invariant in
     let b = c.byte-byte.result in
     let lt : i < length t = omega arith in
@@ -34,20 +34,20 @@ irregular-preserved g c =
       len = c.keep.ensures.len ∙ inv.len;
       follows = read_more t i b (λ p. Follows p c.irregular.names) (λ p. Follows p c.keep.new.self) lt read c.keep.ensures.follows inv.follows;
       tracks = elim c.if-goes_on.branch [
-        | then-goes_on w ↦ λ on. rw w.machine-is (read_more t i b (λ p. Tracks p c.irregular.machine) (λ p. Tracks p w.step-goes_on.new.self) lt read (λ p place h. w.step-goes_on.ensures.goes_on p place h (sym w.goes_on-is ∙ on)) (inv.tracks w.if-goes_on.true))
+        | then-goes_on w ↦ λ on. rw w.machine-is (read_more t i b (λ p. Tracks p c.irregular.machine) (λ p. Tracks p w.step-goes_on.new.self) lt read (λ p index h. w.step-goes_on.ensures.goes_on p index h (sym w.goes_on-is ∙ on)) (inv.tracks w.if-goes_on.true))
         | else-goes_on w ↦ λ on. absurd (both_ways c.if-goes_on.goes_on (w.goes_on-is ∙ w.if-goes_on.false) on)
       ];
       stopped = elim c.if-goes_on.branch [
-        | then-goes_on w ↦ λ off. read_more t i b (λ p. Tracks p c.irregular.machine) HasStopped lt read (λ p place h. w.step-goes_on.ensures.stops p place h (sym w.goes_on-is ∙ off)) (inv.tracks w.if-goes_on.true)
-        | else-goes_on w ↦ λ off. read_more t i b HasStopped HasStopped lt read (λ p place h. stopped_more p b h) (inv.stopped w.if-goes_on.false)
+        | then-goes_on w ↦ λ off. read_more t i b (λ p. Tracks p c.irregular.machine) HasStopped lt read (λ p index h. w.step-goes_on.ensures.stops p index h (sym w.goes_on-is ∙ off)) (inv.tracks w.if-goes_on.true)
+        | else-goes_on w ↦ λ off. read_more t i b HasStopped HasStopped lt read (λ p index h. stopped_more p b h) (inv.stopped w.if-goes_on.false)
       ];
       before = λ k below. elim (cases_lt k i) [ inl less ↦ inv.before k less | inr ge ↦ let same : i ≡ k = omega arith in subst (λ n. IsViable (take n t)) same viable ];
     }
 
-pub returns-then-place-len-clause-found : goal.returns-then-place-len-clause-found
-returns-then-place-len-clause-found g c =
+pub returns-then-index-len-clause-found : goal.returns-then-index-len-clause-found
+returns-then-index-len-clause-found g c =
     let t = g.S.ByteSource.bytes c.args.source.now in
-    let i = c.irregular.place in
+    let i = c.irregular.index in
     let inv = c.irregular.invariant in
     let gone : IsGone (take i t) c.irregular.names =
     elim c.irregular-test.branch [
@@ -56,10 +56,10 @@ returns-then-place-len-clause-found g c =
     ] in
     no_tag_dead t i (not_viable c.irregular.names.len (take i t) (inv.stopped c.if-not-goes_on.true) gone)
 
-pub returns-then-place-len-clause-reads : goal.returns-then-place-len-clause-reads
-returns-then-place-len-clause-reads g c =
+pub returns-then-index-len-clause-reads : goal.returns-then-index-len-clause-reads
+returns-then-index-len-clause-reads g c =
     let t = g.S.ByteSource.bytes c.args.source.now in
-    let i = c.irregular.place in
+    let i = c.irregular.index in
     let inv = c.irregular.invariant in
     let gone : IsGone (take i t) c.irregular.names =
     elim c.irregular-test.branch [
@@ -68,27 +68,27 @@ returns-then-place-len-clause-reads g c =
     ] in
     (i, stop_at t i (omega arith) inv.before (not_viable c.irregular.names.len (take i t) (inv.stopped c.if-not-goes_on.true) gone), omega arith, omega arith)
 
-pub returns-else-place-len-clause-found : goal.returns-else-place-len-clause-found
-returns-else-place-len-clause-found g c =
+pub returns-else-index-len-clause-found : goal.returns-else-index-len-clause-found
+returns-else-index-len-clause-found g c =
     let t = g.S.ByteSource.bytes c.args.source.now in
-    let i = c.irregular.place in
+    let i = c.irregular.index in
     let inv = c.irregular.invariant in
     let whole : take i t ≡ t = take_all i t (omega arith) in
     let stopped : HasStopped t = subst HasStopped whole (inv.stopped c.if-not-goes_on.true) in
     let follows : Follows t c.irregular.names = subst (λ p. Follows p c.irregular.names) whole inv.follows in
     found_irregular t c.found.result (stopped_refused t stopped) (c.found.ensures t (omega arith) follows)
 
-pub returns-else-place-len-clause-reads : goal.returns-else-place-len-clause-reads
-returns-else-place-len-clause-reads g c =
+pub returns-else-index-len-clause-reads : goal.returns-else-index-len-clause-reads
+returns-else-index-len-clause-reads g c =
     let t = g.S.ByteSource.bytes c.args.source.now in
-    let i = c.irregular.place in
+    let i = c.irregular.index in
     let inv = c.irregular.invariant in
     (i, stop_names t i c.irregular.names c.irregular.names.within (omega arith) (inv.stopped c.if-not-goes_on.true) inv.follows inv.before, omega arith, omega arith)
 
 pub stages-init : goal.stages-init
 stages-init g c =
     let t = g.S.ByteSource.bytes c.args.source.now in
-    let i = c.irregular.place in
+    let i = c.irregular.index in
     let inv = c.irregular.invariant in
     record {
       within = inv.within;
@@ -107,31 +107,31 @@ stages-init g c =
 pub returns-then-not-step-clause-found : goal.returns-then-not-step-clause-found
 returns-then-not-step-clause-found g c =
     let t = g.S.ByteSource.bytes c.args.source.now in
-    let i = c.stages.place in
+    let i = c.stages.index in
     let inv = c.stages.invariant in
     let b = c.byte.result in
     let lt : i < length t = omega arith in
     let read : b ≡ get_or t i 0 = cc in
-    let stopped = read_more t i b (λ p. Tracks p c.stages.machine) HasStopped lt read (λ p place h. c.step.ensures.stops p place h c.if-not-step.true) inv.tracks in
-    let gone = read_more t i b (λ p. IsGone p c.irregular.names) (λ p. IsGone p c.irregular.names) lt read (λ p place h. gone_on p b c.irregular.names h) (inv.gone c.stages-test.true) in
+    let stopped = read_more t i b (λ p. Tracks p c.stages.machine) HasStopped lt read (λ p index h. c.step.ensures.stops p index h c.if-not-step.true) inv.tracks in
+    let gone = read_more t i b (λ p. IsGone p c.irregular.names) (λ p. IsGone p c.irregular.names) lt read (λ p index h. gone_on p b c.irregular.names h) (inv.gone c.stages-test.true) in
     no_tag_dead t (i + 1) (not_viable c.irregular.names.len (take (i + 1) t) stopped gone)
 
 pub returns-then-not-step-clause-reads : goal.returns-then-not-step-clause-reads
 returns-then-not-step-clause-reads g c =
     let t = g.S.ByteSource.bytes c.args.source.now in
-    let i = c.stages.place in
+    let i = c.stages.index in
     let inv = c.stages.invariant in
     let b = c.byte.result in
     let lt : i < length t = omega arith in
     let read : b ≡ get_or t i 0 = cc in
-    let stopped = read_more t i b (λ p. Tracks p c.stages.machine) HasStopped lt read (λ p place h. c.step.ensures.stops p place h c.if-not-step.true) inv.tracks in
-    let gone = read_more t i b (λ p. IsGone p c.irregular.names) (λ p. IsGone p c.irregular.names) lt read (λ p place h. gone_on p b c.irregular.names h) (inv.gone c.stages-test.true) in
+    let stopped = read_more t i b (λ p. Tracks p c.stages.machine) HasStopped lt read (λ p index h. c.step.ensures.stops p index h c.if-not-step.true) inv.tracks in
+    let gone = read_more t i b (λ p. IsGone p c.irregular.names) (λ p. IsGone p c.irregular.names) lt read (λ p index h. gone_on p b c.irregular.names h) (inv.gone c.stages-test.true) in
     (i + 1, stop_dead t i lt (viable_tracks (take i t) c.stages.machine inv.tracks) (not_viable c.irregular.names.len (take (i + 1) t) stopped gone), omega arith, omega arith)
 
 pub stages-preserved : goal.stages-preserved
 stages-preserved g c =
     let t = g.S.ByteSource.bytes c.args.source.now in
-    let i = c.stages.place in
+    let i = c.stages.index in
     let inv = c.stages.invariant in
     let b = c.byte.result in
     let lt : i < length t = omega arith in
@@ -143,21 +143,21 @@ stages-preserved g c =
       reads = omega arith;
       reach = omega arith;
       len = inv.len;
-      follows = read_more t i b (λ p. Follows p c.irregular.names × IsGone p c.irregular.names) (λ p. Follows p c.irregular.names) lt read (λ p place h. follows_on p b c.irregular.names h.1 h.0) (inv.follows, gone);
-      gone = λ less. read_more t i b (λ p. IsGone p c.irregular.names) (λ p. IsGone p c.irregular.names) lt read (λ p place h. gone_on p b c.irregular.names h) gone;
-      tracks = read_more t i b (λ p. Tracks p c.stages.machine) (λ p. Tracks p c.step.new.self) lt read (λ p place h. c.step.ensures.goes_on p place h c.if-not-step.false) inv.tracks;
+      follows = read_more t i b (λ p. Follows p c.irregular.names × IsGone p c.irregular.names) (λ p. Follows p c.irregular.names) lt read (λ p index h. follows_on p b c.irregular.names h.1 h.0) (inv.follows, gone);
+      gone = λ less. read_more t i b (λ p. IsGone p c.irregular.names) (λ p. IsGone p c.irregular.names) lt read (λ p index h. gone_on p b c.irregular.names h) gone;
+      tracks = read_more t i b (λ p. Tracks p c.stages.machine) (λ p. Tracks p c.step.new.self) lt read (λ p index h. c.step.ensures.goes_on p index h c.if-not-step.false) inv.tracks;
     }
 
 pub returns-in-Some-clause-reads : goal.returns-in-Some-clause-reads
 returns-in-Some-clause-reads g c =
     let t = g.S.ByteSource.bytes c.args.source.now in
-    (c.stages.place, stop_end t c.stages.place (omega arith) (viable_tracks (take c.stages.place t) c.stages.machine c.stages.invariant.tracks), omega arith, omega arith)
+    (c.stages.index, stop_end t c.stages.index (omega arith) (viable_tracks (take c.stages.index t) c.stages.machine c.stages.invariant.tracks), omega arith, omega arith)
 
 pub returns-in-None-clause-found : goal.returns-in-None-clause-found
 returns-in-None-clause-found g c =
     let t = g.S.ByteSource.bytes c.args.source.now in
     let inv = c.stages.invariant in
-    let whole : take c.stages.place t ≡ t = take_all c.stages.place t (omega arith) in
+    let whole : take c.stages.index t ≡ t = take_all c.stages.index t (omega arith) in
     let tracks : Tracks t c.stages.machine = subst (λ p. Tracks p c.stages.machine) whole inv.tracks in
     let follows : Follows t c.irregular.names = subst (λ p. Follows p c.irregular.names) whole inv.follows in
     let refused : IsRefused t = rw c.in-None.is at (c.found-2.ensures t (omega arith) tracks) in
@@ -166,37 +166,37 @@ returns-in-None-clause-found g c =
 pub returns-in-None-clause-reads : goal.returns-in-None-clause-reads
 returns-in-None-clause-reads g c =
     let t = g.S.ByteSource.bytes c.args.source.now in
-    (c.stages.place, stop_end t c.stages.place (omega arith) (viable_tracks (take c.stages.place t) c.stages.machine c.stages.invariant.tracks), omega arith, omega arith)
+    (c.stages.index, stop_end t c.stages.index (omega arith) (viable_tracks (take c.stages.index t) c.stages.machine c.stages.invariant.tracks), omega arith, omega arith)
 
-pub returns-then-place-len-clause-normal_not_private : goal.returns-then-place-len-clause-normal_not_private
-returns-then-place-len-clause-normal_not_private g c = normal_no_private
+pub returns-then-index-len-clause-normal_not_private : goal.returns-then-index-len-clause-normal_not_private
+returns-then-index-len-clause-normal_not_private g c = normal_no_private
 
-pub returns-then-place-len-clause-normal_not_irregular : goal.returns-then-place-len-clause-normal_not_irregular
-returns-then-place-len-clause-normal_not_irregular g c = normal_no_irregular
+pub returns-then-index-len-clause-normal_not_irregular : goal.returns-then-index-len-clause-normal_not_irregular
+returns-then-index-len-clause-normal_not_irregular g c = normal_no_irregular
 
-pub returns-then-place-len-clause-private_not_irregular : goal.returns-then-place-len-clause-private_not_irregular
-returns-then-place-len-clause-private_not_irregular g c = private_no_irregular
+pub returns-then-index-len-clause-private_not_irregular : goal.returns-then-index-len-clause-private_not_irregular
+returns-then-index-len-clause-private_not_irregular g c = private_no_irregular
 
-pub returns-then-place-len-clause-one_place : goal.returns-then-place-len-clause-one_place
-returns-then-place-len-clause-one_place g c = irregular_once
+pub returns-then-index-len-clause-one_index : goal.returns-then-index-len-clause-one_index
+returns-then-index-len-clause-one_index g c = irregular_once
 
-pub returns-then-place-len-clause-viable : goal.returns-then-place-len-clause-viable
-returns-then-place-len-clause-viable g c = viable_fill
+pub returns-then-index-len-clause-viable : goal.returns-then-index-len-clause-viable
+returns-then-index-len-clause-viable g c = viable_fill
 
-pub returns-else-place-len-clause-normal_not_private : goal.returns-else-place-len-clause-normal_not_private
-returns-else-place-len-clause-normal_not_private g c = normal_no_private
+pub returns-else-index-len-clause-normal_not_private : goal.returns-else-index-len-clause-normal_not_private
+returns-else-index-len-clause-normal_not_private g c = normal_no_private
 
-pub returns-else-place-len-clause-normal_not_irregular : goal.returns-else-place-len-clause-normal_not_irregular
-returns-else-place-len-clause-normal_not_irregular g c = normal_no_irregular
+pub returns-else-index-len-clause-normal_not_irregular : goal.returns-else-index-len-clause-normal_not_irregular
+returns-else-index-len-clause-normal_not_irregular g c = normal_no_irregular
 
-pub returns-else-place-len-clause-private_not_irregular : goal.returns-else-place-len-clause-private_not_irregular
-returns-else-place-len-clause-private_not_irregular g c = private_no_irregular
+pub returns-else-index-len-clause-private_not_irregular : goal.returns-else-index-len-clause-private_not_irregular
+returns-else-index-len-clause-private_not_irregular g c = private_no_irregular
 
-pub returns-else-place-len-clause-one_place : goal.returns-else-place-len-clause-one_place
-returns-else-place-len-clause-one_place g c = irregular_once
+pub returns-else-index-len-clause-one_index : goal.returns-else-index-len-clause-one_index
+returns-else-index-len-clause-one_index g c = irregular_once
 
-pub returns-else-place-len-clause-viable : goal.returns-else-place-len-clause-viable
-returns-else-place-len-clause-viable g c = viable_fill
+pub returns-else-index-len-clause-viable : goal.returns-else-index-len-clause-viable
+returns-else-index-len-clause-viable g c = viable_fill
 
 pub returns-then-not-step-clause-normal_not_private : goal.returns-then-not-step-clause-normal_not_private
 returns-then-not-step-clause-normal_not_private g c = normal_no_private
@@ -207,8 +207,8 @@ returns-then-not-step-clause-normal_not_irregular g c = normal_no_irregular
 pub returns-then-not-step-clause-private_not_irregular : goal.returns-then-not-step-clause-private_not_irregular
 returns-then-not-step-clause-private_not_irregular g c = private_no_irregular
 
-pub returns-then-not-step-clause-one_place : goal.returns-then-not-step-clause-one_place
-returns-then-not-step-clause-one_place g c = irregular_once
+pub returns-then-not-step-clause-one_index : goal.returns-then-not-step-clause-one_index
+returns-then-not-step-clause-one_index g c = irregular_once
 
 pub returns-then-not-step-clause-viable : goal.returns-then-not-step-clause-viable
 returns-then-not-step-clause-viable g c = viable_fill
@@ -222,8 +222,8 @@ returns-in-Some-clause-normal_not_irregular g c = normal_no_irregular
 pub returns-in-Some-clause-private_not_irregular : goal.returns-in-Some-clause-private_not_irregular
 returns-in-Some-clause-private_not_irregular g c = private_no_irregular
 
-pub returns-in-Some-clause-one_place : goal.returns-in-Some-clause-one_place
-returns-in-Some-clause-one_place g c = irregular_once
+pub returns-in-Some-clause-one_index : goal.returns-in-Some-clause-one_index
+returns-in-Some-clause-one_index g c = irregular_once
 
 pub returns-in-Some-clause-viable : goal.returns-in-Some-clause-viable
 returns-in-Some-clause-viable g c = viable_fill
@@ -237,8 +237,8 @@ returns-in-None-clause-normal_not_irregular g c = normal_no_irregular
 pub returns-in-None-clause-private_not_irregular : goal.returns-in-None-clause-private_not_irregular
 returns-in-None-clause-private_not_irregular g c = private_no_irregular
 
-pub returns-in-None-clause-one_place : goal.returns-in-None-clause-one_place
-returns-in-None-clause-one_place g c = irregular_once
+pub returns-in-None-clause-one_index : goal.returns-in-None-clause-one_index
+returns-in-None-clause-one_index g c = irregular_once
 
 pub returns-in-None-clause-viable : goal.returns-in-None-clause-viable
 returns-in-None-clause-viable g c = viable_fill

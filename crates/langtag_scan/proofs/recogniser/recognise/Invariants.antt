@@ -8,31 +8,31 @@ use Rattle.langtag_scan.proofs.recogniser.recognise.Given as goal
 
 abbrev pub invariant-irregular : goal.invariant-irregular
 invariant-irregular g l = record {
-  within : l.place ≤ l.len;
+  within : l.index ≤ l.len;
   bytes : g.S.ByteSource.bytes l.source ≡ g.S.ByteSource.bytes l.fn.source;
-  reads : g.S.ByteSource.reads l.source ≡ g.S.ByteSource.reads l.fn.source + l.place;
-  reach : g.S.ByteSource.reach l.source ≡ max (g.S.ByteSource.reach l.fn.source) l.place;
+  reads : g.S.ByteSource.reads l.source ≡ g.S.ByteSource.reads l.fn.source + l.index;
+  reach : g.S.ByteSource.reach l.source ≡ max (g.S.ByteSource.reach l.fn.source) l.index;
   len : l.names.len ≡ l.len;
-  follows : Follows (take l.place (g.S.ByteSource.bytes l.fn.source)) l.names;
-  tracks : l.goes_on ≡ true → Tracks (take l.place (g.S.ByteSource.bytes l.fn.source)) l.machine;
-  stopped : l.goes_on ≡ false → HasStopped (take l.place (g.S.ByteSource.bytes l.fn.source));
-  before : (k : ℕ) → k < l.place → IsViable (take k (g.S.ByteSource.bytes l.fn.source));
+  follows : Follows (take l.index (g.S.ByteSource.bytes l.fn.source)) l.names;
+  tracks : l.goes_on ≡ true → Tracks (take l.index (g.S.ByteSource.bytes l.fn.source)) l.machine;
+  stopped : l.goes_on ≡ false → HasStopped (take l.index (g.S.ByteSource.bytes l.fn.source));
+  before : (k : ℕ) → k < l.index → IsViable (take k (g.S.ByteSource.bytes l.fn.source));
 }
 
 abbrev pub decreases-irregular : goal.decreases-irregular
-decreases-irregular g l = l.len - l.place
+decreases-irregular g l = l.len - l.index
 
 abbrev pub invariant-stages : goal.invariant-stages
 invariant-stages g l = record {
-  within : l.place ≤ l.len;
+  within : l.index ≤ l.len;
   bytes : g.S.ByteSource.bytes l.source ≡ g.S.ByteSource.bytes l.fn.source;
-  reads : g.S.ByteSource.reads l.source ≡ g.S.ByteSource.reads l.fn.source + l.place;
-  reach : g.S.ByteSource.reach l.source ≡ max (g.S.ByteSource.reach l.fn.source) l.place;
+  reads : g.S.ByteSource.reads l.source ≡ g.S.ByteSource.reads l.fn.source + l.index;
+  reach : g.S.ByteSource.reach l.source ≡ max (g.S.ByteSource.reach l.fn.source) l.index;
   len : l.names.len ≡ l.len;
-  follows : Follows (take l.place (g.S.ByteSource.bytes l.fn.source)) l.names;
-  gone : l.place < l.len → IsGone (take l.place (g.S.ByteSource.bytes l.fn.source)) l.names;
-  tracks : Tracks (take l.place (g.S.ByteSource.bytes l.fn.source)) l.machine;
+  follows : Follows (take l.index (g.S.ByteSource.bytes l.fn.source)) l.names;
+  gone : l.index < l.len → IsGone (take l.index (g.S.ByteSource.bytes l.fn.source)) l.names;
+  tracks : Tracks (take l.index (g.S.ByteSource.bytes l.fn.source)) l.machine;
 }
 
 abbrev pub decreases-stages : goal.decreases-stages
-decreases-stages g l = l.len - l.place
+decreases-stages g l = l.len - l.index

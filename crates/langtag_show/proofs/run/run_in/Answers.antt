@@ -4,7 +4,7 @@ use Rattle.langtag_show.specs.declared.show_error.ShowError.TheVariants.{Memory}
 use Rattle.std.proofs.KnownBytes.{Consumes-nil, Consumes-trans, Consumes-whole}
 use Rattle.langtag_show.specs.Lines.{complete_lines, rest_of, lines_of}
 use Rattle.langtag_show.specs.Report.{Answers}
-use Rattle.langtag_show.proofs.Written.{free_rest, rest_more, written_more, written_front, written_all, Answers-nil}
+use Rattle.langtag_show.proofs.Written.{free_rest, rest_more, written_more, written_prefix, written_all, Answers-nil}
 use Rattle.langtag_show.proofs.run.run_in.Goals as goal
 
 pub loop-init : goal.loop-init
@@ -35,7 +35,7 @@ returns-in_err-take_bytes-clause-after_memory g c = λ memory.
     let same : Err c.in_err-take_bytes.field-0.0 ≡ Err Memory = cc in (
       seen ++ more,
       Consumes-trans _ _ _ _ _ read c.in-Ok.ensures.bytes.0,
-      written_front _ _ _ seen _ more rest written (c.in_err-take_bytes.ensures.memory same),
+      written_prefix _ _ _ seen _ more rest written (c.in_err-take_bytes.ensures.memory same),
     )
 
 pub returns-then-count-eq0-clause-report : goal.returns-then-count-eq0-clause-report

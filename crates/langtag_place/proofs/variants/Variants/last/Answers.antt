@@ -7,17 +7,17 @@ use Rattle.langtag_place.specs.Text.{variant_text, variants_text, variants_left}
 use Rattle.langtag_place.proofs.SpelledVariants.{subtags-spelled}
 use Rattle.langtag_place.proofs.variants.Variants.last.Goals as goal
 
--- the element that stands behind a front, at the front's length
-slice_get-push : {X : Type 0} (front : List X) (last : X) → slice_get (front ++ last ∷ []) (length front) ≡ Some last
+-- the element that stands after a prefix, at the prefix's length
+slice_get-push : {X : Type 0} (prefix : List X) (last : X) → slice_get (prefix ++ last ∷ []) (length prefix) ≡ Some last
 slice_get-push [] last = refl
-slice_get-push (x ∷ front) last = slice_get-push front last
+slice_get-push (x ∷ prefix) last = slice_get-push prefix last
 
 -- what was taken from the end of a list was its last member
 option_map-taken : (taken : Option Variant) (list rest : List (List ℕ)) → MatchOption taken ((list ≡ []) × (rest ≡ [])) (λ variant. list ≡ rest ++ variant_text variant ∷ []) → option_map variant_text taken ≡ slice_get list (length list - 1)
 option_map-taken None list rest taken = rw taken.0 refl
 option_map-taken (Some variant) list rest taken =
-    let place : length (rest ++ variant_text variant ∷ []) - 1 ≡ length rest = omega (arith, length_push rest (variant_text variant)) in
-    rw (taken, place, slice_get-push rest (variant_text variant)) refl
+    let index : length (rest ++ variant_text variant ∷ []) - 1 ≡ length rest = omega (arith, length_push rest (variant_text variant)) in
+    rw (taken, index, slice_get-push rest (variant_text variant)) refl
 
 pub returns : goal.returns
 returns c = record {

@@ -9,21 +9,21 @@ use Rattle.langtag_scan.proofs.machine.Machine.step.Goals as goal
 use Rattle.langtag_scan.proofs.machine.Machine.step.Goals.{else-is_digit-via-then-is_digit+else-not-is_start, else-is_digit-via-else-is_digit}
 
 pub returns-then-is_letter-clause-goes_on : goal.returns-then-is_letter-clause-goes_on
-returns-then-is_letter-clause-goes_on c = λ p place h on.
+returns-then-is_letter-clause-goes_on c = λ p index h on.
     let m = c.args.self.now in
     let letter : is_letter c.args.byte ≡ true = sym c.is_letter.ensures ∙ c.if-is_letter.true in
     let alnum : is_alphanumeric c.args.byte ≡ true = ap (λ v. v || is_digit c.args.byte) letter in
     record { reads = reads_grown m.reading p c.args.byte m.stage m.begun c.push.new.self m.ends (alphanumeric_no_hyphen c.args.byte alnum) (letter_held m.stage c.args.byte letter) (c.push.ensures.room on) (λ e. c.push.ensures.pushed (begun p) e on) h.reads }
 
 pub returns-then-is_letter-clause-stops : goal.returns-then-is_letter-clause-stops
-returns-then-is_letter-clause-stops c = λ p place h off.
+returns-then-is_letter-clause-stops c = λ p index h off.
     let m = c.args.self.now in
     let letter : is_letter c.args.byte ≡ true = sym c.is_letter.ensures ∙ c.if-is_letter.true in
     let alnum : is_alphanumeric c.args.byte ≡ true = ap (λ v. v || is_digit c.args.byte) letter in
     reads_stuck m.reading p c.args.byte m.stage m.begun m.ends (alphanumeric_no_hyphen c.args.byte alnum) (inr (c.push.ensures.full off)) h.reads
 
 pub returns-then-not-is_start-clause-goes_on : goal.returns-then-not-is_start-clause-goes_on
-returns-then-not-is_start-clause-goes_on c = λ p place h on.
+returns-then-not-is_start-clause-goes_on c = λ p index h on.
     let m = c.args.self.now in
     let push = c.push-then-not-is_start in
     let digit : is_digit c.args.byte ≡ true = sym c.is_digit.ensures ∙ c.if-is_digit.true in
@@ -32,12 +32,12 @@ returns-then-not-is_start-clause-goes_on c = λ p place h on.
     record { reads = reads_grown m.reading p c.args.byte m.stage m.begun push.new.self m.ends (ne_eqb c.args.byte 45 c.if-byte-eq45.false) (held_later m.stage c.args.byte later ∙ alnum) (push.ensures.room on) (λ e. push.ensures.pushed (begun p) e on) h.reads }
 
 pub returns-then-not-is_start-clause-stops : goal.returns-then-not-is_start-clause-stops
-returns-then-not-is_start-clause-stops c = λ p place h off.
+returns-then-not-is_start-clause-stops c = λ p index h off.
     let m = c.args.self.now in
     reads_stuck m.reading p c.args.byte m.stage m.begun m.ends (ne_eqb c.args.byte 45 c.if-byte-eq45.false) (inr (c.push-then-not-is_start.ensures.full off)) h.reads
 
 pub returns-else-is_digit-clause-stops : goal.returns-else-is_digit-clause-stops
-returns-else-is_digit-clause-stops c = λ p place h off.
+returns-else-is_digit-clause-stops c = λ p index h off.
     let m = c.args.self.now in
     let no_letter : is_letter c.args.byte ≡ false = sym c.is_letter.ensures ∙ c.if-is_letter.false in
     let never : may_hold m.stage c.args.byte ≡ false =

@@ -1,8 +1,8 @@
-//! The fronts with which some tag begins: a recogniser reads on behind them alone.
+//! The prefixes with which some tag begins: a recogniser reads on after them alone.
 use crate::tests::answer::{Answer, case_swapped, followed, of_bytes, of_text};
 
-/// Fronts, each with a tag that begins with it, if there is one.
-const FRONTS: &[(&str, Option<&str>)] = &[
+/// Prefixes, each with a tag that begins with it, if there is one.
+const PREFIXES: &[(&str, Option<&str>)] = &[
     ("", Some("fr")),
     ("i-n", Some("i-navajo")),
     ("i-no", None),
@@ -20,29 +20,29 @@ const FRONTS: &[(&str, Option<&str>)] = &[
 ];
 
 #[test]
-fn an_underscore_is_read_behind_those_that_go_on(rt: HostRuntime) {
-    for &(front, tag) in FRONTS {
-        let len = front.len();
+fn an_underscore_is_read_after_those_that_go_on(rt: HostRuntime) {
+    for &(prefix, tag) in PREFIXES {
+        let len = prefix.len();
         assert!(rt; len < 64);
         let want = (Answer::Refused, len + usize::from(tag.is_some()));
         assert_eq!(rt;
-            of_bytes(&rt, &followed(front, b'_')[..len + 1]),
+            of_bytes(&rt, &followed(prefix, b'_')[..len + 1]),
             want,
-            "at {front}"
+            "at {prefix}"
         );
         assert_eq!(rt;
-            of_bytes(&rt, &case_swapped(front)[..len + 1]),
+            of_bytes(&rt, &case_swapped(prefix)[..len + 1]),
             want,
-            "at {front}"
+            "at {prefix}"
         );
     }
 }
 
 #[test]
 fn those_that_go_on_begin_a_tag(rt: HostRuntime) {
-    for &(front, tag) in FRONTS {
+    for &(prefix, tag) in PREFIXES {
         let Some(tag) = tag else { continue };
-        assert!(rt; tag.starts_with(front), "at {front}");
+        assert!(rt; tag.starts_with(prefix), "at {prefix}");
         let (answer, reads) = of_text(&rt, tag);
         assert!(rt; answer != Answer::Refused, "at {tag}");
         assert_eq!(rt; reads, tag.len(), "at {tag}");

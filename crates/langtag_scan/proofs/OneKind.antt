@@ -31,7 +31,7 @@ normal_no_private t normal private = runs_once (segments t) (runs_from_normal t 
 abbrev none_passes : (List (List ℕ) → Bool) → Bool
 none_passes test = list_all (λ text. not (test (segments text))) folded_texts
 
--- it fails at each place of the table
+-- it fails at each index of the table
 fails_at : (test : List (List ℕ) → Bool) → none_passes test ≡ true → (k : ℕ) → k < length folded_texts → test (segments (folded_at k)) ≡ false
 fails_at test none k lt =
     let wrong : List ℕ → Bool = λ text. not (test (segments text)) in
