@@ -177,7 +177,7 @@ pub struct LanguageBuf {
 
 #[tactic(auto, using(crate::proofs::Rules::language_from_test))]
 impl LanguageBuf {
-    ghost use Rattle.langtag_language.specs.Text.{language_text, language_buf_text};
+    ghost use Rattle.langtag_language.specs.Text.{language_text, language_buf_text, language_buf_string};
 
     /// The language of a text, which is neither copied nor moved in memory.
     ///
@@ -188,6 +188,7 @@ impl LanguageBuf {
     pub fn new(text: String) -> Result<LanguageBuf, InvalidLanguage<String>>
         ensures accepts { IsTrue (is_ok result) ↔ (IsLanguage (string_bytes text)) }
         ensures same_text { IfOk result (λ language. language_buf_text language ≡ string_bytes text) }
+        ensures same_string { IfOk result (λ language. language_buf_string language ≡ text) }
         ensures given_back { IfErr result (λ error. error.0 ≡ text) }
     {
         if !is_language(text.as_str()) {
@@ -216,6 +217,7 @@ impl LanguageBuf {
     /// The text itself, which is not copied.
     pub fn into_string(self) -> String
         ensures same_text { string_bytes result ≡ language_buf_text self }
+        ensures same_string { result ≡ language_buf_string self }
         ensures in_class { IsLanguage (string_bytes result) }
     {
         self.text.0

@@ -131,7 +131,7 @@ pub struct LanguageExtensionBuf {
 
 #[tactic(auto, using(crate::proofs::Rules::extension_from_test))]
 impl LanguageExtensionBuf {
-    ghost use Rattle.langtag_language.specs.Text.{language_extension_text, language_extension_buf_text};
+    ghost use Rattle.langtag_language.specs.Text.{language_extension_text, language_extension_buf_text, language_extension_buf_string};
 
     /// The language extension of a text, which is neither copied nor moved in memory.
     ///
@@ -142,6 +142,7 @@ impl LanguageExtensionBuf {
     pub fn new(text: String) -> Result<LanguageExtensionBuf, InvalidLanguageExtension<String>>
         ensures accepts { IsTrue (is_ok result) ↔ (IsLanguageExtension (string_bytes text)) }
         ensures same_text { IfOk result (λ extension. language_extension_buf_text extension ≡ string_bytes text) }
+        ensures same_string { IfOk result (λ extension. language_extension_buf_string extension ≡ text) }
         ensures given_back { IfErr result (λ error. error.0 ≡ text) }
     {
         if !is_language_extension(text.as_str()) {
@@ -170,6 +171,7 @@ impl LanguageExtensionBuf {
     /// The text itself, which is not copied.
     pub fn into_string(self) -> String
         ensures same_text { string_bytes result ≡ language_extension_buf_text self }
+        ensures same_string { result ≡ language_extension_buf_string self }
         ensures in_class { IsLanguageExtension (string_bytes result) }
     {
         self.text.0

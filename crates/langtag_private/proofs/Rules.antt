@@ -1,14 +1,17 @@
 -- The rule and its test say the same: one private list spells a text, and it is what stands between the hyphens.
-use Rattle.std.proofs.Common.{◌≡◌, ◌↔◌, ℕ, true, Bool, IsTrue, List, [], ◌∷◌, drop, refl, sym, ap, ◌∙◌, arith}
+use Rattle.std.proofs.Common.{◌≡◌, ◌↔◌, ℕ, ◌+◌, ◌≤◌, true, Bool, IsTrue, List, [], ◌∷◌, length, drop, refl, sym, ap, ◌∙◌, arith}
+use Rattle.std.proofs.lemmas.List.Splits.{length-slice_split}
+use Rattle.std.proofs.lemmas.List.Sums.{count_by-le-length}
 use Rattle.langtag_scan.specs.Class.{is_mark, is_private_subtag}
 use Rattle.langtag_scan.specs.Record.{PrivateUse, IsPrivateUse, private_use_flat}
-use Rattle.langtag_scan.specs.Subtags.{join, subtags}
+use Rattle.langtag_scan.specs.Subtags.{is_hyphen, join, subtags}
 use Rattle.langtag_scan.specs.Tag.{IsPrivate}
 use Rattle.langtag_scan.proofs.Disjoint.{both_true}
 use Rattle.langtag_scan.proofs.Segments.{of_one, of_private_subtag, mark_alphanumeric}
 use Rattle.langtag_scan.proofs.SubtagLists.{each_from_test, test_from_each, each_subtag, subtags-joined}
 use Rattle.langtag_scan.proofs.SubtagsLemmas.{join-subtags}
-use Rattle.langtag_private.specs.PrivateUse.{EachSpelling, are_private, are_private_use, is_mark_alone, is_private_use}
+use Rattle.langtag_private.specs.PrivateUse.{EachSpelling}
+use Rattle.langtag_private.specs.PrivateUseTest.{are_private, are_private_use, is_mark_alone, is_private_use}
 
 -- one text, one list
 pub subtags-private : (text : List ℕ) (p : PrivateUse) → IsPrivateUse p → join (private_use_flat p) ≡ text → subtags text ≡ private_use_flat p
@@ -33,19 +36,27 @@ rule_from_test ((b ∷ []) ∷ s ∷ ss) text joined h =
     (record { mark = b; subtags = s ∷ ss }, record { mark = k.0; some = omega arith; subtags = each_from_test is_private_subtag (s ∷ ss) k.1 }, joined)
 
 -- from the test to the rule
-pub private_from_test : (text : List ℕ) → IsTrue (is_private_use text) → IsPrivate text
-private_from_test text h = rule_from_test (subtags text) text (join-subtags text) h
+pub IsPrivate-from_test : (text : List ℕ) → IsTrue (is_private_use text) → IsPrivate text
+IsPrivate-from_test text h = rule_from_test (subtags text) text (join-subtags text) h
 
 -- and back
-pub private_from_rule : (text : List ℕ) → IsPrivate text → IsTrue (is_private_use text)
+pub is_private_use-from_rule : (text : List ℕ) → IsPrivate text → IsTrue (is_private_use text)
 unfolding IsPrivate
-private_from_rule text r = ap are_private_use (subtags-private text r.0 r.1 r.2) ∙ test_from_rule r.0.mark r.0.subtags r.1
+is_private_use-from_rule text r = ap are_private_use (subtags-private text r.0 r.1 r.2) ∙ test_from_rule r.0.mark r.0.subtags r.1
 
-pub private_spelled : (text : List ℕ) (b : Bool) → b ≡ is_private_use text → IsTrue b ↔ IsPrivate text
-private_spelled text b same = (λ h. private_from_test text (sym same ∙ h), λ r. same ∙ private_from_rule text r)
+-- both ways, of an answer that is the test
+pub IsPrivate-decided : (text : List ℕ) (answer : Bool) → answer ≡ is_private_use text → IsTrue answer ↔ IsPrivate text
+IsPrivate-decided text answer same = (λ h. IsPrivate-from_test text (sym same ∙ h), λ r. same ∙ is_private_use-from_rule text r)
+
+pub ruleset rule_and_test = (IsPrivate-from_test, is_private_use-from_rule)
 
 -- after the mark there are private use subtags alone
 pub are_private-after : (ss : List (List ℕ)) → are_private_use ss ≡ true → are_private (drop 1 ss) ≡ true
 are_private-after [] h = absurd cc
 are_private-after (mark ∷ []) h = absurd cc
 are_private-after (mark ∷ first ∷ others) h = (both_true (is_mark_alone mark) (are_private (first ∷ others)) h).1
+
+-- a text has at most one subtag more than bytes
+pub length-subtags : (text : List ℕ) → length (subtags text) ≤ length text + 1
+length-subtags [] = omega arith
+length-subtags (b ∷ text) = omega (arith, length-slice_split is_hyphen (b ∷ text), count_by-le-length is_hyphen (b ∷ text))

@@ -1,2 +1,3 @@
 pub mod PrivateUse
+pub mod PrivateUseTest
 pub mod Text

@@ -1,8 +1,8 @@
 //! The subtags of a private use part one by one.
-ghost use Rattle.std.specs.Prelude.{◌≡◌, IsTrue, [], drop};
+ghost use Rattle.std.specs.Prelude.{◌≡◌, ◌<◌, ◌^◌, IsTrue, [], drop, length};
 ghost use Rattle.std.specs.Iterator.{YieldsFirstBy, item_count};
 ghost use Rattle.langtag_scan.specs.Subtags.{subtags};
-ghost use Rattle.langtag_private.specs.PrivateUse.{are_private, is_private_use};
+ghost use Rattle.langtag_private.specs.PrivateUseTest.{are_private, is_private_use};
 
 use crate::private_use_subtag::PrivateUseSubtag;
 use langtag_scan::Subtags;
@@ -12,6 +12,7 @@ use langtag_scan::Subtags;
 pub struct PrivateUseIter<'a> {
     rest: Subtags<'a>,
     ghost in_class: { IsTrue (are_private rest) },
+    ghost countable: { length rest < 2 ^ 64 },
 }
 
 impl<'a> PrivateUseIter<'a> {
