@@ -8,7 +8,9 @@ use Rattle.std.proofs.lemmas.Grind.{common_steps}
 use Rattle.langtag_scan.specs.Class.{is_primary, is_extended}
 use Rattle.langtag_scan.specs.Subtags.{is_hyphen, segments, subtags, NoHyphenWithin, IsHyphenFree}
 use Rattle.langtag_scan.proofs.Disjoint.{both_true}
-use Rattle.langtag_language.specs.Language.{are_extended, are_extended_within, extended_room, are_language_extension, are_language, is_language_extension, is_language}
+use Rattle.langtag_language.specs.Language.{IsLanguageExtension}
+use Rattle.langtag_language.specs.LanguageTest.{are_extended, are_extended_within, extended_room, are_language_extension, are_language, is_language_extension, is_language}
+use Rattle.langtag_language.proofs.Rules.{IsLanguageExtension-from_test}
 
 -- the first subtag ends at the first hyphen
 segments_cut : (text : List ℕ) (end : ℕ) → end < length text → NoHyphenWithin text 0 end → get_or text end 0 ≡ 45 → segments text ≡ take end text ∷ segments (drop (end + 1) text)
@@ -61,7 +63,7 @@ language_alone text bytes end h same free whole =
 -- a language with one
 pub record IsCut (text primary rest : List ℕ) : Type 0 where
   pub primary_class : IsTrue (is_primary primary)
-  pub extension : IsTrue (is_language_extension rest)
+  pub extension : IsLanguageExtension rest
   pub list : subtags text ≡ primary ∷ subtags rest
 
 pub language_cut : (text bytes : List ℕ) (end : ℕ) → IsTrue (is_language text) → bytes ≡ text → end ≤ length bytes → NoHyphenWithin bytes 0 end → (end < length bytes → slice_index bytes end ≡ 45) → (end ≡ length text → ⊥) → IsCut text (slice_range text 0 end) (drop (end + 1) text)
@@ -75,6 +77,6 @@ language_cut text bytes end h same within free hyphen more =
     let up_to : slice_range text 0 end ≡ primary = grind (arith, common_steps) in
     rw up_to record {
       primary_class = (both_true (is_primary primary) (are_extended_within (extended_room primary) (segments rest)) pass).0;
-      extension = after.0;
+      extension = IsLanguageExtension-from_test rest after.0;
       list = list ∙ ap (λ ss. primary ∷ ss) after.1;
     }

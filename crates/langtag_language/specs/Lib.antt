@@ -1,2 +1,3 @@
 pub mod Language
+pub mod LanguageTest
 pub mod Text

@@ -3,8 +3,8 @@ ghost use Rattle.std.specs.Prelude.{◌≡◌, ◌↔◌, Some, IsTrue, IfOk, If
 ghost use Rattle.std.specs.String.{string_bytes};
 ghost use Rattle.langtag_scan.specs.Case.{are_alike};
 ghost use Rattle.langtag_scan.specs.Subtags.{subtags};
-ghost use Rattle.langtag_language.specs.Language as rule;
 ghost use Rattle.langtag_language.specs.Language.{IsLanguageExtension, SpellsLanguageExtension};
+ghost use Rattle.langtag_language.specs.LanguageTest as test;
 
 use crate::extended_subtags::are_extended_within;
 use crate::language_extension_iter::LanguageExtensionIter;
@@ -26,10 +26,10 @@ pub struct InvalidLanguageExtension<T>(pub T);
 #[derive(Clone, Copy, Debug, PartialEq, Eq, PartialOrd, Ord, Hash)]
 pub struct LanguageExtension<'a> {
     text: Caseless<&'a str>,
-    ghost in_class: { IsTrue (rule.is_language_extension text.0.now) },
+    ghost in_class: { IsTrue (test.is_language_extension text.0.now) },
 }
 
-#[tactic(auto, using(crate::proofs::Rules::extension_from_test, crate::proofs::Rules::subtags_spell_extension))]
+#[tactic(auto, using(crate::proofs::Rules::extension_rule))]
 impl<'a> LanguageExtension<'a> {
     ghost use Rattle.langtag_language.specs.Text.{language_extension_text, language_extension_buf_text, extended_left};
 
@@ -51,7 +51,7 @@ impl<'a> LanguageExtension<'a> {
 
     /// The language extension of a text that is known to be one: it is not looked at again.
     pub fn from_checked(text: &'a str) -> LanguageExtension<'a>
-        requires { IsTrue (rule.is_language_extension text.now) }
+        requires { IsLanguageExtension text.now }
         ensures { language_extension_text result ≡ text.now }
     {
         LanguageExtension {
@@ -106,7 +106,7 @@ impl<'a> LanguageExtension<'a> {
 
 /// Whether the text is one to three extended subtags, joined by hyphens.
 fn is_language_extension(text: &str) -> bool
-    ensures test { result ≡ rule.is_language_extension text.now }
+    ensures test { result ≡ test.is_language_extension text.now }
     ensures spelled { IsTrue result ↔ (IsLanguageExtension text.now) }
 {
     !text.is_empty() && are_extended_within(3, Subtags::new(text))
@@ -126,10 +126,10 @@ impl fmt::Display for LanguageExtension<'_> {
 #[derive(Debug, Drop, PartialEq, Eq, PartialOrd, Ord, Hash)]
 pub struct LanguageExtensionBuf {
     text: Caseless<String>,
-    ghost in_class: { IsTrue (rule.is_language_extension (string_bytes text.0)) },
+    ghost in_class: { IsTrue (test.is_language_extension (string_bytes text.0)) },
 }
 
-#[tactic(auto, using(crate::proofs::Rules::extension_from_test))]
+#[tactic(auto, using(crate::proofs::Rules::extension_rule))]
 impl LanguageExtensionBuf {
     ghost use Rattle.langtag_language.specs.Text.{language_extension_text, language_extension_buf_text, language_extension_buf_string};
 

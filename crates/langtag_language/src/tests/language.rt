@@ -6,7 +6,21 @@ use std::collections::HashSet;
 use std::test::Fail;
 
 /// Texts of many lengths, the shortest and the longest among them, and how many extended subtags each has.
-const TEXTS: [(&str, usize); 13] = [("fr", 0), ("FRA", 0), ("abcd", 0), ("abcde", 0), ("abcdef", 0), ("abcdefg", 0), ("AaBbCcDd", 0), ("fr-abc", 1), ("fra-ABC", 1), ("fr-abc-def", 2), ("fra-abc-def", 2), ("fr-abc-def-ghi", 3), ("FRA-abc-def-ghi", 3)];
+const TEXTS: [(&str, usize); 13] = [
+    ("fr", 0),
+    ("FRA", 0),
+    ("abcd", 0),
+    ("abcde", 0),
+    ("abcdef", 0),
+    ("abcdefg", 0),
+    ("AaBbCcDd", 0),
+    ("fr-abc", 1),
+    ("fra-ABC", 1),
+    ("fr-abc-def", 2),
+    ("fra-abc-def", 2),
+    ("fr-abc-def-ghi", 3),
+    ("FRA-abc-def-ghi", 3),
+];
 
 #[test]
 fn a_primary_subtag_and_extended_ones_are_a_language(rt: HostRuntime) {
@@ -63,7 +77,7 @@ fn the_text_keeps_its_case(rt: HostRuntime) -> Result<(), Fail> {
 }
 
 #[test]
-#[tactic(auto, unfolding(langtag_scan::specs::Class::is_extended, langtag_scan::specs::Class::is_letter, langtag_scan::specs::Class::is_primary))]
+#[tactic(auto, using(crate::proofs::Rules::language_rule), unfolding(langtag_scan::specs::Class::is_extended, langtag_scan::specs::Class::is_letter, langtag_scan::specs::Class::is_primary))]
 fn a_checked_text_is_kept(rt: HostRuntime) {
     let language = Language::from_checked("zh-MiN");
     assert_eq!(rt; language.as_str(), "zh-MiN");

@@ -6,7 +6,9 @@ use std::collections::HashSet;
 use std::test::Fail;
 
 /// Texts of each length, the shortest and the longest among them, with capitals.
-const TEXTS: [&str; 7] = ["fr", "FRA", "abcd", "abcde", "abcdef", "abcdefg", "AaBbCcDd"];
+const TEXTS: [&str; 7] = [
+    "fr", "FRA", "abcd", "abcde", "abcdef", "abcdefg", "AaBbCcDd",
+];
 
 #[test]
 fn two_to_eight_letters_are_a_primary_language(rt: HostRuntime) {
