@@ -6,7 +6,7 @@ use Rattle.std.specs.Char.{is_ascii}
 use Rattle.langtag_scan.specs.Class.{is_singleton}
 use Rattle.langtag_scan.proofs.Disjoint.{not_both}
 use Rattle.langtag_scan.proofs.Ascii.{alphanumeric_below}
-use Rattle.langtag_scan.proofs.Segments.{singleton_alphanumeric}
+use Rattle.langtag_scan.proofs.SubtagFacts.{singleton_alphanumeric}
 
 -- a singleton is ASCII
 pub singleton_below : (b : ℕ) → is_singleton b ≡ true → b < 128

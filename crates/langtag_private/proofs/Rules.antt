@@ -5,9 +5,9 @@ use Rattle.langtag_scan.specs.Record.{PrivateUse, IsPrivateUse, private_use_flat
 use Rattle.langtag_scan.specs.Subtags.{join, subtags}
 use Rattle.langtag_scan.specs.Tag.{IsPrivate}
 use Rattle.langtag_scan.proofs.Disjoint.{both_true}
-use Rattle.langtag_scan.proofs.Segments.{of_one, of_private_subtag, mark_alphanumeric}
+use Rattle.langtag_scan.proofs.SubtagFacts.{of_one, of_private_subtag, mark_alphanumeric}
 use Rattle.langtag_scan.proofs.SubtagLists.{each_from_test, test_from_each, each_subtag, subtags-joined}
-use Rattle.langtag_scan.proofs.SubtagsLemmas.{join-subtags}
+use Rattle.langtag_scan.proofs.SubtagLists.{join-subtags}
 use Rattle.langtag_private.specs.PrivateUse.{EachSpelling, are_private, are_private_use, is_mark_alone, is_private_use}
 
 -- one text, one list

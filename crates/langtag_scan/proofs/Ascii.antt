@@ -16,7 +16,8 @@ use Rattle.langtag_scan.specs.Subtags.{join}
 use Rattle.langtag_scan.specs.Tag.{IsNormal, IsPrivate, IsIrregularAt, IsIrregular, IsTag}
 use Rattle.langtag_scan.proofs.Disjoint.{both_true}
 use Rattle.langtag_scan.proofs.Complete.{decode_complete, after_mark}
-use Rattle.langtag_scan.proofs.Segments.{IsSubtag, decoded_subtags}
+use Rattle.langtag_scan.proofs.SubtagFacts.{IsSubtag}
+use Rattle.langtag_scan.proofs.NormalTexts.{decoded_subtags}
 
 -- ---- subtags and the hyphens between them
 
@@ -44,7 +45,7 @@ IsAscii-join (s ∷ u ∷ us) fits = IsAscii-append s (45 ∷ join (u ∷ us)) f
 
 pub IsAscii-normal : (t : List ℕ) → IsNormal t → IsAscii t
 unfolding IsNormal
-IsAscii-normal t (r, fits, spells) = subst IsAscii spells (IsAscii-join (flat r) (IsAscii-subtags (flat r) (decoded_subtags (flat r) _ _ (decode_complete r fits))))
+IsAscii-normal t (r, (fits, spells)) = subst IsAscii spells (IsAscii-join (flat r) (IsAscii-subtags (flat r) (decoded_subtags (flat r) _ _ (decode_complete r fits))))
 
 mark_below : (b : ℕ) → is_mark b ≡ true → b < 128
 unfolding is_mark

@@ -13,7 +13,9 @@ use Rattle.langtag_scan.specs.Stage.{is_one, runs}
 use Rattle.langtag_scan.proofs.Disjoint.{both_true, one_true}
 use Rattle.langtag_scan.proofs.Decoding.{decode, decode_sound, pending}
 use Rattle.langtag_scan.proofs.Complete.{after_mark}
-use Rattle.langtag_scan.proofs.Segments.{runs-decode, is_there, segments-join, decoded_subtags, alphanumeric_no_hyphen, mark_alphanumeric, runs_from_normal}
+use Rattle.langtag_scan.proofs.NormalTexts.{runs-decode, is_there, decoded_subtags, runs_from_normal}
+use Rattle.langtag_scan.proofs.SubtagLists.{segments-joined}
+use Rattle.langtag_scan.proofs.SubtagFacts.{alphanumeric_no_hyphen, mark_alphanumeric}
 use Rattle.langtag_scan.proofs.Running.{runs-cons, segments-hyphen}
 
 -- a private text, cut after its mark and hyphen
@@ -32,7 +34,7 @@ marked_from_private t h = by_subtags h.0.mark h.0.subtags h.1.mark h.1.some h.1.
     by_subtags m [] mark some each e = absurd (omega arith)
     by_subtags m (s ∷ ss) mark some each e =
         let d = after_mark (s ∷ ss) some each in
-        let split : segments (join (s ∷ ss)) ≡ s ∷ ss = segments-join s ss (decoded_subtags (s ∷ ss) AfterMark (pending (s ∷ ss) [] None) d) in
+        let split : segments (join (s ∷ ss)) ≡ s ∷ ss = segments-joined s ss (decoded_subtags (s ∷ ss) AfterMark (pending (s ∷ ss) [] None) d) in
         record { mark = m; rest = join (s ∷ ss); split = sym e; marked = mark; run = ap (runs AfterMark) split ∙ runs-decode (s ∷ ss) AfterMark ∙ ap is_some d }
 
 -- whether the subtags are a mark and what may follow it

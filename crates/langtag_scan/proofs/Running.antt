@@ -15,7 +15,8 @@ use Rattle.langtag_scan.specs.declared.stage.Stage.{Stage}
 use Rattle.langtag_scan.specs.declared.stage.Stage.TheVariants.{Start, Language, Extended, AfterScript, AfterRegion, AfterVariant, AfterSingleton, InExtension, AfterMark, InPrivate}
 use Rattle.langtag_scan.proofs.Disjoint.{both_true}
 use Rattle.langtag_scan.proofs.Decoding.{chosen}
-use Rattle.langtag_scan.proofs.Segments.{IsSubtag, next_subtag, no_hyphen_each, alphanumeric_no_hyphen}
+use Rattle.langtag_scan.proofs.SubtagFacts.{IsSubtag, no_hyphen_each, alphanumeric_no_hyphen}
+use Rattle.langtag_scan.proofs.NormalTexts.{next_subtag}
 
 pub runs-nil : (stage : Stage) → runs stage [] ≡ may_end stage
 unfolding runs
