@@ -1,3 +1,4 @@
+pub mod Tests
 pub mod Disjoint
 pub mod Decoding
 pub mod Complete
