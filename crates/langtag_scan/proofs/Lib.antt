@@ -1,10 +1,10 @@
+pub mod Tests
 pub mod Disjoint
 pub mod Decoding
 pub mod Complete
-pub mod Segments
+pub mod SubtagFacts
+pub mod NormalTexts
 pub mod CaseOrder
-pub mod SegmentLemmas
-pub mod SubtagsLemmas
 pub mod ShapeLaws
 pub mod Running
 pub mod Filling
@@ -18,3 +18,7 @@ pub mod CaseLaw
 pub mod OneKind
 pub mod Ascii
 pub mod SubtagLists
+pub mod Joins
+pub mod PartOffsets
+pub mod SpelledTexts
+pub mod FoundLaws

@@ -8,6 +8,7 @@ use Rattle.langtag_scan.specs.Subtags.{is_hyphen, segments}
 use Rattle.langtag_scan.specs.Tag.{IsNormal, IsPrivate}
 use Rattle.langtag_scan.specs.Stage.{Classes, classes_of, is_one, opened_by, after_region_by, after_script_by, after_language_by, next_by, next_stage, may_end, runs}
 use Rattle.langtag_scan.specs.Record.{flat}
+use Rattle.langtag_scan.specs.Ends.{HasEnds}
 use Rattle.langtag_scan.specs.Found.{Finding.normal, IsFoundOf}
 use Rattle.langtag_scan.specs.Viable.{filling, fill}
 use Rattle.langtag_scan.specs.Shape.{shape_of, classes_of_shape}
@@ -18,7 +19,7 @@ use Rattle.langtag_scan.specs.declared.machine.Reading.{Reading}
 use Rattle.langtag_scan.specs.declared.machine.Reading.TheVariants.{Normal, Private}
 use Rattle.langtag_scan.specs.declared.stage.Stage.{Stage}
 use Rattle.langtag_scan.specs.declared.stage.Stage.TheVariants.{Start, Language, Extended, AfterScript, AfterRegion, AfterVariant, AfterSingleton, InExtension, AfterMark, InPrivate}
-use Rattle.langtag_scan.proofs.Segments.{normal_from_runs, runs_from_normal, spelled_segments}
+use Rattle.langtag_scan.proofs.NormalTexts.{normal_from_runs, runs_from_normal, spelled_segments}
 use Rattle.langtag_scan.proofs.EndsLaw.{ends_after-flat}
 use Rattle.langtag_scan.proofs.Running.{IsStuck, stuck_full, stuck_other, empty_begun, goes_grown, goes_after, goes_refused, goes_stuck, goes_ended, segments-hyphen, segments-one, ends_after-nil, ends_after-cons}
 use Rattle.langtag_scan.proofs.PrivateTexts.{marked_from_private, private_from_marked, private_begun, private_no_hyphen, mark_letter, one_no_primary, marked_not_normal}
@@ -386,10 +387,10 @@ reads_rejected Private p stage shape e none h =
 
 -- where they accept, the ends are those of the record
 found_with : (p : List ℕ) (found : Ends) → ends_after Start (all_at 0) (segments p) ≡ found → IsNormal p → IsFoundOf p (normal found)
-unfolding IsNormal
+unfolding IsNormal HasEnds
 found_with p found ends n =
-    let same : flat n.0 ≡ segments p = sym (spelled_segments n.0 n.1) ∙ ap segments n.2 in
-    (n.0, n.1, n.2, sym ends ∙ ap (ends_after Start (all_at 0)) (sym same) ∙ ends_after-flat n.0 n.1)
+    let same : flat n.0 ≡ segments p = sym (spelled_segments n.0 n.1.0) ∙ ap segments n.1.1 in
+    (n.0, n.1, sym ends ∙ ap (ends_after Start (all_at 0)) (sym same) ∙ ends_after-flat n.0 n.1.0)
 
 pub normal_accepted : (p : List ℕ) (stage after : Stage) (shape : Shape) (e : Ends) → next_by stage (classes_of_shape shape) ≡ Some after → may_end after ≡ true → Reads Normal p stage shape e → IsFoundOf p (normal (end_at after (length p) e))
 normal_accepted p stage after shape e next ends h =

@@ -26,7 +26,7 @@ use Rattle.langtag_scan.specs.Tracking.{Tracks}
 use Rattle.langtag_scan.specs.declared.machine.Machine.{Machine}
 use Rattle.std.specs.Prelude.{Option, Some, None, MatchOption}
 use Rattle.langtag_scan.specs.declared.irregular.Names.{Names}
-use Rattle.langtag_scan.proofs.Segments.{normal_from_runs}
+use Rattle.langtag_scan.proofs.NormalTexts.{normal_from_runs}
 use Rattle.langtag_scan.proofs.CaseLaw.{runs-fold, segments-fold}
 use Rattle.langtag_scan.proofs.IrregularNames.{irregular_here, possible_viable, possible_prefix, followed-push, followed_possible, in_range, empty_range}
 use Rattle.langtag_scan.proofs.ReadingLaws.{reads_nothing, normal_filled, private_filled}

@@ -1,5 +1,5 @@
 use Rattle.std.proofs.Common.{sym, ◌∙◌}
-use Rattle.langtag_scan.proofs.Segments.{spelled_once}
+use Rattle.langtag_scan.proofs.NormalTexts.{spelled_once}
 use Rattle.langtag_scan.proofs.TagLaws.{tag_normal, found_no_normal}
 use Rattle.langtag_scan.proofs.recogniser.recognise_normal.Goals as goal
 

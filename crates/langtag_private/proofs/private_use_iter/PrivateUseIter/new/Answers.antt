@@ -1,6 +1,7 @@
 use Rattle.std.proofs.Common.{◌≡◌, length, drop, length-drop, ap, rules, arith}
 use Rattle.langtag_scan.specs.Subtags.{subtags}
-use Rattle.langtag_private.proofs.Rules.{are_private-after, length-subtags}
+use Rattle.langtag_scan.proofs.SubtagLists.{length-subtags}
+use Rattle.langtag_private.proofs.Rules.{are_private-after}
 use Rattle.langtag_private.proofs.private_use_iter.PrivateUseIter.new.Goals as goal
 
 pub invariant_of-result : goal.invariant_of-result

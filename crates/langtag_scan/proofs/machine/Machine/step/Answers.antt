@@ -2,7 +2,7 @@ use Rattle.std.proofs.Common.{◌≡◌, false, true, ◌||◌, inl, inr, sym, a
 use Rattle.langtag_scan.specs.Class.{is_letter, is_digit, is_alphanumeric}
 use Rattle.langtag_scan.specs.Machine.{begun, may_hold}
 use Rattle.langtag_scan.specs.declared.stage.Stage.TheVariants.{Start}
-use Rattle.langtag_scan.proofs.Segments.{alphanumeric_no_hyphen}
+use Rattle.langtag_scan.proofs.SubtagFacts.{alphanumeric_no_hyphen}
 use Rattle.langtag_scan.proofs.ReadingLaws.{reads_grown, reads_stuck, letter_held, held_later, or_digit, nothing_held}
 use Rattle.std.proofs.Common.{ne_eqb}
 use Rattle.langtag_scan.proofs.machine.Machine.step.Goals as goal
