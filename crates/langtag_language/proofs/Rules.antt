@@ -7,7 +7,7 @@ use Rattle.langtag_scan.specs.Subtags.{join, subtags}
 use Rattle.langtag_scan.proofs.SubtagFacts.{of_primary, of_extended}
 use Rattle.langtag_scan.proofs.SubtagLists.{each_from_test, test_from_each, each_subtag, subtags-joined, join-subtags}
 use Rattle.langtag_language.specs.Language.{SpellsLanguageExtension, IsLanguageExtension, SpellsLanguage, IsLanguage}
-use Rattle.langtag_language.specs.LanguageTest.{are_extended, are_extended_within, extended_room, are_language_extension, are_language, is_language_extension, is_language}
+use Rattle.langtag_language.specs.Tests.{are_extended, are_extended_within, extended_room, are_language_extension, are_language, is_language_extension, is_language}
 
 -- ---- extlang
 
@@ -44,8 +44,10 @@ is_language_extension-from_rule text r = ap are_language_extension (subtags-exte
 pub IsLanguageExtension-decided : (text : List ℕ) (answer : Bool) → answer ≡ is_language_extension text → IsTrue answer ↔ IsLanguageExtension text
 IsLanguageExtension-decided text answer same = (λ h. IsLanguageExtension-from_test text (sym same ∙ h), λ r. same ∙ is_language_extension-from_rule text r)
 
-pub ruleset extension_rule = (IsLanguageExtension-from_test, SpellsLanguageExtension-from_test, is_language_extension-from_rule)
+-- the steps from the one to the other
+pub ruleset extension_rules = (SpellsLanguageExtension-from_test, IsLanguageExtension-from_test, is_language_extension-from_rule, IsLanguageExtension-decided)
 
+-- what the subtags of a language extension are
 pub ruleset extension_members = (SpellsLanguageExtension-from_test, are_extended-from_test)
 
 -- ---- language
@@ -90,4 +92,5 @@ is_language-from_rule text r = ap are_language (subtags-language r.0 r.1 text r.
 pub IsLanguage-decided : (text : List ℕ) (answer : Bool) → answer ≡ is_language text → IsTrue answer ↔ IsLanguage text
 IsLanguage-decided text answer same = (λ h. IsLanguage-from_test text (sym same ∙ h), λ r. same ∙ is_language-from_rule text r)
 
-pub ruleset language_rule = (IsLanguage-from_test, is_language-from_rule)
+-- the steps from the one to the other
+pub ruleset language_rules = (IsLanguage-from_test, is_language-from_rule, IsLanguage-decided)

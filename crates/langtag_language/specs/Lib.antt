@@ -1,3 +1,3 @@
 pub mod Language
-pub mod LanguageTest
+pub mod Tests
 pub mod Text

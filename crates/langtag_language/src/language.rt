@@ -5,7 +5,7 @@ ghost use Rattle.std.specs.String.{string_bytes};
 ghost use Rattle.langtag_scan.specs.Case.{are_alike};
 ghost use Rattle.langtag_scan.specs.Subtags.{subtags};
 ghost use Rattle.langtag_language.specs.Language.{IsLanguage, EachSpelling, SpellsLanguageExtension};
-ghost use Rattle.langtag_language.specs.LanguageTest as test;
+ghost use Rattle.langtag_language.specs.Tests as test;
 
 use crate::extended_subtags::are_extended_within;
 use crate::language_extension::LanguageExtension;
@@ -33,7 +33,7 @@ pub struct Language<'a> {
     ghost in_class: { IsTrue (test.is_language text.0.now) },
 }
 
-#[tactic(auto, using(crate::proofs::Rules::language_rule))]
+#[tactic(auto, using(crate::proofs::Rules::language_rules))]
 impl<'a> Language<'a> {
     ghost use Rattle.langtag_language.specs.Text.{language_text, language_buf_text, primary_language_text};
     ghost use Rattle.langtag_language.specs.Text.{language_extension_text, extension_list, extended_left};
@@ -147,8 +147,7 @@ impl<'a> Language<'a> {
 
 /// Whether the text is a primary subtag and, after two or three letters, at most three extended ones.
 fn is_language(text: &str) -> bool
-    ensures test { result ≡ test.is_language text.now }
-    ensures spelled { IsTrue result ↔ (IsLanguage text.now) }
+    ensures { result ≡ test.is_language text.now }
 {
     let mut subtags = Subtags::new(text);
     let Some(primary) = subtags.next() else {
@@ -175,7 +174,7 @@ pub struct LanguageBuf {
     ghost in_class: { IsTrue (test.is_language (string_bytes text.0)) },
 }
 
-#[tactic(auto, using(crate::proofs::Rules::language_rule))]
+#[tactic(auto, using(crate::proofs::Rules::language_rules))]
 impl LanguageBuf {
     ghost use Rattle.langtag_language.specs.Text.{language_text, language_buf_text, language_buf_string};
 

@@ -4,7 +4,7 @@ ghost use Rattle.std.specs.String.{string_bytes};
 ghost use Rattle.langtag_scan.specs.Case.{are_alike};
 ghost use Rattle.langtag_scan.specs.Subtags.{subtags};
 ghost use Rattle.langtag_language.specs.Language.{IsLanguageExtension, SpellsLanguageExtension};
-ghost use Rattle.langtag_language.specs.LanguageTest as test;
+ghost use Rattle.langtag_language.specs.Tests as test;
 
 use crate::extended_subtags::are_extended_within;
 use crate::language_extension_iter::LanguageExtensionIter;
@@ -29,7 +29,7 @@ pub struct LanguageExtension<'a> {
     ghost in_class: { IsTrue (test.is_language_extension text.0.now) },
 }
 
-#[tactic(auto, using(crate::proofs::Rules::extension_rule))]
+#[tactic(auto, using(crate::proofs::Rules::extension_rules))]
 impl<'a> LanguageExtension<'a> {
     ghost use Rattle.langtag_language.specs.Text.{language_extension_text, language_extension_buf_text, extended_left};
 
@@ -106,8 +106,7 @@ impl<'a> LanguageExtension<'a> {
 
 /// Whether the text is one to three extended subtags, joined by hyphens.
 fn is_language_extension(text: &str) -> bool
-    ensures test { result ≡ test.is_language_extension text.now }
-    ensures spelled { IsTrue result ↔ (IsLanguageExtension text.now) }
+    ensures { result ≡ test.is_language_extension text.now }
 {
     !text.is_empty() && are_extended_within(3, Subtags::new(text))
 }
@@ -129,7 +128,7 @@ pub struct LanguageExtensionBuf {
     ghost in_class: { IsTrue (test.is_language_extension (string_bytes text.0)) },
 }
 
-#[tactic(auto, using(crate::proofs::Rules::extension_rule))]
+#[tactic(auto, using(crate::proofs::Rules::extension_rules))]
 impl LanguageExtensionBuf {
     ghost use Rattle.langtag_language.specs.Text.{language_extension_text, language_extension_buf_text, language_extension_buf_string};
 

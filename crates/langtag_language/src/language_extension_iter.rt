@@ -2,7 +2,7 @@
 ghost use Rattle.std.specs.Prelude.{◌≡◌, ◌≤◌, IsTrue, [], length};
 ghost use Rattle.std.specs.Iterator.{YieldsFirstBy, item_count};
 ghost use Rattle.langtag_scan.specs.Subtags.{subtags};
-ghost use Rattle.langtag_language.specs.LanguageTest.{are_extended, is_language_extension};
+ghost use Rattle.langtag_language.specs.Tests.{are_extended, is_language_extension};
 
 use crate::extended_lang_tag::ExtendedLangTag;
 use langtag_scan::Subtags;

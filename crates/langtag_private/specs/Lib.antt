@@ -1,3 +1,3 @@
 pub mod PrivateUse
-pub mod PrivateUseTest
+pub mod Tests
 pub mod Text

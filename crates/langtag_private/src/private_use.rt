@@ -5,7 +5,7 @@ ghost use Rattle.langtag_scan.specs.Case.{are_alike};
 ghost use Rattle.langtag_scan.specs.Subtags.{subtags};
 ghost use Rattle.langtag_scan.specs.Tag.{IsPrivate};
 ghost use Rattle.langtag_private.specs.PrivateUse.{EachSpelling};
-ghost use Rattle.langtag_private.specs.PrivateUseTest as test;
+ghost use Rattle.langtag_private.specs.Tests as test;
 
 use crate::private_use_iter::PrivateUseIter;
 use langtag_scan::{Caseless, Subtags, is_mark, is_private_subtag};
@@ -30,7 +30,7 @@ pub struct PrivateUse<'a> {
     ghost in_class: { IsTrue (test.is_private_use text.0.now) },
 }
 
-#[tactic(auto, using(crate::proofs::Rules::rule_and_test))]
+#[tactic(auto, using(crate::proofs::Rules::private_rules))]
 impl<'a> PrivateUse<'a> {
     ghost use Rattle.langtag_private.specs.Text.{private_use_text, private_use_buf_text, private_left};
 
@@ -107,8 +107,7 @@ impl<'a> PrivateUse<'a> {
 
 /// Whether the text is a mark and private use subtags, at least one, joined by hyphens.
 fn is_private_use(text: &str) -> bool
-    ensures test { result ≡ test.is_private_use text.now }
-    ensures spelled { IsTrue result ↔ (IsPrivate text.now) }
+    ensures { result ≡ test.is_private_use text.now }
 {
     let mut subtags = Subtags::new(text);
     let marked = subtags
@@ -154,7 +153,7 @@ pub struct PrivateUseBuf {
     ghost in_class: { IsTrue (test.is_private_use (string_bytes text.0)) },
 }
 
-#[tactic(auto, using(crate::proofs::Rules::rule_and_test))]
+#[tactic(auto, using(crate::proofs::Rules::private_rules))]
 impl PrivateUseBuf {
     ghost use Rattle.langtag_private.specs.Text.{private_use_text, private_use_buf_text, private_use_buf_string};
 

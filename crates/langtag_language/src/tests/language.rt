@@ -77,7 +77,7 @@ fn the_text_keeps_its_case(rt: HostRuntime) -> Result<(), Fail> {
 }
 
 #[test]
-#[tactic(auto, using(crate::proofs::Rules::language_rule), unfolding(langtag_scan::specs::Class::is_extended, langtag_scan::specs::Class::is_letter, langtag_scan::specs::Class::is_primary))]
+#[tactic(auto, using(crate::proofs::Rules::language_rules), unfolding(langtag_scan::specs::Class::is_extended, langtag_scan::specs::Class::is_letter, langtag_scan::specs::Class::is_primary))]
 fn a_checked_text_is_kept(rt: HostRuntime) {
     let language = Language::from_checked("zh-MiN");
     assert_eq!(rt; language.as_str(), "zh-MiN");

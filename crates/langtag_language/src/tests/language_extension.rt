@@ -64,7 +64,7 @@ fn the_text_keeps_its_case(rt: HostRuntime) -> Result<(), Fail> {
 }
 
 #[test]
-#[tactic(auto, using(crate::proofs::Rules::extension_rule), unfolding(langtag_scan::specs::Class::is_extended, langtag_scan::specs::Class::is_letter))]
+#[tactic(auto, using(crate::proofs::Rules::extension_rules), unfolding(langtag_scan::specs::Class::is_extended, langtag_scan::specs::Class::is_letter))]
 fn a_checked_text_is_kept(rt: HostRuntime) {
     let language_extension = LanguageExtension::from_checked("min-NaN");
     assert_eq!(rt; language_extension.as_str(), "min-NaN");

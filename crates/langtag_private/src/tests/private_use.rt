@@ -80,7 +80,7 @@ fn the_text_keeps_its_case(rt: HostRuntime) -> Result<(), Fail> {
 }
 
 #[test]
-#[tactic(auto, using(crate::proofs::Rules::rule_and_test), unfolding(langtag_scan::specs::Class::is_digit, langtag_scan::specs::Class::is_letter, langtag_scan::specs::Class::is_mark, langtag_scan::specs::Class::is_private_subtag))]
+#[tactic(auto, using(crate::proofs::Rules::private_rules), unfolding(langtag_scan::specs::Class::is_digit, langtag_scan::specs::Class::is_letter, langtag_scan::specs::Class::is_mark, langtag_scan::specs::Class::is_private_subtag))]
 fn a_checked_text_is_kept(rt: HostRuntime) {
     let private_use = PrivateUse::from_checked("X-tWaIn");
     assert_eq!(rt; private_use.as_str(), "X-tWaIn");
