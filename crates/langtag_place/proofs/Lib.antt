@@ -1,1 +1,1 @@
-pub mod SpelledVariants
+pub mod Rules

@@ -2,7 +2,7 @@
 ghost use Rattle.std.specs.Prelude.{◌≡◌, IsTrue, []};
 ghost use Rattle.std.specs.Iterator.{YieldsFirstBy, YieldsLastBy, item_count};
 ghost use Rattle.langtag_scan.specs.Subtags.{subtags};
-ghost use Rattle.langtag_place.specs.Variants.{are_variants, is_variants};
+ghost use Rattle.langtag_place.specs.Tests.{are_variants, is_variants};
 
 use crate::variant::Variant;
 use langtag_scan::Subtags;
