@@ -52,6 +52,9 @@ impl<'a> Extensions<'a> {
         ensures same_text { IfOk result (λ extensions. extensions_text extensions ≡ text.now) }
         ensures given_back { IfErr result (λ error. error.0 ≡ text.entry) }
     {
+        if text.is_empty() {
+            return Ok(Extensions::EMPTY);
+        }
         if !are_extensions(text) {
             return Err(InvalidExtensions(text));
         }
