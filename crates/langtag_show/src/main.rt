@@ -8,6 +8,7 @@
 
 mod answer;
 mod outcome;
+mod page;
 mod run;
 mod show_error;
 #[cfg(test)]

@@ -1,5 +1,6 @@
 //! What stands in the output at each read.
 use super::feed::Feed;
+use super::line_feeds;
 use super::small::Small;
 use crate::run::{run, run_in};
 use std::cell::Cell;
@@ -10,12 +11,12 @@ use std::io::{ErrorKind, Read, Write};
 #[derive(Drop)]
 struct Asker<'a> {
     feed: Feed<'a>,
-    owed: &'a Cell<usize>,
+    owed: &'a Cell<u64>,
     is_late: bool,
 }
 
 impl<'a> Asker<'a> {
-    fn new(feed: Feed<'a>, owed: &'a Cell<usize>) -> Asker<'a> {
+    fn new(feed: Feed<'a>, owed: &'a Cell<u64>) -> Asker<'a> {
         Asker {
             feed,
             owed,
@@ -40,12 +41,12 @@ impl Read for Asker<'_> {
 struct Taker<'a> {
     answers: &'a [u8],
     rest: &'a [u8],
-    owed: &'a Cell<usize>,
+    owed: &'a Cell<u64>,
     rounds: u64,
 }
 
 impl<'a> Taker<'a> {
-    fn new(answers: &'a [u8], owed: &'a Cell<usize>) -> Taker<'a> {
+    fn new(answers: &'a [u8], owed: &'a Cell<u64>) -> Taker<'a> {
         Taker {
             answers,
             rest: answers,
@@ -74,10 +75,6 @@ impl Write for Taker<'_> {
     fn flush(&mut self) -> io::Result<()> {
         Ok(())
     }
-}
-
-fn line_feeds(bytes: &[u8]) -> usize {
-    bytes.iter().filter(|b| **b == b'\n').count()
 }
 
 const LINES: &[u8] = b"fr\n\nx-a\ni-ami\n";

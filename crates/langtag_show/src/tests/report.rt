@@ -4,6 +4,7 @@ ghost use Rattle.langtag_show.specs.Lines.{lines_of};
 ghost use Rattle.langtag_show.specs.Report.{Answers};
 
 use super::feed::Feed;
+use super::line_feeds;
 use super::sheet::Sheet;
 use crate::run::run;
 use crate::show_error::ShowError;
@@ -42,6 +43,7 @@ fn answers_each_line(rt: HostRuntime) {
             let mut output = Sheet::new();
             assert_eq!(rt; run(rt.alloc(), &mut input, &mut output), Ok(()));
             assert_eq!(rt; output.text(), want);
+            assert_eq!(rt; output.writes, line_feeds(want), "one write an answer");
             assert_eq!(rt; output.flushes, 1);
             assert_eq!(rt; input.ends, 1, "no read follows the one that met the end");
         }
