@@ -1,5 +1,5 @@
 //! A page, on which the pieces of one answer are gathered.
-ghost use Rattle.std.specs.Prelude.{◌≡◌, ◌≤◌, List, ℕ, [], take, OnOk, IsOkUnless};
+ghost use Rattle.std.specs.Prelude.{◌≡◌, ◌+◌, ◌≤◌, List, ℕ, [], ◌++◌, length, take, OnOk, IsOkUnless};
 ghost use Rattle.std.specs.Io.KnownBytes.{Appends, append_known};
 ghost use Rattle.langtag_show.specs.declared.page.TheConstants.{PAGE_LEN};
 
@@ -46,17 +46,18 @@ impl Page {
             (append_known (W.contents output.new) self.new) piece.now) }
         ensures err { IsOkUnless result ShowError.Write }
     {
-        let bytes = piece.as_bytes();
-        if bytes.len() > PAGE_LEN - self.len {
-            self.write_out(output)?;
+        if piece.len() <= PAGE_LEN - self.len {
+            self.add(piece.as_bytes());
+            return Ok(());
         }
-        if bytes.len() > PAGE_LEN {
-            return output.write_all(bytes).map_err(|_| ShowError::Write);
+        self.write_out(output)?;
+        if piece.len() <= PAGE_LEN {
+            self.add(piece.as_bytes());
+            return Ok(());
         }
-        let end = self.len + bytes.len();
-        self.bytes[self.len..end].copy_from_slice(bytes);
-        self.len = end;
-        Ok(())
+        output
+            .write_all(piece.as_bytes())
+            .map_err(|_| ShowError::Write)
     }
 
     /// Ends the answer.
@@ -67,6 +68,17 @@ impl Page {
         self.write_out(output)
     }
 
+    /// Takes bytes that fit.
+    fn add(&mut self, bytes: &[u8])
+        requires { length self.old + length bytes.now ≤ PAGE_LEN }
+        ensures { self.new ≡ self.old ++ bytes.now }
+    {
+        let end = self.len + bytes.len();
+        self.bytes[self.len..end].copy_from_slice(bytes);
+        self.len = end;
+    }
+
+    /// Writes what the page holds, which is empty then.
     fn write_out<W: Write>(&mut self, output: &mut W) -> Result<(), ShowError>
         ensures ok { OnOk result (Appends (W.contents output.old) (W.contents output.new) self.old) }
         ensures empty { OnOk result (self.new ≡ []) }
