@@ -1,0 +1,3 @@
+pub mod PartsFound
+pub mod PartRules
+pub mod PartTests
