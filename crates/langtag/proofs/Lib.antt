@@ -1,3 +1,4 @@
 pub mod PartsFound
 pub mod PartRules
 pub mod PartTests
+pub mod EditLaws

@@ -1,2 +1,4 @@
+pub mod Edit
+pub mod Moved
 pub mod Offsets
 pub mod Text
