@@ -1,1 +1,6 @@
+pub mod PartsFound
+pub mod PartRules
+pub mod PartTests
+pub mod EditLaws
 pub mod RegisteredLaws
+pub mod KeptFound

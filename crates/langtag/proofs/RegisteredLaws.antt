@@ -95,13 +95,15 @@ past_end n m none = elim (cases_lt n m) [
   | inr le ↦ le
 ]
 
-pub first_alike_found : (t : List ℕ) (k : ℕ) (d : GrandfatheredLangTag) → position (λ tag. are_alike (text_of tag) t) GRANDFATHERED ≡ Some k → IsGrandfatheredAt (index_of (get_or GRANDFATHERED k d)) t
-first_alike_found t k d found =
-    let tag : GrandfatheredLangTag = get_or GRANDFATHERED k d in
-    let at = position-Some (λ tag. are_alike (text_of tag) t) GRANDFATHERED k d found in
-    let index : index_of tag ≡ k = index_listed k d at.0 in
-    grandfathered_at (index_of tag) t (omega (arith, index, at.0)) ((are_alike-decides (text_of tag) t).0 at.1)
+-- the first tag that is alike is the one at its index
+pub first_alike_found : (t : List ℕ) (k : ℕ) → position (λ tag. are_alike (text_of tag) t) GRANDFATHERED ≡ Some k → IsGrandfatheredAt k t
+first_alike_found t k found =
+    let tag : GrandfatheredLangTag = get_or GRANDFATHERED k EnGbOed in
+    let at = position-Some (λ tag. are_alike (text_of tag) t) GRANDFATHERED k EnGbOed found in
+    let index : index_of tag ≡ k = index_listed k EnGbOed at.0 in
+    grandfathered_at k t at.0 (ap (λ i. fold_text (text_at i)) (sym index) ∙ (are_alike-decides (text_of tag) t).0 at.1)
 
+-- and where none is, there is none
 pub none_alike : (t : List ℕ) → position (λ tag. are_alike (text_of tag) t) GRANDFATHERED ≡ None → IsGrandfathered t → ⊥
 unfolding IsGrandfathered
 none_alike t none (k, at) =

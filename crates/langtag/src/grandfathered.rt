@@ -1,5 +1,5 @@
 //! The grandfathered tags (RFC 5646 section 2.2.8).
-ghost use Rattle.std.specs.Prelude.{◌≡◌, ◌↔◌, ℕ, List, Some, IsTrue, IfOk, IfErr, is_ok, position, slice_get};
+ghost use Rattle.std.specs.Prelude.{◌≡◌, ◌↔◌, ◌<◌, ℕ, List, Some, IsTrue, IfOk, IfErr, is_ok, position, slice_get};
 ghost use Rattle.std.specs.Option.{option_map};
 ghost use Rattle.langtag_scan.specs.Case.{are_alike};
 ghost use Rattle.langtag.specs.Registered.{text_of};
@@ -156,9 +156,17 @@ impl GrandfatheredLangTag {
         ensures listed { (tag : GrandfatheredLangTag) → slice_get GRANDFATHERED (index_of tag) ≡ Some tag }
     {
         match first_alike(&GRANDFATHERED, bytes) {
-            Some(index) => Ok(GRANDFATHERED[index]),
+            Some(index) => Ok(GrandfatheredLangTag::at(index)),
             None => Err(bytes),
         }
+    }
+
+    /// The tag at an index of the table.
+    pub(crate) fn at(index: usize) -> Self
+        requires { index < 26 }
+        ensures { index_of result ≡ index }
+    {
+        GRANDFATHERED[index]
     }
 
     /// The primary language of a regular tag, as `zh` of `zh-min-nan`; an irregular one has none.

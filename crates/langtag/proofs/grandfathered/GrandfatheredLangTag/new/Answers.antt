@@ -1,15 +1,14 @@
 use Rattle.std.proofs.Common.{refl, sym}
-use Rattle.langtag.specs.declared.grandfathered.GrandfatheredLangTag.TheVariants.{EnGbOed}
 use Rattle.langtag.specs.Registered.{IsGrandfathered}
 use Rattle.langtag.proofs.RegisteredLaws.{one_index, first_alike_found, none_alike}
 use Rattle.langtag.proofs.grandfathered.GrandfatheredLangTag.new.Goals as goal
 
 pub returns-in-Some-clause-accepts : goal.returns-in-Some-clause-accepts
 unfolding IsGrandfathered
-returns-in-Some-clause-accepts c = (λ is. (_, first_alike_found c.args.bytes.now c.in-Some.index EnGbOed (sym c.in-Some.ensures)), λ is. refl)
+returns-in-Some-clause-accepts c = (λ is. (_, first_alike_found c.args.bytes.now c.in-Some.index (sym c.in-Some.ensures)), λ is. refl)
 
 pub returns-in-Some-clause-same_tag : goal.returns-in-Some-clause-same_tag
-returns-in-Some-clause-same_tag c = first_alike_found c.args.bytes.now c.in-Some.index _ (sym c.in-Some.ensures)
+returns-in-Some-clause-same_tag c = rw c.at.ensures (first_alike_found c.args.bytes.now c.in-Some.index (sym c.in-Some.ensures))
 
 pub returns-in-Some-clause-one_index : goal.returns-in-Some-clause-one_index
 returns-in-Some-clause-one_index c = one_index
