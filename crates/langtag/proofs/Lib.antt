@@ -4,3 +4,4 @@ pub mod PartTests
 pub mod EditLaws
 pub mod RegisteredLaws
 pub mod KeptFound
+pub mod OrderLaws

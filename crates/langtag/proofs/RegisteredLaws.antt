@@ -87,6 +87,11 @@ pub index_listed : (k : ℕ) (d : GrandfatheredLangTag) → k < 26 → index_of 
 index_listed k d lt =
     sym (get_or-map index_of GRANDFATHERED k d 0 lt) ∙ ap (λ ks. get_or ks k 0) indices ∙ get_or-range_with_len 0 26 k 0 lt ∙ zero-add k
 
+-- each variant stands in `GRANDFATHERED` at its index
+pub listed : (tag : GrandfatheredLangTag) → slice_get GRANDFATHERED (index_of tag) ≡ Some tag
+listed EnGbOed = refl
+listed tag = refl
+
 -- ---- the look-up
 
 past_end : (n m : ℕ) → cond (ltb n m) (Some n) None ≡ None → m ≤ n

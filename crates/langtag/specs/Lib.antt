@@ -6,3 +6,4 @@ pub mod Registered
 pub mod LookUp
 pub mod Kinds
 pub mod Typed
+pub mod Order

@@ -140,6 +140,7 @@ static REGISTERED: [(&str, Option<&str>); 26] = [
 
 impl GrandfatheredLangTag {
     ghost use Rattle.langtag_language.specs.Text.{language_text};
+    ghost use Rattle.langtag.specs.Order.{TagsCompareByIndex};
     ghost use Rattle.langtag.specs.Registered.{index_of, language_of, IsGrandfatheredAt, IsGrandfathered};
 
     /// The grandfathered tag with these bytes, in any case.
@@ -153,6 +154,7 @@ impl GrandfatheredLangTag {
         ensures given_back { IfErr result (λ same. same ≡ bytes.entry) }
 
         ensures one_index { (j k : ℕ) (t : List ℕ) → IsGrandfatheredAt j t → IsGrandfatheredAt k t → j ≡ k }
+        ensures by_index { TagsCompareByIndex }
         ensures listed { (tag : GrandfatheredLangTag) → slice_get GRANDFATHERED (index_of tag) ≡ Some tag }
     {
         match first_alike(&GRANDFATHERED, bytes) {

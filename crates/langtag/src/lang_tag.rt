@@ -53,6 +53,7 @@ impl<'a> LangTag<'a> {
     ghost use Rattle.langtag_extension.specs.Text.{extensions_text};
     ghost use Rattle.langtag_private.specs.Text.{private_use_text, private_left};
     ghost use Rattle.langtag.specs.Kinds.{IsOfKind, AreOfOneKind};
+    ghost use Rattle.langtag.specs.Order.{KindsCompareByIndex};
     ghost use Rattle.langtag.specs.Registered.{index_of, IsGrandfatheredAt, IsGrandfathered};
     ghost use Rattle.langtag.specs.Text.{normal_lang_tag_text, lang_tag_text, lang_tag_buf_text};
     ghost use Rattle.langtag.specs.Typed.{IsTypedAs};
@@ -126,7 +127,8 @@ impl<'a> LangTag<'a> {
 
     /// The kind of the tag. The regular grandfathered tags are normal.
     pub fn kind(&self) -> Kind
-        ensures { IsOfKind (lang_tag_text self.now) result }
+        ensures kind { IsOfKind (lang_tag_text self.now) result }
+        ensures by_index { KindsCompareByIndex }
     {
         self.as_typed().kind()
     }

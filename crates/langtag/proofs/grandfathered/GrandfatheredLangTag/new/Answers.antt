@@ -1,5 +1,6 @@
 use Rattle.std.proofs.Common.{refl, sym}
 use Rattle.langtag.specs.Registered.{IsGrandfathered}
+use Rattle.langtag.proofs.OrderLaws.{tags_compare}
 use Rattle.langtag.proofs.RegisteredLaws.{one_index, first_alike_found, none_alike}
 use Rattle.langtag.proofs.grandfathered.GrandfatheredLangTag.new.Goals as goal
 
@@ -18,3 +19,9 @@ returns-in-None-clause-accepts c = (λ is. absurd cc, λ is. absurd (none_alike 
 
 pub returns-in-None-clause-one_index : goal.returns-in-None-clause-one_index
 returns-in-None-clause-one_index c = one_index
+
+pub returns-in-Some-clause-by_index : goal.returns-in-Some-clause-by_index
+returns-in-Some-clause-by_index c = tags_compare
+
+pub returns-in-None-clause-by_index : goal.returns-in-None-clause-by_index
+returns-in-None-clause-by_index c = tags_compare
