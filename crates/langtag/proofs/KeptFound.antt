@@ -1,0 +1,62 @@
+-- What the finding that a tag keeps says of its text.
+use Rattle.std.proofs.Common.{◌≡◌, ◌↔◌, ℕ, ◌<◌, List, Some, None, IsTrue, refl, sym, arith}
+use Rattle.langtag_scan.specs.Case.{Alike}
+use Rattle.langtag_scan.specs.Found.{Finding, Finding.normal, Finding.private_use, Finding.irregular, IsFoundOf, is_normal, is_private_use, irregular_index}
+use Rattle.langtag_scan.specs.Tag.{IsNormal, IsPrivate, IsIrregularAt, IsIrregular, IsTag}
+use Rattle.langtag_scan.proofs.CaseLaw.{alike_normal, alike_private, alike_irregular}
+use Rattle.langtag_scan.proofs.FoundLaws.{tag_found, normal_found, private_found, found_had}
+use Rattle.langtag_scan.proofs.IrregularNames.{irregular_here}
+use Rattle.langtag_scan.proofs.SpelledTexts.{offsets_kept}
+use Rattle.langtag_private.proofs.Rules.{private_from_test}
+use Rattle.langtag.specs.Kinds.{IsOfKind, AreOfOneKind}
+use Rattle.langtag.specs.Registered.{index_of}
+use Rattle.langtag.specs.Typed.{IsTypedAs, kind_of}
+use Rattle.langtag.specs.declared.typed_lang_tag.TypedLangTag.{TypedLangTag}
+use Rattle.langtag.specs.declared.typed_lang_tag.TypedLangTag.TheVariants.{Normal, PrivateUse, Grandfathered}
+
+-- the text is a tag, of the kind that was found
+pub record TellsKind (text : List ℕ) (found : Finding) : Type 0 where
+  pub tag : IsTag text
+  pub normal : IsTrue (is_normal found) ↔ IsNormal text
+  pub private_use : IsTrue (is_private_use found) ↔ IsPrivate text
+
+pub found_kept : (text : List ℕ) (found : Finding) → ∥ IsFoundOf text found ∥₁ → TellsKind text found
+found_kept text found merely =
+    let kept = found_had text found merely in
+    record { tag = tag_found text found kept; normal = normal_found text found kept; private_use = private_found text found kept }
+
+-- an irregular text, at the index that was found
+pub record IsAtIndex (text : List ℕ) (index : ℕ) : Type 0 where
+  pub within : index < 26
+  pub is : IsIrregularAt index text
+
+pub irregular_kept : (text : List ℕ) (found : Finding) (index : ℕ) → ∥ IsFoundOf text found ∥₁ → Some index ≡ irregular_index found → IsAtIndex text index
+unfolding IsIrregularAt
+irregular_kept text (normal ends) index merely at = absurd cc
+irregular_kept text private_use index merely at = absurd cc
+irregular_kept text (irregular k) index merely at =
+    let kept = found_had text (irregular k) merely in
+    let same : index ≡ k = cc in
+    let here = irregular_here k kept.0 kept.1 in
+    rw same (record { within = omega (arith, here.0); is = kept })
+
+-- a tag that is neither normal nor irregular is private
+pub private_otherwise : (text : List ℕ) (found : Finding) → ∥ IsFoundOf text found ∥₁ → (IsNormal text → ⊥) → None ≡ irregular_index found → IsPrivate text
+private_otherwise text (normal ends) merely other none = absurd (other ((found_kept text (normal ends) merely).normal.0 refl))
+private_otherwise text private_use merely other none = found_had text private_use merely
+private_otherwise text (irregular k) merely other none = absurd cc
+
+-- the variant of a typed tag says of which kind its text is
+pub typed_kind : (text : List ℕ) (typed : TypedLangTag) → IsTypedAs text typed → IsOfKind text (kind_of typed)
+unfolding IsIrregular
+typed_kind text (Normal tag) same = rw (← same) (offsets_kept _ _ tag.kept_ends).normal
+typed_kind text (PrivateUse tag) same = rw (← same) (private_from_test _ tag.in_class)
+typed_kind text (Grandfathered tag) is = (index_of tag, is)
+
+-- alike texts are of one kind
+pub alike_kinds : (t u : List ℕ) → Alike t u → AreOfOneKind t u
+alike_kinds t u alike = record {
+  normal = (alike_normal t u alike, alike_normal u t (sym alike));
+  private_use = (alike_private t u alike, alike_private u t (sym alike));
+  irregular = λ k. (alike_irregular k t u alike, alike_irregular k u t (sym alike));
+}

@@ -1,0 +1,7 @@
+pub mod PartsFound
+pub mod PartRules
+pub mod PartTests
+pub mod EditLaws
+pub mod RegisteredLaws
+pub mod KeptFound
+pub mod OrderLaws

@@ -1,0 +1,46 @@
+-- The derived comparisons of the grandfathered tags.
+use Rattle.std.proofs.Common.{◌≡◌, ◌==◌, ℕ, ◌<◌, map, get_or, sym, refl, ap, ◌∙◌}
+use denote.Enum.Declared.{tag_of}
+use Rattle.std.specs.Ordering.{nat_cmp}
+use Rattle.std.specs.declared.cmp.Ordering.TheVariants.{Equal}
+use Rattle.std.proofs.lemmas.List.{get_or-map}
+use Rattle.std.proofs.lemmas.Option.{slice_get_within, get_or_from_slice_get}
+use Rattle.langtag.specs.contracts.grandfathered.GrandfatheredLangTagOrd.TheImpl as tag_order
+use Rattle.langtag.specs.contracts.grandfathered.GrandfatheredLangTagPartialEq.TheImpl as tag_equality
+use Rattle.langtag.specs.contracts.grandfathered.GrandfatheredLangTag.{the_type}
+use Rattle.langtag.specs.declared.grandfathered.GrandfatheredLangTag.TheVariants.{EnGbOed}
+use Rattle.langtag.specs.declared.grandfathered.GrandfatheredLangTag.{GrandfatheredLangTag}
+use Rattle.langtag.specs.declared.grandfathered.TheConstants.{GRANDFATHERED}
+use Rattle.langtag.proofs.RegisteredLaws.{listed}
+use Rattle.langtag.specs.Order.{TagsCompareByIndex}
+use Rattle.langtag.specs.Registered.{index_of}
+
+-- what a derived comparison reads of a variant is its index
+tag_of-index : (tag : GrandfatheredLangTag) → tag_of the_type tag ≡ index_of tag
+tag_of-index EnGbOed = refl
+tag_of-index tag = refl
+
+equal : (a b : GrandfatheredLangTag) → tag_equality.eq-value.it a b ≡ (index_of a == index_of b)
+equal a b = ap (λ n. n == tag_of the_type b) (tag_of-index a) ∙ ap (λ n. index_of a == n) (tag_of-index b)
+
+-- what two functions answer alike along `GRANDFATHERED` they answer alike
+each_tag : {Y : Type 0} (f g : GrandfatheredLangTag → Y) (d : Y) → map f GRANDFATHERED ≡ map g GRANDFATHERED → (tag : GrandfatheredLangTag) → f tag ≡ g tag
+each_tag f g d same tag =
+    let k : ℕ = index_of tag in
+    let within : k < 26 = slice_get_within GRANDFATHERED k tag (listed tag) in
+    let here : get_or GRANDFATHERED k EnGbOed ≡ tag = get_or_from_slice_get GRANDFATHERED k tag EnGbOed (listed tag) in
+    ap f (sym here)
+    ∙ sym (get_or-map f GRANDFATHERED k EnGbOed d within)
+    ∙ ap (λ ys. get_or ys k d) same
+    ∙ get_or-map g GRANDFATHERED k EnGbOed d within
+    ∙ ap g here
+
+ordered_along : (a : GrandfatheredLangTag) → map (λ b. tag_order.cmp-value.it a b) GRANDFATHERED ≡ map (λ b. nat_cmp (index_of a) (index_of b)) GRANDFATHERED
+ordered_along EnGbOed = refl
+ordered_along a = refl
+
+ordered : (a b : GrandfatheredLangTag) → tag_order.cmp-value.it a b ≡ nat_cmp (index_of a) (index_of b)
+ordered a b = each_tag (λ b. tag_order.cmp-value.it a b) (λ b. nat_cmp (index_of a) (index_of b)) Equal (ordered_along a) b
+
+pub tags_compare : TagsCompareByIndex
+tags_compare = record { equal = equal; ordered = ordered }

@@ -1,0 +1,57 @@
+-- What the accessors cut out of a normal text meets the rules of the types of parts.
+use Rattle.std.proofs.Common.{◌≡◌, ℕ, List, [], Option, None, Some, IsTrue, IfSome, take, unwrap_or, refl, sym, ◌∙◌, subst}
+use Rattle.std.specs.Option.{option_map}
+use Rattle.langtag_scan.specs.Class.{is_script, is_region}
+use Rattle.langtag_scan.specs.Ends.{HasEnds}
+use Rattle.langtag_scan.specs.Parts.{text_between}
+use Rattle.langtag_scan.specs.Record.{PrivateUse, IsPrivateUse, private_use_flat}
+use Rattle.langtag_scan.specs.Subtags.{join}
+use Rattle.langtag_scan.specs.Tag.{IsPrivate}
+use Rattle.langtag_scan.specs.declared.ends.Ends.{Ends}
+use Rattle.langtag_language.specs.Language.{IsLanguage}
+use Rattle.langtag_place.specs.Variants.{IsVariants}
+use Rattle.langtag_extension.specs.Spelling.{IsExtensionsText}
+use Rattle.langtag.proofs.PartsFound.{language_found, script_found, region_found, variants_found, extensions_found, private_use_found}
+
+pub IsLanguage-cut : (text : List ℕ) (ends : Ends) → HasEnds text ends → IsLanguage (take ends.language text)
+unfolding HasEnds
+IsLanguage-cut text ends (r, spells, at) =
+    let same = language_found text ends (r, spells, at) r spells in
+    let fits = spells.0 in
+    rw same (r.primary, r.extended, record { first = fits.primary; others = fits.extended; few = fits.few; short = fits.short; joined = refl })
+
+pub IsVariants-cut : (text : List ℕ) (ends : Ends) → HasEnds text ends → IsVariants (unwrap_or (text_between text ends.region ends.variants) [])
+unfolding HasEnds
+IsVariants-cut text ends (r, spells, at) =
+    let same = variants_found text ends (r, spells, at) r spells in
+    rw same (r.variants, record { members = spells.0.variants; joined = refl })
+
+pub IsExtensionsText-cut : (text : List ℕ) (ends : Ends) → HasEnds text ends → IsExtensionsText (unwrap_or (text_between text ends.variants ends.extensions) [])
+unfolding HasEnds
+IsExtensionsText-cut text ends (r, spells, at) =
+    let same = extensions_found text ends (r, spells, at) r spells in
+    rw same (r.extensions, record { members = spells.0.extensions; joined = refl })
+
+-- what holds of a part that may be there holds of the one that is
+of_some : (P : List ℕ → Type 0) (part : List ℕ) (o : Option (List ℕ)) → Some part ≡ o → IfSome o P → P part
+of_some P part o same fact = subst (λ x. IfSome x P) (sym same) fact
+
+pub is_script-cut : (text : List ℕ) (ends : Ends) (part : List ℕ) → HasEnds text ends → Some part ≡ text_between text ends.language ends.script → IsTrue (is_script part)
+unfolding HasEnds
+is_script-cut text ends part (r, spells, at) cut =
+    of_some (λ s. IsTrue (is_script s)) part r.script (cut ∙ script_found text ends (r, spells, at) r spells) spells.0.script
+
+pub is_region-cut : (text : List ℕ) (ends : Ends) (part : List ℕ) → HasEnds text ends → Some part ≡ text_between text ends.script ends.region → IsTrue (is_region part)
+unfolding HasEnds
+is_region-cut text ends part (r, spells, at) cut =
+    of_some (λ s. IsTrue (is_region s)) part r.region (cut ∙ region_found text ends (r, spells, at) r spells) spells.0.region
+
+private_spelled : (part : List ℕ) (o : Option PrivateUse) → Some part ≡ option_map (λ p. join (private_use_flat p)) o → IfSome o IsPrivateUse → IsPrivate part
+unfolding IsPrivate
+private_spelled part None same fits = absurd cc
+private_spelled part (Some p) same fits = (p, fits, cc)
+
+pub IsPrivate-cut : (text : List ℕ) (ends : Ends) (part : List ℕ) → HasEnds text ends → Some part ≡ text_between text ends.extensions ends.whole → IsPrivate part
+unfolding HasEnds
+IsPrivate-cut text ends part (r, spells, at) cut =
+    private_spelled part r.private_use (cut ∙ private_use_found text ends (r, spells, at) r spells) spells.0.private_use

@@ -1,0 +1,132 @@
+-- The variants of `GrandfatheredLangTag` and `GRANDFATHERED`, beside the table of registered tags.
+use Rattle.std.proofs.Common.{◌≡◌, ◌↔◌, ℕ, ◌+◌, ◌<◌, ◌≤◌, Bool, true, false, cond, ltb, IsTrue, List, [], length, map, take, get_or, slice_get, Option, Some, None, inl, inr, refl, sym, ap, ◌∙◌, arith, zero-add}
+use Rattle.std.specs.List.{position, position_or_len, range_with_len}
+use Rattle.std.specs.Option.{option_map_or}
+use Rattle.std.specs.Str.{bytes_eq}
+use Rattle.std.proofs.lemmas.Bool.{lt-ltb, cases_lt, both_ways}
+use Rattle.std.proofs.lemmas.List.{get_or-map, length-map}
+use Rattle.std.proofs.lemmas.List.FromFn.{get_or-range_with_len}
+use Rattle.std.proofs.lemmas.List.Quantifiers.{position-Some}
+use Rattle.std.proofs.lemmas.List.Sums.{fails_before_first}
+use Rattle.std.proofs.lemmas.Option.{slice_get-get_or, slice_get_within, get_or_from_slice_get}
+use Rattle.langtag_scan.specs.Case.{fold_byte, fold_text, Alike, are_alike}
+use Rattle.langtag_scan.specs.CaseLaws.{are_alike-decides}
+use Rattle.langtag_scan.specs.Class.{is_letter, is_primary}
+use Rattle.langtag_scan.specs.Grandfathered.{Grandfathered, grandfathered_tags}
+use Rattle.langtag_language.specs.Language.{IsLanguage}
+use Rattle.langtag.specs.declared.grandfathered.GrandfatheredLangTag.{GrandfatheredLangTag}
+use Rattle.langtag.specs.declared.grandfathered.GrandfatheredLangTag.TheVariants.{EnGbOed}
+use Rattle.langtag.specs.declared.grandfathered.TheConstants.{GRANDFATHERED}
+use Rattle.langtag.specs.Registered.{index_of, text_of, language_of, IsGrandfatheredAt, IsGrandfathered}
+
+-- ---- the table
+
+-- the registered spelling at an index
+abbrev text_at : ℕ → List ℕ
+text_at k = get_or (map (λ entry. entry.text) grandfathered_tags) k []
+
+length-grandfathered_tags : length grandfathered_tags ≡ 26
+unfolding grandfathered_tags
+length-grandfathered_tags = refl
+
+abbrev nothing : Grandfathered
+nothing = record { text = []; language = None }
+
+text_at_entry : (k : ℕ) → k < 26 → text_at k ≡ (get_or grandfathered_tags k nothing).text
+text_at_entry k lt = get_or-map (λ entry. entry.text) grandfathered_tags k nothing [] (omega (arith, length-grandfathered_tags))
+
+-- a text is the one at an index where it is alike that spelling
+pub grandfathered_at : (k : ℕ) (t : List ℕ) → k < 26 → Alike (text_at k) t → IsGrandfatheredAt k t
+unfolding IsGrandfatheredAt
+grandfathered_at k t lt alike =
+    (get_or grandfathered_tags k nothing, slice_get-get_or grandfathered_tags k nothing (omega (arith, length-grandfathered_tags)), ap fold_text (sym (text_at_entry k lt)) ∙ alike)
+
+pub alike_at : (k : ℕ) (t : List ℕ) → IsGrandfatheredAt k t → (k < 26) × Alike (text_at k) t
+unfolding IsGrandfatheredAt
+alike_at k t (entry, at, alike) =
+    let within : k < 26 = omega (arith, length-grandfathered_tags, slice_get_within grandfathered_tags k entry at) in
+    (within, ap fold_text (text_at_entry k within ∙ ap (λ e. e.text) (get_or_from_slice_get grandfathered_tags k entry nothing at)) ∙ alike)
+
+-- the registered spellings, folded
+abbrev folded : List (List ℕ)
+folded = map (λ entry. fold_text entry.text) grandfathered_tags
+
+-- where a text stands first among them
+abbrev first_index : List ℕ → ℕ
+first_index t = position_or_len (bytes_eq t) folded
+
+-- each of them stands first at its own index
+first_at : map first_index folded ≡ range_with_len 0 26
+unfolding grandfathered_tags fold_byte
+first_at = refl
+
+index_from_fold : (k : ℕ) → k < 26 → first_index (fold_text (text_at k)) ≡ k
+index_from_fold k lt =
+    let within : k < length grandfathered_tags = omega (arith, length-grandfathered_tags) in
+    let here : get_or folded k [] ≡ fold_text (text_at k) = get_or-map (λ entry. fold_text entry.text) grandfathered_tags k nothing [] within ∙ ap fold_text (sym (text_at_entry k lt)) in
+    ap first_index (sym here)
+    ∙ sym (get_or-map first_index folded k [] 0 (omega (arith, within, length-map grandfathered_tags (λ entry. fold_text entry.text))))
+    ∙ ap (λ ks. get_or ks k 0) first_at
+    ∙ get_or-range_with_len 0 26 k 0 lt
+    ∙ zero-add k
+
+-- no text is at two indices
+pub one_index : (j k : ℕ) (t : List ℕ) → IsGrandfatheredAt j t → IsGrandfatheredAt k t → j ≡ k
+one_index j k t h g =
+    let a = alike_at j t h in
+    let b = alike_at k t g in
+    sym (index_from_fold j a.0) ∙ ap first_index (a.1 ∙ sym b.1) ∙ index_from_fold k b.0
+
+-- ---- the variants
+
+-- the variant in `GRANDFATHERED` at an index is the one that is declared there
+indices : map index_of GRANDFATHERED ≡ range_with_len 0 26
+indices = refl
+
+pub index_listed : (k : ℕ) (d : GrandfatheredLangTag) → k < 26 → index_of (get_or GRANDFATHERED k d) ≡ k
+index_listed k d lt =
+    sym (get_or-map index_of GRANDFATHERED k d 0 lt) ∙ ap (λ ks. get_or ks k 0) indices ∙ get_or-range_with_len 0 26 k 0 lt ∙ zero-add k
+
+-- each variant stands in `GRANDFATHERED` at its index
+pub listed : (tag : GrandfatheredLangTag) → slice_get GRANDFATHERED (index_of tag) ≡ Some tag
+listed EnGbOed = refl
+listed tag = refl
+
+-- ---- the look-up
+
+past_end : (n m : ℕ) → cond (ltb n m) (Some n) None ≡ None → m ≤ n
+past_end n m none = elim (cases_lt n m) [
+  | inl lt ↦ let found = rw (lt-ltb n m lt) at none in absurd cc
+  | inr le ↦ le
+]
+
+-- the first tag that is alike is the one at its index
+pub first_alike_found : (t : List ℕ) (k : ℕ) → position (λ tag. are_alike (text_of tag) t) GRANDFATHERED ≡ Some k → IsGrandfatheredAt k t
+first_alike_found t k found =
+    let tag : GrandfatheredLangTag = get_or GRANDFATHERED k EnGbOed in
+    let at = position-Some (λ tag. are_alike (text_of tag) t) GRANDFATHERED k EnGbOed found in
+    let index : index_of tag ≡ k = index_listed k EnGbOed at.0 in
+    grandfathered_at k t at.0 (ap (λ i. fold_text (text_at i)) (sym index) ∙ (are_alike-decides (text_of tag) t).0 at.1)
+
+-- and where none is, there is none
+pub none_alike : (t : List ℕ) → position (λ tag. are_alike (text_of tag) t) GRANDFATHERED ≡ None → IsGrandfathered t → ⊥
+unfolding IsGrandfathered
+none_alike t none (k, at) =
+    let here = alike_at k t at in
+    let is : Alike (text_of (get_or GRANDFATHERED k EnGbOed)) t = ap (λ i. fold_text (text_at i)) (index_listed k EnGbOed here.0) ∙ here.1 in
+    let fails = fails_before_first (λ tag. are_alike (text_of tag) t) GRANDFATHERED k EnGbOed (omega (arith, here.0, past_end _ 26 none)) in
+    both_ways _ fails ((are_alike-decides (text_of (get_or GRANDFATHERED k EnGbOed)) t).1 is)
+
+-- ---- the languages
+
+-- each language of the table is a primary subtag
+primary_registered : (tag : GrandfatheredLangTag) → option_map_or is_primary (language_of tag) true ≡ true
+unfolding grandfathered_tags is_primary is_letter
+primary_registered EnGbOed = refl
+primary_registered tag = refl
+
+-- so it is a language
+pub language_registered : (tag : GrandfatheredLangTag) (text : List ℕ) → language_of tag ≡ Some text → IsLanguage text
+language_registered tag text same =
+    let primary : IsTrue (is_primary text) = sym (ap (λ o. option_map_or is_primary o true) same) ∙ primary_registered tag in
+    (text, [], record { first = primary; others = tt; few = omega arith; short = inr refl; joined = refl })

@@ -1,0 +1,12 @@
+use Rattle.langtag_scan.proofs.SpelledTexts.{ends_had}
+use Rattle.langtag.proofs.PartsFound.{language_found}
+use Rattle.langtag.proofs.PartRules.{IsLanguage-cut}
+use Rattle.langtag.proofs.PartTests.{language_tested}
+use Rattle.langtag.proofs.normal_lang_tag.NormalLangTag.language.Goals as goal
+
+pub from_checked-requires : goal.from_checked-requires
+from_checked-requires c = rw c.language_str.ensures (language_tested _ (IsLanguage-cut _ _ (ends_had _ _ c.args.self.now.kept_ends)))
+
+pub returns : goal.returns
+returns c r spells =
+    rw (c.from_checked.ensures, c.language_str.ensures) (language_found _ _ (ends_had _ _ c.args.self.now.kept_ends) r spells)

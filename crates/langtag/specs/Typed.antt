@@ -1,0 +1,50 @@
+-- Language tags as values of the types of their kinds (RFC 5646 section 2.1).
+use Rattle.std.specs.Prelude.{◌≡◌, ℕ, List, Option, Some, None}
+use Rattle.std.specs.Option.{option_map}
+use Rattle.langtag_scan.specs.Parts.{language_part}
+use Rattle.langtag_scan.specs.Record.{EachRecord}
+use Rattle.langtag_scan.specs.Tag.{IsIrregularAt}
+use Rattle.langtag_language.specs.Text.{language_text}
+use Rattle.langtag_language.specs.declared.language.Language.{Language}
+use Rattle.langtag_private.specs.Text.{private_use_text}
+use Rattle.langtag_private.specs.declared.private_use.PrivateUse.{PrivateUse as PrivateUsePart}
+use Rattle.langtag.specs.declared.grandfathered.GrandfatheredLangTag.{GrandfatheredLangTag}
+use Rattle.langtag.specs.declared.kind.Kind as kind
+use Rattle.langtag.specs.declared.kind.Kind.TheVariants as kinds
+use Rattle.langtag.specs.declared.normal_lang_tag.NormalLangTag.{NormalLangTag}
+use Rattle.langtag.specs.declared.typed_lang_tag.TypedLangTag.{TypedLangTag}
+use Rattle.langtag.specs.declared.typed_lang_tag.TypedLangTag.TheVariants.{Normal, PrivateUse, Grandfathered}
+use Rattle.langtag.specs.Registered.{index_of, language_of}
+use Rattle.langtag.specs.Text.{normal_lang_tag_text}
+
+-- a text as a value of the type of its kind: it has the same text, or is the irregular one at the variant's index
+abbrev pub IsTypedAs : List ℕ → TypedLangTag → Type 0
+IsTypedAs text (Normal tag) = normal_lang_tag_text tag ≡ text
+IsTypedAs text (PrivateUse tag) = private_use_text tag ≡ text
+IsTypedAs text (Grandfathered tag) = IsIrregularAt (index_of tag) text
+
+abbrev pub kind_of : TypedLangTag → kind.Kind
+kind_of (Normal tag) = kinds.Normal
+kind_of (PrivateUse tag) = kinds.PrivateUse
+kind_of (Grandfathered tag) = kinds.Grandfathered
+
+abbrev pub normal_of : TypedLangTag → Option NormalLangTag
+normal_of (Normal tag) = Some tag
+normal_of (PrivateUse tag) = None
+normal_of (Grandfathered tag) = None
+
+abbrev pub private_use_of : TypedLangTag → Option PrivateUsePart
+private_use_of (Normal tag) = None
+private_use_of (PrivateUse tag) = Some tag
+private_use_of (Grandfathered tag) = None
+
+abbrev pub grandfathered_of : TypedLangTag → Option GrandfatheredLangTag
+grandfathered_of (Normal tag) = None
+grandfathered_of (PrivateUse tag) = None
+grandfathered_of (Grandfathered tag) = Some tag
+
+-- the language of a normal tag, none of a private one, and of a grandfathered one that of the table
+abbrev pub HasLanguage : TypedLangTag → Option Language → Type 0
+HasLanguage (Normal tag) language = EachRecord (normal_lang_tag_text tag) (λ r. option_map language_text language ≡ Some (language_part r))
+HasLanguage (PrivateUse tag) language = language ≡ None
+HasLanguage (Grandfathered tag) language = option_map language_text language ≡ language_of tag

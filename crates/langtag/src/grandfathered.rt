@@ -1,0 +1,228 @@
+//! The grandfathered tags (RFC 5646 section 2.2.8).
+ghost use Rattle.std.specs.Prelude.{◌≡◌, ◌↔◌, ◌<◌, ℕ, List, Some, IsTrue, IfOk, IfErr, is_ok, position, slice_get};
+ghost use Rattle.std.specs.Option.{option_map};
+ghost use Rattle.langtag_scan.specs.Case.{are_alike};
+ghost use Rattle.langtag.specs.Registered.{text_of};
+
+use langtag_language::Language;
+use langtag_scan::case_insensitive_eq;
+use std::convert::TryFrom;
+use std::fmt;
+use std::fmt::Debug;
+use thiserror::Error;
+
+/// Bytes that are no grandfathered tag. It hands them back.
+#[derive(Debug, Drop, Error)]
+#[error("invalid grandfathered tag")]
+#[error_bound(T: Debug + Drop)]
+pub struct InvalidGrandfatheredTag<T>(pub T);
+
+/// A grandfathered tag: one of the 26 that were registered before the grammar (RFC 5646 section 2.2.8), in the order in
+/// which section 2.1 lists them. The first seventeen are irregular: no rule but their own admits them. The nine regular
+/// ones, from `art-lojban` on, are normal tags too.
+///
+/// They are compared, ordered and hashed by where they stand in this declaration.
+#[derive(Clone, Copy, PartialEq, Eq, PartialOrd, Ord, Hash)]
+pub enum GrandfatheredLangTag {
+    /// `en-GB-oed`, English, by the spelling of the Oxford English Dictionary.
+    EnGbOed,
+    /// `i-ami`, Amis.
+    IAmi,
+    /// `i-bnn`, Bunun.
+    IBnn,
+    /// `i-default`, the language of messages where none is known.
+    IDefault,
+    /// `i-enochian`, Enochian.
+    IEnochian,
+    /// `i-hak`, Hakka Chinese.
+    IHak,
+    /// `i-klingon`, Klingon.
+    IKlingon,
+    /// `i-lux`, Luxembourgish.
+    ILux,
+    /// `i-mingo`, Mingo.
+    IMingo,
+    /// `i-navajo`, Navajo.
+    INavajo,
+    /// `i-pwn`, Paiwan.
+    IPwn,
+    /// `i-tao`, Tao.
+    ITao,
+    /// `i-tay`, Tayal.
+    ITay,
+    /// `i-tsu`, Tsou.
+    ITsu,
+    /// `sgn-BE-FR`, Belgian-French Sign Language.
+    SgnBeFr,
+    /// `sgn-BE-NL`, Belgian-Flemish Sign Language.
+    SgnBeNl,
+    /// `sgn-CH-DE`, Swiss German Sign Language.
+    SgnChDe,
+    /// `art-lojban`, Lojban.
+    ArtLojban,
+    /// `cel-gaulish`, Gaulish.
+    CelGaulish,
+    /// `no-bok`, Norwegian Bokmål.
+    NoBok,
+    /// `no-nyn`, Norwegian Nynorsk.
+    NoNyn,
+    /// `zh-guoyu`, Mandarin Chinese.
+    ZhGuoyu,
+    /// `zh-hakka`, Hakka Chinese.
+    ZhHakka,
+    /// `zh-min`, Min Chinese.
+    ZhMin,
+    /// `zh-min-nan`, Min Nan Chinese.
+    ZhMinNan,
+    /// `zh-xiang`, Xiang Chinese.
+    ZhXiang,
+}
+
+/// All grandfathered tags, in the order of [`GrandfatheredLangTag`].
+pub const GRANDFATHERED: [GrandfatheredLangTag; 26] = [
+    GrandfatheredLangTag::EnGbOed,
+    GrandfatheredLangTag::IAmi,
+    GrandfatheredLangTag::IBnn,
+    GrandfatheredLangTag::IDefault,
+    GrandfatheredLangTag::IEnochian,
+    GrandfatheredLangTag::IHak,
+    GrandfatheredLangTag::IKlingon,
+    GrandfatheredLangTag::ILux,
+    GrandfatheredLangTag::IMingo,
+    GrandfatheredLangTag::INavajo,
+    GrandfatheredLangTag::IPwn,
+    GrandfatheredLangTag::ITao,
+    GrandfatheredLangTag::ITay,
+    GrandfatheredLangTag::ITsu,
+    GrandfatheredLangTag::SgnBeFr,
+    GrandfatheredLangTag::SgnBeNl,
+    GrandfatheredLangTag::SgnChDe,
+    GrandfatheredLangTag::ArtLojban,
+    GrandfatheredLangTag::CelGaulish,
+    GrandfatheredLangTag::NoBok,
+    GrandfatheredLangTag::NoNyn,
+    GrandfatheredLangTag::ZhGuoyu,
+    GrandfatheredLangTag::ZhHakka,
+    GrandfatheredLangTag::ZhMin,
+    GrandfatheredLangTag::ZhMinNan,
+    GrandfatheredLangTag::ZhXiang,
+];
+
+/// The registered spelling of each, and the primary language subtag of a regular one.
+static REGISTERED: [(&str, Option<&str>); 26] = [
+    ("en-GB-oed", None),
+    ("i-ami", None),
+    ("i-bnn", None),
+    ("i-default", None),
+    ("i-enochian", None),
+    ("i-hak", None),
+    ("i-klingon", None),
+    ("i-lux", None),
+    ("i-mingo", None),
+    ("i-navajo", None),
+    ("i-pwn", None),
+    ("i-tao", None),
+    ("i-tay", None),
+    ("i-tsu", None),
+    ("sgn-BE-FR", None),
+    ("sgn-BE-NL", None),
+    ("sgn-CH-DE", None),
+    ("art-lojban", Some("art")),
+    ("cel-gaulish", Some("cel")),
+    ("no-bok", Some("no")),
+    ("no-nyn", Some("no")),
+    ("zh-guoyu", Some("zh")),
+    ("zh-hakka", Some("zh")),
+    ("zh-min", Some("zh")),
+    ("zh-min-nan", Some("zh")),
+    ("zh-xiang", Some("zh")),
+];
+
+impl GrandfatheredLangTag {
+    ghost use Rattle.langtag_language.specs.Text.{language_text};
+    ghost use Rattle.langtag.specs.Order.{TagsCompareByIndex};
+    ghost use Rattle.langtag.specs.Registered.{index_of, language_of, IsGrandfatheredAt, IsGrandfathered};
+
+    /// The grandfathered tag with these bytes, in any case.
+    ///
+    /// # Errors
+    ///
+    /// Bytes that are no such tag come back, the same slice.
+    pub fn new(bytes: &[u8]) -> Result<Self, &[u8]>
+        ensures accepts { IsTrue (is_ok result) ↔ IsGrandfathered bytes.now }
+        ensures same_tag { IfOk result (λ tag. IsGrandfatheredAt (index_of tag) bytes.now) }
+        ensures given_back { IfErr result (λ same. same ≡ bytes.entry) }
+
+        ensures one_index { (j k : ℕ) (t : List ℕ) → IsGrandfatheredAt j t → IsGrandfatheredAt k t → j ≡ k }
+        ensures by_index { TagsCompareByIndex }
+        ensures listed { (tag : GrandfatheredLangTag) → slice_get GRANDFATHERED (index_of tag) ≡ Some tag }
+    {
+        match first_alike(&GRANDFATHERED, bytes) {
+            Some(index) => Ok(GrandfatheredLangTag::at(index)),
+            None => Err(bytes),
+        }
+    }
+
+    /// The tag at an index of the table.
+    pub(crate) fn at(index: usize) -> Self
+        requires { index < 26 }
+        ensures { index_of result ≡ index }
+    {
+        GRANDFATHERED[index]
+    }
+
+    /// The primary language of a regular tag, as `zh` of `zh-min-nan`; an irregular one has none.
+    #[tactic(auto, unfolding(langtag_scan::specs::Grandfathered::grandfathered_tags))]
+    pub fn language(&self) -> Option<Language<'static>>
+        ensures { option_map language_text result ≡ language_of self.now }
+    {
+        let language = REGISTERED[*self as usize].1?;
+        Some(Language::from_checked(language))
+    }
+
+    /// The registered spelling.
+    #[tactic(auto, unfolding(langtag_scan::specs::Grandfathered::grandfathered_tags))]
+    pub fn as_str(&self) -> &str
+        ensures { result.now ≡ text_of self.now }
+    {
+        REGISTERED[*self as usize].0
+    }
+
+    /// The bytes of the registered spelling.
+    pub fn as_bytes(&self) -> &[u8]
+        ensures { result.now ≡ text_of self.now }
+    {
+        self.as_str().as_bytes()
+    }
+}
+
+/// The index of the first of some tags that is equal to these bytes but for the case of ASCII letters.
+fn first_alike(tags: &[GrandfatheredLangTag], bytes: &[u8]) -> Option<usize>
+    ensures { result ≡ position (λ tag. are_alike (text_of tag) bytes.now) tags.now }
+{
+    tags.iter()
+        .position(|tag| case_insensitive_eq(tag.as_bytes(), bytes))
+}
+
+impl<'a> TryFrom<&'a [u8]> for GrandfatheredLangTag {
+    ghost use Rattle.langtag.specs.LookUp.{LooksUp};
+
+    type Error = InvalidGrandfatheredTag<&'a [u8]>;
+
+    ghost try_from_gives = { LooksUp };
+
+    fn try_from(bytes: &'a [u8]) -> Result<Self, InvalidGrandfatheredTag<&'a [u8]>> {
+        match GrandfatheredLangTag::new(bytes) {
+            Ok(tag) => Ok(tag),
+            Err(bytes) => Err(InvalidGrandfatheredTag(bytes)),
+        }
+    }
+}
+
+impl fmt::Display for GrandfatheredLangTag {
+    ghost output = { λ tag. Some (text_of tag) };
+
+    fn fmt<W: fmt::Write>(&self, f: &mut fmt::Formatter<W>) -> fmt::Result {
+        f.write_str(self.as_str())
+    }
+}

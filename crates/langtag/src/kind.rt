@@ -1,0 +1,38 @@
+//! The kinds of language tags.
+ghost use Rattle.std.specs.Prelude.{◌≡◌, ◌↔◌, IsTrue};
+
+/// The kind of a language tag: the three cases of the rule `Language-Tag` (RFC 5646 section 2.1).
+///
+/// Kinds are compared, ordered and hashed by where they stand in this declaration.
+#[derive(Clone, Copy, Debug, PartialEq, Eq, PartialOrd, Ord, Hash)]
+pub enum Kind {
+    /// A tag that is made of parts, which the regular grandfathered tags are too.
+    Normal,
+    /// A tag that is a private use part as a whole (section 2.2.7).
+    PrivateUse,
+    /// An irregular grandfathered tag (section 2.2.8), which no other rule admits.
+    Grandfathered,
+}
+
+impl Kind {
+    /// Whether this is the kind of a tag that is made of parts.
+    pub fn is_normal(&self) -> bool
+        ensures { IsTrue result ↔ (self.now ≡ Kind.Normal) }
+    {
+        matches!(self, Kind::Normal)
+    }
+
+    /// Whether this is the kind of a tag for private use as a whole.
+    pub fn is_private_use(&self) -> bool
+        ensures { IsTrue result ↔ (self.now ≡ Kind.PrivateUse) }
+    {
+        matches!(self, Kind::PrivateUse)
+    }
+
+    /// Whether this is the kind of an irregular grandfathered tag.
+    pub fn is_grandfathered(&self) -> bool
+        ensures { IsTrue result ↔ (self.now ≡ Kind.Grandfathered) }
+    {
+        matches!(self, Kind::Grandfathered)
+    }
+}

@@ -1,0 +1,289 @@
+//! Language tags of every kind: rule `Language-Tag` of RFC 5646 section 2.1.
+ghost use Rattle.std.specs.Prelude.{◌≡◌, ◌↔◌, ℕ, List, [], Some, None, IsTrue, IfOk, IfErr, IfSome, is_ok, is_some};
+ghost use Rattle.std.specs.Option.{option_map};
+ghost use Rattle.langtag_scan.specs.AlikeRecords.{IsSpelledAlike};
+ghost use Rattle.langtag_scan.specs.Case.{are_alike};
+ghost use Rattle.langtag_scan.specs.Findings.{finding};
+ghost use Rattle.langtag_scan.specs.Found.{IsFoundOf};
+ghost use Rattle.langtag_scan.specs.Parts.{language_part, variants_part, extensions_part, private_use_part, private_use_subtags};
+ghost use Rattle.langtag_scan.specs.Record.{EachRecord};
+ghost use Rattle.langtag_scan.specs.Tag.{IsNormal, IsPrivate, IsIrregular, IsTag};
+
+use crate::grandfathered::GrandfatheredLangTag;
+use crate::kind::Kind;
+use crate::lang_tag_buf::LangTagBuf;
+use crate::normal_lang_tag::NormalLangTag;
+use crate::private_use_lang_tag::PrivateUseLangTag;
+use crate::recognise_text::recognise_text;
+use crate::typed_lang_tag::TypedLangTag;
+use langtag_extension::Extensions;
+use langtag_language::Language;
+use langtag_place::{Region, Script, Variants};
+use langtag_private::{PrivateUse, PrivateUseIter};
+use langtag_scan::{Caseless, Found};
+use std::alloc::{AllocError, Global};
+use std::fmt;
+use std::fmt::Debug;
+use thiserror::Error;
+
+/// A text that is no tag. It hands the text back.
+#[derive(Debug, Drop, Error)]
+#[error("invalid language tag")]
+#[error_bound(T: Debug + Drop)]
+pub struct InvalidLangTag<T>(pub T);
+
+/// A language tag (RFC 5646 section 2.1): a normal one, as `zh-Hant-TW`, one for private use as a whole, as `x-fr-CH`, or
+/// an irregular grandfathered one, as `i-klingon`.
+///
+/// It keeps what the recogniser found: which of the three it is, and where the parts of a normal tag end. Two tags are
+/// equal where their texts differ at most in the case of ASCII letters.
+#[derive(Clone, Copy)]
+#[derive_where(Debug, PartialEq, Eq, PartialOrd, Ord, Hash)]
+pub struct LangTag<'a> {
+    text: Caseless<&'a str>,
+    #[derive_where(skip)]
+    found: Found,
+    ghost kept_found: { ∥ IsFoundOf text.0.now (finding found) ∥₁ },
+}
+
+#[tactic(auto, using(crate::proofs::KeptFound::found_kept))]
+impl<'a> LangTag<'a> {
+    ghost use Rattle.langtag_language.specs.Text.{language_text};
+    ghost use Rattle.langtag_place.specs.Text.{script_text, region_text, variants_text};
+    ghost use Rattle.langtag_extension.specs.Text.{extensions_text};
+    ghost use Rattle.langtag_private.specs.Text.{private_use_text, private_left};
+    ghost use Rattle.langtag.specs.Kinds.{IsOfKind, AreOfOneKind};
+    ghost use Rattle.langtag.specs.Order.{KindsCompareByIndex};
+    ghost use Rattle.langtag.specs.Registered.{index_of, IsGrandfatheredAt, IsGrandfathered};
+    ghost use Rattle.langtag.specs.Text.{normal_lang_tag_text, lang_tag_text, lang_tag_buf_text};
+    ghost use Rattle.langtag.specs.Typed.{IsTypedAs};
+
+    /// The tag of a text. Its contract also has the laws that a tag is of one kind alone.
+    ///
+    /// # Errors
+    ///
+    /// A text that is no tag comes back.
+    pub fn new(text: &'a str) -> Result<LangTag<'a>, InvalidLangTag<&'a str>>
+        ensures accepts { IsTrue (is_ok result) ↔ IsTag text.now }
+        ensures same_text { IfOk result (λ tag. lang_tag_text tag ≡ text.now) }
+        ensures given_back { IfErr result (λ error. error.0 ≡ text.entry) }
+
+        ensures normal_not_private { (t : List ℕ) → IsNormal t → IsPrivate t → ⊥ }
+        ensures normal_not_irregular { (t : List ℕ) → IsNormal t → IsIrregular t → ⊥ }
+        ensures private_not_irregular { (t : List ℕ) → IsPrivate t → IsIrregular t → ⊥ }
+    {
+        let Some(found) = recognise_text(text) else {
+            return Err(InvalidLangTag(text));
+        };
+        Ok(LangTag::with_found(text, found))
+    }
+
+    /// The tag of a text that is known to be one. The recogniser goes over it once more, for what it finds.
+    pub fn from_checked(text: &'a str) -> LangTag<'a>
+        requires { IsTag text.now }
+        ensures { lang_tag_text result ≡ text.now }
+    {
+        let Some(found) = recognise_text(text) else {
+            unreachable!()
+        };
+        LangTag::with_found(text, found)
+    }
+
+    /// The tag of a text of which this was found: it is not looked at again.
+    pub(crate) fn with_found(text: &'a str, found: Found) -> LangTag<'a>
+        requires { ∥ IsFoundOf text.now (finding found) ∥₁ }
+        ensures { lang_tag_text result ≡ text.now }
+    {
+        LangTag {
+            text: Caseless(text),
+            found,
+        }
+    }
+
+    /// The text, with its case.
+    pub fn as_str(&self) -> &'a str
+        ensures same_text { result.now ≡ lang_tag_text self.now }
+        ensures in_class { IsTag result.now }
+    {
+        self.text.0
+    }
+
+    /// The bytes of the text.
+    pub fn as_bytes(&self) -> &'a [u8]
+        ensures { result.now ≡ lang_tag_text self.now }
+    {
+        self.as_str().as_bytes()
+    }
+
+    /// Whether another text, of any form, is equal but for the case of ASCII letters. Then it is a tag of the same kind,
+    /// and, where that is a normal one, has alike parts at the same offsets.
+    pub fn eq_str(&self, other: &str) -> bool
+        ensures test { result ≡ are_alike (lang_tag_text self.now) other.now }
+        ensures same_kind { IsTrue result → AreOfOneKind (lang_tag_text self.now) other.now }
+        ensures alike_parts { IsTrue result → EachRecord (lang_tag_text self.now) (λ r. IsSpelledAlike r other.now) }
+    {
+        self.text == Caseless(other)
+    }
+
+    /// The kind of the tag. The regular grandfathered tags are normal.
+    pub fn kind(&self) -> Kind
+        ensures kind { IsOfKind (lang_tag_text self.now) result }
+        ensures by_index { KindsCompareByIndex }
+    {
+        self.as_typed().kind()
+    }
+
+    /// The tag as a value of the type of its kind.
+    pub fn as_typed(&self) -> TypedLangTag<'a>
+        ensures { IsTypedAs (lang_tag_text self.now) result }
+    {
+        if let Some(tag) = self.as_normal() {
+            return TypedLangTag::Normal(tag);
+        }
+        match self.found.irregular() {
+            Some(index) => TypedLangTag::Grandfathered(GrandfatheredLangTag::at(index)),
+            None => TypedLangTag::PrivateUse(PrivateUse::from_checked(self.text.0)),
+        }
+    }
+
+    /// Whether the tag is a normal one. The regular grandfathered ones are.
+    pub fn is_normal(&self) -> bool
+        ensures { IsTrue result ↔ IsNormal (lang_tag_text self.now) }
+    {
+        self.found.is_normal()
+    }
+
+    /// Whether the tag is for private use as a whole.
+    pub fn is_private_use(&self) -> bool
+        ensures { IsTrue result ↔ IsPrivate (lang_tag_text self.now) }
+    {
+        self.found.is_private_use()
+    }
+
+    /// Whether the tag is one of the 26 grandfathered ones, in any case. The regular ones are normal tags too.
+    pub fn is_grandfathered(&self) -> bool
+        ensures { IsTrue result ↔ IsGrandfathered (lang_tag_text self.now) }
+    {
+        self.as_grandfathered().is_some()
+    }
+
+    /// The normal tag, where the tag is one.
+    pub fn as_normal(&self) -> Option<NormalLangTag<'a>>
+        ensures kind { IsTrue (is_some result) ↔ IsNormal (lang_tag_text self.now) }
+        ensures same_text { IfSome result (λ tag. normal_lang_tag_text tag ≡ lang_tag_text self.now) }
+    {
+        let ends = self.found.ends()?;
+        Some(NormalLangTag::with_ends(self.text.0, ends))
+    }
+
+    /// The tag for private use, where the whole tag is one.
+    pub fn as_private_use(&self) -> Option<PrivateUseLangTag<'a>>
+        ensures kind { IsTrue (is_some result) ↔ IsPrivate (lang_tag_text self.now) }
+        ensures same_text { IfSome result (λ tag. private_use_text tag ≡ lang_tag_text self.now) }
+    {
+        if !self.is_private_use() {
+            return None;
+        }
+        Some(PrivateUse::from_checked(self.text.0))
+    }
+
+    /// The grandfathered tag, where the tag is one of the 26, in any case.
+    pub fn as_grandfathered(&self) -> Option<GrandfatheredLangTag>
+        ensures kind { IsTrue (is_some result) ↔ IsGrandfathered (lang_tag_text self.now) }
+        ensures same_tag { IfSome result (λ tag. IsGrandfatheredAt (index_of tag) (lang_tag_text self.now)) }
+    {
+        GrandfatheredLangTag::new(self.as_bytes()).ok()
+    }
+
+    /// The language of a normal tag.
+    pub fn language(&self) -> Option<Language<'a>>
+        ensures part { EachRecord (lang_tag_text self.now) (λ r. option_map language_text result ≡ Some (language_part r)) }
+        ensures absent { (IsNormal (lang_tag_text self.now) → ⊥) → result ≡ None }
+    {
+        let tag = self.as_normal()?;
+        Some(tag.language())
+    }
+
+    /// The script of a normal tag.
+    pub fn script(&self) -> Option<Script<'a>>
+        ensures part { EachRecord (lang_tag_text self.now) (λ r. option_map script_text result ≡ r.script) }
+        ensures absent { (IsNormal (lang_tag_text self.now) → ⊥) → result ≡ None }
+    {
+        let tag = self.as_normal()?;
+        tag.script()
+    }
+
+    /// The region of a normal tag.
+    pub fn region(&self) -> Option<Region<'a>>
+        ensures part { EachRecord (lang_tag_text self.now) (λ r. option_map region_text result ≡ r.region) }
+        ensures absent { (IsNormal (lang_tag_text self.now) → ⊥) → result ≡ None }
+    {
+        let tag = self.as_normal()?;
+        tag.region()
+    }
+
+    /// The variants of a normal tag; none on any other.
+    pub fn variants(&self) -> Variants<'a>
+        ensures part { EachRecord (lang_tag_text self.now) (λ r. variants_text result ≡ variants_part r) }
+        ensures absent { (IsNormal (lang_tag_text self.now) → ⊥) → variants_text result ≡ [] }
+    {
+        let Some(tag) = self.as_normal() else {
+            return Variants::EMPTY;
+        };
+        tag.variants()
+    }
+
+    /// The extensions of a normal tag; none on any other.
+    pub fn extensions(&self) -> Extensions<'a>
+        ensures part { EachRecord (lang_tag_text self.now) (λ r. extensions_text result ≡ extensions_part r) }
+        ensures absent { (IsNormal (lang_tag_text self.now) → ⊥) → extensions_text result ≡ [] }
+    {
+        let Some(tag) = self.as_normal() else {
+            return Extensions::EMPTY;
+        };
+        tag.extensions()
+    }
+
+    /// The private use part of a normal tag. A tag for private use as a whole has none: see
+    /// [`as_private_use`](LangTag::as_private_use).
+    pub fn private_use(&self) -> Option<PrivateUse<'a>>
+        ensures part { EachRecord (lang_tag_text self.now) (λ r. option_map private_use_text result ≡ private_use_part r) }
+        ensures absent { (IsNormal (lang_tag_text self.now) → ⊥) → result ≡ None }
+    {
+        let tag = self.as_normal()?;
+        tag.private_use()
+    }
+
+    /// The subtags of the private use part of a normal tag; none where there is no such part.
+    pub fn private_use_subtags(&self) -> PrivateUseIter<'a>
+        ensures part { EachRecord (lang_tag_text self.now) (λ r. private_left result ≡ private_use_subtags r) }
+        ensures absent { (IsNormal (lang_tag_text self.now) → ⊥) → private_left result ≡ [] }
+    {
+        let Some(tag) = self.as_normal() else {
+            return PrivateUseIter::empty();
+        };
+        tag.private_use_subtags()
+    }
+
+    /// The owned form of the same text.
+    ///
+    /// # Errors
+    ///
+    /// No memory could be had.
+    pub fn try_to_owned(&self, alloc: Global) -> Result<LangTagBuf, AllocError>
+        ensures { IfOk result (λ owned. lang_tag_buf_text owned ≡ lang_tag_text self.now) }
+    {
+        let text = String::from_str(alloc, self.as_str())?;
+        Ok(LangTagBuf::with_found(text, self.found))
+    }
+}
+
+impl fmt::Display for LangTag<'_> {
+    ghost use Rattle.langtag.specs.Text.{lang_tag_text};
+
+    ghost output = { λ tag. Some (lang_tag_text tag) };
+
+    fn fmt<W: fmt::Write>(&self, f: &mut fmt::Formatter<W>) -> fmt::Result {
+        f.write_str(self.as_str())
+    }
+}

@@ -1,0 +1,225 @@
+//! Normal tags, which are made of parts: rule `langtag` of RFC 5646 section 2.1.
+ghost use Rattle.std.specs.Prelude.{◌≡◌, ◌↔◌, ◌≤◌, [], Some, IsTrue, IfOk, IfErr, is_ok, length, take, unwrap_or};
+ghost use Rattle.std.specs.Option.{option_map};
+ghost use Rattle.langtag_scan.specs.AlikeRecords.{IsSpelledAlike};
+ghost use Rattle.langtag_scan.specs.Case.{are_alike};
+ghost use Rattle.langtag_scan.specs.Ends.{HasEnds};
+ghost use Rattle.langtag_scan.specs.Parts.{language_part, variants_part, extensions_part, private_use_part, private_use_subtags, parts, text_between};
+ghost use Rattle.langtag_scan.specs.Record.{Record, EachRecord, IsWellFormed, spell};
+ghost use Rattle.langtag_scan.specs.Subtags.{join};
+ghost use Rattle.langtag_scan.specs.Tag.{IsNormal};
+ghost use Rattle.langtag.specs.Offsets.{PartsStandIn};
+
+use crate::normal_lang_tag_buf::NormalLangTagBuf;
+use crate::recognise_text::normal_ends;
+use langtag_extension::Extensions;
+use langtag_language::Language;
+use langtag_place::{Region, Script, Variants};
+use langtag_private::{PrivateUse, PrivateUseIter};
+use langtag_scan::{Caseless, Ends};
+use std::alloc::{AllocError, Global};
+use std::fmt;
+use std::fmt::Debug;
+use thiserror::Error;
+
+/// A text that is no normal tag. It hands the text back.
+#[derive(Debug, Drop, Error)]
+#[error("invalid normal language tag")]
+#[error_bound(T: Debug + Drop)]
+pub struct InvalidNormalLangTag<T>(pub T);
+
+/// A normal tag (rule `langtag` of RFC 5646 section 2.1): a language, and after it a script, a region, variants,
+/// extensions and a private use part, each of which may be absent, as `sl-Latn-IT-rozaj-u-co-phonebk-x-mine`.
+///
+/// It keeps where its parts end, so that each is had by a cut. Two tags are equal where their texts differ at most in
+/// the case of ASCII letters.
+#[derive(Clone, Copy, Debug)]
+#[derive_where(PartialEq, Eq, PartialOrd, Ord, Hash)]
+pub struct NormalLangTag<'a> {
+    text: Caseless<&'a str>,
+    #[derive_where(skip(EqHashOrd))]
+    ends: Ends,
+    ghost kept_ends: { ∥ HasEnds text.0.now ends ∥₁ },
+}
+
+#[tactic(auto, using(langtag_scan::proofs::SpelledTexts::offsets_kept))]
+impl<'a> NormalLangTag<'a> {
+    ghost use Rattle.langtag_language.specs.Text.{language_text};
+    ghost use Rattle.langtag_place.specs.Text.{script_text, region_text, variants_text};
+    ghost use Rattle.langtag_extension.specs.Text.{extensions_text};
+    ghost use Rattle.langtag_private.specs.Text.{private_use_text, private_left};
+    ghost use Rattle.langtag.specs.Text.{normal_lang_tag_text, normal_lang_tag_buf_text};
+
+    /// The normal tag of a text. Its contract also has two laws: that a normal tag has one record of its parts, and
+    /// that the parts that are there, joined by hyphens, are the whole text.
+    ///
+    /// # Errors
+    ///
+    /// A text that is no normal tag comes back: also one that is a tag of another kind.
+    pub fn new(text: &'a str) -> Result<NormalLangTag<'a>, InvalidNormalLangTag<&'a str>>
+        ensures accepts { IsTrue (is_ok result) ↔ IsNormal text.now }
+        ensures same_text { IfOk result (λ tag. normal_lang_tag_text tag ≡ text.now) }
+        ensures given_back { IfErr result (λ error. error.0 ≡ text.entry) }
+
+        ensures one_record { (r q : Record) → IsWellFormed r → IsWellFormed q → spell r ≡ spell q → r ≡ q }
+        ensures joined_parts { (r : Record) → IsWellFormed r → join (parts r) ≡ spell r }
+        ensures part_offsets { (r : Record) → PartsStandIn (spell r) r }
+    {
+        let Some(ends) = normal_ends(text) else {
+            return Err(InvalidNormalLangTag(text));
+        };
+        Ok(NormalLangTag::with_ends(text, ends))
+    }
+
+    /// The normal tag of a text that is known to be one. The recogniser goes over it once more, for the ends of its
+    /// parts.
+    pub fn from_checked(text: &'a str) -> NormalLangTag<'a>
+        requires { IsNormal text.now }
+        ensures { normal_lang_tag_text result ≡ text.now }
+    {
+        let Some(ends) = normal_ends(text) else {
+            unreachable!()
+        };
+        NormalLangTag::with_ends(text, ends)
+    }
+
+    /// The normal tag of a text whose parts are known to end at these offsets: it is not looked at again.
+    pub(crate) fn with_ends(text: &'a str, ends: Ends) -> NormalLangTag<'a>
+        requires { ∥ HasEnds text.now ends ∥₁ }
+        ensures { normal_lang_tag_text result ≡ text.now }
+    {
+        NormalLangTag {
+            text: Caseless(text),
+            ends,
+        }
+    }
+
+    /// The text, with its case.
+    pub fn as_str(&self) -> &'a str
+        ensures same_text { result.now ≡ normal_lang_tag_text self.now }
+        ensures in_class { IsNormal result.now }
+    {
+        self.text.0
+    }
+
+    /// The bytes of the text.
+    pub fn as_bytes(&self) -> &'a [u8]
+        ensures { result.now ≡ normal_lang_tag_text self.now }
+    {
+        self.as_str().as_bytes()
+    }
+
+    /// Whether another text, of any form, is equal but for the case of ASCII letters. Then it is a normal tag too, with
+    /// alike parts at the same places.
+    pub fn eq_str(&self, other: &str) -> bool
+        ensures test { result ≡ are_alike (normal_lang_tag_text self.now) other.now }
+        ensures alike_parts { IsTrue result → EachRecord (normal_lang_tag_text self.now) (λ r. IsSpelledAlike r other.now) }
+    {
+        self.text == Caseless(other)
+    }
+
+    /// The language, `zh-min` of `zh-min-Latn-TW`.
+    pub fn language(&self) -> Language<'a>
+        ensures { EachRecord (normal_lang_tag_text self.now) (λ r. language_text result ≡ language_part r) }
+    {
+        Language::from_checked(self.language_str())
+    }
+
+    /// The script, `Latn` of `zh-min-Latn-TW`.
+    pub fn script(&self) -> Option<Script<'a>>
+        ensures { EachRecord (normal_lang_tag_text self.now) (λ r. option_map script_text result ≡ r.script) }
+    {
+        let script = self.part(self.ends.language, self.ends.script)?;
+        Some(Script::from_checked(script))
+    }
+
+    /// The region, `TW` of `zh-min-Latn-TW`.
+    pub fn region(&self) -> Option<Region<'a>>
+        ensures { EachRecord (normal_lang_tag_text self.now) (λ r. option_map region_text result ≡ r.region) }
+    {
+        let region = self.part(self.ends.script, self.ends.region)?;
+        Some(Region::from_checked(region))
+    }
+
+    /// The variants, `rozaj-1994` of `sl-rozaj-1994`.
+    pub fn variants(&self) -> Variants<'a>
+        ensures { EachRecord (normal_lang_tag_text self.now) (λ r. variants_text result ≡ variants_part r) }
+    {
+        Variants::from_checked(self.part_or_empty(self.ends.region, self.ends.variants))
+    }
+
+    /// The extensions, `a-bb-u-co` of `en-a-bb-u-co-x-y`.
+    pub fn extensions(&self) -> Extensions<'a>
+        ensures { EachRecord (normal_lang_tag_text self.now) (λ r. extensions_text result ≡ extensions_part r) }
+    {
+        Extensions::from_checked(self.part_or_empty(self.ends.variants, self.ends.extensions))
+    }
+
+    /// The private use part, `x-y` of `en-a-bb-u-co-x-y`.
+    pub fn private_use(&self) -> Option<PrivateUse<'a>>
+        ensures { EachRecord (normal_lang_tag_text self.now) (λ r. option_map private_use_text result ≡ private_use_part r) }
+    {
+        let private_use = self.part(self.ends.extensions, self.ends.whole)?;
+        Some(PrivateUse::from_checked(private_use))
+    }
+
+    /// The subtags of the private use part, `x` and `y` of `en-x-x-y`; none where there is no such part.
+    pub fn private_use_subtags(&self) -> PrivateUseIter<'a>
+        ensures { EachRecord (normal_lang_tag_text self.now) (λ r. private_left result ≡ private_use_subtags r) }
+    {
+        match self.private_use() {
+            Some(private_use) => private_use.iter(),
+            None => PrivateUseIter::empty(),
+        }
+    }
+
+    /// The owned form of the same text.
+    ///
+    /// # Errors
+    ///
+    /// No memory could be had.
+    pub fn try_to_owned(&self, alloc: Global) -> Result<NormalLangTagBuf, AllocError>
+        ensures { IfOk result (λ owned. normal_lang_tag_buf_text owned ≡ normal_lang_tag_text self.now) }
+    {
+        let text = String::from_str(alloc, self.as_str())?;
+        Ok(NormalLangTagBuf::with_ends(text, self.ends))
+    }
+
+    /// What stands before the first end.
+    fn language_str(&self) -> &'a str
+        ensures { result.now ≡ take self.now.ends.language (normal_lang_tag_text self.now) }
+    {
+        &self.as_str()[..self.ends.language]
+    }
+
+    /// What stands between the end of one part and the end of the next, after the hyphen.
+    fn part(&self, before: usize, end: usize) -> Option<&'a str>
+        requires ordered { before ≤ end }
+        requires within { end ≤ length (normal_lang_tag_text self.now) }
+        ensures { option_map (λ part. part.now) result ≡ text_between (normal_lang_tag_text self.now) before end }
+    {
+        if before == end {
+            return None;
+        }
+        Some(&self.as_str()[before + 1..end])
+    }
+
+    /// The same, and the empty text where there is no such part.
+    fn part_or_empty(&self, before: usize, end: usize) -> &'a str
+        requires ordered { before ≤ end }
+        requires within { end ≤ length (normal_lang_tag_text self.now) }
+        ensures { result.now ≡ unwrap_or (text_between (normal_lang_tag_text self.now) before end) [] }
+    {
+        self.part(before, end).unwrap_or("")
+    }
+}
+
+impl fmt::Display for NormalLangTag<'_> {
+    ghost use Rattle.langtag.specs.Text.{normal_lang_tag_text};
+
+    ghost output = { λ tag. Some (normal_lang_tag_text tag) };
+
+    fn fmt<W: fmt::Write>(&self, f: &mut fmt::Formatter<W>) -> fmt::Result {
+        f.write_str(self.as_str())
+    }
+}

@@ -1,0 +1,2 @@
+//! What the contracts do not say.
+mod callers;

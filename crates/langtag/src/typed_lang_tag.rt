@@ -1,0 +1,97 @@
+//! Language tags by their kinds.
+ghost use Rattle.std.specs.Prelude.{◌≡◌, ◌↔◌, IsTrue};
+
+use crate::grandfathered::GrandfatheredLangTag;
+use crate::kind::Kind;
+use crate::normal_lang_tag::NormalLangTag;
+use crate::private_use_lang_tag::PrivateUseLangTag;
+use langtag_language::Language;
+
+/// A language tag as a value of the type of its kind (RFC 5646 section 2.1), as
+/// [`LangTag::as_typed`](crate::LangTag::as_typed) answers it. Each call answers by the variant alone, and looks at no text.
+#[derive(Drop)]
+pub enum TypedLangTag<'a> {
+    /// A normal tag. The regular grandfathered tags are normal.
+    Normal(NormalLangTag<'a>),
+    /// A tag for private use as a whole.
+    PrivateUse(PrivateUseLangTag<'a>),
+    /// A grandfathered tag.
+    Grandfathered(GrandfatheredLangTag),
+}
+
+impl<'a> TypedLangTag<'a> {
+    ghost use Rattle.langtag.specs.Typed.{kind_of, normal_of, private_use_of, grandfathered_of, HasLanguage};
+
+    /// The language of a normal tag, or the primary language of a regular grandfathered one.
+    pub fn language(&self) -> Option<Language<'a>>
+        ensures { HasLanguage self.now result }
+    {
+        match self {
+            TypedLangTag::Normal(tag) => Some(tag.language()),
+            TypedLangTag::PrivateUse(_) => None,
+            TypedLangTag::Grandfathered(tag) => tag.language(),
+        }
+    }
+
+    /// The kind of the tag.
+    pub fn kind(&self) -> Kind
+        ensures { result ≡ kind_of self.now }
+    {
+        match self {
+            TypedLangTag::Normal(_) => Kind::Normal,
+            TypedLangTag::PrivateUse(_) => Kind::PrivateUse,
+            TypedLangTag::Grandfathered(_) => Kind::Grandfathered,
+        }
+    }
+
+    /// Whether this is a normal tag.
+    pub fn is_normal(&self) -> bool
+        ensures { IsTrue result ↔ (kind_of self.now ≡ Kind.Normal) }
+    {
+        self.kind().is_normal()
+    }
+
+    /// Whether this is a tag for private use as a whole.
+    pub fn is_private_use(&self) -> bool
+        ensures { IsTrue result ↔ (kind_of self.now ≡ Kind.PrivateUse) }
+    {
+        self.kind().is_private_use()
+    }
+
+    /// Whether this is a grandfathered tag.
+    pub fn is_grandfathered(&self) -> bool
+        ensures { IsTrue result ↔ (kind_of self.now ≡ Kind.Grandfathered) }
+    {
+        self.kind().is_grandfathered()
+    }
+
+    /// The normal tag, where this is one.
+    pub fn as_normal(&self) -> Option<NormalLangTag<'a>>
+        ensures { result ≡ normal_of self.now }
+    {
+        match self {
+            TypedLangTag::Normal(tag) => Some(*tag),
+            _ => None,
+        }
+    }
+
+    /// The tag for private use, where this is one.
+    pub fn as_private_use(&self) -> Option<PrivateUseLangTag<'a>>
+        ensures { result ≡ private_use_of self.now }
+    {
+        match self {
+            TypedLangTag::PrivateUse(tag) => Some(*tag),
+            _ => None,
+        }
+    }
+
+    /// The grandfathered tag, where this is one.
+    pub fn as_grandfathered(&self) -> Option<GrandfatheredLangTag>
+        ensures { result ≡ grandfathered_of self.now }
+    {
+        match self {
+            TypedLangTag::Grandfathered(tag) => Some(*tag),
+            _ => None,
+        }
+    }
+}
