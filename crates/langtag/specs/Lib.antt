@@ -1,4 +1,5 @@
 pub mod Edit
 pub mod Moved
 pub mod Offsets
+pub mod Repeat
 pub mod Text

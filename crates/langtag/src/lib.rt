@@ -5,6 +5,7 @@ mod moved_ends;
 mod normal_lang_tag;
 mod normal_lang_tag_buf;
 mod recognise_text;
+mod repeats;
 mod replace_part;
 mod setters;
 #[cfg(test)]
