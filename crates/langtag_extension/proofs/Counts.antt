@@ -2,7 +2,7 @@
 use Rattle.std.proofs.Common.{ℕ, ◌≤◌, ◌+◌, Bool, true, false, cond, List, [], ◌∷◌, length, map, arith, length-append, subst}
 use Rattle.std.proofs.lemmas.List.{length-map}
 use Rattle.langtag_scan.specs.Subtags.{join, subtags}
-use Rattle.langtag_scan.proofs.SubtagsLemmas.{join-subtags}
+use Rattle.langtag_scan.proofs.SubtagLists.{join-subtags}
 use Rattle.langtag_extension.specs.ExtensionTexts.{opens, put_first, groups, extension_texts}
 
 -- a join has at least a hyphen for each subtag but one

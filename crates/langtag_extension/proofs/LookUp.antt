@@ -7,11 +7,12 @@ use Rattle.langtag_scan.specs.Case.{fold_byte}
 use Rattle.langtag_scan.specs.Class.{is_singleton, is_extension_subtag, has_length, are_alphanumeric}
 use Rattle.langtag_scan.specs.Record.{Extension, IsExtension, extension_flat}
 use Rattle.langtag_scan.specs.Subtags.{join, subtags}
-use Rattle.langtag_scan.proofs.Disjoint.{both_true, between_true}
-use Rattle.langtag_scan.proofs.Decoding.{chosen}
-use Rattle.langtag_scan.proofs.Segments.{IsSubtag, of_one, of_extension_subtag, singleton_alphanumeric}
+use Rattle.std.proofs.lemmas.Bool.{and_parts}
+use Rattle.langtag_scan.proofs.Tests.{between_true}
+use Rattle.langtag_scan.proofs.Tests.{chosen}
+use Rattle.langtag_scan.proofs.SubtagFacts.{IsSubtag, of_one, of_extension_subtag, singleton_alphanumeric}
 use Rattle.langtag_scan.proofs.SubtagLists.{each_from_test, test_from_each, each_subtag, subtags-joined}
-use Rattle.langtag_scan.proofs.SubtagsLemmas.{join-subtags}
+use Rattle.langtag_scan.proofs.SubtagLists.{join-subtags}
 use Rattle.langtag_extension.specs.ExtensionTexts.{goes_on, opens, groups, put_first, group_texts, extension_texts}
 use Rattle.langtag_extension.specs.Tests.{is_extension_list, is_extension_text, are_extension_texts, is_extensions_text, are_extension_subtags, opens_alike}
 use Rattle.langtag_extension.specs.Spelling.{extension_spelling, SpellsExtension, IsExtensionText, SpellsExtensions, IsExtensionsText, find_extension}

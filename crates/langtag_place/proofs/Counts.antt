@@ -1,7 +1,7 @@
 -- A text has at most one subtag more than bytes.
 use Rattle.std.proofs.Common.{ℕ, ◌≤◌, ◌+◌, List, [], ◌∷◌, length, arith, length-append, subst}
 use Rattle.langtag_scan.specs.Subtags.{join, subtags}
-use Rattle.langtag_scan.proofs.SubtagsLemmas.{join-subtags}
+use Rattle.langtag_scan.proofs.SubtagLists.{join-subtags}
 
 -- a join has at least a hyphen for each subtag but one
 length-join : (ss : List (List ℕ)) → length ss ≤ length (join ss) + 1
