@@ -3,6 +3,9 @@
 //! Of `zh-min-nan` the [`PrimaryLanguage`] is `zh`, the [`LanguageExtension`] is `min-nan`, whose subtags are the
 //! [`ExtendedLangTag`]s `min` and `nan`, and the whole is a [`Language`]. Each type has an owned form, as
 //! [`LanguageBuf`].
+//!
+//! A part that is handed out has the bytes of that part of the text and lives as long as the text. Both are proved; that it
+//! stands at the same address is not.
 #![tactic(auto)]
 
 mod extended_lang_tag;

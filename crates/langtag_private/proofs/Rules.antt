@@ -63,4 +63,5 @@ are_private-from_test text h = are_private-after (subtags text) h
 pub length-after_mark : (text : List ℕ) → length (drop 1 (subtags text)) ≤ length text
 length-after_mark text = omega (arith, length-drop 1 (subtags text), length-subtags text)
 
+-- what stands after the mark
 pub ruleset after_mark = (are_private-from_test, length-after_mark)

@@ -2,6 +2,9 @@
 //!
 //! `x-a-x-b` is a [`PrivateUse`] with the [`PrivateUseSubtag`]s `a`, `x` and `b`. Both have an owned form, as
 //! [`PrivateUseBuf`].
+//!
+//! A subtag that is handed out has its bytes of the text and lives as long as the text. Both are proved; that it stands at
+//! the same address is not.
 #![tactic(auto)]
 
 mod private_use;
