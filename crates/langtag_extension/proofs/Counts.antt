@@ -1,5 +1,5 @@
 -- A text has at most one subtag more than bytes, and no more extensions than subtags.
-use Rattle.std.proofs.Common.{ℕ, ◌≤◌, ◌+◌, Bool, true, false, cond, List, [], ◌∷◌, length, map, arith, length-append, subst}
+use Rattle.std.proofs.Common.{ℕ, ◌≤◌, ◌+◌, Bool, true, false, cond, List, [], ◌∷◌, length, arith, length-append, subst}
 use Rattle.std.proofs.lemmas.List.{length-map}
 use Rattle.langtag_scan.specs.Subtags.{join, subtags}
 use Rattle.langtag_scan.proofs.SubtagLists.{join-subtags}

@@ -1,21 +1,11 @@
 -- The texts of a text's groups of subtags, joined, are the text again.
-use Rattle.std.proofs.Common.{◌≡◌, ◌↔◌, ℕ, ◌≤◌, Bool, true, false, IsTrue, List, [], ◌∷◌, ◌++◌, length, refl, ap, sym, ◌∙◌, arith, Option, None, Some, map, cond, slice_index, find, ◌==◌, inl, inr, subst, append-nil, append_assoc}
-use Rattle.std.specs.Option.{option_map, option_map_or}
-use Rattle.std.specs.List.{list_all, AllByRecursion, flat_map}
+use Rattle.std.proofs.Common.{◌≡◌, ℕ, true, false, List, [], ◌∷◌, ◌++◌, refl, ap, sym, ◌∙◌, arith, map, cond, append-nil, append_assoc}
+use Rattle.std.specs.List.{flat_map}
 use Rattle.std.proofs.lemmas.Grind.{common_steps}
-use Rattle.langtag_scan.specs.Case.{fold_byte}
-use Rattle.langtag_scan.specs.Class.{is_singleton, is_extension_subtag, has_length, are_alphanumeric}
-use Rattle.langtag_scan.specs.Record.{Extension, IsExtension, extension_flat}
-use Rattle.langtag_scan.specs.Subtags.{join, subtags}
-use Rattle.std.proofs.lemmas.Bool.{and_parts}
-use Rattle.langtag_scan.proofs.Tests.{between_true}
-use Rattle.langtag_scan.proofs.Tests.{chosen}
-use Rattle.langtag_scan.proofs.SubtagFacts.{IsSubtag, of_one, of_extension_subtag, singleton_alphanumeric}
-use Rattle.langtag_scan.proofs.SubtagLists.{each_from_test, test_from_each, each_subtag, subtags-joined}
-use Rattle.langtag_scan.proofs.SubtagLists.{join-subtags}
-use Rattle.langtag_extension.specs.ExtensionTexts.{goes_on, opens, groups, put_first, group_texts, extension_texts}
-use Rattle.langtag_extension.specs.Tests.{is_extension_list, is_extension_text, are_extension_texts, is_extensions_text, are_extension_subtags, opens_alike}
-use Rattle.langtag_extension.specs.Spelling.{extension_spelling, SpellsExtension, IsExtensionText, SpellsExtensions, IsExtensionsText, find_extension}
+use Rattle.langtag_scan.specs.Record.{Extension, extension_flat}
+use Rattle.langtag_scan.specs.Subtags.{join}
+use Rattle.langtag_extension.specs.ExtensionTexts.{opens, groups, put_first, group_texts}
+use Rattle.langtag_extension.specs.Spelling.{extension_spelling}
 
 -- lists of subtags with a hyphen between them
 join-append : (x : List ℕ) (xs : List (List ℕ)) (y : List ℕ) (ys : List (List ℕ)) → join ((x ∷ xs) ++ y ∷ ys) ≡ join (x ∷ xs) ++ 45 ∷ join (y ∷ ys)

@@ -1,21 +1,13 @@
 -- The first extension of a singleton, among extensions and among their texts.
-use Rattle.std.proofs.Common.{◌≡◌, ◌↔◌, ℕ, ◌≤◌, Bool, true, false, IsTrue, List, [], ◌∷◌, ◌++◌, length, refl, ap, sym, ◌∙◌, arith, Option, None, Some, map, cond, slice_index, find, ◌==◌, inl, inr, subst, append-nil, append_assoc}
+use Rattle.std.proofs.Common.{◌≡◌, ℕ, Bool, true, false, List, [], ◌∷◌, refl, ap, ◌∙◌, Option, None, Some, map, cond, slice_index, find, ◌==◌, inl, inr, subst}
 use Rattle.std.specs.Option.{option_map, option_map_or}
-use Rattle.std.specs.List.{list_all, AllByRecursion, flat_map}
-use Rattle.std.proofs.lemmas.Grind.{common_steps}
+use Rattle.std.specs.List.{AllByRecursion}
 use Rattle.langtag_scan.specs.Case.{fold_byte}
-use Rattle.langtag_scan.specs.Class.{is_singleton, is_extension_subtag, has_length, are_alphanumeric}
-use Rattle.langtag_scan.specs.Record.{Extension, IsExtension, extension_flat}
-use Rattle.langtag_scan.specs.Subtags.{join, subtags}
-use Rattle.std.proofs.lemmas.Bool.{and_parts}
-use Rattle.langtag_scan.proofs.Tests.{between_true}
+use Rattle.langtag_scan.specs.Record.{Extension, IsExtension}
+use Rattle.langtag_scan.specs.Subtags.{join}
 use Rattle.langtag_scan.proofs.Tests.{chosen}
-use Rattle.langtag_scan.proofs.SubtagFacts.{IsSubtag, of_one, of_extension_subtag, singleton_alphanumeric}
-use Rattle.langtag_scan.proofs.SubtagLists.{each_from_test, test_from_each, each_subtag, subtags-joined}
-use Rattle.langtag_scan.proofs.SubtagLists.{join-subtags}
-use Rattle.langtag_extension.specs.ExtensionTexts.{goes_on, opens, groups, put_first, group_texts, extension_texts}
-use Rattle.langtag_extension.specs.Tests.{is_extension_list, is_extension_text, are_extension_texts, is_extensions_text, are_extension_subtags, opens_alike}
-use Rattle.langtag_extension.specs.Spelling.{extension_spelling, SpellsExtension, IsExtensionText, SpellsExtensions, IsExtensionsText, find_extension}
+use Rattle.langtag_extension.specs.Tests.{opens_alike}
+use Rattle.langtag_extension.specs.Spelling.{extension_spelling, SpellsExtension, find_extension}
 
 -- the text of an extension begins with the singleton
 first_byte-spelling : (e : Extension) → slice_index (extension_spelling e) 0 ≡ e.singleton
