@@ -5,3 +5,4 @@ pub mod EditLaws
 pub mod RegisteredLaws
 pub mod KeptFound
 pub mod OrderLaws
+pub mod RepeatLaws

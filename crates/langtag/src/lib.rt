@@ -1,4 +1,24 @@
-//! Language tags, by RFC 5646 section 2.1.
+//! Language tags, by RFC 5646 section 2.1: parsed, taken apart, compared without regard to case, and edited.
+//!
+//! A [`NormalLangTag`] is a tag made of parts. It keeps where they end, so that each is had by a cut:
+//!
+//! ```
+//! use langtag::{NormalLangTag, NormalLangTagBuf, Script};
+//!
+//! let tag = NormalLangTag::new("sl-IT-rozaj-x-mine")?;
+//! tag.language().as_str();                    // "sl"
+//! tag.region()?.as_str();                     // "IT"
+//! tag.variants().iter().next()?.as_str();     // "rozaj"
+//! tag.script();                               // None
+//! tag.eq_str("SL-it-ROZAJ-x-mine");           // true
+//!
+//! let mut owned = tag.try_to_owned(alloc)?;
+//! owned.set_script(alloc, Some(Script::new("Latn")?))?;
+//! owned.as_str();                             // "sl-Latn-IT-rozaj-x-mine"
+//! ```
+//!
+//! Each part has a type of its own, lent and owned, as [`Script`] and [`ScriptBuf`]. All of them are reached from this
+//! crate, as is what decides over bytes whether they are a tag ([`recognise`]).
 #![tactic(auto)]
 
 mod grandfathered;
@@ -10,6 +30,7 @@ mod normal_lang_tag;
 mod normal_lang_tag_buf;
 mod private_use_lang_tag;
 mod recognise_text;
+mod repeats;
 mod replace_part;
 mod setters;
 #[cfg(test)]
@@ -20,6 +41,30 @@ pub use grandfathered::{GRANDFATHERED, GrandfatheredLangTag, InvalidGrandfathere
 pub use kind::Kind;
 pub use lang_tag::{InvalidLangTag, LangTag};
 pub use lang_tag_buf::LangTagBuf;
+pub use langtag_extension::{
+    Extension, ExtensionBuf, ExtensionIter, ExtensionSubtag, ExtensionSubtagBuf, Extensions,
+    ExtensionsBuf, ExtensionsIter, InvalidExtension, InvalidExtensionSubtag, InvalidExtensions,
+    InvalidSingleton, Singleton,
+};
+pub use langtag_language::{
+    ExtendedLangTag, ExtendedLangTagBuf, InvalidExtendedLangTag, InvalidLanguage,
+    InvalidLanguageExtension, InvalidPrimaryLanguage, Language, LanguageBuf, LanguageExtension,
+    LanguageExtensionBuf, LanguageExtensionIter, PrimaryLanguage, PrimaryLanguageBuf,
+};
+pub use langtag_place::{
+    InvalidRegion, InvalidScript, InvalidVariant, InvalidVariants, Region, RegionBuf, Script,
+    ScriptBuf, Variant, VariantBuf, Variants, VariantsBuf, VariantsIter,
+};
+pub use langtag_private::{
+    InvalidPrivateUse, InvalidPrivateUseSubtag, PrivateUse, PrivateUseBuf, PrivateUseIter,
+    PrivateUseSubtag, PrivateUseSubtagBuf,
+};
+pub use langtag_scan::{
+    ByteSource, Ends, Found, Metered, case_insensitive_cmp, case_insensitive_eq,
+    case_insensitive_hash, into_smallcase, is_extended, is_extension_subtag, is_mark, is_primary,
+    is_private_subtag, is_region, is_script, is_singleton, is_variant, recognise, recognise_normal,
+    segment_end, segment_start,
+};
 pub use normal_lang_tag::{InvalidNormalLangTag, NormalLangTag};
 pub use normal_lang_tag_buf::NormalLangTagBuf;
 pub use private_use_lang_tag::{PrivateUseLangTag, PrivateUseLangTagBuf};

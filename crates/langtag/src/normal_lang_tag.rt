@@ -33,11 +33,11 @@ pub struct InvalidNormalLangTag<T>(pub T);
 ///
 /// It keeps where its parts end, so that each is had by a cut. Two tags are equal where their texts differ at most in
 /// the case of ASCII letters.
-#[derive(Clone, Copy, Debug)]
-#[derive_where(PartialEq, Eq, PartialOrd, Ord, Hash)]
+#[derive(Clone, Copy)]
+#[derive_where(Debug, PartialEq, Eq, PartialOrd, Ord, Hash)]
 pub struct NormalLangTag<'a> {
     text: Caseless<&'a str>,
-    #[derive_where(skip(EqHashOrd))]
+    #[derive_where(skip)]
     ends: Ends,
     ghost kept_ends: { ∥ HasEnds text.0.now ends ∥₁ },
 }

@@ -10,11 +10,11 @@ use langtag_scan::{Caseless, Ends};
 use std::fmt;
 
 /// A normal tag that owns its text. It keeps where its parts end, as [`NormalLangTag`] does, and lends them with it.
-#[derive(Debug, Drop)]
-#[derive_where(PartialEq, Eq, PartialOrd, Ord, Hash)]
+#[derive(Drop)]
+#[derive_where(Debug, PartialEq, Eq, PartialOrd, Ord, Hash)]
 pub struct NormalLangTagBuf {
     pub(crate) text: Caseless<String>,
-    #[derive_where(skip(EqHashOrd))]
+    #[derive_where(skip)]
     pub(crate) ends: Ends,
     ghost kept_ends: { ∥ HasEnds (string_bytes text.0) ends ∥₁ },
 }

@@ -1,2 +1,20 @@
-//! What the contracts do not say.
 mod callers;
+mod callers_of_kinds;
+mod grandfathered;
+mod lang_tag;
+mod normal;
+mod owned;
+mod owned_tags;
+mod parts;
+mod repeats;
+mod setters;
+mod vectors;
+
+use std::hash::{DefaultHasher, Hash, Hasher};
+
+/// What a hasher answers that was fed a value.
+fn hash_of<T: Hash>(value: &T) -> u64 {
+    let mut hasher = DefaultHasher::new();
+    value.hash(&mut hasher);
+    hasher.finish()
+}
