@@ -8,12 +8,12 @@ pub mod LookUp
 pub mod Kinds
 pub mod Typed
 pub mod Order
-
 -- what the clauses of this crate and of the types that it passes on cite, so that a caller names one crate
 pub use Rattle.langtag_scan.specs.AlikeRecords
 pub use Rattle.langtag_scan.specs.Case
 pub use Rattle.langtag_scan.specs.Class
 pub use Rattle.langtag_scan.specs.Ends
+pub use Rattle.langtag_scan.specs.Grandfathered
 pub use Rattle.langtag_scan.specs.Parts
 pub use Rattle.langtag_scan.specs.Record
 pub use Rattle.langtag_scan.specs.Subtags

@@ -1,6 +1,10 @@
 mod callers;
+mod callers_of_kinds;
+mod grandfathered;
+mod lang_tag;
 mod normal;
 mod owned;
+mod owned_tags;
 mod parts;
 mod repeats;
 mod setters;

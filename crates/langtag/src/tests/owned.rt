@@ -32,7 +32,7 @@ fn each_text_is_shown_and_copied(rt: HostRuntime) -> Result<(), Fail> {
 }
 
 /// A tag of so many private use subtags.
-fn private_tag(alloc: Global, subtags: u32) -> Result<String, AllocError> {
+pub(super) fn private_tag(alloc: Global, subtags: u32) -> Result<String, AllocError> {
     let mut text = String::from_str(alloc, "en-x")?;
     for _ in 0..subtags {
         text.push_str("-a")?;

@@ -5,7 +5,7 @@ use std::test::Fail;
 
 /// Normal tags; of each the language, script, region, variants, extensions and private use part, of which an absent one
 /// is empty; and where these parts end.
-const TAGS: &[(&str, [&str; 6], [usize; 6])] = &[
+pub(super) const TAGS: &[(&str, [&str; 6], [usize; 6])] = &[
     ("fr", ["fr", "", "", "", "", ""], [2, 2, 2, 2, 2, 2]),
     ("fr-FR", ["fr", "", "FR", "", "", ""], [2, 2, 5, 5, 5, 5]),
     ("zh-min", ["zh-min", "", "", "", "", ""], [6, 6, 6, 6, 6, 6]),
