@@ -78,9 +78,10 @@ fn a_source_that_was_read_before(rt: HostRuntime) {
     ] {
         let mut source = Metered::new(text);
         for _ in 0..5 {
-            assert!(rt; last < source.len(), "at {text}");
+            assert!(rt; last < source.len() && source.reads() < 5, "at {text}");
             source.byte(last);
         }
+        assert_eq!(rt; source.reads(), 5, "at {text}");
         let found = recognise(&mut source);
         assert_eq!(rt; found.is_some(), text == "fr-FR", "at {text}");
         assert_eq!(rt; source.reads(), reads, "at {text}");
