@@ -6,7 +6,7 @@ use Rattle.langtag_scan.specs.Class.{is_singleton, is_extension_subtag, has_leng
 use Rattle.langtag_scan.specs.Record.{Extension, IsExtension, extension_flat}
 use Rattle.langtag_scan.specs.Subtags.{join, subtags}
 use Rattle.std.proofs.lemmas.Bool.{and_parts}
-use Rattle.langtag_scan.proofs.Tests.{between_true}
+use Rattle.langtag_scan.proofs.BoolFacts.{between_true}
 use Rattle.langtag_scan.proofs.SubtagFacts.{IsSubtag, of_one, of_extension_subtag, singleton_alphanumeric}
 use Rattle.langtag_scan.proofs.SubtagLists.{each_from_test, test_from_each, each_subtag, subtags-joined}
 use Rattle.langtag_scan.proofs.SubtagLists.{join-subtags}

@@ -10,7 +10,7 @@ use Rattle.langtag_scan.specs.declared.stage.Stage.TheVariants.{Start, Language,
 use Rattle.langtag_scan.specs.Class.{is_primary, is_extended, is_script, is_region, is_variant, is_extension_subtag, is_private_subtag, is_mark, is_singleton}
 use Rattle.langtag_scan.specs.Record.{PrivateUse, Extension, Record, IsPrivateUse, IsExtension, IsWellFormed, extension_flat, one_flat, private_part_flat, flat}
 use Rattle.langtag_scan.specs.Stage.{opened, after_region, after_script, after_language, next_stage, may_end}
-use Rattle.langtag_scan.proofs.Tests.{chosen}
+use Rattle.langtag_scan.proofs.BoolFacts.{chosen}
 
 -- what was read so far from the right: the subtags of an extension or private list whose head is still
 -- to come, and the parts

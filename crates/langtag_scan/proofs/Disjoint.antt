@@ -3,7 +3,7 @@ use Rattle.std.proofs.Common.{◌≡◌, ℕ, ◌≤◌, Bool, true, false, eqb,
 use Rattle.std.proofs.lemmas.Bool.{eqb-true, and_parts, or_cases, false_from_ne_true}
 use Rattle.std.specs.Int.{is_in_range}
 use Rattle.langtag_scan.specs.Class.{is_letter, is_digit, is_alphanumeric, has_length, are_letters, are_digits, are_alphanumeric, starts_with_digit, is_extended, is_script, is_region, is_variant, is_extension_subtag, is_mark, is_singleton}
-use Rattle.langtag_scan.proofs.Tests.{between_true}
+use Rattle.langtag_scan.proofs.BoolFacts.{between_true}
 
 pub letter_no_digit : (b : ℕ) → is_letter b ≡ true → is_digit b ≡ true → ⊥
 unfolding is_letter is_digit

@@ -1,4 +1,4 @@
-pub mod Tests
+pub mod BoolFacts
 pub mod Disjoint
 pub mod Decoding
 pub mod Complete

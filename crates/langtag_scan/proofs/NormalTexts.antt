@@ -12,7 +12,7 @@ use Rattle.langtag_scan.specs.Record.{Record, IsWellFormed, flat, spell}
 use Rattle.langtag_scan.specs.Stage.{opened, after_region, after_script, after_language, next_stage, may_end, runs}
 use Rattle.langtag_scan.specs.Subtags.{join, segments}
 use Rattle.langtag_scan.specs.Tag.{IsNormal}
-use Rattle.langtag_scan.proofs.Tests.{between_true, chosen}
+use Rattle.langtag_scan.proofs.BoolFacts.{between_true, chosen}
 use Rattle.langtag_scan.proofs.Disjoint.{extended_three, script_four, region_two_three, variant_long}
 use Rattle.langtag_scan.proofs.Decoding.{Read, whole, decode, nothing, decode_sound, bind_some, map_some, put}
 use Rattle.langtag_scan.proofs.Complete.{decode_complete, flat_once}

@@ -9,7 +9,7 @@ use Rattle.langtag_scan.specs.Irregular.{is_possible, is_followed}
 use Rattle.langtag_scan.specs.Machine.{begun, Reads, HasStopped, IsRefused}
 use Rattle.langtag_scan.specs.Names.{Follows, IsGone}
 use Rattle.langtag_scan.specs.Tag.{IsNormal, IsPrivate, IsIrregular, IsTag}
-use Rattle.langtag_scan.specs.Tracking.{Tracks, IsReadTo, StopsAt}
+use Rattle.langtag_scan.specs.Tracking.{Tracks, IsReadTo}
 use Rattle.langtag_scan.specs.Viable.{IsViable, IsStop, filling, fill}
 use Rattle.langtag_scan.specs.declared.ends.Ends.{Ends}
 use Rattle.langtag_scan.specs.declared.found.Found.{Found}
@@ -35,6 +35,9 @@ read_next t i b P Q within read step known =
 -- what each longer text has too, the whole text has
 pub to_whole : (t : List ℕ) (i : ℕ) (P : List ℕ → Type 0) → ((p u : List ℕ) → P p → P (p ++ u)) → P (take i t) → P t
 to_whole t i P longer known = subst P (take-append-drop i t) (longer (take i t) (drop i t) known)
+
+pub tracks_whole : (t : List ℕ) (i : ℕ) (m : Machine) → length t ≤ i → Tracks (take i t) m → Tracks t m
+tracks_whole t i m end tracks = subst (λ p. Tracks p m) (take_all i t end) tracks
 
 -- ---- which prefixes are viable
 

@@ -14,7 +14,7 @@ use Rattle.langtag_scan.specs.Machine.{may_hold, end_at, index_after, ends_after
 use Rattle.langtag_scan.specs.declared.ends.Ends.{Ends}
 use Rattle.langtag_scan.specs.declared.stage.Stage.{Stage}
 use Rattle.langtag_scan.specs.declared.stage.Stage.TheVariants.{Start, Language, Extended, AfterScript, AfterRegion, AfterVariant, AfterSingleton, InExtension, AfterMark, InPrivate}
-use Rattle.langtag_scan.proofs.Tests.{chosen}
+use Rattle.langtag_scan.proofs.BoolFacts.{chosen}
 use Rattle.langtag_scan.proofs.SubtagFacts.{IsSubtag, no_hyphen_each, alphanumeric_no_hyphen}
 use Rattle.langtag_scan.proofs.NormalTexts.{next_subtag}
 

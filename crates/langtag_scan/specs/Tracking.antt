@@ -25,9 +25,3 @@ pub record IsReadTo (text : List ℕ) (n : ℕ) (names : Names) (m : Machine) (g
   pub tracks : goes_on ≡ true → Tracks (take n text) m
   pub stopped : goes_on ≡ false → HasStopped (take n text)
   pub before : (k : ℕ) → k < n → IsViable (take k text)
-
--- the machine stops at the last of the first n bytes of a text
-pub record StopsAt (text : List ℕ) (n : ℕ) : Type 0 where
-  pub within : n ≤ length text
-  pub stopped : HasStopped (take n text)
-  pub before : (k : ℕ) → k < n → IsViable (take k text)

@@ -1,12 +1,12 @@
 //! The recognisers: one pass over a source of bytes.
-ghost use Rattle.std.specs.Prelude.{◌≡◌, ◌↔◌, ◌⊎◌, ℕ, ◌<◌, ◌≤◌, ◌+◌, ◌^◌, max, List, [], length, take, IsTrue, false, MatchOption};
+ghost use Rattle.std.specs.Prelude.{◌≡◌, ◌↔◌, ◌⊎◌, ℕ, ◌<◌, ◌≤◌, ◌+◌, ◌^◌, max, List, [], length, take, IsTrue, MatchOption};
 ghost use Rattle.langtag_scan.specs.Record.{Record, IsWellFormed, spell};
 ghost use Rattle.langtag_scan.specs.Tag.{IsNormal, IsPrivate, IsIrregularAt, IsIrregular, IsTag};
 ghost use Rattle.langtag_scan.specs.Viable.{IsStop, IsViable, IsIrregularPrefix, fill};
 ghost use Rattle.langtag_scan.specs.Findings.{finding};
 ghost use Rattle.langtag_scan.specs.Found.{IsFoundOf, is_normal};
 ghost use Rattle.langtag_scan.specs.Names.{Follows, IsGone};
-ghost use Rattle.langtag_scan.specs.Tracking.{Tracks, IsReadTo, StopsAt};
+ghost use Rattle.langtag_scan.specs.Tracking.{Tracks, IsReadTo};
 
 use crate::found::Found;
 use crate::irregular::Names;
@@ -37,12 +37,15 @@ pub fn recognise<S: ByteSource>(source: &mut S) -> Option<Found>
     let len = source.len();
     let mut machine = Machine::new();
     let mut names = Names::new(len);
-    let (read, goes_on) = read_names(source, &mut machine, &mut names);
+    let (mut index, goes_on) = read_names(source, &mut machine, &mut names);
     if !goes_on {
         return names.found();
     }
-    if !read_stages(source, &mut machine, read) {
-        return None;
+    while index < len {
+        if !machine.step(index, source.byte(index)) {
+            return None;
+        }
+        index += 1;
     }
     match machine.found(len) {
         Some(found) => Some(found),
@@ -78,27 +81,6 @@ fn read_names<S: ByteSource>(
         index += 1;
     }
     (index, goes_on)
-}
-
-/// Reads the bytes from an index on while the machine goes on, and answers whether it does to the end.
-#[inline(always)]
-fn read_stages<S: ByteSource>(source: &mut S, machine: &mut Machine, from: usize) -> bool
-    requires few { S.reads source.old ≤ 2 ^ 126 + from }
-    requires within { from ≤ length (S.bytes source.old) }
-    requires reached { from ≤ S.reach source.old }
-    requires machine { Tracks (take from (S.bytes source.old)) machine.old }
-    ensures bytes { S.bytes source.new ≡ S.bytes source.old }
-    ensures whole { IsTrue result → Tracks (S.bytes source.old) machine.new × (S.reads source.new + from ≡ S.reads source.old + length (S.bytes source.old)) × (S.reach source.new ≡ max (S.reach source.old) (length (S.bytes source.old))) }
-    ensures stopped { result ≡ false → (n : ℕ) × (from < n) × StopsAt (S.bytes source.old) n × (S.reads source.new + from ≡ S.reads source.old + n) × (S.reach source.new ≡ max (S.reach source.old) n) }
-{
-    let mut index = from;
-    while index < source.len() {
-        if !machine.step(index, source.byte(index)) {
-            return false;
-        }
-        index += 1;
-    }
-    true
 }
 
 /// Decides whether the bytes of a source are a normal tag (rule `langtag` of RFC 5646 section 2.1), as
