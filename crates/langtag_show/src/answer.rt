@@ -64,28 +64,19 @@ fn normal_answer<'a>(tag: &NormalLangTag<'a>) -> [&'a str; 14]
 fn script_or_nothing(script: Option<Script<'_>>) -> &str
     ensures { result.now ≡ unwrap_or (option_map script_text script.entry) [] }
 {
-    match script {
-        Some(script) => script.as_str(),
-        None => "",
-    }
+    script.map_or("", |script| script.as_str())
 }
 
 fn region_or_nothing(region: Option<Region<'_>>) -> &str
     ensures { result.now ≡ unwrap_or (option_map region_text region.entry) [] }
 {
-    match region {
-        Some(region) => region.as_str(),
-        None => "",
-    }
+    region.map_or("", |region| region.as_str())
 }
 
 fn private_use_or_nothing(private_use: Option<PrivateUse<'_>>) -> &str
     ensures { result.now ≡ unwrap_or (option_map private_use_text private_use.entry) [] }
 {
-    match private_use {
-        Some(private_use) => private_use.as_str(),
-        None => "",
-    }
+    private_use.map_or("", |private_use| private_use.as_str())
 }
 
 /// Whether a variant or a singleton stands in a tag twice.
