@@ -3,4 +3,4 @@ pub mod Lines
 pub mod OneReport
 pub mod Outcomes
 pub mod Written
-pub mod FoundAnswers
+pub mod KindAnswers

@@ -1,12 +1,19 @@
 //! The answer to one line.
-ghost use Rattle.std.specs.Prelude.{ℕ, List, [], ◌∷◌, OnOk, IsOkUnless};
-ghost use Rattle.langtag_scan.specs.Found.{IsFoundOf};
-ghost use Rattle.langtag_scan.specs.Findings.{finding};
-ghost use Rattle.langtag_show.specs.Report.{IsAnswer, Answers};
+ghost use Rattle.std.specs.Prelude.{◌≡◌, [], ◌∷◌, OnOk, IsOkUnless, MatchOption, unwrap_or};
+ghost use Rattle.std.specs.Io.KnownBytes.{Appends};
+ghost use Rattle.std.specs.List.{flat_map};
+ghost use Rattle.std.specs.Option.{option_map};
+ghost use Rattle.langtag_scan.specs.Record.{EachRecord};
+ghost use Rattle.langtag_scan.specs.Tag.{IsTag};
+ghost use Rattle.langtag.specs.PlaceText.{script_text, region_text};
+ghost use Rattle.langtag.specs.PrivateText.{private_use_text};
+ghost use Rattle.langtag.specs.Text.{normal_lang_tag_text, lang_tag_text};
+ghost use Rattle.langtag_show.specs.Lines.{ended};
+ghost use Rattle.langtag_show.specs.Report.{IsAnswer, Answers, has_repeats};
 
 use crate::page::Page;
 use crate::show_error::ShowError;
-use langtag_scan::{Found, Metered, recognise};
+use langtag::{LangTag, NormalLangTag, PrivateUse, Region, Script, TypedLangTag};
 use std::io::Write;
 
 /// Writes the answer to a line, and the LF that ends it.
@@ -14,34 +21,80 @@ pub(crate) fn write_answer<W: Write>(line: &[u8], output: &mut W) -> Result<(), 
     ensures ok { OnOk result (Answers (W.contents output.old) (W.contents output.new) (line.now ∷ [])) }
     ensures err { IsOkUnless result ShowError.Write }
 {
+    let Some(tag) = tag_of(line) else {
+        return write_pieces(&["refused"], output);
+    };
+    match tag.as_typed() {
+        TypedLangTag::Normal(tag) => write_pieces(&normal_answer(&tag), output),
+        TypedLangTag::PrivateUse(tag) => write_pieces(&["private ", tag.as_str()], output),
+        TypedLangTag::Grandfathered(tag) => write_pieces(&["irregular ", tag.as_str()], output),
+    }
+}
+
+/// The tag that a line is. A tag is ASCII, so a line that is not UTF-8 is none.
+fn tag_of(line: &[u8]) -> Option<LangTag<'_>>
+    ensures { MatchOption result (¬ (IsTag line.now)) (λ tag. lang_tag_text tag ≡ line.now) }
+{
+    let text = std::str::from_utf8(line).ok()?;
+    LangTag::new(text).ok()
+}
+
+/// The answer to a normal tag, in pieces: its parts, and whether a variant or a singleton is repeated.
+fn normal_answer<'a>(tag: &NormalLangTag<'a>) -> [&'a str; 14]
+    ensures { IsAnswer (normal_lang_tag_text tag.now) (flat_map (λ piece. piece.now) result) }
+{
+    [
+        "normal language=",
+        tag.language().as_str(),
+        " script=",
+        script_or_nothing(tag.script()),
+        " region=",
+        region_or_nothing(tag.region()),
+        " variants=",
+        tag.variants().as_str(),
+        " extensions=",
+        tag.extensions().as_str(),
+        " private=",
+        private_use_or_nothing(tag.private_use()),
+        " repeats=",
+        if has_repeats(tag) { "yes" } else { "no" },
+    ]
+}
+
+fn script_or_nothing(script: Option<Script<'_>>) -> &str
+    ensures { result.now ≡ unwrap_or (option_map script_text script.entry) [] }
+{
+    script.map_or("", |script| script.as_str())
+}
+
+fn region_or_nothing(region: Option<Region<'_>>) -> &str
+    ensures { result.now ≡ unwrap_or (option_map region_text region.entry) [] }
+{
+    region.map_or("", |region| region.as_str())
+}
+
+fn private_use_or_nothing(private_use: Option<PrivateUse<'_>>) -> &str
+    ensures { result.now ≡ unwrap_or (option_map private_use_text private_use.entry) [] }
+{
+    private_use.map_or("", |private_use| private_use.as_str())
+}
+
+/// Whether a variant or a singleton stands in a tag twice.
+fn has_repeats(tag: &NormalLangTag<'_>) -> bool
+    ensures { EachRecord (normal_lang_tag_text tag.now) (λ r. result ≡ has_repeats r) }
+{
+    tag.repeated_variant().is_some() || tag.repeated_singleton().is_some()
+}
+
+/// Writes the pieces of an answer and an LF, gathered on a page.
+fn write_pieces<W: Write>(pieces: &[&str], output: &mut W) -> Result<(), ShowError>
+    ensures ok { OnOk result (Appends (W.contents output.old) (W.contents output.new) (ended (flat_map (λ piece. piece.now) pieces.now))) }
+    ensures err { IsOkUnless result ShowError.Write }
+{
     let mut page = Page::new();
-    page.put(answer_to(line), output)?;
+    for piece in pieces {
+        page.put(piece, output)?;
+    }
     page.put("\n", output)?;
     page.finish(output)
-}
-
-/// The answer to a line, without its LF. A tag is ASCII, so a line that is not UTF-8 is none.
-fn answer_to(line: &[u8]) -> &'static str
-    ensures { IsAnswer line.now result.now }
-{
-    let Ok(text) = std::str::from_utf8(line) else {
-        return "refused";
-    };
-    match recognise(&mut Metered::new(text)) {
-        Some(found) => word_of(&found),
-        None => "refused",
-    }
-}
-
-/// The word for the kind of a tag.
-fn word_of(found: &Found) -> &'static str
-    ensures { (line : List ℕ) → IsFoundOf line (finding found.now) → IsAnswer line result.now }
-{
-    if found.is_normal() {
-        "normal"
-    } else if found.is_private_use() {
-        "private"
-    } else {
-        "irregular"
-    }
 }

@@ -1,8 +1,14 @@
-//! Answers each line of standard input: which kind of language tag of RFC 5646 it is, if any.
+//! Answers each line of standard input: which kind of language tag of RFC 5646 it is, if any, and of which parts.
 //!
-//! A line ends at LF, and a last line without LF counts where it is not empty. CR is an ordinary byte. The answer
-//! is `normal`, `private` or `irregular` by the three forms of a tag (section 2.1), and `refused` for any other line,
-//! also one that is not UTF-8.
+//! A line ends at LF, and a last line without LF counts where it is not empty. CR is an ordinary byte. The answer goes
+//! by the three forms of a tag (section 2.1):
+//!
+//! - `normal language=L script=S region=R variants=V extensions=E private=P repeats=Q`, where an absent part is empty, and
+//!   Q is `yes` where a variant or a singleton stands in the tag twice (section 2.2.9), else `no`;
+//! - `private` and the tag;
+//! - `irregular` and the registered spelling of the tag;
+//! - `refused` for any other line, also one that is not UTF-8.
+//!
 //! A run that a fault ends says so on standard error and by its status.
 #![tactic(auto)]
 

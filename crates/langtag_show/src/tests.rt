@@ -1,5 +1,6 @@
 mod faults;
 mod feed;
+mod hostile;
 mod memory;
 mod outcome;
 mod page;
@@ -7,6 +8,31 @@ mod progress;
 mod report;
 mod sheet;
 mod small;
+
+const REFUSED: &str = "refused";
+
+const FR: &str = "normal language=fr script= region= variants= extensions= private= repeats=no";
+
+const FR_FR: &str =
+    "normal language=fr script= region=FR variants= extensions= private= repeats=no";
+
+const DE_CH_1996: &str =
+    "normal language=de script= region=CH variants=1996 extensions= private= repeats=no";
+
+/// Whether a text is these lines, each followed by LF.
+fn is_report(text: &[u8], lines: &[&str]) -> bool {
+    let mut rest = text;
+    for line in lines {
+        let Some(after) = rest.strip_prefix(line.as_bytes()) else {
+            return false;
+        };
+        let Some(after) = after.strip_prefix(b"\n") else {
+            return false;
+        };
+        rest = after;
+    }
+    rest.is_empty()
+}
 
 fn line_feeds(text: &[u8]) -> u64 {
     text.iter().filter(|byte| **byte == b'\n').count() as u64

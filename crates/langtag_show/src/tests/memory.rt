@@ -2,6 +2,7 @@
 use super::feed::Feed;
 use super::sheet::Sheet;
 use super::small::Small;
+use super::{DE_CH_1996, FR, FR_FR, REFUSED, is_report};
 use crate::run::{run, run_in};
 use crate::show_error::ShowError;
 use std::alloc::Global;
@@ -12,23 +13,28 @@ fn long_input() -> Feed<'static> {
     Feed::repeating(b"fr\nen-x", b"-a", 10_000, 7)
 }
 
-// Whether a text is whole lines at the start of another.
-fn is_prefix(text: &[u8], whole: &[u8]) -> bool {
-    whole.starts_with(text) && (text.is_empty() || text.ends_with(b"\n"))
-}
-
-// A run gives the whole report, or meets a refused growth and leaves whole answers from its start.
-fn leaves_whole_answers(rt: &impl Abort, alloc: Global, mut input: Feed<'_>, want: &[u8]) {
+// A run gives the whole report, or meets a refused growth and leaves whole answers from its start. The report is the
+// answers to the complete lines, and then one that ends so and has so many bytes with its LF.
+fn leaves_whole_answers(
+    rt: &impl Abort,
+    alloc: Global,
+    mut input: Feed<'_>,
+    complete: &[&str],
+    last: (&str, usize),
+) {
     let mut output = Sheet::new();
-    match run(alloc, &mut input, &mut output) {
-        Ok(()) => {
-            assert_eq!(rt; output.text(), want);
-        }
-        Err(error) => {
-            assert_eq!(rt; error, ShowError::Memory);
-            assert!(rt; is_prefix(output.text(), want));
-            assert_eq!(rt; output.flushes, 0);
-        }
+    let outcome = run(alloc, &mut input, &mut output);
+    let mut text = output.text();
+    if outcome == Ok(()) {
+        let (end, len) = last;
+        assert!(rt; text.ends_with(end.as_bytes()));
+        let first = text.len().saturating_sub(len);
+        text = text.get(..first).unwrap_or(&[]);
+        assert!(rt; is_report(text, complete));
+    } else {
+        assert_eq!(rt; outcome, Err(ShowError::Memory));
+        assert!(rt; (0..=complete.len()).any(|k| is_report(text, &complete[..k])));
+        assert_eq!(rt; output.flushes, 0);
     }
 }
 
@@ -37,39 +43,41 @@ fn leaves_whole_answers(rt: &impl Abort, alloc: Global, mut input: Feed<'_>, wan
 #[test]
 fn a_refused_growth_leaves_whole_answers(rt: HostRuntime) {
     let input = Feed::new(b"fr-FR\n\nx-a\ni-ami\nde-CH-1996", 100);
-    let want = b"normal\nrefused\nprivate\nirregular\nnormal\n";
-    leaves_whole_answers(&rt, rt.alloc(), input, want);
+    let complete = [FR_FR, REFUSED, "private x-a", "irregular i-ami"];
+    let last = ("variants=1996 extensions= private= repeats=no\n", 83);
+    leaves_whole_answers(&rt, rt.alloc(), input, &complete, last);
 }
 
 #[test]
 fn a_refused_growth_of_a_long_line_leaves_whole_answers(rt: HostRuntime) {
-    leaves_whole_answers(&rt, rt.alloc(), long_input(), b"normal\nnormal\n");
+    let last = ("-a-a-a repeats=no\n", 20078);
+    leaves_whole_answers(&rt, rt.alloc(), long_input(), &[FR], last);
 }
 
 // The line that can't grow is the one that is gathered: all answers before it stand, and nothing else. With the long
 // input it is the last growth of a run that is refused.
 #[test]
 fn the_answers_before_a_refused_growth_stand(rt: HostRuntime) {
-    let rows: [(Feed<'_>, &[u8]); 6] = [
-        (before_a_long_line(b""), b""),
-        (before_a_long_line(b"fr-FR\n"), b"normal\n"),
-        (before_a_long_line(b"fr-FR\n\n"), b"normal\nrefused\n"),
+    let rows: [(Feed<'_>, &[&str]); 6] = [
+        (before_a_long_line(b""), &[]),
+        (before_a_long_line(b"fr-FR\n"), &[FR_FR]),
+        (before_a_long_line(b"fr-FR\n\n"), &[FR_FR, REFUSED]),
         (
             before_a_long_line(b"fr-FR\n\nx-a\n"),
-            b"normal\nrefused\nprivate\n",
+            &[FR_FR, REFUSED, "private x-a"],
         ),
         (
             before_a_long_line(b"fr-FR\n\nx-a\nde-CH-1996\n"),
-            b"normal\nrefused\nprivate\nnormal\n",
+            &[FR_FR, REFUSED, "private x-a", DE_CH_1996],
         ),
-        (long_input(), b"normal\n"),
+        (long_input(), &[FR]),
     ];
     for (mut input, want) in rows {
         let heap = Small { inner: rt.alloc() };
         let mut output = Sheet::new();
         let outcome = run_in(heap, &mut input, &mut output);
         assert_eq!(rt; outcome, Err(ShowError::Memory));
-        assert_eq!(rt; output.text(), want);
+        assert!(rt; is_report(output.text(), want));
         assert_eq!(rt; output.flushes, 0);
     }
 }

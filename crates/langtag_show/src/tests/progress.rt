@@ -79,7 +79,8 @@ impl Write for Taker<'_> {
 
 const LINES: &[u8] = b"fr\n\nx-a\ni-ami\n";
 
-const ANSWERS: &[u8] = b"normal\nrefused\nprivate\nirregular\n";
+const ANSWERS: &[u8] =
+    b"normal language=fr script= region= variants= extensions= private= repeats=no\nrefused\nprivate x-a\nirregular i-ami\n";
 
 // The lines, how often they are given, the bytes of a read, and the answers and how often they are to come.
 type Row<'a> = (&'a [u8], u64, usize, &'a [u8], u64);

@@ -2,7 +2,8 @@
 use std::io;
 use std::io::{ErrorKind, Write};
 
-const ROOM: usize = 512;
+/// Room for the answers to `fr` and to `en-x` and 10,000 times `-a`.
+const ROOM: usize = 20_480;
 
 /// Holds what is written in an array, and takes nothing when that is full. It fails at one write, where that is
 /// stated, and at the flush, where it is to.

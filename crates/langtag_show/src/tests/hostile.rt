@@ -1,0 +1,263 @@
+//! Texts that mean harm: each call that takes a text, on each of them.
+use super::feed::Feed;
+use super::sheet::Sheet;
+use super::{REFUSED, is_report};
+use crate::run::run;
+use langtag::{
+    ExtendedLangTag, ExtendedLangTagBuf, Extension, ExtensionBuf, ExtensionSubtag,
+    ExtensionSubtagBuf, Extensions, ExtensionsBuf, GrandfatheredLangTag, LangTag, LangTagBuf,
+    Language, LanguageBuf, LanguageExtension, LanguageExtensionBuf, Metered, NormalLangTag,
+    NormalLangTagBuf, PrimaryLanguage, PrimaryLanguageBuf, PrivateUse, PrivateUseBuf,
+    PrivateUseSubtag, PrivateUseSubtagBuf, Region, RegionBuf, Script, ScriptBuf, Singleton,
+    Variant, VariantBuf, Variants, VariantsBuf, recognise, recognise_normal,
+};
+use std::alloc::{AllocError, Global};
+use std::process::Abort;
+use std::test::Fail;
+
+// A text, how many of its bytes a recogniser reads, the types that accept it, and its answer.
+type Row = (&'static str, u128, &'static [&'static str], &'static str);
+
+const NONE: &[&str] = &[];
+
+const EXTENSION: &[&str] = &["Extension", "Extensions"];
+
+const NORMAL: &[&str] = &["NormalLangTag", "LangTag"];
+
+const TEXTS: [Row; 25] = [
+    ("", 0, &["Variants", "Extensions"], REFUSED),
+    ("i-taa", 5, EXTENSION, REFUSED),
+    (
+        "i-tao",
+        5,
+        &["Extension", "Extensions", "LangTag"],
+        "irregular i-tao",
+    ),
+    (
+        "i-AMI",
+        5,
+        &["Extension", "Extensions", "LangTag"],
+        "irregular i-ami",
+    ),
+    ("i-klingon-x", 10, NONE, REFUSED),
+    ("X-a", 3, &["PrivateUse", "LangTag"], "private X-a"),
+    ("ab-12-a", 6, NONE, REFUSED),
+    ("fr-a-x-b", 7, NONE, REFUSED),
+    (
+        "sgn-BE-FRxxx",
+        12,
+        NORMAL,
+        "normal language=sgn script= region=BE variants=FRxxx extensions= private= repeats=no",
+    ),
+    ("-", 1, NONE, REFUSED),
+    ("fr-", 3, NONE, REFUSED),
+    ("fr_FR", 3, NONE, REFUSED),
+    ("fr-é", 4, NONE, REFUSED),
+    ("fr-x", 4, NONE, REFUSED),
+    ("fr-x-", 5, NONE, REFUSED),
+    ("fr-a-", 5, NONE, REFUSED),
+    ("x--a", 3, NONE, REFUSED),
+    ("x-123456789", 11, NONE, REFUSED),
+    (
+        "abcdefgh-abcdefgh",
+        17,
+        &["Variants", "NormalLangTag", "LangTag"],
+        "normal language=abcdefgh script= region= variants=abcdefgh extensions= private= repeats=no",
+    ),
+    ("abcdefgh-abcdefghi", 18, NONE, REFUSED),
+    ("fr-FR-US", 8, NONE, REFUSED),
+    (
+        "fr-1-aa-1-aa",
+        12,
+        NORMAL,
+        "normal language=fr script= region= variants= extensions=1-aa-1-aa private= repeats=yes",
+    ),
+    (
+        "de-1996-1996",
+        12,
+        NORMAL,
+        "normal language=de script= region= variants=1996-1996 extensions= private= repeats=yes",
+    ),
+    ("fr\0", 3, NONE, REFUSED),
+    ("fr\r", 3, NONE, REFUSED),
+];
+
+/// Which types accept a text.
+fn acceptance(text: &str) -> [(&'static str, bool); 15] {
+    [
+        ("PrimaryLanguage", PrimaryLanguage::new(text).is_ok()),
+        ("ExtendedLangTag", ExtendedLangTag::new(text).is_ok()),
+        ("LanguageExtension", LanguageExtension::new(text).is_ok()),
+        ("Language", Language::new(text).is_ok()),
+        ("Script", Script::new(text).is_ok()),
+        ("Region", Region::new(text).is_ok()),
+        ("Variant", Variant::new(text).is_ok()),
+        ("Variants", Variants::new(text).is_ok()),
+        ("ExtensionSubtag", ExtensionSubtag::new(text).is_ok()),
+        ("Extension", Extension::new(text).is_ok()),
+        ("Extensions", Extensions::new(text).is_ok()),
+        ("PrivateUseSubtag", PrivateUseSubtag::new(text).is_ok()),
+        ("PrivateUse", PrivateUse::new(text).is_ok()),
+        ("NormalLangTag", NormalLangTag::new(text).is_ok()),
+        ("LangTag", LangTag::new(text).is_ok()),
+    ]
+}
+
+/// Which owned types do, in the same order.
+fn owned_acceptance(alloc: Global, text: &str) -> Result<[bool; 15], AllocError> {
+    Ok([
+        PrimaryLanguageBuf::new(String::from_str(alloc, text)?).is_ok(),
+        ExtendedLangTagBuf::new(String::from_str(alloc, text)?).is_ok(),
+        LanguageExtensionBuf::new(String::from_str(alloc, text)?).is_ok(),
+        LanguageBuf::new(String::from_str(alloc, text)?).is_ok(),
+        ScriptBuf::new(String::from_str(alloc, text)?).is_ok(),
+        RegionBuf::new(String::from_str(alloc, text)?).is_ok(),
+        VariantBuf::new(String::from_str(alloc, text)?).is_ok(),
+        VariantsBuf::new(String::from_str(alloc, text)?).is_ok(),
+        ExtensionSubtagBuf::new(String::from_str(alloc, text)?).is_ok(),
+        ExtensionBuf::new(String::from_str(alloc, text)?).is_ok(),
+        ExtensionsBuf::new(String::from_str(alloc, text)?).is_ok(),
+        PrivateUseSubtagBuf::new(String::from_str(alloc, text)?).is_ok(),
+        PrivateUseBuf::new(String::from_str(alloc, text)?).is_ok(),
+        NormalLangTagBuf::new(String::from_str(alloc, text)?).is_ok(),
+        LangTagBuf::new(String::from_str(alloc, text)?).is_ok(),
+    ])
+}
+
+fn is_among(types: &[&str], name: &str) -> bool {
+    types.iter().any(|it| *it == name)
+}
+
+/// Only these types accept the text, lent and owned.
+fn is_accepted_by(
+    rt: &impl Abort,
+    alloc: Global,
+    text: &str,
+    types: &[&str],
+) -> Result<(), AllocError> {
+    let owned = owned_acceptance(alloc, text)?;
+    for ((name, is_accepted), is_owned) in acceptance(text).iter().zip(owned) {
+        assert_eq!(rt; *is_accepted, is_among(types, name), "{name} of {text}");
+        assert_eq!(rt; is_owned, *is_accepted, "owned {name} of {text}");
+    }
+    assert!(rt; Singleton::from_string(text).is_err());
+    Ok(())
+}
+
+/// A recogniser reads so many bytes, and decides as the types do.
+fn is_read(rt: &impl Abort, text: &str, reads: u128, types: &[&str]) {
+    let mut source = Metered::new(text);
+    assert_eq!(rt;
+        recognise(&mut source).is_some(),
+        is_among(types, "LangTag"),
+        "of {text}"
+    );
+    assert_eq!(rt; source.reads(), reads, "of {text}");
+    assert_eq!(rt;
+        recognise_normal(&mut Metered::new(text)).is_some(),
+        is_among(types, "NormalLangTag"),
+        "of {text}"
+    );
+}
+
+/// What a tag answers is what it answers as a normal tag, or nothing.
+fn has_normal_parts(rt: &impl Abort, tag: &LangTag<'_>) {
+    let text = tag.as_str();
+    let normal = tag.as_normal();
+    assert!(rt;
+        tag.language() == normal.map(|it| it.language()),
+        "of {text}"
+    );
+    assert!(rt;
+        tag.script() == normal.and_then(|it| it.script()),
+        "of {text}"
+    );
+    assert!(rt;
+        tag.region() == normal.and_then(|it| it.region()),
+        "of {text}"
+    );
+    assert!(rt;
+        tag.variants() == normal.map_or(Variants::EMPTY, |it| it.variants()),
+        "of {text}"
+    );
+    assert!(rt;
+        tag.extensions() == normal.map_or(Extensions::EMPTY, |it| it.extensions()),
+        "of {text}"
+    );
+    assert!(rt;
+        tag.private_use() == normal.and_then(|it| it.private_use()),
+        "of {text}"
+    );
+    assert_eq!(rt;
+        tag.private_use_subtags().count(),
+        normal.map_or(0, |it| it.private_use_subtags().count()),
+        "of {text}"
+    );
+}
+
+/// A script and a region are put in, and the old ones again.
+fn is_edited_and_back(alloc: Global, tag: &NormalLangTag<'_>) -> Result<bool, AllocError> {
+    let mut edited = tag.try_to_owned(alloc)?;
+    edited.set_script(alloc, Script::new("Latn").ok())?;
+    edited.set_region(alloc, Region::new("419").ok())?;
+    let lent = edited.as_normal_lang_tag();
+    let is_edited = lent.script().is_some_and(|it| it.as_str() == "Latn")
+        && lent.region().is_some_and(|it| it.as_str() == "419")
+        && lent.language() == tag.language()
+        && lent.variants() == tag.variants()
+        && lent.extensions() == tag.extensions()
+        && lent.private_use() == tag.private_use();
+    edited.set_script(alloc, tag.script())?;
+    edited.set_region(alloc, tag.region())?;
+    Ok(is_edited && edited.as_str() == tag.as_str())
+}
+
+/// Each call on one text.
+fn is_as_stated(
+    rt: &impl Abort,
+    alloc: Global,
+    text: &str,
+    reads: u128,
+    types: &[&str],
+) -> Result<(), AllocError> {
+    is_read(rt, text, reads, types);
+    is_accepted_by(rt, alloc, text, types)?;
+    if let Ok(tag) = LangTag::new(text) {
+        assert!(rt; tag.eq_str(text));
+        assert!(rt; tag.kind() == tag.as_typed().kind(), "of {text}");
+        has_normal_parts(rt, &tag);
+        if let Some(normal) = tag.as_normal() {
+            assert!(rt; is_edited_and_back(alloc, &normal)?, "of {text}");
+        }
+    }
+    Ok(())
+}
+
+#[test]
+fn each_call_answers(rt: HostRuntime) -> Result<(), Fail> {
+    for (text, reads, types, answer) in TEXTS {
+        is_as_stated(&rt, rt.alloc(), text, reads, types)?;
+        let mut input = Feed::new(text.as_bytes(), 100);
+        let mut output = Sheet::new();
+        assert_eq!(rt; run(rt.alloc(), &mut input, &mut output), Ok(()));
+        let answers = [answer];
+        let lines = usize::from(!text.is_empty());
+        assert!(rt; is_report(output.text(), &answers[..lines]), "of {text}");
+        assert_eq!(rt;
+            GrandfatheredLangTag::new(text.as_bytes()).is_ok(),
+            answer.starts_with("irregular"),
+            "of {text}"
+        );
+    }
+    Ok(())
+}
+
+#[test]
+fn each_call_answers_on_a_long_text(rt: HostRuntime) -> Result<(), Fail> {
+    let mut text = String::from_str(rt.alloc(), "en-x")?;
+    for _ in 0..10_000 {
+        text.push_str("-a")?;
+    }
+    is_as_stated(&rt, rt.alloc(), text.as_str(), 20_004, NORMAL)?;
+    Ok(())
+}
