@@ -1,0 +1,2 @@
+pub mod AcceptLanguage
+pub mod Range

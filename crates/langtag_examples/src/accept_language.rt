@@ -1,0 +1,151 @@
+//! The language ranges that an Accept-Language header asks for (RFC 9110 section 12.5.4).
+ghost use Rattle.std.specs.Prelude.{◌≡◌, ◌<◌, ◌∷◌, ◌++◌, [], ℕ, List, Some, None, IsTrue, not, length, IfOk, IfErr, IfSome, MatchOption, false};
+ghost use Rattle.std.specs.Int.{is_in_range};
+ghost use Rattle.std.specs.List.{list_all};
+ghost use Rattle.langtag_examples.specs.AcceptLanguage as spec;
+ghost use Rattle.langtag_examples.specs.Range.{is_range};
+ghost use Rattle.langtag_examples.specs.declared.accept_language.Wanted.{Wanted};
+
+use crate::range::is_range;
+use std::alloc::{AllocError, Global};
+use std::cmp::Reverse;
+
+const SPACES: [char; 2] = [' ', '\t'];
+
+/// A language range (RFC 4647 section 2.1), and how much it is wanted.
+#[derive(Clone, Copy, Debug)]
+pub struct Wanted<'a> {
+    /// The range, a slice of the header.
+    pub range: &'a str,
+    /// The weight in thousandths; 0 means that the range is not acceptable.
+    pub weight: u32,
+}
+
+/// Why a header was refused.
+#[derive(Debug, Drop)]
+pub enum HeaderError<'a> {
+    /// The header, and how many commas stand before its first bad element.
+    BadElement { header: &'a str, index: usize },
+    /// No memory could be had for the list.
+    Memory(AllocError),
+}
+
+impl From<AllocError> for HeaderError<'_> {
+    fn from(error: AllocError) -> Self {
+        HeaderError::Memory(error)
+    }
+}
+
+/// The ranges of a header, those that are wanted most first.
+///
+/// # Errors
+///
+/// A header with an element that is no language range with or without a weight is refused as a whole.
+pub fn wanted_ranges<'a>(alloc: Global, header: &'a str) -> Result<Vec<Wanted<'a>>, HeaderError<'a>>
+    ensures ordered { IfOk result (λ wanted. (elements : List Wanted) × spec.AreElements (spec.items header.now) elements × spec.IsByWeight elements wanted.items) }
+    ensures refused { IfErr result (spec.Refuses header.entry) }
+{
+    let mut wanted = Vec::new(alloc);
+    for (index, item) in header.split(',').enumerate() {
+        if is_ows(item) {
+            continue;
+        }
+        let Some(element) = element_of(item) else {
+            return Err(HeaderError::BadElement { header, index });
+        };
+        wanted.push(element).map_err(AllocError::from)?;
+    }
+    wanted.sort_by_key(|element| Reverse(element.weight))?;
+    Ok(wanted)
+}
+
+/// Whether a text is white space alone.
+fn is_ows(text: &str) -> bool
+    ensures { result ≡ spec.is_ows text.now }
+{
+    text.as_bytes().iter().all(|b| *b == b' ' || *b == b'\t')
+}
+
+/// The range and the weight that stand between two commas.
+fn element_of(item: &str) -> Option<Wanted<'_>>
+    ensures some { IfSome result (spec.IsItem item.now) }
+    ensures none { result ≡ None → (wanted : Wanted) → spec.IsItem item.now wanted → ⊥ }
+{
+    let Some((range, weight)) = item.split_once(';') else {
+        return wanted_in(item, 1000);
+    };
+    wanted_in(range, weight_of(trimmed(weight))?)
+}
+
+/// A range with a weight, where the text is one but for white space around it.
+fn wanted_in(text: &str, weight: u32) -> Option<Wanted<'_>>
+    ensures some { IfSome result (λ wanted. IsTrue (is_range wanted.range.now) × spec.IsPadded text.now wanted.range.now × (wanted.weight ≡ weight)) }
+    ensures none { result ≡ None → (range : List ℕ) → IsTrue (is_range range) → spec.IsPadded text.now range → ⊥ }
+{
+    let range = trimmed(text);
+    is_range(range).then_some(Wanted { range, weight })
+}
+
+/// The text without the white space around it.
+fn trimmed(text: &str) -> &str
+    ensures padded { spec.IsPadded text.now result.now }
+    ensures only { (inner : List ℕ) → spec.IsPadded text.now inner → 0 < length inner → IsTrue (list_all (λ b. not (spec.is_space b)) inner) → inner ≡ result.now }
+{
+    text.trim_start_matches(SPACES).trim_end_matches(SPACES)
+}
+
+/// The weight of `q=0.5` in thousandths.
+fn weight_of(text: &str) -> Option<u32>
+    ensures some { IfSome result (spec.IsWeight text.now) }
+    ensures none { result ≡ None → (weight : ℕ) → spec.IsWeight text.now weight → ⊥ }
+{
+    let [b'q' | b'Q', b'=', qvalue @ ..] = text.as_bytes() else {
+        return None;
+    };
+    is_qvalue(qvalue).then_some(thousandths(qvalue))
+}
+
+/// Whether a text is a number from 0 to 1 with up to three decimal places.
+fn is_qvalue(text: &[u8]) -> bool
+    ensures { result ≡ spec.is_qvalue text.now }
+{
+    match text {
+        [b'0', fraction @ ..] => is_fraction(fraction, b'9'),
+        [b'1', fraction @ ..] => is_fraction(fraction, b'0'),
+        _ => false,
+    }
+}
+
+/// Whether a text is nothing, or a point and up to three digits, none above the greatest.
+fn is_fraction(text: &[u8], greatest: u8) -> bool
+    ensures { result ≡ spec.is_fraction greatest text.now }
+{
+    match text {
+        [] => true,
+        [b'.', digits @ ..] => digits.len() <= 3 && are_digits(digits, greatest),
+        _ => false,
+    }
+}
+
+/// Whether the bytes are digits, none above the greatest.
+fn are_digits(bytes: &[u8], greatest: u8) -> bool
+    ensures { result ≡ list_all (is_in_range 48 greatest) bytes.now }
+{
+    bytes.iter().all(|digit| (b'0'..=greatest).contains(digit))
+}
+
+/// A number from 0 to 1 in thousandths.
+fn thousandths(qvalue: &[u8]) -> u32
+    ensures { result ≡ spec.thousandths qvalue.now }
+{
+    1000 * digit_at(qvalue, 0) + 100 * digit_at(qvalue, 2) + 10 * digit_at(qvalue, 3) + digit_at(qvalue, 4)
+}
+
+/// The digit at an index, 0 past the end.
+fn digit_at(text: &[u8], index: usize) -> u32
+    ensures value { result ≡ spec.digit_at text.now index }
+    ensures small { result < 256 }
+{
+    let digit = text.get(index).copied().unwrap_or(b'0');
+    u32::from(digit.saturating_sub(b'0'))
+}
