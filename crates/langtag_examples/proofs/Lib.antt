@@ -1,3 +1,4 @@
+pub mod Elements
 pub mod Plain
 pub mod Ranges
 pub mod Spaces

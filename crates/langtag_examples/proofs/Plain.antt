@@ -7,11 +7,12 @@ use Rattle.std.proofs.lemmas.Bool.{eqb-true}
 use Rattle.std.proofs.lemmas.Bool.Decides.{nat_tests}
 use Rattle.std.proofs.lemmas.List.Folds.{list_all-append, list_all_at}
 use Rattle.std.proofs.lemmas.List.Splits.{join_with_byte-slice_split}
+use Rattle.std.proofs.Math.Seq.{get_or-append_seam}
 use Rattle.std.proofs.lemmas.Slice.Eq.{bytes_eq-Decides}
 use Rattle.langtag_scan.specs.Class.{has_length, is_letter, is_digit, is_alphanumeric, are_letters, are_alphanumeric, is_private_subtag}
 use Rattle.langtag_scan.specs.Subtags.{join, segments}
 use Rattle.langtag_scan.proofs.Disjoint.{both_true, one_true, between_true}
-use Rattle.langtag_examples.specs.AcceptLanguage.{is_space, is_ows, is_fraction, is_qvalue, is_weight_name, IsWeight, IsPadded}
+use Rattle.langtag_examples.specs.AcceptLanguage.{is_space, is_ows, is_fraction, is_qvalue, is_q, IsWeight, IsPadded}
 use Rattle.langtag_examples.specs.Range.{is_first_subtag, are_range_subtags, is_range}
 
 abbrev pub is_plain : ℕ → Bool
@@ -87,24 +88,31 @@ qvalue_plain (whole ∷ fraction) is = elim (one_true (eqb whole 48 && is_fracti
   | inr one ↦ let k = both_true (eqb whole 49) (is_fraction 48 fraction) one in rw (eqb-true whole 49 k.0, fraction_plain 48 (omega arith) fraction k.1) refl
 ]
 
-name_plain : (name : List ℕ) → is_weight_name name ≡ true → list_all is_plain name ≡ true
-name_plain [] is = absurd cc
-name_plain (q ∷ []) is = absurd cc
-name_plain (q ∷ equals ∷ []) is =
-    let k = both_true (eqb q 113 || eqb q 81) (eqb equals 61) is in
-    elim (one_true (eqb q 113) (eqb q 81) k.0) [
-      | inl small ↦ rw (eqb-true q 113 small, eqb-true equals 61 k.1) refl
-      | inr capital ↦ rw (eqb-true q 81 capital, eqb-true equals 61 k.1) refl
-    ]
-name_plain (q ∷ equals ∷ b ∷ bs) is = absurd cc
+pub name_is : (name : List ℕ) → is_q name ≡ true → (b : ℕ) × (name ≡ b ∷ []) × ((b ≡ 113) ⊎ (b ≡ 81))
+name_is name is = elim (one_true (bytes_eq name (113 ∷ [])) (bytes_eq name (81 ∷ [])) is) [
+  | inl small ↦ (113, (bytes_eq-Decides name (113 ∷ [])).0 small, inl refl)
+  | inr capital ↦ (81, (bytes_eq-Decides name (81 ∷ [])).0 capital, inr refl)
+]
+
+name_plain : (name : List ℕ) → is_q name ≡ true → list_all is_plain name ≡ true
+name_plain name is =
+    let (b, one, which) = name_is name is in
+    ap (list_all is_plain) one ∙ elim which [ inl small ↦ rw small refl | inr capital ↦ rw capital refl ]
+
+-- "=" is no part of the name
+pub no_equals : (name : List ℕ) → is_q name ≡ true → (i : ℕ) → i < length name → get_or name i 0 ≢ 61
+no_equals name is i within here =
+    let (b, one, which) = name_is name is in
+    let first : i ≡ 0 = omega (arith, ap length one) in
+    let same : b ≡ 61 = ap (λ text. get_or text 0 0) (sym one) ∙ ap (λ k. get_or name k 0) (sym first) ∙ here in
+    elim which [ inl small ↦ omega arith | inr capital ↦ omega arith ]
 
 pub weight_plain : (text : List ℕ) (weight : ℕ) → IsWeight text weight → list_all is_plain text ≡ true
 weight_plain text weight (name, qvalue, written, named, valued, value) =
-    ap (list_all is_plain) written ∙ list_all-append is_plain name qvalue ∙ rw (name_plain name named, qvalue_plain qvalue valued) refl
+    ap (list_all is_plain) written ∙ list_all-append is_plain name (61 ∷ qvalue) ∙ rw (name_plain name named, qvalue_plain qvalue valued) refl
 
 pub weight_nonempty : (text : List ℕ) (weight : ℕ) → IsWeight text weight → 0 < length text
-weight_nonempty text weight (name, [], written, named, valued, value) = absurd cc
-weight_nonempty text weight (name, (b ∷ bs), written, named, valued, value) = omega (arith, ap length written, length-append name (b ∷ bs))
+weight_nonempty text weight (name, qvalue, written, named, valued, value) = omega (arith, ap length written, length-append name (61 ∷ qvalue))
 
 -- ---- what follows for white space, and for semicolons
 
@@ -117,11 +125,23 @@ is_other b = not (eqb b 59)
 space_other : (b : ℕ) → is_space b ≡ true → is_other b ≡ true
 space_other b h = grind (arith, nat_tests)
 
-pub no_semicolon : (padded text : List ℕ) → IsPadded padded text → list_all is_plain text ≡ true → (i : ℕ) → i < length padded → get_or padded i 0 ≢ 59
-no_semicolon padded text (before, after, spaces, more, written) plain i within here =
+no_semicolons : (padded text : List ℕ) → IsPadded padded text → list_all is_plain text ≡ true → list_all is_other padded ≡ true
+no_semicolons padded text (before, after, spaces, more, written) plain =
     let others = list_all-weaker is_plain is_other (λ b is. (both_true (not (is_space b)) (is_other b) is).1) text plain in
-    let each : list_all is_other padded ≡ true =
     ap (list_all is_other) written ∙ list_all-append is_other before (text ++ after) ∙ ap (λ b. list_all is_other before && b) (list_all-append is_other text after)
-    ∙ rw (list_all-weaker is_space is_other space_other before spaces, list_all-weaker is_space is_other space_other after more, others) refl in
+    ∙ rw (list_all-weaker is_space is_other space_other before spaces, list_all-weaker is_space is_other space_other after more, others) refl
+
+pub no_semicolon : (padded text : List ℕ) → IsPadded padded text → list_all is_plain text ≡ true → (i : ℕ) → i < length padded → get_or padded i 0 ≢ 59
+no_semicolon padded text pads plain i within here =
+    let each = no_semicolons padded text pads plain in
     let none : list_all is_other padded ≡ false = list_all_at is_other padded i 0 within (ap is_other here) in
-    cc
+    let apart : true ≡ false = sym each ∙ none in
+    true_apart apart
+  where
+    true_apart : true ≡ false → ⊥
+    true_apart e = cc
+
+pub uncut : (padded text before after : List ℕ) → IsPadded padded text → list_all is_plain text ≡ true → padded ≡ before ++ 59 ∷ after → ⊥
+uncut padded text before after pads plain cut =
+    no_semicolon padded text pads plain (length before) (omega (arith, ap length cut, length-append before (59 ∷ after)))
+    (ap (λ t. get_or t (length before) 0) cut ∙ get_or-append_seam before 59 after 0)

@@ -5,6 +5,7 @@ use Rattle.std.specs.List.Sorted.{IsPermutation, IsSorted, IsStable}
 use Rattle.std.specs.Ordering.{nat_cmp}
 use Rattle.std.specs.declared.cmp.Ordering.{Ordering}
 use Rattle.std.specs.Borrow.{Bor}
+use Rattle.std.specs.Str.{bytes_eq}
 use Rattle.std.specs.Int.{is_in_range}
 use Rattle.langtag_examples.specs.Range.{is_range}
 use Rattle.langtag_examples.specs.declared.accept_language.Wanted.{Wanted}
@@ -37,14 +38,13 @@ digit_at text k = slice_index_or text k 48 - 48
 abbrev pub thousandths : List ℕ → ℕ
 thousandths qvalue = 1000 * digit_at qvalue 0 + 100 * digit_at qvalue 2 + 10 * digit_at qvalue 3 + digit_at qvalue 4
 
--- "q=", the letter in either case
-abbrev pub is_weight_name : List ℕ → Bool
-is_weight_name (q ∷ equals ∷ []) = ((q == 113) || (q == 81)) && (equals == 61)
-is_weight_name text = false
+-- "q" in either case
+abbrev pub is_q : List ℕ → Bool
+is_q name = bytes_eq name (113 ∷ []) || bytes_eq name (81 ∷ [])
 
 -- "q=" qvalue, of this value in thousandths
 abbrev pub IsWeight : List ℕ → ℕ → Type 0
-IsWeight text weight = (name : List ℕ) × (qvalue : List ℕ) × (text ≡ name ++ qvalue) × IsTrue (is_weight_name name) × IsTrue (is_qvalue qvalue) × (weight ≡ thousandths qvalue)
+IsWeight text weight = (name : List ℕ) × (qvalue : List ℕ) × (text ≡ name ++ 61 ∷ qvalue) × IsTrue (is_q name) × IsTrue (is_qvalue qvalue) × (weight ≡ thousandths qvalue)
 
 -- OWS text OWS
 abbrev pub IsPadded : List ℕ → List ℕ → Type 0

@@ -4,6 +4,7 @@ ghost use Rattle.std.specs.Int.{is_in_range};
 ghost use Rattle.std.specs.List.{list_all};
 ghost use Rattle.langtag_examples.specs.AcceptLanguage as spec;
 ghost use Rattle.langtag_examples.specs.Range.{is_range};
+ghost use Rattle.langtag_examples.specs.declared.accept_language.HeaderError.TheVariants.{Memory};
 ghost use Rattle.langtag_examples.specs.declared.accept_language.Wanted.{Wanted};
 
 use crate::range::is_range;
@@ -31,6 +32,8 @@ pub enum HeaderError<'a> {
 }
 
 impl From<AllocError> for HeaderError<'_> {
+    ghost from_gives = { λ error refusal. refusal ≡ Memory error };
+
     fn from(error: AllocError) -> Self {
         HeaderError::Memory(error)
     }
@@ -99,10 +102,17 @@ fn weight_of(text: &str) -> Option<u32>
     ensures some { IfSome result (spec.IsWeight text.now) }
     ensures none { result ≡ None → (weight : ℕ) → spec.IsWeight text.now weight → ⊥ }
 {
-    let [b'q' | b'Q', b'=', qvalue @ ..] = text.as_bytes() else {
+    let (name, qvalue) = text.split_once('=')?;
+    if !is_q(name) || !is_qvalue(qvalue.as_bytes()) {
         return None;
-    };
-    is_qvalue(qvalue).then_some(thousandths(qvalue))
+    }
+    Some(thousandths(qvalue.as_bytes()))
+}
+
+fn is_q(name: &str) -> bool
+    ensures { result ≡ spec.is_q name.now }
+{
+    name == "q" || name == "Q"
 }
 
 /// Whether a text is a number from 0 to 1 with up to three decimal places.
