@@ -1,4 +1,5 @@
 pub mod Elements
+pub mod EndsOfRanges
 pub mod Plain
 pub mod Ranges
 pub mod Spaces

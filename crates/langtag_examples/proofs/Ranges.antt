@@ -5,8 +5,8 @@ use Rattle.std.specs.Str.{bytes_eq}
 use Rattle.std.proofs.lemmas.Slice.Eq.{bytes_eq-Decides}
 use Rattle.std.proofs.lemmas.List.Elements.{All-from_get_or}
 use Rattle.std.proofs.lemmas.List.Splits.{slice_split_none, slice_split_at}
-use Rattle.langtag_scan.specs.Class.{is_private_subtag}
-use Rattle.langtag_scan.specs.Subtags.{is_hyphen, IsHyphenFree, segments}
+use Rattle.langtag.specs.Class.{is_private_subtag}
+use Rattle.langtag.specs.Subtags.{is_hyphen, IsHyphenFree, segments}
 use Rattle.langtag_examples.specs.Range.{is_first_subtag, are_range_subtags, is_range}
 
 IsHyphenFree-each : (text : List ℕ) → ((i : ℕ) → i < length text → get_or text i 0 ≢ 45) → IsHyphenFree text

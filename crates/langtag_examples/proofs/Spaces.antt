@@ -3,12 +3,11 @@ use Rattle.std.proofs.Common.{◌≡◌, ◌≢◌, ℕ, ◌<◌, ◌≤◌, ◌
 use Rattle.std.specs.Char.{char_set_contains, encode_utf8, len_utf8, IsScalar}
 use Rattle.std.specs.List.{list_all}
 use Rattle.std.specs.Str.Pattern.{CutsPrefixes, CutsSuffixes, IsFullyTrimmed, IsTrimStartMatches, IsTrimEndMatches, FindsPrefixBy, FindsSuffixBy, HasPassingCharAt}
-use Rattle.std.proofs.lemmas.Bool.{eqb-true}
+use Rattle.std.proofs.lemmas.Bool.{eqb-true, and_parts, or_cases, false_from_ne_true, not-true}
 use Rattle.std.proofs.lemmas.Bool.Decides.{nat_tests}
 use Rattle.std.proofs.lemmas.List.{take-append-drop, drop_all, append-nil, reverse-append, reverse-reverse, length-reverse}
 use Rattle.std.proofs.lemmas.List.Folds.{list_all-append}
 use Rattle.std.proofs.lemmas.Str.{encode_ascii, len_utf8_bounds}
-use Rattle.langtag_scan.proofs.Disjoint.{both_true, one_true, not_both, not_true}
 use Rattle.langtag_examples.specs.AcceptLanguage.{is_space, is_ows, IsPadded}
 
 -- what the pattern of the two characters says of a prefix, and of a suffix
@@ -25,7 +24,7 @@ space_below : (c : ℕ) → is_space c ≡ true → c < 128
 space_below c h = grind (arith, nat_tests)
 
 space_scalar : (c : ℕ) → is_space c ≡ true → IsScalar c
-space_scalar c h = elim (one_true (eqb c 32) (eqb c 9) h) [
+space_scalar c h = elim (or_cases (eqb c 32) (eqb c 9) h) [
   | inl is ↦ subst IsScalar (sym (eqb-true c 32 is)) refl
   | inr is ↦ subst IsScalar (sym (eqb-true c 9 is)) refl
 ]
@@ -65,7 +64,7 @@ abbrev pub IsBare : List ℕ → Type 0
 IsBare text = (b : ℕ) (rest : List ℕ) → text ≡ b ∷ rest → is_space b ≡ false
 
 start_left : (r : List ℕ) → IsFullyTrimmed SpacePrefix r → IsBare r
-start_left r (None, none, tt) = λ b rest is. not_both (is_space b) (λ space.
+start_left r (None, none, tt) = λ b rest is. false_from_ne_true (is_space b) (λ space.
     let e = is ∙ ap (λ e. e ++ rest) (sym (encode_ascii b (space_below b space))) in
     absurd ((let kept = none is_space space_set b rest (space_scalar b space) e in let k : true ≡ false = sym space ∙ kept in cc)))
 start_left r (Some n, at, zero) = λ b rest is.
@@ -73,7 +72,7 @@ start_left r (Some n, at, zero) = λ b rest is.
     absurd (omega (arith, zero, here.ends, (len_utf8_bounds c).0))
 
 end_left : (r : List ℕ) → IsFullyTrimmed SpaceSuffix r → IsBare (reverse r)
-end_left r (None, none, tt) = λ b rest is. not_both (is_space b) (λ space.
+end_left r (None, none, tt) = λ b rest is. false_from_ne_true (is_space b) (λ space.
     let e : r ≡ reverse rest ++ encode_utf8 b = sym (reverse-reverse r) ∙ ap reverse is ∙ reverse-append (b ∷ []) rest ∙ ap (λ e. reverse rest ++ e) (sym (encode_ascii b (space_below b space))) in
     absurd ((let kept = none is_space space_set b (reverse rest) (space_scalar b space) e in let k : true ≡ false = sym space ∙ kept in cc)))
 end_left r (Some n, at, zero) = λ b rest is.
@@ -90,7 +89,7 @@ drop_spaces-append : (ws text : List ℕ) → is_ows ws ≡ true → IsBare text
 unfolding drop_spaces
 drop_spaces-append [] [] spaces bare = refl
 drop_spaces-append [] (b ∷ text) spaces bare = rw (bare b text refl) refl
-drop_spaces-append (b ∷ ws) text spaces bare = let k = both_true (is_space b) (is_ows ws) spaces in rw k.0 (drop_spaces-append ws text k.1 bare)
+drop_spaces-append (b ∷ ws) text spaces bare = let k = and_parts (is_space b) (is_ows ws) spaces in rw k.0 (drop_spaces-append ws text k.1 bare)
 
 start_once : (ws vs text other : List ℕ) → is_ows ws ≡ true → is_ows vs ≡ true → IsBare text → IsBare other → ws ++ text ≡ vs ++ other → text ≡ other
 start_once ws vs text other spaces others bare same e = sym (drop_spaces-append ws text spaces bare) ∙ ap drop_spaces e ∙ drop_spaces-append vs other others same
@@ -98,7 +97,7 @@ start_once ws vs text other spaces others bare same e = sym (drop_spaces-append 
 list_all-reverse : (p : ℕ → Bool) (bs : List ℕ) → list_all p bs ≡ true → list_all p (reverse bs) ≡ true
 list_all-reverse p [] each = refl
 list_all-reverse p (b ∷ bs) each =
-    let k = both_true (p b) (list_all p bs) each in
+    let k = and_parts (p b) (list_all p bs) each in
     ap (list_all p) (reverse-append (b ∷ []) bs) ∙ list_all-append p (reverse bs) (b ∷ []) ∙ rw (list_all-reverse p bs k.1, k.0) refl
 
 end_once : (ws vs text other : List ℕ) → is_ows ws ≡ true → is_ows vs ≡ true → IsBare (reverse text) → IsBare (reverse other) → text ++ ws ≡ other ++ vs → text ≡ other
@@ -111,9 +110,9 @@ end_once ws vs text other spaces others bare same e =
 IsBare-text : (text more : List ℕ) → 0 < length text → list_all (λ b. not (is_space b)) text ≡ true → IsBare (text ++ more)
 IsBare-text [] more some each = absurd (omega (arith, some))
 IsBare-text (c ∷ text) more some each = λ b rest is.
-    let k = both_true (not (is_space c)) (list_all (λ b. not (is_space b)) text) each in
+    let k = and_parts (not (is_space c)) (list_all (λ b. not (is_space b)) text) each in
     let same : c ≡ b = cc in
-    ap is_space (sym same) ∙ not_true (is_space c) k.0
+    ap is_space (sym same) ∙ not-true (is_space c) k.0
 
 pub trimmed_padded : (text mid left : List ℕ) → IsTrimStartMatches SpacePrefix text mid → IsTrimEndMatches SpaceSuffix mid left → IsPadded text left
 trimmed_padded text mid left ((ns, cuts), full) ((ms, ends), done) =

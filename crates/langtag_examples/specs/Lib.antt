@@ -1,2 +1,5 @@
 pub mod AcceptLanguage
+pub mod Catalogue
+pub mod Keyword
+pub mod LookUp
 pub mod Range

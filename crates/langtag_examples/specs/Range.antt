@@ -1,13 +1,15 @@
 -- Language ranges (RFC 4647 section 2.1).
-use Rattle.std.specs.Prelude.{ℕ, Bool, false, ◌&&◌, ◌||◌, List, [], ◌∷◌}
+use Rattle.std.specs.Prelude.{ℕ, Bool, false, ◌&&◌, ◌||◌, List, [], ◌∷◌, length}
+use Rattle.std.specs.Char.{is_ascii_alphabetic}
+use Rattle.std.specs.Int.{is_in_range}
 use Rattle.std.specs.List.{list_all}
 use Rattle.std.specs.Str.{bytes_eq}
-use Rattle.langtag_scan.specs.Class.{has_length, are_letters, is_private_subtag}
-use Rattle.langtag_scan.specs.Subtags.{segments}
+use Rattle.langtag.specs.Class.{is_private_subtag}
+use Rattle.langtag.specs.Subtags.{segments}
 
 -- 1*8ALPHA
 abbrev pub is_first_subtag : List ℕ → Bool
-is_first_subtag subtag = has_length 1 8 subtag && are_letters subtag
+is_first_subtag subtag = is_in_range 1 8 (length subtag) && list_all is_ascii_alphabetic subtag
 
 -- 1*8ALPHA *("-" 1*8alphanum)
 abbrev pub are_range_subtags : List (List ℕ) → Bool

@@ -2,9 +2,20 @@
 #![tactic(auto)]
 
 mod accept_language;
+mod catalogue;
+mod choice;
+mod keyword;
+mod literal;
+
 mod range;
+mod other_script;
 #[cfg(test)]
 mod tests;
 
 pub use accept_language::{HeaderError, Wanted, wanted_ranges};
+pub use catalogue::Catalogue;
+pub use keyword::{Types, types_of};
+pub use literal::Literal;
+pub use choice::look_up;
+pub use other_script::{find_in_scripts, replace_script};
 pub use range::is_range;

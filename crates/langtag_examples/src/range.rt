@@ -1,11 +1,12 @@
 //! Language ranges (RFC 4647 section 2.1).
 ghost use Rattle.std.specs.Prelude.{◌≡◌};
+ghost use Rattle.std.specs.Char.{is_ascii_alphabetic};
 ghost use Rattle.std.specs.List.{list_all};
-ghost use Rattle.langtag_scan.specs.Class as class;
-ghost use Rattle.langtag_scan.specs.Subtags.{segments};
+ghost use Rattle.langtag.specs.Class as class;
+ghost use Rattle.langtag.specs.Subtags.{segments};
 ghost use Rattle.langtag_examples.specs.Range as spec;
 
-use langtag_scan::is_private_subtag;
+use langtag::is_private_subtag;
 
 /// Whether a text is a basic language range: `*`, or subtags of up to 8 letters or digits, the first of letters alone.
 pub fn is_range(text: &str) -> bool
@@ -24,9 +25,8 @@ fn is_first_subtag(bytes: &[u8]) -> bool
     !bytes.is_empty() && bytes.len() <= 8 && are_letters(bytes)
 }
 
-#[tactic(auto, unfolding(langtag_scan::specs::Class::is_letter))]
 fn are_letters(bytes: &[u8]) -> bool
-    ensures { result ≡ class.are_letters bytes.now }
+    ensures { result ≡ list_all is_ascii_alphabetic bytes.now }
 {
     bytes.iter().all(|byte| byte.is_ascii_alphabetic())
 }

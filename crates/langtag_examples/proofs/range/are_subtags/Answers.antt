@@ -1,7 +1,7 @@
 use Rattle.std.proofs.Common.{rules, tests, lit<}
 use Rattle.std.proofs.lemmas.Iterator.Search.{all_from_yields_List}
 use Rattle.std.proofs.lemmas.Iterator.Splits.{YieldsList-from_str_split}
-use Rattle.langtag_scan.specs.Class as class
+use Rattle.langtag.specs.Class as class
 use Rattle.langtag_examples.proofs.range.are_subtags.Goals as goal
 
 pub returns : goal.returns
