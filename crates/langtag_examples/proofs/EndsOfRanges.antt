@@ -46,6 +46,7 @@ none_from_start tags r start end h here longer_none k from is = by_order (cases_
     inside : k < end → IsEnd r k → ⊥
     inside below (inl whole) = omega (arith, h.within)
     inside below (inr (hyphen, many)) = both_ways (is_hyphen (get_or r k 0)) (h.free k 0 from below) (ap is_hyphen (get_or_from_slice_get r k 45 0 hyphen))
+
     by_order : (k ≡ end) ⊎ ((k < end) ⊎ (end < k)) → tag_alike tags (take k r) ≡ None
     by_order (inl same) = ap (λ n. tag_alike tags (take n r)) same ∙ here (subst (IsEnd r) same is)
     by_order (inr (inl below)) = absurd (inside below is)

@@ -12,7 +12,8 @@ use Rattle.std.proofs.Math.Seq.{get_or-append_seam}
 use Rattle.std.proofs.lemmas.Slice.Eq.{bytes_eq-Decides}
 use Rattle.langtag.specs.Class.{has_length, is_letter, is_digit, is_alphanumeric, are_alphanumeric, is_private_subtag}
 use Rattle.langtag.specs.Subtags.{join, segments}
-use Rattle.langtag_examples.specs.AcceptLanguage.{is_space, is_ows, is_fraction, is_qvalue, is_q, IsWeight, IsPadded}
+use Rattle.langtag_examples.specs.AcceptLanguage.{is_space, is_ows, IsPadded}
+use Rattle.langtag_examples.specs.Weight.{is_fraction, is_qvalue, is_q, IsWeight}
 use Rattle.langtag_examples.specs.Range.{is_first_subtag, are_range_subtags, is_range}
 
 abbrev pub is_plain : ℕ → Bool

@@ -1,13 +1,12 @@
 -- The Accept-Language header (RFC 9110 section 12.5.4): #( language-range [ weight ] ).
-use Rattle.std.specs.Prelude.{◌≡◌, ℕ, ◌+◌, ◌-◌, ◌*◌, ◌==◌, ◌⊎◌, Bool, true, false, ◌&&◌, ◌||◌, IsTrue, List, [], ◌∷◌, ◌++◌, Some, length, take, slice_get, slice_index_or}
+use Rattle.std.specs.Prelude.{◌≡◌, ℕ, ◌==◌, ◌⊎◌, Bool, false, ◌||◌, IsTrue, List, [], ◌∷◌, ◌++◌, Some, filter, map, nat_lt, take, slice_get}
 use Rattle.std.specs.List.{list_all, slice_split}
 use Rattle.std.specs.List.Sorted.{IsPermutation, IsSorted, IsStable}
 use Rattle.std.specs.Ordering.{nat_cmp}
 use Rattle.std.specs.declared.cmp.Ordering.{Ordering}
 use Rattle.std.specs.Borrow.{Bor}
-use Rattle.std.specs.Str.{bytes_eq}
-use Rattle.std.specs.Int.{is_in_range}
 use Rattle.langtag_examples.specs.Range.{is_range}
+use Rattle.langtag_examples.specs.Weight.{IsWeight}
 use Rattle.langtag_examples.specs.declared.accept_language.Wanted.{Wanted}
 use Rattle.langtag_examples.specs.declared.accept_language.HeaderError.{HeaderError}
 use Rattle.langtag_examples.specs.declared.accept_language.HeaderError.TheVariants.{BadElement, Memory}
@@ -19,32 +18,6 @@ is_space b = (b == 32) || (b == 9)
 -- OWS = *( SP / HTAB ) (section 5.6.3)
 abbrev pub is_ows : List ℕ → Bool
 is_ows text = list_all is_space text
-
--- [ "." 0*3DIGIT ], of the digits up to a greatest one
-abbrev pub is_fraction : ℕ → List ℕ → Bool
-is_fraction greatest [] = true
-is_fraction greatest (point ∷ digits) = (point == 46) && is_in_range 0 3 (length digits) && list_all (is_in_range 48 greatest) digits
-
--- qvalue = ( "0" [ "." 0*3DIGIT ] ) / ( "1" [ "." 0*3("0") ] ) (section 12.4.2)
-abbrev pub is_qvalue : List ℕ → Bool
-is_qvalue [] = false
-is_qvalue (whole ∷ fraction) = ((whole == 48) && is_fraction 57 fraction) || ((whole == 49) && is_fraction 48 fraction)
-
--- the digit at an index, 0 past the end
-abbrev pub digit_at : List ℕ → ℕ → ℕ
-digit_at text k = slice_index_or text k 48 - 48
-
--- the value of a qvalue in thousandths; the point stands at the index 1
-abbrev pub thousandths : List ℕ → ℕ
-thousandths qvalue = 1000 * digit_at qvalue 0 + 100 * digit_at qvalue 2 + 10 * digit_at qvalue 3 + digit_at qvalue 4
-
--- "q" in either case
-abbrev pub is_q : List ℕ → Bool
-is_q name = bytes_eq name (113 ∷ []) || bytes_eq name (81 ∷ [])
-
--- "q=" qvalue, of this value in thousandths
-abbrev pub IsWeight : List ℕ → ℕ → Type 0
-IsWeight text weight = (name : List ℕ) × (qvalue : List ℕ) × (text ≡ name ++ 61 ∷ qvalue) × IsTrue (is_q name) × IsTrue (is_qvalue qvalue) × (weight ≡ thousandths qvalue)
 
 -- OWS text OWS
 abbrev pub IsPadded : List ℕ → List ℕ → Type 0
@@ -77,6 +50,10 @@ pub record IsByWeight (elements ordered : List Wanted) : Type 0 where
   pub same : IsPermutation elements ordered
   pub falling : IsSorted by_weight ordered
   pub stable : IsStable by_weight elements ordered
+
+-- the ranges in order, without those of weight 0, which means not acceptable (section 12.4.2)
+abbrev pub acceptable_ranges : List Wanted → List (Bor (List ℕ))
+acceptable_ranges ordered = map (λ wanted. wanted.range) (filter (λ wanted. nat_lt 0 wanted.weight) ordered)
 
 -- the item at an index is neither empty nor an element, and all before it are
 pub record IsFirstBad (header : List ℕ) (index : ℕ) : Type 0 where

@@ -3,3 +3,4 @@ pub mod Catalogue
 pub mod Keyword
 pub mod LookUp
 pub mod Range
+pub mod Weight

@@ -16,8 +16,8 @@ returns-in_err-locale-clause-asked c = absurd (both_ways _ (sym c.ok.ensures.var
 pub loop-subtag-init : goal.loop-subtag-init
 loop-subtag-init c = record {
   asked = λ r spells.
-    let found = c.iter_extension-subtags.ensures.list r.extensions (record { members = spells.0.extensions; joined = sym (c.extensions.ensures.part r spells) }) in
-    let byte : singleton_byte c.in_ok-locale.locale ≡ 117 = grind (arith, common_steps) in
-    ap (types_of c.args.key.now) found ∙ ap (λ b. types_of c.args.key.now (option_map_or (λ e. e.subtags) (find_extension b r.extensions) [])) byte;
+      let found = c.iter_extension-subtags.ensures.list r.extensions (record { members = spells.0.extensions; joined = sym (c.extensions.ensures.part r spells) }) in
+      let byte : singleton_byte c.in_ok-locale.locale ≡ 117 = grind (arith, common_steps) in
+      ap (types_of c.args.key.now) found ∙ ap (λ b. types_of c.args.key.now (option_map_or (λ e. e.subtags) (find_extension b r.extensions) [])) byte;
   absent = λ other. c.iter_extension-subtags.ensures.list [] (record { members = tt; joined = sym (c.extensions.ensures.absent other) });
 }
