@@ -1,0 +1,68 @@
+//! Texts by language tag.
+ghost use Rattle.std.specs.Prelude.{◌≡◌, ℕ, List, Some, None, OnOk, OnErr, IfOk, IsTrue, false};
+ghost use Rattle.std.specs.Option.{option_map};
+ghost use Rattle.std.specs.String.{string_bytes};
+ghost use Rattle.langtag.specs.Case.{are_alike};
+ghost use Rattle.langtag.specs.Tag.{IsTag};
+ghost use Rattle.langtag.specs.Text.{lang_tag_buf_text};
+ghost use Rattle.langtag.specs.declared.lang_tag_buf.LangTagBuf.{LangTagBuf};
+
+use langtag::LangTagBuf;
+use std::alloc::{AllocError, Global};
+use std::collections::HashMap;
+
+/// A text for each of some language tags, found in whatever case the tag is written.
+#[derive(Drop)]
+pub struct Catalogue {
+    texts: HashMap<LangTagBuf, String>,
+}
+
+impl Catalogue {
+    ghost use Rattle.langtag_examples.specs.Catalogue.{text_for};
+
+    /// No texts.
+    pub fn new(alloc: Global) -> Self
+        ensures { (tag : List ℕ) → text_for result tag ≡ None }
+    {
+        Catalogue {
+            texts: HashMap::new(alloc),
+        }
+    }
+
+    /// Puts a text in for a tag, in the place of an older one.
+    ///
+    /// # Errors
+    ///
+    /// No memory could be had. The catalogue is as it was.
+    pub fn put(&mut self, tag: LangTagBuf, text: String) -> Result<(), AllocError>
+        ensures put { OnOk result ((other : List ℕ) → IsTrue (are_alike (lang_tag_buf_text tag) other) → text_for self.new other ≡ Some (string_bytes text)) }
+        ensures others { OnOk result ((other : LangTagBuf) → are_alike (lang_tag_buf_text tag) (lang_tag_buf_text other) ≡ false → text_for self.new (lang_tag_buf_text other) ≡ text_for self.old (lang_tag_buf_text other)) }
+        ensures unchanged { OnErr result ((other : List ℕ) → text_for self.new other ≡ text_for self.old other) }
+    {
+        self.texts.insert(tag, text)?;
+        Ok(())
+    }
+
+    /// The text for a tag.
+    pub fn get(&self, tag: &LangTagBuf) -> Option<&str>
+        ensures { option_map (λ text. text.now) result ≡ text_for self.now (lang_tag_buf_text tag.now) }
+    {
+        let text = self.texts.get(tag)?;
+        Some(text.as_str())
+    }
+
+    /// The text for the tag that is written like this, in any case; None too where this is no tag.
+    ///
+    /// # Errors
+    ///
+    /// No memory could be had for the owned tag that the map is asked for.
+    pub fn find(&self, alloc: Global, tag: &str) -> Result<Option<&str>, AllocError>
+        ensures found { IfOk result (λ text. IsTag tag.now → option_map (λ text. text.now) text ≡ text_for self.now tag.now) }
+        ensures none { IfOk result (λ text. (IsTag tag.now → ⊥) → text ≡ None) }
+    {
+        let Ok(tag) = LangTagBuf::new(String::from_str(alloc, tag)?) else {
+            return Ok(None);
+        };
+        Ok(self.get(&tag))
+    }
+}

@@ -1,0 +1,23 @@
+//! What callers of `langtag` do with it, proved: a file a use. docs/CALLING.md leads through them.
+#![tactic(auto)]
+
+mod accept_language;
+mod catalogue;
+mod choice;
+mod keyword;
+mod literal;
+mod negotiation;
+mod other_script;
+mod range;
+#[cfg(test)]
+mod tests;
+mod weight;
+
+pub use accept_language::{HeaderError, Wanted, wanted_ranges};
+pub use catalogue::Catalogue;
+pub use choice::look_up;
+pub use keyword::{Types, types_of};
+pub use literal::Literal;
+pub use negotiation::tag_for_header;
+pub use other_script::{find_in_scripts, replace_script};
+pub use range::is_range;

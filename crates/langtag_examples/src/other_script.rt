@@ -1,0 +1,59 @@
+//! The same tag in another script.
+ghost use Rattle.std.specs.Prelude.{◌≡◌, ◌⊎◌, Some, IfOk, OnOk, OnErr};
+ghost use Rattle.std.specs.Option.{option_map, option_or};
+ghost use Rattle.langtag.specs.Record.{EachRecord, Spells, spell};
+ghost use Rattle.langtag.specs.PlaceText.{script_text, script_buf_text};
+ghost use Rattle.langtag.specs.Edit.{with_script};
+ghost use Rattle.langtag.specs.Text.{normal_lang_tag_buf_text};
+ghost use Rattle.langtag_examples.specs.Catalogue.{text_for};
+
+use crate::catalogue::Catalogue;
+use langtag::{NormalLangTagBuf, Script, ScriptBuf};
+use std::alloc::{AllocError, Global};
+
+/// Puts another script into a tag, or takes the script out, and answers the old one.
+///
+/// # Errors
+///
+/// No memory could be had. The tag is as it was.
+pub fn replace_script(
+    tag: &mut NormalLangTagBuf,
+    alloc: Global,
+    script: Option<Script<'_>>,
+) -> Result<Option<ScriptBuf>, AllocError>
+    ensures set { OnOk result (EachRecord (normal_lang_tag_buf_text tag.old) (λ r. Spells (with_script r (option_map script_text script.entry)) (normal_lang_tag_buf_text tag.new))) }
+    ensures old { IfOk result (λ old. EachRecord (normal_lang_tag_buf_text tag.old) (λ r. option_map script_buf_text old ≡ r.script)) }
+    ensures unchanged { OnErr result (tag.new ≡ tag.old) }
+{
+    let old = match tag.as_normal_lang_tag().script() {
+        Some(script) => Some(script.try_to_owned(alloc)?),
+        None => None,
+    };
+    tag.set_script(alloc, script)?;
+    Ok(old)
+}
+
+/// The text that a catalogue has for a tag, or else the one that it has for the tag in another script. The tag has its own
+/// script again afterwards.
+///
+/// # Errors
+///
+/// No memory could be had. The tag is as it was, or in the other script where none could be had to set it back.
+pub fn find_in_scripts<'a>(
+    catalogue: &'a Catalogue,
+    tag: &mut NormalLangTagBuf,
+    alloc: Global,
+    script: Script<'_>,
+) -> Result<Option<&'a str>, AllocError>
+    ensures found { IfOk result (λ text. EachRecord (normal_lang_tag_buf_text tag.old) (λ r. option_map (λ text. text.now) text ≡ option_or (text_for catalogue.now (spell r)) (text_for catalogue.now (spell (with_script r (Some (script_text script.entry))))))) }
+    ensures set_back { OnOk result (normal_lang_tag_buf_text tag.new ≡ normal_lang_tag_buf_text tag.old) }
+    ensures not_lost { OnErr result ((tag.new ≡ tag.old) ⊎ EachRecord (normal_lang_tag_buf_text tag.old) (λ r. Spells (with_script r (Some (script_text script.entry))) (normal_lang_tag_buf_text tag.new))) }
+{
+    if let Some(text) = catalogue.find(alloc, tag.as_str())? {
+        return Ok(Some(text));
+    }
+    let old = replace_script(tag, alloc, Some(script))?;
+    let text = catalogue.find(alloc, tag.as_str())?;
+    replace_script(tag, alloc, old.as_ref().map(|script| script.as_script()))?;
+    Ok(text)
+}

@@ -1,0 +1,153 @@
+//! The Accept-Language header (RFC 9110 section 12.5.4).
+use crate::{HeaderError, is_range, tag_for_header, wanted_ranges};
+use langtag::LangTag;
+use std::test::Fail;
+
+#[test]
+fn ranges(rt: HostRuntime) {
+    let cases = [
+        ("*", true),
+        ("de", true),
+        ("de-CH-1996", true),
+        ("i-klingon", true),
+        ("abcdefgh-12345678", true),
+        ("", false),
+        ("de-", false),
+        ("-de", false),
+        ("de--CH", false),
+        ("*-CH", false),
+        ("de-*", false),
+        ("1de", false),
+        ("abcdefghi", false),
+        ("de-123456789", false),
+        ("de_CH", false),
+        ("dé", false),
+    ];
+    for (text, accepted) in cases {
+        assert_eq!(rt; is_range(text), accepted, "of {text}");
+    }
+}
+
+/// The example of section 12.5.4, OWS and empty elements, and how weights are written (section 12.4.2).
+#[test]
+fn headers_that_are_read(rt: HostRuntime) -> Result<(), Fail> {
+    let cases = [
+        ("da, en-gb;q=0.8, en;q=0.7", "da 1000 en-gb 800 en 700 "),
+        (
+            "en;q=0.7,da,*;q=0,en-gb;q=0.8",
+            "da 1000 en-gb 800 en 700 * 0 ",
+        ),
+        ("fr;q=0.5,de,en;q=0.5,nl", "de 1000 nl 1000 fr 500 en 500 "),
+        ("", ""),
+        (" \t", ""),
+        (",, de ,\t,", "de 1000 "),
+        ("de \t;\t q=0.25", "de 250 "),
+        (
+            "a;Q=1,b;q=1.,c;q=1.000,d;q=0.,e;q=0.007",
+            "a 1000 b 1000 c 1000 e 7 d 0 ",
+        ),
+    ];
+    for (header, read) in cases {
+        let mut text = String::new(rt.alloc());
+        for wanted in wanted_ranges(rt.alloc(), header).ok().ok_or(header)?.iter() {
+            let range = wanted.range;
+            let weight = wanted.weight;
+            write!(text, "{range} {weight} ")?;
+        }
+        assert_eq!(rt; text.as_str(), read, "of {header}");
+    }
+    Ok(())
+}
+
+#[test]
+fn headers_that_are_refused(rt: HostRuntime) {
+    let cases = [
+        ("de-", 0),
+        ("de, *-CH", 1),
+        (",,en;q=0.8,fr;q=,nl", 3),
+        ("de;q=1.001", 0),
+        ("de;q=0.1234", 0),
+        ("de;q=.5", 0),
+        ("de;q=2", 0),
+        ("de;q= 1", 0),
+        ("de;q =1", 0),
+        ("de;q=1;q=1", 0),
+        ("de;level=1", 0),
+        ("de;", 0),
+        (";q=1", 0),
+        ("de en", 0),
+        ("de\n", 0),
+        ("de,é", 1),
+    ];
+    for (text, place) in cases {
+        match wanted_ranges(rt.alloc(), text) {
+            Err(HeaderError::BadElement { header, index }) => {
+                assert_eq!(rt; header, text);
+                assert_eq!(rt; index, place, "of {text}");
+            }
+            _ => assert!(rt; false, "of {text}"),
+        }
+    }
+}
+
+/// A million bytes: half a million empty elements, ranges of rising weight, one range without an end, and one bad element
+/// at the end.
+#[test]
+fn long_headers(rt: HostRuntime) -> Result<(), Fail> {
+    let pieces = [
+        (",", 1_000_000, 0),
+        ("a;q=0.1,b;q=0.9,", 62_500, 125_000),
+        ("de,", 333_334, 333_334),
+    ];
+    for (piece, times, count) in pieces {
+        let mut header = String::new(rt.alloc());
+        for _ in 0..times {
+            header.push_str(piece)?;
+        }
+        assert!(rt; header.len() >= 1_000_000);
+        {
+            let wanted = wanted_ranges(rt.alloc(), header.as_str());
+            let wanted = wanted.ok().ok_or("refused")?;
+            assert_eq!(rt; wanted.len(), count, "of {piece}");
+        }
+        header.push_str("?")?;
+        assert!(rt; wanted_ranges(rt.alloc(), header.as_str()).is_err());
+    }
+    for piece in ["a", "a-", " ", "\t;", "0"] {
+        let mut header = String::new(rt.alloc());
+        for _ in 0..1_000_000 {
+            header.push_str(piece)?;
+        }
+        header.push_str("é")?;
+        assert!(rt;
+            wanted_ranges(rt.alloc(), header.as_str()).is_err(),
+            "of {piece}"
+        );
+    }
+    Ok(())
+}
+
+#[test]
+fn the_tag_for_a_header(rt: HostRuntime) -> Result<(), Fail> {
+    let english = LangTag::new("en").ok().ok_or("refused")?;
+    let tags = [
+        english,
+        LangTag::new("de-CH").ok().ok_or("refused")?,
+        LangTag::new("fr").ok().ok_or("refused")?,
+    ];
+    let cases = [
+        ("fr;q=0.3, DE-ch-1996;q=0.9", "de-CH"),
+        ("de, fr;q=0.1", "fr"),
+        ("fr;q=0, nl", "en"),
+        ("*", "en"),
+        ("", "en"),
+    ];
+    for (header, tag) in cases {
+        let chosen = tag_for_header(rt.alloc(), header, &tags, english)
+            .ok()
+            .ok_or(header)?;
+        assert_eq!(rt; chosen.as_str(), tag, "of {header}");
+    }
+    assert!(rt; tag_for_header(rt.alloc(), "de;q", &tags, english).is_err());
+    Ok(())
+}

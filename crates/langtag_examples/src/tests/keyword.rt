@@ -1,0 +1,41 @@
+//! The keywords of RFC 6067.
+use crate::types_of;
+use langtag::LangTag;
+use std::test::Fail;
+
+#[test]
+fn types_of_a_key(rt: HostRuntime) -> Result<(), Fail> {
+    let cases = [
+        ("de-u-co-phonebk", "CO", "phonebk "),
+        (
+            "ar-a-bb-U-attr-CA-Islamic-civil-nu-latn-x-ca-none",
+            "ca",
+            "Islamic civil ",
+        ),
+        ("ar-u-ca-islamic-civil-nu-latn", "nu", "latn "),
+        ("ar-u-ca-islamic-ca-coptic", "ca", "islamic "),
+        ("ar-u-co-u-ca-coptic", "ca", "none"),
+        ("ar-u-kn", "kn", ""),
+        ("ar-u-kn-co-eor", "kn", ""),
+        ("ar-u-attr", "at", "none"),
+        ("ar-u-attr", "attr", "none"),
+        ("ar-t-ca-coptic", "ca", "none"),
+        ("ar", "ca", "none"),
+        ("x-u-ca-coptic", "ca", "none"),
+        ("i-klingon", "ca", "none"),
+    ];
+    for (text, key, types) in cases {
+        let tag = LangTag::new(text).ok().ok_or(text)?;
+        let mut found = String::new(rt.alloc());
+        match types_of(&tag, key) {
+            None => found.push_str("none")?,
+            Some(types) => {
+                for subtag in types {
+                    write!(found, "{subtag} ")?;
+                }
+            }
+        }
+        assert_eq!(rt; found.as_str(), types, "of {text}");
+    }
+    Ok(())
+}
