@@ -16,7 +16,7 @@ measure() {
     "$target/bench" "$tags"
     command -v valgrind >/dev/null || return 0
     echo "                   instructions a tag    a byte"
-    for entry in recognise recognise_text fold_and_sum copy; do
+    for entry in recognise recognise_text lang_tag fold_and_sum copy; do
         log=$target/$entry.log
         sizes=$(valgrind --tool=callgrind --toggle-collect="langtag_bench_$entry" \
             --callgrind-out-file="$target/$entry.callgrind" "$target/bench" once "$entry" "$tags" 2>"$log")

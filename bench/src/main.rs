@@ -19,10 +19,23 @@ struct PartEnds {
     whole: usize,
 }
 
+/// The lengths that `langtag_bench_lang_tag` leaves of the parts of a tag.
+#[repr(C)]
+#[derive(Default)]
+struct PartLengths {
+    language: usize,
+    script: usize,
+    region: usize,
+    variants: usize,
+    extensions: usize,
+    private_use: usize,
+}
+
 // A slice crosses as a pointer and a length.
 unsafe extern "C" {
     fn langtag_bench_recognise(bytes: *const u8, len: usize, ends: *mut PartEnds) -> bool;
     fn langtag_bench_recognise_text(bytes: *const u8, len: usize, ends: *mut PartEnds) -> bool;
+    fn langtag_bench_lang_tag(bytes: *const u8, len: usize, lengths: *mut PartLengths) -> bool;
     fn langtag_bench_copy(bytes: *const u8, len: usize, into: *mut u8, into_len: usize) -> u8;
     fn langtag_bench_fold_and_sum(bytes: *const u8, len: usize) -> u8;
 }
@@ -32,11 +45,18 @@ unsafe extern "C" {
 enum Entry {
     Recognise,
     RecogniseText,
+    LangTag,
     FoldAndSum,
     Copy,
 }
 
-const ENTRIES: [Entry; 4] = [Entry::Recognise, Entry::RecogniseText, Entry::FoldAndSum, Entry::Copy];
+const ENTRIES: [Entry; 5] = [
+    Entry::Recognise,
+    Entry::RecogniseText,
+    Entry::LangTag,
+    Entry::FoldAndSum,
+    Entry::Copy,
+];
 
 impl Entry {
     /// The name of the function, without its common prefix.
@@ -44,6 +64,7 @@ impl Entry {
         match self {
             Entry::Recognise => "recognise",
             Entry::RecogniseText => "recognise_text",
+            Entry::LangTag => "lang_tag",
             Entry::FoldAndSum => "fold_and_sum",
             Entry::Copy => "copy",
         }
@@ -62,6 +83,11 @@ impl Entry {
                 Entry::RecogniseText => {
                     let found = langtag_bench_recognise_text(tag.as_ptr(), tag.len(), &mut ends);
                     u64::from(found) + ends.whole as u64
+                }
+                Entry::LangTag => {
+                    let mut lengths = PartLengths::default();
+                    let found = langtag_bench_lang_tag(tag.as_ptr(), tag.len(), &mut lengths);
+                    u64::from(found) + lengths.language as u64
                 }
                 Entry::FoldAndSum => langtag_bench_fold_and_sum(tag.as_ptr(), tag.len()).into(),
                 Entry::Copy => {

@@ -1,5 +1,6 @@
 //! Entries for the benchmark of `bench/`: what it times, callable from Rust and C over plain bytes.
 #![tactic(auto)]
 
+mod lang_tag;
 mod loops;
 mod recognise;

@@ -1,0 +1,44 @@
+//! A tag over a text, with all its parts asked for.
+ghost use Rattle.std.specs.Prelude.{◌≡◌, IsTrue, false};
+ghost use Rattle.langtag_scan.specs.Tag.{IsTag};
+
+use langtag::LangTag;
+
+/// The lengths of the parts of a normal tag, in bytes; 0 for a part that is absent.
+#[repr(C)]
+pub struct PartLengths {
+    pub language: usize,
+    pub script: usize,
+    pub region: usize,
+    pub variants: usize,
+    pub extensions: usize,
+    pub private_use: usize,
+}
+
+/// Whether the bytes are UTF-8 and a tag. A tag leaves the lengths of its parts.
+#[unsafe(no_mangle)]
+pub extern "C" fn langtag_bench_lang_tag(bytes: &[u8], lengths: &mut PartLengths) -> bool
+    ensures tag { IsTrue result → IsTag bytes.now }
+    ensures no_tag { result ≡ false → IsTag bytes.now → ⊥ }
+{
+    let Ok(text) = str::from_utf8(bytes) else {
+        return false;
+    };
+    match LangTag::new(text) {
+        Ok(tag) => {
+            keep(&tag, lengths);
+            true
+        }
+        Err(_) => false,
+    }
+}
+
+/// Keeps the lengths of the parts of a tag.
+fn keep(tag: &LangTag<'_>, lengths: &mut PartLengths) {
+    lengths.language = tag.language().map_or(0, |part| part.as_str().len());
+    lengths.script = tag.script().map_or(0, |part| part.as_str().len());
+    lengths.region = tag.region().map_or(0, |part| part.as_str().len());
+    lengths.variants = tag.variants().as_str().len();
+    lengths.extensions = tag.extensions().as_str().len();
+    lengths.private_use = tag.private_use().map_or(0, |part| part.as_str().len());
+}
