@@ -9,7 +9,7 @@ use Rattle.langtag_scan.specs.Ends.{ends_of, HasEnds}
 use Rattle.langtag_scan.specs.Record.{Record, EachRecord, IsWellFormed, Spells, extension_flat, one_flat, private_part_flat, spell}
 use Rattle.langtag_scan.specs.Subtags.{join}
 use Rattle.langtag_scan.specs.declared.ends.Ends.{Ends}
-use Rattle.langtag_scan.proofs.Joins.{hyphenated, join-hyphenated, hyphenated-append, join-replaced}
+use Rattle.langtag_scan.proofs.Joins.{hyphenated, hyphenated-one, length-join, length-hyphenated, join-replaced}
 use Rattle.langtag_scan.proofs.PartOffsets.{ends_equal}
 use Rattle.langtag_scan.proofs.SpelledTexts.{ends_each, ends_had}
 use Rattle.langtag_place.specs.declared.region.Region.{Region}
@@ -48,23 +48,17 @@ module _ {part : List ℕ} {low high : Ends → ℕ} {with_end : Ends → ℕ �
 
 -- ---- one part among the subtags
 
-hyphenated-one : (part : Option (List ℕ)) → hyphenated (one_flat part) ≡ after_hyphen part
-hyphenated-one None = refl
-hyphenated-one (Some s) = append-nil (45 ∷ s)
+hyphenated-part : (part : Option (List ℕ)) → hyphenated (one_flat part) ≡ after_hyphen part
+hyphenated-part None = refl
+hyphenated-part (Some s) = hyphenated-one s
 
-length-hyphenated : (xs ys : List (List ℕ)) → length (hyphenated (xs ++ ys)) ≡ length (hyphenated xs) + length (hyphenated ys)
-length-hyphenated xs ys = ap length (hyphenated-append xs ys) ∙ length-append (hyphenated xs) (hyphenated ys)
-
-length-hyphenated_one : (part : Option (List ℕ)) → length (hyphenated (one_flat part)) ≡ length (after_hyphen part)
-length-hyphenated_one part = ap length (hyphenated-one part)
-
-length-join : (x : List ℕ) (xs : List (List ℕ)) → length (join (x ∷ xs)) ≡ length x + length (hyphenated xs)
-length-join x xs = ap length (join-hyphenated x xs) ∙ length-append x (hyphenated xs)
+length-part : (part : Option (List ℕ)) → length (hyphenated (one_flat part)) ≡ length (after_hyphen part)
+length-part part = ap length (hyphenated-part part)
 
 -- to replace the part in the text is to replace it in the list of subtags
 join-part_replaced : (x : List ℕ) (before after : List (List ℕ)) (old new : Option (List ℕ)) → replace_range (join (x ∷ (before ++ (one_flat old ++ after)))) (length (join (x ∷ before))) (length (join (x ∷ (before ++ one_flat old)))) (after_hyphen new) ≡ join (x ∷ (before ++ (one_flat new ++ after)))
 join-part_replaced x before after old new =
-    append_assoc _ (after_hyphen new) _ ∙ rw (← hyphenated-one new) (join-replaced x before (one_flat old) after (one_flat new))
+    rw (← hyphenated-part new) (join-replaced x before (one_flat old) after (one_flat new))
 
 -- ---- the script
 
@@ -87,11 +81,11 @@ is_script-member (Some script) = script.in_class
 
 ends_of-with_script : (r : Record) (s : Option (List ℕ)) → with_script_end (ends_of r) ((ends_of r).language + length (after_hyphen s)) ≡ ends_of (with_script r s)
 ends_of-with_script r s = ends_equal _ _ refl
-    (simp (length-join, length-hyphenated, length-hyphenated_one) (omega arith))
-    (simp (length-join, length-hyphenated, length-hyphenated_one) (omega arith))
-    (simp (length-join, length-hyphenated, length-hyphenated_one) (omega arith))
-    (simp (length-join, length-hyphenated, length-hyphenated_one) (omega arith))
-    (simp (length-join, length-hyphenated, length-hyphenated_one) (omega arith))
+    (simp (length-join, length-hyphenated, length-part) (omega arith))
+    (simp (length-join, length-hyphenated, length-part) (omega arith))
+    (simp (length-join, length-hyphenated, length-part) (omega arith))
+    (simp (length-join, length-hyphenated, length-part) (omega arith))
+    (simp (length-join, length-hyphenated, length-part) (omega arith))
 
 abbrev script_member : Option Script → Option (List ℕ)
 script_member script = option_map script_text script
@@ -133,10 +127,10 @@ spell-with_region r s =
 
 ends_of-with_region : (r : Record) (s : Option (List ℕ)) → with_region_end (ends_of r) ((ends_of r).script + length (after_hyphen s)) ≡ ends_of (with_region r s)
 ends_of-with_region r s = ends_equal _ _ refl refl
-    (simp (length-join, length-hyphenated, length-hyphenated_one) (omega arith))
-    (simp (length-join, length-hyphenated, length-hyphenated_one) (omega arith))
-    (simp (length-join, length-hyphenated, length-hyphenated_one) (omega arith))
-    (simp (length-join, length-hyphenated, length-hyphenated_one) (omega arith))
+    (simp (length-join, length-hyphenated, length-part) (omega arith))
+    (simp (length-join, length-hyphenated, length-part) (omega arith))
+    (simp (length-join, length-hyphenated, length-part) (omega arith))
+    (simp (length-join, length-hyphenated, length-part) (omega arith))
 
 abbrev region_member : Option Region → Option (List ℕ)
 region_member region = option_map region_text region

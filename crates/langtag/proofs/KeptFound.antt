@@ -7,7 +7,7 @@ use Rattle.langtag_scan.proofs.CaseLaw.{alike_normal, alike_private, alike_irreg
 use Rattle.langtag_scan.proofs.FoundLaws.{tag_found, normal_found, private_found, found_had}
 use Rattle.langtag_scan.proofs.IrregularNames.{irregular_here}
 use Rattle.langtag_scan.proofs.SpelledTexts.{offsets_kept}
-use Rattle.langtag_private.proofs.Rules.{private_from_test}
+use Rattle.langtag_private.proofs.Rules.{IsPrivate-from_test}
 use Rattle.langtag.specs.Kinds.{IsOfKind, AreOfOneKind}
 use Rattle.langtag.specs.Registered.{index_of}
 use Rattle.langtag.specs.Typed.{IsTypedAs, kind_of}
@@ -50,7 +50,7 @@ private_otherwise text (irregular k) merely other none = absurd cc
 pub typed_kind : (text : List ℕ) (typed : TypedLangTag) → IsTypedAs text typed → IsOfKind text (kind_of typed)
 unfolding IsIrregular
 typed_kind text (Normal tag) same = rw (← same) (offsets_kept _ _ tag.kept_ends).normal
-typed_kind text (PrivateUse tag) same = rw (← same) (private_from_test _ tag.in_class)
+typed_kind text (PrivateUse tag) same = rw (← same) (IsPrivate-from_test _ tag.in_class)
 typed_kind text (Grandfathered tag) is = (index_of tag, is)
 
 -- alike texts are of one kind

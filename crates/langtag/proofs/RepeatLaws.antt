@@ -12,7 +12,7 @@ use Rattle.langtag_scan.specs.Case.{fold_byte}
 use Rattle.langtag_scan.specs.Class.{is_singleton}
 use Rattle.langtag_scan.specs.Record.{Extension}
 use Rattle.langtag_scan.specs.Subtags.{join}
-use Rattle.langtag_scan.proofs.Disjoint.{not_both}
+use Rattle.std.proofs.lemmas.Bool.{false_from_ne_true}
 use Rattle.langtag_scan.proofs.Ascii.{alphanumeric_below}
 use Rattle.langtag_scan.proofs.SubtagFacts.{singleton_alphanumeric}
 use Rattle.langtag_extension.specs.Spelling.{extension_spelling}
@@ -60,7 +60,7 @@ module _ {A : Type 0} (alike : A → A → Bool) where
 
   HasNoRepeat-push : (seen : List A) (x : A) → AllPairs (λ y z. alike z y ≡ false) seen → list_any (alike x) seen ≡ false → AllPairs (λ y z. alike z y ≡ false) (seen ++ x ∷ [])
   HasNoRepeat-push seen x none new =
-      all_pairs_push (λ y z. alike z y ≡ false) seen x none (λ k d inside. not_both (alike x (get_or seen k d)) (λ yes. let seen_it = list_any_at (alike x) seen k d inside yes in absurd cc))
+      all_pairs_push (λ y z. alike z y ≡ false) seen x none (λ k d inside. false_from_ne_true (alike x (get_or seen k d)) (λ yes. let seen_it = list_any_at (alike x) seen k d inside yes in absurd cc))
 
   repeat_after-first : (xs seen : List A) → AllPairs (λ y z. alike z y ≡ false) seen → IsFirstRepeat alike (seen ++ xs) (repeat_after alike seen xs)
   repeat_after-first [] seen none = subst (AllPairs (λ y z. alike z y ≡ false)) (sym (append-nil seen)) none

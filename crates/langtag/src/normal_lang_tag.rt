@@ -50,8 +50,8 @@ impl<'a> NormalLangTag<'a> {
     ghost use Rattle.langtag_private.specs.Text.{private_use_text, private_left};
     ghost use Rattle.langtag.specs.Text.{normal_lang_tag_text, normal_lang_tag_buf_text};
 
-    /// The normal tag of a text. Its contract also has two laws: that a normal tag has one record of its parts, and
-    /// that the parts that are there, joined by hyphens, are the whole text.
+    /// The normal tag of a text. Its contract also has laws: a normal tag has one record of its parts; the parts that are
+    /// there, joined by hyphens, are the whole text; and each stands between the end of the part before and its own.
     ///
     /// # Errors
     ///

@@ -13,7 +13,7 @@ ghost use Rattle.langtag.specs.Repeat.{repeat, IsFirstRepeat, are_alike_bytes, o
 use crate::normal_lang_tag::NormalLangTag;
 use langtag_extension::{ExtensionsIter, Singleton};
 use langtag_place::{Variant, Variants};
-use langtag_scan::{Subtags, into_smallcase};
+use langtag_scan::into_smallcase;
 
 impl<'a> NormalLangTag<'a> {
     ghost use Rattle.langtag.specs.Text.{normal_lang_tag_text};
@@ -45,22 +45,22 @@ impl<'a> NormalLangTag<'a> {
 fn first_repeated_variant<'a>(variants: Variants<'a>) -> Option<Variant<'a>>
     ensures { option_map variant_text result ≡ repeat are_alike (subtags (variants_text variants.entry)) }
 {
-    let text = variants.as_str();
     for (index, variant) in variants.iter().enumerate() {
-        if stands_before(text, index, variant) {
+        if is_among_first(variants, index, variant) {
             return Some(variant);
         }
     }
     None
 }
 
-/// Whether a variant is equal, but for case, to one of the first so many subtags of a text.
-fn stands_before(text: &str, count: usize, variant: Variant<'_>) -> bool
-    ensures { result ≡ list_any (are_alike (variant_text variant.entry)) (take count (subtags text.now)) }
+/// Whether a variant is equal, but for case, to one of the first so many variants.
+fn is_among_first(variants: Variants<'_>, count: usize, variant: Variant<'_>) -> bool
+    ensures { result ≡ list_any (are_alike (variant_text variant.entry)) (take count (subtags (variants_text variants.entry))) }
 {
-    Subtags::new(text)
+    variants
+        .iter()
         .take(count)
-        .any(|earlier| variant.eq_str(earlier))
+        .any(|earlier| variant == earlier)
 }
 
 /// The singleton of the first of these extensions that is equal, but for case, to that of an earlier one.

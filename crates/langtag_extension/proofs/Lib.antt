@@ -1,3 +1,6 @@
 pub mod SingletonLemmas
 pub mod WalkLemmas
-pub mod SpellingLemmas
+pub mod Joins
+pub mod Rules
+pub mod LookUp
+pub mod Counts

@@ -2,3 +2,4 @@ pub mod Text
 pub mod Conversion
 pub mod Spelling
 pub mod ExtensionTexts
+pub mod Tests

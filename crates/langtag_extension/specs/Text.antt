@@ -1,6 +1,7 @@
 -- The text of each type: its bytes; and the texts that an iterator has still to hand out.
-use Rattle.std.specs.Prelude.{ℕ, List}
+use Rattle.std.specs.Prelude.{ℕ, List, String}
 use Rattle.std.specs.String.{string_bytes}
+use Rattle.std.specs.declared.alloc.Global.{Global}
 use Rattle.langtag_extension.specs.declared.singleton.Singleton.{Singleton}
 use Rattle.langtag_extension.specs.declared.extension_subtag.ExtensionSubtag.{ExtensionSubtag}
 use Rattle.langtag_extension.specs.declared.extension_subtag.ExtensionSubtagBuf.{ExtensionSubtagBuf}
@@ -17,20 +18,32 @@ singleton_byte singleton = singleton.byte
 abbrev pub extension_subtag_text : ExtensionSubtag → List ℕ
 extension_subtag_text subtag = subtag.text.0.now
 
+-- the very String that is kept
+abbrev pub extension_subtag_buf_string : ExtensionSubtagBuf → String Global
+extension_subtag_buf_string subtag = subtag.text.0
+
 abbrev pub extension_subtag_buf_text : ExtensionSubtagBuf → List ℕ
-extension_subtag_buf_text subtag = string_bytes subtag.text.0
+extension_subtag_buf_text subtag = string_bytes (extension_subtag_buf_string subtag)
 
 abbrev pub extension_text : Extension → List ℕ
 extension_text extension = extension.text.0.now
 
+-- the very String that is kept
+abbrev pub extension_buf_string : ExtensionBuf → String Global
+extension_buf_string extension = extension.text.0
+
 abbrev pub extension_buf_text : ExtensionBuf → List ℕ
-extension_buf_text extension = string_bytes extension.text.0
+extension_buf_text extension = string_bytes (extension_buf_string extension)
 
 abbrev pub extensions_text : Extensions → List ℕ
 extensions_text extensions = extensions.text.0.now
 
+-- the very String that is kept
+abbrev pub extensions_buf_string : ExtensionsBuf → String Global
+extensions_buf_string extensions = extensions.text.0
+
 abbrev pub extensions_buf_text : ExtensionsBuf → List ℕ
-extensions_buf_text extensions = string_bytes extensions.text.0
+extensions_buf_text extensions = string_bytes (extensions_buf_string extensions)
 
 abbrev pub extension_subtags_left : ExtensionIter → List (List ℕ)
 extension_subtags_left it = it.subtags

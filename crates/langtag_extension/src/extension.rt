@@ -4,7 +4,7 @@ ghost use Rattle.std.specs.String.{string_bytes};
 ghost use Rattle.langtag_scan.specs.Case.{are_alike};
 ghost use Rattle.langtag_scan.specs.Record as model;
 ghost use Rattle.langtag_extension.specs.Spelling.{SpellsExtension, IsExtensionText};
-ghost use Rattle.langtag_extension.specs.ExtensionTexts.{are_extension_subtags, is_extension_text, opens_alike};
+ghost use Rattle.langtag_extension.specs.Tests.{are_extension_subtags, is_extension_text, opens_alike};
 
 use crate::extension_iter::ExtensionIter;
 use crate::singleton::Singleton;
@@ -30,6 +30,7 @@ pub struct Extension<'a> {
     ghost in_class: { IsTrue (is_extension_text text.0.now) },
 }
 
+#[tactic(auto, using(crate::proofs::Rules::extension_rules))]
 impl<'a> Extension<'a> {
     ghost use Rattle.langtag_extension.specs.Text.{singleton_byte, extension_text, extension_buf_text, extension_subtags_left};
 
@@ -39,7 +40,6 @@ impl<'a> Extension<'a> {
     ///
     /// A text that is not one extension comes back: one without a subtag, as `a`, or with two singletons, as
     /// `a-bb-b-cc`, or with the mark of private use in the singleton's place, as `x-bb`.
-    #[tactic(auto, using(crate::proofs::SpellingLemmas::extension_answer))]
     pub fn new(text: &'a str) -> Result<Extension<'a>, InvalidExtension<&'a str>>
         ensures accepts { IsTrue (is_ok result) ↔ IsExtensionText text.now }
         ensures same_text { IfOk result (λ extension. extension_text extension ≡ text.now) }
@@ -53,7 +53,7 @@ impl<'a> Extension<'a> {
 
     /// The extension of a text that is known to be one: it is not looked at again.
     pub fn from_checked(text: &'a str) -> Extension<'a>
-        requires { IsTrue (is_extension_text text.now) }
+        requires { IsExtensionText text.now }
         ensures { extension_text result ≡ text.now }
     {
         Extension {
@@ -62,7 +62,6 @@ impl<'a> Extension<'a> {
     }
 
     /// The text, with its case.
-    #[tactic(auto, using(crate::proofs::SpellingLemmas::extension_passed))]
     pub fn as_str(&self) -> &'a str
         ensures same_text { result.now ≡ extension_text self.now }
         ensures in_class { IsExtensionText result.now }
@@ -100,7 +99,7 @@ impl<'a> Extension<'a> {
     }
 
     /// The subtags after the singleton, in order: `co` and `phonebk` of `u-co-phonebk`.
-    #[tactic(auto, using(crate::proofs::SpellingLemmas::subtags_spelled))]
+    #[tactic(auto, using(crate::proofs::Rules::subtags_spelled, crate::proofs::Counts::few_subtags))]
     pub fn iter(&self) -> ExtensionIter<'a>
         ensures list { (e : model.Extension) → SpellsExtension e (extension_text self.now) → extension_subtags_left result ≡ e.subtags }
     {
@@ -141,18 +140,19 @@ pub struct ExtensionBuf {
     ghost in_class: { IsTrue (is_extension_text (string_bytes text.0)) },
 }
 
+#[tactic(auto, using(crate::proofs::Rules::extension_rules))]
 impl ExtensionBuf {
-    ghost use Rattle.langtag_extension.specs.Text.{extension_text, extension_buf_text};
+    ghost use Rattle.langtag_extension.specs.Text.{extension_text, extension_buf_string, extension_buf_text};
 
     /// The extension of a text, which is neither copied nor moved in memory.
     ///
     /// # Errors
     ///
     /// A text that is not one extension comes back, the same `String`.
-    #[tactic(auto, using(crate::proofs::SpellingLemmas::extension_answer))]
     pub fn new(text: String) -> Result<ExtensionBuf, InvalidExtension<String>>
         ensures accepts { IsTrue (is_ok result) ↔ IsExtensionText (string_bytes text) }
         ensures same_text { IfOk result (λ extension. extension_buf_text extension ≡ string_bytes text) }
+        ensures same_string { IfOk result (λ extension. extension_buf_string extension ≡ text) }
         ensures given_back { IfErr result (λ error. error.0 ≡ text) }
     {
         if !is_extension(text.as_str()) {
@@ -171,7 +171,6 @@ impl ExtensionBuf {
     }
 
     /// The text, with its case.
-    #[tactic(auto, using(crate::proofs::SpellingLemmas::extension_passed))]
     pub fn as_str(&self) -> &str
         ensures same_text { result.now ≡ extension_buf_text self.now }
         ensures in_class { IsExtensionText result.now }
@@ -180,9 +179,9 @@ impl ExtensionBuf {
     }
 
     /// The text itself, which is not copied.
-    #[tactic(auto, using(crate::proofs::SpellingLemmas::extension_passed))]
     pub fn into_string(self) -> String
         ensures same_text { string_bytes result ≡ extension_buf_text self }
+        ensures same_string { result ≡ extension_buf_string self }
         ensures in_class { IsExtensionText (string_bytes result) }
     {
         self.text.0

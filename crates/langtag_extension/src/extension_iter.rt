@@ -1,7 +1,7 @@
 //! The walk over the subtags of an extension.
-ghost use Rattle.std.specs.Prelude.{◌≡◌, [], IsTrue};
+ghost use Rattle.std.specs.Prelude.{◌≡◌, ◌<◌, ◌^◌, [], IsTrue, length};
 ghost use Rattle.std.specs.Iterator.{YieldsFirstBy, item_count};
-ghost use Rattle.langtag_extension.specs.ExtensionTexts.{are_extension_subtags};
+ghost use Rattle.langtag_extension.specs.Tests.{are_extension_subtags};
 
 use crate::extension_subtag::ExtensionSubtag;
 use langtag_scan::Subtags;
@@ -11,6 +11,7 @@ use langtag_scan::Subtags;
 pub struct ExtensionIter<'a> {
     subtags: Subtags<'a>,
     ghost in_class: { IsTrue (are_extension_subtags subtags) },
+    ghost few: { length subtags < 2 ^ 64 },
 }
 
 impl<'a> ExtensionIter<'a> {
@@ -27,7 +28,8 @@ impl<'a> ExtensionIter<'a> {
 
     /// The subtags that a walk has still to hand out, which are known to be those of an extension.
     pub(crate) fn from_checked(subtags: Subtags<'a>) -> Self
-        requires { IsTrue (are_extension_subtags subtags) }
+        requires in_class { IsTrue (are_extension_subtags subtags) }
+        requires few { length subtags < 2 ^ 64 }
         ensures { extension_subtags_left result ≡ subtags.entry }
     {
         ExtensionIter { subtags }

@@ -110,7 +110,7 @@ pub struct ExtensionSubtagBuf {
 }
 
 impl ExtensionSubtagBuf {
-    ghost use Rattle.langtag_extension.specs.Text.{extension_subtag_text, extension_subtag_buf_text};
+    ghost use Rattle.langtag_extension.specs.Text.{extension_subtag_text, extension_subtag_buf_string, extension_subtag_buf_text};
 
     /// The subtag of a text, which is neither copied nor moved in memory.
     ///
@@ -120,6 +120,7 @@ impl ExtensionSubtagBuf {
     pub fn new(text: String) -> Result<ExtensionSubtagBuf, InvalidExtensionSubtag<String>>
         ensures accepts { is_ok result ≡ class.is_extension_subtag (string_bytes text) }
         ensures same_text { IfOk result (λ subtag. extension_subtag_buf_text subtag ≡ string_bytes text) }
+        ensures same_string { IfOk result (λ subtag. extension_subtag_buf_string subtag ≡ text) }
         ensures given_back { IfErr result (λ error. error.0 ≡ text) }
     {
         if !is_extension_subtag(text.as_bytes()) {
@@ -148,6 +149,7 @@ impl ExtensionSubtagBuf {
     /// The text itself, which is not copied.
     pub fn into_string(self) -> String
         ensures same_text { string_bytes result ≡ extension_subtag_buf_text self }
+        ensures same_string { result ≡ extension_subtag_buf_string self }
         ensures in_class { IsTrue (class.is_extension_subtag (string_bytes result)) }
     {
         self.text.0

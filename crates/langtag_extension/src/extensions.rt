@@ -5,7 +5,7 @@ ghost use Rattle.std.specs.String.{string_bytes};
 ghost use Rattle.langtag_scan.specs.Case.{are_alike};
 ghost use Rattle.langtag_scan.specs.Record as model;
 ghost use Rattle.langtag_extension.specs.Spelling.{SpellsExtensions, IsExtensionsText, extension_spelling, find_extension};
-ghost use Rattle.langtag_extension.specs.ExtensionTexts.{is_extensions_text};
+ghost use Rattle.langtag_extension.specs.Tests.{is_extensions_text};
 
 use crate::extension::{Extension, is_extension};
 use crate::extension_iter::ExtensionIter;
@@ -35,6 +35,7 @@ pub struct Extensions<'a> {
     ghost in_class: { IsTrue (is_extensions_text text.0.now) },
 }
 
+#[tactic(auto, using(crate::proofs::Rules::extensions_rules))]
 impl<'a> Extensions<'a> {
     ghost use Rattle.langtag_extension.specs.Text.{singleton_byte, extension_text, extension_subtags_left, extensions_text, extensions_buf_text, extensions_left};
 
@@ -51,6 +52,9 @@ impl<'a> Extensions<'a> {
         ensures same_text { IfOk result (λ extensions. extensions_text extensions ≡ text.now) }
         ensures given_back { IfErr result (λ error. error.0 ≡ text.entry) }
     {
+        if text.is_empty() {
+            return Ok(Extensions::EMPTY);
+        }
         if !are_extensions(text) {
             return Err(InvalidExtensions(text));
         }
@@ -59,7 +63,7 @@ impl<'a> Extensions<'a> {
 
     /// The extensions of a text that is known to be some: it is not looked at again.
     pub fn from_checked(text: &'a str) -> Extensions<'a>
-        requires { IsTrue (is_extensions_text text.now) }
+        requires { IsExtensionsText text.now }
         ensures { extensions_text result ≡ text.now }
     {
         Extensions {
@@ -68,7 +72,6 @@ impl<'a> Extensions<'a> {
     }
 
     /// The text, with its case.
-    #[tactic(auto, using(crate::proofs::SpellingLemmas::extensions_passed))]
     pub fn as_str(&self) -> &'a str
         ensures same_text { result.now ≡ extensions_text self.now }
         ensures in_class { IsExtensionsText result.now }
@@ -91,7 +94,7 @@ impl<'a> Extensions<'a> {
     }
 
     /// The extensions in order, those of a repeated singleton too.
-    #[tactic(auto, using(crate::proofs::SpellingLemmas::extension_texts_spelled))]
+    #[tactic(auto, using(crate::proofs::Rules::extension_texts_spelled, crate::proofs::Counts::few_texts))]
     pub fn iter(&self) -> ExtensionsIter<'a>
         ensures list { (es : List model.Extension) → SpellsExtensions es (extensions_text self.now) → extensions_left result ≡ map extension_spelling es }
     {
@@ -107,7 +110,7 @@ impl<'a> Extensions<'a> {
     }
 
     /// The subtags of the extension that `get` answers, and none where it answers none.
-    #[tactic(auto, using(crate::proofs::SpellingLemmas::subtags_not_found))]
+    #[tactic(auto, using(crate::proofs::LookUp::subtags_not_found))]
     pub fn iter_extension(&self, singleton: Singleton) -> ExtensionIter<'a>
         ensures list { (es : List model.Extension) → SpellsExtensions es (extensions_text self.now) → extension_subtags_left result ≡ option_map_or (λ e. e.subtags) (find_extension (singleton_byte singleton) es) [] }
     {
@@ -149,8 +152,9 @@ pub struct ExtensionsBuf {
     ghost in_class: { IsTrue (is_extensions_text (string_bytes text.0)) },
 }
 
+#[tactic(auto, using(crate::proofs::Rules::extensions_rules))]
 impl ExtensionsBuf {
-    ghost use Rattle.langtag_extension.specs.Text.{extensions_text, extensions_buf_text};
+    ghost use Rattle.langtag_extension.specs.Text.{extensions_text, extensions_buf_string, extensions_buf_text};
 
     /// The extensions of a text, which is neither copied nor moved in memory.
     ///
@@ -160,6 +164,7 @@ impl ExtensionsBuf {
     pub fn new(text: String) -> Result<ExtensionsBuf, InvalidExtensions<String>>
         ensures accepts { IsTrue (is_ok result) ↔ IsExtensionsText (string_bytes text) }
         ensures same_text { IfOk result (λ extensions. extensions_buf_text extensions ≡ string_bytes text) }
+        ensures same_string { IfOk result (λ extensions. extensions_buf_string extensions ≡ text) }
         ensures given_back { IfErr result (λ error. error.0 ≡ text) }
     {
         if !are_extensions(text.as_str()) {
@@ -178,7 +183,6 @@ impl ExtensionsBuf {
     }
 
     /// The text, with its case.
-    #[tactic(auto, using(crate::proofs::SpellingLemmas::extensions_passed))]
     pub fn as_str(&self) -> &str
         ensures same_text { result.now ≡ extensions_buf_text self.now }
         ensures in_class { IsExtensionsText result.now }
@@ -187,9 +191,9 @@ impl ExtensionsBuf {
     }
 
     /// The text itself, which is not copied.
-    #[tactic(auto, using(crate::proofs::SpellingLemmas::extensions_passed))]
     pub fn into_string(self) -> String
         ensures same_text { string_bytes result ≡ extensions_buf_text self }
+        ensures same_string { result ≡ extensions_buf_string self }
         ensures in_class { IsExtensionsText (string_bytes result) }
     {
         self.text.0

@@ -1,7 +1,7 @@
 //! The walk over the extensions of a tag.
-ghost use Rattle.std.specs.Prelude.{◌≡◌, IsTrue};
+ghost use Rattle.std.specs.Prelude.{◌≡◌, ◌<◌, ◌^◌, IsTrue, length};
 ghost use Rattle.std.specs.Iterator.{YieldsFirstBy, item_count};
-ghost use Rattle.langtag_extension.specs.ExtensionTexts.{are_extension_texts};
+ghost use Rattle.langtag_extension.specs.Tests.{are_extension_texts};
 
 use crate::extension::Extension;
 use crate::extension_texts::ExtensionTexts;
@@ -11,6 +11,7 @@ use crate::extension_texts::ExtensionTexts;
 pub struct ExtensionsIter<'a> {
     texts: ExtensionTexts<'a>,
     ghost in_class: { IsTrue (are_extension_texts texts) },
+    ghost few: { length texts < 2 ^ 64 },
 }
 
 impl<'a> ExtensionsIter<'a> {
@@ -18,7 +19,8 @@ impl<'a> ExtensionsIter<'a> {
 
     /// The extensions that a walk has still to hand out, whose texts are known to be extensions.
     pub(crate) fn from_checked(texts: ExtensionTexts<'a>) -> Self
-        requires { IsTrue (are_extension_texts texts) }
+        requires in_class { IsTrue (are_extension_texts texts) }
+        requires few { length texts < 2 ^ 64 }
         ensures { extensions_left result ≡ texts.entry }
     {
         ExtensionsIter { texts }
@@ -34,6 +36,7 @@ impl<'a> Iterator for ExtensionsIter<'a> {
 
     ghost remaining = { item_count extensions_left };
 
+    #[tactic(auto, using(crate::proofs::Rules::extension_rules))]
     fn next(&mut self) -> Option<Extension<'a>> {
         let text = self.texts.next()?;
         Some(Extension::from_checked(text))

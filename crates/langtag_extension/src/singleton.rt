@@ -1,5 +1,6 @@
 //! The singleton, which opens an extension (RFC 5646 section 2.2.6).
-ghost use Rattle.std.specs.Prelude.{◌≡◌, ◌∷◌, [], Some, IsTrue, IfOk, IfErr, is_ok};
+ghost use Rattle.std.specs.Prelude.{◌≡◌, ◌==◌, ◌&&◌, ◌||◌, ◌∷◌, [], Some, IsTrue, IfOk, IfErr, is_ok, not};
+ghost use Rattle.std.specs.Char.{is_ascii_alphabetic, is_ascii_digit};
 ghost use Rattle.langtag_scan.specs.Class as class;
 ghost use Rattle.langtag_extension.specs.Spelling.{is_singleton_text};
 
@@ -29,13 +30,15 @@ pub struct Singleton {
 impl Singleton {
     ghost use Rattle.langtag_extension.specs.Text.{singleton_byte};
 
-    /// The singleton of a byte.
+    /// The singleton of a byte. That a literal is one, as `b'u'`, computes in a proof by its number.
     ///
     /// # Errors
     ///
     /// A byte that is no ASCII letter or digit, or is `x` or `X`, comes back.
+    #[tactic(auto, using(crate::proofs::SingletonLemmas::singleton_numbers))]
     pub fn new(c: u8) -> Result<Self, InvalidSingleton<u8>>
         ensures accepts { is_ok result ≡ class.is_singleton c }
+        ensures by_number { is_ok result ≡ ((is_ascii_alphabetic c || is_ascii_digit c) && not ((c == 120) || (c == 88))) }
         ensures same_byte { IfOk result (λ singleton. singleton_byte singleton ≡ c) }
         ensures given_back { IfErr result (λ error. error.0 ≡ c) }
     {

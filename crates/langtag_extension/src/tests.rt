@@ -1,3 +1,4 @@
+mod callers;
 mod extension;
 mod extension_iter;
 mod extension_subtag;

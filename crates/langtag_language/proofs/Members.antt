@@ -2,9 +2,10 @@
 use Rattle.std.proofs.Common.{◌≡◌, ◌↔◌, ℕ, List, [], ◌∷◌, drop, Option, None, Some, IsNone, IfSome, rules, sym, ap, ◌∙◌}
 use Rattle.langtag_scan.specs.Subtags.{subtags}
 use Rattle.langtag_language.specs.declared.language_extension.LanguageExtension.{LanguageExtension}
-use Rattle.langtag_language.specs.Language.{EachSpelling, SpellsLanguageExtension, are_language_extension}
+use Rattle.langtag_language.specs.Language.{EachSpelling, SpellsLanguageExtension}
+use Rattle.langtag_language.specs.Tests.{are_language_extension}
 use Rattle.langtag_language.specs.Text.{language_extension_text, extension_list}
-use Rattle.langtag_language.proofs.Rules.{subtags-language, subtags_spell_extension}
+use Rattle.langtag_language.proofs.Rules.{subtags-language, SpellsLanguageExtension-from_test}
 
 pub members_spelled : (text first : List ℕ) (others : List (List ℕ)) → subtags text ≡ first ∷ others → EachSpelling text (λ primary extended. (first ≡ primary) × (others ≡ extended))
 members_spelled text first others list primary extended spells = let same = sym list ∙ subtags-language primary extended text spells in (cc, cc)
@@ -20,4 +21,4 @@ absent_extension (Some extension) extended same =
 
 pub present_extension : (extension : Option LanguageExtension) (extended : List (List ℕ)) → extension_list extension ≡ extended → IfSome extension (λ e. SpellsLanguageExtension extended (language_extension_text e))
 present_extension None extended same = tt
-present_extension (Some extension) extended same = rw (← same) (subtags_spell_extension (language_extension_text extension) extension.in_class)
+present_extension (Some extension) extended same = rw (← same) (SpellsLanguageExtension-from_test (language_extension_text extension) extension.in_class)

@@ -1,9 +1,9 @@
 -- The rules `extlang` and `language` (RFC 5646 section 2.1): the texts that extended subtags spell, and those that a
 -- primary subtag spells with what may stand after it.
-use Rattle.std.specs.Prelude.{◌≡◌, ℕ, ◌≤◌, ◌⊎◌, Bool, false, ◌&&◌, nat_le, if◌then◌else◌, IsTrue, List, [], ◌∷◌, length}
-use Rattle.std.specs.List.{AllByRecursion, list_all}
+use Rattle.std.specs.Prelude.{◌≡◌, ℕ, ◌≤◌, ◌⊎◌, IsTrue, List, [], ◌∷◌, length}
+use Rattle.std.specs.List.{AllByRecursion}
 use Rattle.langtag_scan.specs.Class.{is_primary, is_extended}
-use Rattle.langtag_scan.specs.Subtags.{join, subtags}
+use Rattle.langtag_scan.specs.Subtags.{join}
 
 -- extlang = 3ALPHA *2("-" 3ALPHA)
 -- one to three extended subtags, whose join is the text
@@ -32,30 +32,3 @@ IsLanguage text = (primary : List ℕ) × (extended : List (List ℕ)) × Spells
 -- P holds of each primary subtag with each list of extended ones that spell the text
 abbrev pub EachSpelling : List ℕ → (List ℕ → List (List ℕ) → Type 0) → Type 0
 EachSpelling text P = (primary : List ℕ) (extended : List (List ℕ)) → SpellsLanguage primary extended text → P primary extended
-
--- The same rules as tests, over what stands between the hyphens.
-
-abbrev pub are_extended : List (List ℕ) → Bool
-are_extended subtags = list_all is_extended subtags
-
--- at most so many, all of them extended
-abbrev pub are_extended_within : ℕ → List (List ℕ) → Bool
-are_extended_within room subtags = nat_le (length subtags) room && are_extended subtags
-
--- how many extended subtags may follow
-abbrev pub extended_room : List ℕ → ℕ
-extended_room primary = if nat_le (length primary) 3 then 3 else 0
-
-abbrev pub are_language_extension : List (List ℕ) → Bool
-are_language_extension [] = false
-are_language_extension (first ∷ others) = are_extended_within 3 (first ∷ others)
-
-abbrev pub are_language : List (List ℕ) → Bool
-are_language [] = false
-are_language (primary ∷ extended) = is_primary primary && are_extended_within (extended_room primary) extended
-
-abbrev pub is_language_extension : List ℕ → Bool
-is_language_extension text = are_language_extension (subtags text)
-
-abbrev pub is_language : List ℕ → Bool
-is_language text = are_language (subtags text)

@@ -1,6 +1,7 @@
 -- The text of each type: its bytes; and the texts that an iterator has still to hand out.
-use Rattle.std.specs.Prelude.{ℕ, List, [], Option, None, Some}
+use Rattle.std.specs.Prelude.{ℕ, List, [], Option, None, Some, String}
 use Rattle.std.specs.String.{string_bytes}
+use Rattle.std.specs.declared.alloc.Global.{Global}
 use Rattle.langtag_scan.specs.Subtags.{subtags}
 use Rattle.langtag_language.specs.declared.primary_language.PrimaryLanguage.{PrimaryLanguage}
 use Rattle.langtag_language.specs.declared.primary_language.PrimaryLanguageBuf.{PrimaryLanguageBuf}
@@ -15,20 +16,32 @@ use Rattle.langtag_language.specs.declared.language.LanguageBuf.{LanguageBuf}
 abbrev pub primary_language_text : PrimaryLanguage → List ℕ
 primary_language_text primary = primary.text.0.now
 
+-- the very `String` that is kept
+abbrev pub primary_language_buf_string : PrimaryLanguageBuf → String Global
+primary_language_buf_string primary = primary.text.0
+
 abbrev pub primary_language_buf_text : PrimaryLanguageBuf → List ℕ
-primary_language_buf_text primary = string_bytes primary.text.0
+primary_language_buf_text primary = string_bytes (primary_language_buf_string primary)
 
 abbrev pub extended_lang_tag_text : ExtendedLangTag → List ℕ
 extended_lang_tag_text extended = extended.text.0.now
 
+-- the very `String` that is kept
+abbrev pub extended_lang_tag_buf_string : ExtendedLangTagBuf → String Global
+extended_lang_tag_buf_string extended = extended.text.0
+
 abbrev pub extended_lang_tag_buf_text : ExtendedLangTagBuf → List ℕ
-extended_lang_tag_buf_text extended = string_bytes extended.text.0
+extended_lang_tag_buf_text extended = string_bytes (extended_lang_tag_buf_string extended)
 
 abbrev pub language_extension_text : LanguageExtension → List ℕ
 language_extension_text extension = extension.text.0.now
 
+-- the very `String` that is kept
+abbrev pub language_extension_buf_string : LanguageExtensionBuf → String Global
+language_extension_buf_string extension = extension.text.0
+
 abbrev pub language_extension_buf_text : LanguageExtensionBuf → List ℕ
-language_extension_buf_text extension = string_bytes extension.text.0
+language_extension_buf_text extension = string_bytes (language_extension_buf_string extension)
 
 -- the subtags of an extension, none where there is no extension
 abbrev pub extension_list : Option LanguageExtension → List (List ℕ)
@@ -42,5 +55,9 @@ extended_left subtags = subtags.rest
 abbrev pub language_text : Language → List ℕ
 language_text language = language.text.0.now
 
+-- the very `String` that is kept
+abbrev pub language_buf_string : LanguageBuf → String Global
+language_buf_string language = language.text.0
+
 abbrev pub language_buf_text : LanguageBuf → List ℕ
-language_buf_text language = string_bytes language.text.0
+language_buf_text language = string_bytes (language_buf_string language)

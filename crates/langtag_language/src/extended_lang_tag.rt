@@ -109,7 +109,7 @@ pub struct ExtendedLangTagBuf {
 }
 
 impl ExtendedLangTagBuf {
-    ghost use Rattle.langtag_language.specs.Text.{extended_lang_tag_text, extended_lang_tag_buf_text};
+    ghost use Rattle.langtag_language.specs.Text.{extended_lang_tag_text, extended_lang_tag_buf_text, extended_lang_tag_buf_string};
 
     /// The subtag of a text, which is neither copied nor moved in memory.
     ///
@@ -119,6 +119,7 @@ impl ExtendedLangTagBuf {
     pub fn new(text: String) -> Result<ExtendedLangTagBuf, InvalidExtendedLangTag<String>>
         ensures accepts { is_ok result ≡ class.is_extended (string_bytes text) }
         ensures same_text { IfOk result (λ extended. extended_lang_tag_buf_text extended ≡ string_bytes text) }
+        ensures same_string { IfOk result (λ extended. extended_lang_tag_buf_string extended ≡ text) }
         ensures given_back { IfErr result (λ error. error.0 ≡ text) }
     {
         if !is_extended(text.as_bytes()) {
@@ -147,6 +148,7 @@ impl ExtendedLangTagBuf {
     /// The text itself, which is not copied.
     pub fn into_string(self) -> String
         ensures same_text { string_bytes result ≡ extended_lang_tag_buf_text self }
+        ensures same_string { result ≡ extended_lang_tag_buf_string self }
         ensures in_class { IsTrue (class.is_extended (string_bytes result)) }
     {
         self.text.0

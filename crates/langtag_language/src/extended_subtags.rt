@@ -1,12 +1,12 @@
 //! The subtags that may follow a primary language subtag (RFC 5646 section 2.2.2).
 ghost use Rattle.std.specs.Prelude.{◌≡◌};
-ghost use Rattle.langtag_language.specs.Language as rule;
+ghost use Rattle.langtag_language.specs.Tests as test;
 
 use langtag_scan::{Subtags, is_extended};
 
 /// Whether at most so many subtags are left, all of them extended.
 pub(crate) fn are_extended_within(room: usize, subtags: Subtags<'_>) -> bool
-    ensures { result ≡ rule.are_extended_within room subtags.entry }
+    ensures { result ≡ test.are_extended_within room subtags.entry }
 {
     let mut free = room;
     for subtag in subtags {

@@ -4,8 +4,8 @@ ghost use Rattle.std.specs.Prelude.{IsNone, IfSome, IfOk, IfErr};
 ghost use Rattle.std.specs.String.{string_bytes};
 ghost use Rattle.langtag_scan.specs.Case.{are_alike};
 ghost use Rattle.langtag_scan.specs.Subtags.{subtags};
-ghost use Rattle.langtag_language.specs.Language as rule;
 ghost use Rattle.langtag_language.specs.Language.{IsLanguage, EachSpelling, SpellsLanguageExtension};
+ghost use Rattle.langtag_language.specs.Tests as test;
 
 use crate::extended_subtags::are_extended_within;
 use crate::language_extension::LanguageExtension;
@@ -30,10 +30,10 @@ pub struct InvalidLanguage<T>(pub T);
 #[derive(Clone, Copy, Debug, PartialEq, Eq, PartialOrd, Ord, Hash)]
 pub struct Language<'a> {
     text: Caseless<&'a str>,
-    ghost in_class: { IsTrue (rule.is_language text.0.now) },
+    ghost in_class: { IsTrue (test.is_language text.0.now) },
 }
 
-#[tactic(auto, using(crate::proofs::Rules::language_from_test))]
+#[tactic(auto, using(crate::proofs::Rules::language_rules))]
 impl<'a> Language<'a> {
     ghost use Rattle.langtag_language.specs.Text.{language_text, language_buf_text, primary_language_text};
     ghost use Rattle.langtag_language.specs.Text.{language_extension_text, extension_list, extended_left};
@@ -57,7 +57,7 @@ impl<'a> Language<'a> {
 
     /// The language of a text that is known to be one: it is not looked at again.
     pub fn from_checked(text: &'a str) -> Language<'a>
-        requires { IsTrue (rule.is_language text.now) }
+        requires { IsLanguage text.now }
         ensures { language_text result ≡ text.now }
     {
         Language {
@@ -147,8 +147,7 @@ impl<'a> Language<'a> {
 
 /// Whether the text is a primary subtag and, after two or three letters, at most three extended ones.
 fn is_language(text: &str) -> bool
-    ensures test { result ≡ rule.is_language text.now }
-    ensures spelled { IsTrue result ↔ (IsLanguage text.now) }
+    ensures { result ≡ test.is_language text.now }
 {
     let mut subtags = Subtags::new(text);
     let Some(primary) = subtags.next() else {
@@ -172,12 +171,12 @@ impl fmt::Display for Language<'_> {
 #[derive(Debug, Drop, PartialEq, Eq, PartialOrd, Ord, Hash)]
 pub struct LanguageBuf {
     text: Caseless<String>,
-    ghost in_class: { IsTrue (rule.is_language (string_bytes text.0)) },
+    ghost in_class: { IsTrue (test.is_language (string_bytes text.0)) },
 }
 
-#[tactic(auto, using(crate::proofs::Rules::language_from_test))]
+#[tactic(auto, using(crate::proofs::Rules::language_rules))]
 impl LanguageBuf {
-    ghost use Rattle.langtag_language.specs.Text.{language_text, language_buf_text};
+    ghost use Rattle.langtag_language.specs.Text.{language_text, language_buf_text, language_buf_string};
 
     /// The language of a text, which is neither copied nor moved in memory.
     ///
@@ -188,6 +187,7 @@ impl LanguageBuf {
     pub fn new(text: String) -> Result<LanguageBuf, InvalidLanguage<String>>
         ensures accepts { IsTrue (is_ok result) ↔ (IsLanguage (string_bytes text)) }
         ensures same_text { IfOk result (λ language. language_buf_text language ≡ string_bytes text) }
+        ensures same_string { IfOk result (λ language. language_buf_string language ≡ text) }
         ensures given_back { IfErr result (λ error. error.0 ≡ text) }
     {
         if !is_language(text.as_str()) {
@@ -216,6 +216,7 @@ impl LanguageBuf {
     /// The text itself, which is not copied.
     pub fn into_string(self) -> String
         ensures same_text { string_bytes result ≡ language_buf_text self }
+        ensures same_string { result ≡ language_buf_string self }
         ensures in_class { IsLanguage (string_bytes result) }
     {
         self.text.0

@@ -3,8 +3,8 @@ ghost use Rattle.std.specs.Prelude.{◌≡◌, ◌↔◌, Some, IsTrue, IfOk, If
 ghost use Rattle.std.specs.String.{string_bytes};
 ghost use Rattle.langtag_scan.specs.Case.{are_alike};
 ghost use Rattle.langtag_scan.specs.Subtags.{subtags};
-ghost use Rattle.langtag_language.specs.Language as rule;
 ghost use Rattle.langtag_language.specs.Language.{IsLanguageExtension, SpellsLanguageExtension};
+ghost use Rattle.langtag_language.specs.Tests as test;
 
 use crate::extended_subtags::are_extended_within;
 use crate::language_extension_iter::LanguageExtensionIter;
@@ -26,10 +26,10 @@ pub struct InvalidLanguageExtension<T>(pub T);
 #[derive(Clone, Copy, Debug, PartialEq, Eq, PartialOrd, Ord, Hash)]
 pub struct LanguageExtension<'a> {
     text: Caseless<&'a str>,
-    ghost in_class: { IsTrue (rule.is_language_extension text.0.now) },
+    ghost in_class: { IsTrue (test.is_language_extension text.0.now) },
 }
 
-#[tactic(auto, using(crate::proofs::Rules::extension_from_test, crate::proofs::Rules::subtags_spell_extension))]
+#[tactic(auto, using(crate::proofs::Rules::extension_rules))]
 impl<'a> LanguageExtension<'a> {
     ghost use Rattle.langtag_language.specs.Text.{language_extension_text, language_extension_buf_text, extended_left};
 
@@ -51,7 +51,7 @@ impl<'a> LanguageExtension<'a> {
 
     /// The language extension of a text that is known to be one: it is not looked at again.
     pub fn from_checked(text: &'a str) -> LanguageExtension<'a>
-        requires { IsTrue (rule.is_language_extension text.now) }
+        requires { IsLanguageExtension text.now }
         ensures { language_extension_text result ≡ text.now }
     {
         LanguageExtension {
@@ -106,8 +106,7 @@ impl<'a> LanguageExtension<'a> {
 
 /// Whether the text is one to three extended subtags, joined by hyphens.
 fn is_language_extension(text: &str) -> bool
-    ensures test { result ≡ rule.is_language_extension text.now }
-    ensures spelled { IsTrue result ↔ (IsLanguageExtension text.now) }
+    ensures { result ≡ test.is_language_extension text.now }
 {
     !text.is_empty() && are_extended_within(3, Subtags::new(text))
 }
@@ -126,12 +125,12 @@ impl fmt::Display for LanguageExtension<'_> {
 #[derive(Debug, Drop, PartialEq, Eq, PartialOrd, Ord, Hash)]
 pub struct LanguageExtensionBuf {
     text: Caseless<String>,
-    ghost in_class: { IsTrue (rule.is_language_extension (string_bytes text.0)) },
+    ghost in_class: { IsTrue (test.is_language_extension (string_bytes text.0)) },
 }
 
-#[tactic(auto, using(crate::proofs::Rules::extension_from_test))]
+#[tactic(auto, using(crate::proofs::Rules::extension_rules))]
 impl LanguageExtensionBuf {
-    ghost use Rattle.langtag_language.specs.Text.{language_extension_text, language_extension_buf_text};
+    ghost use Rattle.langtag_language.specs.Text.{language_extension_text, language_extension_buf_text, language_extension_buf_string};
 
     /// The language extension of a text, which is neither copied nor moved in memory.
     ///
@@ -142,6 +141,7 @@ impl LanguageExtensionBuf {
     pub fn new(text: String) -> Result<LanguageExtensionBuf, InvalidLanguageExtension<String>>
         ensures accepts { IsTrue (is_ok result) ↔ (IsLanguageExtension (string_bytes text)) }
         ensures same_text { IfOk result (λ extension. language_extension_buf_text extension ≡ string_bytes text) }
+        ensures same_string { IfOk result (λ extension. language_extension_buf_string extension ≡ text) }
         ensures given_back { IfErr result (λ error. error.0 ≡ text) }
     {
         if !is_language_extension(text.as_str()) {
@@ -170,6 +170,7 @@ impl LanguageExtensionBuf {
     /// The text itself, which is not copied.
     pub fn into_string(self) -> String
         ensures same_text { string_bytes result ≡ language_extension_buf_text self }
+        ensures same_string { result ≡ language_extension_buf_string self }
         ensures in_class { IsLanguageExtension (string_bytes result) }
     {
         self.text.0

@@ -1,8 +1,8 @@
 //! The extended subtags of a language one by one.
-ghost use Rattle.std.specs.Prelude.{◌≡◌, IsTrue, []};
+ghost use Rattle.std.specs.Prelude.{◌≡◌, ◌≤◌, IsTrue, [], length};
 ghost use Rattle.std.specs.Iterator.{YieldsFirstBy, item_count};
 ghost use Rattle.langtag_scan.specs.Subtags.{subtags};
-ghost use Rattle.langtag_language.specs.Language.{are_extended};
+ghost use Rattle.langtag_language.specs.Tests.{are_extended, is_language_extension};
 
 use crate::extended_lang_tag::ExtendedLangTag;
 use langtag_scan::Subtags;
@@ -12,6 +12,7 @@ use langtag_scan::Subtags;
 pub struct LanguageExtensionIter<'a> {
     rest: Subtags<'a>,
     ghost in_class: { IsTrue (are_extended rest) },
+    ghost few: { length rest ≤ 3 },
 }
 
 impl<'a> LanguageExtensionIter<'a> {
@@ -26,9 +27,10 @@ impl<'a> LanguageExtensionIter<'a> {
         }
     }
 
-    /// The subtags of a text, which are known to be extended ones.
+    /// The subtags of a language extension.
+    #[tactic(auto, using(crate::proofs::Rules::extension_members))]
     pub(crate) fn new(text: &'a str) -> Self
-        requires { IsTrue (are_extended (subtags text.now)) }
+        requires { IsTrue (is_language_extension text.now) }
         ensures { extended_left result ≡ subtags text.now }
     {
         LanguageExtensionIter {

@@ -109,7 +109,7 @@ pub struct PrimaryLanguageBuf {
 }
 
 impl PrimaryLanguageBuf {
-    ghost use Rattle.langtag_language.specs.Text.{primary_language_text, primary_language_buf_text};
+    ghost use Rattle.langtag_language.specs.Text.{primary_language_text, primary_language_buf_text, primary_language_buf_string};
 
     /// The subtag of a text, which is neither copied nor moved in memory.
     ///
@@ -119,6 +119,7 @@ impl PrimaryLanguageBuf {
     pub fn new(text: String) -> Result<PrimaryLanguageBuf, InvalidPrimaryLanguage<String>>
         ensures accepts { is_ok result ≡ class.is_primary (string_bytes text) }
         ensures same_text { IfOk result (λ primary. primary_language_buf_text primary ≡ string_bytes text) }
+        ensures same_string { IfOk result (λ primary. primary_language_buf_string primary ≡ text) }
         ensures given_back { IfErr result (λ error. error.0 ≡ text) }
     {
         if !is_primary(text.as_bytes()) {
@@ -147,6 +148,7 @@ impl PrimaryLanguageBuf {
     /// The text itself, which is not copied.
     pub fn into_string(self) -> String
         ensures same_text { string_bytes result ≡ primary_language_buf_text self }
+        ensures same_string { result ≡ primary_language_buf_string self }
         ensures in_class { IsTrue (class.is_primary (string_bytes result)) }
     {
         self.text.0

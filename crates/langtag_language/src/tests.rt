@@ -1,3 +1,4 @@
+mod callers;
 mod extended_lang_tag;
 mod language;
 mod language_extension;

@@ -1,1 +1,2 @@
-pub mod SpelledVariants
+pub mod Rules
+pub mod Counts

@@ -1,6 +1,7 @@
 -- The text of each type: its bytes.
-use Rattle.std.specs.Prelude.{ℕ, List}
+use Rattle.std.specs.Prelude.{ℕ, List, String}
 use Rattle.std.specs.String.{string_bytes}
+use Rattle.std.specs.declared.alloc.Global.{Global}
 use Rattle.langtag_place.specs.declared.script.Script.{Script}
 use Rattle.langtag_place.specs.declared.script.ScriptBuf.{ScriptBuf}
 use Rattle.langtag_place.specs.declared.region.Region.{Region}
@@ -14,26 +15,42 @@ use Rattle.langtag_place.specs.declared.variants_iter.VariantsIter.{VariantsIter
 abbrev pub script_text : Script → List ℕ
 script_text script = script.text.0.now
 
+-- the very String that is kept
+abbrev pub script_buf_string : ScriptBuf → String Global
+script_buf_string script = script.text.0
+
 abbrev pub script_buf_text : ScriptBuf → List ℕ
-script_buf_text script = string_bytes script.text.0
+script_buf_text script = string_bytes (script_buf_string script)
 
 abbrev pub region_text : Region → List ℕ
 region_text region = region.text.0.now
 
+-- the very String that is kept
+abbrev pub region_buf_string : RegionBuf → String Global
+region_buf_string region = region.text.0
+
 abbrev pub region_buf_text : RegionBuf → List ℕ
-region_buf_text region = string_bytes region.text.0
+region_buf_text region = string_bytes (region_buf_string region)
 
 abbrev pub variant_text : Variant → List ℕ
 variant_text variant = variant.text.0.now
 
+-- the very String that is kept
+abbrev pub variant_buf_string : VariantBuf → String Global
+variant_buf_string variant = variant.text.0
+
 abbrev pub variant_buf_text : VariantBuf → List ℕ
-variant_buf_text variant = string_bytes variant.text.0
+variant_buf_text variant = string_bytes (variant_buf_string variant)
 
 abbrev pub variants_text : Variants → List ℕ
 variants_text variants = variants.text.0.now
 
+-- the very String that is kept
+abbrev pub variants_buf_string : VariantsBuf → String Global
+variants_buf_string variants = variants.text.0
+
 abbrev pub variants_buf_text : VariantsBuf → List ℕ
-variants_buf_text variants = string_bytes variants.text.0
+variants_buf_text variants = string_bytes (variants_buf_string variants)
 
 -- the texts of the variants that are still to come
 abbrev pub variants_left : VariantsIter → List (List ℕ)

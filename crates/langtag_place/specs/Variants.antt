@@ -1,8 +1,8 @@
 -- Lists of variants (RFC 5646 section 2.1, `*("-" variant)` without the hyphen before the first).
-use Rattle.std.specs.Prelude.{◌≡◌, ℕ, Bool, IsTrue, List}
-use Rattle.std.specs.List.{AllByRecursion, list_all}
+use Rattle.std.specs.Prelude.{◌≡◌, ℕ, IsTrue, List}
+use Rattle.std.specs.List.{AllByRecursion}
 use Rattle.langtag_scan.specs.Class.{is_variant}
-use Rattle.langtag_scan.specs.Subtags.{join, subtags}
+use Rattle.langtag_scan.specs.Subtags.{join}
 
 -- each member is a variant, and the text is their join
 pub record SpellsVariants (variants : List (List ℕ)) (text : List ℕ) : Type 0 where
@@ -12,10 +12,3 @@ pub record SpellsVariants (variants : List (List ℕ)) (text : List ℕ) : Type 
 -- a text that some list of variants spells; the empty list spells the empty text
 abbrev pub IsVariants : List ℕ → Type 0
 IsVariants text = (variants : List (List ℕ)) × SpellsVariants variants text
-
-abbrev pub are_variants : List (List ℕ) → Bool
-are_variants texts = list_all is_variant texts
-
--- the same as a test: what stands between the hyphens are variants
-abbrev pub is_variants : List ℕ → Bool
-is_variants text = are_variants (subtags text)

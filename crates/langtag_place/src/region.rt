@@ -109,7 +109,7 @@ pub struct RegionBuf {
 }
 
 impl RegionBuf {
-    ghost use Rattle.langtag_place.specs.Text.{region_text, region_buf_text};
+    ghost use Rattle.langtag_place.specs.Text.{region_text, region_buf_string, region_buf_text};
 
     /// The region of a text, which is neither copied nor moved in memory.
     ///
@@ -119,6 +119,7 @@ impl RegionBuf {
     pub fn new(text: String) -> Result<RegionBuf, InvalidRegion<String>>
         ensures accepts { is_ok result ≡ class.is_region (string_bytes text) }
         ensures same_text { IfOk result (λ region. region_buf_text region ≡ string_bytes text) }
+        ensures same_string { IfOk result (λ region. region_buf_string region ≡ text) }
         ensures given_back { IfErr result (λ error. error.0 ≡ text) }
     {
         if !is_region(text.as_bytes()) {
@@ -147,6 +148,7 @@ impl RegionBuf {
     /// The text itself, which is not copied.
     pub fn into_string(self) -> String
         ensures same_text { string_bytes result ≡ region_buf_text self }
+        ensures same_string { result ≡ region_buf_string self }
         ensures in_class { IsTrue (class.is_region (string_bytes result)) }
     {
         self.text.0

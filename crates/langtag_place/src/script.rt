@@ -109,7 +109,7 @@ pub struct ScriptBuf {
 }
 
 impl ScriptBuf {
-    ghost use Rattle.langtag_place.specs.Text.{script_text, script_buf_text};
+    ghost use Rattle.langtag_place.specs.Text.{script_text, script_buf_string, script_buf_text};
 
     /// The script of a text, which is neither copied nor moved in memory.
     ///
@@ -119,6 +119,7 @@ impl ScriptBuf {
     pub fn new(text: String) -> Result<ScriptBuf, InvalidScript<String>>
         ensures accepts { is_ok result ≡ class.is_script (string_bytes text) }
         ensures same_text { IfOk result (λ script. script_buf_text script ≡ string_bytes text) }
+        ensures same_string { IfOk result (λ script. script_buf_string script ≡ text) }
         ensures given_back { IfErr result (λ error. error.0 ≡ text) }
     {
         if !is_script(text.as_bytes()) {
@@ -147,6 +148,7 @@ impl ScriptBuf {
     /// The text itself, which is not copied.
     pub fn into_string(self) -> String
         ensures same_text { string_bytes result ≡ script_buf_text self }
+        ensures same_string { result ≡ script_buf_string self }
         ensures in_class { IsTrue (class.is_script (string_bytes result)) }
     {
         self.text.0

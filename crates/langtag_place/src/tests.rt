@@ -1,3 +1,4 @@
+mod callers;
 mod region;
 mod script;
 mod variant;

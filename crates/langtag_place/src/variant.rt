@@ -111,7 +111,7 @@ pub struct VariantBuf {
 }
 
 impl VariantBuf {
-    ghost use Rattle.langtag_place.specs.Text.{variant_text, variant_buf_text};
+    ghost use Rattle.langtag_place.specs.Text.{variant_text, variant_buf_string, variant_buf_text};
 
     /// The variant of a text, which is neither copied nor moved in memory.
     ///
@@ -122,6 +122,7 @@ impl VariantBuf {
     pub fn new(text: String) -> Result<VariantBuf, InvalidVariant<String>>
         ensures accepts { is_ok result ≡ class.is_variant (string_bytes text) }
         ensures same_text { IfOk result (λ variant. variant_buf_text variant ≡ string_bytes text) }
+        ensures same_string { IfOk result (λ variant. variant_buf_string variant ≡ text) }
         ensures given_back { IfErr result (λ error. error.0 ≡ text) }
     {
         if !is_variant(text.as_bytes()) {
@@ -150,6 +151,7 @@ impl VariantBuf {
     /// The text itself, which is not copied.
     pub fn into_string(self) -> String
         ensures same_text { string_bytes result ≡ variant_buf_text self }
+        ensures same_string { result ≡ variant_buf_string self }
         ensures in_class { IsTrue (class.is_variant (string_bytes result)) }
     {
         self.text.0

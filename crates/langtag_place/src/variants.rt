@@ -4,7 +4,8 @@ ghost use Rattle.std.specs.Option.{option_map};
 ghost use Rattle.std.specs.String.{string_bytes};
 ghost use Rattle.langtag_scan.specs.Case.{are_alike};
 ghost use Rattle.langtag_scan.specs.Subtags.{subtags};
-ghost use Rattle.langtag_place.specs.Variants.{is_variants, IsVariants, SpellsVariants};
+ghost use Rattle.langtag_place.specs.Tests.{is_variants};
+ghost use Rattle.langtag_place.specs.Variants.{IsVariants, SpellsVariants};
 
 use crate::variant::Variant;
 use crate::variants_iter::VariantsIter;
@@ -30,6 +31,7 @@ pub struct Variants<'a> {
     ghost in_class: { IsTrue (is_variants text.0.now) },
 }
 
+#[tactic(auto, using(crate::proofs::Rules::variants_rules))]
 impl<'a> Variants<'a> {
     ghost use Rattle.langtag_place.specs.Text.{variant_text, variants_text, variants_buf_text, variants_left};
 
@@ -54,7 +56,7 @@ impl<'a> Variants<'a> {
 
     /// The variants of a text that is known to be spelled by a list of them: it is not looked at again.
     pub fn from_checked(text: &'a str) -> Variants<'a>
-        requires { IsTrue (is_variants text.now) }
+        requires { IsVariants text.now }
         ensures { variants_text result ≡ text.now }
     {
         Variants {
@@ -140,8 +142,9 @@ pub struct VariantsBuf {
     ghost in_class: { IsTrue (is_variants (string_bytes text.0)) },
 }
 
+#[tactic(auto, using(crate::proofs::Rules::variants_rules))]
 impl VariantsBuf {
-    ghost use Rattle.langtag_place.specs.Text.{variants_text, variants_buf_text};
+    ghost use Rattle.langtag_place.specs.Text.{variants_text, variants_buf_string, variants_buf_text};
 
     /// The variants of a text, which is neither copied nor moved in memory.
     ///
@@ -151,6 +154,7 @@ impl VariantsBuf {
     pub fn new(text: String) -> Result<VariantsBuf, InvalidVariants<String>>
         ensures accepts { IsTrue (is_ok result) ↔ (IsVariants (string_bytes text)) }
         ensures same_text { IfOk result (λ variants. variants_buf_text variants ≡ string_bytes text) }
+        ensures same_string { IfOk result (λ variants. variants_buf_string variants ≡ text) }
         ensures given_back { IfErr result (λ error. error.0 ≡ text) }
     {
         if !all_variants(text.as_str()) {
@@ -179,6 +183,7 @@ impl VariantsBuf {
     /// The text itself, which is not copied.
     pub fn into_string(self) -> String
         ensures same_text { string_bytes result ≡ variants_buf_text self }
+        ensures same_string { result ≡ variants_buf_string self }
         ensures in_class { IsVariants (string_bytes result) }
     {
         self.text.0

@@ -1,10 +1,11 @@
 //! The variants of a tag one by one, from either end.
-ghost use Rattle.std.specs.Prelude.{◌≡◌, IsTrue, []};
+ghost use Rattle.std.specs.Prelude.{◌≡◌, ◌<◌, ◌^◌, IsTrue, [], length};
 ghost use Rattle.std.specs.Iterator.{YieldsFirstBy, YieldsLastBy, item_count};
 ghost use Rattle.langtag_scan.specs.Subtags.{subtags};
-ghost use Rattle.langtag_place.specs.Variants.{are_variants, is_variants};
+ghost use Rattle.langtag_place.specs.Tests.{are_variants, is_variants};
 
 use crate::variant::Variant;
+use crate::variants::Variants;
 use langtag_scan::Subtags;
 
 /// The variants of a tag that are still to come, in the order in which they are written (RFC 5646
@@ -13,6 +14,7 @@ use langtag_scan::Subtags;
 pub struct VariantsIter<'a> {
     rest: Subtags<'a>,
     ghost in_class: { IsTrue (are_variants rest) },
+    ghost few: { length rest < 2 ^ 64 },
 }
 
 impl<'a> VariantsIter<'a> {
@@ -22,12 +24,11 @@ impl<'a> VariantsIter<'a> {
     pub fn empty() -> Self
         ensures { variants_left result ≡ [] }
     {
-        VariantsIter {
-            rest: Subtags::empty(),
-        }
+        Variants::EMPTY.iter()
     }
 
     /// The walk over the variants of a text that is known to be spelled by a list of them.
+    #[tactic(auto, using(crate::proofs::Counts::few_subtags))]
     pub(crate) fn new(text: &'a str) -> Self
         requires { IsTrue (is_variants text.now) }
         ensures { variants_left result ≡ subtags text.now }

@@ -1,14 +1,14 @@
 -- The rule and its test say the same: one private list spells a text, and it is what stands between the hyphens.
-use Rattle.std.proofs.Common.{◌≡◌, ◌↔◌, ℕ, true, Bool, IsTrue, List, [], ◌∷◌, drop, refl, sym, ap, ◌∙◌, arith}
+use Rattle.std.proofs.Common.{◌≡◌, ◌↔◌, ℕ, ◌≤◌, true, Bool, IsTrue, List, [], ◌∷◌, length, drop, length-drop, refl, sym, ap, ◌∙◌, arith}
+use Rattle.std.proofs.lemmas.Bool.{and_parts}
 use Rattle.langtag_scan.specs.Class.{is_mark, is_private_subtag}
 use Rattle.langtag_scan.specs.Record.{PrivateUse, IsPrivateUse, private_use_flat}
 use Rattle.langtag_scan.specs.Subtags.{join, subtags}
 use Rattle.langtag_scan.specs.Tag.{IsPrivate}
-use Rattle.langtag_scan.proofs.Disjoint.{both_true}
 use Rattle.langtag_scan.proofs.SubtagFacts.{of_one, of_private_subtag, mark_alphanumeric}
-use Rattle.langtag_scan.proofs.SubtagLists.{each_from_test, test_from_each, each_subtag, subtags-joined}
-use Rattle.langtag_scan.proofs.SubtagLists.{join-subtags}
-use Rattle.langtag_private.specs.PrivateUse.{EachSpelling, are_private, are_private_use, is_mark_alone, is_private_use}
+use Rattle.langtag_scan.proofs.SubtagLists.{each_from_test, test_from_each, each_subtag, subtags-joined, join-subtags, length-subtags}
+use Rattle.langtag_private.specs.PrivateUse.{EachSpelling}
+use Rattle.langtag_private.specs.Tests.{are_private, are_private_use, is_mark_alone, is_private_use}
 
 -- one text, one list
 pub subtags-private : (text : List ℕ) (p : PrivateUse) → IsPrivateUse p → join (private_use_flat p) ≡ text → subtags text ≡ private_use_flat p
@@ -18,34 +18,49 @@ subtags-private text p fits joined =
 pub others_spelled : (text : List ℕ) (others : List (List ℕ)) → others ≡ drop 1 (subtags text) → EachSpelling text (λ members. others ≡ members)
 others_spelled text others list p fits joined = list ∙ ap (drop 1) (subtags-private text p fits joined)
 
-test_from_rule : (mark : ℕ) (ss : List (List ℕ)) → IsPrivateUse (record { mark = mark; subtags = ss }) → are_private_use ((mark ∷ []) ∷ ss) ≡ true
-test_from_rule mark [] fits = absurd (omega (arith, fits.some))
-test_from_rule mark (s ∷ ss) fits = rw (fits.mark, test_from_each is_private_subtag (s ∷ ss) fits.subtags) refl
+are_private_use-from_rule : (mark : ℕ) (ss : List (List ℕ)) → IsPrivateUse (record { mark = mark; subtags = ss }) → are_private_use ((mark ∷ []) ∷ ss) ≡ true
+are_private_use-from_rule mark [] fits = absurd (omega (arith, fits.some))
+are_private_use-from_rule mark (s ∷ ss) fits = rw (fits.mark, test_from_each is_private_subtag (s ∷ ss) fits.subtags) refl
 
-rule_from_test : (ss : List (List ℕ)) (text : List ℕ) → join ss ≡ text → are_private_use ss ≡ true → IsPrivate text
+IsPrivate-from_list : (ss : List (List ℕ)) (text : List ℕ) → join ss ≡ text → are_private_use ss ≡ true → IsPrivate text
 unfolding IsPrivate
-rule_from_test [] text joined h = absurd cc
-rule_from_test (m ∷ []) text joined h = absurd cc
-rule_from_test ([] ∷ s ∷ ss) text joined h = absurd cc
-rule_from_test ((b ∷ c ∷ m) ∷ s ∷ ss) text joined h = absurd cc
-rule_from_test ((b ∷ []) ∷ s ∷ ss) text joined h =
-    let k = both_true (is_mark b) (are_private (s ∷ ss)) h in
+IsPrivate-from_list [] text joined h = absurd cc
+IsPrivate-from_list (m ∷ []) text joined h = absurd cc
+IsPrivate-from_list ([] ∷ s ∷ ss) text joined h = absurd cc
+IsPrivate-from_list ((b ∷ c ∷ m) ∷ s ∷ ss) text joined h = absurd cc
+IsPrivate-from_list ((b ∷ []) ∷ s ∷ ss) text joined h =
+    let k = and_parts (is_mark b) (are_private (s ∷ ss)) h in
     (record { mark = b; subtags = s ∷ ss }, record { mark = k.0; some = omega arith; subtags = each_from_test is_private_subtag (s ∷ ss) k.1 }, joined)
 
 -- from the test to the rule
-pub private_from_test : (text : List ℕ) → IsTrue (is_private_use text) → IsPrivate text
-private_from_test text h = rule_from_test (subtags text) text (join-subtags text) h
+pub IsPrivate-from_test : (text : List ℕ) → IsTrue (is_private_use text) → IsPrivate text
+IsPrivate-from_test text h = IsPrivate-from_list (subtags text) text (join-subtags text) h
 
 -- and back
-pub private_from_rule : (text : List ℕ) → IsPrivate text → IsTrue (is_private_use text)
+pub is_private_use-from_rule : (text : List ℕ) → IsPrivate text → IsTrue (is_private_use text)
 unfolding IsPrivate
-private_from_rule text r = ap are_private_use (subtags-private text r.0 r.1 r.2) ∙ test_from_rule r.0.mark r.0.subtags r.1
+is_private_use-from_rule text r = ap are_private_use (subtags-private text r.0 r.1 r.2) ∙ are_private_use-from_rule r.0.mark r.0.subtags r.1
 
-pub private_spelled : (text : List ℕ) (b : Bool) → b ≡ is_private_use text → IsTrue b ↔ IsPrivate text
-private_spelled text b same = (λ h. private_from_test text (sym same ∙ h), λ r. same ∙ private_from_rule text r)
+-- both ways, of an answer that is the test
+pub IsPrivate-decided : (text : List ℕ) (answer : Bool) → answer ≡ is_private_use text → IsTrue answer ↔ IsPrivate text
+IsPrivate-decided text answer same = (λ h. IsPrivate-from_test text (sym same ∙ h), λ r. same ∙ is_private_use-from_rule text r)
 
--- after the mark there are private use subtags alone
-pub are_private-after : (ss : List (List ℕ)) → are_private_use ss ≡ true → are_private (drop 1 ss) ≡ true
+-- the steps from the one to the other
+pub ruleset private_rules = (IsPrivate-from_test, is_private_use-from_rule, IsPrivate-decided)
+
+-- ---- the subtags after the mark
+
+are_private-after : (ss : List (List ℕ)) → are_private_use ss ≡ true → are_private (drop 1 ss) ≡ true
 are_private-after [] h = absurd cc
 are_private-after (mark ∷ []) h = absurd cc
-are_private-after (mark ∷ first ∷ others) h = (both_true (is_mark_alone mark) (are_private (first ∷ others)) h).1
+are_private-after (mark ∷ first ∷ others) h = (and_parts (is_mark_alone mark) (are_private (first ∷ others)) h).1
+
+-- they are private use subtags
+pub are_private-from_test : (text : List ℕ) → IsTrue (is_private_use text) → IsTrue (are_private (drop 1 (subtags text)))
+are_private-from_test text h = are_private-after (subtags text) h
+
+-- no more of them than bytes
+pub length-after_mark : (text : List ℕ) → length (drop 1 (subtags text)) ≤ length text
+length-after_mark text = omega (arith, length-drop 1 (subtags text), length-subtags text)
+
+pub ruleset after_mark = (are_private-from_test, length-after_mark)

@@ -1,2 +1,3 @@
 pub mod PrivateUse
+pub mod Tests
 pub mod Text

@@ -1,6 +1,7 @@
 -- The text of each type: its bytes; and the texts that an iterator has still to hand out.
-use Rattle.std.specs.Prelude.{ℕ, List}
+use Rattle.std.specs.Prelude.{ℕ, List, String}
 use Rattle.std.specs.String.{string_bytes}
+use Rattle.std.specs.declared.alloc.Global.{Global}
 use Rattle.langtag_private.specs.declared.private_use_subtag.PrivateUseSubtag.{PrivateUseSubtag}
 use Rattle.langtag_private.specs.declared.private_use_subtag.PrivateUseSubtagBuf.{PrivateUseSubtagBuf}
 use Rattle.langtag_private.specs.declared.private_use.PrivateUse.{PrivateUse}
@@ -10,14 +11,22 @@ use Rattle.langtag_private.specs.declared.private_use_iter.PrivateUseIter.{Priva
 abbrev pub private_use_subtag_text : PrivateUseSubtag → List ℕ
 private_use_subtag_text subtag = subtag.text.0.now
 
+-- the very `String` that is kept
+abbrev pub private_use_subtag_buf_string : PrivateUseSubtagBuf → String Global
+private_use_subtag_buf_string subtag = subtag.text.0
+
 abbrev pub private_use_subtag_buf_text : PrivateUseSubtagBuf → List ℕ
-private_use_subtag_buf_text subtag = string_bytes subtag.text.0
+private_use_subtag_buf_text subtag = string_bytes (private_use_subtag_buf_string subtag)
 
 abbrev pub private_use_text : PrivateUse → List ℕ
 private_use_text private_use = private_use.text.0.now
 
+-- the very `String` that is kept
+abbrev pub private_use_buf_string : PrivateUseBuf → String Global
+private_use_buf_string private_use = private_use.text.0
+
 abbrev pub private_use_buf_text : PrivateUseBuf → List ℕ
-private_use_buf_text private_use = string_bytes private_use.text.0
+private_use_buf_text private_use = string_bytes (private_use_buf_string private_use)
 
 -- the private use subtags still to come
 abbrev pub private_left : PrivateUseIter → List (List ℕ)

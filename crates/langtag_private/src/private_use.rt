@@ -3,9 +3,9 @@ ghost use Rattle.std.specs.Prelude.{◌≡◌, ◌↔◌, Some, IsTrue, IfOk, If
 ghost use Rattle.std.specs.String.{string_bytes};
 ghost use Rattle.langtag_scan.specs.Case.{are_alike};
 ghost use Rattle.langtag_scan.specs.Subtags.{subtags};
-ghost use Rattle.langtag_private.specs.PrivateUse as rule;
 ghost use Rattle.langtag_scan.specs.Tag.{IsPrivate};
 ghost use Rattle.langtag_private.specs.PrivateUse.{EachSpelling};
+ghost use Rattle.langtag_private.specs.Tests as test;
 
 use crate::private_use_iter::PrivateUseIter;
 use langtag_scan::{Caseless, Subtags, is_mark, is_private_subtag};
@@ -27,10 +27,10 @@ pub struct InvalidPrivateUse<T>(pub T);
 #[derive(Clone, Copy, Debug, PartialEq, Eq, PartialOrd, Ord, Hash)]
 pub struct PrivateUse<'a> {
     text: Caseless<&'a str>,
-    ghost in_class: { IsTrue (rule.is_private_use text.0.now) },
+    ghost in_class: { IsTrue (test.is_private_use text.0.now) },
 }
 
-#[tactic(auto, using(crate::proofs::Rules::private_from_test))]
+#[tactic(auto, using(crate::proofs::Rules::private_rules))]
 impl<'a> PrivateUse<'a> {
     ghost use Rattle.langtag_private.specs.Text.{private_use_text, private_use_buf_text, private_left};
 
@@ -52,7 +52,7 @@ impl<'a> PrivateUse<'a> {
 
     /// The private use part of a text that is known to be one: it is not looked at again.
     pub fn from_checked(text: &'a str) -> PrivateUse<'a>
-        requires { IsTrue (rule.is_private_use text.now) }
+        requires { IsPrivate text.now }
         ensures { private_use_text result ≡ text.now }
     {
         PrivateUse {
@@ -107,8 +107,7 @@ impl<'a> PrivateUse<'a> {
 
 /// Whether the text is a mark and private use subtags, at least one, joined by hyphens.
 fn is_private_use(text: &str) -> bool
-    ensures test { result ≡ rule.is_private_use text.now }
-    ensures spelled { IsTrue result ↔ (IsPrivate text.now) }
+    ensures { result ≡ test.is_private_use text.now }
 {
     let mut subtags = Subtags::new(text);
     let marked = subtags
@@ -122,7 +121,7 @@ fn is_private_use(text: &str) -> bool
 
 /// Whether the bytes are the mark alone.
 fn is_mark_alone(bytes: &[u8]) -> bool
-    ensures { result ≡ rule.is_mark_alone bytes.now }
+    ensures { result ≡ test.is_mark_alone bytes.now }
 {
     match bytes {
         [byte] => is_mark(*byte),
@@ -132,7 +131,7 @@ fn is_mark_alone(bytes: &[u8]) -> bool
 
 /// Whether all subtags that are left are private use subtags.
 fn are_private(mut subtags: Subtags<'_>) -> bool
-    ensures { result ≡ rule.are_private subtags.entry }
+    ensures { result ≡ test.are_private subtags.entry }
 {
     subtags.all(|subtag| is_private_subtag(subtag.as_bytes()))
 }
@@ -151,12 +150,12 @@ impl fmt::Display for PrivateUse<'_> {
 #[derive(Debug, Drop, PartialEq, Eq, PartialOrd, Ord, Hash)]
 pub struct PrivateUseBuf {
     text: Caseless<String>,
-    ghost in_class: { IsTrue (rule.is_private_use (string_bytes text.0)) },
+    ghost in_class: { IsTrue (test.is_private_use (string_bytes text.0)) },
 }
 
-#[tactic(auto, using(crate::proofs::Rules::private_from_test))]
+#[tactic(auto, using(crate::proofs::Rules::private_rules))]
 impl PrivateUseBuf {
-    ghost use Rattle.langtag_private.specs.Text.{private_use_text, private_use_buf_text};
+    ghost use Rattle.langtag_private.specs.Text.{private_use_text, private_use_buf_text, private_use_buf_string};
 
     /// The private use part of a text, which is neither copied nor moved in memory.
     ///
@@ -167,6 +166,7 @@ impl PrivateUseBuf {
     pub fn new(text: String) -> Result<PrivateUseBuf, InvalidPrivateUse<String>>
         ensures accepts { IsTrue (is_ok result) ↔ (IsPrivate (string_bytes text)) }
         ensures same_text { IfOk result (λ private_use. private_use_buf_text private_use ≡ string_bytes text) }
+        ensures same_string { IfOk result (λ private_use. private_use_buf_string private_use ≡ text) }
         ensures given_back { IfErr result (λ error. error.0 ≡ text) }
     {
         if !is_private_use(text.as_str()) {
@@ -195,6 +195,7 @@ impl PrivateUseBuf {
     /// The text itself, which is not copied.
     pub fn into_string(self) -> String
         ensures same_text { string_bytes result ≡ private_use_buf_text self }
+        ensures same_string { result ≡ private_use_buf_string self }
         ensures in_class { IsPrivate (string_bytes result) }
     {
         self.text.0

@@ -1,8 +1,8 @@
 //! The subtags of a private use part one by one.
-ghost use Rattle.std.specs.Prelude.{◌≡◌, IsTrue, [], drop};
+ghost use Rattle.std.specs.Prelude.{◌≡◌, ◌<◌, ◌^◌, IsTrue, [], drop, length};
 ghost use Rattle.std.specs.Iterator.{YieldsFirstBy, item_count};
 ghost use Rattle.langtag_scan.specs.Subtags.{subtags};
-ghost use Rattle.langtag_private.specs.PrivateUse.{are_private, is_private_use};
+ghost use Rattle.langtag_private.specs.Tests.{are_private, is_private_use};
 
 use crate::private_use_subtag::PrivateUseSubtag;
 use langtag_scan::Subtags;
@@ -12,6 +12,7 @@ use langtag_scan::Subtags;
 pub struct PrivateUseIter<'a> {
     rest: Subtags<'a>,
     ghost in_class: { IsTrue (are_private rest) },
+    ghost few: { length rest < 2 ^ 64 },
 }
 
 impl<'a> PrivateUseIter<'a> {
@@ -27,14 +28,24 @@ impl<'a> PrivateUseIter<'a> {
     }
 
     /// The subtags of a private use part, without its mark.
+    #[tactic(auto, using(crate::proofs::Rules::after_mark))]
     pub(crate) fn new(text: &'a str) -> Self
         requires { IsTrue (is_private_use text.now) }
         ensures { private_left result ≡ drop 1 (subtags text.now) }
     {
-        let mut rest = Subtags::new(text);
-        let _mark = rest.next();
-        PrivateUseIter { rest }
+        PrivateUseIter {
+            rest: after_mark(text),
+        }
     }
+}
+
+/// The subtags of a text but for the first, which is the mark.
+fn after_mark<'a>(text: &'a str) -> Subtags<'a>
+    ensures { result ≡ drop 1 (subtags text.now) }
+{
+    let mut rest = Subtags::new(text);
+    let _mark = rest.next();
+    rest
 }
 
 impl Default for PrivateUseIter<'_> {

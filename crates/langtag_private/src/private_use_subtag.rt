@@ -109,7 +109,7 @@ pub struct PrivateUseSubtagBuf {
 }
 
 impl PrivateUseSubtagBuf {
-    ghost use Rattle.langtag_private.specs.Text.{private_use_subtag_text, private_use_subtag_buf_text};
+    ghost use Rattle.langtag_private.specs.Text.{private_use_subtag_text, private_use_subtag_buf_text, private_use_subtag_buf_string};
 
     /// The subtag of a text, which is neither copied nor moved in memory.
     ///
@@ -119,6 +119,7 @@ impl PrivateUseSubtagBuf {
     pub fn new(text: String) -> Result<PrivateUseSubtagBuf, InvalidPrivateUseSubtag<String>>
         ensures accepts { is_ok result ≡ class.is_private_subtag (string_bytes text) }
         ensures same_text { IfOk result (λ subtag. private_use_subtag_buf_text subtag ≡ string_bytes text) }
+        ensures same_string { IfOk result (λ subtag. private_use_subtag_buf_string subtag ≡ text) }
         ensures given_back { IfErr result (λ error. error.0 ≡ text) }
     {
         if !is_private_subtag(text.as_bytes()) {
@@ -147,6 +148,7 @@ impl PrivateUseSubtagBuf {
     /// The text itself, which is not copied.
     pub fn into_string(self) -> String
         ensures same_text { string_bytes result ≡ private_use_subtag_buf_text self }
+        ensures same_string { result ≡ private_use_subtag_buf_string self }
         ensures in_class { IsTrue (class.is_private_subtag (string_bytes result)) }
     {
         self.text.0

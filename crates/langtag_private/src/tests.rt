@@ -1,2 +1,3 @@
+mod callers;
 mod private_use;
 mod private_use_subtag;

@@ -12,9 +12,10 @@ use Rattle.langtag_scan.specs.declared.ends.Ends.{Ends}
 use Rattle.langtag_scan.specs.Record.{Record, IsWellFormed, extension_flat, one_flat, private_part_flat, flat}
 use Rattle.langtag_scan.specs.Stage.{opened, after_region, after_script, after_language, next_stage, may_end}
 use Rattle.langtag_scan.specs.Subtags.{join}
+use Rattle.langtag_scan.proofs.Tests.{chosen}
 use Rattle.langtag_scan.proofs.Running.{ends_after-nil, ends_after-cons}
 use Rattle.langtag_scan.proofs.Complete.{decode_complete}
-use Rattle.langtag_scan.proofs.Decoding.{whole, Read, put, nothing, decode, bind_some, map_some, chosen, same_stage}
+use Rattle.langtag_scan.proofs.Decoding.{whole, Read, put, nothing, decode, bind_some, map_some, same_stage}
 
 -- the length of these subtags, each after a hyphen
 abbrev weight : List (List ℕ) → ℕ

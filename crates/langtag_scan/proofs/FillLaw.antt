@@ -16,7 +16,8 @@ use Rattle.langtag_scan.specs.declared.stage.Stage.TheVariants.{Start, AfterMark
 use Rattle.langtag_scan.specs.declared.machine.Reading.{Reading}
 use Rattle.langtag_scan.specs.declared.machine.Reading.TheVariants.{Normal, Private}
 use Rattle.langtag_scan.proofs.ReadingLaws.{starting, reads_nothing, stopped_more, reads_grown, reads_stuck, reads_after, reads_marked, reads_refused}
-use Rattle.langtag_scan.proofs.TagLaws.{tag_irregular, viable_from_tag, viable_reads}
+use Rattle.langtag_scan.proofs.RecogniserLaws.{filled_tag}
+use Rattle.langtag_scan.proofs.TagLaws.{tag_irregular, viable_from_tag}
 
 -- ---- what is known of any prefix
 
@@ -100,7 +101,7 @@ fill_from_viable : (p : List ℕ) → IsViable p → IsTag (fill p) ⊎ IsIrregu
 fill_from_viable p v =
     elim (read_prefix p) [
       | inl stopped ↦ inr (stopped_prefix p stopped v)
-      | inr k ↦ inl (viable_reads k.reading p k.stage k.shape k.ends k.reads)
+      | inr k ↦ inl (filled_tag k.reading p k.stage k.shape k.ends k.reads)
     ]
 
 viable_from_fill : (p : List ℕ) → IsTag (fill p) ⊎ IsIrregularPrefix p → IsViable p

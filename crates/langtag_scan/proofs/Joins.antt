@@ -1,7 +1,7 @@
 -- A join is its first subtag and the others, each after a hyphen. So lists of subtags that follow one another do so in
 -- the text, too, and it can be cut between them.
 use Rattle.std.proofs.Common.{◌≡◌, ℕ, ◌+◌, ◌-◌, ◌≤◌, List, [], ◌∷◌, ◌++◌, length, take, drop, Option, None, Some, unwrap_or, refl, sym, ap, ◌∙◌, arith, append_assoc, append-nil}
-use Rattle.std.specs.List.{flat_map}
+use Rattle.std.specs.List.{flat_map, replace_range}
 use Rattle.std.specs.Option.{option_map}
 use Rattle.std.proofs.lemmas.Bool.{eq-eqb, ne_eqb}
 use Rattle.std.proofs.lemmas.List.{take_at, drop_at, length-append, length_push}
@@ -36,11 +36,27 @@ pub hyphenated-present : (ss : List (List ℕ)) → hyphenated (present ss) ≡ 
 hyphenated-present [] = refl
 hyphenated-present (s ∷ ss) = ap (λ t. 45 ∷ t) (append-nil (join (s ∷ ss)) ∙ join-hyphenated s ss)
 
-pub length-join : (x : List ℕ) (xs ys : List (List ℕ)) → length (join (x ∷ (xs ++ ys))) ≡ length (join (x ∷ xs)) + length (hyphenated ys)
-length-join x xs ys = ap length (join-append x xs ys) ∙ length-append (join (x ∷ xs)) (hyphenated ys)
+-- one subtag after its hyphen
+pub hyphenated-one : (s : List ℕ) → hyphenated (s ∷ []) ≡ 45 ∷ s
+hyphenated-one s = ap (λ t. 45 ∷ t) (append-nil s)
+
+-- what stands before some subtags, these, and what stands after them
+pub join-around : (x : List ℕ) (xs ys zs : List (List ℕ)) → join (x ∷ (xs ++ (ys ++ zs))) ≡ (join (x ∷ xs) ++ hyphenated ys) ++ hyphenated zs
+join-around x xs ys zs = simp (join-hyphenated, hyphenated-append, append_assoc)
+
+-- ---- the lengths of joins
+
+pub length-hyphenated : (xs ys : List (List ℕ)) → length (hyphenated (xs ++ ys)) ≡ length (hyphenated xs) + length (hyphenated ys)
+length-hyphenated xs ys = ap length (hyphenated-append xs ys) ∙ length-append (hyphenated xs) (hyphenated ys)
+
+pub length-join : (x : List ℕ) (xs : List (List ℕ)) → length (join (x ∷ xs)) ≡ length x + length (hyphenated xs)
+length-join x xs = ap length (join-hyphenated x xs) ∙ length-append x (hyphenated xs)
+
+pub length-join-append : (x : List ℕ) (xs ys : List (List ℕ)) → length (join (x ∷ (xs ++ ys))) ≡ length (join (x ∷ xs)) + length (hyphenated ys)
+length-join-append x xs ys = ap length (join-append x xs ys) ∙ length-append (join (x ∷ xs)) (hyphenated ys)
 
 pub join-longer : (x : List ℕ) (xs ys : List (List ℕ)) → length (join (x ∷ xs)) ≤ length (join (x ∷ (xs ++ ys)))
-join-longer x xs ys = omega (arith, length-join x xs ys)
+join-longer x xs ys = omega (arith, length-join-append x xs ys)
 
 -- ---- a text that is cut in two
 
@@ -56,11 +72,11 @@ take-join x xs ys = take_cut (join (x ∷ (xs ++ ys))) (join (x ∷ xs)) (hyphen
 pub drop-join : (x : List ℕ) (xs ys : List (List ℕ)) → drop (length (join (x ∷ xs))) (join (x ∷ (xs ++ ys))) ≡ hyphenated ys
 drop-join x xs ys = drop_cut (join (x ∷ (xs ++ ys))) (join (x ∷ xs)) (hyphenated ys) (length (join (x ∷ xs))) (join-append x xs ys) refl
 
--- other subtags in place of some
-pub join-replaced : (x : List ℕ) (xs ys zs us : List (List ℕ)) → take (length (join (x ∷ xs))) (join (x ∷ (xs ++ (ys ++ zs)))) ++ (hyphenated us ++ drop (length (join (x ∷ (xs ++ ys)))) (join (x ∷ (xs ++ (ys ++ zs))))) ≡ join (x ∷ (xs ++ (us ++ zs)))
+-- to replace subtags, each after its hyphen, in the text is to replace them in the list
+pub join-replaced : (x : List ℕ) (xs ys zs us : List (List ℕ)) → replace_range (join (x ∷ (xs ++ (ys ++ zs)))) (length (join (x ∷ xs))) (length (join (x ∷ (xs ++ ys)))) (hyphenated us) ≡ join (x ∷ (xs ++ (us ++ zs)))
 join-replaced x xs ys zs us =
     let rest : drop (length (join (x ∷ (xs ++ ys)))) (join (x ∷ (xs ++ (ys ++ zs)))) ≡ hyphenated zs = simp append_assoc at (drop-join x (xs ++ ys) zs) in
-    rw (take-join x xs (ys ++ zs), rest) (ap (λ t. join (x ∷ xs) ++ t) (sym (hyphenated-append us zs)) ∙ sym (join-append x xs (us ++ zs)))
+    rw (take-join x xs (ys ++ zs), rest) (sym (join-around x xs us zs))
 
 -- ---- what stands between two ends
 
@@ -94,7 +110,7 @@ text_between-join x xs [] zs = rw (append-nil xs, eq-eqb (length (join (x ∷ xs
 text_between-join x xs (y ∷ ys) zs =
     let part : hyphenated (y ∷ ys) ≡ 45 ∷ join (y ∷ ys) = ap (λ t. 45 ∷ t) (sym (join-hyphenated y ys)) in
     let whole : join (x ∷ (xs ++ ((y ∷ ys) ++ zs))) ≡ join (x ∷ xs) ++ 45 ∷ (join (y ∷ ys) ++ hyphenated zs) = join-append x xs ((y ∷ ys) ++ zs) ∙ ap (λ t. join (x ∷ xs) ++ t) (hyphenated-append (y ∷ ys) zs ∙ ap (λ t. t ++ hyphenated zs) part) in
-    text_between-cut (join (x ∷ (xs ++ ((y ∷ ys) ++ zs)))) (join (x ∷ xs)) (join (y ∷ ys)) (hyphenated zs) (length (join (x ∷ (xs ++ y ∷ ys)))) whole (omega (arith, length-join x xs (y ∷ ys), ap length part))
+    text_between-cut (join (x ∷ (xs ++ ((y ∷ ys) ++ zs)))) (join (x ∷ xs)) (join (y ∷ ys)) (hyphenated zs) (length (join (x ∷ (xs ++ y ∷ ys)))) whole (omega (arith, length-join-append x xs (y ∷ ys), ap length part))
 
 -- the same, however the prefixes are grouped
 pub text_between-lists : (x : List ℕ) (xs ys zs prefix whole : List (List ℕ)) → prefix ≡ xs ++ ys → whole ≡ xs ++ (ys ++ zs) → text_between (join (x ∷ whole)) (length (join (x ∷ xs))) (length (join (x ∷ prefix))) ≡ joined ys

@@ -1,3 +1,4 @@
+pub mod Tests
 pub mod Disjoint
 pub mod Decoding
 pub mod Complete
@@ -11,7 +12,10 @@ pub mod PrivateTexts
 pub mod ReadingLaws
 pub mod EndsLaw
 pub mod IrregularNames
+pub mod NamesByLength
+pub mod NameRanges
 pub mod TagLaws
+pub mod RecogniserLaws
 pub mod FillLaw
 pub mod CaseLaw
 pub mod OneKind

@@ -3,14 +3,13 @@ use Rattle.std.proofs.Common.{Bool, ◌≡◌, ℕ, ◌≤◌, true, false, eqb,
 use Rattle.std.specs.Prelude.{IsTrue}
 use Rattle.std.specs.List.{AllByRecursion}
 use Rattle.std.specs.Option.{is_some}
-use Rattle.std.proofs.lemmas.Bool.{and_parts, and_from}
+use Rattle.std.proofs.lemmas.Bool.{and_parts, and_from, or_cases}
 use Rattle.std.proofs.lemmas.List.Splits.{join_with_byte-slice_split}
 use Rattle.langtag_scan.specs.declared.stage.Stage.TheVariants.{Start, AfterMark}
 use Rattle.langtag_scan.specs.Class.{is_letter, is_alphanumeric, are_alphanumeric, is_private_subtag, is_primary, is_mark}
 use Rattle.langtag_scan.specs.Subtags.{join, segments}
 use Rattle.langtag_scan.specs.Tag.{IsNormal, IsPrivate}
 use Rattle.langtag_scan.specs.Stage.{is_one, runs}
-use Rattle.langtag_scan.proofs.Disjoint.{both_true, one_true}
 use Rattle.langtag_scan.proofs.Decoding.{decode, decode_sound, pending}
 use Rattle.langtag_scan.proofs.Complete.{after_mark}
 use Rattle.langtag_scan.proofs.NormalTexts.{runs-decode, is_there, decoded_subtags, runs_from_normal}
@@ -88,8 +87,8 @@ private_begun (m ∷ c ∷ s) b u h p =
     let k = marked_from_private (m ∷ c ∷ (s ++ b ∷ u)) p in
     let split : m ∷ c ∷ (s ++ b ∷ u) ≡ k.mark ∷ 45 ∷ k.rest = k.split in
     let hyphen : c ≡ 45 = cc in
-    let two = both_true (is_alphanumeric m) (are_alphanumeric (c ∷ s)) h in
-    let one = both_true (is_alphanumeric c) (are_alphanumeric s) two.1 in
+    let two = and_parts (is_alphanumeric m) (are_alphanumeric (c ∷ s)) h in
+    let one = and_parts (is_alphanumeric c) (are_alphanumeric s) two.1 in
     let none : eqb c 45 ≡ false = alphanumeric_no_hyphen c one.0 in
     let yes_hyphen : eqb c 45 ≡ true = ap (λ x. eqb x 45) hyphen in
     absurd cc
@@ -104,8 +103,8 @@ private_no_hyphen s h p = by_text s h (marked_from_private s p)
     by_text (m ∷ c ∷ s) h k =
         let split : m ∷ c ∷ s ≡ k.mark ∷ 45 ∷ k.rest = k.split in
         let hyphen : c ≡ 45 = cc in
-        let two = both_true (is_alphanumeric m) (are_alphanumeric (c ∷ s)) h in
-        let one = both_true (is_alphanumeric c) (are_alphanumeric s) two.1 in
+        let two = and_parts (is_alphanumeric m) (are_alphanumeric (c ∷ s)) h in
+        let one = and_parts (is_alphanumeric c) (are_alphanumeric s) two.1 in
         let none : eqb c 45 ≡ false = alphanumeric_no_hyphen c one.0 in
         let yes_hyphen : eqb c 45 ≡ true = ap (λ x. eqb x 45) hyphen in
         cc
@@ -113,7 +112,7 @@ private_no_hyphen s h p = by_text s h (marked_from_private s p)
 pub mark_letter : (m : ℕ) → is_mark m ≡ true → is_letter m ≡ true
 unfolding is_mark is_letter
 mark_letter m h =
-    elim (one_true (eqb m 120) (eqb m 88) h) [
+    elim (or_cases (eqb m 120) (eqb m 88) h) [
       | inl e ↦ let same : m ≡ 120 = eqb-true _ _ e in rw same refl
       | inr e ↦ let same : m ≡ 88 = eqb-true _ _ e in rw same refl
     ]

@@ -1,6 +1,7 @@
 -- Texts and the lists of subtags that stand between their hyphens: joining and splitting undo one another, and a list of
 -- members of a class is found again in its join.
 use Rattle.std.proofs.Common.{◌≡◌, ℕ, ◌<◌, ◌≤◌, ◌+◌, ◌-◌, List, length, get_or, arith, subst, Bool, true, false, [], ◌∷◌, ◌++◌, refl, ap, ◌∙◌, Option, None, Some, Bor, MatchOption, All, IsTrue, eqb}
+use Rattle.std.proofs.lemmas.Bool.{and_parts}
 use Rattle.std.specs.Str.{IsUtf8, IsCharBoundary}
 use Rattle.std.proofs.lemmas.Str.{IsCharBoundary-after_ascii}
 use Rattle.std.specs.List.{onto_first, AllByRecursion, list_all}
@@ -9,7 +10,6 @@ use Rattle.std.proofs.lemmas.List.Elements.{All-nil, All-cons, All-head, All-tai
 use Rattle.std.proofs.lemmas.Grind.{common_steps}
 use Rattle.std.proofs.lemmas.List.Sums.{count_by-le-length}
 use Rattle.langtag_scan.specs.Subtags.{is_hyphen, IsHyphenFree, join, segments, subtags, segments_left}
-use Rattle.langtag_scan.proofs.Disjoint.{both_true}
 use Rattle.langtag_scan.proofs.SubtagFacts.{IsSubtag, no_hyphen}
 
 -- ---- the first and the last segment
@@ -93,7 +93,7 @@ join-subtags (b ∷ text) = join_with_byte-slice_split 45 (b ∷ text)
 -- a list passes the test of a class where each member does, and only there
 pub each_from_test : (test : List ℕ → Bool) (ss : List (List ℕ)) → list_all test ss ≡ true → AllByRecursion (λ s. IsTrue (test s)) ss
 each_from_test test [] h = tt
-each_from_test test (s ∷ ss) h = let k = both_true (test s) (list_all test ss) h in (k.0, each_from_test test ss k.1)
+each_from_test test (s ∷ ss) h = let k = and_parts (test s) (list_all test ss) h in (k.0, each_from_test test ss k.1)
 
 pub test_from_each : (test : List ℕ → Bool) (ss : List (List ℕ)) → AllByRecursion (λ s. IsTrue (test s)) ss → list_all test ss ≡ true
 test_from_each test [] h = refl

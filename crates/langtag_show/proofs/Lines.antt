@@ -1,10 +1,10 @@
 -- How the lines of an input grow as bytes are added at its end.
 use Rattle.std.proofs.Common.{◌≡◌, ◌∙◌, ℕ, Bool, true, false, eqb-true, List, [], ◌∷◌, ◌++◌, refl, sym, ap, append_assoc, length-append, arith}
-use Rattle.std.specs.List.{onto_first}
+use Rattle.std.specs.List.{onto_first, flat_map, AllByRecursion}
 use Rattle.std.proofs.lemmas.List.{take_at, get_or_at}
 use Rattle.std.proofs.lemmas.List.Elements.{All-nil, All-cons, All-push}
 use Rattle.std.proofs.lemmas.List.Splits.{slice_split-cons_yes, slice_split-cons_no, slice_split_none, slice_split_at}
-use Rattle.langtag_show.specs.Lines.{IsCutInto, is_line_feed, pieces, complete_lines, rest_of, NoLineFeed}
+use Rattle.langtag_show.specs.Lines.{IsCutInto, is_line_feed, ended, pieces, complete_lines, rest_of, NoLineFeed}
 
 -- ---- lines and a rest, from the pieces
 
@@ -78,6 +78,27 @@ pub lines_cut : (input : List ℕ) → IsCutInto input (complete_lines input) (r
 lines_cut input =
     let (lines, rest, cut) = cut_of input in
     rw (complete_lines-pieces input lines rest cut.split, rest_of-pieces input lines rest cut.split) cut.cut
+
+-- the pieces of a cut input are its lines and its rest
+pieces-joined : (lines : List (List ℕ)) (rest : List ℕ) → AllByRecursion NoLineFeed lines → NoLineFeed rest → pieces (flat_map ended lines ++ rest) ≡ lines ++ rest ∷ []
+pieces-joined [] rest lines_free rest_free = slice_split_none is_line_feed rest rest_free
+pieces-joined (l ∷ ls) rest (free, lines_free) rest_free =
+    let after = flat_map ended ls ++ rest in
+    let first : flat_map ended (l ∷ ls) ++ rest ≡ l ++ 10 ∷ after = simp append_assoc in
+    ap pieces first ∙ slice_split_at is_line_feed l 10 after free refl ∙ ap (λ p. l ∷ p) (pieces-joined ls rest lines_free rest_free)
+
+-- so a cut is the complete lines and the rest
+cut_lines : (input : List ℕ) (lines : List (List ℕ)) (rest : List ℕ) → IsCutInto input lines rest → (lines ≡ complete_lines input) × (rest ≡ rest_of input)
+cut_lines input lines rest cut =
+    let are : pieces input ≡ lines ++ rest ∷ [] = ap pieces (sym cut.joined) ∙ pieces-joined lines rest cut.lines_free cut.rest_free in
+    (sym (complete_lines-pieces input lines rest are), sym (rest_of-pieces input lines rest are))
+
+-- two cuts of an input are equal
+pub one_cut : (input : List ℕ) (lines others : List (List ℕ)) (rest other : List ℕ) → IsCutInto input lines rest → IsCutInto input others other → (lines ≡ others) × (rest ≡ other)
+one_cut input lines others rest other cut also =
+    let (these, this) = cut_lines input lines rest cut in
+    let (those, that) = cut_lines input others other also in
+    (these ∙ sym those, this ∙ sym that)
 
 record Grown (input more : List ℕ) : Type 0 where
   lines : complete_lines (input ++ more) ≡ complete_lines input ++ complete_lines (rest_of input ++ more)

@@ -6,7 +6,3 @@ use Rattle.std.specs.Result.{is_ok}
 pub OnOk-by : {T E : Type 0} (P : Type 0) (r : Result T E) → (is_ok r ≡ true → P) → OnOk r P
 OnOk-by P (Ok x) holds = holds refl
 OnOk-by P (Err e) holds = tt
-
-pub OnOk-at : {T E : Type 0} (P : Type 0) (r : Result T E) → is_ok r ≡ true → OnOk r P → P
-OnOk-at P (Ok x) ok holds = holds
-OnOk-at P (Err e) ok holds = absurd cc

@@ -1,11 +1,8 @@
 -- How the answers that a writer holds grow as bytes are taken.
-use Rattle.std.proofs.Common.{◌≡◌, ◌∙◌, ℕ, ◌+◌, Option, ◌<◌, arith, List, [], ◌∷◌, ◌++◌, length, take, refl, sym, ap, append_assoc, append-nil, subst}
-use Rattle.std.specs.Io.KnownBytes.{Appends, Keeps}
+use Rattle.std.proofs.Common.{◌≡◌, ◌∙◌, ℕ, ◌+◌, Option, None, Some, ◌<◌, arith, List, [], ◌∷◌, ◌++◌, length, take, refl, sym, ap, append_assoc, append-nil, subst}
+use Rattle.std.specs.Io.KnownBytes.{Appends, Keeps, append_known}
 use Rattle.std.proofs.KnownBytes.{Appends-nil, Appends-trans, Appends-kept}
 use Rattle.std.proofs.Math.Seq.{take-append_seam, take-append-add}
-use Rattle.std.specs.Result.{is_ok}
-use Rattle.std.specs.Prelude.{OnOk, Result}
-use Rattle.langtag_show.proofs.Outcomes.{OnOk-by, OnOk-at}
 use Rattle.langtag_show.specs.Lines.{complete_lines, rest_of, last_line, lines_of, ended, NoLineFeed}
 use Rattle.langtag_show.specs.Report.{IsAnswer, AreAnswers, none, one_more, Answers}
 use Rattle.langtag_show.proofs.Lines.{complete_lines-append, rest_of-append, lines_cut}
@@ -18,13 +15,16 @@ AreAnswers-append _ ys _ b (one_more line text lines texts is p) q =
 pub Answers-nil : (a : Option (List ℕ)) → Answers a a []
 Answers-nil a = ([], none, Appends-nil a)
 
-Answers-one : (a b : Option (List ℕ)) (line text : List ℕ) → IsAnswer line text → Appends a b (ended text) → Answers a b (line ∷ [])
+pub Answers-one : (a b : Option (List ℕ)) (line text : List ℕ) → IsAnswer line text → Appends a b (ended text) → Answers a b (line ∷ [])
 Answers-one a b line text is p = (ended text ++ [], one_more line text [] [] is none, subst (Appends a b) (sym (append-nil (ended text))) p)
 
--- an answer and its LF that were written are the answer to one line, also where the error is told as another
-pub answers_told : {E D : Type 0} (r : Result (Unit {0}) E) (s : Result (Unit {0}) D) (a b : Option (List ℕ)) (line text : List ℕ) → is_ok s ≡ is_ok r → IsAnswer line text
-    → OnOk r (Appends a b (ended text)) → OnOk s (Answers a b (line ∷ []))
-answers_told r s a b line text same is written = OnOk-by _ s (λ ok. Answers-one a b line text is (OnOk-at _ r (sym same ∙ ok) written))
+-- what an empty page took until the writer gained the last of it
+pub page_written : (a b c : Option (List ℕ)) (page last taken : List ℕ) → page ≡ [] → Appends (append_known a page) (append_known b last) taken → Appends b c last → Appends a c taken
+page_written None b c page last taken empty took gained = tt
+page_written (Some x) None c page last taken empty took gained = absurd took
+page_written (Some x) (Some y) None page last taken empty took gained = absurd gained
+page_written (Some x) (Some y) (Some z) page last taken empty took gained =
+    gained ∙ took ∙ ap (λ l. (x ++ l) ++ taken) empty ∙ ap (λ l. l ++ taken) (append-nil x)
 
 pub Answers-trans : (a b c : Option (List ℕ)) (xs ys : List (List ℕ)) → Answers a b xs → Answers b c ys → Answers a c (xs ++ ys)
 Answers-trans a b c xs ys (s, p, q) (t, p', q') = (s ++ t, AreAnswers-append xs ys s t p p', Appends-trans a b c s t q q')

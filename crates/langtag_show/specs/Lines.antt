@@ -34,7 +34,7 @@ last_line (b ∷ bs) = (b ∷ bs) ∷ []
 abbrev pub lines_of : List ℕ → List (List ℕ)
 lines_of input = complete_lines input ++ last_line (rest_of input)
 
--- an input is cut into lines, each ended by its LF, and a rest: there is one such cut
+-- an input is cut into lines, each ended by its LF, and a rest; `run` carries the law that there is one such cut
 pub record IsCutInto (input : List ℕ) (lines : List (List ℕ)) (rest : List ℕ) : Type 0 where
   pub joined : flat_map ended lines ++ rest ≡ input
   pub lines_free : AllByRecursion NoLineFeed lines

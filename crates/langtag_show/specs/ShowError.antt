@@ -1,5 +1,5 @@
 -- What the program says of a fault, and the status that it ends with.
-use Rattle.std.specs.Prelude.{ℕ, List, codes}
+use Rattle.std.specs.Prelude.{ℕ, List, Result, Ok, Err, codes}
 use Rattle.langtag_show.specs.declared.show_error.ShowError.{ShowError}
 use Rattle.langtag_show.specs.declared.show_error.ShowError.TheVariants.{Memory, Read, Write}
 
@@ -12,3 +12,8 @@ abbrev pub status_of : ShowError → ℕ
 status_of Memory = 3
 status_of Read = 4
 status_of Write = 5
+
+-- the status that the program ends with: 0 without a fault
+abbrev pub status_after : Result (Unit {0}) ShowError → ℕ
+status_after (Ok done) = 0
+status_after (Err error) = status_of error

@@ -4,17 +4,20 @@ ghost use Rattle.langtag_scan.specs.Found.{IsFoundOf};
 ghost use Rattle.langtag_scan.specs.Findings.{finding};
 ghost use Rattle.langtag_show.specs.Report.{IsAnswer, Answers};
 
+use crate::page::Page;
 use crate::show_error::ShowError;
 use langtag_scan::{Found, Metered, recognise};
 use std::io::Write;
 
 /// Writes the answer to a line, and the LF that ends it.
-#[tactic(auto, using(crate::proofs::Written::answers_told))]
 pub(crate) fn write_answer<W: Write>(line: &[u8], output: &mut W) -> Result<(), ShowError>
     ensures ok { OnOk result (Answers (W.contents output.old) (W.contents output.new) (line.now ∷ [])) }
     ensures err { IsOkUnless result ShowError.Write }
 {
-    writeln!(output, "{}", answer_to(line)).map_err(|_| ShowError::Write)
+    let mut page = Page::new();
+    page.put(answer_to(line), output)?;
+    page.put("\n", output)?;
+    page.finish(output)
 }
 
 /// The answer to a line, without its LF. A tag is ASCII, so a line that is not UTF-8 is none.

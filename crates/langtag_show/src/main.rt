@@ -7,6 +7,8 @@
 #![tactic(auto)]
 
 mod answer;
+mod outcome;
+mod page;
 mod run;
 mod show_error;
 #[cfg(test)]
@@ -16,14 +18,6 @@ use std::io;
 use std::process::ExitCode;
 
 fn main(rt: HostRuntime) -> ExitCode {
-    let mut input = rt.stdin();
-    let mut output = io::writer(&rt);
-    match run::run(rt.alloc(), &mut input, &mut output) {
-        Ok(()) => ExitCode::SUCCESS,
-        Err(error) => {
-            // Where standard error takes nothing either, the status still tells.
-            let _ = rt.eprintln(error.text());
-            ExitCode::from(error.status())
-        }
-    }
+    let ended = run::run(rt.alloc(), &mut rt.stdin(), &mut io::writer(&rt));
+    outcome::conclude(ended, &mut rt.stderr())
 }

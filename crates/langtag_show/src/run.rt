@@ -33,8 +33,10 @@ pub fn run<R: Read, W: Write>(alloc: Global, input: &mut R, output: &mut W) -> R
     ensures after_memory { IsErrOf result ShowError.Memory → HavingRead (R.remaining input.old) (R.remaining input.new)
         (λ i. (k : ℕ) × Answers (W.contents output.old) (W.contents output.new) (take k (complete_lines i))) }
 
-    // What these words mean is one thing: an input has these lines, and a line one answer.
+    // What these words mean is one thing: an input is cut into lines in one way, and a line has one answer.
     ensures cut { (i : List ℕ) → IsCutInto i (complete_lines i) (rest_of i) }
+    ensures one_cut { (i : List ℕ) (lines others : List (List ℕ)) (rest other : List ℕ) →
+        IsCutInto i lines rest → IsCutInto i others other → (lines ≡ others) × (rest ≡ other) }
     ensures one_answer { (l text other : List ℕ) → IsAnswer l text → IsAnswer l other → text ≡ other }
     ensures one_report { (lines : List (List ℕ)) (texts others : List ℕ) →
         AreAnswers lines texts → AreAnswers lines others → texts ≡ others }

@@ -1,7 +1,8 @@
 //! Texts that are kept, shown and copied.
 use super::hash_of;
-use super::parts::part_texts;
+use super::parts::{part_ends, part_texts};
 use crate::{NormalLangTag, NormalLangTagBuf};
+use langtag_place::Region;
 use std::alloc::{AllocError, Global};
 use std::cmp::Ordering;
 use std::test::Fail;
@@ -41,7 +42,7 @@ pub(super) fn private_tag(alloc: Global, subtags: u32) -> Result<String, AllocEr
 }
 
 #[test]
-fn a_long_text_is_shown_and_copied(rt: HostRuntime) -> Result<(), Fail> {
+fn a_long_text_is_shown_copied_and_edited(rt: HostRuntime) -> Result<(), Fail> {
     let text = private_tag(rt.alloc(), 10_000)?;
     let tag = NormalLangTag::new(text.as_str()).ok().ok_or("refused")?;
     assert_eq!(rt; tag.as_str().len(), 20_004);
@@ -52,9 +53,15 @@ fn a_long_text_is_shown_and_copied(rt: HostRuntime) -> Result<(), Fail> {
     }
     assert_eq!(rt; subtags, 10_000);
     assert_eq!(rt; tag.to_string(rt.alloc())?.as_str(), text.as_str());
-    let owned = tag.try_to_owned(rt.alloc())?;
+    let mut owned = tag.try_to_owned(rt.alloc())?;
     assert_eq!(rt; owned.to_string(rt.alloc())?.as_str(), text.as_str());
-    assert_eq!(rt; owned.as_normal_lang_tag().variants().as_str(), "");
+    owned.set_region(rt.alloc(), Region::new("GB").ok())?;
+    assert_eq!(rt;
+        part_ends(&owned.as_normal_lang_tag()),
+        [2, 2, 5, 5, 5, 20_007]
+    );
+    owned.set_region(rt.alloc(), None)?;
+    assert_eq!(rt; owned.as_str(), text.as_str());
     Ok(())
 }
 

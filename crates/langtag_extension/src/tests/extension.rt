@@ -67,13 +67,9 @@ fn the_text_keeps_its_case(rt: HostRuntime) -> Result<(), Fail> {
         "Extension { text: Caseless(\"U-Co-PhoneBk\") }"
     );
     assert_eq!(rt; extension.singleton().unwrap(), b'U');
+    let again = Extension::from_checked(extension.as_str());
+    assert_eq!(rt; again.as_str(), "U-Co-PhoneBk");
     Ok(())
-}
-
-#[test]
-#[tactic(auto, unfolding(langtag_scan::specs::Class::is_singleton, langtag_scan::specs::Class::is_mark, langtag_scan::specs::Class::is_extension_subtag, langtag_scan::specs::Class::is_letter, langtag_scan::specs::Class::is_digit))]
-fn a_checked_text_is_kept(rt: HostRuntime) {
-    assert_eq!(rt; Extension::from_checked("a-bb").as_str(), "a-bb");
 }
 
 #[test]
@@ -119,25 +115,51 @@ fn owned_extensions(rt: HostRuntime) -> Result<(), Fail> {
     Ok(())
 }
 
+/// Short and long texts, capitals, and singletons that are digits.
+const TEXTS: [&str; 7] = [
+    "u-co",
+    "1-99",
+    "9-abc",
+    "a-12345",
+    "A-123456",
+    "u-co-abc",
+    "U-Co-PhoneBk-12345678-abcdefgh",
+];
+
+#[test]
+fn every_text_is_shown(rt: HostRuntime) -> Result<(), Fail> {
+    for text in TEXTS {
+        let extension = Extension::new(text).ok().ok_or("refused")?;
+        assert_eq!(rt; extension.to_string(rt.alloc())?.as_str(), text);
+        let owned = ExtensionBuf::new(String::from_str(rt.alloc(), text)?);
+        let owned = owned.ok().ok_or("refused")?;
+        assert_eq!(rt; owned.to_string(rt.alloc())?.as_str(), text);
+    }
+    Ok(())
+}
+
 /// Where memory is refused once, one copy of two stands; the extension answers as before either way.
 #[test]
 fn copies_own_the_same_text(rt: HostRuntime) -> Result<(), Fail> {
-    let extension = Extension::new("u-Co-phonebk").ok().ok_or("refused")?;
-    let mut copied = false;
-    for _ in 0..2 {
-        match extension.try_to_owned(rt.alloc()) {
-            Ok(owned) => {
-                assert_eq!(rt; owned.into_string().as_str(), "u-Co-phonebk");
-                copied = true;
+    for text in TEXTS {
+        let extension = Extension::new(text).ok().ok_or("refused")?;
+        let mut copied = false;
+        for _ in 0..2 {
+            match extension.try_to_owned(rt.alloc()) {
+                Ok(owned) => {
+                    assert_eq!(rt; owned.into_string().as_str(), text);
+                    copied = true;
+                }
+                Err(AllocError) => {}
             }
-            Err(AllocError) => {}
+            assert_eq!(rt; extension.as_str(), text);
+            assert_eq!(rt; extension.as_bytes(), text.as_bytes());
+            let singleton = extension.singleton().unwrap();
+            assert_eq!(rt; text.as_bytes().first().copied(), Some(singleton));
+            assert!(rt; extension.iter().next().is_some());
+            assert!(rt; extension.eq_str(text));
         }
-        assert_eq!(rt; extension.as_str(), "u-Co-phonebk");
-        assert_eq!(rt; extension.as_bytes(), b"u-Co-phonebk".as_slice());
-        assert_eq!(rt; extension.singleton().unwrap(), b'u');
-        assert_eq!(rt; extension.iter().next().ok_or("none")?.as_str(), "Co");
-        assert!(rt; extension.eq_str("u-co-phonebk"));
+        assert!(rt; copied, "both copies of {text} were refused");
     }
-    assert!(rt; copied, "both copies were refused");
     Ok(())
 }

@@ -21,3 +21,17 @@ fn empty_walks_hand_out_nothing(rt: HostRuntime) {
     assert!(rt; ExtensionIter::empty().next().is_none());
     assert!(rt; ExtensionIter::default().next().is_none());
 }
+
+/// How many subtags an extension has after its singleton.
+fn how_many(extension: Extension<'_>) -> usize {
+    extension.iter().count()
+}
+
+#[test]
+fn subtags_are_counted(rt: HostRuntime) -> Result<(), Fail> {
+    for (text, count) in [("u-co", 1), ("f-DLSH-NVzLH-AtnFGWoH-SIDE", 4)] {
+        let extension = Extension::new(text).ok().ok_or("refused")?;
+        assert_eq!(rt; how_many(extension), count, "of {text}");
+    }
+    Ok(())
+}

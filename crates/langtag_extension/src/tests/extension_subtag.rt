@@ -106,23 +106,40 @@ fn owned_subtags(rt: HostRuntime) -> Result<(), Fail> {
     Ok(())
 }
 
+/// Both ends of the lengths, capitals and digits.
+const TEXTS: [&str; 6] = ["co", "99", "abc", "PhoneB1", "12345678", "ABCDEFGH"];
+
+#[test]
+fn every_text_is_shown(rt: HostRuntime) -> Result<(), Fail> {
+    for text in TEXTS {
+        let subtag = ExtensionSubtag::new(text).ok().ok_or("refused")?;
+        assert_eq!(rt; subtag.to_string(rt.alloc())?.as_str(), text);
+        let owned = ExtensionSubtagBuf::new(String::from_str(rt.alloc(), text)?);
+        let owned = owned.ok().ok_or("refused")?;
+        assert_eq!(rt; owned.to_string(rt.alloc())?.as_str(), text);
+    }
+    Ok(())
+}
+
 /// Where memory is refused once, one copy of two stands; the subtag answers as before either way.
 #[test]
 fn copies_own_the_same_text(rt: HostRuntime) -> Result<(), Fail> {
-    let subtag = ExtensionSubtag::new("PhoneBk").ok().ok_or("refused")?;
-    let mut copied = false;
-    for _ in 0..2 {
-        match subtag.try_to_owned(rt.alloc()) {
-            Ok(owned) => {
-                assert_eq!(rt; owned.into_string().as_str(), "PhoneBk");
-                copied = true;
+    for text in TEXTS {
+        let subtag = ExtensionSubtag::new(text).ok().ok_or("refused")?;
+        let mut copied = false;
+        for _ in 0..2 {
+            match subtag.try_to_owned(rt.alloc()) {
+                Ok(owned) => {
+                    assert_eq!(rt; owned.into_string().as_str(), text);
+                    copied = true;
+                }
+                Err(AllocError) => {}
             }
-            Err(AllocError) => {}
+            assert_eq!(rt; subtag.as_str(), text);
+            assert_eq!(rt; subtag.as_bytes(), text.as_bytes());
+            assert!(rt; subtag.eq_str(text));
         }
-        assert_eq!(rt; subtag.as_str(), "PhoneBk");
-        assert_eq!(rt; subtag.as_bytes(), b"PhoneBk".as_slice());
-        assert!(rt; subtag.eq_str("phonebk"));
+        assert!(rt; copied, "both copies of {text} were refused");
     }
-    assert!(rt; copied, "both copies were refused");
     Ok(())
 }

@@ -63,13 +63,10 @@ fn the_text_keeps_its_case(rt: HostRuntime) -> Result<(), Fail> {
         format!(in rt.alloc(); "{extensions:?}")?.as_str(),
         "Extensions { text: Caseless(\"A-bB-c-DD\") }"
     );
+    let again = Extensions::from_checked(extensions.as_str());
+    assert_eq!(rt; again.as_str(), "A-bB-c-DD");
     assert_eq!(rt; Extensions::EMPTY.to_string(rt.alloc())?.as_str(), "");
     Ok(())
-}
-
-#[test]
-fn a_checked_text_is_kept(rt: HostRuntime) {
-    assert_eq!(rt; Extensions::from_checked("").as_str(), "");
 }
 
 #[test]
@@ -172,27 +169,53 @@ fn owned_extensions(rt: HostRuntime) -> Result<(), Fail> {
     Ok(())
 }
 
+/// The empty text, one extension, and many; capitals, and singletons that are digits.
+const TEXTS: [&str; 7] = [
+    "",
+    "1-99",
+    "a-12345",
+    "0-AA-9-99",
+    "u-co-t-en",
+    "A-bb-c-Dd",
+    "a-bb-A-cc-1-12345678-abcdefgh-9-00",
+];
+
+#[test]
+fn every_text_is_shown(rt: HostRuntime) -> Result<(), Fail> {
+    for text in TEXTS {
+        let extensions = Extensions::new(text).ok().ok_or("refused")?;
+        assert_eq!(rt; extensions.to_string(rt.alloc())?.as_str(), text);
+        let owned = ExtensionsBuf::new(String::from_str(rt.alloc(), text)?);
+        let owned = owned.ok().ok_or("refused")?;
+        assert_eq!(rt; owned.to_string(rt.alloc())?.as_str(), text);
+    }
+    Ok(())
+}
+
 /// Where memory is refused once, one copy of two stands; the extensions answer as before either way.
 #[test]
 fn copies_own_the_same_text(rt: HostRuntime) -> Result<(), Fail> {
-    let extensions = Extensions::new("A-bb-c-Dd").ok().ok_or("refused")?;
     let singleton = Singleton::new(b'a').ok().ok_or("refused")?;
-    let mut copied = false;
-    for _ in 0..2 {
-        match extensions.try_to_owned(rt.alloc()) {
-            Ok(owned) => {
-                assert_eq!(rt; owned.into_string().as_str(), "A-bb-c-Dd");
-                copied = true;
+    for text in TEXTS {
+        let extensions = Extensions::new(text).ok().ok_or("refused")?;
+        let mut copied = false;
+        for _ in 0..2 {
+            match extensions.try_to_owned(rt.alloc()) {
+                Ok(owned) => {
+                    assert_eq!(rt; owned.into_string().as_str(), text);
+                    copied = true;
+                }
+                Err(AllocError) => {}
             }
-            Err(AllocError) => {}
+            assert_eq!(rt; extensions.as_str(), text);
+            assert_eq!(rt; extensions.as_bytes(), text.as_bytes());
+            assert_eq!(rt; extensions.iter().next().is_none(), text.is_empty());
+            let found = extensions.get(singleton);
+            let mut subtags = extensions.iter_extension(singleton);
+            assert_eq!(rt; found.is_none(), subtags.next().is_none());
+            assert!(rt; extensions.eq_str(text));
         }
-        assert_eq!(rt; extensions.as_str(), "A-bb-c-Dd");
-        assert_eq!(rt; extensions.as_bytes(), b"A-bb-c-Dd".as_slice());
-        assert_eq!(rt; extensions.iter().next().ok_or("none")?.as_str(), "A-bb");
-        assert_eq!(rt; extensions.get(singleton).ok_or("none")?.as_str(), "A-bb");
-        assert!(rt; extensions.iter_extension(singleton).next().is_some());
-        assert!(rt; extensions.eq_str("a-bb-c-dd"));
+        assert!(rt; copied, "both copies of {text} were refused");
     }
-    assert!(rt; copied, "both copies were refused");
     Ok(())
 }

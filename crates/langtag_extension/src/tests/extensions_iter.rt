@@ -33,3 +33,20 @@ fn the_empty_text_has_no_extensions(rt: HostRuntime) -> Result<(), Fail> {
     assert!(rt; Extensions::EMPTY.iter().next().is_none());
     Ok(())
 }
+
+/// How many extensions a text has, if it is extensions.
+fn how_many(text: &str) -> Option<usize> {
+    Some(Extensions::new(text).ok()?.iter().count())
+}
+
+#[test]
+fn extensions_are_counted(rt: HostRuntime) {
+    for (text, count) in [
+        ("", Some(0)),
+        ("a-bb-cc", Some(1)),
+        ("a-bb-A-cc-1-dd", Some(3)),
+        ("a", None),
+    ] {
+        assert_eq!(rt; how_many(text), count, "of {text}");
+    }
+}

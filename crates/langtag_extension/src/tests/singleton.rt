@@ -1,5 +1,5 @@
 //! The singleton (RFC 5646 section 2.2.6).
-use crate::{InvalidSingleton, Singleton};
+use crate::{ExtensionSubtag, Extensions, InvalidSingleton, Singleton};
 use std::cmp::Ordering;
 use std::collections::HashSet;
 use std::convert::TryFrom;
@@ -46,8 +46,10 @@ fn the_byte_keeps_its_case(rt: HostRuntime) -> Result<(), Fail> {
     );
     let singleton = Singleton::from_string("u").ok().ok_or("refused")?;
     assert_eq!(rt; singleton.unwrap(), b'u');
-    let singleton = Singleton::new(b'9').ok().ok_or("refused")?;
-    assert_eq!(rt; singleton.to_string(rt.alloc())?.as_str(), "9");
+    for text in ["0", "9", "A", "Z", "a", "w", "z"] {
+        let singleton = Singleton::from_string(text).ok().ok_or("refused")?;
+        assert_eq!(rt; singleton.to_string(rt.alloc())?.as_str(), text);
+    }
     Ok(())
 }
 
@@ -80,5 +82,30 @@ fn comparisons_are_by_the_exact_byte(rt: HostRuntime) -> Result<(), Fail> {
     seen.insert(small)?;
     assert!(rt; seen.contains(&again));
     assert!(rt; !seen.contains(&capital));
+    Ok(())
+}
+
+/// The singleton of the extensions of Unicode locales: that the literal is one needs no proof.
+fn unicode() -> Singleton {
+    match Singleton::new(b'u') {
+        Ok(singleton) => singleton,
+        Err(_) => unreachable!(),
+    }
+}
+
+/// The first subtag of the first extension of `u` or `U`.
+fn first_unicode_subtag(text: &str) -> Option<ExtensionSubtag<'_>> {
+    let extensions = Extensions::new(text).ok()?;
+    extensions.iter_extension(unicode()).next()
+}
+
+#[test]
+fn literals_are_singletons(rt: HostRuntime) -> Result<(), Fail> {
+    assert_eq!(rt; unicode().unwrap(), b'u');
+    let subtag = first_unicode_subtag("a-bb-U-co-phonebk").ok_or("none")?;
+    assert_eq!(rt; subtag.as_str(), "co");
+    for text in ["a-bb", "", "u"] {
+        assert!(rt; first_unicode_subtag(text).is_none(), "of {text}");
+    }
     Ok(())
 }

@@ -93,23 +93,40 @@ fn owned_regions(rt: HostRuntime) -> Result<(), Fail> {
     Ok(())
 }
 
+/// Both lengths, letters in each case, and digits.
+const TEXTS: [&str; 4] = ["fr", "FR", "419", "001"];
+
+#[test]
+fn every_text_is_shown(rt: HostRuntime) -> Result<(), Fail> {
+    for text in TEXTS {
+        let region = Region::new(text).ok().ok_or("refused")?;
+        assert_eq!(rt; region.to_string(rt.alloc())?.as_str(), text);
+        let owned = RegionBuf::new(String::from_str(rt.alloc(), text)?);
+        let owned = owned.ok().ok_or("refused")?;
+        assert_eq!(rt; owned.to_string(rt.alloc())?.as_str(), text);
+    }
+    Ok(())
+}
+
 /// Where memory is refused once, one copy of two stands; the region answers as before either way.
 #[test]
 fn copies_own_the_same_text(rt: HostRuntime) -> Result<(), Fail> {
-    let region = Region::new("Fr").ok().ok_or("refused")?;
-    let mut copied = false;
-    for _ in 0..2 {
-        match region.try_to_owned(rt.alloc()) {
-            Ok(owned) => {
-                assert_eq!(rt; owned.into_string().as_str(), "Fr");
-                copied = true;
+    for text in TEXTS {
+        let region = Region::new(text).ok().ok_or("refused")?;
+        let mut copied = false;
+        for _ in 0..2 {
+            match region.try_to_owned(rt.alloc()) {
+                Ok(owned) => {
+                    assert_eq!(rt; owned.into_string().as_str(), text);
+                    copied = true;
+                }
+                Err(AllocError) => {}
             }
-            Err(AllocError) => {}
+            assert_eq!(rt; region.as_str(), text);
+            assert_eq!(rt; region.as_bytes(), text.as_bytes());
+            assert!(rt; region.eq_str(text));
         }
-        assert_eq!(rt; region.as_str(), "Fr");
-        assert_eq!(rt; region.as_bytes(), b"Fr".as_slice());
-        assert!(rt; region.eq_str("fr"));
+        assert!(rt; copied, "both copies of {text} were refused");
     }
-    assert!(rt; copied, "both copies were refused");
     Ok(())
 }

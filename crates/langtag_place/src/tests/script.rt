@@ -89,23 +89,40 @@ fn owned_scripts(rt: HostRuntime) -> Result<(), Fail> {
     Ok(())
 }
 
+/// Four letters in each case.
+const TEXTS: [&str; 3] = ["Latn", "ZZZZ", "hAnS"];
+
+#[test]
+fn every_text_is_shown(rt: HostRuntime) -> Result<(), Fail> {
+    for text in TEXTS {
+        let script = Script::new(text).ok().ok_or("refused")?;
+        assert_eq!(rt; script.to_string(rt.alloc())?.as_str(), text);
+        let owned = ScriptBuf::new(String::from_str(rt.alloc(), text)?);
+        let owned = owned.ok().ok_or("refused")?;
+        assert_eq!(rt; owned.to_string(rt.alloc())?.as_str(), text);
+    }
+    Ok(())
+}
+
 /// Where memory is refused once, one copy of two stands; the script answers as before either way.
 #[test]
 fn copies_own_the_same_text(rt: HostRuntime) -> Result<(), Fail> {
-    let script = Script::new("Latn").ok().ok_or("refused")?;
-    let mut copied = false;
-    for _ in 0..2 {
-        match script.try_to_owned(rt.alloc()) {
-            Ok(owned) => {
-                assert_eq!(rt; owned.into_string().as_str(), "Latn");
-                copied = true;
+    for text in TEXTS {
+        let script = Script::new(text).ok().ok_or("refused")?;
+        let mut copied = false;
+        for _ in 0..2 {
+            match script.try_to_owned(rt.alloc()) {
+                Ok(owned) => {
+                    assert_eq!(rt; owned.into_string().as_str(), text);
+                    copied = true;
+                }
+                Err(AllocError) => {}
             }
-            Err(AllocError) => {}
+            assert_eq!(rt; script.as_str(), text);
+            assert_eq!(rt; script.as_bytes(), text.as_bytes());
+            assert!(rt; script.eq_str(text));
         }
-        assert_eq!(rt; script.as_str(), "Latn");
-        assert_eq!(rt; script.as_bytes(), b"Latn".as_slice());
-        assert!(rt; script.eq_str("latn"));
+        assert!(rt; copied, "both copies of {text} were refused");
     }
-    assert!(rt; copied, "both copies were refused");
     Ok(())
 }

@@ -93,23 +93,42 @@ fn owned_variants(rt: HostRuntime) -> Result<(), Fail> {
     Ok(())
 }
 
+/// Each length, capitals and digits.
+const TEXTS: [&str; 7] = [
+    "1996", "0foo", "rozaj", "FONIPA", "abcdefg", "A1B2C3D4", "12345678",
+];
+
+#[test]
+fn every_text_is_shown(rt: HostRuntime) -> Result<(), Fail> {
+    for text in TEXTS {
+        let variant = Variant::new(text).ok().ok_or("refused")?;
+        assert_eq!(rt; variant.to_string(rt.alloc())?.as_str(), text);
+        let owned = VariantBuf::new(String::from_str(rt.alloc(), text)?);
+        let owned = owned.ok().ok_or("refused")?;
+        assert_eq!(rt; owned.to_string(rt.alloc())?.as_str(), text);
+    }
+    Ok(())
+}
+
 /// Where memory is refused once, one copy of two stands; the variant answers as before either way.
 #[test]
 fn copies_own_the_same_text(rt: HostRuntime) -> Result<(), Fail> {
-    let variant = Variant::new("Rozaj").ok().ok_or("refused")?;
-    let mut copied = false;
-    for _ in 0..2 {
-        match variant.try_to_owned(rt.alloc()) {
-            Ok(owned) => {
-                assert_eq!(rt; owned.into_string().as_str(), "Rozaj");
-                copied = true;
+    for text in TEXTS {
+        let variant = Variant::new(text).ok().ok_or("refused")?;
+        let mut copied = false;
+        for _ in 0..2 {
+            match variant.try_to_owned(rt.alloc()) {
+                Ok(owned) => {
+                    assert_eq!(rt; owned.into_string().as_str(), text);
+                    copied = true;
+                }
+                Err(AllocError) => {}
             }
-            Err(AllocError) => {}
+            assert_eq!(rt; variant.as_str(), text);
+            assert_eq!(rt; variant.as_bytes(), text.as_bytes());
+            assert!(rt; variant.eq_str(text));
         }
-        assert_eq!(rt; variant.as_str(), "Rozaj");
-        assert_eq!(rt; variant.as_bytes(), b"Rozaj".as_slice());
-        assert!(rt; variant.eq_str("rozaj"));
+        assert!(rt; copied, "both copies of {text} were refused");
     }
-    assert!(rt; copied, "both copies were refused");
     Ok(())
 }

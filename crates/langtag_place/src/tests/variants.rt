@@ -53,14 +53,12 @@ fn the_text_keeps_its_case(rt: HostRuntime) -> Result<(), Fail> {
         format!(in rt.alloc(); "{variants:?}")?.as_str(),
         "Variants { text: Caseless(\"rOzAj-1994\") }"
     );
+    assert_eq!(rt;
+        Variants::from_checked(variants.as_str()).as_str(),
+        "rOzAj-1994"
+    );
     assert_eq!(rt; Variants::EMPTY.to_string(rt.alloc())?.as_str(), "");
     Ok(())
-}
-
-#[test]
-fn a_checked_text_is_kept(rt: HostRuntime) {
-    let variants = Variants::from_checked("rozaj-1994");
-    assert_eq!(rt; variants.as_str(), "rozaj-1994");
 }
 
 #[test]
@@ -132,26 +130,51 @@ fn owned_variants(rt: HostRuntime) -> Result<(), Fail> {
     Ok(())
 }
 
+/// The empty text, one variant, and many.
+const TEXTS: [&str; 7] = [
+    "",
+    "1996",
+    "12345678",
+    "1996-1994",
+    "rozaj-1994",
+    "ROZAJ-biske-1994",
+    "A1B2C3D4-12345678-abcdefgh-1996-ROZAJ-1996",
+];
+
+#[test]
+fn every_text_is_shown(rt: HostRuntime) -> Result<(), Fail> {
+    for text in TEXTS {
+        let variants = Variants::new(text).ok().ok_or("refused")?;
+        assert_eq!(rt; variants.to_string(rt.alloc())?.as_str(), text);
+        let owned = VariantsBuf::new(String::from_str(rt.alloc(), text)?);
+        let owned = owned.ok().ok_or("refused")?;
+        assert_eq!(rt; owned.to_string(rt.alloc())?.as_str(), text);
+    }
+    Ok(())
+}
+
 /// Where memory is refused once, one copy of two stands; the variants answer as before either way.
 #[test]
 fn copies_own_the_same_text(rt: HostRuntime) -> Result<(), Fail> {
-    let variants = Variants::new("Rozaj-1994").ok().ok_or("refused")?;
-    let mut copied = false;
-    for _ in 0..2 {
-        match variants.try_to_owned(rt.alloc()) {
-            Ok(owned) => {
-                assert_eq!(rt; owned.into_string().as_str(), "Rozaj-1994");
-                copied = true;
+    for text in TEXTS {
+        let variants = Variants::new(text).ok().ok_or("refused")?;
+        let mut copied = false;
+        for _ in 0..2 {
+            match variants.try_to_owned(rt.alloc()) {
+                Ok(owned) => {
+                    assert_eq!(rt; owned.into_string().as_str(), text);
+                    copied = true;
+                }
+                Err(AllocError) => {}
             }
-            Err(AllocError) => {}
+            assert_eq!(rt; variants.as_str(), text);
+            assert_eq!(rt; variants.as_bytes(), text.as_bytes());
+            assert!(rt; variants.eq_str(text));
+            assert_eq!(rt; variants.first().is_none(), text.is_empty());
+            assert_eq!(rt; variants.last().is_none(), text.is_empty());
+            assert_eq!(rt; variants.iter().count() == 0, text.is_empty());
         }
-        assert_eq!(rt; variants.as_str(), "Rozaj-1994");
-        assert_eq!(rt; variants.as_bytes(), b"Rozaj-1994".as_slice());
-        assert_eq!(rt; variants.first().ok_or("none")?.as_str(), "Rozaj");
-        assert_eq!(rt; variants.last().ok_or("none")?.as_str(), "1994");
-        assert_eq!(rt; variants.iter().count(), 2);
-        assert!(rt; variants.eq_str("rozaj-1994"));
+        assert!(rt; copied, "both copies of {text} were refused");
     }
-    assert!(rt; copied, "both copies were refused");
     Ok(())
 }

@@ -79,3 +79,32 @@ fn empty_walks(rt: HostRuntime) {
         assert!(rt; items.next_back().is_none());
     }
 }
+
+/// How many variants a text has, if it is variants.
+fn how_many(text: &str) -> Option<usize> {
+    Some(Variants::new(text).ok()?.iter().count())
+}
+
+/// How many are left after one from each end.
+fn how_many_within(variants: Variants<'_>) -> usize {
+    let mut items = variants.iter();
+    let _first = items.next();
+    let _last = items.next_back();
+    items.count()
+}
+
+#[test]
+fn variants_are_counted(rt: HostRuntime) {
+    for (text, count) in [
+        ("", Some(0)),
+        ("1996", Some(1)),
+        (FOUR, Some(4)),
+        ("-", None),
+    ] {
+        assert_eq!(rt; how_many(text), count, "of {text}");
+    }
+    assert_eq!(rt; how_many_within(Variants::EMPTY), 0);
+    if let Ok(variants) = Variants::new(FOUR) {
+        assert_eq!(rt; how_many_within(variants), 2);
+    }
+}

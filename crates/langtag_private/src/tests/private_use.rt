@@ -5,6 +5,20 @@ use std::cmp::Ordering;
 use std::collections::HashSet;
 use std::test::Fail;
 
+/// Texts of short lengths and a long one, with capitals and digits, and how many subtags stand after the mark.
+const TEXTS: [(&str, usize); 10] = [
+    ("x-a", 1),
+    ("X-7", 1),
+    ("x-ab", 1),
+    ("x-abc", 1),
+    ("x-tWaI", 1),
+    ("x-a-x-b", 3),
+    ("X-ABCDEF", 1),
+    ("x-1234567", 1),
+    ("x-12345678", 1),
+    ("x-ext1-ext2-EXT3-ext4-ext5-ext6-ext7-12345678", 8),
+];
+
 #[test]
 fn a_mark_and_subtags_are_a_private_use_part(rt: HostRuntime) {
     let cases = [
@@ -58,7 +72,6 @@ fn the_text_keeps_its_case(rt: HostRuntime) -> Result<(), Fail> {
     let private_use = PrivateUse::new("X-tWaIn").ok().ok_or("refused")?;
     assert_eq!(rt; private_use.as_str(), "X-tWaIn");
     assert_eq!(rt; private_use.as_bytes(), b"X-tWaIn".as_slice());
-    assert_eq!(rt; private_use.to_string(rt.alloc())?.as_str(), "X-tWaIn");
     assert_eq!(rt;
         format!(in rt.alloc(); "{private_use:?}")?.as_str(),
         "PrivateUse { text: Caseless(\"X-tWaIn\") }"
@@ -67,7 +80,7 @@ fn the_text_keeps_its_case(rt: HostRuntime) -> Result<(), Fail> {
 }
 
 #[test]
-#[tactic(auto, unfolding(langtag_scan::specs::Class::is_digit, langtag_scan::specs::Class::is_letter, langtag_scan::specs::Class::is_mark, langtag_scan::specs::Class::is_private_subtag))]
+#[tactic(auto, using(crate::proofs::Rules::private_rules), unfolding(langtag_scan::specs::Class::is_digit, langtag_scan::specs::Class::is_letter, langtag_scan::specs::Class::is_mark, langtag_scan::specs::Class::is_private_subtag))]
 fn a_checked_text_is_kept(rt: HostRuntime) {
     let private_use = PrivateUse::from_checked("X-tWaIn");
     assert_eq!(rt; private_use.as_str(), "X-tWaIn");
@@ -97,7 +110,6 @@ fn owned_texts(rt: HostRuntime) -> Result<(), Fail> {
     let owned = PrivateUseBuf::new(text).ok().ok_or("refused")?;
     assert_eq!(rt; owned.as_str(), "X-tWaIn");
     assert_eq!(rt; owned.as_private_use().as_str(), "X-tWaIn");
-    assert_eq!(rt; owned.to_string(rt.alloc())?.as_str(), "X-tWaIn");
     assert_eq!(rt;
         format!(in rt.alloc(); "{owned:?}")?.as_str(),
         "PrivateUseBuf { text: Caseless(\"X-tWaIn\") }"
@@ -116,25 +128,40 @@ fn owned_texts(rt: HostRuntime) -> Result<(), Fail> {
     Ok(())
 }
 
+/// Display answers Ok wherever the writer does, which no clause can say.
+#[test]
+fn each_text_is_shown_as_it_stands(rt: HostRuntime) -> Result<(), Fail> {
+    for (text, _) in TEXTS {
+        let private_use = PrivateUse::new(text).ok().ok_or("refused")?;
+        assert_eq!(rt; private_use.to_string(rt.alloc())?.as_str(), text);
+        let owned = PrivateUseBuf::new(String::from_str(rt.alloc(), text)?);
+        let owned = owned.ok().ok_or("refused")?;
+        assert_eq!(rt; owned.to_string(rt.alloc())?.as_str(), text);
+    }
+    Ok(())
+}
+
 /// Where memory is refused once, one copy of two stands; the source answers as before either way.
 #[test]
 fn copies_own_the_same_text(rt: HostRuntime) -> Result<(), Fail> {
-    let private_use = PrivateUse::new("X-tWaIn").ok().ok_or("refused")?;
-    let mut copied = false;
-    for _ in 0..2 {
-        match private_use.try_to_owned(rt.alloc()) {
-            Ok(owned) => {
-                assert_eq!(rt; owned.into_string().as_str(), "X-tWaIn");
-                copied = true;
+    for (text, count) in TEXTS {
+        let private_use = PrivateUse::new(text).ok().ok_or("refused")?;
+        let mut copied = false;
+        for _ in 0..2 {
+            match private_use.try_to_owned(rt.alloc()) {
+                Ok(owned) => {
+                    assert_eq!(rt; owned.into_string().as_str(), text);
+                    copied = true;
+                }
+                Err(AllocError) => {}
             }
-            Err(AllocError) => {}
+            assert_eq!(rt; private_use.as_str(), text);
+            assert_eq!(rt; private_use.as_bytes(), text.as_bytes());
+            assert!(rt; private_use.eq_str(text));
+            assert_eq!(rt; private_use.iter().count(), count);
         }
-        assert_eq!(rt; private_use.as_str(), "X-tWaIn");
-        assert_eq!(rt; private_use.as_bytes(), b"X-tWaIn".as_slice());
-        assert!(rt; private_use.eq_str("x-twain"));
-        assert_eq!(rt; private_use.iter().count(), 1);
+        assert!(rt; copied, "both copies of {text} were refused");
     }
-    assert!(rt; copied, "both copies were refused");
     Ok(())
 }
 

@@ -9,14 +9,10 @@ use Rattle.langtag.proofs.repeats.first_repeated_variant.Goals as goal
 
 pub loop-index-init : goal.loop-index-init
 loop-index-init c =
-    let text = variants_text c.args.variants in
-    let short : length text < 2 ^ 63 = search rules in
-    let few = length-subtags text in
-    let left = c.iter-variant-items.ensures.list in
-    record { can_next = tt; is_finite = tt; counter = omega (arith, ap length left); so_far = refl; left = sym left }
+    record { can_next = tt; is_finite = tt; counter = search rules; so_far = refl; left = sym c.iter-variant-items.ensures.list }
 
-pub returns-then-stands_before : goal.returns-then-stands_before
-returns-then-stands_before c =
+pub returns-then-is_among_first : goal.returns-then-is_among_first
+returns-then-is_among_first c =
     let all = subtags (variants_text c.args.variants) in
     let left = c.loop-index.invariant.left ∙ c.in-Some.ensures.steps in
     let seen : list_any (are_alike (variant_text c.in-Some.variant)) (take c.loop-index.index all) ≡ true = search rules in

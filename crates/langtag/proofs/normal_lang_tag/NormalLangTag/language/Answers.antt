@@ -1,11 +1,10 @@
 use Rattle.langtag_scan.proofs.SpelledTexts.{ends_had}
 use Rattle.langtag.proofs.PartsFound.{language_found}
 use Rattle.langtag.proofs.PartRules.{IsLanguage-cut}
-use Rattle.langtag.proofs.PartTests.{language_tested}
 use Rattle.langtag.proofs.normal_lang_tag.NormalLangTag.language.Goals as goal
 
 pub from_checked-requires : goal.from_checked-requires
-from_checked-requires c = rw c.language_str.ensures (language_tested _ (IsLanguage-cut _ _ (ends_had _ _ c.args.self.now.kept_ends)))
+from_checked-requires c = rw c.language_str.ensures (IsLanguage-cut _ _ (ends_had _ _ c.args.self.now.kept_ends))
 
 pub returns : goal.returns
 returns c r spells =

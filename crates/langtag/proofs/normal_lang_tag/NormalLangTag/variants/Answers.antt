@@ -2,11 +2,10 @@ use Rattle.std.proofs.Common.{◌∙◌}
 use Rattle.langtag_scan.proofs.SpelledTexts.{ends_had}
 use Rattle.langtag.proofs.PartsFound.{variants_found}
 use Rattle.langtag.proofs.PartRules.{IsVariants-cut}
-use Rattle.langtag.proofs.PartTests.{variants_tested}
 use Rattle.langtag.proofs.normal_lang_tag.NormalLangTag.variants.Goals as goal
 
 pub from_checked-requires : goal.from_checked-requires
-from_checked-requires c = rw c.part_or_empty.ensures (variants_tested _ (IsVariants-cut _ _ (ends_had _ _ c.args.self.now.kept_ends)))
+from_checked-requires c = rw c.part_or_empty.ensures (IsVariants-cut _ _ (ends_had _ _ c.args.self.now.kept_ends))
 
 pub returns : goal.returns
 returns c r spells =

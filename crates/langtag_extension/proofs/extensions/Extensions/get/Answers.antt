@@ -1,10 +1,10 @@
 use Rattle.std.proofs.Common.{◌∙◌, rules, map}
 use Rattle.std.proofs.lemmas.Iterator.Search.{find_from_yields_List}
 use Rattle.std.proofs.lemmas.Iterator.Consumers.{YieldsList-from_first}
-use Rattle.langtag_extension.specs.ExtensionTexts.{opens_alike}
+use Rattle.langtag_extension.specs.Tests.{opens_alike}
 use Rattle.langtag_extension.specs.Spelling.{extension_spelling}
 use Rattle.langtag_extension.specs.Text.{extension_text, extensions_left}
-use Rattle.langtag_extension.proofs.SpellingLemmas.{find_spellings}
+use Rattle.langtag_extension.proofs.LookUp.{find_spellings}
 use Rattle.langtag_extension.proofs.extensions.Extensions.get.Goals as goal
 
 pub returns : goal.returns

@@ -1,6 +1,6 @@
 use Rattle.std.proofs.Common.{rules}
 use Rattle.langtag_place.specs.Text.{variants_text}
-use Rattle.langtag_place.proofs.SpelledVariants.{subtags-spelled}
+use Rattle.langtag_place.proofs.Rules.{subtags-spelled}
 use Rattle.langtag_place.proofs.variants.Variants.first.Goals as goal
 
 pub returns : goal.returns

@@ -4,7 +4,7 @@ use Rattle.std.specs.Option.{option_map}
 use Rattle.std.proofs.lemmas.List.{length_push}
 use Rattle.langtag_place.specs.declared.variant.Variant.{Variant}
 use Rattle.langtag_place.specs.Text.{variant_text, variants_text, variants_left}
-use Rattle.langtag_place.proofs.SpelledVariants.{subtags-spelled}
+use Rattle.langtag_place.proofs.Rules.{subtags-spelled}
 use Rattle.langtag_place.proofs.variants.Variants.last.Goals as goal
 
 -- the element that stands after a prefix, at the prefix's length

@@ -1,0 +1,60 @@
+-- The first extension of a singleton, among extensions and among their texts.
+use Rattle.std.proofs.Common.{◌≡◌, ◌↔◌, ℕ, ◌≤◌, Bool, true, false, IsTrue, List, [], ◌∷◌, ◌++◌, length, refl, ap, sym, ◌∙◌, arith, Option, None, Some, map, cond, slice_index, find, ◌==◌, inl, inr, subst, append-nil, append_assoc}
+use Rattle.std.specs.Option.{option_map, option_map_or}
+use Rattle.std.specs.List.{list_all, AllByRecursion, flat_map}
+use Rattle.std.proofs.lemmas.Grind.{common_steps}
+use Rattle.langtag_scan.specs.Case.{fold_byte}
+use Rattle.langtag_scan.specs.Class.{is_singleton, is_extension_subtag, has_length, are_alphanumeric}
+use Rattle.langtag_scan.specs.Record.{Extension, IsExtension, extension_flat}
+use Rattle.langtag_scan.specs.Subtags.{join, subtags}
+use Rattle.std.proofs.lemmas.Bool.{and_parts}
+use Rattle.langtag_scan.proofs.Tests.{between_true}
+use Rattle.langtag_scan.proofs.Tests.{chosen}
+use Rattle.langtag_scan.proofs.SubtagFacts.{IsSubtag, of_one, of_extension_subtag, singleton_alphanumeric}
+use Rattle.langtag_scan.proofs.SubtagLists.{each_from_test, test_from_each, each_subtag, subtags-joined}
+use Rattle.langtag_scan.proofs.SubtagLists.{join-subtags}
+use Rattle.langtag_extension.specs.ExtensionTexts.{goes_on, opens, groups, put_first, group_texts, extension_texts}
+use Rattle.langtag_extension.specs.Tests.{is_extension_list, is_extension_text, are_extension_texts, is_extensions_text, are_extension_subtags, opens_alike}
+use Rattle.langtag_extension.specs.Spelling.{extension_spelling, SpellsExtension, IsExtensionText, SpellsExtensions, IsExtensionsText, find_extension}
+
+-- the text of an extension begins with the singleton
+first_byte-spelling : (e : Extension) → slice_index (extension_spelling e) 0 ≡ e.singleton
+first_byte-spelling e = by_subtags e.subtags
+  where
+    by_subtags : (ss : List (List ℕ)) → slice_index (join ((e.singleton ∷ []) ∷ ss)) 0 ≡ e.singleton
+    by_subtags [] = refl
+    by_subtags (s ∷ ss) = refl
+
+-- a choice, after a function
+cond-map : {A B : Type 0} (f : A → B) (b : Bool) (x : A) (o : Option A) (p : Option B) → p ≡ option_map f o → cond b (Some (f x)) p ≡ option_map f (cond b (Some x) o)
+cond-map f true x o p same = refl
+cond-map f false x o p same = same
+
+-- the first text that opens with the byte is that of the first such extension
+pub find_spellings : (b : ℕ) (es : List Extension) → find (opens_alike b) (map extension_spelling es) ≡ option_map extension_spelling (find_extension b es)
+find_spellings b [] = refl
+find_spellings b (e ∷ es) =
+    ap (λ c. cond (fold_byte c == fold_byte b) (Some (extension_spelling e)) (find (opens_alike b) (map extension_spelling es))) (first_byte-spelling e)
+    ∙ cond-map extension_spelling (fold_byte e.singleton == fold_byte b) e (find_extension b es) _ (find_spellings b es)
+
+-- what is found is one of the extensions
+pub extension_found : (b : ℕ) (es : List Extension) → AllByRecursion IsExtension es → (e : Extension) → find_extension b es ≡ Some e → IsExtension e
+extension_found b [] fits e found = absurd cc
+extension_found b (x ∷ es) fits e found =
+    elim (chosen (fold_byte x.singleton == fold_byte b) (Some x) (find_extension b es) (Some e) found) [
+      | inl here ↦ let same : x ≡ e = cc in subst IsExtension same fits.0
+      | inr later ↦ extension_found b es fits.1 e later.1
+    ]
+
+-- the subtags of the extension that is found
+pub subtags_found : (b : ℕ) (es : List Extension) → AllByRecursion IsExtension es → (text : List ℕ) (left : List (List ℕ)) → Some text ≡ option_map extension_spelling (find_extension b es) → ((e : Extension) → SpellsExtension e text → left ≡ e.subtags) → left ≡ option_map_or (λ e. e.subtags) (find_extension b es) []
+subtags_found b es fits text left found spelled = by_found (find_extension b es) refl found
+  where
+    by_found : (o : Option Extension) → find_extension b es ≡ o → Some text ≡ option_map extension_spelling o → left ≡ option_map_or (λ e. e.subtags) o []
+    by_found None is none = absurd cc
+    by_found (Some e) is same = spelled e (record { member = extension_found b es fits e is; joined = cc })
+
+-- none where none is found
+pub subtags_not_found : (o : Option Extension) → None ≡ option_map extension_spelling o → [] ≡ option_map_or (λ e. e.subtags) o []
+subtags_not_found None none = refl
+subtags_not_found (Some e) none = absurd cc

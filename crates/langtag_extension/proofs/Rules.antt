@@ -1,0 +1,150 @@
+-- The one list that spells a text is found again in it, and the tests of its subtags say whether there is one.
+use Rattle.std.proofs.Common.{◌≡◌, ◌↔◌, ℕ, ◌≤◌, Bool, true, false, IsTrue, List, [], ◌∷◌, ◌++◌, length, refl, ap, sym, ◌∙◌, arith, Option, None, Some, map, cond, slice_index, find, ◌==◌, inl, inr, subst, append-nil, append_assoc}
+use Rattle.std.proofs.lemmas.Bool.{and_parts}
+use Rattle.std.specs.Option.{option_map, option_map_or}
+use Rattle.std.specs.List.{list_all, AllByRecursion, flat_map}
+use Rattle.std.proofs.lemmas.Grind.{common_steps}
+use Rattle.langtag_scan.specs.Case.{fold_byte}
+use Rattle.langtag_scan.specs.Class.{is_singleton, is_extension_subtag, has_length, are_alphanumeric}
+use Rattle.langtag_scan.specs.Record.{Extension, IsExtension, extension_flat}
+use Rattle.langtag_scan.specs.Subtags.{join, subtags}
+use Rattle.langtag_scan.proofs.Tests.{between_true, chosen}
+use Rattle.langtag_scan.proofs.SubtagFacts.{IsSubtag, of_one, of_extension_subtag, singleton_alphanumeric}
+use Rattle.langtag_scan.proofs.SubtagLists.{each_from_test, test_from_each, each_subtag, subtags-joined}
+use Rattle.langtag_scan.proofs.SubtagLists.{join-subtags}
+use Rattle.langtag_extension.specs.ExtensionTexts.{goes_on, opens, groups, put_first, group_texts, extension_texts}
+use Rattle.langtag_extension.specs.Tests.{is_extension_list, is_extension_text, are_extension_texts, is_extensions_text, are_extension_subtags, opens_alike}
+use Rattle.langtag_extension.specs.Spelling.{extension_spelling, SpellsExtension, IsExtensionText, SpellsExtensions, IsExtensionsText, find_extension}
+use Rattle.langtag_extension.proofs.WalkLemmas.{groups-first}
+use Rattle.langtag_extension.proofs.Joins.{join-group_texts, join-spellings}
+
+-- ---- one extension
+
+extension_subtag_long : (s : List ℕ) → is_extension_subtag s ≡ true → (2 ≤ length s) × (length s ≤ 8) × (are_alphanumeric s ≡ true)
+unfolding is_extension_subtag
+extension_subtag_long s h =
+    let k = and_parts (has_length 2 8 s) (are_alphanumeric s) h in
+    let m = between_true 2 8 (length s) k.0 in
+    (m.0, m.1, k.1)
+
+-- no subtag after the singleton opens an extension
+goes_on-extension_subtag : (s : List ℕ) → is_extension_subtag s ≡ true → goes_on s ≡ true
+goes_on-extension_subtag s h = let k = extension_subtag_long s h in grind (arith, common_steps)
+
+goes_on-each : (ss : List (List ℕ)) → AllByRecursion (λ s. IsTrue (is_extension_subtag s)) ss → list_all goes_on ss ≡ true
+goes_on-each [] fits = refl
+goes_on-each (s ∷ ss) fits = rw (goes_on-extension_subtag s fits.0, goes_on-each ss fits.1) refl
+
+-- each of an extension's subtags is one to eight letters and digits
+subtags-flat : (e : Extension) → IsExtension e → AllByRecursion IsSubtag (extension_flat e)
+subtags-flat e fits = (of_one e.singleton (singleton_alphanumeric e.singleton fits.singleton), each_subtag is_extension_subtag of_extension_subtag e.subtags fits.subtags)
+
+-- the subtags of an extension's text
+pub subtags_spelled : (e : Extension) (text : List ℕ) → SpellsExtension e text → subtags text ≡ extension_flat e
+subtags_spelled e text spells =
+    ap subtags (sym spells.joined) ∙ subtags-joined (extension_flat e) (subtags-flat e spells.member)
+
+-- the test passes a singleton and subtags
+is_extension_list-flat : (b : ℕ) (ss : List (List ℕ)) → is_singleton b ≡ true → 1 ≤ length ss → are_extension_subtags ss ≡ true → is_extension_list ((b ∷ []) ∷ ss) ≡ true
+is_extension_list-flat b [] one some pass = absurd (omega arith)
+is_extension_list-flat b (s ∷ ss) one some pass = rw one pass
+
+-- from the rule to the test
+pub is_extension_text-from_rule : (text : List ℕ) → IsExtensionText text → IsTrue (is_extension_text text)
+is_extension_text-from_rule text (e, spells) =
+    ap is_extension_list (subtags_spelled e text spells)
+    ∙ is_extension_list-flat e.singleton e.subtags spells.member.singleton spells.member.some (test_from_each is_extension_subtag e.subtags spells.member.subtags)
+
+-- the extension that the subtags are
+extension_of_list : (ss : List (List ℕ)) → is_extension_list ss ≡ true → (e : Extension) × IsExtension e × (extension_flat e ≡ ss)
+extension_of_list [] pass = absurd cc
+extension_of_list ([] ∷ ss) pass = absurd cc
+extension_of_list ((b ∷ c ∷ s) ∷ ss) pass = absurd cc
+extension_of_list ((b ∷ []) ∷ []) pass = absurd cc
+extension_of_list ((b ∷ []) ∷ s ∷ ss) pass =
+    let both = and_parts (is_singleton b) (are_extension_subtags (s ∷ ss)) pass in
+    (record { singleton = b; subtags = s ∷ ss }, record { singleton = both.0; some = omega arith; subtags = each_from_test is_extension_subtag (s ∷ ss) both.1 }, refl)
+
+-- from the test to the rule
+pub IsExtensionText-from_test : (text : List ℕ) → IsTrue (is_extension_text text) → IsExtensionText text
+IsExtensionText-from_test text pass =
+    let found = extension_of_list (subtags text) pass in
+    (found.0, record { member = found.1; joined = ap join found.2 ∙ join-subtags text })
+
+-- an answer that is the test decides the rule
+pub IsExtensionText-decided : (text : List ℕ) (answer : Bool) → answer ≡ is_extension_text text → IsTrue answer ↔ IsExtensionText text
+IsExtensionText-decided text answer tested =
+    (λ pass. IsExtensionText-from_test text (sym tested ∙ pass), λ spelled. tested ∙ is_extension_text-from_rule text spelled)
+
+-- the steps from the one to the other
+pub ruleset extension_rules = (IsExtensionText-from_test, is_extension_text-from_rule, IsExtensionText-decided)
+
+-- ---- a list of extensions
+
+-- the subtags of all extensions begin with a singleton
+opens-flat : (es : List Extension) → opens (flat_map extension_flat es) ≡ true
+opens-flat [] = refl
+opens-flat (e ∷ es) = refl
+
+-- the subtags of all extensions, in groups, are those of each
+groups-flat : (es : List Extension) → AllByRecursion IsExtension es → groups (flat_map extension_flat es) ≡ map extension_flat es
+groups-flat [] fits = refl
+groups-flat (e ∷ es) fits =
+    groups-first (e.singleton ∷ []) e.subtags (flat_map extension_flat es) (goes_on-each e.subtags fits.0.subtags) (opens-flat es)
+    ∙ ap (λ gs. extension_flat e ∷ gs) (groups-flat es fits.1)
+
+-- all of them are subtags, so they are found again in their join
+all_subtags-append : (xs ys : List (List ℕ)) → AllByRecursion IsSubtag xs → AllByRecursion IsSubtag ys → AllByRecursion IsSubtag (xs ++ ys)
+all_subtags-append [] ys here there = there
+all_subtags-append (x ∷ xs) ys here there = (here.0, all_subtags-append xs ys here.1 there)
+
+all_subtags-flat : (es : List Extension) → AllByRecursion IsExtension es → AllByRecursion IsSubtag (flat_map extension_flat es)
+all_subtags-flat [] fits = tt
+all_subtags-flat (e ∷ es) fits = all_subtags-append (extension_flat e) (flat_map extension_flat es) (subtags-flat e fits.0) (all_subtags-flat es fits.1)
+
+subtags-flat_map : (es : List Extension) → AllByRecursion IsExtension es → subtags (join (flat_map extension_flat es)) ≡ flat_map extension_flat es
+subtags-flat_map [] fits = refl
+subtags-flat_map (e ∷ es) fits = subtags-joined ((e.singleton ∷ []) ∷ (e.subtags ++ flat_map extension_flat es)) (all_subtags-flat (e ∷ es) fits)
+
+map-spelling : (es : List Extension) → map join (map extension_flat es) ≡ map extension_spelling es
+map-spelling [] = refl
+map-spelling (e ∷ es) = ap (λ ts. extension_spelling e ∷ ts) (map-spelling es)
+
+-- the texts into which a text is cut are those of the extensions that spell it
+pub extension_texts_spelled : (es : List Extension) (text : List ℕ) → SpellsExtensions es text → extension_texts text ≡ map extension_spelling es
+extension_texts_spelled es text spells =
+    ap extension_texts (sym spells.joined) ∙ ap group_texts (subtags-flat_map es spells.members)
+    ∙ ap (map join) (groups-flat es spells.members) ∙ map-spelling es
+
+are_extension_texts_spelled : (es : List Extension) → AllByRecursion IsExtension es → are_extension_texts (map extension_spelling es) ≡ true
+are_extension_texts_spelled [] fits = refl
+are_extension_texts_spelled (e ∷ es) fits =
+    rw (is_extension_text-from_rule (extension_spelling e) (e, record { member = fits.0; joined = refl })) (are_extension_texts_spelled es fits.1)
+
+-- from the rule to the test
+pub is_extensions_text-from_rule : (text : List ℕ) → IsExtensionsText text → IsTrue (is_extensions_text text)
+is_extensions_text-from_rule text (es, spells) =
+    ap are_extension_texts (extension_texts_spelled es text spells) ∙ are_extension_texts_spelled es spells.members
+
+-- the extensions that the texts are
+extensions_of_texts : (ts : List (List ℕ)) → are_extension_texts ts ≡ true → (es : List Extension) × AllByRecursion IsExtension es × (map extension_spelling es ≡ ts)
+extensions_of_texts [] pass = ([], tt, refl)
+extensions_of_texts (t ∷ ts) pass =
+    let both = and_parts (is_extension_text t) (are_extension_texts ts) pass in
+    let first = IsExtensionText-from_test t both.0 in
+    let others = extensions_of_texts ts both.1 in
+    (first.0 ∷ others.0, (first.1.member, others.1), ap (λ x. x ∷ map extension_spelling others.0) first.1.joined ∙ ap (λ xs. t ∷ xs) others.2)
+
+-- from the test to the rule
+pub IsExtensionsText-from_test : (text : List ℕ) → IsTrue (is_extensions_text text) → IsExtensionsText text
+IsExtensionsText-from_test text pass =
+    let found = extensions_of_texts (extension_texts text) pass in
+    (found.0, record { members = found.1; joined = sym (join-spellings found.0) ∙ ap join found.2 ∙ join-group_texts (subtags text) ∙ join-subtags text })
+
+-- an answer that is the test decides the rule
+pub IsExtensionsText-decided : (text : List ℕ) (answer : Bool) → answer ≡ is_extensions_text text → IsTrue answer ↔ IsExtensionsText text
+IsExtensionsText-decided text answer tested =
+    (λ pass. IsExtensionsText-from_test text (sym tested ∙ pass), λ spelled. tested ∙ is_extensions_text-from_rule text spelled)
+
+-- the steps from the one to the other
+pub ruleset extensions_rules = (IsExtensionsText-from_test, is_extensions_text-from_rule, IsExtensionsText-decided)

@@ -1,0 +1,34 @@
+-- The one list of variants that spells a text is the list of its subtags, and the test says whether there is one.
+use Rattle.std.proofs.Common.{◌≡◌, ◌↔◌, ℕ, Bool, IsTrue, List, sym, ◌∙◌, ap}
+use Rattle.langtag_scan.specs.Class.{is_variant}
+use Rattle.langtag_scan.specs.Subtags.{subtags}
+use Rattle.langtag_scan.proofs.SubtagFacts.{of_variant}
+use Rattle.langtag_scan.proofs.SubtagLists.{each_from_test, test_from_each, each_subtag, subtags-joined}
+use Rattle.langtag_scan.proofs.SubtagLists.{join-subtags}
+use Rattle.langtag_place.specs.Tests.{are_variants, is_variants}
+use Rattle.langtag_place.specs.Variants.{IsVariants, SpellsVariants}
+
+-- one text, one list
+pub subtags-spelled : (variants : List (List ℕ)) (text : List ℕ) → SpellsVariants variants text → subtags text ≡ variants
+subtags-spelled variants text spells = ap subtags (sym spells.joined) ∙ subtags-joined variants (each_subtag is_variant of_variant variants spells.members)
+
+-- where the test passes, the text's subtags spell it
+pub SpellsVariants-subtags : (text : List ℕ) → IsTrue (is_variants text) → SpellsVariants (subtags text) text
+SpellsVariants-subtags text pass = record { members = each_from_test is_variant (subtags text) pass; joined = join-subtags text }
+
+-- from the test to the rule
+pub IsVariants-from_test : (text : List ℕ) → IsTrue (is_variants text) → IsVariants text
+IsVariants-from_test text pass = (subtags text, SpellsVariants-subtags text pass)
+
+-- from the rule to the test
+pub is_variants-from_rule : (text : List ℕ) → IsVariants text → IsTrue (is_variants text)
+is_variants-from_rule text spelled =
+    ap are_variants (subtags-spelled spelled.0 text spelled.1) ∙ test_from_each is_variant spelled.0 spelled.1.members
+
+-- an answer that is the test decides the rule
+pub IsVariants-decided : (text : List ℕ) (answer : Bool) → answer ≡ is_variants text → IsTrue answer ↔ IsVariants text
+IsVariants-decided text answer tested =
+    (λ pass. IsVariants-from_test text (sym tested ∙ pass), λ spelled. tested ∙ is_variants-from_rule text spelled)
+
+-- the steps from the one to the other
+pub ruleset variants_rules = (SpellsVariants-subtags, IsVariants-from_test, is_variants-from_rule, IsVariants-decided)

@@ -1,0 +1,58 @@
+//! A read, a write or the flush that fails.
+use super::feed::Feed;
+use super::sheet::Sheet;
+use crate::run::run;
+use crate::show_error::ShowError;
+use std::io::ErrorKind;
+
+// The text, the bytes of a read, the read that fails, and what stands then.
+type FailingRead<'a> = (&'a [u8], usize, u64, &'a [u8]);
+
+#[test]
+fn a_failing_read_ends_the_run(rt: HostRuntime) {
+    let rows: [FailingRead<'_>; 4] = [
+        (b"fr-FR\nx-", 8, 2, b"normal\n"),
+        (b"fr\n", 3, 1, b""),
+        (b"fr\n", 3, 2, b"normal\n"),
+        (b"x-a\nen\n", 6, 2, b"private\n"),
+    ];
+    for (text, step, read, want) in rows {
+        for kind in [ErrorKind::Other, ErrorKind::Interrupted] {
+            let mut input = Feed::failing(text, step, read, kind);
+            let mut output = Sheet::new();
+            assert_eq!(rt;
+                run(rt.alloc(), &mut input, &mut output),
+                Err(ShowError::Read)
+            );
+            assert_eq!(rt; output.text(), want);
+            assert_eq!(rt; input.reads, read, "no read follows the one that failed");
+            assert_eq!(rt; output.flushes, 0);
+        }
+    }
+}
+
+#[test]
+fn a_failing_write_ends_the_run(rt: HostRuntime) {
+    let rows = [
+        (Sheet::failing(1, ErrorKind::Other), 0),
+        (Sheet::full(), 0),
+        (Sheet::failing_to_flush(), 1),
+    ];
+    for (mut output, flushes) in rows {
+        assert_eq!(rt;
+            run(rt.alloc(), &mut Feed::new(b"fr\n", 3), &mut output),
+            Err(ShowError::Write)
+        );
+        assert_eq!(rt; output.flushes, flushes);
+    }
+}
+
+#[test]
+fn an_interrupted_write_is_tried_again(rt: HostRuntime) {
+    let mut output = Sheet::failing(1, ErrorKind::Interrupted);
+    assert_eq!(rt;
+        run(rt.alloc(), &mut Feed::new(b"fr\n", 3), &mut output),
+        Ok(())
+    );
+    assert_eq!(rt; output.text(), b"normal\n".as_slice());
+}

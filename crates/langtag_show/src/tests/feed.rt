@@ -1,0 +1,63 @@
+//! A reader of the tests, which takes no memory.
+use std::io;
+use std::io::{ErrorKind, Read};
+
+/// Gives a text, and then another one as often as is stated, at most `step` bytes a read. It fails at one read, where
+/// that is stated.
+#[derive(Drop)]
+pub(crate) struct Feed<'a> {
+    rest: &'a [u8],
+    again: &'a [u8],
+    rounds: u64,
+    step: usize,
+    fails_at: Option<(u64, ErrorKind)>,
+    pub(crate) reads: u64,
+    /// How many reads answered 0.
+    pub(crate) ends: u64,
+}
+
+impl<'a> Feed<'a> {
+    pub(crate) fn new(text: &'a [u8], step: usize) -> Feed<'a> {
+        Feed::repeating(text, b"", 0, step)
+    }
+
+    pub(crate) fn repeating(text: &'a [u8], again: &'a [u8], rounds: u64, step: usize) -> Feed<'a> {
+        Feed {
+            rest: text,
+            again,
+            rounds,
+            step,
+            fails_at: None,
+            reads: 0,
+            ends: 0,
+        }
+    }
+
+    pub(crate) fn failing(text: &'a [u8], step: usize, read: u64, kind: ErrorKind) -> Feed<'a> {
+        let mut feed = Feed::new(text, step);
+        feed.fails_at = Some((read, kind));
+        feed
+    }
+}
+
+impl<'a> Read for Feed<'a> {
+    fn read(&mut self, buf: &mut [u8]) -> io::Result<usize> {
+        self.reads = self.reads.saturating_add(1);
+        if let Some((read, kind)) = self.fails_at
+            && self.reads == read
+        {
+            return Err(io::Error::from(kind));
+        }
+        if self.rest.is_empty() && self.rounds > 0 {
+            self.rounds -= 1;
+            self.rest = self.again;
+        }
+        let n = buf.len().min(self.rest.len()).min(self.step);
+        buf[..n].copy_from_slice(&self.rest[..n]);
+        self.rest = &self.rest[n..];
+        if n == 0 {
+            self.ends = self.ends.saturating_add(1);
+        }
+        Ok(n)
+    }
+}

@@ -1,0 +1,42 @@
+//! What the program says of a fault, and the status that it ends with.
+use super::sheet::Sheet;
+use crate::outcome::conclude;
+use crate::show_error::ShowError;
+use std::process::ExitCode;
+use std::test::Fail;
+
+#[test]
+fn concludes_each_outcome(rt: HostRuntime) -> Result<(), Fail> {
+    let rows: [(Result<(), ShowError>, &[u8], u8); 4] = [
+        (Ok(()), b"", 0),
+        (Err(ShowError::Memory), b"out of memory\n", 3),
+        (Err(ShowError::Read), b"read failed\n", 4),
+        (Err(ShowError::Write), b"write failed\n", 5),
+    ];
+    for (outcome, words, status) in rows {
+        let mut errors = Sheet::new();
+        assert_eq!(rt; conclude(outcome, &mut errors), ExitCode::from(status));
+        assert_eq!(rt; errors.text(), words);
+        assert_eq!(rt;
+            conclude(outcome, &mut Sheet::full()),
+            ExitCode::from(status)
+        );
+    }
+    Ok(())
+}
+
+#[test]
+fn tells_each_fault(rt: HostRuntime) -> Result<(), Fail> {
+    let rows = [
+        (ShowError::Memory, "out of memory", 3, "Memory"),
+        (ShowError::Read, "read failed", 4, "Read"),
+        (ShowError::Write, "write failed", 5, "Write"),
+    ];
+    for (error, text, status, debug) in rows {
+        assert_eq!(rt; error.text(), text);
+        assert_eq!(rt; error.status(), status);
+        let shown = format!(in rt.alloc(); "{error:?}")?;
+        assert_eq!(rt; shown.as_str(), debug);
+    }
+    Ok(())
+}
