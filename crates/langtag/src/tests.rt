@@ -6,6 +6,7 @@ mod normal;
 mod owned;
 mod owned_tags;
 mod parts;
+mod readme;
 mod repeats;
 mod setters;
 mod vectors;

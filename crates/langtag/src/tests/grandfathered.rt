@@ -76,20 +76,22 @@ fn is_found(rt: &impl Abort, text: &str, tag: GrandfatheredLangTag, is_regular: 
 }
 
 #[test]
-fn all_are_found_in_any_case(rt: HostRuntime) -> Result<(), Fail> {
+fn all_are_shown_as_registered(rt: HostRuntime) -> Result<(), Fail> {
     for (index, &(tag, text, language)) in TABLE.iter().enumerate() {
-        assert!(rt; GRANDFATHERED[index] == tag, "of {text}");
+        assert!(rt; GRANDFATHERED[index] == tag);
         assert_eq!(rt; tag.as_str(), text);
         assert_eq!(rt; tag.as_bytes(), text.as_bytes());
         assert_eq!(rt; tag.to_string(rt.alloc())?.as_str(), text);
-        let found = tag.language().map(|language| language.as_str());
-        assert_eq!(rt; found, language, "of {text}");
-        let typed = TypedLangTag::Grandfathered(tag).language();
-        assert_eq!(rt;
-            typed.map(|language| language.as_str()),
-            language,
-            "of {text}"
-        );
+        assert_eq!(rt; tag.language().map(|found| found.as_str()), language);
+        let typed = TypedLangTag::Grandfathered(tag);
+        assert_eq!(rt; typed.language().map(|found| found.as_str()), language);
+    }
+    Ok(())
+}
+
+#[test]
+fn all_are_found_in_any_case(rt: HostRuntime) -> Result<(), Fail> {
+    for &(tag, text, language) in TABLE.iter() {
         let mut other = String::from_str(rt.alloc(), text)?;
         is_found(&rt, other.as_str(), tag, language.is_some());
         other.make_ascii_uppercase();

@@ -30,15 +30,9 @@ fn each_text_is_shown_and_copied(rt: HostRuntime) -> Result<(), Fail> {
         assert_eq!(rt; tag.to_string(rt.alloc())?.as_str(), text);
         let owned = tag.try_to_owned(rt.alloc())?;
         assert_eq!(rt; owned.to_string(rt.alloc())?.as_str(), text);
-        assert_eq!(rt; owned.as_lang_tag().kind(), kind, "of {text}");
-        assert!(rt;
-            owned.as_lang_tag().language() == tag.language(),
-            "of {text}"
-        );
+        assert!(rt; owned.as_lang_tag().kind() == kind);
         assert_eq!(rt; owned.as_str(), text);
-        let again = LangTagBuf::new(owned.into_string()).ok().ok_or("refused")?;
-        assert_eq!(rt; again.as_lang_tag().kind(), kind, "of {text}");
-        assert_eq!(rt; again.into_string().as_str(), text);
+        assert_eq!(rt; owned.into_string().as_str(), text);
     }
     Ok(())
 }
