@@ -1,5 +1,5 @@
 -- The elements of one more item.
-use Rattle.std.proofs.Common.{◌≡◌, List, ℕ, ◌<◌, ◌+◌, [], ◌∷◌, ◌++◌, inl, inr, IsTrue, ap, refl, sym, ◌∙◌, subst, arith, length, length-append, take, get_or}
+use Rattle.std.proofs.Common.{◌≡◌, List, ℕ, ◌<◌, [], ◌∷◌, ◌++◌, inl, inr, IsTrue, ap, refl, sym, ◌∙◌, subst, arith, length, length-append, take, get_or}
 use Rattle.std.specs.List.{enumerate_from}
 use Rattle.std.proofs.lemmas.List.{take_more}
 use Rattle.std.proofs.lemmas.List.FromFn.{length-enumerate_from, get_or-enumerate_from}

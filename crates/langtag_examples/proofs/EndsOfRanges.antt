@@ -1,5 +1,5 @@
 -- Where a range may end, by where its last subtag begins.
-use Rattle.std.proofs.Common.{◌≡◌, ◌≢◌, ◌⊎◌, inl, inr, ℕ, ◌<◌, ◌≤◌, ◌-◌, Bool, true, false, not, List, Option, Some, None, length, take, drop, get_or, eqb, ne_eqb, ap, sym, ◌∙◌, arith, length-drop, subst}
+use Rattle.std.proofs.Common.{◌≡◌, ◌≢◌, ◌⊎◌, inl, inr, ℕ, ◌<◌, ◌≤◌, ◌-◌, Bool, true, false, not, List, Some, None, length, take, get_or, eqb, ne_eqb, ap, sym, ◌∙◌, arith, length-drop, subst}
 use Rattle.std.specs.List.{after_last, suffix_len, slice_get}
 use Rattle.std.proofs.lemmas.Bool.{not_from_false, both_ways, cases_order, eqb-true, eqb-false, not-true, not-false}
 use Rattle.std.proofs.lemmas.List.{length-take, get_or-take}
@@ -7,7 +7,7 @@ use Rattle.std.proofs.lemmas.List.Sums.{suffix_len_is}
 use Rattle.std.proofs.lemmas.Option.{get_or_from_slice_get}
 use Rattle.langtag.specs.declared.lang_tag.LangTag.{LangTag}
 use Rattle.langtag.specs.Subtags.{is_hyphen, NoHyphenWithin}
-use Rattle.langtag_examples.specs.LookUp.{ends_in_single, IsEnd, tag_alike}
+use Rattle.langtag_examples.specs.LookUp.{IsEnd, tag_alike}
 
 -- what is known of an index of a range: the last subtag before it begins at `start`
 pub record LastSubtag (r : List ℕ) (start end : ℕ) : Type 0 where

@@ -1,5 +1,5 @@
 -- A range and a weight hold no white space and no semicolon.
-use Rattle.std.proofs.Common.{◌≡◌, ◌≢◌, ℕ, ◌<◌, ◌≤◌, ◌⊎◌, inl, inr, Bool, true, false, not, ◌&&◌, ◌||◌, List, [], ◌∷◌, ◌++◌, length, get_or, eqb, leb, ap, refl, sym, ◌∙◌, arith, subst, length-append}
+use Rattle.std.proofs.Common.{◌≡◌, ◌≢◌, ℕ, ◌<◌, ◌≤◌, ◌⊎◌, inl, inr, Bool, true, false, not, ◌&&◌, List, [], ◌∷◌, ◌++◌, length, get_or, eqb, leb, ap, refl, sym, ◌∙◌, arith, length-append}
 use Rattle.std.specs.Char.{is_ascii_alphabetic}
 use Rattle.std.specs.Int.{is_in_range}
 use Rattle.std.specs.List.{list_all}
@@ -12,7 +12,7 @@ use Rattle.std.proofs.Math.Seq.{get_or-append_seam}
 use Rattle.std.proofs.lemmas.Slice.Eq.{bytes_eq-Decides}
 use Rattle.langtag.specs.Class.{has_length, is_letter, is_digit, is_alphanumeric, are_alphanumeric, is_private_subtag}
 use Rattle.langtag.specs.Subtags.{join, segments}
-use Rattle.langtag_examples.specs.AcceptLanguage.{is_space, is_ows, IsPadded}
+use Rattle.langtag_examples.specs.AcceptLanguage.{is_space, IsPadded}
 use Rattle.langtag_examples.specs.Weight.{is_fraction, is_qvalue, is_q, IsWeight}
 use Rattle.langtag_examples.specs.Range.{is_first_subtag, are_range_subtags, is_range}
 

@@ -2,7 +2,7 @@
 use Rattle.std.proofs.Common.{◌≡◌, ℕ, List, Option, Some, None, inl, sym, ap, ◌∙◌}
 use Rattle.std.specs.Option.{option_or}
 use Rattle.langtag.specs.Edit.{with_script}
-use Rattle.langtag.specs.Record.{Record, EachRecord, Spells, spell}
+use Rattle.langtag.specs.Record.{EachRecord, Spells, spell}
 use Rattle.langtag.specs.Tag.{IsNormal, IsTag}
 
 pub IsTag-from_normal : (text : List ℕ) → IsNormal text → IsTag text

@@ -1,8 +1,8 @@
 -- What trimming white space leaves.
-use Rattle.std.proofs.Common.{◌≡◌, ◌≢◌, ℕ, ◌<◌, ◌≤◌, ◌-◌, ◌+◌, ◌⊎◌, inl, inr, Bool, true, false, not, cond, ◌&&◌, ◌||◌, IsTrue, List, [], ◌∷◌, ◌++◌, Option, Some, None, IfSome, length, take, drop, reverse, get_or, eqb, ap, refl, sym, ◌∙◌, arith, append_assoc, subst}
-use Rattle.std.specs.Char.{char_set_contains, encode_utf8, len_utf8, IsScalar}
+use Rattle.std.proofs.Common.{◌≡◌, ℕ, ◌<◌, ◌-◌, inl, inr, Bool, true, false, not, cond, IsTrue, List, [], ◌∷◌, ◌++◌, Option, Some, None, length, take, drop, reverse, eqb, ap, refl, sym, ◌∙◌, arith, append_assoc, subst}
+use Rattle.std.specs.Char.{char_set_contains, encode_utf8, IsScalar}
 use Rattle.std.specs.List.{list_all}
-use Rattle.std.specs.Str.Pattern.{CutsPrefixes, CutsSuffixes, IsFullyTrimmed, IsTrimStartMatches, IsTrimEndMatches, FindsPrefixBy, FindsSuffixBy, HasPassingCharAt}
+use Rattle.std.specs.Str.Pattern.{CutsPrefixes, CutsSuffixes, IsFullyTrimmed, IsTrimStartMatches, IsTrimEndMatches, FindsPrefixBy, FindsSuffixBy}
 use Rattle.std.proofs.lemmas.Bool.{eqb-true, and_parts, or_cases, false_from_ne_true, not-true}
 use Rattle.std.proofs.lemmas.Bool.Decides.{nat_tests}
 use Rattle.std.proofs.lemmas.List.{take-append-drop, drop_all, append-nil, reverse-append, reverse-reverse, length-reverse}

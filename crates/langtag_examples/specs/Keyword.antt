@@ -3,7 +3,7 @@
 use Rattle.std.specs.Prelude.{ℕ, Bool, not, ◌&&◌, ◌==◌, List, [], ◌∷◌, Option, None, Some, if◌then◌else◌, length, take_while}
 use Rattle.std.specs.Option.{option_map_or}
 use Rattle.langtag.specs.Case.{are_alike}
-use Rattle.langtag.specs.Record.{Record, Extension}
+use Rattle.langtag.specs.Record.{Record}
 use Rattle.langtag.specs.Spelling.{find_extension}
 use Rattle.langtag.specs.ExtensionText.{extension_subtags_left}
 use Rattle.langtag_examples.specs.declared.keyword.Types.{Types}

@@ -1,5 +1,5 @@
 -- Look-up of a tag for a list of language ranges (RFC 4647 section 3.4).
-use Rattle.std.specs.Prelude.{◌≡◌, ◌≢◌, ◌⊎◌, ℕ, ◌<◌, ◌-◌, ◌==◌, Bool, false, List, [], ◌∷◌, Option, None, Some, find, length, take, slice_get, slice_index_or}
+use Rattle.std.specs.Prelude.{◌≡◌, ◌⊎◌, ℕ, ◌<◌, ◌==◌, Bool, false, List, [], ◌∷◌, Option, None, Some, find, length, take, slice_get}
 use Rattle.std.specs.Borrow.{Bor}
 use Rattle.std.specs.List.{after_last}
 use Rattle.langtag.specs.Case.{are_alike}

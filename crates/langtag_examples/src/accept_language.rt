@@ -10,6 +10,8 @@ use crate::range::is_range;
 use crate::weight::weight_of;
 use std::alloc::{AllocError, Global};
 use std::cmp::Reverse;
+use std::error::Error;
+use std::fmt;
 
 const SPACES: [char; 2] = [' ', '\t'];
 
@@ -38,6 +40,20 @@ impl From<AllocError> for HeaderError<'_> {
         HeaderError::Memory(error)
     }
 }
+
+impl fmt::Display for HeaderError<'_> {
+    fn fmt<W: fmt::Write>(&self, f: &mut fmt::Formatter<W>) -> fmt::Result {
+        match self {
+            HeaderError::BadElement { index, .. } => write!(
+                f,
+                "element {index} is no language range"
+            ),
+            HeaderError::Memory(error) => write!(f, "{error}"),
+        }
+    }
+}
+
+impl Error for HeaderError<'_> {}
 
 /// The ranges of a header, those that are wanted most first.
 ///

@@ -1,6 +1,7 @@
 //! The Accept-Language header (RFC 9110 section 12.5.4).
 use crate::{HeaderError, is_range, tag_for_header, wanted_ranges};
 use langtag::LangTag;
+use std::alloc::Global;
 use std::test::Fail;
 
 #[test]
@@ -59,6 +60,14 @@ fn headers_that_are_read(rt: HostRuntime) -> Result<(), Fail> {
     Ok(())
 }
 
+/// The number of the element for which a header is refused.
+fn bad_element(alloc: Global, text: &str) -> Option<usize> {
+    match wanted_ranges(alloc, text) {
+        Err(HeaderError::BadElement { header, index }) if header == text => Some(index),
+        _ => None,
+    }
+}
+
 #[test]
 fn headers_that_are_refused(rt: HostRuntime) {
     let cases = [
@@ -79,15 +88,19 @@ fn headers_that_are_refused(rt: HostRuntime) {
         ("de\n", 0),
         ("de,é", 1),
     ];
-    for (text, place) in cases {
-        match wanted_ranges(rt.alloc(), text) {
-            Err(HeaderError::BadElement { header, index }) => {
-                assert_eq!(rt; header, text);
-                assert_eq!(rt; index, place, "of {text}");
-            }
-            _ => assert!(rt; false, "of {text}"),
-        }
+    for (text, index) in cases {
+        assert_eq!(rt; bad_element(rt.alloc(), text), Some(index), "of {text}");
     }
+}
+
+#[test]
+fn a_refusal_tells_the_element(rt: HostRuntime) -> Result<(), Fail> {
+    let refused = wanted_ranges(rt.alloc(), "de, e!").err().ok_or("read")?;
+    assert_eq!(rt;
+        refused.to_string(rt.alloc())?.as_str(),
+        "element 1 is no language range"
+    );
+    Ok(())
 }
 
 /// A million bytes: half a million empty elements, ranges of rising weight, one range without an end, and one bad element

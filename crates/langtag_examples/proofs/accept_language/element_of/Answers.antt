@@ -1,7 +1,7 @@
-use Rattle.std.proofs.Common.{◌≡◌, ap, sym, ◌∙◌, subst, refl, inl, inr, lit<}
+use Rattle.std.proofs.Common.{sym, subst, refl, inl, inr, lit<}
 use Rattle.std.proofs.lemmas.Option.{IfSome_then}
 use Rattle.std.proofs.lemmas.Str.Pattern.{split_parts, split_after}
-use Rattle.langtag_examples.specs.AcceptLanguage.{IsItem, IsPadded}
+use Rattle.langtag_examples.specs.AcceptLanguage.{IsPadded}
 use Rattle.langtag_examples.specs.Weight.{IsWeight}
 use Rattle.langtag_examples.proofs.Plain.{range_plain, weight_plain, weight_nonempty, no_space, no_semicolon, uncut}
 use Rattle.langtag_examples.proofs.accept_language.element_of.Goals as goal

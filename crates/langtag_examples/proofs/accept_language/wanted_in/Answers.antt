@@ -1,4 +1,4 @@
-use Rattle.std.proofs.Common.{◌≡◌, Bool, true, false, ap, sym, ◌∙◌, Some, None}
+use Rattle.std.proofs.Common.{◌≡◌, Bool, true, false, ap, sym, ◌∙◌, None}
 use Rattle.std.specs.Bool.{then_some}
 use Rattle.langtag_examples.specs.Range.{is_range}
 use Rattle.langtag_examples.proofs.Plain.{range_plain, range_nonempty, no_space}

@@ -1,17 +1,10 @@
-use Rattle.std.proofs.Common.{◌≡◌, [], is_some, sym, ap, ◌∙◌, arith}
+use Rattle.std.proofs.Common.{◌≡◌, [], sym, ap, ◌∙◌, arith}
 use Rattle.std.specs.Option.{option_map_or}
-use Rattle.std.proofs.lemmas.Bool.{both_ways}
 use Rattle.std.proofs.lemmas.Grind.{common_steps}
-use Rattle.langtag.specs.Class.{is_letter, is_digit, is_mark, is_singleton}
 use Rattle.langtag.specs.ExtensionText.{singleton_byte}
 use Rattle.langtag.specs.Spelling.{find_extension}
 use Rattle.langtag_examples.specs.Keyword.{types_of}
 use Rattle.langtag_examples.proofs.keyword.types_of.Goals as goal
-
--- `u` is a singleton
-pub returns-in_err-locale-clause-asked : goal.returns-in_err-locale-clause-asked
-unfolding is_letter is_digit is_mark is_singleton
-returns-in_err-locale-clause-asked c = absurd (both_ways _ (sym c.ok.ensures.variant ∙ ap is_some c.in_err-locale.was) c.new.ensures.accepts)
 
 pub loop-subtag-init : goal.loop-subtag-init
 loop-subtag-init c = record {

@@ -1,4 +1,4 @@
-use Rattle.std.proofs.Common.{◌≡◌, List, ℕ, [], length}
+use Rattle.std.proofs.Common.{◌≡◌, [], length}
 use Rattle.langtag.specs.ExtensionText.{extension_subtags_left}
 use Rattle.langtag.specs.Record.{EachRecord}
 use Rattle.langtag.specs.Tag.{IsNormal}

@@ -1,9 +1,9 @@
-use Rattle.std.proofs.Common.{◌≡◌, ℕ, List, Option, Some, None, sym, ap, ◌∙◌, subst, arith}
+use Rattle.std.proofs.Common.{◌≡◌, Some, None, sym, ap, ◌∙◌, subst, arith}
 use Rattle.std.specs.Option.{option_map}
 use Rattle.std.proofs.lemmas.Grind.{common_steps}
 use Rattle.langtag.specs.Edit.{with_script}
 use Rattle.langtag.specs.PlaceText.{script_text, script_buf_text}
-use Rattle.langtag.specs.Record.{EachRecord, Spells}
+use Rattle.langtag.specs.Record.{Spells}
 use Rattle.langtag.specs.Tag.{IsNormal}
 use Rattle.langtag.specs.Text.{normal_lang_tag_buf_text}
 use Rattle.langtag_examples.specs.Catalogue.{text_for}

@@ -1,4 +1,4 @@
-use Rattle.std.proofs.Common.{◌≡◌, true, sym, ap, ◌∙◌, lit<}
+use Rattle.std.proofs.Common.{sym, ap, ◌∙◌, lit<}
 use Rattle.std.proofs.lemmas.Str.Pattern.{split_parts}
 use Rattle.langtag_examples.specs.Range.{is_first_subtag}
 use Rattle.langtag_examples.proofs.Ranges.{is_range-alone, is_range-cut}
