@@ -2,7 +2,7 @@
 -- with `i`. The others are each as long as nine bytes, and begin like a normal tag.
 use Rattle.std.proofs.Common.{◌≡◌, ℕ, ◌<◌, ◌≤◌, Bool, true, false, cond, eqb, ltb, leb, ◌&&◌, ◌||◌, List, [], ◌∷◌, ◌++◌, length, slice_index, inl, inr, refl, sym, ap, subst, ◌∙◌, arith, append_assoc, append-nil}
 use Rattle.std.proofs.Math.Bool.{and-true, and_assoc}
-use Rattle.std.proofs.lemmas.Bool.{and_parts, and_from, and_left, and_cases, or_cases, or_parts, eqb-true, ltb-true, leb-true, lt-ltb, le-leb, ne_eqb, agree_below_at, cases_lt, both_ways, false_from_ne_true}
+use Rattle.std.proofs.lemmas.Bool.{and_parts, and_from, and_left, and_cases, or_cases, or_parts, eqb-true, ltb-true, leb-true, lt-ltb, le-leb, agree_below_at, cases_lt, both_ways, false_from_ne_true}
 use Rattle.std.proofs.lemmas.Bool.Decides.{nat_tests}
 use Rattle.std.proofs.lemmas.List.{map-append}
 use Rattle.langtag_scan.specs.declared.stage.Stage.TheVariants.{Start}
@@ -76,16 +76,9 @@ followed-append len p (b ∷ u) k gone =
     ap (λ q. is_followed len q k) (sym (append_assoc p (b ∷ []) u))
     ∙ followed-append len (p ++ b ∷ []) u k (followed-push len p b k ∙ and_left (is_followed len p k) _ gone)
 
--- ---- before the first byte, and after it
+-- ---- after the first byte
 
--- all that matter are possible before the first byte
-pub followed_nine : (len k : ℕ) → len ≡ 9 → k < 17 → is_followed len [] k ≡ is_within 0 17 k
-followed_nine len k nine within = grind (arith, nat_tests)
-
-pub followed_other : (len k : ℕ) → (len ≡ 9 → ⊥) → is_followed len [] k ≡ is_within 1 14 k
-followed_other len k other = and-true (matters len k) ∙ ap (λ v. v || is_within 1 14 k) (ne_eqb len 9 other)
-
--- after the first byte those that have it are
+-- those that matter and begin with it are possible then
 pub followed_first : (len : ℕ) (p : List ℕ) (b k : ℕ) → length p ≡ 0 → is_followed len (p ++ b ∷ []) k ≡ (matters len k && has_at (folded_at k) 0 (fold_byte b))
 followed_first len [] b k none =
     followed-push len [] b k ∙ ap (λ v. v && has_at (folded_at k) 0 (fold_byte b)) (and-true (matters len k))
