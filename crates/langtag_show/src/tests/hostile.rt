@@ -4,7 +4,7 @@ use super::sheet::Sheet;
 use super::{REFUSED, is_report};
 use crate::run::run;
 use langtag::{
-    ExtendedLangTag, ExtendedLangTagBuf, Extension, ExtensionBuf, ExtensionSubtag,
+    ByteSource, ExtendedLangTag, ExtendedLangTagBuf, Extension, ExtensionBuf, ExtensionSubtag,
     ExtensionSubtagBuf, Extensions, ExtensionsBuf, GrandfatheredLangTag, LangTag, LangTagBuf,
     Language, LanguageBuf, LanguageExtension, LanguageExtensionBuf, Metered, NormalLangTag,
     NormalLangTagBuf, PrimaryLanguage, PrimaryLanguageBuf, PrivateUse, PrivateUseBuf,
