@@ -1,6 +1,6 @@
 #!/usr/bin/env bash
-# Times recognise on a file of tags, one a line, beside plain loops; with no file, on 100,000 tags of 18 bytes.
-# With valgrind it also counts instructions. It needs rt, rustc and a linker.
+# Times recognise on a file of tags, one a line, beside plain loops; with no file, on two lists of 100,000 tags: one of
+# shapes of 18 bytes, and one of plain tags. With valgrind it also counts instructions. It needs rt, rustc and a linker.
 set -euo pipefail
 here=$(cd "$(dirname "$0")" && pwd)
 target=$here/target
@@ -10,14 +10,11 @@ mkdir -p "$target"
 rustc --edition 2024 -C opt-level=3 "$here/src/main.rs" -o "$target/bench" \
     -L "native=$here/../crates/langtag_bench/out" -l static=langtag_bench
 
-tags=${1:-$target/tags18.txt}
-if [ $# -eq 0 ]; then
-    "$target/bench" make 100000 >"$tags"
-fi
-
-"$target/bench" "$tags"
-
-if command -v valgrind >/dev/null; then
+# Times the entries on a file of tags, and counts their instructions.
+measure() {
+    local tags=$1 entry log sizes count bytes instructions
+    "$target/bench" "$tags"
+    command -v valgrind >/dev/null || return 0
     echo "                   instructions a tag    a byte"
     for entry in recognise recognise_text fold_and_sum copy; do
         log=$target/$entry.log
@@ -27,5 +24,15 @@ if command -v valgrind >/dev/null; then
         instructions=$(awk '/Collected/ { print $4 }' "$log")
         awk -v name="$entry" -v n="$instructions" -v count="$count" -v bytes="$bytes" \
             'BEGIN { printf "%-18s %18.1f %9.2f\n", name, n / count, n / bytes }'
+    done
+}
+
+if [ $# -gt 0 ]; then
+    measure "$1"
+else
+    for list in shapes plain; do
+        "$target/bench" "$list" 100000 >"$target/$list.txt"
+        echo "== $list"
+        measure "$target/$list.txt"
     done
 fi

@@ -1,7 +1,7 @@
 //! Times `recognise` on a file of tags beside plain loops over the same bytes, in one run.
 //!
-//! `bench FILE` times, `bench make COUNT` writes tags of 18 bytes, and `bench once ENTRY FILE` calls one entry once
-//! for each tag, for a tool that counts instructions.
+//! `bench FILE` times, `bench shapes COUNT` and `bench plain COUNT` write lists of tags, and `bench once ENTRY FILE` calls one
+//! entry once for each tag, for a tool that counts instructions.
 
 use std::hint::black_box;
 use std::io::Write;
@@ -170,20 +170,34 @@ const SHAPES: [&str; 8] = [
     "aaaaaaa-Aaaa-x-a00",
 ];
 
-fn make(count: usize) -> std::io::Result<()> {
-    let mut state = 1u64;
-    let mut next = |below: u64| {
-        state = state.wrapping_mul(6364136223846793005).wrapping_add(1442695040888963407);
-        (state >> 33) % below
-    };
+/// Tags as most programs meet them.
+const PLAIN: [&str; 32] = [
+    "en", "fr", "de", "es", "pt", "it", "ja", "ko", "zh", "ru", "ar", "hi", "nl", "sv", "pl", "yue",
+    "en-US", "en-GB", "fr-FR", "fr-CA", "de-DE", "de-AT", "es-ES", "es-419", "pt-BR", "pt-PT",
+    "ja-JP", "zh-CN", "zh-Hans-CN", "zh-Hant-TW", "sr-Latn-RS", "az-Cyrl",
+];
+
+/// Numbers that look random, the same in every run.
+struct Numbers(u64);
+
+impl Numbers {
+    fn next(&mut self, below: usize) -> usize {
+        self.0 = self.0.wrapping_mul(6364136223846793005).wrapping_add(1442695040888963407);
+        (self.0 >> 33) as usize % below
+    }
+}
+
+/// Writes so many tags, each made from one of the shapes.
+fn write_shapes(count: usize) -> std::io::Result<()> {
+    let mut numbers = Numbers(1);
     let mut out = std::io::BufWriter::new(std::io::stdout());
     for _ in 0..count {
-        let shape = SHAPES[next(SHAPES.len() as u64) as usize];
+        let shape = SHAPES[numbers.next(SHAPES.len())];
         for byte in shape.bytes() {
             let byte = match byte {
-                b'a' => b'a' + next(26) as u8,
-                b'A' => b'A' + next(26) as u8,
-                b'0' => b'0' + next(10) as u8,
+                b'a' => b'a' + numbers.next(26) as u8,
+                b'A' => b'A' + numbers.next(26) as u8,
+                b'0' => b'0' + numbers.next(10) as u8,
                 byte => byte,
             };
             out.write_all(&[byte])?;
@@ -193,14 +207,25 @@ fn make(count: usize) -> std::io::Result<()> {
     out.flush()
 }
 
+/// Writes so many plain tags.
+fn write_plain(count: usize) -> std::io::Result<()> {
+    let mut numbers = Numbers(1);
+    let mut out = std::io::BufWriter::new(std::io::stdout());
+    for _ in 0..count {
+        writeln!(out, "{}", PLAIN[numbers.next(PLAIN.len())])?;
+    }
+    out.flush()
+}
+
 fn main() -> std::io::Result<()> {
     let arguments: Vec<String> = std::env::args().skip(1).collect();
     match arguments.iter().map(String::as_str).collect::<Vec<_>>()[..] {
-        ["make", count] => make(count.parse().expect("COUNT is a number")),
+        ["shapes", count] => write_shapes(count.parse().expect("COUNT is a number")),
+        ["plain", count] => write_plain(count.parse().expect("COUNT is a number")),
         ["once", entry, path] => once(entry, path),
         [path] => time(path),
         _ => {
-            eprintln!("usage: bench FILE | bench make COUNT | bench once ENTRY FILE");
+            eprintln!("usage: bench FILE | bench shapes COUNT | bench plain COUNT | bench once ENTRY FILE");
             std::process::exit(2)
         }
     }

@@ -3,4 +3,3 @@
 
 mod loops;
 mod recognise;
-mod source;

@@ -1,14 +1,14 @@
 -- The one list that spells a text is found again in it, and the tests of its subtags say whether there is one.
 use Rattle.std.proofs.Common.{◌≡◌, ◌↔◌, ℕ, ◌≤◌, Bool, true, IsTrue, List, [], ◌∷◌, ◌++◌, length, refl, ap, sym, ◌∙◌, arith, map}
 use Rattle.std.specs.List.{list_all, AllByRecursion, flat_map}
+use Rattle.std.proofs.lemmas.Bool.{and_parts}
 use Rattle.std.proofs.lemmas.Grind.{common_steps}
 use Rattle.langtag_scan.specs.Class.{is_singleton, is_extension_subtag, has_length, are_alphanumeric}
 use Rattle.langtag_scan.specs.Record.{Extension, IsExtension, extension_flat}
 use Rattle.langtag_scan.specs.Subtags.{join, subtags}
-use Rattle.langtag_scan.proofs.Disjoint.{both_true, between_true}
-use Rattle.langtag_scan.proofs.Segments.{IsSubtag, of_one, of_extension_subtag, singleton_alphanumeric}
-use Rattle.langtag_scan.proofs.SubtagLists.{each_from_test, test_from_each, each_subtag, subtags-joined}
-use Rattle.langtag_scan.proofs.SubtagsLemmas.{join-subtags}
+use Rattle.langtag_scan.proofs.BoolFacts.{between_true}
+use Rattle.langtag_scan.proofs.SubtagFacts.{IsSubtag, of_one, of_extension_subtag, singleton_alphanumeric}
+use Rattle.langtag_scan.proofs.SubtagLists.{each_from_test, test_from_each, each_subtag, subtags-joined, join-subtags}
 use Rattle.langtag_extension.specs.ExtensionTexts.{goes_on, opens, groups, group_texts, extension_texts}
 use Rattle.langtag_extension.specs.Tests.{is_extension_list, is_extension_text, are_extension_texts, is_extensions_text, are_extension_subtags}
 use Rattle.langtag_extension.specs.Spelling.{extension_spelling, SpellsExtension, IsExtensionText, SpellsExtensions, IsExtensionsText}
@@ -20,7 +20,7 @@ use Rattle.langtag_extension.proofs.Joins.{join-group_texts, join-spellings}
 extension_subtag_long : (s : List ℕ) → is_extension_subtag s ≡ true → (2 ≤ length s) × (length s ≤ 8) × (are_alphanumeric s ≡ true)
 unfolding is_extension_subtag
 extension_subtag_long s h =
-    let k = both_true (has_length 2 8 s) (are_alphanumeric s) h in
+    let k = and_parts (has_length 2 8 s) (are_alphanumeric s) h in
     let m = between_true 2 8 (length s) k.0 in
     (m.0, m.1, k.1)
 
@@ -59,7 +59,7 @@ extension_of_list ([] ∷ ss) pass = absurd cc
 extension_of_list ((b ∷ c ∷ s) ∷ ss) pass = absurd cc
 extension_of_list ((b ∷ []) ∷ []) pass = absurd cc
 extension_of_list ((b ∷ []) ∷ s ∷ ss) pass =
-    let both = both_true (is_singleton b) (are_extension_subtags (s ∷ ss)) pass in
+    let both = and_parts (is_singleton b) (are_extension_subtags (s ∷ ss)) pass in
     (record { singleton = b; subtags = s ∷ ss }, record { singleton = both.0; some = omega arith; subtags = each_from_test is_extension_subtag (s ∷ ss) both.1 }, refl)
 
 -- from the test to the rule
@@ -127,7 +127,7 @@ is_extensions_text-from_rule text (es, spells) =
 extensions_of_texts : (ts : List (List ℕ)) → are_extension_texts ts ≡ true → (es : List Extension) × AllByRecursion IsExtension es × (map extension_spelling es ≡ ts)
 extensions_of_texts [] pass = ([], tt, refl)
 extensions_of_texts (t ∷ ts) pass =
-    let both = both_true (is_extension_text t) (are_extension_texts ts) pass in
+    let both = and_parts (is_extension_text t) (are_extension_texts ts) pass in
     let first = IsExtensionText-from_test t both.0 in
     let others = extensions_of_texts ts both.1 in
     (first.0 ∷ others.0, (first.1.member, others.1), ap (λ x. x ∷ map extension_spelling others.0) first.1.joined ∙ ap (λ xs. t ∷ xs) others.2)

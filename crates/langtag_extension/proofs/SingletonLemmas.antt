@@ -1,12 +1,12 @@
 -- Singletons are ASCII.
 use Rattle.std.proofs.Common.{◌≡◌, ◌==◌, ◌&&◌, ◌||◌, not, ℕ, ◌<◌, ◌≤◌, false, true, refl, arith, ◌∷◌, [], encode_utf8}
+use Rattle.std.proofs.lemmas.Bool.{false_from_ne_true}
 use Rattle.std.proofs.lemmas.Str.{encode_ascii}
 use Rattle.std.proofs.lemmas.Grind.{common_steps}
 use Rattle.std.specs.Char.{is_ascii, is_ascii_alphabetic, is_ascii_digit}
 use Rattle.langtag_scan.specs.Class.{is_letter, is_digit, is_mark, is_singleton}
-use Rattle.langtag_scan.proofs.Disjoint.{not_both}
 use Rattle.langtag_scan.proofs.Ascii.{alphanumeric_below}
-use Rattle.langtag_scan.proofs.Segments.{singleton_alphanumeric}
+use Rattle.langtag_scan.proofs.SubtagFacts.{singleton_alphanumeric}
 
 -- a singleton is ASCII
 pub singleton_below : (b : ℕ) → is_singleton b ≡ true → b < 128
@@ -14,7 +14,7 @@ singleton_below b h = alphanumeric_below b (singleton_alphanumeric b h)
 
 -- and no greater number is one
 pub is_singleton_above : (b : ℕ) → 128 ≤ b → is_singleton b ≡ false
-is_singleton_above b above = not_both (is_singleton b) (λ h. let below = singleton_below b h in omega arith)
+is_singleton_above b above = false_from_ne_true (is_singleton b) (λ h. let below = singleton_below b h in omega arith)
 
 -- a singleton is written as its one byte
 pub encode_singleton : (b : ℕ) → is_singleton b ≡ true → encode_utf8 b ≡ b ∷ []

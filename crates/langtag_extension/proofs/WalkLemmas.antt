@@ -7,7 +7,7 @@ use Rattle.std.proofs.Math.Seq.{drop-cons, take-add}
 use Rattle.std.proofs.lemmas.List.Splits.{length-slice_split, join_with_byte-slice_split, slice_split-cons_yes, slice_split-cons_no, slice_split_none}
 use Rattle.std.proofs.lemmas.Grind.{common_steps}
 use Rattle.langtag_scan.specs.Subtags.{is_hyphen, join, segments, segments_left, NoHyphenWithin, IsHyphenFree}
-use Rattle.langtag_scan.proofs.SubtagsLemmas.{slice_split-push, slice_split-append}
+use Rattle.langtag_scan.proofs.SubtagLists.{slice_split-push, slice_split-append}
 use Rattle.langtag_extension.specs.ExtensionTexts.{goes_on, opens, groups, put_first, group_texts, texts_left}
 
 -- a first subtag of one byte opens an extension

@@ -3,11 +3,10 @@ use Rattle.std.proofs.Common.{◌≡◌, ℕ, ◌+◌, ◌<◌, ◌≤◌, Bool,
 use Rattle.std.specs.List.{slice_range}
 use Rattle.std.proofs.lemmas.List.{take-append-drop, drop_more}
 use Rattle.std.proofs.lemmas.List.Splits.{slice_split_none, slice_split_at, length-slice_split}
-use Rattle.std.proofs.lemmas.Bool.{leb-true, le-leb}
+use Rattle.std.proofs.lemmas.Bool.{leb-true, le-leb, and_parts}
 use Rattle.std.proofs.lemmas.Grind.{common_steps}
 use Rattle.langtag_scan.specs.Class.{is_primary, is_extended}
 use Rattle.langtag_scan.specs.Subtags.{is_hyphen, segments, subtags, NoHyphenWithin, IsHyphenFree}
-use Rattle.langtag_scan.proofs.Disjoint.{both_true}
 use Rattle.langtag_language.specs.Language.{are_extended, are_extended_within, extended_room, are_language_extension, are_language, is_language_extension, is_language}
 
 -- the first subtag ends at the first hyphen
@@ -37,12 +36,12 @@ some_extended (s ∷ ss) some few h = rw (le-leb _ _ few, h) refl
 is_extension_after : (primary rest : List ℕ) → are_language (primary ∷ segments rest) ≡ true → IsTrue (is_language_extension rest) × (segments rest ≡ subtags rest)
 unfolding is_extended
 is_extension_after primary [] h =
-    let k = both_true (is_primary primary) (are_extended_within (extended_room primary) (segments [])) h in
-    let m = both_true (leb 1 (extended_room primary)) (are_extended (segments [])) k.1 in
+    let k = and_parts (is_primary primary) (are_extended_within (extended_room primary) (segments [])) h in
+    let m = and_parts (leb 1 (extended_room primary)) (are_extended (segments [])) k.1 in
     absurd cc
 is_extension_after primary (b ∷ rest) h =
-    let k = both_true (is_primary primary) (are_extended_within (extended_room primary) (segments (b ∷ rest))) h in
-    let m = both_true (leb (length (segments (b ∷ rest))) (extended_room primary)) (are_extended (segments (b ∷ rest))) k.1 in
+    let k = and_parts (is_primary primary) (are_extended_within (extended_room primary) (segments (b ∷ rest))) h in
+    let m = and_parts (leb (length (segments (b ∷ rest))) (extended_room primary)) (are_extended (segments (b ∷ rest))) k.1 in
     let some : 1 ≤ length (segments (b ∷ rest)) = omega (arith, length-slice_split is_hyphen (b ∷ rest)) in
     (some_extended (segments (b ∷ rest)) some (few_after primary _ (leb-true _ _ m.0)) m.1, refl)
 
@@ -56,7 +55,7 @@ language_alone text bytes end h same free whole =
     let kept : IsHyphenFree text = grind (arith, common_steps) in
     let list = subtags_some text h ∙ slice_split_none is_hyphen text kept in
     let pass : are_language (text ∷ []) ≡ true = sym (ap are_language list) ∙ h in
-    record { primary = (both_true (is_primary text) (are_extended_within (extended_room text) []) pass).0; list = list }
+    record { primary = (and_parts (is_primary text) (are_extended_within (extended_room text) []) pass).0; list = list }
 
 -- a language with one
 pub record IsCut (text primary rest : List ℕ) : Type 0 where
@@ -74,7 +73,7 @@ language_cut text bytes end h same within free hyphen more =
     let after = is_extension_after primary rest pass in
     let up_to : slice_range text 0 end ≡ primary = grind (arith, common_steps) in
     rw up_to record {
-      primary_class = (both_true (is_primary primary) (are_extended_within (extended_room primary) (segments rest)) pass).0;
+      primary_class = (and_parts (is_primary primary) (are_extended_within (extended_room primary) (segments rest)) pass).0;
       extension = after.0;
       list = list ∙ ap (λ ss. primary ∷ ss) after.1;
     }

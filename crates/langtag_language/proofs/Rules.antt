@@ -1,13 +1,12 @@
 -- A rule and its test say the same: one list of subtags spells a text, and it is what stands between the hyphens.
 use Rattle.std.proofs.Common.{◌≡◌, ◌↔◌, ℕ, ◌≤◌, ◌⊎◌, inl, inr, true, false, Bool, leb, cond, IsTrue, List, [], ◌∷◌, length, refl, sym, ap, ◌∙◌, arith}
-use Rattle.std.proofs.lemmas.Bool.{leb-true, le-leb}
+use Rattle.std.proofs.lemmas.Bool.{leb-true, le-leb, and_parts}
 use Rattle.std.proofs.lemmas.List.{nil_from_length}
 use Rattle.langtag_scan.specs.Class.{is_primary, is_extended}
 use Rattle.langtag_scan.specs.Subtags.{join, subtags}
-use Rattle.langtag_scan.proofs.Disjoint.{both_true}
-use Rattle.langtag_scan.proofs.Segments.{of_primary, of_extended}
+use Rattle.langtag_scan.proofs.SubtagFacts.{of_primary, of_extended}
 use Rattle.langtag_scan.proofs.SubtagLists.{each_from_test, test_from_each, each_subtag, subtags-joined}
-use Rattle.langtag_scan.proofs.SubtagsLemmas.{join-subtags}
+use Rattle.langtag_scan.proofs.SubtagLists.{join-subtags}
 use Rattle.langtag_language.specs.Language.{SpellsLanguageExtension, IsLanguageExtension, SpellsLanguage, IsLanguage, are_extended, are_extended_within, extended_room, are_language_extension, are_language, is_language_extension, is_language}
 
 -- ---- extlang
@@ -23,7 +22,7 @@ are_extension_from_rule (s ∷ ss) text spells = rw (le-leb _ _ spells.few, test
 rule_from_are_extension : (ss : List (List ℕ)) (text : List ℕ) → join ss ≡ text → are_language_extension ss ≡ true → SpellsLanguageExtension ss text
 rule_from_are_extension [] text joined h = absurd cc
 rule_from_are_extension (s ∷ ss) text joined h =
-    let k = both_true (leb (length (s ∷ ss)) 3) (are_extended (s ∷ ss)) h in
+    let k = and_parts (leb (length (s ∷ ss)) 3) (are_extended (s ∷ ss)) h in
     record { members = each_from_test is_extended (s ∷ ss) k.1; some = omega arith; few = leb-true _ _ k.0; joined = joined }
 
 -- from the test to the rule
@@ -65,8 +64,8 @@ are_language_from_rule primary extended text spells =
 rule_from_are_language : (ss : List (List ℕ)) (text : List ℕ) → join ss ≡ text → are_language ss ≡ true → IsLanguage text
 rule_from_are_language [] text joined h = absurd cc
 rule_from_are_language (primary ∷ extended) text joined h =
-    let k = both_true (is_primary primary) (are_extended_within (extended_room primary) extended) h in
-    let m = both_true (leb (length extended) (extended_room primary)) (are_extended extended) k.1 in
+    let k = and_parts (is_primary primary) (are_extended_within (extended_room primary) extended) h in
+    let m = and_parts (leb (length extended) (extended_room primary)) (are_extended extended) k.1 in
     let few = rule_from_room (length primary) extended m.0 in
     (primary, extended, record { first = k.0; others = each_from_test is_extended extended m.1; few = few.0; short = few.1; joined = joined })
 

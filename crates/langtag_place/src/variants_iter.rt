@@ -28,7 +28,7 @@ impl<'a> VariantsIter<'a> {
     }
 
     /// The walk over the variants of a text that is known to be spelled by a list of them.
-    #[tactic(auto, using(crate::proofs::Counts::few_subtags))]
+    #[tactic(auto, using(crate::proofs::Rules::few_variants))]
     pub(crate) fn new(text: &'a str) -> Self
         requires { IsTrue (is_variants text.now) }
         ensures { variants_left result ≡ subtags text.now }

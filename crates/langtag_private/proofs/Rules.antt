@@ -1,13 +1,13 @@
 -- The rule and its test say the same: one private list spells a text, and it is what stands between the hyphens.
 use Rattle.std.proofs.Common.{◌≡◌, ◌↔◌, ℕ, true, Bool, IsTrue, List, [], ◌∷◌, drop, refl, sym, ap, ◌∙◌, arith}
+use Rattle.std.proofs.lemmas.Bool.{and_parts}
 use Rattle.langtag_scan.specs.Class.{is_mark, is_private_subtag}
 use Rattle.langtag_scan.specs.Record.{PrivateUse, IsPrivateUse, private_use_flat}
 use Rattle.langtag_scan.specs.Subtags.{join, subtags}
 use Rattle.langtag_scan.specs.Tag.{IsPrivate}
-use Rattle.langtag_scan.proofs.Disjoint.{both_true}
-use Rattle.langtag_scan.proofs.Segments.{of_one, of_private_subtag, mark_alphanumeric}
+use Rattle.langtag_scan.proofs.SubtagFacts.{of_one, of_private_subtag, mark_alphanumeric}
 use Rattle.langtag_scan.proofs.SubtagLists.{each_from_test, test_from_each, each_subtag, subtags-joined}
-use Rattle.langtag_scan.proofs.SubtagsLemmas.{join-subtags}
+use Rattle.langtag_scan.proofs.SubtagLists.{join-subtags}
 use Rattle.langtag_private.specs.PrivateUse.{EachSpelling, are_private, are_private_use, is_mark_alone, is_private_use}
 
 -- one text, one list
@@ -29,7 +29,7 @@ rule_from_test (m ∷ []) text joined h = absurd cc
 rule_from_test ([] ∷ s ∷ ss) text joined h = absurd cc
 rule_from_test ((b ∷ c ∷ m) ∷ s ∷ ss) text joined h = absurd cc
 rule_from_test ((b ∷ []) ∷ s ∷ ss) text joined h =
-    let k = both_true (is_mark b) (are_private (s ∷ ss)) h in
+    let k = and_parts (is_mark b) (are_private (s ∷ ss)) h in
     (record { mark = b; subtags = s ∷ ss }, record { mark = k.0; some = omega arith; subtags = each_from_test is_private_subtag (s ∷ ss) k.1 }, joined)
 
 -- from the test to the rule
@@ -48,4 +48,4 @@ private_spelled text b same = (λ h. private_from_test text (sym same ∙ h), λ
 pub are_private-after : (ss : List (List ℕ)) → are_private_use ss ≡ true → are_private (drop 1 ss) ≡ true
 are_private-after [] h = absurd cc
 are_private-after (mark ∷ []) h = absurd cc
-are_private-after (mark ∷ first ∷ others) h = (both_true (is_mark_alone mark) (are_private (first ∷ others)) h).1
+are_private-after (mark ∷ first ∷ others) h = (and_parts (is_mark_alone mark) (are_private (first ∷ others)) h).1

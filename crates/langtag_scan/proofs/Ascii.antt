@@ -1,5 +1,6 @@
 -- A tag of any kind is ASCII, so a text that is not UTF-8 is no tag.
 use Rattle.std.proofs.Common.{◌≡◌, ℕ, suc, ◌<◌, true, List, [], ◌∷◌, get_or, inl, inr, arith, ap, sym, subst, refl, ◌∙◌}
+use Rattle.std.proofs.lemmas.Bool.{and_parts}
 use Rattle.std.specs.Char.{is_ascii}
 use Rattle.std.specs.List.{AllByRecursion, list_all}
 use Rattle.std.specs.Str.{IsAscii, IsUtf8}
@@ -14,9 +15,9 @@ use Rattle.langtag_scan.specs.Grandfathered.{grandfathered_tags, irregular_texts
 use Rattle.langtag_scan.specs.Record.{flat, private_use_flat}
 use Rattle.langtag_scan.specs.Subtags.{join}
 use Rattle.langtag_scan.specs.Tag.{IsNormal, IsPrivate, IsIrregularAt, IsIrregular, IsTag}
-use Rattle.langtag_scan.proofs.Disjoint.{both_true}
 use Rattle.langtag_scan.proofs.Complete.{decode_complete, after_mark}
-use Rattle.langtag_scan.proofs.Segments.{IsSubtag, decoded_subtags}
+use Rattle.langtag_scan.proofs.SubtagFacts.{IsSubtag}
+use Rattle.langtag_scan.proofs.NormalTexts.{decoded_subtags}
 
 -- ---- subtags and the hyphens between them
 
@@ -28,12 +29,12 @@ alphanumeric_below b h = grind (arith, nat_tests)
 IsAscii-alphanumeric : (s : List ℕ) → are_alphanumeric s ≡ true → IsAscii s
 IsAscii-alphanumeric [] h = IsAscii-nil
 IsAscii-alphanumeric (b ∷ s) h =
-    let k = both_true (is_alphanumeric b) (are_alphanumeric s) h in
+    let k = and_parts (is_alphanumeric b) (are_alphanumeric s) h in
     IsAscii-cons b s (alphanumeric_below b k.0) (IsAscii-alphanumeric s k.1)
 
 IsAscii-subtags : (ss : List (List ℕ)) → AllByRecursion IsSubtag ss → AllByRecursion IsAscii ss
 IsAscii-subtags [] fits = tt
-IsAscii-subtags (s ∷ ss) fits = (IsAscii-alphanumeric s fits.0.alnum, IsAscii-subtags ss fits.1)
+IsAscii-subtags (s ∷ ss) fits = (IsAscii-alphanumeric s fits.0.alphanumeric, IsAscii-subtags ss fits.1)
 
 IsAscii-join : (ss : List (List ℕ)) → AllByRecursion IsAscii ss → IsAscii (join ss)
 IsAscii-join [] fits = IsAscii-nil
@@ -44,7 +45,7 @@ IsAscii-join (s ∷ u ∷ us) fits = IsAscii-append s (45 ∷ join (u ∷ us)) f
 
 pub IsAscii-normal : (t : List ℕ) → IsNormal t → IsAscii t
 unfolding IsNormal
-IsAscii-normal t (r, fits, spells) = subst IsAscii spells (IsAscii-join (flat r) (IsAscii-subtags (flat r) (decoded_subtags (flat r) _ _ (decode_complete r fits))))
+IsAscii-normal t (r, (fits, spells)) = subst IsAscii spells (IsAscii-join (flat r) (IsAscii-subtags (flat r) (decoded_subtags (flat r) _ _ (decode_complete r fits))))
 
 mark_below : (b : ℕ) → is_mark b ≡ true → b < 128
 unfolding is_mark
@@ -60,7 +61,7 @@ IsAscii-private t (p, fits, spells) =
 IsAscii-test : (t : List ℕ) → list_all is_ascii t ≡ true → IsAscii t
 IsAscii-test [] h = IsAscii-nil
 IsAscii-test (b ∷ t) h =
-    let k = both_true (is_ascii b) (list_all is_ascii t) h in
+    let k = and_parts (is_ascii b) (list_all is_ascii t) h in
     IsAscii-cons b t (grind (arith, nat_tests)) (IsAscii-test t k.1)
 
 -- the registered spellings are

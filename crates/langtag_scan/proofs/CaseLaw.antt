@@ -8,15 +8,16 @@ use Rattle.std.proofs.lemmas.List.{length-map, map-append}
 use Rattle.langtag_scan.specs.declared.stage.Stage.{Stage}
 use Rattle.langtag_scan.specs.declared.stage.Stage.TheVariants.{Start, AfterMark}
 use Rattle.langtag_scan.specs.Case.{fold_byte, fold_text, Alike}
-use Rattle.langtag_scan.specs.AlikeRecords.{fold_extension, fold_private_use, fold_record, AlikeRecords}
+use Rattle.langtag_scan.specs.AlikeRecords.{fold_extension, fold_private_use, fold_record, AlikeRecords, IsSpelledAlike}
 use Rattle.langtag_scan.specs.Class.{is_letter, is_digit, is_alphanumeric, are_letters, are_digits, are_alphanumeric, starts_with_digit, is_primary, is_extended, is_script, is_region, is_variant, is_extension_subtag, is_private_subtag, is_mark, is_singleton}
 use Rattle.langtag_scan.specs.Ends.{ends_of}
+use Rattle.langtag_scan.proofs.PartOffsets.{ends_equal}
 use Rattle.langtag_scan.specs.declared.ends.Ends.{Ends}
-use Rattle.langtag_scan.specs.Record.{Extension, PrivateUse, Record, IsExtension, IsPrivateUse, IsWellFormed, extension_flat, one_flat, private_part_flat, flat, spell}
+use Rattle.langtag_scan.specs.Record.{Extension, PrivateUse, Record, IsExtension, IsPrivateUse, IsWellFormed, extension_flat, one_flat, private_part_flat, flat, spell, EachRecord}
 use Rattle.langtag_scan.specs.Stage.{is_one, classes_of, next_by, next_stage, runs}
 use Rattle.langtag_scan.specs.Subtags.{join, segments}
 use Rattle.langtag_scan.specs.Tag.{IsNormal, IsPrivate, IsIrregular, IsIrregularAt, IsTag}
-use Rattle.langtag_scan.proofs.Segments.{normal_from_runs, runs_from_normal, spelled_once}
+use Rattle.langtag_scan.proofs.NormalTexts.{normal_from_runs, runs_from_normal, spelled_once}
 use Rattle.langtag_scan.proofs.PrivateTexts.{runs_private, runs_from_private, private_from_runs}
 
 -- ---- bytes
@@ -243,13 +244,6 @@ well_formed-fold r fits = record {
   private_use = is_private_use-fold r.private_use fits.private_use;
 }
 
-abbrev made_ends : ℕ → ℕ → ℕ → ℕ → ℕ → ℕ → Ends
-made_ends l c g v x w = record { language = l; script = c; region = g; variants = v; extensions = x; whole = w }
-
--- ends are equal where each of them is
-same_ends : (l c g v x w l' c' g' v' x' w' : ℕ) → l ≡ l' → c ≡ c' → g ≡ g' → v ≡ v' → x ≡ x' → w ≡ w' → made_ends l c g v x w ≡ made_ends l' c' g' v' x' w'
-same_ends l c g v x w l' c' g' v' x' w' el ec eg ev ex ew = rw (el, ec, eg, ev, ex, ew) refl
-
 -- the subtags up to and with a part
 abbrev to_language : Record → List (List ℕ)
 to_language r = r.primary ∷ r.extended
@@ -280,7 +274,7 @@ ends-fold r =
     let variants : length (join (to_variants q)) ≡ length (join (to_variants r)) = joined_length (to_variants r) (to_variants q) (simp (one_flat-fold, map-append)) in
     let extensions : length (join (to_extensions q)) ≡ length (join (to_extensions r)) = joined_length (to_extensions r) (to_extensions q) (simp (one_flat-fold, extensions-fold, map-append)) in
     let whole : length (join (flat q)) ≡ length (join (flat r)) = joined_length (flat r) (flat q) (flat-fold r) in
-    same_ends _ _ _ _ _ _ _ _ _ _ _ _ language script region variants extensions whole
+    ends_equal (ends_of q) (ends_of r) language script region variants extensions whole
 
 -- ---- the law
 
@@ -321,9 +315,9 @@ alike_tag t u alike tag =
     ]
 
 -- a text that is alike a normal one has an alike record, with the same ends
-pub alike_parts : (t u : List ℕ) → Alike t u → (r : Record) → IsWellFormed r → spell r ≡ t → (q : Record) × IsWellFormed q × (spell q ≡ u) × AlikeRecords r q × (ends_of r ≡ ends_of q)
+pub alike_parts : (t u : List ℕ) → Alike t u → EachRecord t (λ r. IsSpelledAlike r u)
 unfolding IsNormal
-alike_parts t u alike r fits e =
-    let other = alike_normal t u alike (r, fits, e) in
-    let same : AlikeRecords r other.0 = alike_records r other.0 fits other.1 (ap fold_text e ∙ alike ∙ ap fold_text (sym other.2)) in
-    (other.0, other.1, other.2, same, alike_ends r other.0 same)
+alike_parts t u alike r (fits, spells) =
+    let other = alike_normal t u alike (r, (fits, spells)) in
+    let same : AlikeRecords r other.0 = alike_records r other.0 fits other.1.0 (ap fold_text spells ∙ alike ∙ ap fold_text (sym other.1.1)) in
+    (other.0, other.1, same, alike_ends r other.0 same)

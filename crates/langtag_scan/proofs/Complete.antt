@@ -8,58 +8,61 @@ use Rattle.langtag_scan.specs.declared.stage.Stage.TheVariants.{Start, Language,
 use Rattle.langtag_scan.specs.Class.{is_extended, is_script, is_region, is_variant, is_extension_subtag, is_private_subtag}
 use Rattle.langtag_scan.specs.Record.{PrivateUse, Extension, Record, IsPrivateUse, IsExtension, IsWellFormed, extension_flat, one_flat, private_part_flat, flat}
 use Rattle.langtag_scan.specs.Stage.{opened, next_stage, may_end}
+use Rattle.langtag_scan.specs.Machine.{index_after}
+use Rattle.langtag_scan.specs.declared.ends.Ends.{Ends}
 use Rattle.langtag_scan.proofs.Disjoint.{singleton_no_mark, script_no_extended, region_no_extended, region_no_script, variant_no_extended, variant_no_script, variant_no_region, one_no_extended, one_no_script, one_no_region, one_no_variant, one_no_extension_subtag}
 use Rattle.langtag_scan.proofs.Decoding.{Read, from_private, from_extensions, from_variants, from_region, from_script, from_extended, whole, pending, put, nothing, decode}
 
 -- what may follow at a stage
-record Opening (stage : Stage) : Type 0 where
-  ends : may_end stage ≡ true
-  one : (c : ℕ) → next_stage stage (c ∷ []) ≡ opened (c ∷ [])
+pub record Opening (stage : Stage) : Type 0 where
+  pub ends : may_end stage ≡ true
+  pub later : (e : Ends) (s : List ℕ) → index_after stage e s ≡ e.whole + 1 + length s
+  pub one : (c : ℕ) → next_stage stage (c ∷ []) ≡ opened (c ∷ [])
 
-record Varying (stage : Stage) : Type 0 where
-  opening : Opening stage
-  variant : (s : List ℕ) → is_variant s ≡ true → next_stage stage s ≡ Some AfterVariant
+pub record Varying (stage : Stage) : Type 0 where
+  pub opening : Opening stage
+  pub variant : (s : List ℕ) → is_variant s ≡ true → next_stage stage s ≡ Some AfterVariant
 
-record Regional (stage : Stage) : Type 0 where
-  varying : Varying stage
-  region : (s : List ℕ) → is_region s ≡ true → next_stage stage s ≡ Some AfterRegion
+pub record Regional (stage : Stage) : Type 0 where
+  pub varying : Varying stage
+  pub region : (s : List ℕ) → is_region s ≡ true → next_stage stage s ≡ Some AfterRegion
 
-record Speaking (taken : ℕ) (stage : Stage) : Type 0 where
-  regional : Regional stage
-  script : (s : List ℕ) → is_script s ≡ true → next_stage stage s ≡ Some AfterScript
-  extended : (s : List ℕ) → is_extended s ≡ true → taken < 3 → next_stage stage s ≡ Some (Extended (taken + 1))
+pub record Speaking (taken : ℕ) (stage : Stage) : Type 0 where
+  pub regional : Regional stage
+  pub script : (s : List ℕ) → is_script s ≡ true → next_stage stage s ≡ Some AfterScript
+  pub extended : (s : List ℕ) → is_extended s ≡ true → taken < 3 → next_stage stage s ≡ Some (Extended (taken + 1))
 
-opening_in_extension : Opening InExtension
-opening_in_extension = record { ends = refl; one = λ c. rw (one_no_extension_subtag c) refl }
+pub opening_in_extension : Opening InExtension
+opening_in_extension = record { ends = refl; later = λ e s. refl; one = λ c. rw (one_no_extension_subtag c) refl }
 
-varying_after_region : Varying AfterRegion
-varying_after_region = record { opening = record { ends = refl; one = λ c. rw (one_no_variant c) refl }; variant = λ s h. rw h refl }
+pub varying_after_region : Varying AfterRegion
+varying_after_region = record { opening = record { ends = refl; later = λ e s. refl; one = λ c. rw (one_no_variant c) refl }; variant = λ s h. rw h refl }
 
-varying_after_variant : Varying AfterVariant
-varying_after_variant = record { opening = record { ends = refl; one = λ c. rw (one_no_variant c) refl }; variant = λ s h. rw h refl }
+pub varying_after_variant : Varying AfterVariant
+varying_after_variant = record { opening = record { ends = refl; later = λ e s. refl; one = λ c. rw (one_no_variant c) refl }; variant = λ s h. rw h refl }
 
-regional_after_script : Regional AfterScript
+pub regional_after_script : Regional AfterScript
 regional_after_script = record {
-  varying = record { opening = record { ends = refl; one = λ c. rw (one_no_region c, one_no_variant c) refl }; variant = λ s h. rw (variant_no_region s h, h) refl };
+  varying = record { opening = record { ends = refl; later = λ e s. refl; one = λ c. rw (one_no_region c, one_no_variant c) refl }; variant = λ s h. rw (variant_no_region s h, h) refl };
   region = λ s h. rw h refl;
 }
 
 regional_language : (taken : ℕ) → Regional (Language taken)
 regional_language taken = record {
-  varying = record { opening = record { ends = refl; one = λ c. rw (one_no_extended c, one_no_script c, one_no_region c, one_no_variant c) refl }; variant = λ s h. rw (variant_no_extended s h, variant_no_script s h, variant_no_region s h, h) refl };
+  varying = record { opening = record { ends = refl; later = λ e s. refl; one = λ c. rw (one_no_extended c, one_no_script c, one_no_region c, one_no_variant c) refl }; variant = λ s h. rw (variant_no_extended s h, variant_no_script s h, variant_no_region s h, h) refl };
   region = λ s h. rw (region_no_extended s h, region_no_script s h, h) refl;
 }
 
-speaking_language : (taken : ℕ) → Speaking taken (Language taken)
+pub speaking_language : (taken : ℕ) → Speaking taken (Language taken)
 speaking_language taken = record {
   regional = regional_language taken;
   script = λ s h. rw (script_no_extended s h, h) refl;
   extended = λ s h lt. rw (h, lt-ltb taken 3 lt) refl;
 }
 
-speaking_extended : (taken : ℕ) → Speaking taken (Extended taken)
+pub speaking_extended : (taken : ℕ) → Speaking taken (Extended taken)
 speaking_extended taken = record {
-  regional = record { varying = record { opening = record { ends = refl; one = (regional_language taken).varying.opening.one }; variant = (regional_language taken).varying.variant }; region = (regional_language taken).region };
+  regional = record { varying = record { opening = record { ends = refl; later = λ e s. refl; one = (regional_language taken).varying.opening.one }; variant = (regional_language taken).varying.variant }; region = (regional_language taken).region };
   script = (speaking_language taken).script;
   extended = (speaking_language taken).extended;
 }
@@ -107,16 +110,16 @@ tail_extensions stage o (e ∷ es) p fits fit =
 abbrev rest_of : List Extension → Option PrivateUse → List (List ℕ)
 rest_of es p = flat_map extension_flat es ++ private_part_flat p
 
-record Ends (es : List Extension) (p : Option PrivateUse) : Type 0 where
+record EndFits (es : List Extension) (p : Option PrivateUse) : Type 0 where
   extensions : AllByRecursion IsExtension es
   private_use : IfSome p IsPrivateUse
 
-tail_variants : (es : List Extension) (p : Option PrivateUse) → Ends es p → (stage : Stage) → Varying stage → (vs : List (List ℕ)) → AllByRecursion (λ s. IsTrue (is_variant s)) vs → decode stage (vs ++ rest_of es p) ≡ Some (whole (from_variants vs es p))
+tail_variants : (es : List Extension) (p : Option PrivateUse) → EndFits es p → (stage : Stage) → Varying stage → (vs : List (List ℕ)) → AllByRecursion (λ s. IsTrue (is_variant s)) vs → decode stage (vs ++ rest_of es p) ≡ Some (whole (from_variants vs es p))
 tail_variants es p ends stage v [] fits = tail_extensions stage v.opening es p ends.extensions ends.private_use
 tail_variants es p ends stage v (s ∷ vs) fits =
     decode_cons stage s AfterVariant (vs ++ rest_of es p) (whole (from_variants vs es p)) (v.variant s fits.0) (tail_variants es p ends AfterVariant varying_after_variant vs fits.1)
 
-tail_region : (vs : List (List ℕ)) (es : List Extension) (p : Option PrivateUse) → AllByRecursion (λ s. IsTrue (is_variant s)) vs → Ends es p → (stage : Stage) → Regional stage → (g : Option (List ℕ)) → IfSome g (λ s. IsTrue (is_region s)) → decode stage (one_flat g ++ (vs ++ rest_of es p)) ≡ Some (whole (from_region g vs es p))
+tail_region : (vs : List (List ℕ)) (es : List Extension) (p : Option PrivateUse) → AllByRecursion (λ s. IsTrue (is_variant s)) vs → EndFits es p → (stage : Stage) → Regional stage → (g : Option (List ℕ)) → IfSome g (λ s. IsTrue (is_region s)) → decode stage (one_flat g ++ (vs ++ rest_of es p)) ≡ Some (whole (from_region g vs es p))
 tail_region vs es p fits ends stage r None fit = tail_variants es p ends stage r.varying vs fits
 tail_region vs es p fits ends stage r (Some s) fit =
     decode_cons stage s AfterRegion (vs ++ rest_of es p) (whole (from_variants vs es p)) (r.region s fit) (tail_variants es p ends AfterRegion varying_after_region vs fits)
@@ -125,18 +128,18 @@ record Indices (g : Option (List ℕ)) (vs : List (List ℕ)) : Type 0 where
   region : IfSome g (λ s. IsTrue (is_region s))
   variants : AllByRecursion (λ s. IsTrue (is_variant s)) vs
 
-tail_script : (g : Option (List ℕ)) (vs : List (List ℕ)) (es : List Extension) (p : Option PrivateUse) → Indices g vs → Ends es p → (taken : ℕ) (stage : Stage) → Speaking taken stage → (c : Option (List ℕ)) → IfSome c (λ s. IsTrue (is_script s)) → decode stage (one_flat c ++ (one_flat g ++ (vs ++ rest_of es p))) ≡ Some (whole (from_script c g vs es p))
+tail_script : (g : Option (List ℕ)) (vs : List (List ℕ)) (es : List Extension) (p : Option PrivateUse) → Indices g vs → EndFits es p → (taken : ℕ) (stage : Stage) → Speaking taken stage → (c : Option (List ℕ)) → IfSome c (λ s. IsTrue (is_script s)) → decode stage (one_flat c ++ (one_flat g ++ (vs ++ rest_of es p))) ≡ Some (whole (from_script c g vs es p))
 tail_script g vs es p indices ends taken stage k None fit = tail_region vs es p indices.variants ends stage k.regional g indices.region
 tail_script g vs es p indices ends taken stage k (Some s) fit =
     decode_cons stage s AfterScript (one_flat g ++ (vs ++ rest_of es p)) (whole (from_region g vs es p)) (k.script s fit) (tail_region vs es p indices.variants ends AfterScript regional_after_script g indices.region)
 
-tail_extended : (c g : Option (List ℕ)) (vs : List (List ℕ)) (es : List Extension) (p : Option PrivateUse) → IfSome c (λ s. IsTrue (is_script s)) → Indices g vs → Ends es p → (xs : List (List ℕ)) → AllByRecursion (λ s. IsTrue (is_extended s)) xs → (taken : ℕ) → ((length xs + taken ≤ 3) ⊎ (xs ≡ [])) → (stage : Stage) → Speaking taken stage → decode stage (xs ++ (one_flat c ++ (one_flat g ++ (vs ++ rest_of es p)))) ≡ Some (whole (from_extended xs c g vs es p))
+tail_extended : (c g : Option (List ℕ)) (vs : List (List ℕ)) (es : List Extension) (p : Option PrivateUse) → IfSome c (λ s. IsTrue (is_script s)) → Indices g vs → EndFits es p → (xs : List (List ℕ)) → AllByRecursion (λ s. IsTrue (is_extended s)) xs → (taken : ℕ) → ((length xs + taken ≤ 3) ⊎ (xs ≡ [])) → (stage : Stage) → Speaking taken stage → decode stage (xs ++ (one_flat c ++ (one_flat g ++ (vs ++ rest_of es p)))) ≡ Some (whole (from_extended xs c g vs es p))
 tail_extended c g vs es p fit indices ends [] fits taken few stage k = tail_script g vs es p indices ends taken stage k c fit
 tail_extended c g vs es p fit indices ends (x ∷ xs) fits taken (inr none_left) stage k = absurd cc
 tail_extended c g vs es p fit indices ends (x ∷ xs) fits taken (inl few) stage k =
     decode_cons stage x (Extended (taken + 1)) (xs ++ (one_flat c ++ (one_flat g ++ (vs ++ rest_of es p)))) (whole (from_extended xs c g vs es p)) (k.extended x fits.0 (omega arith)) (tail_extended c g vs es p fit indices ends xs fits.1 (taken + 1) (inl (omega arith)) (Extended (taken + 1)) (speaking_extended (taken + 1)))
 
-taken_by : (n : ℕ) (xs : List (List ℕ)) → length xs ≤ 3 → ((n ≤ 3) ⊎ (xs ≡ [])) → (length xs + cond (leb n 3) 0 3 ≤ 3) ⊎ (xs ≡ [])
+pub taken_by : (n : ℕ) (xs : List (List ℕ)) → length xs ≤ 3 → ((n ≤ 3) ⊎ (xs ≡ [])) → (length xs + cond (leb n 3) 0 3 ≤ 3) ⊎ (xs ≡ [])
 taken_by n xs few (inr none_left) = inr none_left
 taken_by n xs few (inl short) = inl (rw (le-leb n 3 short) (omega arith))
 

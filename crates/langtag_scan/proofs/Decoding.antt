@@ -10,6 +10,7 @@ use Rattle.langtag_scan.specs.declared.stage.Stage.TheVariants.{Start, Language,
 use Rattle.langtag_scan.specs.Class.{is_primary, is_extended, is_script, is_region, is_variant, is_extension_subtag, is_private_subtag, is_mark, is_singleton}
 use Rattle.langtag_scan.specs.Record.{PrivateUse, Extension, Record, IsPrivateUse, IsExtension, IsWellFormed, extension_flat, one_flat, private_part_flat, flat}
 use Rattle.langtag_scan.specs.Stage.{opened, after_region, after_script, after_language, next_stage, may_end}
+use Rattle.langtag_scan.proofs.BoolFacts.{chosen}
 
 -- what was read so far from the right: the subtags of an extension or private list whose head is still
 -- to come, and the parts
@@ -75,10 +76,6 @@ bind_some f (Some x) y e = (x, refl, e)
 pub map_some : {A B : Type 0} (f : A → B) (o : Option A) (y : B) → option_map f o ≡ Some y → (x : A) × (o ≡ Some x) × (f x ≡ y)
 map_some f None y e = absurd cc
 map_some f (Some x) y e = (x, refl, cc)
-
-pub chosen : {A : Type 0} (b : Bool) (x y z : A) → cond b x y ≡ z → ((b ≡ true) × (x ≡ z)) ⊎ ((b ≡ false) × (y ≡ z))
-chosen true x y z e = inl (refl, e)
-chosen false x y z e = inr (refl, e)
 
 -- the subtags of a record from a part on
 abbrev flat_extensions : Record → List (List ℕ)

@@ -1,96 +1,74 @@
 -- The classes of subtags that may stand at one place have no member in common.
 use Rattle.std.proofs.Common.{◌≡◌, ℕ, ◌≤◌, Bool, true, false, eqb, leb, not, ◌&&◌, ◌||◌, List, [], ◌∷◌, length, refl, ap, arith, inl, inr, ◌⊎◌}
-use Rattle.std.proofs.lemmas.Bool.{leb-true, eqb-true}
+use Rattle.std.proofs.lemmas.Bool.{eqb-true, and_parts, or_cases, false_from_ne_true}
 use Rattle.std.specs.Int.{is_in_range}
 use Rattle.langtag_scan.specs.Class.{is_letter, is_digit, is_alphanumeric, has_length, are_letters, are_digits, are_alphanumeric, starts_with_digit, is_extended, is_script, is_region, is_variant, is_extension_subtag, is_mark, is_singleton}
-
-pub both_true : (a b : Bool) → (a && b) ≡ true → (a ≡ true) × (b ≡ true)
-both_true true b e = (refl, e)
-both_true false b e = absurd cc
-
-pub one_true : (a b : Bool) → (a || b) ≡ true → (a ≡ true) ⊎ (b ≡ true)
-one_true true b e = inl refl
-one_true false b e = inr e
-
-pub not_both : (a : Bool) → (a ≡ true → ⊥) → a ≡ false
-not_both true h = absurd (h refl)
-not_both false h = refl
-
-pub not_true : (a : Bool) → not a ≡ true → a ≡ false
-not_true true h = absurd cc
-not_true false h = refl
-
-pub not_false : (a : Bool) → not a ≡ false → a ≡ true
-not_false true h = refl
-not_false false h = absurd cc
-
-pub between_true : (low high n : ℕ) → is_in_range low high n ≡ true → (low ≤ n) × (n ≤ high)
-between_true low high n e = let h = both_true (leb low n) (leb n high) e in (leb-true _ _ h.0, leb-true _ _ h.1)
+use Rattle.langtag_scan.proofs.BoolFacts.{between_true}
 
 pub letter_no_digit : (b : ℕ) → is_letter b ≡ true → is_digit b ≡ true → ⊥
 unfolding is_letter is_digit
 letter_no_digit b l d =
     let k = between_true 48 57 b d in
-    elim (one_true (is_in_range 65 90 b) (is_in_range 97 122 b) l) [
+    elim (or_cases (is_in_range 65 90 b) (is_in_range 97 122 b) l) [
       | inl h ↦ let m = between_true 65 90 b h in omega arith
       | inr h ↦ let m = between_true 97 122 b h in omega arith
     ]
 
 pub singleton_no_mark : (b : ℕ) → is_singleton b ≡ true → is_mark b ≡ false
 unfolding is_singleton
-singleton_no_mark b h = let k = both_true (is_alphanumeric b) (not (is_mark b)) h in not_both (is_mark b) (λ e. let n : not (is_mark b) ≡ false = ap not e in cc)
+singleton_no_mark b h = let k = and_parts (is_alphanumeric b) (not (is_mark b)) h in false_from_ne_true (is_mark b) (λ e. let n : not (is_mark b) ≡ false = ap not e in cc)
 
 pub extended_three : (s : List ℕ) → is_extended s ≡ true → (length s ≡ 3) × (are_letters s ≡ true)
 unfolding is_extended
-extended_three s h = let k = both_true (eqb (length s) 3) (are_letters s) h in (eqb-true _ _ k.0, k.1)
+extended_three s h = let k = and_parts (eqb (length s) 3) (are_letters s) h in (eqb-true _ _ k.0, k.1)
 
 pub script_four : (s : List ℕ) → is_script s ≡ true → (length s ≡ 4) × (are_letters s ≡ true)
 unfolding is_script
-script_four s h = let k = both_true (eqb (length s) 4) (are_letters s) h in (eqb-true _ _ k.0, k.1)
+script_four s h = let k = and_parts (eqb (length s) 4) (are_letters s) h in (eqb-true _ _ k.0, k.1)
 
 pub region_two_three : (s : List ℕ) → is_region s ≡ true → ((length s ≡ 2) × (are_letters s ≡ true)) ⊎ ((length s ≡ 3) × (are_digits s ≡ true))
 unfolding is_region
 region_two_three s h =
-    elim (one_true (eqb (length s) 2 && are_letters s) (eqb (length s) 3 && are_digits s) h) [
-      | inl a ↦ let k = both_true (eqb (length s) 2) (are_letters s) a in inl (eqb-true _ _ k.0, k.1)
-      | inr a ↦ let k = both_true (eqb (length s) 3) (are_digits s) a in inr (eqb-true _ _ k.0, k.1)
+    elim (or_cases (eqb (length s) 2 && are_letters s) (eqb (length s) 3 && are_digits s) h) [
+      | inl a ↦ let k = and_parts (eqb (length s) 2) (are_letters s) a in inl (eqb-true _ _ k.0, k.1)
+      | inr a ↦ let k = and_parts (eqb (length s) 3) (are_digits s) a in inr (eqb-true _ _ k.0, k.1)
     ]
 
 pub variant_long : (s : List ℕ) → is_variant s ≡ true → ((5 ≤ length s) × (length s ≤ 8) × (are_alphanumeric s ≡ true)) ⊎ ((length s ≡ 4) × (are_alphanumeric s ≡ true) × (starts_with_digit s ≡ true))
 unfolding is_variant
 variant_long s h =
-    elim (one_true (has_length 5 8 s && are_alphanumeric s) (eqb (length s) 4 && are_alphanumeric s && starts_with_digit s) h) [
-      | inl a ↦ let k = both_true (has_length 5 8 s) (are_alphanumeric s) a in let m = between_true 5 8 (length s) k.0 in inl (m.0, m.1, k.1)
-      | inr a ↦ let k = both_true (eqb (length s) 4 && are_alphanumeric s) (starts_with_digit s) a in let m = both_true (eqb (length s) 4) (are_alphanumeric s) k.0 in inr (eqb-true _ _ m.0, m.1, k.1)
+    elim (or_cases (has_length 5 8 s && are_alphanumeric s) (eqb (length s) 4 && are_alphanumeric s && starts_with_digit s) h) [
+      | inl a ↦ let k = and_parts (has_length 5 8 s) (are_alphanumeric s) a in let m = between_true 5 8 (length s) k.0 in inl (m.0, m.1, k.1)
+      | inr a ↦ let k = and_parts (eqb (length s) 4 && are_alphanumeric s) (starts_with_digit s) a in let m = and_parts (eqb (length s) 4) (are_alphanumeric s) k.0 in inr (eqb-true _ _ m.0, m.1, k.1)
     ]
 
 pub first_no_digit : (s : List ℕ) → are_letters s ≡ true → starts_with_digit s ≡ true → ⊥
 first_no_digit [] l d = absurd cc
-first_no_digit (b ∷ s) l d = let k = both_true (is_letter b) (are_letters s) l in letter_no_digit b k.0 d
+first_no_digit (b ∷ s) l d = let k = and_parts (is_letter b) (are_letters s) l in letter_no_digit b k.0 d
 
 pub digits_begin : (s : List ℕ) → 1 ≤ length s → are_digits s ≡ true → starts_with_digit s ≡ true
 digits_begin [] n d = absurd (omega arith)
-digits_begin (b ∷ s) n d = (both_true (is_digit b) (are_digits s) d).0
+digits_begin (b ∷ s) n d = (and_parts (is_digit b) (are_digits s) d).0
 
 pub script_no_extended : (s : List ℕ) → is_script s ≡ true → is_extended s ≡ false
-script_no_extended s h = not_both (is_extended s) (λ e. let a = script_four s h in let b = extended_three s e in omega arith)
+script_no_extended s h = false_from_ne_true (is_extended s) (λ e. let a = script_four s h in let b = extended_three s e in omega arith)
 
 pub region_no_extended : (s : List ℕ) → is_region s ≡ true → is_extended s ≡ false
 region_no_extended s h =
-    not_both (is_extended s) (λ e. let b = extended_three s e in elim (region_two_three s h) [ inl a ↦ omega arith | inr a ↦ first_no_digit s b.1 (digits_begin s (omega arith) a.1) ])
+    false_from_ne_true (is_extended s) (λ e. let b = extended_three s e in elim (region_two_three s h) [ inl a ↦ omega arith | inr a ↦ first_no_digit s b.1 (digits_begin s (omega arith) a.1) ])
 
 pub region_no_script : (s : List ℕ) → is_region s ≡ true → is_script s ≡ false
-region_no_script s h = not_both (is_script s) (λ e. let b = script_four s e in elim (region_two_three s h) [ inl a ↦ omega arith | inr a ↦ omega arith ])
+region_no_script s h = false_from_ne_true (is_script s) (λ e. let b = script_four s e in elim (region_two_three s h) [ inl a ↦ omega arith | inr a ↦ omega arith ])
 
 pub variant_no_extended : (s : List ℕ) → is_variant s ≡ true → is_extended s ≡ false
-variant_no_extended s h = not_both (is_extended s) (λ e. let b = extended_three s e in elim (variant_long s h) [ inl a ↦ omega arith | inr a ↦ omega arith ])
+variant_no_extended s h = false_from_ne_true (is_extended s) (λ e. let b = extended_three s e in elim (variant_long s h) [ inl a ↦ omega arith | inr a ↦ omega arith ])
 
 pub variant_no_script : (s : List ℕ) → is_variant s ≡ true → is_script s ≡ false
-variant_no_script s h = not_both (is_script s) (λ e. let b = script_four s e in elim (variant_long s h) [ inl a ↦ omega arith | inr a ↦ first_no_digit s b.1 a.2 ])
+variant_no_script s h = false_from_ne_true (is_script s) (λ e. let b = script_four s e in elim (variant_long s h) [ inl a ↦ omega arith | inr a ↦ first_no_digit s b.1 a.2 ])
 
 pub variant_no_region : (s : List ℕ) → is_variant s ≡ true → is_region s ≡ false
 variant_no_region s h =
-    not_both (is_region s) (λ e. elim (region_two_three s e) [
+    false_from_ne_true (is_region s) (λ e. elim (region_two_three s e) [
       | inl b ↦ elim (variant_long s h) [ inl a ↦ omega arith | inr a ↦ omega arith ]
       | inr b ↦ elim (variant_long s h) [ inl a ↦ omega arith | inr a ↦ omega arith ]
     ])

@@ -14,7 +14,7 @@ use Rattle.langtag_scan.specs.Machine.{IsBegun, GoesOn}
 use Rattle.langtag_scan.specs.declared.stage.Stage.{Stage}
 use Rattle.langtag_scan.specs.declared.stage.Stage.TheVariants.{Start, Language, Extended, AfterScript, AfterRegion, AfterVariant, AfterSingleton, InExtension, AfterMark, InPrivate}
 use Rattle.langtag_scan.proofs.Disjoint.{variant_no_extended, variant_no_script, variant_no_region}
-use Rattle.langtag_scan.proofs.Segments.{letters_alphanumeric}
+use Rattle.langtag_scan.proofs.SubtagFacts.{letters_alphanumeric}
 use Rattle.langtag_scan.proofs.Running.{runs-nil, runs-cons, segments-one}
 
 record IsFull (f : List ℕ) : Type 0 where

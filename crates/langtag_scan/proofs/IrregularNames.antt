@@ -1,4 +1,4 @@
--- Which texts may still become an irregular one, and why the indices of these make a range of the table.
+-- The irregular texts: which of them a text may still become, by its prefixes, and that these are neighbours in the table.
 use Rattle.std.proofs.Common.{◌≡◌, ℕ, zero, suc, ◌-◌, ◌<◌, ◌≤◌, ◌⊎◌, inl, inr, Bool, true, false, eqb, ltb, leb, ◌&&◌, ◌||◌, List, [], ◌∷◌, ◌++◌, map, length, get_or, drop, Some, refl, sym, ap, ◌∙◌, arith, ne_eqb}
 use Rattle.std.specs.Prelude.{slice_get}
 use Rattle.std.specs.List.{list_all}
@@ -176,190 +176,6 @@ possible_between p i j k le el lt fi fk =
       ]
     ]
 
--- ---- the range of possible texts
-
--- an index from `low` to below `high` is in their range
-pub in_range : (low high k : ℕ) → low ≤ k → k < high → (leb low k && ltb k high) ≡ true
-in_range low high k le lt = and_from (leb low k) (ltb k high) (le-leb low k le) (lt-ltb k high lt)
-
--- an index below it is not
-below_range : (low high k : ℕ) → k < low → (leb low k && ltb k high) ≡ false
-below_range low high k lt = grind (arith, nat_tests)
-
--- nor one above
-above_range : (low high k : ℕ) → high ≤ k → (leb low k && ltb k high) ≡ false
-above_range low high k le = grind (arith, nat_tests)
-
--- ---- the first byte
-
--- the first byte of the text at an index
-first_byte : (c k : ℕ) → k < 17 → ((k < 1) × (has_at (folded_at k) 0 c ≡ eqb 101 c)) ⊎ ((1 ≤ k) × (k < 14) × (has_at (folded_at k) 0 c ≡ eqb 105 c)) ⊎ ((14 ≤ k) × (has_at (folded_at k) 0 c ≡ eqb 115 c))
-unfolding folded_texts
-first_byte c zero lt = inl (omega arith, refl)
-first_byte c (suc zero) lt = inr (inl (omega arith, omega arith, refl))
-first_byte c (suc (suc zero)) lt = inr (inl (omega arith, omega arith, refl))
-first_byte c (suc (suc (suc zero))) lt = inr (inl (omega arith, omega arith, refl))
-first_byte c (suc (suc (suc (suc zero)))) lt = inr (inl (omega arith, omega arith, refl))
-first_byte c (suc (suc (suc (suc (suc zero))))) lt = inr (inl (omega arith, omega arith, refl))
-first_byte c (suc (suc (suc (suc (suc (suc zero)))))) lt = inr (inl (omega arith, omega arith, refl))
-first_byte c (suc (suc (suc (suc (suc (suc (suc zero))))))) lt = inr (inl (omega arith, omega arith, refl))
-first_byte c (suc (suc (suc (suc (suc (suc (suc (suc zero)))))))) lt = inr (inl (omega arith, omega arith, refl))
-first_byte c (suc (suc (suc (suc (suc (suc (suc (suc (suc zero))))))))) lt = inr (inl (omega arith, omega arith, refl))
-first_byte c (suc (suc (suc (suc (suc (suc (suc (suc (suc (suc zero)))))))))) lt = inr (inl (omega arith, omega arith, refl))
-first_byte c (suc (suc (suc (suc (suc (suc (suc (suc (suc (suc (suc zero))))))))))) lt = inr (inl (omega arith, omega arith, refl))
-first_byte c (suc (suc (suc (suc (suc (suc (suc (suc (suc (suc (suc (suc zero)))))))))))) lt = inr (inl (omega arith, omega arith, refl))
-first_byte c (suc (suc (suc (suc (suc (suc (suc (suc (suc (suc (suc (suc (suc zero))))))))))))) lt = inr (inl (omega arith, omega arith, refl))
-first_byte c (suc (suc (suc (suc (suc (suc (suc (suc (suc (suc (suc (suc (suc (suc zero)))))))))))))) lt = inr (inr (omega arith, refl))
-first_byte c (suc (suc (suc (suc (suc (suc (suc (suc (suc (suc (suc (suc (suc (suc (suc zero))))))))))))))) lt = inr (inr (omega arith, refl))
-first_byte c (suc (suc (suc (suc (suc (suc (suc (suc (suc (suc (suc (suc (suc (suc (suc (suc zero)))))))))))))))) lt = inr (inr (omega arith, refl))
-first_byte c (suc (suc (suc (suc (suc (suc (suc (suc (suc (suc (suc (suc (suc (suc (suc (suc (suc k))))))))))))))))) lt = absurd (omega arith)
-
--- so the texts that begin with one byte are neighbours
-pub begun_by_e : (k : ℕ) → k < 17 → has_at (folded_at k) 0 101 ≡ (leb 0 k && ltb k 1)
-begun_by_e k lt = elim (first_byte 101 k lt) [
-  | inl h ↦ h.1 ∙ sym (in_range 0 1 k (omega arith) h.0)
-  | inr (inl h) ↦ h.2 ∙ sym (above_range 0 1 k h.0)
-  | inr (inr h) ↦ h.1 ∙ sym (above_range 0 1 k (omega (arith, h.0)))
-]
-
-pub begun_by_i : (k : ℕ) → k < 17 → has_at (folded_at k) 0 105 ≡ (leb 1 k && ltb k 14)
-begun_by_i k lt = elim (first_byte 105 k lt) [
-  | inl h ↦ h.1 ∙ sym (below_range 1 14 k h.0)
-  | inr (inl h) ↦ h.2 ∙ sym (in_range 1 14 k h.0 h.1)
-  | inr (inr h) ↦ h.1 ∙ sym (above_range 1 14 k h.0)
-]
-
-pub begun_by_s : (k : ℕ) → k < 17 → has_at (folded_at k) 0 115 ≡ (leb 14 k && ltb k 17)
-begun_by_s k lt = elim (first_byte 115 k lt) [
-  | inl h ↦ h.1 ∙ sym (below_range 14 17 k (omega (arith, h.0)))
-  | inr (inl h) ↦ h.2 ∙ sym (below_range 14 17 k h.1)
-  | inr (inr h) ↦ h.1 ∙ sym (in_range 14 17 k h.0 lt)
-]
-
--- and no text begins with another
-pub begun_by_other : (c k : ℕ) → (c ≡ 101 → ⊥) → (c ≡ 105 → ⊥) → (c ≡ 115 → ⊥) → k < 17 → has_at (folded_at k) 0 c ≡ (leb 0 k && ltb k 0)
-begun_by_other c k e i s lt = elim (first_byte c k lt) [
-  | inl h ↦ h.1 ∙ ne_eqb 101 c (λ x. e (sym x)) ∙ sym (above_range 0 0 k (omega arith))
-  | inr (inl h) ↦ h.2 ∙ ne_eqb 105 c (λ x. i (sym x)) ∙ sym (above_range 0 0 k (omega arith))
-  | inr (inr h) ↦ h.1 ∙ ne_eqb 115 c (λ x. s (sym x)) ∙ sym (above_range 0 0 k (omega arith))
-]
-
--- ---- the texts that matter
-
-or_true : (a : Bool) → (a || true) ≡ true
-or_true true = refl
-or_true false = refl
-
--- what stands between two that matter does, too
-matters_between : (len i j k : ℕ) → i ≤ j → j ≤ k → matters len i ≡ true → matters len k ≡ true → matters len j ≡ true
-matters_between len i j k le el fi fk =
-    elim (or_cases (eqb len 9) (leb 1 i && ltb i 14) fi) [
-      | inl nine ↦ ap (λ (v : Bool). v || (leb 1 j && ltb j 14)) nine
-      | inr low ↦ elim (or_cases (eqb len 9) (leb 1 k && ltb k 14) fk) [
-        | inl nine ↦ ap (λ (v : Bool). v || (leb 1 j && ltb j 14)) nine
-        | inr high ↦
-            let from : 1 ≤ i = leb-true 1 i (and_parts (leb 1 i) (ltb i 14) low).0 in
-            let to : k < 14 = ltb-true k 14 (and_parts (leb 1 k) (ltb k 14) high).1 in
-            ap (λ (v : Bool). eqb len 9 || v) (in_range 1 14 j (omega arith) (omega arith)) ∙ or_true (eqb len 9)
-      ]
-    ]
-
-followed_between : (len : ℕ) (p : List ℕ) (i j k : ℕ) → i ≤ j → j ≤ k → k < 17 → is_followed len p i ≡ true → is_followed len p k ≡ true → is_followed len p j ≡ true
-followed_between len p i j k le el lt fi fk =
-    let a = and_parts (matters len i) (is_possible p i) fi in
-    let b = and_parts (matters len k) (is_possible p k) fk in
-    and_from (matters len j) (is_possible p j) (matters_between len i j k le el a.0 b.0) (possible_between p i j k le el lt a.1 b.1)
-
-pub followed-push : (len : ℕ) (p : List ℕ) (b k : ℕ) → is_followed len (p ++ b ∷ []) k ≡ (is_followed len p k && has_at (folded_at k) (length p) (fold_byte b))
-followed-push len p b k = ap (λ (v : Bool). matters len k && v) (possible-push p b k) ∙ sym (and_assoc (matters len k) (is_possible p k) (has_at (folded_at k) (length p) (fold_byte b)))
-
--- before the first byte all that matter are possible
-and_true : (a : Bool) → (a && true) ≡ a
-and_true true = refl
-and_true false = refl
-
-pub followed_nine : (len k : ℕ) → len ≡ 9 → k < 17 → is_followed len [] k ≡ (leb 0 k && ltb k 17)
-followed_nine len k nine lt = and_true (matters len k) ∙ ap (λ (v : Bool). v || (leb 1 k && ltb k 14)) (eq-eqb len 9 nine) ∙ sym (in_range 0 17 k (omega arith) lt)
-
-pub followed_other : (len k : ℕ) → (len ≡ 9 → ⊥) → is_followed len [] k ≡ (leb 1 k && ltb k 14)
-followed_other len k other = and_true (matters len k) ∙ ap (λ (v : Bool). v || (leb 1 k && ltb k 14)) (ne_eqb len 9 other)
-
--- after it, those that begin with it
-absorb : (a r : Bool) → ((a || r) && r) ≡ r
-absorb true true = refl
-absorb true false = refl
-absorb false true = refl
-absorb false false = refl
-
-pub begun_i : (len k : ℕ) → k < 17 → (matters len k && has_at (folded_at k) 0 105) ≡ (leb 1 k && ltb k 14)
-begun_i len k lt = ap (λ (v : Bool). matters len k && v) (begun_by_i k lt) ∙ absorb (eqb len 9) (leb 1 k && ltb k 14)
-
-pub begun_nine : (len k : ℕ) (v r : Bool) → len ≡ 9 → v ≡ r → (matters len k && v) ≡ r
-begun_nine len k v r nine same = ap (λ (m : Bool). (m || (leb 1 k && ltb k 14)) && v) (eq-eqb len 9 nine) ∙ same
-
-pub begun_short : (len small k : ℕ) → (len ≡ 9 → ⊥) → (small ≡ 105 → ⊥) → k < 17 → (matters len k && has_at (folded_at k) 0 small) ≡ (leb 0 k && ltb k 0)
-begun_short len small k other no_i lt =
-    ap (λ (m : Bool). (m || (leb 1 k && ltb k 14)) && has_at (folded_at k) 0 small) (ne_eqb len 9 other)
-    ∙ elim (first_byte small k lt) [
-      | inl h ↦ and_left (leb 1 k && ltb k 14) _ (below_range 1 14 k h.0)
-      | inr (inl h) ↦ and_right (leb 1 k && ltb k 14) _ (h.2 ∙ ne_eqb 105 small (λ x. no_i (sym x)))
-      | inr (inr h) ↦ and_left (leb 1 k && ltb k 14) _ (above_range 1 14 k h.0)
-    ]
-    ∙ sym (above_range 0 0 k (omega arith))
-
--- what is possible after the first byte
-pub followed_first : (len : ℕ) (p : List ℕ) (b small k : ℕ) → length p ≡ 0 → small ≡ fold_byte b → is_followed len (p ++ b ∷ []) k ≡ (matters len k && has_at (folded_at k) 0 small)
-followed_first len [] b small k e same = followed-push len [] b k ∙ ap (λ (v : Bool). v && has_at (folded_at k) 0 (fold_byte b)) (and_true (matters len k)) ∙ ap (λ (n : ℕ). matters len k && has_at (folded_at k) 0 n) (sym same)
-followed_first len (a ∷ p) b small k e same = absurd (omega (arith, e))
-
--- how the range `low` to `high` of a prefix shrinks to `from` and `to` by a folded byte at an index
-pub record Shrinks (len : ℕ) (p : List ℕ) (index byte low high from to : ℕ) : Type 0 where
-  pub within : high ≤ 17
-  pub possible : (k : ℕ) → k < 17 → is_followed len p k ≡ (leb low k && ltb k high)
-  pub above : low ≤ from
-  pub below : to ≤ high
-  pub none_before : (k : ℕ) → low ≤ k → k < from → has_at (folded_at k) index byte ≡ false
-  pub first : from < high → has_at (folded_at from) index byte ≡ true
-  pub none_after : (k : ℕ) → to ≤ k → k < high → has_at (folded_at k) index byte ≡ false
-  pub last : from < to → has_at (folded_at (to - 1)) index byte ≡ true
-
--- an index below the new range: not possible, or another byte
-shrunk_below : (len : ℕ) (p : List ℕ) (index byte low high from to : ℕ) → Shrinks len p index byte low high from to → (k : ℕ) → k < 17 → k < from → (is_followed len p k && has_at (folded_at k) index byte) ≡ false
-shrunk_below len p index byte low high from to s k lt h =
-    elim (cases_lt k low) [
-      | inl less ↦ and_left (is_followed len p k) _ (s.possible k lt ∙ below_range low high k less)
-      | inr le ↦ and_right (is_followed len p k) _ (s.none_before k le h)
-    ]
-
--- an index above it, likewise
-shrunk_above : (len : ℕ) (p : List ℕ) (index byte low high from to : ℕ) → Shrinks len p index byte low high from to → (k : ℕ) → k < 17 → to ≤ k → (is_followed len p k && has_at (folded_at k) index byte) ≡ false
-shrunk_above len p index byte low high from to s k lt h =
-    elim (cases_lt k high) [
-      | inl less ↦ and_right (is_followed len p k) _ (s.none_after k h less)
-      | inr le ↦ and_left (is_followed len p k) _ (s.possible k lt ∙ above_range low high k le)
-    ]
-
--- the new range has just the indices of the texts that are possible with that byte
-pub shrunk : (len : ℕ) (p : List ℕ) (b index byte low high from to : ℕ) → length p ≡ index → byte ≡ fold_byte b → Shrinks len p index byte low high from to → (k : ℕ) → k < 17 → is_followed len (p ++ b ∷ []) k ≡ (leb from k && ltb k to)
-shrunk len p b index byte low high from to at is s k lt =
-    elim (cases_lt k from) [
-      | inl h ↦ pushed k ∙ shrunk_below len p index byte low high from to s k lt h ∙ sym (below_range from to k h)
-      | inr le ↦ elim (cases_lt k to) [
-        | inl h ↦ followed_between len (p ++ b ∷ []) from k (to - 1) le (omega arith) (omega (arith, s.within, s.below)) (possible from (omega arith) (omega arith) (s.first (omega (arith, s.below)))) (possible (to - 1) (omega arith) (omega arith) (s.last (omega arith))) ∙ sym (in_range from to k le h)
-        | inr h ↦ pushed k ∙ shrunk_above len p index byte low high from to s k lt h ∙ sym (above_range from to k h)
-      ]
-    ]
-  where
-    pushed : (j : ℕ) → is_followed len (p ++ b ∷ []) j ≡ (is_followed len p j && has_at (folded_at j) index byte)
-    pushed j = followed-push len p b j ∙ ap (λ (n : ℕ). is_followed len p j && has_at (folded_at j) n (fold_byte b)) at ∙ ap (λ (n : ℕ). is_followed len p j && has_at (folded_at j) index n) (sym is)
-
-    possible : (j : ℕ) → from ≤ j → j < to → has_at (folded_at j) index byte ≡ true → is_followed len (p ++ b ∷ []) j ≡ true
-    possible j ge less has = pushed j ∙ and_from (is_followed len p j) _ (s.possible j (omega (arith, s.within, s.below)) ∙ in_range low high j (omega (arith, s.above)) (omega (arith, s.below))) has
-
--- nothing is in an empty range
-pub empty_range : (low high k : ℕ) → high ≤ low → (leb low k && ltb k high) ≡ false
-empty_range low high k le = elim (cases_lt k low) [ inl h ↦ below_range low high k h | inr h ↦ above_range low high k (omega arith) ]
-
 -- ---- the texts that are reached
 
 -- a possible text is reached
@@ -377,73 +193,41 @@ possible_viable p k lt h =
 -- and each prefix of an irregular text keeps it possible
 pub possible_prefix : (p u : List ℕ) (k : ℕ) → IsIrregularAt k (p ++ u) → (k < 17) × (is_possible p k ≡ true)
 unfolding IsIrregularAt
-possible_prefix p u k h =
-    let here = irregular_here k h.0 h.1 in
-    let text : folded_at k ≡ fold_text p ++ fold_text u = sym here.1 ∙ h.2 ∙ map-append fold_byte p u in
+possible_prefix p u k (name, at, same) =
+    let here = irregular_here k name at in
+    let text : folded_at k ≡ fold_text p ++ fold_text u = sym here.1 ∙ same ∙ map-append fold_byte p u in
     (here.0, ap (is_prefix (fold_text p)) text ∙ is_prefix-append (fold_text p) (fold_text u))
 
--- of the same length it is the text
+-- an irregular text folds to the text of the table
+folded_whole : (p : List ℕ) (k : ℕ) → IsIrregularAt k p → (k < 17) × (folded_at k ≡ fold_text p)
+unfolding IsIrregularAt
+folded_whole p k (name, at, same) = let here = irregular_here k name at in (here.0, sym here.1 ∙ same)
+
+-- so it is possible, and as long
+pub possible_itself : (p : List ℕ) (k : ℕ) → IsIrregularAt k p → (k < 17) × (is_possible p k ≡ true) × (length (folded_at k) ≡ length p)
+possible_itself p k irregular =
+    let whole = folded_whole p k irregular in
+    (whole.0, ap (is_prefix (fold_text p)) whole.1 ∙ is_prefix-self (fold_text p), ap length whole.1 ∙ length-map p fold_byte)
+
+-- and no text before it in the table is possible
+pub possible_from : (p : List ℕ) (j k : ℕ) → IsIrregularAt k p → j < k → is_possible p j ≡ true → ⊥
+possible_from p j k irregular before possible =
+    let whole = folded_whole p k irregular in
+    let stands : is_before (folded_at j) (fold_text p) ≡ true = ap (is_before (folded_at j)) (sym whole.1) ∙ folded_before j k before whole.0 in
+    prefix_before (fold_text p) (folded_at j) stands possible
+
+-- a possible text of the same length is the text
 pub irregular_from_length : (p : List ℕ) (k : ℕ) → k < 17 → is_possible p k ≡ true → length (folded_at k) ≡ length p → IsIrregularAt k p
 unfolding IsIrregularAt
 irregular_from_length p k lt h e =
     let there = irregular_there k lt in
     (there.0, there.1, there.2 ∙ sym (prefix_whole (fold_text p) (folded_at k) h (length-map p fold_byte ∙ sym e)))
 
--- an irregular text matters to a text of its own length
-matters_itself : (k : ℕ) → k < 17 → matters (length (folded_at k)) k ≡ true
-unfolding folded_texts
-matters_itself zero lt = refl
-matters_itself (suc zero) lt = refl
-matters_itself (suc (suc zero)) lt = refl
-matters_itself (suc (suc (suc zero))) lt = refl
-matters_itself (suc (suc (suc (suc zero)))) lt = refl
-matters_itself (suc (suc (suc (suc (suc zero))))) lt = refl
-matters_itself (suc (suc (suc (suc (suc (suc zero)))))) lt = refl
-matters_itself (suc (suc (suc (suc (suc (suc (suc zero))))))) lt = refl
-matters_itself (suc (suc (suc (suc (suc (suc (suc (suc zero)))))))) lt = refl
-matters_itself (suc (suc (suc (suc (suc (suc (suc (suc (suc zero))))))))) lt = refl
-matters_itself (suc (suc (suc (suc (suc (suc (suc (suc (suc (suc zero)))))))))) lt = refl
-matters_itself (suc (suc (suc (suc (suc (suc (suc (suc (suc (suc (suc zero))))))))))) lt = refl
-matters_itself (suc (suc (suc (suc (suc (suc (suc (suc (suc (suc (suc (suc zero)))))))))))) lt = refl
-matters_itself (suc (suc (suc (suc (suc (suc (suc (suc (suc (suc (suc (suc (suc zero))))))))))))) lt = refl
-matters_itself (suc (suc (suc (suc (suc (suc (suc (suc (suc (suc (suc (suc (suc (suc zero)))))))))))))) lt = refl
-matters_itself (suc (suc (suc (suc (suc (suc (suc (suc (suc (suc (suc (suc (suc (suc (suc zero))))))))))))))) lt = refl
-matters_itself (suc (suc (suc (suc (suc (suc (suc (suc (suc (suc (suc (suc (suc (suc (suc (suc zero)))))))))))))))) lt = refl
-matters_itself (suc (suc (suc (suc (suc (suc (suc (suc (suc (suc (suc (suc (suc (suc (suc (suc (suc k))))))))))))))))) lt = absurd (omega arith)
-
--- an irregular text is the first of those that are possible, and has its length
-pub irregular_first : (p : List ℕ) (low high : ℕ) → high ≤ 17 → ((k : ℕ) → k < 17 → is_followed (length p) p k ≡ (leb low k && ltb k high)) → IsIrregular p → (low < high) × (length (folded_at low) ≡ length p)
-unfolding IsIrregular IsIrregularAt
-irregular_first p low high within possible h =
-    let k : ℕ = h.0 in
-    let here = irregular_here k h.1.0 h.1.1 in
-    let whole : folded_at k ≡ fold_text p = sym here.1 ∙ h.1.2 in
-    let prefix : is_possible p k ≡ true = ap (is_prefix (fold_text p)) whole ∙ is_prefix-self (fold_text p) in
-    let long : length p ≡ length (folded_at k) = sym (length-map p fold_byte) ∙ ap length (sym whole) in
-    let index = and_parts (leb low k) (ltb k high) (sym (possible k here.0) ∙ and_from (matters (length p) k) _ (ap (λ (n : ℕ). matters n k) long ∙ matters_itself k here.0) prefix) in
-    let from : low ≤ k = leb-true low k index.0 in
-    let to : k < high = ltb-true k high index.1 in
-    let first : low ≡ k = elim (cases_lt low k) [
-      | inl lt ↦ absurd (prefix_before (fold_text p) (folded_at low) (ap (is_before (folded_at low)) (sym whole) ∙ folded_before low k lt here.0) (and_parts (matters (length p) low) (is_possible p low) (possible low (omega arith) ∙ in_range low high low (omega arith) (omega arith))).1)
-      | inr le ↦ omega arith
-    ] in
-    (omega arith, ap (λ (j : ℕ). length (folded_at j)) first ∙ ap length whole ∙ length-map p fold_byte)
-
--- no text is irregular at two indices
+-- no text is irregular at two indices: at the higher one, the lower would be possible
 pub irregular_once : (j k : ℕ) (t : List ℕ) → IsIrregularAt j t → IsIrregularAt k t → j ≡ k
-unfolding IsIrregularAt
-irregular_once j k t h g =
-    let here = irregular_here j h.0 h.1 in
-    let there = irregular_here k g.0 g.1 in
-    let same : folded_at j ≡ folded_at k = sym here.1 ∙ h.2 ∙ sym g.2 ∙ there.1 in
+irregular_once j k t first other =
     elim (cases_order j k) [
-      | inl e ↦ e
-      | inr other ↦ elim other [ inl lt ↦ absurd (no_before j k same (folded_before j k lt there.0)) | inr lt ↦ absurd (no_before k j (sym same) (folded_before k j lt here.0)) ]
+      | inl same ↦ same
+      | inr (inl before) ↦ absurd (possible_from t j k other before (possible_itself t j first).1)
+      | inr (inr before) ↦ absurd (possible_from t k j first before (possible_itself t k other).1)
     ]
-  where
-    no_before : (a b : ℕ) → folded_at a ≡ folded_at b → is_before (folded_at a) (folded_at b) ≡ true → ⊥
-    no_before a b same before = prefix_before (folded_at a) (folded_at a) (ap (is_before (folded_at a)) same ∙ before) (is_prefix-self (folded_at a))
-
--- what is followed is possible
-pub followed_possible : (len : ℕ) (p : List ℕ) (k : ℕ) → is_followed len p k ≡ true → is_possible p k ≡ true
-followed_possible len p k h = (and_parts (matters len k) (is_possible p k) h).1

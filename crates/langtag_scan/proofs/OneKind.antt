@@ -10,7 +10,7 @@ use Rattle.langtag_scan.specs.Irregular.{folded_texts, folded_at}
 use Rattle.langtag_scan.specs.Stage.{runs}
 use Rattle.langtag_scan.specs.Subtags.{segments}
 use Rattle.langtag_scan.specs.Tag.{IsNormal, IsPrivate, IsIrregular, IsIrregularAt}
-use Rattle.langtag_scan.proofs.Segments.{runs_from_normal}
+use Rattle.langtag_scan.proofs.NormalTexts.{runs_from_normal}
 use Rattle.langtag_scan.proofs.PrivateTexts.{runs_private, runs_from_private, one_no_primary}
 use Rattle.langtag_scan.proofs.CaseLaw.{runs-fold, runs_private-fold, segments-fold}
 use Rattle.langtag_scan.proofs.IrregularNames.{irregular_here}

@@ -3,17 +3,18 @@ use Rattle.std.proofs.Common.{Bool, ◌≡◌, ℕ, ◌≤◌, true, false, eqb,
 use Rattle.std.specs.Prelude.{IsTrue}
 use Rattle.std.specs.List.{AllByRecursion}
 use Rattle.std.specs.Option.{is_some}
-use Rattle.std.proofs.lemmas.Bool.{and_parts, and_from}
+use Rattle.std.proofs.lemmas.Bool.{and_parts, and_from, or_cases}
 use Rattle.std.proofs.lemmas.List.Splits.{join_with_byte-slice_split}
 use Rattle.langtag_scan.specs.declared.stage.Stage.TheVariants.{Start, AfterMark}
 use Rattle.langtag_scan.specs.Class.{is_letter, is_alphanumeric, are_alphanumeric, is_private_subtag, is_primary, is_mark}
 use Rattle.langtag_scan.specs.Subtags.{join, segments}
 use Rattle.langtag_scan.specs.Tag.{IsNormal, IsPrivate}
 use Rattle.langtag_scan.specs.Stage.{is_one, runs}
-use Rattle.langtag_scan.proofs.Disjoint.{both_true, one_true}
 use Rattle.langtag_scan.proofs.Decoding.{decode, decode_sound, pending}
 use Rattle.langtag_scan.proofs.Complete.{after_mark}
-use Rattle.langtag_scan.proofs.Segments.{runs-decode, is_there, segments-join, decoded_subtags, alphanumeric_no_hyphen, mark_alphanumeric, runs_from_normal}
+use Rattle.langtag_scan.proofs.NormalTexts.{runs-decode, is_there, decoded_subtags, runs_from_normal}
+use Rattle.langtag_scan.proofs.SubtagLists.{segments-joined}
+use Rattle.langtag_scan.proofs.SubtagFacts.{alphanumeric_no_hyphen, mark_alphanumeric}
 use Rattle.langtag_scan.proofs.Running.{runs-cons, segments-hyphen}
 
 -- a private text, cut after its mark and hyphen
@@ -32,7 +33,7 @@ marked_from_private t h = by_subtags h.0.mark h.0.subtags h.1.mark h.1.some h.1.
     by_subtags m [] mark some each e = absurd (omega arith)
     by_subtags m (s ∷ ss) mark some each e =
         let d = after_mark (s ∷ ss) some each in
-        let split : segments (join (s ∷ ss)) ≡ s ∷ ss = segments-join s ss (decoded_subtags (s ∷ ss) AfterMark (pending (s ∷ ss) [] None) d) in
+        let split : segments (join (s ∷ ss)) ≡ s ∷ ss = segments-joined s ss (decoded_subtags (s ∷ ss) AfterMark (pending (s ∷ ss) [] None) d) in
         record { mark = m; rest = join (s ∷ ss); split = sym e; marked = mark; run = ap (runs AfterMark) split ∙ runs-decode (s ∷ ss) AfterMark ∙ ap is_some d }
 
 -- whether the subtags are a mark and what may follow it
@@ -86,8 +87,8 @@ private_begun (m ∷ c ∷ s) b u h p =
     let k = marked_from_private (m ∷ c ∷ (s ++ b ∷ u)) p in
     let split : m ∷ c ∷ (s ++ b ∷ u) ≡ k.mark ∷ 45 ∷ k.rest = k.split in
     let hyphen : c ≡ 45 = cc in
-    let two = both_true (is_alphanumeric m) (are_alphanumeric (c ∷ s)) h in
-    let one = both_true (is_alphanumeric c) (are_alphanumeric s) two.1 in
+    let two = and_parts (is_alphanumeric m) (are_alphanumeric (c ∷ s)) h in
+    let one = and_parts (is_alphanumeric c) (are_alphanumeric s) two.1 in
     let none : eqb c 45 ≡ false = alphanumeric_no_hyphen c one.0 in
     let yes_hyphen : eqb c 45 ≡ true = ap (λ x. eqb x 45) hyphen in
     absurd cc
@@ -102,8 +103,8 @@ private_no_hyphen s h p = by_text s h (marked_from_private s p)
     by_text (m ∷ c ∷ s) h k =
         let split : m ∷ c ∷ s ≡ k.mark ∷ 45 ∷ k.rest = k.split in
         let hyphen : c ≡ 45 = cc in
-        let two = both_true (is_alphanumeric m) (are_alphanumeric (c ∷ s)) h in
-        let one = both_true (is_alphanumeric c) (are_alphanumeric s) two.1 in
+        let two = and_parts (is_alphanumeric m) (are_alphanumeric (c ∷ s)) h in
+        let one = and_parts (is_alphanumeric c) (are_alphanumeric s) two.1 in
         let none : eqb c 45 ≡ false = alphanumeric_no_hyphen c one.0 in
         let yes_hyphen : eqb c 45 ≡ true = ap (λ x. eqb x 45) hyphen in
         cc
@@ -111,7 +112,7 @@ private_no_hyphen s h p = by_text s h (marked_from_private s p)
 pub mark_letter : (m : ℕ) → is_mark m ≡ true → is_letter m ≡ true
 unfolding is_mark is_letter
 mark_letter m h =
-    elim (one_true (eqb m 120) (eqb m 88) h) [
+    elim (or_cases (eqb m 120) (eqb m 88) h) [
       | inl e ↦ let same : m ≡ 120 = eqb-true _ _ e in rw same refl
       | inr e ↦ let same : m ≡ 88 = eqb-true _ _ e in rw same refl
     ]

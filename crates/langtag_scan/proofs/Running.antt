@@ -1,5 +1,6 @@
 -- How the stages run over the segments of a text of which a prefix was read.
 use Rattle.std.proofs.Common.{◌≡◌, ℕ, ◌<◌, ◌≤◌, Bool, true, false, cond, eqb, leb, List, [], ◌∷◌, ◌++◌, length, Option, Some, None, inl, inr, refl, sym, ap, ◌∙◌, arith, append_assoc, append-nil}
+use Rattle.std.proofs.lemmas.Bool.{and_parts}
 use Rattle.std.specs.List.{All, onto_first}
 use Rattle.std.specs.Option.{option_map_or}
 use Rattle.std.proofs.lemmas.List.{length-append, length_push}
@@ -13,9 +14,9 @@ use Rattle.langtag_scan.specs.Machine.{may_hold, end_at, index_after, ends_after
 use Rattle.langtag_scan.specs.declared.ends.Ends.{Ends}
 use Rattle.langtag_scan.specs.declared.stage.Stage.{Stage}
 use Rattle.langtag_scan.specs.declared.stage.Stage.TheVariants.{Start, Language, Extended, AfterScript, AfterRegion, AfterVariant, AfterSingleton, InExtension, AfterMark, InPrivate}
-use Rattle.langtag_scan.proofs.Disjoint.{both_true}
-use Rattle.langtag_scan.proofs.Decoding.{chosen}
-use Rattle.langtag_scan.proofs.Segments.{IsSubtag, next_subtag, no_hyphen_each, alphanumeric_no_hyphen}
+use Rattle.langtag_scan.proofs.BoolFacts.{chosen}
+use Rattle.langtag_scan.proofs.SubtagFacts.{IsSubtag, no_hyphen_each, alphanumeric_no_hyphen}
+use Rattle.langtag_scan.proofs.NormalTexts.{next_subtag}
 
 pub runs-nil : (stage : Stage) → runs stage [] ≡ may_end stage
 unfolding runs
@@ -57,7 +58,7 @@ first_of (b ∷ u) = by_hyphen (eqb b 45) refl (first_of u)
 segments-prefix : (s u v : List ℕ) (ss : List (List ℕ)) → are_alphanumeric s ≡ true → segments u ≡ v ∷ ss → segments (s ++ u) ≡ (s ++ v) ∷ ss
 segments-prefix [] u v ss h e = e
 segments-prefix (b ∷ s) u v ss h e =
-    let k = both_true (is_alphanumeric b) (are_alphanumeric s) h in
+    let k = and_parts (is_alphanumeric b) (are_alphanumeric s) h in
     slice_split-cons_no is_hyphen b (s ++ u) (alphanumeric_no_hyphen b k.0) ∙ ap (onto_first b) (segments-prefix s u v ss k.1 e)
 
 -- ---- a byte that a subtag may hold
@@ -94,14 +95,14 @@ too_long s b v long h = let l = h.short in omega (arith, length-append s (b ∷ 
 
 never : (s : List ℕ) (b : ℕ) (v : List ℕ) → is_alphanumeric b ≡ false → IsSubtag (s ++ b ∷ v) → ⊥
 never s b v m h =
-    let all = both_true (are_alphanumeric s) (are_alphanumeric (b ∷ v)) (sym (list_all-append is_alphanumeric s (b ∷ v)) ∙ h.alnum) in
-    let here = both_true (is_alphanumeric b) (are_alphanumeric v) all.1 in
+    let all = and_parts (are_alphanumeric s) (are_alphanumeric (b ∷ v)) (sym (list_all-append is_alphanumeric s (b ∷ v)) ∙ h.alphanumeric) in
+    let here = and_parts (is_alphanumeric b) (are_alphanumeric v) all.1 in
     let yes_held : is_alphanumeric b ≡ true = here.0 in
     cc
 
 primary_letters : (s : List ℕ) → is_primary s ≡ true → are_letters s ≡ true
 unfolding is_primary
-primary_letters s h = (both_true (has_length 2 8 s) (are_letters s) h).1
+primary_letters s h = (and_parts (has_length 2 8 s) (are_letters s) h).1
 
 start_letters : (s : List ℕ) (after : Stage) → next_stage Start s ≡ Some after → are_letters s ≡ true
 start_letters s after e =
@@ -109,8 +110,8 @@ start_letters s after e =
 
 not_held : (stage : Stage) (s : List ℕ) (b : ℕ) (v : List ℕ) → may_hold stage b ≡ false → (after : Stage) → next_stage stage (s ++ b ∷ v) ≡ Some after → ⊥
 not_held Start s b v m after e =
-    let l = both_true (are_letters s) (are_letters (b ∷ v)) (sym (list_all-append is_letter s (b ∷ v)) ∙ start_letters (s ++ b ∷ v) after e) in
-    let k = both_true (is_letter b) (are_letters v) l.1 in
+    let l = and_parts (are_letters s) (are_letters (b ∷ v)) (sym (list_all-append is_letter s (b ∷ v)) ∙ start_letters (s ++ b ∷ v) after e) in
+    let k = and_parts (is_letter b) (are_letters v) l.1 in
     let yes_letter : is_letter b ≡ true = k.0 in
     let no_letter : is_letter b ≡ false = m in
     cc

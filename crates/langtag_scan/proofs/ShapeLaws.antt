@@ -1,7 +1,7 @@
 -- The shape of a subtag tells its classes, and grows as the subtag does.
 use Rattle.std.proofs.Common.{◌≡◌, ℕ, suc, ◌-◌, ◌≤◌, Bool, true, false, cond, eqb, ne_eqb, not, leb, ltb, ◌+◌, ◌&&◌, ◌||◌, List, [], ◌∷◌, ◌++◌, length, refl, sym, ap, ◌∙◌, arith, get_or}
 use Rattle.std.proofs.Math.Seq.{get_or-append_seam}
-use Rattle.std.proofs.lemmas.Bool.{le-leb, lt-ltb, and_right}
+use Rattle.std.proofs.lemmas.Bool.{le-leb, lt-ltb, and_right, and_parts}
 use Rattle.std.proofs.lemmas.Bool.Decides.{nat_tests}
 use Rattle.std.proofs.lemmas.List.{length-append, length_push}
 use Rattle.std.proofs.lemmas.List.Folds.{list_all-append}
@@ -9,7 +9,7 @@ use Rattle.langtag_scan.specs.Class.{is_letter, is_digit, is_alphanumeric, are_l
 use Rattle.langtag_scan.specs.Stage.{is_one, classes_of, next_stage, next_by}
 use Rattle.langtag_scan.specs.declared.stage.Stage.{Stage}
 use Rattle.langtag_scan.specs.Shape.{leading_digits, shape_of, classes_of_shape}
-use Rattle.langtag_scan.proofs.Disjoint.{both_true, letter_no_digit}
+use Rattle.langtag_scan.proofs.Disjoint.{letter_no_digit}
 
 -- a letter or digit is just one of them
 digit-letter : (b : ℕ) → is_alphanumeric b ≡ true → is_digit b ≡ not (is_letter b)
@@ -177,7 +177,7 @@ mark-shape (b ∷ c ∷ s) = sym (not_one (length s) _)
 singleton-shape : (s : List ℕ) → IsShort s → is_one is_singleton s ≡ (eqb (length s) 1 && not (is_mark (get_or s (length s - 1) 0)))
 unfolding is_singleton
 singleton-shape [] h = refl
-singleton-shape (b ∷ []) h = rw ((both_true (is_alphanumeric b) true h.alphanumeric).0) refl
+singleton-shape (b ∷ []) h = rw ((and_parts (is_alphanumeric b) true h.alphanumeric).0) refl
 singleton-shape (b ∷ c ∷ s) h = sym (not_one (length s) _)
 
 -- the shape tells the classes

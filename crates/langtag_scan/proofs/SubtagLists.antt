@@ -1,16 +1,99 @@
--- Lists of subtags of a class, and what stands between the hyphens of their join.
-use Rattle.std.proofs.Common.{◌≡◌, ℕ, ◌<◌, Bool, true, IsTrue, List, [], ◌∷◌, length, refl, arith}
-use Rattle.std.specs.List.{AllByRecursion, list_all}
-use Rattle.std.proofs.lemmas.List.Elements.{All-from_recursion, All-weaker}
-use Rattle.langtag_scan.specs.Subtags.{join, subtags, IsHyphenFree}
-use Rattle.langtag_scan.proofs.Disjoint.{both_true}
-use Rattle.langtag_scan.proofs.Segments.{IsSubtag, no_hyphen}
-use Rattle.langtag_scan.proofs.SubtagsLemmas.{subtags-join}
+-- Texts and the lists of subtags that stand between their hyphens: joining and splitting undo one another, and a list of
+-- members of a class is found again in its join.
+use Rattle.std.proofs.Common.{◌≡◌, ℕ, ◌<◌, ◌≤◌, ◌+◌, ◌-◌, List, length, get_or, arith, subst, Bool, true, false, [], ◌∷◌, ◌++◌, refl, ap, ◌∙◌, Option, None, Some, Bor, MatchOption, All, IsTrue, eqb}
+use Rattle.std.proofs.lemmas.Bool.{and_parts}
+use Rattle.std.specs.Str.{IsUtf8, IsCharBoundary}
+use Rattle.std.proofs.lemmas.Str.{IsCharBoundary-after_ascii}
+use Rattle.std.specs.List.{onto_first, AllByRecursion, list_all}
+use Rattle.std.proofs.lemmas.List.Splits.{slice_split-cons_yes, slice_split-cons_no, slice_split_none, slice_split_at, length-slice_split, join_with_byte-slice_split}
+use Rattle.std.proofs.lemmas.List.Elements.{All-nil, All-cons, All-head, All-tail, All-from_recursion, All-weaker}
+use Rattle.std.proofs.lemmas.Grind.{common_steps}
+use Rattle.std.proofs.lemmas.List.Sums.{count_by-le-length}
+use Rattle.langtag_scan.specs.Subtags.{is_hyphen, IsHyphenFree, join, segments, subtags, segments_left}
+use Rattle.langtag_scan.proofs.SubtagFacts.{IsSubtag, no_hyphen}
+
+-- ---- the first and the last segment
+
+-- the first segment, and those of what stands after its hyphen
+pub segments_left-first : (text first : List ℕ) (rest : Option (Bor (List ℕ))) → IsHyphenFree first → MatchOption rest (text ≡ first) (λ r. text ≡ first ++ 45 ∷ r.now) → segments text ≡ first ∷ segments_left rest
+segments_left-first text first None free whole = rw whole (slice_split_none is_hyphen first free)
+segments_left-first text first (Some rest) free joined = rw joined (slice_split_at is_hyphen first 45 rest.now free refl)
+
+pub onto_first-append : (b : ℕ) (prefix back : List (List ℕ)) → 0 < length prefix → onto_first b (prefix ++ back) ≡ onto_first b prefix ++ back
+onto_first-append b [] back some = absurd (omega (arith, some))
+onto_first-append b (segment ∷ prefix) back some = refl
+
+-- the segments before and after any hyphen
+pub slice_split-append : (prefix back : List ℕ) → segments (prefix ++ 45 ∷ back) ≡ segments prefix ++ segments back
+slice_split-append [] back = refl
+slice_split-append (b ∷ prefix) back = by_first (is_hyphen b) refl (slice_split-append prefix back)
+  where
+    by_first : (cut : Bool) → is_hyphen b ≡ cut → segments (prefix ++ 45 ∷ back) ≡ segments prefix ++ segments back → segments (b ∷ prefix ++ 45 ∷ back) ≡ segments (b ∷ prefix) ++ segments back
+    by_first true cut others =
+        rw (slice_split-cons_yes is_hyphen b (prefix ++ 45 ∷ back) cut, slice_split-cons_yes is_hyphen b prefix cut, others) refl
+    by_first false kept others =
+        rw (slice_split-cons_no is_hyphen b (prefix ++ 45 ∷ back) kept, slice_split-cons_no is_hyphen b prefix kept, others)
+        (onto_first-append b (segments prefix) (segments back) (omega (arith, length-slice_split is_hyphen prefix)))
+
+-- one more segment, after a hyphen
+pub slice_split-push : (prefix last : List ℕ) → IsHyphenFree last → segments (prefix ++ 45 ∷ last) ≡ segments prefix ++ last ∷ []
+slice_split-push prefix last free = slice_split-append prefix last ∙ ap (λ back. segments prefix ++ back) (slice_split_none is_hyphen last free)
+
+-- the last segment, and those of what stands before its hyphen
+pub segments_left-last : (text last : List ℕ) (prefix : Option (Bor (List ℕ))) → IsHyphenFree last → MatchOption prefix (text ≡ last) (λ f. text ≡ f.now ++ 45 ∷ last) → segments text ≡ segments_left prefix ++ last ∷ []
+segments_left-last text last None free whole = rw whole (slice_split_none is_hyphen last free)
+segments_left-last text last (Some prefix) free joined = rw joined (slice_split-push prefix.now last free)
+
+-- ---- no segment holds a hyphen
+
+onto_first-hyphen_free : (b : ℕ) (texts : List (List ℕ)) → is_hyphen b ≡ false → All IsHyphenFree texts → All IsHyphenFree (onto_first b texts)
+onto_first-hyphen_free b [] kept free =
+    All-cons IsHyphenFree (b ∷ []) [] (All-cons (λ c. is_hyphen c ≡ false) b [] kept (All-nil (λ c. is_hyphen c ≡ false))) (All-nil IsHyphenFree)
+onto_first-hyphen_free b (text ∷ texts) kept free =
+    All-cons IsHyphenFree (b ∷ text) texts
+    (All-cons (λ c. is_hyphen c ≡ false) b text kept (All-head IsHyphenFree text texts free))
+    (All-tail IsHyphenFree text texts free)
+
+pub segments-hyphen_free : (text : List ℕ) → All IsHyphenFree (segments text)
+segments-hyphen_free [] = All-cons IsHyphenFree [] [] (All-nil (λ c. is_hyphen c ≡ false)) (All-nil IsHyphenFree)
+segments-hyphen_free (b ∷ text) = by_first (is_hyphen b) refl (segments-hyphen_free text)
+  where
+    by_first : (cut : Bool) → is_hyphen b ≡ cut → All IsHyphenFree (segments text) → All IsHyphenFree (segments (b ∷ text))
+    by_first true cut free =
+        rw (slice_split-cons_yes is_hyphen b text cut) (All-cons IsHyphenFree [] (segments text) (All-nil (λ c. is_hyphen c ≡ false)) free)
+    by_first false kept free = rw (slice_split-cons_no is_hyphen b text kept) (onto_first-hyphen_free b (segments text) kept free)
+
+-- ---- joining and splitting
+
+-- texts with no hyphen are found again where they were joined
+pub segments-join : (first : List ℕ) (texts : List (List ℕ)) → All IsHyphenFree (first ∷ texts) → segments (join (first ∷ texts)) ≡ first ∷ texts
+segments-join first [] free = slice_split_none is_hyphen first (All-head IsHyphenFree first [] free)
+segments-join first (second ∷ texts) free =
+    slice_split_at is_hyphen first 45 (join (second ∷ texts)) (All-head IsHyphenFree first (second ∷ texts) free) refl
+    ∙ ap (λ rest. first ∷ rest) (segments-join second texts (All-tail IsHyphenFree first (second ∷ texts) free))
+
+subtags-segments : (text : List ℕ) → 0 < length text → subtags text ≡ segments text
+subtags-segments [] some = absurd (omega (arith, some))
+subtags-segments (b ∷ text) some = refl
+
+-- nonempty texts with no hyphen are the subtags of their join
+pub subtags-join : (texts : List (List ℕ)) → All IsHyphenFree texts → All (λ text. 0 < length text) texts → subtags (join texts) ≡ texts
+subtags-join [] free some = refl
+subtags-join (first ∷ []) free some =
+    subtags-segments first (All-head (λ text. 0 < length text) first [] some) ∙ segments-join first [] free
+subtags-join (first ∷ second ∷ texts) free some =
+    subtags-segments (join (first ∷ second ∷ texts)) (grind (arith, common_steps, All-head (λ text. 0 < length text) first (second ∷ texts) some))
+    ∙ segments-join first (second ∷ texts) free
+
+-- the subtags of a text, joined, are the text
+pub join-subtags : (text : List ℕ) → join (subtags text) ≡ text
+join-subtags [] = refl
+join-subtags (b ∷ text) = join_with_byte-slice_split 45 (b ∷ text)
 
 -- a list passes the test of a class where each member does, and only there
 pub each_from_test : (test : List ℕ → Bool) (ss : List (List ℕ)) → list_all test ss ≡ true → AllByRecursion (λ s. IsTrue (test s)) ss
 each_from_test test [] h = tt
-each_from_test test (s ∷ ss) h = let k = both_true (test s) (list_all test ss) h in (k.0, each_from_test test ss k.1)
+each_from_test test (s ∷ ss) h = let k = and_parts (test s) (list_all test ss) h in (k.0, each_from_test test ss k.1)
 
 pub test_from_each : (test : List ℕ → Bool) (ss : List (List ℕ)) → AllByRecursion (λ s. IsTrue (test s)) ss → list_all test ss ≡ true
 test_from_each test [] h = refl
@@ -27,3 +110,23 @@ subtags-joined ss fits =
     let each = All-from_recursion IsSubtag ss fits in
     subtags-join ss (All-weaker IsSubtag IsHyphenFree no_hyphen ss each)
     (All-weaker IsSubtag (λ (s : List ℕ). 0 < length s) (λ s subtag. omega (arith, subtag.some)) ss each)
+
+-- and the segments of the join are those subtags
+pub segments-joined : (s : List ℕ) (ss : List (List ℕ)) → AllByRecursion IsSubtag (s ∷ ss) → segments (join (s ∷ ss)) ≡ s ∷ ss
+segments-joined s ss fits =
+    segments-join s ss (All-weaker IsSubtag IsHyphenFree no_hyphen (s ∷ ss) (All-from_recursion IsSubtag (s ∷ ss) fits))
+
+-- ---- how many subtags there are
+
+-- at most one more than bytes
+pub length-subtags : (text : List ℕ) → length (subtags text) ≤ length text + 1
+length-subtags [] = omega arith
+length-subtags (b ∷ text) = omega (arith, length-slice_split is_hyphen (b ∷ text), count_by-le-length is_hyphen (b ∷ text))
+
+-- ---- cuts
+
+-- a text may be cut after a hyphen
+pub IsCharBoundary-after_hyphen : (text : List ℕ) (i : ℕ) → IsUtf8 text → 0 < i → i ≤ length text → get_or text (i - 1) 0 ≡ 45 → IsCharBoundary text i
+IsCharBoundary-after_hyphen text i utf8 some within hyphen =
+    let before : (i - 1) + 1 ≡ i = omega arith in
+    subst (IsCharBoundary text) before (IsCharBoundary-after_ascii text (i - 1) utf8 (omega arith) (omega arith))

@@ -1,8 +1,9 @@
 -- Records of normal tags without regard to the case of letters (RFC 5646 section 2.1.1).
-use Rattle.std.specs.Prelude.{◌≡◌, map}
+use Rattle.std.specs.Prelude.{◌≡◌, ℕ, List, map}
 use Rattle.std.specs.Option.{option_map}
 use Rattle.langtag_scan.specs.Case.{fold_byte, fold_text}
-use Rattle.langtag_scan.specs.Record.{Extension, PrivateUse, Record}
+use Rattle.langtag_scan.specs.Ends.{ends_of}
+use Rattle.langtag_scan.specs.Record.{Extension, PrivateUse, Record, Spells}
 
 abbrev pub fold_extension : Extension → Extension
 fold_extension e = record { singleton = fold_byte e.singleton; subtags = map fold_text e.subtags }
@@ -25,3 +26,7 @@ fold_record r = record {
 -- two records have the same parts, with as many subtags, and corresponding subtags are alike
 abbrev pub AlikeRecords : Record → Record → Type 0
 AlikeRecords r q = fold_record r ≡ fold_record q
+
+-- another text is spelled by an alike record, whose parts end at the same offsets
+abbrev pub IsSpelledAlike : Record → List ℕ → Type 0
+IsSpelledAlike r text = (q : Record) × Spells q text × AlikeRecords r q × (ends_of r ≡ ends_of q)

@@ -1,8 +1,7 @@
 -- What a recogniser finds of a tag (RFC 5646 section 2.1).
-use Rattle.std.specs.Prelude.{◌≡◌, ℕ, Bool, true, false, List, Option, Some, None}
-use Rattle.langtag_scan.specs.Record.{Record, IsWellFormed, spell}
+use Rattle.std.specs.Prelude.{ℕ, Bool, true, false, List, Option, Some, None}
 use Rattle.langtag_scan.specs.Tag.{IsPrivate, IsIrregularAt}
-use Rattle.langtag_scan.specs.Ends.{ends_of}
+use Rattle.langtag_scan.specs.Ends.{HasEnds}
 use Rattle.langtag_scan.specs.declared.ends.Ends.{Ends}
 
 -- one of the three cases: normal with the ends of its parts, private use, or irregular with the index in the table
@@ -13,7 +12,7 @@ pub data Finding : Type 0 where
 
 -- the text is a tag of this case, with these ends or at this index
 abbrev pub IsFoundOf : List ℕ → Finding → Type 0
-IsFoundOf t (normal ends) = (r : Record) × IsWellFormed r × (spell r ≡ t) × (ends ≡ ends_of r)
+IsFoundOf t (normal ends) = HasEnds t ends
 IsFoundOf t private_use = IsPrivate t
 IsFoundOf t (irregular index) = IsIrregularAt index t
 

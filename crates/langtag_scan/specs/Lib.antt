@@ -5,6 +5,7 @@ pub mod Record
 pub mod Grandfathered
 pub mod Tag
 pub mod Ends
+pub mod Parts
 pub mod Viable
 pub mod Found
 pub mod Stage

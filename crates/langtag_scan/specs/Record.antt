@@ -70,3 +70,11 @@ flat r = r.primary ∷ (r.extended ++ (one_flat r.script ++ (one_flat r.region +
 
 abbrev pub spell : Record → List ℕ
 spell r = join (flat r)
+
+-- a well-formed record spells the text
+abbrev pub Spells : Record → List ℕ → Type 0
+Spells r text = IsWellFormed r × (spell r ≡ text)
+
+-- P holds of each record that spells the text: there is at most one
+abbrev pub EachRecord : List ℕ → (Record → Type 0) → Type 0
+EachRecord text P = (r : Record) → Spells r text → P r

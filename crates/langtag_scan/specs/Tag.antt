@@ -2,12 +2,12 @@
 use Rattle.std.specs.Prelude.{◌≡◌, ℕ, ◌⊎◌, List, slice_get, Some}
 use Rattle.langtag_scan.specs.Case.{Alike}
 use Rattle.langtag_scan.specs.Subtags.{join}
-use Rattle.langtag_scan.specs.Record.{PrivateUse, Record, IsPrivateUse, IsWellFormed, private_use_flat, spell}
+use Rattle.langtag_scan.specs.Record.{PrivateUse, Record, IsPrivateUse, Spells, private_use_flat}
 use Rattle.langtag_scan.specs.Grandfathered.{irregular_texts}
 
 -- a well-formed record spells the text
 unfoldable pub IsNormal : List ℕ → Type 0
-IsNormal t = (r : Record) × IsWellFormed r × (spell r ≡ t)
+IsNormal t = (r : Record) × Spells r t
 
 -- a private list spells the text
 unfoldable pub IsPrivate : List ℕ → Type 0

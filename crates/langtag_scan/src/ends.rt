@@ -42,7 +42,6 @@ impl Ends {
     }
 
     /// The ends after one more subtag, which ends at `index` and belongs to the part of the stage.
-    #[inline(always)]
     pub(crate) fn end_at(&mut self, stage: Stage, index: usize)
         ensures { self.new ≡ end_at stage index self.old }
     {

@@ -72,7 +72,6 @@ impl Names {
     }
 
     /// Keeps the texts that have this byte at this index, in either case.
-    #[inline(always)]
     pub(crate) fn keep(&mut self, index: usize, byte: u8)
         ensures len { self.new.len ≡ self.old.len }
         ensures follows { (p : List ℕ) → length p ≡ index → Follows p self.old → Follows (p ++ byte ∷ []) self.new }

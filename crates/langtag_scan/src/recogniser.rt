@@ -1,10 +1,12 @@
 //! The recognisers: one pass over a source of bytes.
-ghost use Rattle.std.specs.Prelude.{◌≡◌, ◌↔◌, ◌⊎◌, ℕ, ◌≤◌, ◌+◌, ◌^◌, max, List, length, IsTrue, MatchOption};
+ghost use Rattle.std.specs.Prelude.{◌≡◌, ◌↔◌, ◌⊎◌, ℕ, ◌<◌, ◌≤◌, ◌+◌, ◌^◌, max, List, [], length, take, IsTrue, MatchOption};
 ghost use Rattle.langtag_scan.specs.Record.{Record, IsWellFormed, spell};
 ghost use Rattle.langtag_scan.specs.Tag.{IsNormal, IsPrivate, IsIrregularAt, IsIrregular, IsTag};
 ghost use Rattle.langtag_scan.specs.Viable.{IsStop, IsViable, IsIrregularPrefix, fill};
 ghost use Rattle.langtag_scan.specs.Findings.{finding};
 ghost use Rattle.langtag_scan.specs.Found.{IsFoundOf, is_normal};
+ghost use Rattle.langtag_scan.specs.Names.{Follows, IsGone};
+ghost use Rattle.langtag_scan.specs.Tracking.{Tracks, IsReadTo};
 
 use crate::found::Found;
 use crate::irregular::Names;
@@ -16,6 +18,7 @@ use crate::source::ByteSource;
 ///
 /// It asks for the bytes in order, each once, up to the first one after which no tag can follow, and takes no
 /// memory. Its contract also has the laws that make its answer the only one, and says which texts begin a tag.
+#[tactic(auto, using(crate::proofs::OneKind::normal_no_private, crate::proofs::OneKind::normal_no_irregular, crate::proofs::OneKind::private_no_irregular, crate::proofs::IrregularNames::irregular_once, crate::proofs::FillLaw::viable_fill))]
 #[inline(always)]
 pub fn recognise<S: ByteSource>(source: &mut S) -> Option<Found>
     requires { S.reads source.old ≤ 2 ^ 126 }
@@ -23,6 +26,7 @@ pub fn recognise<S: ByteSource>(source: &mut S) -> Option<Found>
     ensures bytes { S.bytes source.new ≡ S.bytes source.old }
     ensures reads { (n : ℕ) × IsStop (S.bytes source.old) n × (S.reads source.new ≡ S.reads source.old + n) × (S.reach source.new ≡ max (S.reach source.old) n) }
 
+    // Laws of these words: the kind, the index and the stop are the only ones, and filling a prefix decides it.
     ensures normal_not_private { (t : List ℕ) → IsNormal t → IsPrivate t → ⊥ }
     ensures normal_not_irregular { (t : List ℕ) → IsNormal t → IsIrregular t → ⊥ }
     ensures private_not_irregular { (t : List ℕ) → IsPrivate t → IsIrregular t → ⊥ }
@@ -33,19 +37,11 @@ pub fn recognise<S: ByteSource>(source: &mut S) -> Option<Found>
     let len = source.len();
     let mut machine = Machine::new();
     let mut names = Names::new(len);
-    let mut goes_on = true;
-    let mut index = 0;
-    // While an irregular text is possible: for nearly every text, that is the first byte.
-    'irregular: while index < len && !names.is_empty() {
-        let byte = source.byte(index);
-        names.keep(index, byte);
-        goes_on = goes_on && machine.step(index, byte);
-        index += 1;
-    }
+    let (mut index, goes_on) = read_names(source, &mut machine, &mut names);
     if !goes_on {
-        return if index < len { None } else { names.found() };
+        return names.found();
     }
-    'stages: while index < len {
+    while index < len {
         if !machine.step(index, source.byte(index)) {
             return None;
         }
@@ -55,6 +51,36 @@ pub fn recognise<S: ByteSource>(source: &mut S) -> Option<Found>
         Some(found) => Some(found),
         None => names.found(),
     }
+}
+
+/// Reads on while an irregular text is possible: for nearly every text, that is the first byte. It answers how many
+/// bytes it has read, and whether the machine goes on after them.
+#[inline(always)]
+fn read_names<S: ByteSource>(
+    source: &mut S,
+    machine: &mut Machine,
+    names: &mut Names,
+) -> (usize, bool)
+    requires few { S.reads source.old ≤ 2 ^ 126 }
+    requires machine { Tracks [] machine.old }
+    requires names { Follows [] names.old }
+    ensures bytes { S.bytes source.new ≡ S.bytes source.old }
+    ensures reads { S.reads source.new ≡ S.reads source.old + result.0 }
+    ensures reach { S.reach source.new ≡ max (S.reach source.old) result.0 }
+    ensures len { names.new.len ≡ names.old.len }
+    ensures read { IsReadTo (S.bytes source.old) result.0 names.new machine.new result.1 }
+    ensures gone { result.0 < length (S.bytes source.old) → IsGone (take result.0 (S.bytes source.old)) names.new }
+{
+    let len = source.len();
+    let mut goes_on = true;
+    let mut index = 0;
+    while index < len && !names.is_empty() {
+        let byte = source.byte(index);
+        names.keep(index, byte);
+        goes_on = goes_on && machine.step(index, byte);
+        index += 1;
+    }
+    (index, goes_on)
 }
 
 /// Decides whether the bytes of a source are a normal tag (rule `langtag` of RFC 5646 section 2.1), as

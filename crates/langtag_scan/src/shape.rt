@@ -36,7 +36,6 @@ impl Shape {
     }
 
     /// Adds a letter or a digit, if there is room for it.
-    #[inline(always)]
     pub(crate) fn push(&mut self, byte: u8) -> bool
         requires class { IsTrue (alphanumeric byte) }
         ensures room { IsTrue result → self.old.len < 8 }

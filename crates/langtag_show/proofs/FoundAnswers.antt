@@ -2,12 +2,13 @@
 use Rattle.std.proofs.Common.{◌≡◌, ℕ, true, false, List}
 use Rattle.std.specs.Prelude.{codes}
 use Rattle.langtag_scan.specs.Tag.{IsNormal, IsIrregular}
+use Rattle.langtag_scan.specs.Ends.{HasEnds}
 use Rattle.langtag_scan.specs.Found.{Finding, Finding.normal as found_normal, Finding.private_use as found_private, Finding.irregular as found_irregular, IsFoundOf, is_normal, is_private_use}
 use Rattle.langtag_show.specs.Report.{IsAnswer, normal, private_use, irregular}
 
 pub answer_normal : (line text : List ℕ) (found : Finding) → is_normal found ≡ true → text ≡ codes "normal" → IsFoundOf line found → IsAnswer line text
-unfolding IsNormal
-answer_normal line text (found_normal ends) h says (r, fits, spells, same) = normal (r, fits, spells) says
+unfolding IsNormal HasEnds
+answer_normal line text (found_normal ends) h says (r, spells, same) = normal (r, spells) says
 answer_normal line text found_private h says is = absurd cc
 answer_normal line text (found_irregular index) h says is = absurd cc
 

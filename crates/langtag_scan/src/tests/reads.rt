@@ -1,7 +1,7 @@
 //! How many bytes decide a text.
 use crate::tests::answer::{Answer, ends, of_bytes, of_normal, of_text};
-use crate::tests::source::{Bytes, PrivateSubtags};
-use crate::{ByteSource, recognise, recognise_normal};
+use crate::tests::source::PrivateSubtags;
+use crate::{ByteSource, Metered, recognise, recognise_normal};
 
 const REFUSED: &[(&str, usize)] = &[
     ("", 0),
@@ -71,12 +71,17 @@ fn bytes_that_are_no_text(rt: HostRuntime) {
 
 #[test]
 fn a_source_that_was_read_before(rt: HostRuntime) {
-    for (text, reads, reach) in [
-        ("fr-FR", 10, 9),
-        ("i-notexist", 9, 9),
-        ("i-klingon-x", 15, 10),
+    for (text, last, reads, reach) in [
+        ("fr-FR", 3, 10, 5),
+        ("i-notexist", 8, 9, 9),
+        ("i-klingon-x", 10, 15, 11),
     ] {
-        let mut source = Bytes::new(text.as_bytes(), 5, 9);
+        let mut source = Metered::new(text);
+        for _ in 0..5 {
+            assert!(rt; last < source.len() && source.reads() < 5, "at {text}");
+            source.byte(last);
+        }
+        assert_eq!(rt; source.reads(), 5, "at {text}");
         let found = recognise(&mut source);
         assert_eq!(rt; found.is_some(), text == "fr-FR", "at {text}");
         assert_eq!(rt; source.reads(), reads, "at {text}");

@@ -1,55 +1,8 @@
-//! The sources of bytes that the tests read, and what a source keeps of its reads.
+//! A source that computes its bytes, and what a source keeps of its reads.
 ghost use Rattle.std.specs.Prelude.{◌≡◌, ◌≤◌, ◌^◌, ◌%◌, ◌==◌, nat_lt, map, slice_index, codes, if◌then◌else◌};
 ghost use Rattle.std.specs.List.{range_with_len};
 
 use crate::{ByteSource, Metered};
-
-/// Bytes, which need not be UTF-8.
-#[derive(Drop)]
-pub(crate) struct Bytes<'a> {
-    bytes: &'a [u8],
-    reads: u128,
-    reach: usize,
-}
-
-impl<'a> Bytes<'a> {
-    /// Bytes of which so many reads were made, which reached so far.
-    pub(crate) fn new(bytes: &'a [u8], reads: u128, reach: usize) -> Self
-        ensures { ⟦<Bytes<'a> as ByteSource>⟧.reads result ≡ reads }
-    {
-        Bytes {
-            bytes,
-            reads,
-            reach,
-        }
-    }
-}
-
-impl<'a> ByteSource for Bytes<'a> {
-    ghost bytes = { λ s. s.bytes.now };
-
-    ghost reads = { λ s. s.reads };
-
-    ghost reach = { λ s. s.reach };
-
-    fn len(&self) -> usize {
-        self.bytes.len()
-    }
-
-    fn reads(&self) -> u128 {
-        self.reads
-    }
-
-    fn reach(&self) -> usize {
-        self.reach
-    }
-
-    fn byte(&mut self, index: usize) -> u8 {
-        self.reads += 1;
-        self.reach = self.reach.max(index + 1);
-        self.bytes[index]
-    }
-}
 
 /// `en-x` followed by so many times `-a`, of which no byte is stored.
 #[derive(Drop)]

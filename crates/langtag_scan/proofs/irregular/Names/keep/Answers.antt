@@ -1,22 +1,34 @@
-use Rattle.std.proofs.Common.{arith, ◌∙◌}
-use Rattle.langtag_scan.proofs.IrregularNames.{Shrinks, shrunk, followed_first}
+use Rattle.std.proofs.Common.{◌≡◌, ℕ, ◌<◌, Bool, true, ◌&&◌, List, [], ◌∷◌, ◌++◌, sym, ap, ◌∙◌, arith}
+use Rattle.langtag_scan.specs.Case.{fold_byte}
+use Rattle.langtag_scan.specs.Irregular.{folded_at, has_at, is_followed, matters}
+use Rattle.langtag_scan.proofs.NameRanges.{Narrows, is_left, followed_narrowed}
+use Rattle.langtag_scan.proofs.NamesByLength.{followed-push, followed_first}
 use Rattle.langtag_scan.proofs.irregular.Names.keep.Goals as goal
 
 pub returns-then-index-eq0-clause-follows : goal.returns-then-index-eq0-clause-follows
-returns-then-index-eq0-clause-follows c = λ p e follows. record { possible = λ k lt. rw c.begun_by.ensures.len (followed_first c.args.self.now.len p c.args.byte c.into_smallcase-small.result k (omega (arith, e)) c.into_smallcase-small.ensures ∙ c.begun_by.ensures.range k lt) }
+returns-then-index-eq0-clause-follows c = λ p at follows. record {
+  possible = λ k within. rw c.begun_by.ensures.len (followed_first c.args.self.now.len p c.args.byte k (omega (arith, at)) ∙ ap (λ n. matters c.args.self.now.len k && has_at (folded_at k) 0 n) (sym c.into_smallcase-small.ensures) ∙ c.begun_by.ensures.range k within);
+}
 
 pub returns-else-index-eq0-clause-follows : goal.returns-else-index-eq0-clause-follows
 returns-else-index-eq0-clause-follows c =
     let names = c.args.self.now in
-    let first = c.first_with-self in
-    let last = c.end_with-self in
-    λ p e follows. let s : Shrinks names.len p c.args.index c.into_smallcase-small.result names.low names.high first.result last.result = record {
-      within = names.within;
-      possible = follows.possible;
-      above = first.ensures.from;
-      below = last.ensures.to;
-      none_before = first.ensures.others;
-      first = first.ensures.first;
-      none_after = last.ensures.others;
-      last = last.ensures.last;
-    } in record { possible = shrunk names.len p c.args.byte _ _ _ _ _ _ e c.into_smallcase-small.ensures s }
+    let from = c.first_with-self in
+    let to = c.end_with-self in
+    let has : ℕ → Bool = λ k. has_at (folded_at k) c.args.index c.into_smallcase-small.result in
+    let narrows : Narrows has names.low names.high from.result to.result = record {
+      above = from.ensures.from;
+      below = to.ensures.to;
+      none_before = from.ensures.others;
+      first = from.ensures.first;
+      none_after = to.ensures.others;
+      last = to.ensures.last;
+    } in
+    λ p at follows.
+    let grown : List ℕ = p ++ c.args.byte ∷ [] in
+    let left : (k : ℕ) → k < 17 → is_followed names.len grown k ≡ is_left has names.low names.high k = λ k within.
+    followed-push names.len p c.args.byte k
+    ∙ ap (λ n. is_followed names.len p k && has_at (folded_at k) n (fold_byte c.args.byte)) at
+    ∙ ap (λ b. is_followed names.len p k && has_at (folded_at k) c.args.index b) (sym c.into_smallcase-small.ensures)
+    ∙ ap (λ v. v && has k) (follows.possible k within) in
+    record { possible = followed_narrowed names.len grown has names.low names.high from.result to.result names.within left narrows }

@@ -1,5 +1,5 @@
 use Rattle.std.proofs.lemmas.List.Splits.{join_with_byte-slice_split}
-use Rattle.langtag_scan.proofs.SubtagsLemmas.{segments-hyphen_free}
+use Rattle.langtag_scan.proofs.SubtagLists.{segments-hyphen_free}
 use Rattle.langtag_scan.proofs.subtags.Subtags.new.Goals as goal
 
 pub returns-clause-joined : goal.returns-clause-joined

@@ -1,7 +1,7 @@
 use Rattle.std.proofs.Common.{rules, sym, ◌∙◌, ap}
 use Rattle.std.proofs.lemmas.List.{length_push}
 use Rattle.langtag_scan.specs.Subtags.{segments_left}
-use Rattle.langtag_scan.proofs.SubtagsLemmas.{segments_left-last}
+use Rattle.langtag_scan.proofs.SubtagLists.{segments_left-last}
 use Rattle.langtag_scan.proofs.subtags.SubtagsDoubleEndedIterator.next_back.Goals as goal
 
 pub returns-clause-steps : goal.returns-clause-steps

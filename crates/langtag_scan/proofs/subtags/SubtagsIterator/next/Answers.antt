@@ -1,6 +1,6 @@
 use Rattle.std.proofs.Common.{rules, sym, ◌∙◌, ap}
 use Rattle.langtag_scan.specs.Subtags.{segments_left}
-use Rattle.langtag_scan.proofs.SubtagsLemmas.{segments_left-first}
+use Rattle.langtag_scan.proofs.SubtagLists.{segments_left-first}
 use Rattle.langtag_scan.proofs.subtags.SubtagsIterator.next.Goals as goal
 
 pub returns-clause-steps : goal.returns-clause-steps

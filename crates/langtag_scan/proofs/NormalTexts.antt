@@ -2,7 +2,7 @@
 use Rattle.std.proofs.Common.{◌≡◌, ℕ, ◌+◌, ◌≤◌, Bool, true, false, not, cond, eqb, eqb-true, ltb, leb, ◌||◌, List, [], ◌∷◌, length, Option, Some, None, inl, inr, refl, sym, ap, ◌∙◌, arith}
 use Rattle.std.specs.List.{All, AllByRecursion}
 use Rattle.std.specs.Option.{option_map, option_map_or, option_and_then, is_some}
-use Rattle.std.proofs.lemmas.Bool.{ne_eqb}
+use Rattle.std.proofs.lemmas.Bool.{ne_eqb, and_parts, or_cases}
 use Rattle.std.proofs.lemmas.List.Elements.{All-from_recursion}
 use Rattle.std.proofs.lemmas.List.Splits.{slice_split_none, slice_split_at, join_with_byte-slice_split}
 use Rattle.langtag_scan.specs.declared.stage.Stage.{Stage}
@@ -12,83 +12,12 @@ use Rattle.langtag_scan.specs.Record.{Record, IsWellFormed, flat, spell}
 use Rattle.langtag_scan.specs.Stage.{opened, after_region, after_script, after_language, next_stage, may_end, runs}
 use Rattle.langtag_scan.specs.Subtags.{join, segments}
 use Rattle.langtag_scan.specs.Tag.{IsNormal}
-use Rattle.langtag_scan.proofs.Disjoint.{both_true, one_true, between_true, extended_three, script_four, region_two_three, variant_long}
-use Rattle.langtag_scan.proofs.Decoding.{Read, whole, decode, nothing, decode_sound, bind_some, map_some, chosen, put}
+use Rattle.langtag_scan.proofs.BoolFacts.{between_true, chosen}
+use Rattle.langtag_scan.proofs.Disjoint.{extended_three, script_four, region_two_three, variant_long}
+use Rattle.langtag_scan.proofs.Decoding.{Read, whole, decode, nothing, decode_sound, bind_some, map_some, put}
 use Rattle.langtag_scan.proofs.Complete.{decode_complete, flat_once}
-
--- one to eight letters and digits
-pub record IsSubtag (s : List ℕ) : Type 0 where
-  pub some : 1 ≤ length s
-  pub short : length s ≤ 8
-  pub alnum : are_alphanumeric s ≡ true
-
-pub letters_alphanumeric : (s : List ℕ) → are_letters s ≡ true → are_alphanumeric s ≡ true
-letters_alphanumeric [] h = refl
-letters_alphanumeric (b ∷ s) h = let k = both_true (is_letter b) (are_letters s) h in rw (k.0, letters_alphanumeric s k.1) refl
-
-or_right : (a : Bool) → (a || true) ≡ true
-or_right true = refl
-or_right false = refl
-
-digits_alphanumeric : (s : List ℕ) → are_digits s ≡ true → are_alphanumeric s ≡ true
-digits_alphanumeric [] h = refl
-digits_alphanumeric (b ∷ s) h = let k = both_true (is_digit b) (are_digits s) h in rw (k.0, or_right (is_letter b), digits_alphanumeric s k.1) refl
-
-pub of_primary : (s : List ℕ) → is_primary s ≡ true → IsSubtag s
-unfolding is_primary
-of_primary s h =
-    let k = both_true (has_length 2 8 s) (are_letters s) h in
-    let m = between_true 2 8 (length s) k.0 in
-    record { some = omega arith; short = omega arith; alnum = letters_alphanumeric s k.1 }
-
-pub of_extended : (s : List ℕ) → is_extended s ≡ true → IsSubtag s
-of_extended s h = let k = extended_three s h in record { some = omega arith; short = omega arith; alnum = letters_alphanumeric s k.1 }
-
-pub of_script : (s : List ℕ) → is_script s ≡ true → IsSubtag s
-of_script s h = let k = script_four s h in record { some = omega arith; short = omega arith; alnum = letters_alphanumeric s k.1 }
-
-pub of_region : (s : List ℕ) → is_region s ≡ true → IsSubtag s
-of_region s h =
-    elim (region_two_three s h) [
-      | inl k ↦ record { some = omega arith; short = omega arith; alnum = letters_alphanumeric s k.1 }
-      | inr k ↦ record { some = omega arith; short = omega arith; alnum = digits_alphanumeric s k.1 }
-    ]
-
-pub of_variant : (s : List ℕ) → is_variant s ≡ true → IsSubtag s
-of_variant s h =
-    elim (variant_long s h) [
-      | inl k ↦ record { some = omega arith; short = omega arith; alnum = k.2 }
-      | inr k ↦ record { some = omega arith; short = omega arith; alnum = k.1 }
-    ]
-
-pub of_extension_subtag : (s : List ℕ) → is_extension_subtag s ≡ true → IsSubtag s
-unfolding is_extension_subtag
-of_extension_subtag s h =
-    let k = both_true (has_length 2 8 s) (are_alphanumeric s) h in
-    let m = between_true 2 8 (length s) k.0 in
-    record { some = omega arith; short = omega arith; alnum = k.1 }
-
-pub of_private_subtag : (s : List ℕ) → is_private_subtag s ≡ true → IsSubtag s
-unfolding is_private_subtag
-of_private_subtag s h =
-    let k = both_true (has_length 1 8 s) (are_alphanumeric s) h in
-    let m = between_true 1 8 (length s) k.0 in
-    record { some = omega arith; short = omega arith; alnum = k.1 }
-
-pub mark_alphanumeric : (c : ℕ) → is_mark c ≡ true → is_alphanumeric c ≡ true
-unfolding is_mark is_letter
-mark_alphanumeric c h =
-    elim (one_true (eqb c 120) (eqb c 88) h) [
-      | inl e ↦ let same : c ≡ 120 = eqb-true _ _ e in rw same refl
-      | inr e ↦ let same : c ≡ 88 = eqb-true _ _ e in rw same refl
-    ]
-
-pub singleton_alphanumeric : (c : ℕ) → is_singleton c ≡ true → is_alphanumeric c ≡ true
-unfolding is_singleton
-singleton_alphanumeric c h = (both_true (is_alphanumeric c) (not (is_mark c)) h).0
-
-pub of_one : (c : ℕ) → is_alphanumeric c ≡ true → IsSubtag (c ∷ [])
-of_one c h = record { some = omega arith; short = omega arith; alnum = rw h refl }
+use Rattle.langtag_scan.proofs.SubtagFacts.{IsSubtag, of_primary, of_extended, of_script, of_region, of_variant, of_extension_subtag, of_private_subtag, of_one, mark_alphanumeric, singleton_alphanumeric}
+use Rattle.langtag_scan.proofs.SubtagLists.{segments-joined}
 
 of_opened : (s : List ℕ) (after : Stage) → opened s ≡ Some after → IsSubtag s
 of_opened [] after e = absurd cc
@@ -143,24 +72,6 @@ decoded_subtags (s ∷ ss) stage b e =
     let y = map_some (put x.0 s) (decode x.0 ss) b x.2 in
     (next_subtag stage s x.0 x.1, decoded_subtags ss x.0 y.0 y.1)
 
--- ---- hyphens
-
-pub alphanumeric_no_hyphen : (b : ℕ) → is_alphanumeric b ≡ true → eqb b 45 ≡ false
-unfolding is_letter is_digit
-alphanumeric_no_hyphen b h = ne_eqb b 45 (λ e. let no_alnum : is_alphanumeric 45 ≡ false = refl in let same : is_alphanumeric b ≡ is_alphanumeric 45 = ap is_alphanumeric e in cc)
-
-pub no_hyphen_each : (s : List ℕ) → are_alphanumeric s ≡ true → AllByRecursion (λ b. eqb b 45 ≡ false) s
-no_hyphen_each [] h = tt
-no_hyphen_each (b ∷ s) h = let k = both_true (is_alphanumeric b) (are_alphanumeric s) h in (alphanumeric_no_hyphen b k.0, no_hyphen_each s k.1)
-
-pub no_hyphen : (s : List ℕ) → IsSubtag s → All (λ b. eqb b 45 ≡ false) s
-no_hyphen s h = All-from_recursion (λ b. eqb b 45 ≡ false) s (no_hyphen_each s h.alnum)
-
--- subtags that were joined are found again
-pub segments-join : (s : List ℕ) (ss : List (List ℕ)) → AllByRecursion IsSubtag (s ∷ ss) → segments (join (s ∷ ss)) ≡ s ∷ ss
-segments-join s [] fits = slice_split_none (λ b. eqb b 45) s (no_hyphen s fits.0)
-segments-join s (u ∷ us) fits = slice_split_at (λ b. eqb b 45) s 45 (join (u ∷ us)) (no_hyphen s fits.0) refl ∙ ap (λ (ts : List (List ℕ)). s ∷ ts) (segments-join u us fits.1)
-
 some_map : {A B : Type 0} (f : A → B) (o : Option A) → is_some (option_map f o) ≡ is_some o
 some_map f None = refl
 some_map f (Some x) = refl
@@ -175,7 +86,7 @@ runs-decode [] stage = elim (may_end stage) as (λ v. v ≡ is_some (cond v (Som
 runs-decode (s ∷ ss) stage = runs_bind (λ after. runs after ss) (λ after. decode after ss) (λ after. put after s) (λ after. runs-decode ss after) (next_stage stage s)
 
 pub spelled_segments : (r : Record) → IsWellFormed r → segments (spell r) ≡ flat r
-spelled_segments r fits = segments-join r.primary _ (decoded_subtags (flat r) Start (whole r) (decode_complete r fits))
+spelled_segments r fits = segments-joined r.primary _ (decoded_subtags (flat r) Start (whole r) (decode_complete r fits))
 
 -- two well-formed records with one spelling are the same
 pub spelled_once : (r q : Record) → IsWellFormed r → IsWellFormed q → spell r ≡ spell q → r ≡ q
@@ -191,11 +102,11 @@ unfolding IsNormal
 normal_from_runs t h =
     let d = is_there (decode Start (segments t)) (sym (runs-decode (segments t) Start) ∙ h) in
     let a = decode_sound (segments t) Start d.0 d.1 in
-    (d.0.parts, a.0, ap join a.1 ∙ join_with_byte-slice_split 45 t)
+    (d.0.parts, (a.0, ap join a.1 ∙ join_with_byte-slice_split 45 t))
 
 -- and only there
 pub runs_from_normal : (t : List ℕ) → IsNormal t → runs Start (segments t) ≡ true
 unfolding IsNormal
 runs_from_normal t n =
-    let same : segments t ≡ flat n.0 = ap segments (sym n.2) ∙ spelled_segments n.0 n.1 in
-    runs-decode (segments t) Start ∙ ap is_some (ap (decode Start) same ∙ decode_complete n.0 n.1)
+    let same : segments t ≡ flat n.0 = ap segments (sym n.1.1) ∙ spelled_segments n.0 n.1.0 in
+    runs-decode (segments t) Start ∙ ap is_some (ap (decode Start) same ∙ decode_complete n.0 n.1.0)

@@ -1,0 +1,117 @@
+-- A join is its first subtag and the others, each after a hyphen. So lists of subtags that follow one another do so in
+-- the text, too, and it can be cut between them.
+use Rattle.std.proofs.Common.{◌≡◌, ℕ, ◌+◌, ◌-◌, ◌≤◌, List, [], ◌∷◌, ◌++◌, length, take, drop, Option, None, Some, unwrap_or, refl, sym, ap, ◌∙◌, arith, append_assoc, append-nil}
+use Rattle.std.specs.List.{flat_map, replace_range}
+use Rattle.std.specs.Option.{option_map}
+use Rattle.std.proofs.lemmas.Bool.{eq-eqb, ne_eqb}
+use Rattle.std.proofs.lemmas.List.{take_at, drop_at, length-append, length_push}
+use Rattle.std.proofs.lemmas.List.Concat.{flat_map-append}
+use Rattle.langtag_scan.specs.Record.{PrivateUse, one_flat, private_use_flat, private_part_flat}
+use Rattle.langtag_scan.specs.Subtags.{join}
+use Rattle.langtag_scan.specs.Parts.{present, text_between}
+
+-- ---- joins
+
+-- each of these subtags after a hyphen
+abbrev pub hyphenated : List (List ℕ) → List ℕ
+hyphenated subtags = flat_map (λ s. 45 ∷ s) subtags
+
+pub join-hyphenated : (x : List ℕ) (xs : List (List ℕ)) → join (x ∷ xs) ≡ x ++ hyphenated xs
+join-hyphenated x [] = sym (append-nil x)
+join-hyphenated x (y ∷ ys) = ap (λ t. x ++ 45 ∷ t) (join-hyphenated y ys)
+
+pub hyphenated-append : (xs ys : List (List ℕ)) → hyphenated (xs ++ ys) ≡ hyphenated xs ++ hyphenated ys
+hyphenated-append xs ys = flat_map-append (λ s. 45 ∷ s) xs ys
+
+-- a list that follows another
+pub join-append : (x : List ℕ) (xs ys : List (List ℕ)) → join (x ∷ (xs ++ ys)) ≡ join (x ∷ xs) ++ hyphenated ys
+join-append x xs ys = simp (join-hyphenated, hyphenated-append, append_assoc)
+
+-- the join of a prefix, as one subtag in its place
+pub join-prefix : (x : List ℕ) (xs ys : List (List ℕ)) → join (join (x ∷ xs) ∷ ys) ≡ join (x ∷ (xs ++ ys))
+join-prefix x xs ys = join-hyphenated (join (x ∷ xs)) ys ∙ sym (join-append x xs ys)
+
+-- the join of some subtags, where there are any, in their place
+pub hyphenated-present : (ss : List (List ℕ)) → hyphenated (present ss) ≡ hyphenated ss
+hyphenated-present [] = refl
+hyphenated-present (s ∷ ss) = ap (λ t. 45 ∷ t) (append-nil (join (s ∷ ss)) ∙ join-hyphenated s ss)
+
+-- one subtag after its hyphen
+pub hyphenated-one : (s : List ℕ) → hyphenated (s ∷ []) ≡ 45 ∷ s
+hyphenated-one s = ap (λ t. 45 ∷ t) (append-nil s)
+
+-- what stands before some subtags, these, and what stands after them
+pub join-around : (x : List ℕ) (xs ys zs : List (List ℕ)) → join (x ∷ (xs ++ (ys ++ zs))) ≡ (join (x ∷ xs) ++ hyphenated ys) ++ hyphenated zs
+join-around x xs ys zs = simp (join-hyphenated, hyphenated-append, append_assoc)
+
+-- ---- the lengths of joins
+
+pub length-hyphenated : (xs ys : List (List ℕ)) → length (hyphenated (xs ++ ys)) ≡ length (hyphenated xs) + length (hyphenated ys)
+length-hyphenated xs ys = ap length (hyphenated-append xs ys) ∙ length-append (hyphenated xs) (hyphenated ys)
+
+pub length-join : (x : List ℕ) (xs : List (List ℕ)) → length (join (x ∷ xs)) ≡ length x + length (hyphenated xs)
+length-join x xs = ap length (join-hyphenated x xs) ∙ length-append x (hyphenated xs)
+
+pub length-join-append : (x : List ℕ) (xs ys : List (List ℕ)) → length (join (x ∷ (xs ++ ys))) ≡ length (join (x ∷ xs)) + length (hyphenated ys)
+length-join-append x xs ys = ap length (join-append x xs ys) ∙ length-append (join (x ∷ xs)) (hyphenated ys)
+
+pub join-longer : (x : List ℕ) (xs ys : List (List ℕ)) → length (join (x ∷ xs)) ≤ length (join (x ∷ (xs ++ ys)))
+join-longer x xs ys = omega (arith, length-join-append x xs ys)
+
+-- ---- a text that is cut in two
+
+take_cut : (whole prefix rest : List ℕ) (n : ℕ) → whole ≡ prefix ++ rest → n ≡ length prefix → take n whole ≡ prefix
+take_cut whole prefix rest n cut at = rw (cut, at) (take_at prefix rest (length prefix) refl)
+
+drop_cut : (whole prefix rest : List ℕ) (n : ℕ) → whole ≡ prefix ++ rest → n ≡ length prefix → drop n whole ≡ rest
+drop_cut whole prefix rest n cut at = rw (cut, at) (drop_at prefix rest (length prefix) refl)
+
+pub take-join : (x : List ℕ) (xs ys : List (List ℕ)) → take (length (join (x ∷ xs))) (join (x ∷ (xs ++ ys))) ≡ join (x ∷ xs)
+take-join x xs ys = take_cut (join (x ∷ (xs ++ ys))) (join (x ∷ xs)) (hyphenated ys) (length (join (x ∷ xs))) (join-append x xs ys) refl
+
+pub drop-join : (x : List ℕ) (xs ys : List (List ℕ)) → drop (length (join (x ∷ xs))) (join (x ∷ (xs ++ ys))) ≡ hyphenated ys
+drop-join x xs ys = drop_cut (join (x ∷ (xs ++ ys))) (join (x ∷ xs)) (hyphenated ys) (length (join (x ∷ xs))) (join-append x xs ys) refl
+
+-- to replace subtags, each after its hyphen, in the text is to replace them in the list
+pub join-replaced : (x : List ℕ) (xs ys zs us : List (List ℕ)) → replace_range (join (x ∷ (xs ++ (ys ++ zs)))) (length (join (x ∷ xs))) (length (join (x ∷ (xs ++ ys)))) (hyphenated us) ≡ join (x ∷ (xs ++ (us ++ zs)))
+join-replaced x xs ys zs us =
+    let rest : drop (length (join (x ∷ (xs ++ ys)))) (join (x ∷ (xs ++ (ys ++ zs)))) ≡ hyphenated zs = simp append_assoc at (drop-join x (xs ++ ys) zs) in
+    rw (take-join x xs (ys ++ zs), rest) (sym (join-around x xs us zs))
+
+-- ---- what stands between two ends
+
+-- the join of subtags, where there are any
+abbrev pub joined : List (List ℕ) → Option (List ℕ)
+joined [] = None
+joined (subtag ∷ subtags) = Some (join (subtag ∷ subtags))
+
+pub joined-one : (o : Option (List ℕ)) → joined (one_flat o) ≡ o
+joined-one None = refl
+joined-one (Some s) = refl
+
+pub joined-private : (o : Option PrivateUse) → joined (private_part_flat o) ≡ option_map (λ p. join (private_use_flat p)) o
+joined-private None = refl
+joined-private (Some p) = refl
+
+pub unwrap_or-joined : (ss : List (List ℕ)) → unwrap_or (joined ss) [] ≡ join ss
+unwrap_or-joined [] = refl
+unwrap_or-joined (s ∷ ss) = refl
+
+text_between-cut : (text prefix part rest : List ℕ) (end : ℕ) → text ≡ prefix ++ 45 ∷ (part ++ rest) → end ≡ length prefix + 1 + length part → text_between text (length prefix) end ≡ Some part
+text_between-cut text prefix part rest end cut at =
+    let later = ne_eqb (length prefix) end (λ same. omega arith) in
+    let size : end - (length prefix + 1) ≡ length part = omega arith in
+    let later_text : drop (length prefix + 1) text ≡ part ++ rest = drop_cut text (prefix ++ 45 ∷ []) (part ++ rest) (length prefix + 1) (cut ∙ sym (append_assoc prefix (45 ∷ []) (part ++ rest))) (sym (length_push prefix 45)) in
+    rw later (ap Some (rw (size, later_text) (take_at part rest (length part) refl)))
+
+-- the subtags between two prefixes of a list
+pub text_between-join : (x : List ℕ) (xs ys zs : List (List ℕ)) → text_between (join (x ∷ (xs ++ (ys ++ zs)))) (length (join (x ∷ xs))) (length (join (x ∷ (xs ++ ys)))) ≡ joined ys
+text_between-join x xs [] zs = rw (append-nil xs, eq-eqb (length (join (x ∷ xs))) (length (join (x ∷ xs))) refl) refl
+text_between-join x xs (y ∷ ys) zs =
+    let part : hyphenated (y ∷ ys) ≡ 45 ∷ join (y ∷ ys) = ap (λ t. 45 ∷ t) (sym (join-hyphenated y ys)) in
+    let whole : join (x ∷ (xs ++ ((y ∷ ys) ++ zs))) ≡ join (x ∷ xs) ++ 45 ∷ (join (y ∷ ys) ++ hyphenated zs) = join-append x xs ((y ∷ ys) ++ zs) ∙ ap (λ t. join (x ∷ xs) ++ t) (hyphenated-append (y ∷ ys) zs ∙ ap (λ t. t ++ hyphenated zs) part) in
+    text_between-cut (join (x ∷ (xs ++ ((y ∷ ys) ++ zs)))) (join (x ∷ xs)) (join (y ∷ ys)) (hyphenated zs) (length (join (x ∷ (xs ++ y ∷ ys)))) whole (omega (arith, length-join-append x xs (y ∷ ys), ap length part))
+
+-- the same, however the prefixes are grouped
+pub text_between-lists : (x : List ℕ) (xs ys zs prefix whole : List (List ℕ)) → prefix ≡ xs ++ ys → whole ≡ xs ++ (ys ++ zs) → text_between (join (x ∷ whole)) (length (join (x ∷ xs))) (length (join (x ∷ prefix))) ≡ joined ys
+text_between-lists x xs ys zs prefix whole to_prefix to_whole = rw (to_prefix, to_whole) (text_between-join x xs ys zs)

@@ -1,0 +1,91 @@
+-- Each part of a record stands between the end of the part before and its own end.
+use Rattle.std.proofs.Common.{◌≡◌, ℕ, ◌≤◌, List, [], ◌∷◌, ◌++◌, length, take, refl, sym, ap, ◌∙◌, append_assoc, append-nil}
+use Rattle.std.specs.List.{flat_map}
+use Rattle.langtag_scan.specs.Ends.{ends_of}
+use Rattle.langtag_scan.specs.Record.{Record, extension_flat, one_flat, private_part_flat, spell}
+use Rattle.langtag_scan.specs.Subtags.{join}
+use Rattle.langtag_scan.specs.Parts.{language_part, private_use_part, present, parts, text_between}
+use Rattle.langtag_scan.specs.Parts.{AreInOrder}
+use Rattle.langtag_scan.specs.declared.ends.Ends.{Ends}
+use Rattle.langtag_scan.proofs.Joins.{join-hyphenated, hyphenated-append, hyphenated-present, join-append, take-join, join-longer, joined, joined-one, joined-private, text_between-join, text_between-lists}
+
+-- the subtags after the primary one, up to and with a part
+abbrev to_script : Record → List (List ℕ)
+to_script r = r.extended ++ one_flat r.script
+
+abbrev to_region : Record → List (List ℕ)
+to_region r = r.extended ++ (one_flat r.script ++ one_flat r.region)
+
+abbrev to_variants : Record → List (List ℕ)
+to_variants r = r.extended ++ (one_flat r.script ++ (one_flat r.region ++ r.variants))
+
+abbrev to_extensions : Record → List (List ℕ)
+to_extensions r = r.extended ++ (one_flat r.script ++ (one_flat r.region ++ (r.variants ++ flat_map extension_flat r.extensions)))
+
+abbrev to_private_use : Record → List (List ℕ)
+to_private_use r = r.extended ++ (one_flat r.script ++ (one_flat r.region ++ (r.variants ++ (flat_map extension_flat r.extensions ++ private_part_flat r.private_use))))
+
+abbrev from_region : Record → List (List ℕ)
+from_region r = one_flat r.region ++ (r.variants ++ (flat_map extension_flat r.extensions ++ private_part_flat r.private_use))
+
+abbrev from_variants : Record → List (List ℕ)
+from_variants r = r.variants ++ (flat_map extension_flat r.extensions ++ private_part_flat r.private_use)
+
+pub language_between : (r : Record) → take (ends_of r).language (spell r) ≡ language_part r
+language_between r = take-join r.primary r.extended (one_flat r.script ++ from_region r)
+
+pub script_between : (r : Record) → text_between (spell r) (ends_of r).language (ends_of r).script ≡ r.script
+script_between r = text_between-join r.primary r.extended (one_flat r.script) (from_region r) ∙ joined-one r.script
+
+pub region_between : (r : Record) → text_between (spell r) (ends_of r).script (ends_of r).region ≡ r.region
+region_between r =
+    text_between-lists r.primary (to_script r) (one_flat r.region) (from_variants r) (to_region r) (to_private_use r) (simp append_assoc) (simp append_assoc)
+    ∙ joined-one r.region
+
+pub variants_between : (r : Record) → text_between (spell r) (ends_of r).region (ends_of r).variants ≡ joined r.variants
+variants_between r =
+    text_between-lists r.primary (to_region r) r.variants (flat_map extension_flat r.extensions ++ private_part_flat r.private_use) (to_variants r) (to_private_use r) (simp append_assoc) (simp append_assoc)
+
+pub extensions_between : (r : Record) → text_between (spell r) (ends_of r).variants (ends_of r).extensions ≡ joined (flat_map extension_flat r.extensions)
+extensions_between r =
+    text_between-lists r.primary (to_variants r) (flat_map extension_flat r.extensions) (private_part_flat r.private_use) (to_extensions r) (to_private_use r) (simp append_assoc) (simp append_assoc)
+
+pub private_use_between : (r : Record) → text_between (spell r) (ends_of r).extensions (ends_of r).whole ≡ private_use_part r
+private_use_between r =
+    text_between-lists r.primary (to_extensions r) (private_part_flat r.private_use) [] (to_private_use r) (to_private_use r) (simp append_assoc) (simp (append_assoc, append-nil))
+    ∙ joined-private r.private_use
+
+longer : (x : List ℕ) (xs ys more : List (List ℕ)) → more ≡ xs ++ ys → length (join (x ∷ xs)) ≤ length (join (x ∷ more))
+longer x xs ys more cut = rw cut (join-longer x xs ys)
+
+-- no part ends before the one that it follows
+pub ends_in_order : (r : Record) → AreInOrder (ends_of r)
+ends_in_order r = record {
+  script = join-longer r.primary r.extended (one_flat r.script);
+  region = longer r.primary (to_script r) (one_flat r.region) (to_region r) (simp append_assoc);
+  variants = longer r.primary (to_region r) r.variants (to_variants r) (simp append_assoc);
+  extensions = longer r.primary (to_variants r) (flat_map extension_flat r.extensions) (to_extensions r) (simp append_assoc);
+  private_use = longer r.primary (to_extensions r) (private_part_flat r.private_use) (to_private_use r) (simp append_assoc);
+}
+
+-- ---- the parts that are there, joined
+
+-- the parts that are there, joined by hyphens, are the whole text
+pub join-parts : (r : Record) → join (parts r) ≡ spell r
+join-parts r =
+    join-hyphenated (language_part r) (one_flat r.script ++ (one_flat r.region ++ (present r.variants ++ (present (flat_map extension_flat r.extensions) ++ present (private_part_flat r.private_use)))))
+    ∙ ap (λ t. language_part r ++ t) (simp (hyphenated-append, hyphenated-present))
+    ∙ sym (join-append r.primary r.extended (one_flat r.script ++ from_region r))
+
+-- ---- when ends are equal
+
+abbrev ends_at : ℕ → ℕ → ℕ → ℕ → ℕ → ℕ → Ends
+ends_at l c g v x w = record { language = l; script = c; region = g; variants = v; extensions = x; whole = w }
+
+made_ends : (l c g v x w l' c' g' v' x' w' : ℕ) → l ≡ l' → c ≡ c' → g ≡ g' → v ≡ v' → x ≡ x' → w ≡ w' → ends_at l c g v x w ≡ ends_at l' c' g' v' x' w'
+made_ends l c g v x w l' c' g' v' x' w' el ec eg ev ex ew = rw (el, ec, eg, ev, ex, ew) refl
+
+-- where each of their six offsets is
+pub ends_equal : (d e : Ends) → d.language ≡ e.language → d.script ≡ e.script → d.region ≡ e.region → d.variants ≡ e.variants → d.extensions ≡ e.extensions → d.whole ≡ e.whole → d ≡ e
+ends_equal d e language script region variants extensions whole =
+    made_ends _ _ _ _ _ _ e.language e.script e.region e.variants e.extensions e.whole language script region variants extensions whole

@@ -1,0 +1,75 @@
+-- A normal text: its one record, the offsets where its parts end, and what a fact of which only the truth is known
+-- says of them.
+use Rattle.std.proofs.Common.{◌≡◌, ℕ, List, ◌-◌, length, take, refl, arith, sym, ap, ◌∙◌}
+use Rattle.std.proofs.Math.Logic.{∥∥₁_elim, ∥∥₁_prop}
+use Rattle.std.proofs.Props.{props}
+use mathlib.Core.Bool.{Bool-set}
+use Rattle.std.specs.List.{slice_range}
+use Rattle.std.specs.Str.{IsAscii}
+use Rattle.langtag_scan.specs.Ends.{ends_of, HasEnds}
+use Rattle.langtag_scan.specs.Parts.{AreInOrder}
+use Rattle.langtag_scan.specs.Record.{EachRecord, Spells}
+use Rattle.langtag_scan.specs.Tag.{IsNormal}
+use Rattle.langtag_scan.specs.declared.ends.Ends.{Ends}
+use Rattle.langtag_scan.proofs.Ascii.{IsAscii-normal}
+use Rattle.langtag_scan.proofs.PartOffsets.{ends_in_order}
+use Rattle.langtag_scan.proofs.NormalTexts.{spelled_once, normal_from_runs, runs_from_normal}
+
+-- a text that a record spells is normal
+pub normal_spelled : (text : List ℕ) → EachRecord text (λ r. IsNormal text)
+unfolding IsNormal
+normal_spelled text r spells = (r, spells)
+
+pub normal_from_ends : (text : List ℕ) (ends : Ends) → HasEnds text ends → IsNormal text
+unfolding HasEnds
+normal_from_ends text ends (r, spells, at) = normal_spelled text r spells
+
+-- a normal text is spelled by some record, and has its ends
+pub ends_from_normal : (text : List ℕ) → IsNormal text → (ends : Ends) × HasEnds text ends
+unfolding IsNormal HasEnds
+ends_from_normal text (r, spells) = (ends_of r, (r, spells, refl))
+
+-- there is one record, so each record has these ends
+pub ends_each : (text : List ℕ) (ends : Ends) → HasEnds text ends → EachRecord text (λ r. ends ≡ ends_of r)
+unfolding HasEnds
+ends_each text ends (q, spelled, at) r spells =
+    at ∙ ap ends_of (spelled_once q r spelled.0 spells.0 (spelled.1 ∙ sym spells.1))
+
+-- ---- what is merely so is at hand
+
+-- a test decides whether a text is normal
+pub normal_had : (text : List ℕ) → ∥ IsNormal text ∥₁ → IsNormal text
+normal_had text merely =
+    normal_from_runs text (∥∥₁_elim merely (Bool-set _ _) (runs_from_normal text))
+
+-- and its ends are those of its one record
+pub ends_had : (text : List ℕ) (ends : Ends) → ∥ HasEnds text ends ∥₁ → HasEnds text ends
+unfolding HasEnds IsNormal
+ends_had text ends merely =
+    let normal = normal_had text (∥∥₁_elim merely ∥∥₁_prop (λ h. ∣ normal_from_ends text ends h ∣₁)) in
+    (normal.0, normal.1, ∥∥₁_elim merely (hlevel props) (λ h. ends_each text ends h normal.0 normal.1))
+
+-- ---- the offsets of the parts in the text
+
+pub ends_whole : (text : List ℕ) (ends : Ends) → HasEnds text ends → ends.whole ≡ length text
+unfolding HasEnds
+ends_whole text ends (r, spells, at) = rw (at, ← spells.1) refl
+
+pub ends_ordered : (text : List ℕ) (ends : Ends) → HasEnds text ends → AreInOrder ends
+unfolding HasEnds
+ends_ordered text ends (r, spells, at) = rw at (ends_in_order r)
+
+pub IsAscii-ends : (text : List ℕ) (ends : Ends) → HasEnds text ends → IsAscii text
+IsAscii-ends text ends h = IsAscii-normal text (normal_from_ends text ends h)
+
+-- what a value that keeps the ends of its text knows of both
+pub record AreOffsetsIn (text : List ℕ) (ends : Ends) : Type 0 where
+  pub normal : IsNormal text
+  pub order : AreInOrder ends
+  pub whole : ends.whole ≡ length text
+  pub ascii : IsAscii text
+
+pub offsets_kept : (text : List ℕ) (ends : Ends) → ∥ HasEnds text ends ∥₁ → AreOffsetsIn text ends
+offsets_kept text ends merely =
+    let kept = ends_had text ends merely in
+    record { normal = normal_from_ends text ends kept; order = ends_ordered text ends kept; whole = ends_whole text ends kept; ascii = IsAscii-ends text ends kept }
