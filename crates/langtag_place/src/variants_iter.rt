@@ -9,7 +9,7 @@ use crate::variants::Variants;
 use langtag_scan::Subtags;
 
 /// The variants of a tag that are still to come, in the order in which they are written (RFC 5646
-/// section 2.2.5), from either end.
+/// section 2.2.5), from either end. Each caller knows that they are few enough for `count`.
 #[derive(Drop)]
 pub struct VariantsIter<'a> {
     rest: Subtags<'a>,
