@@ -4,13 +4,9 @@ use Rattle.std.specs.List.{flat_map}
 use Rattle.std.proofs.lemmas.Grind.{common_steps}
 use Rattle.langtag_scan.specs.Record.{Extension, extension_flat}
 use Rattle.langtag_scan.specs.Subtags.{join}
+use Rattle.langtag_scan.proofs.Joins.{join-hyphenated, join-append}
 use Rattle.langtag_extension.specs.ExtensionTexts.{opens, groups, put_first, group_texts}
 use Rattle.langtag_extension.specs.Spelling.{extension_spelling}
-
--- lists of subtags with a hyphen between them
-join-append : (x : List ℕ) (xs : List (List ℕ)) (y : List ℕ) (ys : List (List ℕ)) → join ((x ∷ xs) ++ y ∷ ys) ≡ join (x ∷ xs) ++ 45 ∷ join (y ∷ ys)
-join-append x [] y ys = refl
-join-append x (z ∷ xs) y ys = ap (λ t. x ++ 45 ∷ t) (join-append z xs y ys) ∙ grind (arith, common_steps)
 
 -- the first group begins with the first subtag
 groups-cons : (s : List ℕ) (ss : List (List ℕ)) → (prefix : List (List ℕ)) × (others : List (List (List ℕ))) × (groups (s ∷ ss) ≡ (s ∷ prefix) ∷ others)
@@ -50,4 +46,6 @@ pub join-spellings : (es : List Extension) → join (map extension_spelling es) 
 join-spellings [] = refl
 join-spellings (e ∷ []) = ap (λ ss. join ((e.singleton ∷ []) ∷ ss)) (sym (append-nil e.subtags))
 join-spellings (e ∷ f ∷ es) =
-    ap (λ t. extension_spelling e ++ 45 ∷ t) (join-spellings (f ∷ es)) ∙ sym (join-append (e.singleton ∷ []) e.subtags (f.singleton ∷ []) (f.subtags ++ flat_map extension_flat es))
+    let others = f.subtags ++ flat_map extension_flat es in
+    ap (λ t. extension_spelling e ++ 45 ∷ t) (join-spellings (f ∷ es) ∙ join-hyphenated (f.singleton ∷ []) others)
+    ∙ sym (join-append (e.singleton ∷ []) e.subtags ((f.singleton ∷ []) ∷ others))

@@ -1,15 +1,14 @@
 -- The one list that spells a text is found again in it, and the tests of its subtags say whether there is one.
 use Rattle.std.proofs.Common.{◌≡◌, ◌↔◌, ℕ, ◌≤◌, Bool, true, IsTrue, List, [], ◌∷◌, ◌++◌, length, refl, ap, sym, ◌∙◌, arith, map}
 use Rattle.std.specs.List.{list_all, AllByRecursion, flat_map}
+use Rattle.std.proofs.lemmas.Bool.{and_parts}
 use Rattle.std.proofs.lemmas.Grind.{common_steps}
 use Rattle.langtag_scan.specs.Class.{is_singleton, is_extension_subtag, has_length, are_alphanumeric}
 use Rattle.langtag_scan.specs.Record.{Extension, IsExtension, extension_flat}
 use Rattle.langtag_scan.specs.Subtags.{join, subtags}
-use Rattle.std.proofs.lemmas.Bool.{and_parts}
 use Rattle.langtag_scan.proofs.BoolFacts.{between_true}
 use Rattle.langtag_scan.proofs.SubtagFacts.{IsSubtag, of_one, of_extension_subtag, singleton_alphanumeric}
-use Rattle.langtag_scan.proofs.SubtagLists.{each_from_test, test_from_each, each_subtag, subtags-joined}
-use Rattle.langtag_scan.proofs.SubtagLists.{join-subtags}
+use Rattle.langtag_scan.proofs.SubtagLists.{each_from_test, test_from_each, each_subtag, subtags-joined, join-subtags}
 use Rattle.langtag_extension.specs.ExtensionTexts.{goes_on, opens, groups, group_texts, extension_texts}
 use Rattle.langtag_extension.specs.Tests.{is_extension_list, is_extension_text, are_extension_texts, is_extensions_text, are_extension_subtags}
 use Rattle.langtag_extension.specs.Spelling.{extension_spelling, SpellsExtension, IsExtensionText, SpellsExtensions, IsExtensionsText}

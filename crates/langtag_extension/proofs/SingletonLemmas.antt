@@ -1,10 +1,10 @@
 -- Singletons are ASCII.
 use Rattle.std.proofs.Common.{◌≡◌, ◌==◌, ◌&&◌, ◌||◌, not, ℕ, ◌<◌, ◌≤◌, false, true, refl, arith, ◌∷◌, [], encode_utf8}
+use Rattle.std.proofs.lemmas.Bool.{false_from_ne_true}
 use Rattle.std.proofs.lemmas.Str.{encode_ascii}
 use Rattle.std.proofs.lemmas.Grind.{common_steps}
 use Rattle.std.specs.Char.{is_ascii, is_ascii_alphabetic, is_ascii_digit}
 use Rattle.langtag_scan.specs.Class.{is_letter, is_digit, is_mark, is_singleton}
-use Rattle.std.proofs.lemmas.Bool.{false_from_ne_true}
 use Rattle.langtag_scan.proofs.Ascii.{alphanumeric_below}
 use Rattle.langtag_scan.proofs.SubtagFacts.{singleton_alphanumeric}
 

@@ -99,7 +99,7 @@ impl<'a> Extension<'a> {
     }
 
     /// The subtags after the singleton, in order: `co` and `phonebk` of `u-co-phonebk`.
-    #[tactic(auto, using(crate::proofs::Rules::subtags_spelled, crate::proofs::Counts::few_subtags))]
+    #[tactic(auto, using(crate::proofs::Rules::subtags_spelled, crate::proofs::Counts::counts))]
     pub fn iter(&self) -> ExtensionIter<'a>
         ensures list { (e : model.Extension) → SpellsExtension e (extension_text self.now) → extension_subtags_left result ≡ e.subtags }
     {

@@ -94,7 +94,7 @@ impl<'a> Extensions<'a> {
     }
 
     /// The extensions in order, those of a repeated singleton too.
-    #[tactic(auto, using(crate::proofs::Rules::extension_texts_spelled, crate::proofs::Counts::few_texts))]
+    #[tactic(auto, using(crate::proofs::Rules::extension_texts_spelled, crate::proofs::Counts::counts))]
     pub fn iter(&self) -> ExtensionsIter<'a>
         ensures list { (es : List model.Extension) → SpellsExtensions es (extensions_text self.now) → extensions_left result ≡ map extension_spelling es }
     {

@@ -3,8 +3,7 @@ use Rattle.std.proofs.Common.{◌≡◌, ◌↔◌, ℕ, Bool, IsTrue, List, sym
 use Rattle.langtag_scan.specs.Class.{is_variant}
 use Rattle.langtag_scan.specs.Subtags.{subtags}
 use Rattle.langtag_scan.proofs.SubtagFacts.{of_variant}
-use Rattle.langtag_scan.proofs.SubtagLists.{each_from_test, test_from_each, each_subtag, subtags-joined}
-use Rattle.langtag_scan.proofs.SubtagLists.{join-subtags}
+use Rattle.langtag_scan.proofs.SubtagLists.{each_from_test, test_from_each, each_subtag, subtags-joined, join-subtags, length-subtags}
 use Rattle.langtag_place.specs.Tests.{are_variants, is_variants}
 use Rattle.langtag_place.specs.Variants.{IsVariants, SpellsVariants}
 
@@ -32,3 +31,6 @@ IsVariants-decided text answer tested =
 
 -- the steps from the one to the other
 pub ruleset variants_rules = (SpellsVariants-subtags, IsVariants-from_test, is_variants-from_rule, IsVariants-decided)
+
+-- no more of them than `count` can answer
+pub ruleset few_variants = (length-subtags)

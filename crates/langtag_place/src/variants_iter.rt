@@ -9,7 +9,7 @@ use crate::variants::Variants;
 use langtag_scan::Subtags;
 
 /// The variants of a tag that are still to come, in the order in which they are written (RFC 5646
-/// section 2.2.5), from either end.
+/// section 2.2.5), from either end. Each caller knows that they are few enough for `count`.
 #[derive(Drop)]
 pub struct VariantsIter<'a> {
     rest: Subtags<'a>,
@@ -28,7 +28,7 @@ impl<'a> VariantsIter<'a> {
     }
 
     /// The walk over the variants of a text that is known to be spelled by a list of them.
-    #[tactic(auto, using(crate::proofs::Counts::few_subtags))]
+    #[tactic(auto, using(crate::proofs::Rules::few_variants))]
     pub(crate) fn new(text: &'a str) -> Self
         requires { IsTrue (is_variants text.now) }
         ensures { variants_left result ≡ subtags text.now }

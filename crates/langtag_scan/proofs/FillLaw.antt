@@ -13,62 +13,60 @@ use Rattle.langtag_scan.specs.declared.ends.Ends.{Ends}
 use Rattle.langtag_scan.specs.declared.shape.Shape.{Shape}
 use Rattle.langtag_scan.specs.declared.stage.Stage.{Stage}
 use Rattle.langtag_scan.specs.declared.stage.Stage.TheVariants.{Start, AfterMark}
-use Rattle.langtag_scan.specs.declared.machine.Reading.{Reading}
+use Rattle.langtag_scan.specs.Tracking.{Tracks}
+use Rattle.langtag_scan.specs.declared.machine.Machine.{Machine}
 use Rattle.langtag_scan.specs.declared.machine.Reading.TheVariants.{Normal, Private}
-use Rattle.langtag_scan.proofs.ReadingLaws.{starting, reads_nothing, stopped_more, reads_grown, reads_stuck, reads_after, reads_marked, reads_refused}
-use Rattle.langtag_scan.proofs.RecogniserLaws.{filled_tag}
+use Rattle.langtag_scan.proofs.RecogniserLaws.{stopped-append}
+use Rattle.langtag_scan.proofs.StageLaws.{starting}
 use Rattle.langtag_scan.proofs.TagLaws.{tag_irregular, viable_from_tag}
+use Rattle.langtag_scan.proofs.TracksLaws.{tracks_nothing, tracks_grown, tracks_stuck, tracks_after, tracks_marked, tracks_refused, tracks_filled}
 
 -- ---- what is known of any prefix
 
-record Going (p : List ℕ) : Type 0 where
-  reading : Reading
-  stage : Stage
-  shape : Shape
-  ends : Ends
-  reads : Reads reading p stage shape ends
-
--- the stages have stopped, or go on
+-- the machine has stopped, or tracks it
 abbrev IsRead : List ℕ → Type 0
-IsRead p = HasStopped p ⊎ Going p
+IsRead p = HasStopped p ⊎ ((m : Machine) × Tracks p m)
 
-at_hyphen : (r : Reading) (p : List ℕ) (stage : Stage) (shape : Shape) (e : Ends) → Reads r p stage shape e → IsRead (p ++ 45 ∷ [])
-at_hyphen r p stage shape e h = by_next (next_by stage (classes_of_shape shape)) refl
+at_hyphen : (p : List ℕ) (m : Machine) → Tracks p m → IsRead (p ++ 45 ∷ [])
+at_hyphen p m tracks = by_next (next_by m.stage (classes_of_shape m.begun)) refl
   where
-    by_mark : None ≡ next_by stage (classes_of_shape shape) → ((stage ≡ Start) ⊎ (stage ≡ Start → ⊥)) → (v : Bool) → (classes_of_shape shape).mark ≡ v → IsRead (p ++ 45 ∷ [])
-    by_mark next (inl first) true mark = inr (record { reading = Private; stage = AfterMark; shape = shape_of []; ends = e; reads = reads_marked r p stage shape e e first mark h })
-    by_mark next (inl first) false mark = inl (reads_refused r p stage shape e next (λ x. mark) h)
-    by_mark next (inr later) v mark = inl (reads_refused r p stage shape e next (λ x. absurd (later x)) h)
+    by_mark : next_by m.stage (classes_of_shape m.begun) ≡ None → ((m.stage ≡ Start) ⊎ (m.stage ≡ Start → ⊥)) → (v : Bool) → (classes_of_shape m.begun).mark ≡ v → IsRead (p ++ 45 ∷ [])
+    by_mark next (inl first) true mark = inr (_, tracks_marked p m first mark tracks)
+    by_mark next (inl first) false mark = inl (tracks_refused p m next (λ x. mark) tracks)
+    by_mark next (inr later) v mark = inl (tracks_refused p m next (λ x. absurd (later x)) tracks)
 
-    by_next : (o : Option Stage) → o ≡ next_by stage (classes_of_shape shape) → IsRead (p ++ 45 ∷ [])
-    by_next (Some after) next = inr (record { reading = r; stage = after; shape = shape_of []; ends = end_at after (length p) e; reads = reads_after r p stage after shape e next h })
-    by_next None next = by_mark next (starting stage) (classes_of_shape shape).mark refl
+    by_next : (o : Option Stage) → next_by m.stage (classes_of_shape m.begun) ≡ o → IsRead (p ++ 45 ∷ [])
+    by_next (Some after) next = inr (_, tracks_after p m after next tracks)
+    by_next None next = by_mark next (starting m.stage) (classes_of_shape m.begun).mark refl
 
-at_other : (r : Reading) (p : List ℕ) (b : ℕ) (stage : Stage) (shape : Shape) (e : Ends) → eqb b 45 ≡ false → Reads r p stage shape e → IsRead (p ++ b ∷ [])
-at_other r p b stage shape e other h = by_held (may_hold stage b) refl
+at_other : (p : List ℕ) (b : ℕ) (m : Machine) → eqb b 45 ≡ false → Tracks p m → IsRead (p ++ b ∷ [])
+at_other p b m other tracks = by_held (may_hold m.stage b) refl
   where
-    by_held : (v : Bool) → may_hold stage b ≡ v → IsRead (p ++ b ∷ [])
-    by_held false held = inl (reads_stuck r p b stage shape e other (inl held) h)
+    by_held : (v : Bool) → may_hold m.stage b ≡ v → IsRead (p ++ b ∷ [])
+    by_held false held = inl (tracks_stuck p b m other (inl held) tracks)
     by_held true held =
-        elim (cases_lt shape.len 8) [
-          | inl short ↦ inr (record { reading = r; stage = stage; shape = shape_of (begun p ++ b ∷ []); ends = e; reads = reads_grown r p b stage shape (shape_of (begun p ++ b ∷ [])) e other held short (λ x. refl) h })
-          | inr long ↦ inl (reads_stuck r p b stage shape e other (inr long) h)
+        elim (cases_lt m.begun.len 8) [
+          | inl short ↦ inr (_, tracks_grown p b m (shape_of (begun p ++ b ∷ [])) other held short (λ x. refl) tracks)
+          | inr long ↦ inl (tracks_stuck p b m other (inr long) tracks)
         ]
 
 read_byte : (p : List ℕ) (b : ℕ) → IsRead p → IsRead (p ++ b ∷ [])
-read_byte p b (inl h) = inl (stopped_more p b h)
+read_byte p b (inl stopped) = inl (stopped-append p (b ∷ []) stopped)
 read_byte p b (inr k) = by_hyphen (eqb b 45) refl
   where
     by_hyphen : (v : Bool) → eqb b 45 ≡ v → IsRead (p ++ b ∷ [])
-    by_hyphen true e = let same : b ≡ 45 = eqb-true b 45 e in subst (λ x. IsRead (p ++ x ∷ [])) (sym same) (at_hyphen k.reading p k.stage k.shape k.ends k.reads)
-    by_hyphen false e = at_other k.reading p b k.stage k.shape k.ends e k.reads
+    by_hyphen true e = let same : b ≡ 45 = eqb-true b 45 e in subst (λ x. IsRead (p ++ x ∷ [])) (sym same) (at_hyphen p k.0 k.1)
+    by_hyphen false e = at_other p b k.0 e k.1
 
 read_all : (p u : List ℕ) → IsRead p → IsRead (p ++ u)
 read_all p [] k = subst (λ x. IsRead x) (sym (append-nil p)) k
 read_all p (b ∷ u) k = subst (λ x. IsRead x) (append_assoc p (b ∷ []) u) (read_all (p ++ b ∷ []) u (read_byte p b k))
 
 read_prefix : (p : List ℕ) → IsRead p
-read_prefix p = read_all [] p (inr (record { reading = Normal; stage = Start; shape = shape_of []; ends = all_at 0; reads = reads_nothing }))
+read_prefix p =
+    let fresh : Machine = record { reading = Normal; stage = Start; begun = shape_of []; ends = all_at 0 } in
+    let tracks : Tracks [] fresh = record { reads = tracks_nothing } in
+    read_all [] p (inr (fresh, tracks))
 
 -- ---- prefixes of irregular texts
 
@@ -101,7 +99,7 @@ fill_from_viable : (p : List ℕ) → IsViable p → IsTag (fill p) ⊎ IsIrregu
 fill_from_viable p v =
     elim (read_prefix p) [
       | inl stopped ↦ inr (stopped_prefix p stopped v)
-      | inr k ↦ inl (filled_tag k.reading p k.stage k.shape k.ends k.reads)
+      | inr k ↦ inl (tracks_filled p k.0 k.1)
     ]
 
 viable_from_fill : (p : List ℕ) → IsTag (fill p) ⊎ IsIrregularPrefix p → IsViable p

@@ -9,12 +9,14 @@ pub mod ShapeLaws
 pub mod Running
 pub mod Filling
 pub mod PrivateTexts
+pub mod StageLaws
 pub mod ReadingLaws
 pub mod EndsLaw
 pub mod IrregularNames
 pub mod NamesByLength
 pub mod NameRanges
 pub mod TagLaws
+pub mod TracksLaws
 pub mod RecogniserLaws
 pub mod FillLaw
 pub mod CaseLaw

@@ -22,8 +22,8 @@ use Rattle.langtag_scan.specs.declared.stage.Stage.{Stage}
 use Rattle.langtag_scan.proofs.IrregularNames.{possible_viable}
 use Rattle.langtag_scan.proofs.NameRanges.{gone_empty, gone-append, follows-append}
 use Rattle.langtag_scan.proofs.NamesByLength.{in_range, followed_possible, not_viable}
-use Rattle.langtag_scan.proofs.ReadingLaws.{normal_filled, private_filled}
-use Rattle.langtag_scan.proofs.TagLaws.{tag_normal, tag_private, tag_irregular, viable_from_tag, prefixes_viable, stop_at}
+use Rattle.langtag_scan.proofs.TracksLaws.{tracks_filled}
+use Rattle.langtag_scan.proofs.TagLaws.{tag_irregular, viable_from_tag, prefixes_viable, stop_at}
 
 -- ---- one byte more
 
@@ -47,13 +47,9 @@ viable_possible p k within possible =
     let there = possible_viable p k within possible in
     viable_from_tag p there.0 (tag_irregular (p ++ there.0) k there.1)
 
-pub filled_tag : (r : Reading) (p : List ℕ) (stage : Stage) (shape : Shape) (e : Ends) → Reads r p stage shape e → IsTag (fill p)
-filled_tag Normal p stage shape e h = tag_normal (fill p) (normal_filled p stage e h.1)
-filled_tag Private p stage shape e h = tag_private (fill p) (private_filled p stage h.1)
-
 -- a text with which the machine goes on
 pub viable_tracks : (p : List ℕ) (m : Machine) → Tracks p m → IsViable p
-viable_tracks p m tracks = viable_from_tag p (filling (begun p)) (filled_tag m.reading p m.stage m.begun m.ends tracks.reads)
+viable_tracks p m tracks = viable_from_tag p (filling (begun p)) (tracks_filled p m tracks)
 
 -- ---- where the machine has stopped
 
