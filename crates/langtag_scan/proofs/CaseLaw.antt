@@ -12,7 +12,6 @@ use Rattle.langtag_scan.specs.AlikeRecords.{fold_extension, fold_private_use, fo
 use Rattle.langtag_scan.specs.Class.{is_letter, is_digit, is_alphanumeric, are_letters, are_digits, are_alphanumeric, starts_with_digit, is_primary, is_extended, is_script, is_region, is_variant, is_extension_subtag, is_private_subtag, is_mark, is_singleton}
 use Rattle.langtag_scan.specs.Ends.{ends_of}
 use Rattle.langtag_scan.proofs.PartOffsets.{ends_equal}
-use Rattle.langtag_scan.specs.declared.ends.Ends.{Ends}
 use Rattle.langtag_scan.specs.Record.{Extension, PrivateUse, Record, IsExtension, IsPrivateUse, IsWellFormed, extension_flat, one_flat, private_part_flat, flat, spell, EachRecord}
 use Rattle.langtag_scan.specs.Stage.{is_one, classes_of, next_by, next_stage, runs}
 use Rattle.langtag_scan.specs.Subtags.{join, segments}

@@ -107,38 +107,47 @@ tail_extensions stage o (e ∷ es) p fits fit =
     ap (λ (us : List (List ℕ)). decode stage ((e.singleton ∷ []) ∷ us)) (append_assoc e.subtags (flat_map extension_flat es) (private_part_flat p)) ∙ one
 
 -- what stands after the variants
-abbrev rest_of : List Extension → Option PrivateUse → List (List ℕ)
+abbrev pub rest_of : List Extension → Option PrivateUse → List (List ℕ)
 rest_of es p = flat_map extension_flat es ++ private_part_flat p
 
-record EndFits (es : List Extension) (p : Option PrivateUse) : Type 0 where
-  extensions : AllByRecursion IsExtension es
-  private_use : IfSome p IsPrivateUse
+-- the members of the parts after the region are of their classes
+pub record RestFits (vs : List (List ℕ)) (es : List Extension) (p : Option PrivateUse) : Type 0 where
+  pub variants : AllByRecursion (λ s. IsTrue (is_variant s)) vs
+  pub extensions : AllByRecursion IsExtension es
+  pub private_use : IfSome p IsPrivateUse
 
-tail_variants : (es : List Extension) (p : Option PrivateUse) → EndFits es p → (stage : Stage) → Varying stage → (vs : List (List ℕ)) → AllByRecursion (λ s. IsTrue (is_variant s)) vs → decode stage (vs ++ rest_of es p) ≡ Some (whole (from_variants vs es p))
-tail_variants es p ends stage v [] fits = tail_extensions stage v.opening es p ends.extensions ends.private_use
-tail_variants es p ends stage v (s ∷ vs) fits =
-    decode_cons stage s AfterVariant (vs ++ rest_of es p) (whole (from_variants vs es p)) (v.variant s fits.0) (tail_variants es p ends AfterVariant varying_after_variant vs fits.1)
+-- those of all but the first of some variants
+pub fits_tail : (s : List ℕ) (vs : List (List ℕ)) (es : List Extension) (p : Option PrivateUse) → RestFits (s ∷ vs) es p → RestFits vs es p
+fits_tail s vs es p fits = record { variants = fits.variants.1; extensions = fits.extensions; private_use = fits.private_use }
 
-tail_region : (vs : List (List ℕ)) (es : List Extension) (p : Option PrivateUse) → AllByRecursion (λ s. IsTrue (is_variant s)) vs → EndFits es p → (stage : Stage) → Regional stage → (g : Option (List ℕ)) → IfSome g (λ s. IsTrue (is_region s)) → decode stage (one_flat g ++ (vs ++ rest_of es p)) ≡ Some (whole (from_region g vs es p))
-tail_region vs es p fits ends stage r None fit = tail_variants es p ends stage r.varying vs fits
-tail_region vs es p fits ends stage r (Some s) fit =
-    decode_cons stage s AfterRegion (vs ++ rest_of es p) (whole (from_variants vs es p)) (r.region s fit) (tail_variants es p ends AfterRegion varying_after_region vs fits)
+tail_variants : (es : List Extension) (p : Option PrivateUse) (stage : Stage) → Varying stage → (vs : List (List ℕ)) → RestFits vs es p → decode stage (vs ++ rest_of es p) ≡ Some (whole (from_variants vs es p))
+tail_variants es p stage varying [] fits = tail_extensions stage varying.opening es p fits.extensions fits.private_use
+tail_variants es p stage varying (s ∷ vs) fits =
+    decode_cons stage s AfterVariant (vs ++ rest_of es p) (whole (from_variants vs es p)) (varying.variant s fits.variants.0)
+    (tail_variants es p AfterVariant varying_after_variant vs (fits_tail s vs es p fits))
 
-record Indices (g : Option (List ℕ)) (vs : List (List ℕ)) : Type 0 where
-  region : IfSome g (λ s. IsTrue (is_region s))
-  variants : AllByRecursion (λ s. IsTrue (is_variant s)) vs
+module _ (vs : List (List ℕ)) (es : List Extension) (p : Option PrivateUse) (fits : RestFits vs es p) where
+  tail_region : (stage : Stage) → Regional stage → (g : Option (List ℕ)) → IfSome g (λ s. IsTrue (is_region s)) → decode stage (one_flat g ++ (vs ++ rest_of es p)) ≡ Some (whole (from_region g vs es p))
+  tail_region stage regional None fit = tail_variants es p stage regional.varying vs fits
+  tail_region stage regional (Some s) fit =
+      decode_cons stage s AfterRegion (vs ++ rest_of es p) (whole (from_variants vs es p)) (regional.region s fit)
+      (tail_variants es p AfterRegion varying_after_region vs fits)
 
-tail_script : (g : Option (List ℕ)) (vs : List (List ℕ)) (es : List Extension) (p : Option PrivateUse) → Indices g vs → EndFits es p → (taken : ℕ) (stage : Stage) → Speaking taken stage → (c : Option (List ℕ)) → IfSome c (λ s. IsTrue (is_script s)) → decode stage (one_flat c ++ (one_flat g ++ (vs ++ rest_of es p))) ≡ Some (whole (from_script c g vs es p))
-tail_script g vs es p indices ends taken stage k None fit = tail_region vs es p indices.variants ends stage k.regional g indices.region
-tail_script g vs es p indices ends taken stage k (Some s) fit =
-    decode_cons stage s AfterScript (one_flat g ++ (vs ++ rest_of es p)) (whole (from_region g vs es p)) (k.script s fit) (tail_region vs es p indices.variants ends AfterScript regional_after_script g indices.region)
+  module _ (g : Option (List ℕ)) (fit : IfSome g (λ s. IsTrue (is_region s))) where
+    tail_script : (taken : ℕ) (stage : Stage) → Speaking taken stage → (c : Option (List ℕ)) → IfSome c (λ s. IsTrue (is_script s)) → decode stage (one_flat c ++ (one_flat g ++ (vs ++ rest_of es p))) ≡ Some (whole (from_script c g vs es p))
+    tail_script taken stage speaking None is = tail_region stage speaking.regional g fit
+    tail_script taken stage speaking (Some s) is =
+        decode_cons stage s AfterScript (one_flat g ++ (vs ++ rest_of es p)) (whole (from_region g vs es p)) (speaking.script s is)
+        (tail_region AfterScript regional_after_script g fit)
 
-tail_extended : (c g : Option (List ℕ)) (vs : List (List ℕ)) (es : List Extension) (p : Option PrivateUse) → IfSome c (λ s. IsTrue (is_script s)) → Indices g vs → EndFits es p → (xs : List (List ℕ)) → AllByRecursion (λ s. IsTrue (is_extended s)) xs → (taken : ℕ) → ((length xs + taken ≤ 3) ⊎ (xs ≡ [])) → (stage : Stage) → Speaking taken stage → decode stage (xs ++ (one_flat c ++ (one_flat g ++ (vs ++ rest_of es p)))) ≡ Some (whole (from_extended xs c g vs es p))
-tail_extended c g vs es p fit indices ends [] fits taken few stage k = tail_script g vs es p indices ends taken stage k c fit
-tail_extended c g vs es p fit indices ends (x ∷ xs) fits taken (inr none_left) stage k = absurd cc
-tail_extended c g vs es p fit indices ends (x ∷ xs) fits taken (inl few) stage k =
-    decode_cons stage x (Extended (taken + 1)) (xs ++ (one_flat c ++ (one_flat g ++ (vs ++ rest_of es p)))) (whole (from_extended xs c g vs es p)) (k.extended x fits.0 (omega arith)) (tail_extended c g vs es p fit indices ends xs fits.1 (taken + 1) (inl (omega arith)) (Extended (taken + 1)) (speaking_extended (taken + 1)))
+    tail_extended : (c : Option (List ℕ)) → IfSome c (λ s. IsTrue (is_script s)) → (xs : List (List ℕ)) → AllByRecursion (λ s. IsTrue (is_extended s)) xs → (taken : ℕ) → ((length xs + taken ≤ 3) ⊎ (xs ≡ [])) → (stage : Stage) → Speaking taken stage → decode stage (xs ++ (one_flat c ++ (one_flat g ++ (vs ++ rest_of es p)))) ≡ Some (whole (from_extended xs c g vs es p))
+    tail_extended c is [] all taken few stage speaking = tail_script taken stage speaking c is
+    tail_extended c is (x ∷ xs) all taken (inr none_left) stage speaking = absurd cc
+    tail_extended c is (x ∷ xs) all taken (inl few) stage speaking =
+        decode_cons stage x (Extended (taken + 1)) (xs ++ (one_flat c ++ (one_flat g ++ (vs ++ rest_of es p)))) (whole (from_extended xs c g vs es p)) (speaking.extended x all.0 (omega arith))
+        (tail_extended c is xs all.1 (taken + 1) (inl (omega arith)) (Extended (taken + 1)) (speaking_extended (taken + 1)))
 
+-- how many places for extended subtags the primary subtag leaves
 pub taken_by : (n : ℕ) (xs : List (List ℕ)) → length xs ≤ 3 → ((n ≤ 3) ⊎ (xs ≡ [])) → (length xs + cond (leb n 3) 0 3 ≤ 3) ⊎ (xs ≡ [])
 taken_by n xs few (inr none_left) = inr none_left
 taken_by n xs few (inl short) = inl (rw (le-leb n 3 short) (omega arith))
@@ -146,8 +155,11 @@ taken_by n xs few (inl short) = inl (rw (le-leb n 3 short) (omega arith))
 -- the subtags of a well-formed record are decoded to it
 pub decode_complete : (r : Record) → IsWellFormed r → decode Start (flat r) ≡ Some (whole r)
 decode_complete r fits =
-    decode_cons Start r.primary (Language (cond (leb (length r.primary) 3) 0 3)) (r.extended ++ (one_flat r.script ++ (one_flat r.region ++ (r.variants ++ rest_of r.extensions r.private_use)))) (whole (from_extended r.extended r.script r.region r.variants r.extensions r.private_use)) (rw fits.primary refl)
-    (tail_extended r.script r.region r.variants r.extensions r.private_use fits.script (record { region = fits.region; variants = fits.variants }) (record { extensions = fits.extensions; private_use = fits.private_use }) r.extended fits.extended (cond (leb (length r.primary) 3) 0 3) (taken_by (length r.primary) r.extended fits.few fits.short) (Language (cond (leb (length r.primary) 3) 0 3)) (speaking_language (cond (leb (length r.primary) 3) 0 3)))
+    let taken = cond (leb (length r.primary) 3) 0 3 in
+    let rest : RestFits r.variants r.extensions r.private_use = record { variants = fits.variants; extensions = fits.extensions; private_use = fits.private_use } in
+    let others : List (List ℕ) = r.extended ++ (one_flat r.script ++ (one_flat r.region ++ (r.variants ++ rest_of r.extensions r.private_use))) in
+    decode_cons Start r.primary (Language taken) others (whole (from_extended r.extended r.script r.region r.variants r.extensions r.private_use)) (rw fits.primary refl)
+    (tail_extended r.variants r.extensions r.private_use rest r.region fits.region r.script fits.script r.extended fits.extended taken (taken_by (length r.primary) r.extended fits.few fits.short) (Language taken) (speaking_language taken))
 
 -- no two well-formed records have the same subtags
 pub flat_once : (r q : Record) → IsWellFormed r → IsWellFormed q → flat r ≡ flat q → r ≡ q

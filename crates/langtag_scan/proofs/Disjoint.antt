@@ -1,5 +1,5 @@
 -- The classes of subtags that may stand at one place have no member in common.
-use Rattle.std.proofs.Common.{◌≡◌, ℕ, ◌≤◌, Bool, true, false, eqb, leb, not, ◌&&◌, ◌||◌, List, [], ◌∷◌, length, refl, ap, arith, inl, inr, ◌⊎◌}
+use Rattle.std.proofs.Common.{◌≡◌, ℕ, ◌≤◌, true, false, eqb, not, ◌&&◌, List, [], ◌∷◌, length, refl, ap, arith, inl, inr, ◌⊎◌}
 use Rattle.std.proofs.lemmas.Bool.{eqb-true, and_parts, or_cases, false_from_ne_true}
 use Rattle.std.specs.Int.{is_in_range}
 use Rattle.langtag_scan.specs.Class.{is_letter, is_digit, is_alphanumeric, has_length, are_letters, are_digits, are_alphanumeric, starts_with_digit, is_extended, is_script, is_region, is_variant, is_extension_subtag, is_mark, is_singleton}

@@ -1,22 +1,21 @@
 -- The ends that are kept subtag by subtag are those of the record: each part ends where the part before it does, and
 -- as many bytes later as its subtags have, each after a hyphen.
-use Rattle.std.proofs.Common.{◌≡◌, ℕ, ◌+◌, ◌<◌, ◌≤◌, cond, leb, List, [], ◌∷◌, ◌++◌, length, Option, Some, None, ◌⊎◌, inl, inr, refl, sym, ap, ◌∙◌, arith, append_assoc}
+use Rattle.std.proofs.Common.{◌≡◌, ℕ, ◌+◌, ◌≤◌, cond, leb, List, [], ◌∷◌, ◌++◌, length, Option, Some, None, ◌⊎◌, inl, inr, refl, ap, ◌∙◌, arith, append_assoc}
 use Rattle.std.specs.Prelude.{IsTrue, IfSome}
 use Rattle.std.specs.List.{AllByRecursion, flat_map}
 use Rattle.std.specs.Option.{option_map_or}
 use Rattle.std.proofs.lemmas.List.{length-append}
 use Rattle.langtag_scan.specs.declared.stage.Stage.{Stage}
 use Rattle.langtag_scan.specs.declared.stage.Stage.TheVariants.{Start, Language, Extended, AfterScript, AfterRegion, AfterVariant, AfterSingleton, InExtension, AfterMark, InPrivate}
-use Rattle.langtag_scan.specs.Class.{is_extended, is_script, is_region, is_variant, is_extension_subtag, is_private_subtag}
+use Rattle.langtag_scan.specs.Class.{is_extended, is_script, is_region, is_extension_subtag, is_private_subtag}
 use Rattle.langtag_scan.specs.Ends.{ends_of}
 use Rattle.langtag_scan.specs.Machine.{all_at, end_at, index_after, ends_after}
 use Rattle.langtag_scan.specs.Record.{PrivateUse, Extension, Record, IsPrivateUse, IsExtension, IsWellFormed, extension_flat, one_flat, private_part_flat, flat}
-use Rattle.langtag_scan.specs.Stage.{opened, next_stage, may_end}
-use Rattle.langtag_scan.specs.Subtags.{join}
+use Rattle.langtag_scan.specs.Stage.{opened, next_stage}
 use Rattle.langtag_scan.specs.declared.ends.Ends.{Ends}
-use Rattle.langtag_scan.proofs.Complete.{Opening, Varying, Regional, Speaking, opening_in_extension, varying_after_region, varying_after_variant, regional_after_script, speaking_language, speaking_extended, taken_by}
+use Rattle.langtag_scan.proofs.Complete.{Opening, Varying, Regional, Speaking, opening_in_extension, varying_after_region, varying_after_variant, regional_after_script, speaking_language, speaking_extended, RestFits, fits_tail, rest_of, taken_by}
 use Rattle.langtag_scan.proofs.Disjoint.{singleton_no_mark}
-use Rattle.langtag_scan.proofs.Joins.{hyphenated, hyphenated-append, length-hyphenated, length-join}
+use Rattle.langtag_scan.proofs.Joins.{hyphenated, length-hyphenated, length-join}
 use Rattle.langtag_scan.proofs.PartOffsets.{ends_equal}
 use Rattle.langtag_scan.proofs.Running.{ends_after-nil, ends_after-cons}
 
@@ -96,10 +95,6 @@ module _ (l c g v : ℕ) (rest : List (List ℕ)) where
       ∙ extension_ends ss fits.1 (x + 1 + length s)
       ∙ ap (λ k. ends_after InExtension (ends_at l c g v k k) rest) (omega (arith, weight-cons s ss))
 
--- what stands after the variants
-abbrev rest_of : List Extension → Option PrivateUse → List (List ℕ)
-rest_of es p = flat_map extension_flat es ++ private_part_flat p
-
 extensions_ends : (l c g v : ℕ) (stage : Stage) → Opening stage → (es : List Extension) (p : Option PrivateUse) → AllByRecursion IsExtension es → IfSome p IsPrivateUse → (x : ℕ) → ends_after stage (ends_at l c g v x x) (rest_of es p) ≡ after_extensions l c g v (x + weight (flat_map extension_flat es)) p
 extensions_ends l c g v stage open_here [] p fits fit x = private_part_ends l c g v x stage open_here p fit ∙ ap (λ k. after_extensions l c g v k p) (omega arith)
 extensions_ends l c g v stage open_here (e ∷ es) p fits fit x =
@@ -112,19 +107,13 @@ extensions_ends l c g v stage open_here (e ∷ es) p fits fit x =
     ∙ extensions_ends l c g v InExtension opening_in_extension es p fits.1 fit (n + weight e.subtags)
     ∙ ap (λ k. after_extensions l c g v k p) (omega (arith, weighs))
 
--- the members of the parts after the region, and after the script
-record RestFits (vs : List (List ℕ)) (es : List Extension) (p : Option PrivateUse) : Type 0 where
-  variants : AllByRecursion (λ s. IsTrue (is_variant s)) vs
-  extensions : AllByRecursion IsExtension es
-  private_use : IfSome p IsPrivateUse
-
 variants_ends : (l c g : ℕ) (es : List Extension) (p : Option PrivateUse) (stage : Stage) → Varying stage → (vs : List (List ℕ)) → RestFits vs es p → (v : ℕ) → ends_after stage (ends_at l c g v v v) (vs ++ rest_of es p) ≡ after_variants l c g (v + weight vs) es p
 variants_ends l c g es p stage vary [] fits v =
     extensions_ends l c g v stage vary.opening es p fits.extensions fits.private_use v
     ∙ ap (λ k. after_variants l c g k es p) (omega arith)
 variants_ends l c g es p stage vary (s ∷ vs) fits v =
     one_subtag stage AfterVariant s (vs ++ rest_of es p) (ends_at l c g v v v) (v + 1 + length s) (vary.opening.later _ _) (vary.variant s fits.variants.0)
-    ∙ variants_ends l c g es p AfterVariant varying_after_variant vs (record { variants = fits.variants.1; extensions = fits.extensions; private_use = fits.private_use }) (v + 1 + length s)
+    ∙ variants_ends l c g es p AfterVariant varying_after_variant vs (fits_tail s vs es p fits) (v + 1 + length s)
     ∙ ap (λ k. after_variants l c g k es p) (omega (arith, weight-cons s vs))
 
 module _ (vs : List (List ℕ)) (es : List Extension) (p : Option PrivateUse) (fits : RestFits vs es p) where

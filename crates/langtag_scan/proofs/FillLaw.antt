@@ -8,14 +8,12 @@ use Rattle.langtag_scan.specs.Tag.{IsIrregular, IsIrregularAt, IsTag}
 use Rattle.langtag_scan.specs.Viable.{IsViable, IsIrregularPrefix, filling, fill}
 use Rattle.langtag_scan.specs.Stage.{next_by}
 use Rattle.langtag_scan.specs.Shape.{shape_of, classes_of_shape}
-use Rattle.langtag_scan.specs.Machine.{begun, may_hold, all_at, end_at, Reads, HasStopped}
-use Rattle.langtag_scan.specs.declared.ends.Ends.{Ends}
-use Rattle.langtag_scan.specs.declared.shape.Shape.{Shape}
+use Rattle.langtag_scan.specs.Machine.{begun, may_hold, all_at, HasStopped}
 use Rattle.langtag_scan.specs.declared.stage.Stage.{Stage}
-use Rattle.langtag_scan.specs.declared.stage.Stage.TheVariants.{Start, AfterMark}
+use Rattle.langtag_scan.specs.declared.stage.Stage.TheVariants.{Start}
 use Rattle.langtag_scan.specs.Tracking.{Tracks}
 use Rattle.langtag_scan.specs.declared.machine.Machine.{Machine}
-use Rattle.langtag_scan.specs.declared.machine.Reading.TheVariants.{Normal, Private}
+use Rattle.langtag_scan.specs.declared.machine.Reading.TheVariants.{Normal}
 use Rattle.langtag_scan.proofs.RecogniserLaws.{stopped-append}
 use Rattle.langtag_scan.proofs.StageLaws.{starting}
 use Rattle.langtag_scan.proofs.TagLaws.{tag_irregular, viable_from_tag}

@@ -1,17 +1,17 @@
 -- The irregular texts: which of them a text may still become, by its prefixes, and that these are neighbours in the table.
-use Rattle.std.proofs.Common.{◌≡◌, ℕ, zero, suc, ◌-◌, ◌<◌, ◌≤◌, ◌⊎◌, inl, inr, Bool, true, false, eqb, ltb, leb, ◌&&◌, ◌||◌, List, [], ◌∷◌, ◌++◌, map, length, get_or, drop, Some, refl, sym, ap, ◌∙◌, arith, ne_eqb}
+use Rattle.std.proofs.Common.{◌≡◌, ℕ, zero, suc, ◌<◌, ◌≤◌, ◌⊎◌, inl, inr, Bool, true, false, eqb, ltb, ◌&&◌, ◌||◌, List, [], ◌∷◌, ◌++◌, map, length, get_or, drop, Some, refl, sym, ap, ◌∙◌, arith}
 use Rattle.std.specs.Prelude.{slice_get}
 use Rattle.std.specs.List.{list_all}
 use Rattle.std.proofs.Math.Bool.{and_assoc}
-use Rattle.std.proofs.lemmas.Bool.{eqb-true, eq-eqb, ltb-true, leb-true, lt-ltb, le-leb, and_parts, and_from, and_left, and_right, or_cases, cases_order, cases_lt, true_from_ne_false, both_ways}
+use Rattle.std.proofs.lemmas.Bool.{eqb-true, eq-eqb, ltb-true, and_parts, and_from, or_cases, cases_order, true_from_ne_false, both_ways}
 use Rattle.std.proofs.lemmas.Bool.Decides.{nat_tests}
 use Rattle.std.proofs.lemmas.List.{map-append, drop-map, length-map, get_or-map}
 use Rattle.std.proofs.lemmas.List.Folds.{list_all_at}
 use Rattle.std.proofs.lemmas.Option.{slice_get-get_or, slice_get_cases}
 use Rattle.langtag_scan.specs.Case.{fold_byte, fold_text}
 use Rattle.langtag_scan.specs.Grandfathered.{grandfathered_tags, irregular_texts}
-use Rattle.langtag_scan.specs.Irregular.{folded_texts, folded_at, is_prefix, has_at, is_possible, matters, is_followed}
-use Rattle.langtag_scan.specs.Tag.{IsIrregular, IsIrregularAt}
+use Rattle.langtag_scan.specs.Irregular.{folded_texts, folded_at, is_prefix, has_at, is_possible}
+use Rattle.langtag_scan.specs.Tag.{IsIrregularAt}
 
 -- ---- the two tables
 

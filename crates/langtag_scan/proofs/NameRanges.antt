@@ -1,10 +1,10 @@
 -- The range of indices of the irregular texts that a text may still become: how it narrows by a byte, and what it says
 -- of the whole text.
-use Rattle.std.proofs.Common.{◌≡◌, ℕ, ◌-◌, ◌<◌, ◌≤◌, Bool, true, false, ◌&&◌, List, [], ◌∷◌, ◌++◌, length, take, drop, inl, inr, refl, sym, ap, subst, ◌∙◌, arith}
+use Rattle.std.proofs.Common.{◌≡◌, ℕ, ◌-◌, ◌<◌, ◌≤◌, Bool, true, false, ◌&&◌, List, ◌++◌, length, inl, inr, sym, ap, ◌∙◌, arith}
 use Rattle.std.proofs.lemmas.Bool.{and_from, and_left, and_right, cases_lt}
 use Rattle.langtag_scan.specs.Irregular.{folded_at, matters, is_followed}
 use Rattle.langtag_scan.specs.Names.{Follows, IsGone}
-use Rattle.langtag_scan.specs.Tag.{IsIrregular, IsIrregularAt}
+use Rattle.langtag_scan.specs.Tag.{IsIrregular}
 use Rattle.langtag_scan.specs.declared.irregular.Names.{Names}
 use Rattle.langtag_scan.proofs.IrregularNames.{possible_itself, possible_from}
 use Rattle.langtag_scan.proofs.NamesByLength.{is_within, in_range, below_range, above_range, range_parts, empty_range, matters_itself, followed_possible, followed_between, followed-append}

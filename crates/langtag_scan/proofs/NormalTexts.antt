@@ -1,19 +1,16 @@
 -- A text is normal exactly where its segments may follow one another, and its record is the only one.
-use Rattle.std.proofs.Common.{◌≡◌, ℕ, ◌+◌, ◌≤◌, Bool, true, false, not, cond, eqb, eqb-true, ltb, leb, ◌||◌, List, [], ◌∷◌, length, Option, Some, None, inl, inr, refl, sym, ap, ◌∙◌, arith}
-use Rattle.std.specs.List.{All, AllByRecursion}
+use Rattle.std.proofs.Common.{◌≡◌, ℕ, ◌+◌, Bool, true, false, cond, ltb, leb, List, [], ◌∷◌, length, Option, Some, None, inl, inr, refl, sym, ap, ◌∙◌}
+use Rattle.std.specs.List.{AllByRecursion}
 use Rattle.std.specs.Option.{option_map, option_map_or, option_and_then, is_some}
-use Rattle.std.proofs.lemmas.Bool.{ne_eqb, and_parts, or_cases}
-use Rattle.std.proofs.lemmas.List.Elements.{All-from_recursion}
-use Rattle.std.proofs.lemmas.List.Splits.{slice_split_none, slice_split_at, join_with_byte-slice_split}
+use Rattle.std.proofs.lemmas.List.Splits.{join_with_byte-slice_split}
 use Rattle.langtag_scan.specs.declared.stage.Stage.{Stage}
 use Rattle.langtag_scan.specs.declared.stage.Stage.TheVariants.{Start, Language, Extended, AfterScript, AfterRegion, AfterVariant, AfterSingleton, InExtension, AfterMark, InPrivate}
-use Rattle.langtag_scan.specs.Class.{is_letter, is_digit, is_alphanumeric, has_length, are_letters, are_digits, are_alphanumeric, is_primary, is_extended, is_script, is_region, is_variant, is_extension_subtag, is_private_subtag, is_mark, is_singleton}
+use Rattle.langtag_scan.specs.Class.{is_primary, is_extended, is_script, is_region, is_variant, is_extension_subtag, is_private_subtag, is_mark, is_singleton}
 use Rattle.langtag_scan.specs.Record.{Record, IsWellFormed, flat, spell}
 use Rattle.langtag_scan.specs.Stage.{opened, after_region, after_script, after_language, next_stage, may_end, runs}
 use Rattle.langtag_scan.specs.Subtags.{join, segments}
 use Rattle.langtag_scan.specs.Tag.{IsNormal}
-use Rattle.langtag_scan.proofs.BoolFacts.{between_true, chosen}
-use Rattle.langtag_scan.proofs.Disjoint.{extended_three, script_four, region_two_three, variant_long}
+use Rattle.langtag_scan.proofs.BoolFacts.{chosen}
 use Rattle.langtag_scan.proofs.Decoding.{Read, whole, decode, nothing, decode_sound, bind_some, map_some, put}
 use Rattle.langtag_scan.proofs.Complete.{decode_complete, flat_once}
 use Rattle.langtag_scan.proofs.SubtagFacts.{IsSubtag, of_primary, of_extended, of_script, of_region, of_variant, of_extension_subtag, of_private_subtag, of_one, mark_alphanumeric, singleton_alphanumeric}

@@ -5,25 +5,20 @@ use Rattle.std.proofs.lemmas.Bool.{cases_lt}
 use Rattle.std.proofs.lemmas.List.{take_more, take_all, take-append-drop, take-take, length-take}
 use Rattle.langtag_scan.specs.Findings.{finding}
 use Rattle.langtag_scan.specs.Found.{IsFoundOf}
-use Rattle.langtag_scan.specs.Irregular.{is_possible, is_followed}
-use Rattle.langtag_scan.specs.Machine.{begun, Reads, HasStopped, IsRefused}
+use Rattle.langtag_scan.specs.Irregular.{is_possible}
+use Rattle.langtag_scan.specs.Machine.{begun, HasStopped, IsRefused}
 use Rattle.langtag_scan.specs.Names.{Follows, IsGone}
 use Rattle.langtag_scan.specs.Tag.{IsNormal, IsPrivate, IsIrregular, IsTag}
 use Rattle.langtag_scan.specs.Tracking.{Tracks, IsReadTo}
-use Rattle.langtag_scan.specs.Viable.{IsViable, IsStop, filling, fill}
-use Rattle.langtag_scan.specs.declared.ends.Ends.{Ends}
+use Rattle.langtag_scan.specs.Viable.{IsViable, IsStop, filling}
 use Rattle.langtag_scan.specs.declared.found.Found.{Found}
 use Rattle.langtag_scan.specs.declared.irregular.Names.{Names}
 use Rattle.langtag_scan.specs.declared.machine.Machine.{Machine}
-use Rattle.langtag_scan.specs.declared.machine.Reading.{Reading}
-use Rattle.langtag_scan.specs.declared.machine.Reading.TheVariants.{Normal, Private}
-use Rattle.langtag_scan.specs.declared.shape.Shape.{Shape}
-use Rattle.langtag_scan.specs.declared.stage.Stage.{Stage}
 use Rattle.langtag_scan.proofs.IrregularNames.{possible_viable}
 use Rattle.langtag_scan.proofs.NameRanges.{gone_empty, gone-append, follows-append}
 use Rattle.langtag_scan.proofs.NamesByLength.{in_range, followed_possible, not_viable}
 use Rattle.langtag_scan.proofs.TracksLaws.{tracks_filled}
-use Rattle.langtag_scan.proofs.TagLaws.{tag_irregular, viable_from_tag, prefixes_viable, stop_at}
+use Rattle.langtag_scan.proofs.TagLaws.{tag_irregular, viable_from_tag, stop_at}
 
 -- ---- one byte more
 

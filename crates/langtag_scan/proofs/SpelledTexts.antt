@@ -1,14 +1,13 @@
 -- A normal text: its one record, the offsets where its parts end, and what a fact of which only the truth is known
 -- says of them.
-use Rattle.std.proofs.Common.{◌≡◌, ℕ, List, ◌-◌, length, take, refl, arith, sym, ap, ◌∙◌}
+use Rattle.std.proofs.Common.{◌≡◌, ℕ, List, length, refl, sym, ap, ◌∙◌}
 use Rattle.std.proofs.Math.Logic.{∥∥₁_elim, ∥∥₁_prop}
 use Rattle.std.proofs.Props.{props}
 use mathlib.Core.Bool.{Bool-set}
-use Rattle.std.specs.List.{slice_range}
 use Rattle.std.specs.Str.{IsAscii}
 use Rattle.langtag_scan.specs.Ends.{ends_of, HasEnds}
 use Rattle.langtag_scan.specs.Parts.{AreInOrder}
-use Rattle.langtag_scan.specs.Record.{EachRecord, Spells}
+use Rattle.langtag_scan.specs.Record.{EachRecord}
 use Rattle.langtag_scan.specs.Tag.{IsNormal}
 use Rattle.langtag_scan.specs.declared.ends.Ends.{Ends}
 use Rattle.langtag_scan.proofs.Ascii.{IsAscii-normal}

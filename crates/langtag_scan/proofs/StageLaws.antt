@@ -1,5 +1,5 @@
 -- The stages: what comes after a subtag, where it ends, and which bytes it may hold.
-use Rattle.std.proofs.Common.{◌≡◌, ℕ, ◌+◌, Bool, true, false, cond, ltb, ◌||◌, ◌⊎◌, List, [], ◌∷◌, ◌++◌, length, Option, Some, None, inl, inr, refl, ap, ◌∙◌, arith}
+use Rattle.std.proofs.Common.{◌≡◌, ℕ, ◌+◌, Bool, true, false, cond, ltb, ◌||◌, ◌⊎◌, List, [], ◌∷◌, ◌++◌, Option, Some, None, inl, inr, refl, ap, ◌∙◌, arith}
 use Rattle.std.proofs.lemmas.List.{length_push}
 use Rattle.langtag_scan.specs.Class.{is_letter, is_digit, is_alphanumeric}
 use Rattle.langtag_scan.specs.Stage.{Classes, classes_of, opened_by, after_region_by, after_script_by, after_language_by, next_by, next_stage}

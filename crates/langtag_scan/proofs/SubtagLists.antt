@@ -1,6 +1,6 @@
 -- Texts and the lists of subtags that stand between their hyphens: joining and splitting undo one another, and a list of
 -- members of a class is found again in its join.
-use Rattle.std.proofs.Common.{◌≡◌, ℕ, ◌<◌, ◌≤◌, ◌+◌, ◌-◌, List, length, get_or, arith, subst, Bool, true, false, [], ◌∷◌, ◌++◌, refl, ap, ◌∙◌, Option, None, Some, Bor, MatchOption, All, IsTrue, eqb}
+use Rattle.std.proofs.Common.{◌≡◌, ℕ, ◌<◌, ◌≤◌, ◌+◌, ◌-◌, List, length, get_or, arith, subst, Bool, true, false, [], ◌∷◌, ◌++◌, refl, ap, ◌∙◌, Option, None, Some, Bor, MatchOption, All, IsTrue}
 use Rattle.std.proofs.lemmas.Bool.{and_parts}
 use Rattle.std.specs.Str.{IsUtf8, IsCharBoundary}
 use Rattle.std.proofs.lemmas.Str.{IsCharBoundary-after_ascii}

@@ -1,6 +1,6 @@
 -- What the machine knows of the bytes that it has read.
 -- Only contracts of private functions cite this page.
-use Rattle.std.specs.Prelude.{◌≡◌, ℕ, ◌+◌, ◌<◌, ◌≤◌, Bool, true, false, List, length, take}
+use Rattle.std.specs.Prelude.{◌≡◌, ℕ, ◌<◌, ◌≤◌, Bool, true, false, List, length, take}
 use Rattle.langtag_scan.specs.Found.{IsFoundOf}
 use Rattle.langtag_scan.specs.Stage.{may_end}
 use Rattle.langtag_scan.specs.Machine.{Reads, HasStopped, found_by}

@@ -1,4 +1,4 @@
-use Rattle.std.proofs.Common.{ℕ, ◌&&◌, ap, ◌∙◌, arith}
+use Rattle.std.proofs.Common.{◌&&◌, ap, ◌∙◌, arith}
 use Rattle.langtag_scan.specs.Irregular.{folded_at, has_at, matters}
 use Rattle.langtag_scan.proofs.NamesByLength.{begun_i, begun_e, begun_s, begun_other, begun_short}
 use Rattle.langtag_scan.proofs.irregular.begun_by.Goals as goal

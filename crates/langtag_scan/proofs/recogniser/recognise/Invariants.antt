@@ -1,4 +1,4 @@
-use Rattle.std.proofs.Common.{◌≡◌, ◌+◌, ◌-◌, ◌≤◌, length, take, max}
+use Rattle.std.proofs.Common.{◌≡◌, ◌+◌, ◌-◌, ◌≤◌, take, max}
 use Rattle.langtag_scan.specs.Tracking.{Tracks}
 use Rattle.langtag_scan.proofs.recogniser.recognise.Given as goal
 
