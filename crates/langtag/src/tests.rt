@@ -4,6 +4,7 @@ mod owned;
 mod parts;
 mod repeats;
 mod setters;
+mod sweeps;
 mod vectors;
 
 use std::hash::{DefaultHasher, Hash, Hasher};
