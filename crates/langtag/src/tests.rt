@@ -9,6 +9,7 @@ mod parts;
 mod readme;
 mod repeats;
 mod setters;
+mod sweeps;
 mod vectors;
 
 use std::hash::{DefaultHasher, Hash, Hasher};
