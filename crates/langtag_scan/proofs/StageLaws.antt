@@ -66,55 +66,23 @@ starting _ = inr (λ h. cc)
 
 pub index_after-push : (stage : Stage) (e : Ends) (s : List ℕ) (b : ℕ) → index_after stage e (s ++ b ∷ []) ≡ index_after stage e s + 1
 index_after-push Start e s b = length_push s b
-index_after-push (Language taken) e s b = omega (arith, length_push s b)
-index_after-push (Extended taken) e s b = omega (arith, length_push s b)
-index_after-push AfterScript e s b = omega (arith, length_push s b)
-index_after-push AfterRegion e s b = omega (arith, length_push s b)
-index_after-push AfterVariant e s b = omega (arith, length_push s b)
-index_after-push AfterSingleton e s b = omega (arith, length_push s b)
-index_after-push InExtension e s b = omega (arith, length_push s b)
-index_after-push AfterMark e s b = omega (arith, length_push s b)
-index_after-push InPrivate e s b = omega (arith, length_push s b)
+index_after-push _ e s b = omega (arith, length_push s b)
 
 -- after a hyphen the next subtag begins one byte on
 pub index_after-end : (after : Stage) (n : ℕ) (e : Ends) → (after ≡ Start → ⊥) → index_after after (end_at after n e) [] ≡ n + 1
 index_after-end Start n e h = absurd (h refl)
-index_after-end (Language taken) n e h = omega arith
-index_after-end (Extended taken) n e h = omega arith
-index_after-end AfterScript n e h = omega arith
-index_after-end AfterRegion n e h = omega arith
-index_after-end AfterVariant n e h = omega arith
-index_after-end AfterSingleton n e h = omega arith
-index_after-end InExtension n e h = omega arith
-index_after-end AfterMark n e h = omega arith
-index_after-end InPrivate n e h = omega arith
+index_after-end _ n e later = omega arith
 
 -- ---- which bytes a subtag may hold
 
 pub letter_held : (stage : Stage) (b : ℕ) → is_letter b ≡ true → may_hold stage b ≡ true
 letter_held Start b h = h
-letter_held (Language taken) b h = rw h refl
-letter_held (Extended taken) b h = rw h refl
-letter_held AfterScript b h = rw h refl
-letter_held AfterRegion b h = rw h refl
-letter_held AfterVariant b h = rw h refl
-letter_held AfterSingleton b h = rw h refl
-letter_held InExtension b h = rw h refl
-letter_held AfterMark b h = rw h refl
-letter_held InPrivate b h = rw h refl
+letter_held _ b h = rw h refl
 
 -- after the first subtag, any letter or digit
 pub held_later : (stage : Stage) (b : ℕ) → (stage ≡ Start → ⊥) → may_hold stage b ≡ is_alphanumeric b
 held_later Start b later = absurd (later refl)
-held_later (Language taken) b later = refl
-held_later (Extended taken) b later = refl
-held_later AfterScript b later = refl
-held_later AfterRegion b later = refl
-held_later AfterVariant b later = refl
-held_later AfterSingleton b later = refl
-held_later InExtension b later = refl
-held_later AfterMark b later = refl
-held_later InPrivate b later = refl
+held_later _ b later = refl
 
 -- nothing but a letter or a digit
 pub nothing_held : (stage : Stage) (b : ℕ) → is_letter b ≡ false → is_digit b ≡ false → may_hold stage b ≡ false

@@ -1,6 +1,5 @@
 -- Tags, the prefixes that some tag begins with, and where a text stops (RFC 5646 section 2.1).
 use Rattle.std.proofs.Common.{◌≡◌, ℕ, ◌<◌, ◌≤◌, List, ◌++◌, length, take, drop, inl, inr, refl, sym, ap, subst, ◌∙◌, arith, append_assoc}
-use Rattle.std.proofs.lemmas.Bool.{cases_lt}
 use Rattle.std.proofs.Math.Seq.{take-length}
 use Rattle.std.proofs.lemmas.List.{take-append-drop, take-take}
 use Rattle.langtag_scan.specs.Tag.{IsNormal, IsPrivate, IsIrregular, IsIrregularAt, IsTag}
@@ -54,18 +53,3 @@ pub stop_whole : (t : List ℕ) → IsViable t → IsStop t (length t)
 stop_whole t viable =
     let last : IsViable (take (length t) t) = subst IsViable (sym (take-length t)) viable in
     record { within = omega arith; before = λ k below. prefixes_viable t (length t) k last (omega arith); at = inl (last, refl) }
-
--- a text has one stop
-no_later_stop : (t : List ℕ) (n m : ℕ) → n < m → IsStop t n → IsStop t m → ⊥
-no_later_stop t n m lt stop later =
-    elim stop.at [
-      | inl whole ↦ let within = later.within in let end : n ≡ length t = whole.1 in omega arith
-      | inr dead ↦ dead (later.before n lt)
-    ]
-
-pub stop_once : (t : List ℕ) (n m : ℕ) → IsStop t n → IsStop t m → n ≡ m
-stop_once t n m stop other =
-    elim (cases_lt n m) [
-      | inl lt ↦ absurd (no_later_stop t n m lt stop other)
-      | inr le ↦ elim (cases_lt m n) [ inl lt ↦ absurd (no_later_stop t m n lt other stop) | inr ge ↦ omega arith ]
-    ]

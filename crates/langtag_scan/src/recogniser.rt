@@ -26,7 +26,7 @@ pub fn recognise<S: ByteSource>(source: &mut S) -> Option<Found>
     ensures bytes { S.bytes source.new ≡ S.bytes source.old }
     ensures reads { (n : ℕ) × IsStop (S.bytes source.old) n × (S.reads source.new ≡ S.reads source.old + n) × (S.reach source.new ≡ max (S.reach source.old) n) }
 
-    // Laws of these words: the kind, the index and the stop are the only ones, and filling a prefix decides it.
+    // Laws of these words: a text has one kind, one index and one stop, and a prefix, filled, shows whether it begins a tag.
     ensures normal_not_private { (t : List ℕ) → IsNormal t → IsPrivate t → ⊥ }
     ensures normal_not_irregular { (t : List ℕ) → IsNormal t → IsIrregular t → ⊥ }
     ensures private_not_irregular { (t : List ℕ) → IsPrivate t → IsIrregular t → ⊥ }
@@ -91,6 +91,7 @@ pub fn recognise_normal<S: ByteSource>(source: &mut S) -> Option<Found>
     ensures bytes { S.bytes source.new ≡ S.bytes source.old }
     ensures reads { S.reads source.new ≤ S.reads source.old + length (S.bytes source.old) }
 
+    // A law of these words: a text has one record.
     ensures one_record { (r q : Record) → IsWellFormed r → IsWellFormed q → spell r ≡ spell q → r ≡ q }
 {
     let found = recognise(source)?;
