@@ -1,9 +1,8 @@
 -- A record with another script or region is well formed, it spells the text in which that part is replaced, and its
 -- parts end where they have moved to.
-use Rattle.std.proofs.Common.{◌≡◌, ℕ, ◌+◌, IsTrue, List, ◌∷◌, ◌++◌, length, Option, None, Some, IfSome, refl, sym, ap, ◌∙◌, subst, arith, append_assoc, append-nil}
+use Rattle.std.proofs.Common.{◌≡◌, ℕ, ◌+◌, IsTrue, List, ◌∷◌, ◌++◌, length, Option, None, Some, IfSome, refl, sym, ap, ◌∙◌, arith, append_assoc}
 use Rattle.std.specs.List.{flat_map, replace_range}
 use Rattle.std.specs.Option.{option_map}
-use Rattle.std.proofs.lemmas.List.{length-append}
 use Rattle.langtag_scan.specs.Class.{is_script, is_region}
 use Rattle.langtag_scan.specs.Ends.{ends_of, HasEnds}
 use Rattle.langtag_scan.specs.Record.{Record, EachRecord, IsWellFormed, Spells, extension_flat, one_flat, private_part_flat, spell}

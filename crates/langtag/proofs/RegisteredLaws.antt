@@ -1,5 +1,5 @@
 -- The variants of `GrandfatheredLangTag` and `GRANDFATHERED`, beside the table of registered tags.
-use Rattle.std.proofs.Common.{◌≡◌, ◌↔◌, ℕ, ◌+◌, ◌<◌, ◌≤◌, Bool, true, false, cond, ltb, IsTrue, List, [], length, map, take, get_or, slice_get, Option, Some, None, inl, inr, refl, sym, ap, ◌∙◌, arith, zero-add}
+use Rattle.std.proofs.Common.{◌≡◌, ℕ, ◌<◌, ◌≤◌, true, cond, ltb, IsTrue, List, [], length, map, get_or, slice_get, Some, None, inl, inr, refl, sym, ap, ◌∙◌, arith, zero-add}
 use Rattle.std.specs.List.{position, position_or_len, range_with_len}
 use Rattle.std.specs.Option.{option_map_or}
 use Rattle.std.specs.Str.{bytes_eq}

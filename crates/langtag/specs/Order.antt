@@ -7,7 +7,6 @@ use Rattle.langtag.specs.contracts.grandfathered.GrandfatheredLangTagOrd.TheImpl
 use Rattle.langtag.specs.contracts.grandfathered.GrandfatheredLangTagPartialEq.TheImpl as tag_equality
 use Rattle.langtag.specs.contracts.kind.KindOrd.TheImpl as kind_order
 use Rattle.langtag.specs.contracts.kind.KindPartialEq.TheImpl as kind_equality
-use Rattle.langtag.specs.declared.grandfathered.GrandfatheredLangTag.{GrandfatheredLangTag}
 use Rattle.langtag.specs.declared.kind.Kind.{Kind}
 use Rattle.langtag.specs.declared.kind.Kind.TheVariants.{Normal, PrivateUse, Grandfathered}
 use Rattle.langtag.specs.Registered.{index_of}

@@ -1,8 +1,7 @@
-use Rattle.std.proofs.Common.{◌≡◌, ◌<◌, ◌^◌, true, false, take, length, arith, refl, sym, ap, ◌∙◌, rules}
+use Rattle.std.proofs.Common.{◌≡◌, true, false, take, length, arith, refl, sym, ap, ◌∙◌, rules}
 use Rattle.std.specs.List.{list_any}
 use Rattle.langtag_scan.specs.Case.{are_alike}
 use Rattle.langtag_scan.specs.Subtags.{subtags}
-use Rattle.langtag_scan.proofs.SubtagLists.{length-subtags}
 use Rattle.langtag_place.specs.Text.{variant_text, variants_text}
 use Rattle.langtag.proofs.RepeatLaws.{IsAt-drop, repeat-found, repeat-later, repeat-none}
 use Rattle.langtag.proofs.repeats.first_repeated_variant.Goals as goal

@@ -1,4 +1,3 @@
-use Rattle.std.proofs.Common.{arith}
 use Rattle.langtag.proofs.KeptFound.{irregular_kept, private_otherwise}
 use Rattle.langtag.proofs.lang_tag.LangTag.as_typed.Goals as goal
 

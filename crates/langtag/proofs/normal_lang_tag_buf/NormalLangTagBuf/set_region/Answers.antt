@@ -1,7 +1,7 @@
 use Rattle.std.proofs.Common.{◌≡◌, rules}
 use Rattle.std.specs.Option.{option_map}
 use Rattle.langtag_place.specs.Text.{region_text}
-use Rattle.langtag.specs.Moved.{after_hyphen, lent}
+use Rattle.langtag.specs.Moved.{lent}
 use Rattle.langtag.proofs.EditLaws.{edited, region-replaces}
 use Rattle.langtag.proofs.normal_lang_tag_buf.NormalLangTagBuf.set_region.Goals as goal
 
