@@ -143,7 +143,8 @@ impl GrandfatheredLangTag {
     ghost use Rattle.langtag.specs.Order.{TagsCompareByIndex};
     ghost use Rattle.langtag.specs.Registered.{index_of, language_of, IsGrandfatheredAt, IsGrandfathered};
 
-    /// The grandfathered tag with these bytes, in any case.
+    /// The grandfathered tag with these bytes, in any case. Its contract also has the laws that no bytes are alike two
+    /// of them, that they compare as their indices do, and that [`GRANDFATHERED`] has each at its index.
     ///
     /// # Errors
     ///

@@ -125,7 +125,8 @@ impl<'a> LangTag<'a> {
         self.text == Caseless(other)
     }
 
-    /// The kind of the tag. The regular grandfathered tags are normal.
+    /// The kind of the tag. The regular grandfathered tags are normal. The contract also says that kinds compare as they
+    /// are declared.
     pub fn kind(&self) -> Kind
         ensures kind { IsOfKind (lang_tag_text self.now) result }
         ensures by_index { KindsCompareByIndex }

@@ -1,5 +1,18 @@
 //! Language tags, by RFC 5646 section 2.1: parsed, taken apart, compared without regard to case, and edited.
 //!
+//! A [`LangTag`] is a tag of any kind: a normal one, one for private use as a whole, or a grandfathered one:
+//!
+//! ```
+//! use langtag::{Kind, LangTag};
+//!
+//! let tag = LangTag::new("zh-Hant-TW-x-mine")?;
+//! tag.kind();                                 // Kind::Normal
+//! tag.script()?.as_str();                     // "Hant"
+//! tag.eq_str("ZH-hant-tw-X-mine");            // true
+//! LangTag::new("I-Klingon")?.as_grandfathered()?.as_str(); // "i-klingon"
+//! LangTag::new("zh_Hant");                    // Err, with the text
+//! ```
+//!
 //! A [`NormalLangTag`] is a tag made of parts. It keeps where they end, so that each is had by a cut:
 //!
 //! ```
