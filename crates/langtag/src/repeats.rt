@@ -20,8 +20,8 @@ impl<'a> NormalLangTag<'a> {
 
     /// The first variant that is equal, but for case, to an earlier one: the second `1996` of `de-1996-1996`.
     ///
-    /// Such a tag is well formed, and is not valid (RFC 5646 section 2.2.5). Each variant is compared to those before it,
-    /// since no memory is taken.
+    /// Such a tag is well formed, and is not valid (RFC 5646 section 2.2.5). No memory is taken: each variant is compared
+    /// to those before it, so the time grows with the square of their number.
     pub fn repeated_variant(&self) -> Option<Variant<'a>>
         ensures repeated { EachRecord (normal_lang_tag_text self.now) (λ r. option_map variant_text result ≡ repeat are_alike r.variants) }
         ensures first { (variants : List (List ℕ)) → IsFirstRepeat are_alike variants (repeat are_alike variants) }
