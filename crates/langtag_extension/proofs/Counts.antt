@@ -18,7 +18,7 @@ length-groups : (ss : List (List ℕ)) → length (groups ss) ≤ length ss
 length-groups [] = omega arith
 length-groups (s ∷ ss) = omega (arith, length-put_first s (groups ss), length-groups ss)
 
-length-extension_texts : (text : List ℕ) → length (extension_texts text) ≤ length text + 1
+pub length-extension_texts : (text : List ℕ) → length (extension_texts text) ≤ length text + 1
 length-extension_texts text = omega (arith, length-map (groups (subtags text)) join, length-groups (subtags text), length-subtags text)
 
 -- how many subtags and how many extensions a text has at most
