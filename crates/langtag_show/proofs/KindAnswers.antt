@@ -1,6 +1,6 @@
 -- The answer to a line, by its kind, as the code puts it together.
-use Rattle.std.proofs.Common.{◌≡◌, ◌∙◌, ℕ, ◌<◌, Bool, true, false, Some, List, [], ◌++◌, length, map, take, drop, get_or, slice_get, refl, sym, ap, append_assoc, append-nil, subst}
-use Rattle.std.specs.Prelude.{codes, slice_index_or}
+use Rattle.std.proofs.Common.{◌≡◌, ◌∙◌, ℕ, ◌<◌, Bool, true, false, Some, List, [], ◌++◌, length, map, drop, get_or, slice_get, refl, sym, ap, append_assoc, append-nil, subst}
+use Rattle.std.specs.Prelude.{codes}
 use Rattle.std.proofs.lemmas.List.{get_or_append_left}
 use Rattle.std.proofs.lemmas.Option.{get_or_from_slice_get, slice_get_within}
 use Rattle.langtag_scan.specs.Grandfathered.{grandfathered_tags, irregular_texts}

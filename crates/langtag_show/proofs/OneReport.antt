@@ -3,7 +3,7 @@ use Rattle.std.proofs.Common.{◌≡◌, ◌∙◌, ℕ, Some, List, ◌++◌, s
 use Rattle.std.specs.Prelude.{codes}
 use Rattle.langtag_scan.specs.Grandfathered.{irregular_texts}
 use Rattle.langtag_scan.specs.Record.{Record, Spells}
-use Rattle.langtag_scan.specs.Tag.{IsNormal, IsIrregular, IsIrregularAt}
+use Rattle.langtag_scan.specs.Tag.{IsIrregular, IsIrregularAt}
 use Rattle.langtag_scan.proofs.IrregularNames.{irregular_once}
 use Rattle.langtag_scan.proofs.NormalTexts.{spelled_once}
 use Rattle.langtag_scan.proofs.OneKind.{normal_no_private, normal_no_irregular, private_no_irregular}

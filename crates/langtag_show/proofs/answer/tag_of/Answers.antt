@@ -1,4 +1,4 @@
-use Rattle.std.proofs.Common.{◌≡◌, ◌∙◌, Option, None, Result, Ok, Err, sym}
+use Rattle.std.proofs.Common.{◌≡◌, ◌∙◌, None, Result, Ok, Err, sym}
 use Rattle.std.specs.Prelude.{MatchResult}
 use Rattle.std.specs.Result.{result_ok}
 use Rattle.langtag_scan.proofs.Ascii.{IsUtf8-tag}

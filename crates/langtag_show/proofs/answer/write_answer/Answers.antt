@@ -4,8 +4,6 @@ use Rattle.langtag_show.specs.Report.{refused}
 use Rattle.langtag_show.proofs.KindAnswers.{answer_same, answer_private, answer_irregular}
 use Rattle.langtag_show.proofs.Written.{Answers-one}
 use Rattle.langtag_show.proofs.answer.write_answer.Goals as goal
-use Rattle.langtag_scan.specs.Tag.{IsIrregularAt}
-use Rattle.std.proofs.Common.{subst}
 
 pub returns-in_default-clause-ok : goal.returns-in_default-clause-ok
 returns-in_default-clause-ok g c =
