@@ -6,28 +6,28 @@
 //! use langtag::{Kind, LangTag};
 //!
 //! let tag = LangTag::new("zh-Hant-TW-x-mine")?;
-//! tag.kind();                                 // Kind::Normal
-//! tag.script()?.as_str();                     // "Hant"
-//! tag.eq_str("ZH-hant-tw-X-mine");            // true
-//! LangTag::new("I-Klingon")?.as_grandfathered()?.as_str(); // "i-klingon"
-//! LangTag::new("zh_Hant");                    // Err, with the text
+//! tag.kind();                                       // Kind::Normal
+//! tag.script().map(|script| script.as_str());       // Some("Hant")
+//! tag.eq_str("ZH-hant-tw-X-mine");                  // true
+//! LangTag::new("I-Klingon")?.is_grandfathered();    // true
+//! LangTag::new("zh_Hant").err().map(|error| error.0); // Some("zh_Hant")
 //! ```
 //!
 //! A [`NormalLangTag`] is a tag made of parts. It keeps where they end, so that each is had by a cut:
 //!
 //! ```
-//! use langtag::{NormalLangTag, NormalLangTagBuf, Script};
+//! use langtag::{NormalLangTag, Script};
 //!
 //! let tag = NormalLangTag::new("sl-IT-rozaj-x-mine")?;
-//! tag.language().as_str();                    // "sl"
-//! tag.region()?.as_str();                     // "IT"
-//! tag.variants().iter().next()?.as_str();     // "rozaj"
-//! tag.script();                               // None
-//! tag.eq_str("SL-it-ROZAJ-x-mine");           // true
+//! tag.language().as_str();                          // "sl"
+//! tag.region().map(|region| region.as_str());       // Some("IT")
+//! tag.variants().first().map(|first| first.as_str()); // Some("rozaj")
+//! tag.script();                                     // None
+//! tag.eq_str("SL-it-ROZAJ-x-mine");                 // true
 //!
 //! let mut owned = tag.try_to_owned(alloc)?;
 //! owned.set_script(alloc, Some(Script::new("Latn")?))?;
-//! owned.as_str();                             // "sl-Latn-IT-rozaj-x-mine"
+//! owned.as_str();                                   // "sl-Latn-IT-rozaj-x-mine"
 //! ```
 //!
 //! Each part has a type of its own, lent and owned, as [`Script`] and [`ScriptBuf`]. All of them are reached from this

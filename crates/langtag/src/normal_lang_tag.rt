@@ -110,7 +110,7 @@ impl<'a> NormalLangTag<'a> {
     }
 
     /// Whether another text, of any form, is equal but for the case of ASCII letters. Then it is a normal tag too, with
-    /// alike parts at the same places.
+    /// alike parts at the same offsets.
     pub fn eq_str(&self, other: &str) -> bool
         ensures test { result ≡ are_alike (normal_lang_tag_text self.now) other.now }
         ensures alike_parts { IsTrue result → EachRecord (normal_lang_tag_text self.now) (λ r. IsSpelledAlike r other.now) }

@@ -3,46 +3,51 @@ use crate::look_up;
 use langtag::LangTag;
 use std::test::Fail;
 
+/// The tags at hand.
+const TAGS: [&str; 8] = [
+    "zh",
+    "zh-Hant",
+    "de-DE",
+    "x-a",
+    "i-klingon",
+    "fr-x-b",
+    "fr",
+    "ZH-hant",
+];
+
+/// A range, and the tag that is chosen for it.
+const CASES: [(&str, &str); 20] = [
+    // The example of the section.
+    ("zh-Hant-CN-x-private1-private2", "zh-Hant"),
+    ("zh-HANT", "zh-Hant"),
+    ("zh-Hans", "zh"),
+    ("de-DE-1996", "de-DE"),
+    ("de", "en"),
+    ("de-CH", "en"),
+    ("X-A", "x-a"),
+    ("x-a-b", "en"),
+    ("x-b", "en"),
+    ("I-Klingon-b", "i-klingon"),
+    ("fr-x-B", "fr-x-b"),
+    ("fr-x-b-c", "fr"),
+    ("fr-x-c", "fr"),
+    ("fr-a-b-cc", "fr"),
+    ("*", "en"),
+    ("", "en"),
+    ("-", "en"),
+    ("fr-", "fr"),
+    ("fr--", "fr"),
+    ("fr-é", "fr"),
+];
+
 #[test]
 fn ranges_are_shortened_from_their_ends(rt: HostRuntime) -> Result<(), Fail> {
     let default = LangTag::new("en").ok().ok_or("refused")?;
     let mut tags = Vec::new(rt.alloc());
-    for text in [
-        "zh",
-        "zh-Hant",
-        "de-DE",
-        "x-a",
-        "i-klingon",
-        "fr-x-b",
-        "fr",
-        "ZH-hant",
-    ] {
+    for text in TAGS {
         tags.push(LangTag::new(text).ok().ok_or("refused")?)?;
     }
-    let cases = [
-        // The example of the section.
-        ("zh-Hant-CN-x-private1-private2", "zh-Hant"),
-        ("zh-HANT", "zh-Hant"),
-        ("zh-Hans", "zh"),
-        ("de-DE-1996", "de-DE"),
-        ("de", "en"),
-        ("de-CH", "en"),
-        ("X-A", "x-a"),
-        ("x-a-b", "en"),
-        ("x-b", "en"),
-        ("I-Klingon-b", "i-klingon"),
-        ("fr-x-B", "fr-x-b"),
-        ("fr-x-b-c", "fr"),
-        ("fr-x-c", "fr"),
-        ("fr-a-b-cc", "fr"),
-        ("*", "en"),
-        ("", "en"),
-        ("-", "en"),
-        ("fr-", "fr"),
-        ("fr--", "fr"),
-        ("fr-é", "fr"),
-    ];
-    for (range, chosen) in cases {
+    for (range, chosen) in CASES {
         assert_eq!(rt;
             look_up(&[range], &tags, default).as_str(),
             chosen,
