@@ -13,11 +13,14 @@ pub use Rattle.langtag_scan.specs.AlikeRecords
 pub use Rattle.langtag_scan.specs.Case
 pub use Rattle.langtag_scan.specs.Class
 pub use Rattle.langtag_scan.specs.Ends
+pub use Rattle.langtag_scan.specs.Findings
+pub use Rattle.langtag_scan.specs.Found
 pub use Rattle.langtag_scan.specs.Grandfathered
 pub use Rattle.langtag_scan.specs.Parts
 pub use Rattle.langtag_scan.specs.Record
 pub use Rattle.langtag_scan.specs.Subtags
 pub use Rattle.langtag_scan.specs.Tag
+pub use Rattle.langtag_scan.specs.Viable
 pub use Rattle.langtag_language.specs.Language
 pub use Rattle.langtag_language.specs.Text as LanguageText
 pub use Rattle.langtag_place.specs.Text as PlaceText

@@ -2,7 +2,7 @@
 ghost use Rattle.std.specs.Prelude.{◌≡◌, IsTrue, false};
 ghost use Rattle.langtag_scan.specs.Tag.{IsTag};
 
-use langtag_scan::{Found, Metered, recognise};
+use langtag_scan::{Found, Metered, MeteredBytes, recognise};
 
 /// The ends of the parts of a normal tag, in bytes from its start, as `langtag_scan::Ends` has them.
 #[repr(C)]
@@ -22,7 +22,7 @@ pub extern "C" fn langtag_bench_recognise(bytes: &[u8], ends: &mut PartEnds) -> 
     ensures tag { IsTrue result → IsTag bytes.now }
     ensures no_tag { result ≡ false → IsTag bytes.now → ⊥ }
 {
-    match recognise(&mut Metered::from_bytes(bytes)) {
+    match recognise(&mut MeteredBytes::new(bytes)) {
         Some(found) => {
             keep(&found, ends);
             true

@@ -13,7 +13,8 @@
 //! source.reads();                                        // 4: no tag begins with `i-no`
 //! ```
 //!
-//! `Caseless` and `Subtags` serve the crates of this workspace that build the text types.
+//! `Caseless` and `Subtags` serve the crates of this workspace that build the text types, and `MeteredBytes` its tests
+//! and its benchmark.
 #![tactic(auto)]
 
 mod case;
@@ -23,6 +24,8 @@ mod ends;
 mod found;
 mod irregular;
 mod machine;
+mod metered;
+mod metered_bytes;
 mod recogniser;
 mod segment;
 mod shape;
@@ -40,7 +43,9 @@ pub use class::{
 };
 pub use ends::Ends;
 pub use found::Found;
+pub use metered::Metered;
+pub use metered_bytes::MeteredBytes;
 pub use recogniser::{recognise, recognise_normal};
 pub use segment::{segment_end, segment_start};
-pub use source::{ByteSource, Metered};
+pub use source::ByteSource;
 pub use subtags::Subtags;

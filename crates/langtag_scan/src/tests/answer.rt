@@ -1,5 +1,5 @@
 //! What a recogniser answers, in a form that compares.
-use crate::{ByteSource, Ends, Found, Metered, recognise, recognise_normal};
+use crate::{ByteSource, Ends, Found, Metered, MeteredBytes, recognise, recognise_normal};
 use std::process::Abort;
 
 /// The answer of a recogniser.
@@ -59,7 +59,7 @@ pub(crate) fn of_text(rt: &impl Abort, text: &str) -> (Answer, usize) {
 
 /// The answer of `recognise` on bytes, and how many of them it read, of which the last was the furthest.
 pub(crate) fn of_bytes(rt: &impl Abort, bytes: &[u8]) -> (Answer, usize) {
-    let mut source = Metered::from_bytes(bytes);
+    let mut source = MeteredBytes::new(bytes);
     let found = recognise(&mut source);
     assert_eq!(rt; source.reads(), source.reach() as u128, "reading {bytes:?}");
     (Answer::of(found), source.reach())

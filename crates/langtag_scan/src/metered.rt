@@ -1,0 +1,48 @@
+//! A text, with a count of the reads.
+ghost use Rattle.std.specs.Prelude.{◌≡◌};
+
+use crate::metered_bytes::MeteredBytes;
+use crate::source::ByteSource;
+
+/// The bytes of a text, with a count of the reads. There is no other way to them.
+#[derive(Drop)]
+pub struct Metered<'a> {
+    source: MeteredBytes<'a>,
+}
+
+impl<'a> Metered<'a> {
+    /// The bytes of a text, of which none was read yet.
+    pub fn new(text: &'a str) -> Self
+        ensures bytes { ⟦<Metered<'a> as ByteSource>⟧.bytes result ≡ text.now }
+        ensures reads { ⟦<Metered<'a> as ByteSource>⟧.reads result ≡ 0 }
+        ensures reach { ⟦<Metered<'a> as ByteSource>⟧.reach result ≡ 0 }
+    {
+        Metered {
+            source: MeteredBytes::new(text.as_bytes()),
+        }
+    }
+}
+
+impl<'a> ByteSource for Metered<'a> {
+    ghost bytes = { λ s. s.source.bytes.now };
+
+    ghost reads = { λ s. s.source.reads };
+
+    ghost reach = { λ s. s.source.reach };
+
+    fn len(&self) -> usize {
+        self.source.len()
+    }
+
+    fn reads(&self) -> u128 {
+        self.source.reads()
+    }
+
+    fn reach(&self) -> usize {
+        self.source.reach()
+    }
+
+    fn byte(&mut self, index: usize) -> u8 {
+        self.source.byte(index)
+    }
+}
