@@ -30,7 +30,9 @@ pub record IsAtIndex (text : List ℕ) (index : ℕ) : Type 0 where
   pub within : index < 26
   pub is : IsIrregularAt index text
 
-pub irregular_kept : (text : List ℕ) (found : Finding) (index : ℕ) → ∥ IsFoundOf text found ∥₁ → Some index ≡ irregular_index found → IsAtIndex text index
+pub irregular_kept :
+    (text : List ℕ) (found : Finding) (index : ℕ) → ∥ IsFoundOf text found ∥₁ → Some index ≡ irregular_index found →
+    IsAtIndex text index
 unfolding IsIrregularAt
 irregular_kept text (normal ends) index merely at = absurd cc
 irregular_kept text private_use index merely at = absurd cc
@@ -41,7 +43,9 @@ irregular_kept text (irregular k) index merely at =
     rw same (record { within = omega (arith, here.0); is = kept })
 
 -- a tag that is neither normal nor irregular is private
-pub private_otherwise : (text : List ℕ) (found : Finding) → ∥ IsFoundOf text found ∥₁ → (IsNormal text → ⊥) → None ≡ irregular_index found → IsPrivate text
+pub private_otherwise :
+    (text : List ℕ) (found : Finding) → ∥ IsFoundOf text found ∥₁ → (IsNormal text → ⊥) → None ≡ irregular_index found →
+    IsPrivate text
 private_otherwise text (normal ends) merely other none = absurd (other ((found_kept text (normal ends) merely).normal.0 refl))
 private_otherwise text private_use merely other none = found_had text private_use merely
 private_otherwise text (irregular k) merely other none = absurd cc

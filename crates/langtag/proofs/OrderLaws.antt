@@ -24,7 +24,9 @@ equal : (a b : GrandfatheredLangTag) → tag_equality.eq-value.it a b ≡ (index
 equal a b = ap (λ n. n == tag_of the_type b) (tag_of-index a) ∙ ap (λ n. index_of a == n) (tag_of-index b)
 
 -- what two functions answer alike along `GRANDFATHERED` they answer alike
-each_tag : {Y : Type 0} (f g : GrandfatheredLangTag → Y) (d : Y) → map f GRANDFATHERED ≡ map g GRANDFATHERED → (tag : GrandfatheredLangTag) → f tag ≡ g tag
+each_tag :
+    {Y : Type 0} (f g : GrandfatheredLangTag → Y) (d : Y) → map f GRANDFATHERED ≡ map g GRANDFATHERED →
+    (tag : GrandfatheredLangTag) → f tag ≡ g tag
 each_tag f g d same tag =
     let k : ℕ = index_of tag in
     let within : k < 26 = slice_get_within GRANDFATHERED k tag (listed tag) in
@@ -35,7 +37,9 @@ each_tag f g d same tag =
     ∙ get_or-map g GRANDFATHERED k EnGbOed d within
     ∙ ap g here
 
-ordered_along : (a : GrandfatheredLangTag) → map (λ b. tag_order.cmp-value.it a b) GRANDFATHERED ≡ map (λ b. nat_cmp (index_of a) (index_of b)) GRANDFATHERED
+ordered_along :
+    (a : GrandfatheredLangTag) →
+    map (λ b. tag_order.cmp-value.it a b) GRANDFATHERED ≡ map (λ b. nat_cmp (index_of a) (index_of b)) GRANDFATHERED
 ordered_along EnGbOed = refl
 ordered_along a = refl
 

@@ -26,7 +26,9 @@ IsVariants-cut text ends (r, spells, at) =
     let same = variants_found text ends (r, spells, at) r spells in
     rw same (r.variants, record { members = spells.0.variants; joined = refl })
 
-pub IsExtensionsText-cut : (text : List ℕ) (ends : Ends) → HasEnds text ends → IsExtensionsText (unwrap_or (text_between text ends.variants ends.extensions) [])
+pub IsExtensionsText-cut :
+    (text : List ℕ) (ends : Ends) → HasEnds text ends →
+    IsExtensionsText (unwrap_or (text_between text ends.variants ends.extensions) [])
 unfolding HasEnds
 IsExtensionsText-cut text ends (r, spells, at) =
     let same = extensions_found text ends (r, spells, at) r spells in
@@ -36,22 +38,30 @@ IsExtensionsText-cut text ends (r, spells, at) =
 of_some : (P : List ℕ → Type 0) (part : List ℕ) (o : Option (List ℕ)) → Some part ≡ o → IfSome o P → P part
 of_some P part o same fact = subst (λ x. IfSome x P) (sym same) fact
 
-pub is_script-cut : (text : List ℕ) (ends : Ends) (part : List ℕ) → HasEnds text ends → Some part ≡ text_between text ends.language ends.script → IsTrue (is_script part)
+pub is_script-cut :
+    (text : List ℕ) (ends : Ends) (part : List ℕ) → HasEnds text ends → Some part ≡ text_between text ends.language ends.script →
+    IsTrue (is_script part)
 unfolding HasEnds
 is_script-cut text ends part (r, spells, at) cut =
     of_some (λ s. IsTrue (is_script s)) part r.script (cut ∙ script_found text ends (r, spells, at) r spells) spells.0.script
 
-pub is_region-cut : (text : List ℕ) (ends : Ends) (part : List ℕ) → HasEnds text ends → Some part ≡ text_between text ends.script ends.region → IsTrue (is_region part)
+pub is_region-cut :
+    (text : List ℕ) (ends : Ends) (part : List ℕ) → HasEnds text ends → Some part ≡ text_between text ends.script ends.region →
+    IsTrue (is_region part)
 unfolding HasEnds
 is_region-cut text ends part (r, spells, at) cut =
     of_some (λ s. IsTrue (is_region s)) part r.region (cut ∙ region_found text ends (r, spells, at) r spells) spells.0.region
 
-private_spelled : (part : List ℕ) (o : Option PrivateUse) → Some part ≡ option_map (λ p. join (private_use_flat p)) o → IfSome o IsPrivateUse → IsPrivate part
+private_spelled :
+    (part : List ℕ) (o : Option PrivateUse) → Some part ≡ option_map (λ p. join (private_use_flat p)) o → IfSome o IsPrivateUse →
+    IsPrivate part
 unfolding IsPrivate
 private_spelled part None same fits = absurd cc
 private_spelled part (Some p) same fits = (p, fits, cc)
 
-pub IsPrivate-cut : (text : List ℕ) (ends : Ends) (part : List ℕ) → HasEnds text ends → Some part ≡ text_between text ends.extensions ends.whole → IsPrivate part
+pub IsPrivate-cut :
+    (text : List ℕ) (ends : Ends) (part : List ℕ) → HasEnds text ends → Some part ≡ text_between text ends.extensions ends.whole →
+    IsPrivate part
 unfolding HasEnds
 IsPrivate-cut text ends part (r, spells, at) cut =
     private_spelled part r.private_use (cut ∙ private_use_found text ends (r, spells, at) r spells) spells.0.private_use

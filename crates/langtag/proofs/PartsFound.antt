@@ -31,11 +31,17 @@ script_found text ends h r spells = rw (ends_each text ends h r spells, ← spel
 pub region_found : (text : List ℕ) (ends : Ends) → HasEnds text ends → EachRecord text (λ r. text_between text ends.script ends.region ≡ r.region)
 region_found text ends h r spells = rw (ends_each text ends h r spells, ← spells.1) (parts_stand r).region
 
-pub variants_found : (text : List ℕ) (ends : Ends) → HasEnds text ends → EachRecord text (λ r. unwrap_or (text_between text ends.region ends.variants) [] ≡ variants_part r)
+pub variants_found :
+    (text : List ℕ) (ends : Ends) → HasEnds text ends →
+    EachRecord text (λ r. unwrap_or (text_between text ends.region ends.variants) [] ≡ variants_part r)
 variants_found text ends h r spells = rw (ends_each text ends h r spells, ← spells.1) (parts_stand r).variants
 
-pub extensions_found : (text : List ℕ) (ends : Ends) → HasEnds text ends → EachRecord text (λ r. unwrap_or (text_between text ends.variants ends.extensions) [] ≡ extensions_part r)
+pub extensions_found :
+    (text : List ℕ) (ends : Ends) → HasEnds text ends →
+    EachRecord text (λ r. unwrap_or (text_between text ends.variants ends.extensions) [] ≡ extensions_part r)
 extensions_found text ends h r spells = rw (ends_each text ends h r spells, ← spells.1) (parts_stand r).extensions
 
-pub private_use_found : (text : List ℕ) (ends : Ends) → HasEnds text ends → EachRecord text (λ r. text_between text ends.extensions ends.whole ≡ private_use_part r)
+pub private_use_found :
+    (text : List ℕ) (ends : Ends) → HasEnds text ends →
+    EachRecord text (λ r. text_between text ends.extensions ends.whole ≡ private_use_part r)
 private_use_found text ends h r spells = rw (ends_each text ends h r spells, ← spells.1) (parts_stand r).private_use

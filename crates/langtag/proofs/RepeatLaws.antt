@@ -34,20 +34,27 @@ IsAt-drop xs n x rest left =
 
 module _ {A : Type 0} (alike : A → A → Bool) where
   -- one more member: it is the one, or is one of those that were seen
-  pub repeat_after-turn : (xs : List A) (n : ℕ) (x : A) (rest : List A) → IsAt xs n x rest → repeat_after alike (take n xs) (drop n xs) ≡ cond (list_any (alike x) (take n xs)) (Some x) (repeat_after alike (take (n + 1) xs) (drop (n + 1) xs))
+  pub repeat_after-turn :
+      (xs : List A) (n : ℕ) (x : A) (rest : List A) → IsAt xs n x rest →
+      repeat_after alike (take n xs) (drop n xs) ≡ cond (list_any (alike x) (take n xs)) (Some x) (repeat_after alike (take (n + 1) xs) (drop (n + 1) xs))
   repeat_after-turn xs n x rest at =
       at_drop_more (repeat_after alike (take n xs)) xs n x at.below
       ∙ ap (λ z. repeat_after alike (take n xs) (z ∷ drop (n + 1) xs)) (sym at.member)
       ∙ ap (λ seen. cond (list_any (alike x) (take n xs)) (Some x) (repeat_after alike seen (drop (n + 1) xs))) (ap (λ z. take n xs ++ z ∷ []) at.member ∙ sym (take_more xs n x at.below))
 
   -- the member is alike an earlier one
-  pub repeat-found : (xs : List A) (n : ℕ) (x : A) (rest : List A) → repeat alike xs ≡ repeat_after alike (take n xs) (drop n xs) → drop n xs ≡ x ∷ rest → list_any (alike x) (take n xs) ≡ true → repeat alike xs ≡ Some x
+  pub repeat-found :
+      (xs : List A) (n : ℕ) (x : A) (rest : List A) → repeat alike xs ≡ repeat_after alike (take n xs) (drop n xs) →
+      drop n xs ≡ x ∷ rest → list_any (alike x) (take n xs) ≡ true → repeat alike xs ≡ Some x
   repeat-found xs n x rest so_far left seen =
       so_far ∙ repeat_after-turn xs n x rest (IsAt-drop xs n x rest left)
       ∙ ap (λ b. cond b (Some x) (repeat_after alike (take (n + 1) xs) (drop (n + 1) xs))) seen
 
   -- it is not, and the walk goes on
-  pub repeat-later : (xs : List A) (n : ℕ) (x : A) (rest : List A) → repeat alike xs ≡ repeat_after alike (take n xs) (drop n xs) → drop n xs ≡ x ∷ rest → list_any (alike x) (take n xs) ≡ false → repeat alike xs ≡ repeat_after alike (take (n + 1) xs) (drop (n + 1) xs)
+  pub repeat-later :
+      (xs : List A) (n : ℕ) (x : A) (rest : List A) → repeat alike xs ≡ repeat_after alike (take n xs) (drop n xs) →
+      drop n xs ≡ x ∷ rest → list_any (alike x) (take n xs) ≡ false →
+      repeat alike xs ≡ repeat_after alike (take (n + 1) xs) (drop (n + 1) xs)
   repeat-later xs n x rest so_far left new =
       so_far ∙ repeat_after-turn xs n x rest (IsAt-drop xs n x rest left)
       ∙ ap (λ b. cond b (Some x) (repeat_after alike (take (n + 1) xs) (drop (n + 1) xs))) new
@@ -58,7 +65,9 @@ module _ {A : Type 0} (alike : A → A → Bool) where
 
   -- ---- the law of `repeat`
 
-  HasNoRepeat-push : (seen : List A) (x : A) → AllPairs (λ y z. alike z y ≡ false) seen → list_any (alike x) seen ≡ false → AllPairs (λ y z. alike z y ≡ false) (seen ++ x ∷ [])
+  HasNoRepeat-push :
+      (seen : List A) (x : A) → AllPairs (λ y z. alike z y ≡ false) seen → list_any (alike x) seen ≡ false →
+      AllPairs (λ y z. alike z y ≡ false) (seen ++ x ∷ [])
   HasNoRepeat-push seen x none new =
       all_pairs_push (λ y z. alike z y ≡ false) seen x none (λ k d inside. false_from_ne_true (alike x (get_or seen k d)) (λ yes. let seen_it = list_any_at (alike x) seen k d inside yes in absurd cc))
 
@@ -67,7 +76,10 @@ module _ {A : Type 0} (alike : A → A → Bool) where
   repeat_after-first (x ∷ xs) seen none =
       by_test (list_any (alike x) seen) refl (λ new. repeat_after-first xs (seen ++ x ∷ []) (HasNoRepeat-push seen x none new))
     where
-      by_test : (t : Bool) → list_any (alike x) seen ≡ t → (list_any (alike x) seen ≡ false → IsFirstRepeat alike ((seen ++ x ∷ []) ++ xs) (repeat_after alike (seen ++ x ∷ []) xs)) → IsFirstRepeat alike (seen ++ x ∷ xs) (cond t (Some x) (repeat_after alike (seen ++ x ∷ []) xs))
+      by_test :
+          (t : Bool) → list_any (alike x) seen ≡ t →
+          (list_any (alike x) seen ≡ false → IsFirstRepeat alike ((seen ++ x ∷ []) ++ xs) (repeat_after alike (seen ++ x ∷ []) xs)) →
+          IsFirstRepeat alike (seen ++ x ∷ xs) (cond t (Some x) (repeat_after alike (seen ++ x ∷ []) xs))
       by_test true is later = (seen, xs, refl, none, Any-from_list_any (alike x) seen is)
       by_test false is later = subst (λ all. IsFirstRepeat alike all (repeat_after alike (seen ++ x ∷ []) xs)) (append_assoc seen (x ∷ []) xs) (later is)
 
@@ -90,7 +102,9 @@ opening_bytes-spellings [] = refl
 opening_bytes-spellings (e ∷ es) = ap (λ b. b ∷ opening_bytes (map extension_spelling es)) (opening_byte-spelling e) ∙ ap (λ bs. e.singleton ∷ bs) (opening_bytes-spellings es)
 
 -- what is left of the bytes is that of the texts
-pub opening_bytes-drop : (texts : List (List ℕ)) (n : ℕ) (text : List ℕ) (rest : List (List ℕ)) (b : ℕ) → drop n texts ≡ text ∷ rest → b ≡ slice_index text 0 → drop n (opening_bytes texts) ≡ b ∷ opening_bytes rest
+pub opening_bytes-drop :
+    (texts : List (List ℕ)) (n : ℕ) (text : List ℕ) (rest : List (List ℕ)) (b : ℕ) → drop n texts ≡ text ∷ rest →
+    b ≡ slice_index text 0 → drop n (opening_bytes texts) ≡ b ∷ opening_bytes rest
 opening_bytes-drop texts n text rest b left is =
     drop-map (λ (t : List ℕ). slice_index t 0) n texts ∙ ap opening_bytes left ∙ ap (λ c. c ∷ opening_bytes rest) (sym is)
 
@@ -107,7 +121,9 @@ abbrev pub AreFlagsOf : List Bool → List ℕ → Type 0
 AreFlagsOf flags bytes = (c : ℕ) → c < 128 → get_or flags c false ≡ list_any (λ b. c == fold_byte b) bytes
 
 -- one more byte, and its flag is set
-pub AreFlagsOf-set : (flags : List Bool) (bytes : List ℕ) (n b fold : ℕ) (rest : List ℕ) → IsAt bytes n b rest → length flags ≡ 128 → fold ≡ fold_byte b → fold < 128 → AreFlagsOf flags (take n bytes) → AreFlagsOf (set flags fold true) (take (n + 1) bytes)
+pub AreFlagsOf-set :
+    (flags : List Bool) (bytes : List ℕ) (n b fold : ℕ) (rest : List ℕ) → IsAt bytes n b rest → length flags ≡ 128 →
+    fold ≡ fold_byte b → fold < 128 → AreFlagsOf flags (take n bytes) → AreFlagsOf (set flags fold true) (take (n + 1) bytes)
 AreFlagsOf-set flags bytes n b fold rest at all is below before c inside =
     let more = list_any_more (λ a. c == fold_byte a) bytes n b at.below ∙ ap (λ a. list_any (λ a. c == fold_byte a) (take n bytes) || (c == fold_byte a)) (sym at.member) in
     elim (eqb_tells c (fold_byte b)) [

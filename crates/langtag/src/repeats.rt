@@ -34,7 +34,8 @@ impl<'a> NormalLangTag<'a> {
     ///
     /// Such a tag is well formed, and is not valid (RFC 5646 section 2.2.6). No memory is taken.
     pub fn repeated_singleton(&self) -> Option<Singleton>
-        ensures repeated { EachRecord (normal_lang_tag_text self.now) (λ r. option_map singleton_byte result ≡ repeat are_alike_bytes (map (λ e. e.singleton) r.extensions)) }
+        ensures repeated { EachRecord (normal_lang_tag_text self.now) (λ r.
+            option_map singleton_byte result ≡ repeat are_alike_bytes (map (λ e. e.singleton) r.extensions)) }
         ensures first { (singletons : List ℕ) → IsFirstRepeat are_alike_bytes singletons (repeat are_alike_bytes singletons) }
     {
         first_repeated_singleton(self.extensions().iter())

@@ -27,7 +27,9 @@ length-last r start end h =
     omega (arith, size, last, h.order, length-drop (length (take end r) - suffix_len (λ b. not (is_hyphen b)) (take end r)) (take end r))
 
 -- the test that the code makes
-pub end_from_test : (r : List ℕ) (start end : ℕ) → LastSubtag r start end → (end ≡ length r) ⊎ (slice_get r end ≡ Some 45) → (end ≡ length r) ⊎ (end - start ≢ 1) → IsEnd r end
+pub end_from_test :
+    (r : List ℕ) (start end : ℕ) → LastSubtag r start end → (end ≡ length r) ⊎ (slice_get r end ≡ Some 45) →
+    (end ≡ length r) ⊎ (end - start ≢ 1) → IsEnd r end
 end_from_test r start end h (inl whole) test = inl whole
 end_from_test r start end h (inr hyphen) (inl whole) = inl whole
 end_from_test r start end h (inr hyphen) (inr many) = inr (hyphen, ne_eqb (length (after_last is_hyphen (take end r))) 1 (λ one. many (sym (length-last r start end h) ∙ one)))
@@ -53,7 +55,9 @@ none_from_start tags r start end h here longer_none k from is = by_order (cases_
     by_order (inr (inr above)) = longer_none k above is
 
 -- what `segment_start` answers over the bytes of the range
-pub last_subtag : (r bytes : List ℕ) (start end : ℕ) → bytes ≡ r → start ≤ end → end ≤ length r → NoHyphenWithin bytes start end → (0 < start → get_or bytes (start - 1) 0 ≡ 45) → LastSubtag r start end
+pub last_subtag :
+    (r bytes : List ℕ) (start end : ℕ) → bytes ≡ r → start ≤ end → end ≤ length r → NoHyphenWithin bytes start end →
+    (0 < start → get_or bytes (start - 1) 0 ≡ 45) → LastSubtag r start end
 last_subtag r bytes start end same order within free hyphen = record {
   order = order;
   within = within;
@@ -62,7 +66,9 @@ last_subtag r bytes start end same order within free hyphen = record {
 }
 
 -- where the test fails no range ends
-pub no_end : (r : List ℕ) (start end : ℕ) (value : Bool) → LastSubtag r start end → (end ≡ length r → ⊥) → value ≡ not (eqb (end - start) 1) → value ≡ false → IsEnd r end → ⊥
+pub no_end :
+    (r : List ℕ) (start end : ℕ) (value : Bool) → LastSubtag r start end → (end ≡ length r → ⊥) →
+    value ≡ not (eqb (end - start) 1) → value ≡ false → IsEnd r end → ⊥
 no_end r start end value h part is fails = test_from_end r start end h part (eqb-true (end - start) 1 (not-false (eqb (end - start) 1) (sym is ∙ fails)))
 
 pub many : (value : Bool) (n : ℕ) → value ≡ not (eqb n 1) → value ≡ true → n ≢ 1

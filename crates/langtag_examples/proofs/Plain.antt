@@ -131,7 +131,9 @@ no_semicolons padded text (before, after, spaces, more, written) plain =
     ap (list_all is_other) written ∙ list_all-append is_other before (text ++ after) ∙ ap (λ b. list_all is_other before && b) (list_all-append is_other text after)
     ∙ rw (list_all-weaker is_space is_other space_other before spaces, list_all-weaker is_space is_other space_other after more, others) refl
 
-pub no_semicolon : (padded text : List ℕ) → IsPadded padded text → list_all is_plain text ≡ true → (i : ℕ) → i < length padded → get_or padded i 0 ≢ 59
+pub no_semicolon :
+    (padded text : List ℕ) → IsPadded padded text → list_all is_plain text ≡ true → (i : ℕ) → i < length padded →
+    get_or padded i 0 ≢ 59
 no_semicolon padded text pads plain i within here =
     let each = no_semicolons padded text pads plain in
     let none : list_all is_other padded ≡ false = list_all_at is_other padded i 0 within (ap is_other here) in

@@ -16,7 +16,9 @@ IsHyphenFree-each text none = All-from_get_or (λ b. is_hyphen b ≡ false) text
 &&-true true = refl
 &&-true false = refl
 
-pub is_range-alone : (text : List ℕ) → ((i : ℕ) → i < length text → get_or text i 0 ≢ 45) → is_range text ≡ (bytes_eq text (42 ∷ []) || is_first_subtag text)
+pub is_range-alone :
+    (text : List ℕ) → ((i : ℕ) → i < length text → get_or text i 0 ≢ 45) →
+    is_range text ≡ (bytes_eq text (42 ∷ []) || is_first_subtag text)
 is_range-alone text none =
     ap (λ subtags. bytes_eq text (42 ∷ []) || are_range_subtags subtags) (slice_split_none is_hyphen text (IsHyphenFree-each text none))
     ∙ ap (λ first. bytes_eq text (42 ∷ []) || first) (&&-true (is_first_subtag text))
@@ -33,7 +35,9 @@ no_star first others = by_test (bytes_eq (first ++ 45 ∷ others) (42 ∷ [])) r
     by_test true is = absurd (star_apart first others ((bytes_eq-Decides (first ++ 45 ∷ others) (42 ∷ [])).0 is))
     by_test false differs = differs
 
-pub is_range-cut : (text first others : List ℕ) → text ≡ first ++ 45 ∷ others → ((i : ℕ) → i < length first → get_or first i 0 ≢ 45) → is_range text ≡ (is_first_subtag first && list_all is_private_subtag (segments others))
+pub is_range-cut :
+    (text first others : List ℕ) → text ≡ first ++ 45 ∷ others → ((i : ℕ) → i < length first → get_or first i 0 ≢ 45) →
+    is_range text ≡ (is_first_subtag first && list_all is_private_subtag (segments others))
 is_range-cut text first others cut none =
     ap is_range cut
     ∙ ap (λ star. star || are_range_subtags (segments (first ++ 45 ∷ others))) (no_star first others)

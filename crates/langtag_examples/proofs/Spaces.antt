@@ -100,7 +100,9 @@ list_all-reverse p (b ∷ bs) each =
     let k = and_parts (p b) (list_all p bs) each in
     ap (list_all p) (reverse-append (b ∷ []) bs) ∙ list_all-append p (reverse bs) (b ∷ []) ∙ rw (list_all-reverse p bs k.1, k.0) refl
 
-end_once : (ws vs text other : List ℕ) → is_ows ws ≡ true → is_ows vs ≡ true → IsBare (reverse text) → IsBare (reverse other) → text ++ ws ≡ other ++ vs → text ≡ other
+end_once :
+    (ws vs text other : List ℕ) → is_ows ws ≡ true → is_ows vs ≡ true → IsBare (reverse text) → IsBare (reverse other) →
+    text ++ ws ≡ other ++ vs → text ≡ other
 end_once ws vs text other spaces others bare same e =
     let back = start_once (reverse ws) (reverse vs) (reverse text) (reverse other) (list_all-reverse is_space ws spaces) (list_all-reverse is_space vs others) bare same (sym (reverse-append text ws) ∙ ap reverse e ∙ reverse-append other vs) in
     sym (reverse-reverse text) ∙ ap reverse back ∙ reverse-reverse other
@@ -120,7 +122,9 @@ trimmed_padded text mid left ((ns, cuts), full) ((ms, ends), done) =
     let (after, more, last) = end_cut ms mid left ends in
     (before, after, spaces, more, first ∙ ap (λ t. before ++ t) last)
 
-pub trimmed_once : (text mid left inner : List ℕ) → IsTrimStartMatches SpacePrefix text mid → IsTrimEndMatches SpaceSuffix mid left → IsPadded text inner → 0 < length inner → list_all (λ b. not (is_space b)) inner ≡ true → inner ≡ left
+pub trimmed_once :
+    (text mid left inner : List ℕ) → IsTrimStartMatches SpacePrefix text mid → IsTrimEndMatches SpaceSuffix mid left →
+    IsPadded text inner → 0 < length inner → list_all (λ b. not (is_space b)) inner ≡ true → inner ≡ left
 trimmed_once text mid left inner ((ns, cuts), full) ((ms, ends), done) (before, after, spaces, more, padded) some each =
     let (ws, cut, first) = start_cut ns text mid cuts in
     let (vs, rest, last) = end_cut ms mid left ends in

@@ -25,7 +25,9 @@ IsPadded padded text = (before : List ℕ) × (after : List ℕ) × IsTrue (is_o
 
 -- OWS language-range OWS ";" OWS weight OWS
 abbrev pub IsWeighted : List ℕ → List ℕ → ℕ → Type 0
-IsWeighted item range weight = (before : List ℕ) × (after : List ℕ) × (text : List ℕ) × (item ≡ before ++ 59 ∷ after) × IsPadded before range × IsPadded after text × IsWeight text weight
+IsWeighted item range weight =
+    (before : List ℕ) × (after : List ℕ) × (text : List ℕ) × (item ≡ before ++ 59 ∷ after) ×
+    IsPadded before range × IsPadded after text × IsWeight text weight
 
 -- an element, language-range [ weight ], with OWS around it; a range without a weight has the weight 1 (section 12.4.2)
 abbrev pub IsItem : List ℕ → Wanted → Type 0

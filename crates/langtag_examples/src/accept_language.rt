@@ -108,7 +108,8 @@ fn wanted_in(text: &str, weight: u32) -> Option<Wanted<'_>>
 /// The text without the white space around it.
 fn trimmed(text: &str) -> &str
     ensures padded { spec.IsPadded text.now result.now }
-    ensures only { (inner : List ℕ) → spec.IsPadded text.now inner → 0 < length inner → IsTrue (list_all (λ b. not (spec.is_space b)) inner) → inner ≡ result.now }
+    ensures only { (inner : List ℕ) → spec.IsPadded text.now inner → 0 < length inner →
+        IsTrue (list_all (λ b. not (spec.is_space b)) inner) → inner ≡ result.now }
 {
     text.trim_start_matches(SPACES).trim_end_matches(SPACES)
 }

@@ -35,8 +35,10 @@ impl Catalogue {
     ///
     /// No memory could be had. The catalogue is as it was.
     pub fn put(&mut self, tag: LangTagBuf, text: String) -> Result<(), AllocError>
-        ensures put { OnOk result ((other : List ℕ) → IsTrue (are_alike (lang_tag_buf_text tag) other) → text_for self.new other ≡ Some (string_bytes text)) }
-        ensures others { OnOk result ((other : LangTagBuf) → are_alike (lang_tag_buf_text tag) (lang_tag_buf_text other) ≡ false → text_for self.new (lang_tag_buf_text other) ≡ text_for self.old (lang_tag_buf_text other)) }
+        ensures put { OnOk result ((other : List ℕ) → IsTrue (are_alike (lang_tag_buf_text tag) other) →
+            text_for self.new other ≡ Some (string_bytes text)) }
+        ensures others { OnOk result ((other : LangTagBuf) → are_alike (lang_tag_buf_text tag) (lang_tag_buf_text other) ≡ false →
+            text_for self.new (lang_tag_buf_text other) ≡ text_for self.old (lang_tag_buf_text other)) }
         ensures unchanged { OnErr result ((other : List ℕ) → text_for self.new other ≡ text_for self.old other) }
     {
         self.texts.insert(tag, text)?;

@@ -21,7 +21,8 @@ pub fn replace_script(
     alloc: Global,
     script: Option<Script<'_>>,
 ) -> Result<Option<ScriptBuf>, AllocError>
-    ensures set { OnOk result (EachRecord (normal_lang_tag_buf_text tag.old) (λ r. Spells (with_script r (option_map script_text script.entry)) (normal_lang_tag_buf_text tag.new))) }
+    ensures set { OnOk result (EachRecord (normal_lang_tag_buf_text tag.old) (λ r.
+        Spells (with_script r (option_map script_text script.entry)) (normal_lang_tag_buf_text tag.new))) }
     ensures old { IfOk result (λ old. EachRecord (normal_lang_tag_buf_text tag.old) (λ r. option_map script_buf_text old ≡ r.script)) }
     ensures unchanged { OnErr result (tag.new ≡ tag.old) }
 {
@@ -45,9 +46,11 @@ pub fn find_in_scripts<'a>(
     alloc: Global,
     script: Script<'_>,
 ) -> Result<Option<&'a str>, AllocError>
-    ensures found { IfOk result (λ text. EachRecord (normal_lang_tag_buf_text tag.old) (λ r. option_map (λ text. text.now) text ≡ option_or (text_for catalogue.now (spell r)) (text_for catalogue.now (spell (with_script r (Some (script_text script.entry))))))) }
+    ensures found { IfOk result (λ text. EachRecord (normal_lang_tag_buf_text tag.old) (λ r.
+        option_map (λ text. text.now) text ≡ option_or (text_for catalogue.now (spell r)) (text_for catalogue.now (spell (with_script r (Some (script_text script.entry))))))) }
     ensures set_back { OnOk result (normal_lang_tag_buf_text tag.new ≡ normal_lang_tag_buf_text tag.old) }
-    ensures not_lost { OnErr result ((tag.new ≡ tag.old) ⊎ EachRecord (normal_lang_tag_buf_text tag.old) (λ r. Spells (with_script r (Some (script_text script.entry))) (normal_lang_tag_buf_text tag.new))) }
+    ensures not_lost { OnErr result ((tag.new ≡ tag.old) ⊎
+        EachRecord (normal_lang_tag_buf_text tag.old) (λ r. Spells (with_script r (Some (script_text script.entry))) (normal_lang_tag_buf_text tag.new))) }
 {
     if let Some(text) = catalogue.find(alloc, tag.as_str())? {
         return Ok(Some(text));

@@ -8,7 +8,9 @@ use Rattle.langtag_extension.specs.ExtensionTexts.{opens, groups, put_first, gro
 use Rattle.langtag_extension.specs.Spelling.{extension_spelling}
 
 -- the first group begins with the first subtag
-groups-cons : (s : List ℕ) (ss : List (List ℕ)) → (prefix : List (List ℕ)) × (others : List (List (List ℕ))) × (groups (s ∷ ss) ≡ (s ∷ prefix) ∷ others)
+groups-cons :
+    (s : List ℕ) (ss : List (List ℕ)) →
+    (prefix : List (List ℕ)) × (others : List (List (List ℕ))) × (groups (s ∷ ss) ≡ (s ∷ prefix) ∷ others)
 groups-cons s ss = by_groups (groups ss)
   where
     by_groups : (gs : List (List (List ℕ))) → (prefix : List (List ℕ)) × (others : List (List (List ℕ))) × (put_first s gs ≡ (s ∷ prefix) ∷ others)
@@ -20,7 +22,9 @@ groups-cons s ss = by_groups (groups ss)
         ]
 
 -- one more subtag before groups is one more before their texts
-join-put_first : (s x : List ℕ) (prefix : List (List ℕ)) (others : List (List (List ℕ))) → join (map join (put_first s ((x ∷ prefix) ∷ others))) ≡ s ++ 45 ∷ join (map join ((x ∷ prefix) ∷ others))
+join-put_first :
+    (s x : List ℕ) (prefix : List (List ℕ)) (others : List (List (List ℕ))) →
+    join (map join (put_first s ((x ∷ prefix) ∷ others))) ≡ s ++ 45 ∷ join (map join ((x ∷ prefix) ∷ others))
 join-put_first s x prefix others =
     elim (opens (x ∷ prefix)) as (λ b. join (map join (cond b ((s ∷ []) ∷ (x ∷ prefix) ∷ others) ((s ∷ x ∷ prefix) ∷ others))) ≡ s ++ 45 ∷ join (map join ((x ∷ prefix) ∷ others))) [
       | true ↦ refl

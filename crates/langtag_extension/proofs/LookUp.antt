@@ -18,12 +18,16 @@ first_byte-spelling e = by_subtags e.subtags
     by_subtags (s ∷ ss) = refl
 
 -- a choice, after a function
-cond-map : {A B : Type 0} (f : A → B) (b : Bool) (x : A) (o : Option A) (p : Option B) → p ≡ option_map f o → cond b (Some (f x)) p ≡ option_map f (cond b (Some x) o)
+cond-map :
+    {A B : Type 0} (f : A → B) (b : Bool) (x : A) (o : Option A) (p : Option B) → p ≡ option_map f o →
+    cond b (Some (f x)) p ≡ option_map f (cond b (Some x) o)
 cond-map f true x o p same = refl
 cond-map f false x o p same = same
 
 -- the first text that opens with the byte is that of the first such extension
-pub find_spellings : (b : ℕ) (es : List Extension) → find (opens_alike b) (map extension_spelling es) ≡ option_map extension_spelling (find_extension b es)
+pub find_spellings :
+    (b : ℕ) (es : List Extension) →
+    find (opens_alike b) (map extension_spelling es) ≡ option_map extension_spelling (find_extension b es)
 find_spellings b [] = refl
 find_spellings b (e ∷ es) =
     ap (λ c. cond (fold_byte c == fold_byte b) (Some (extension_spelling e)) (find (opens_alike b) (map extension_spelling es))) (first_byte-spelling e)
@@ -39,10 +43,15 @@ extension_found b (x ∷ es) fits e found =
     ]
 
 -- the subtags of the extension that is found
-pub subtags_found : (b : ℕ) (es : List Extension) → AllByRecursion IsExtension es → (text : List ℕ) (left : List (List ℕ)) → Some text ≡ option_map extension_spelling (find_extension b es) → ((e : Extension) → SpellsExtension e text → left ≡ e.subtags) → left ≡ option_map_or (λ e. e.subtags) (find_extension b es) []
+pub subtags_found :
+    (b : ℕ) (es : List Extension) → AllByRecursion IsExtension es → (text : List ℕ) (left : List (List ℕ)) →
+    Some text ≡ option_map extension_spelling (find_extension b es) →
+    ((e : Extension) → SpellsExtension e text → left ≡ e.subtags) → left ≡ option_map_or (λ e. e.subtags) (find_extension b es) []
 subtags_found b es fits text left found spelled = by_found (find_extension b es) refl found
   where
-    by_found : (o : Option Extension) → find_extension b es ≡ o → Some text ≡ option_map extension_spelling o → left ≡ option_map_or (λ e. e.subtags) o []
+    by_found :
+        (o : Option Extension) → find_extension b es ≡ o → Some text ≡ option_map extension_spelling o →
+        left ≡ option_map_or (λ e. e.subtags) o []
     by_found None is none = absurd cc
     by_found (Some e) is same = spelled e (record { member = extension_found b es fits e is; joined = cc })
 

@@ -42,7 +42,9 @@ subtags_spelled e text spells =
     ap subtags (sym spells.joined) ∙ subtags-joined (extension_flat e) (subtags-flat e spells.member)
 
 -- the test passes a singleton and subtags
-is_extension_list-flat : (b : ℕ) (ss : List (List ℕ)) → is_singleton b ≡ true → 1 ≤ length ss → are_extension_subtags ss ≡ true → is_extension_list ((b ∷ []) ∷ ss) ≡ true
+is_extension_list-flat :
+    (b : ℕ) (ss : List (List ℕ)) → is_singleton b ≡ true → 1 ≤ length ss → are_extension_subtags ss ≡ true →
+    is_extension_list ((b ∷ []) ∷ ss) ≡ true
 is_extension_list-flat b [] one some pass = absurd (omega arith)
 is_extension_list-flat b (s ∷ ss) one some pass = rw one pass
 
@@ -124,7 +126,9 @@ is_extensions_text-from_rule text (es, spells) =
     ap are_extension_texts (extension_texts_spelled es text spells) ∙ are_extension_texts_spelled es spells.members
 
 -- the extensions that the texts are
-extensions_of_texts : (ts : List (List ℕ)) → are_extension_texts ts ≡ true → (es : List Extension) × AllByRecursion IsExtension es × (map extension_spelling es ≡ ts)
+extensions_of_texts :
+    (ts : List (List ℕ)) → are_extension_texts ts ≡ true →
+    (es : List Extension) × AllByRecursion IsExtension es × (map extension_spelling es ≡ ts)
 extensions_of_texts [] pass = ([], tt, refl)
 extensions_of_texts (t ∷ ts) pass =
     let both = and_parts (is_extension_text t) (are_extension_texts ts) pass in

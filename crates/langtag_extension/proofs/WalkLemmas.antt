@@ -19,13 +19,18 @@ opens-one (b ∷ c ∷ t) some first second =
     rw (slice_split-cons_no is_hyphen b (c ∷ t) first, slice_split-cons_yes is_hyphen c t hyphen) refl
 
 -- up to the first hyphen there is one subtag
-pub list_all-first_subtag : (text : List ℕ) (end : ℕ) → end ≤ length text → NoHyphenWithin text 0 end → list_all goes_on (drop 1 (segments (take end text))) ≡ true
+pub list_all-first_subtag :
+    (text : List ℕ) (end : ℕ) → end ≤ length text → NoHyphenWithin text 0 end →
+    list_all goes_on (drop 1 (segments (take end text))) ≡ true
 list_all-first_subtag text end within free =
     let kept : IsHyphenFree (take end text) = grind (arith, common_steps) in
     rw (slice_split_none is_hyphen (take end text) kept) refl
 
 -- one more subtag, which is not of one byte
-pub list_all-next_subtag : (text : List ℕ) (end next : ℕ) → end < length text → get_or text end 0 ≡ 45 → end + 1 ≤ next → next ≤ length text → NoHyphenWithin text (end + 1) next → next ≢ end + 2 → list_all goes_on (drop 1 (segments (take end text))) ≡ true → list_all goes_on (drop 1 (segments (take next text))) ≡ true
+pub list_all-next_subtag :
+    (text : List ℕ) (end next : ℕ) → end < length text → get_or text end 0 ≡ 45 → end + 1 ≤ next → next ≤ length text →
+    NoHyphenWithin text (end + 1) next → next ≢ end + 2 → list_all goes_on (drop 1 (segments (take end text))) ≡ true →
+    list_all goes_on (drop 1 (segments (take next text))) ≡ true
 list_all-next_subtag text end next below hyphen after within free long before =
     let more = next - (end + 1) in
     let part = take more (drop (suc end) text) in
@@ -51,7 +56,9 @@ put_first-opened (part ∷ more) opened p = by_groups (groups more)
     by_groups (g ∷ gs) = grind (arith, common_steps)
 
 -- a subtag, those that go on with it, and others from one that opens
-pub groups-first : (p : List ℕ) (prefix rest : List (List ℕ)) → list_all goes_on prefix ≡ true → opens rest ≡ true → groups (p ∷ prefix ++ rest) ≡ (p ∷ prefix) ∷ groups rest
+pub groups-first :
+    (p : List ℕ) (prefix rest : List (List ℕ)) → list_all goes_on prefix ≡ true → opens rest ≡ true →
+    groups (p ∷ prefix ++ rest) ≡ (p ∷ prefix) ∷ groups rest
 groups-first p [] rest long opened = put_first-opened rest opened p
 groups-first p (f ∷ prefix) rest long opened =
     let tail = groups-first f prefix rest (grind (arith, common_steps)) opened in
@@ -59,12 +66,17 @@ groups-first p (f ∷ prefix) rest long opened =
     ap (put_first p) tail ∙ ap (λ b. cond b ((p ∷ []) ∷ (f ∷ prefix) ∷ groups rest) ((p ∷ f ∷ prefix) ∷ groups rest)) not_one
 
 -- the groups of two lists, of which the second begins with an opening subtag
-groups-append : (first rest : List (List ℕ)) → 0 < length first → list_all goes_on (drop 1 first) ≡ true → opens rest ≡ true → groups (first ++ rest) ≡ first ∷ groups rest
+groups-append :
+    (first rest : List (List ℕ)) → 0 < length first → list_all goes_on (drop 1 first) ≡ true → opens rest ≡ true →
+    groups (first ++ rest) ≡ first ∷ groups rest
 groups-append [] rest some long opened = absurd (omega (arith, some))
 groups-append (p ∷ prefix) rest some long opened = groups-first p prefix rest long opened
 
 -- the groups of a text that is cut before an opening subtag
-groups-split : (text first : List ℕ) (rest : Option (Bor (List ℕ))) → MatchOption rest (text ≡ first) (λ r. text ≡ first ++ 45 ∷ r.now) → list_all goes_on (drop 1 (segments first)) ≡ true → opens (segments_left rest) ≡ true → groups (segments text) ≡ segments first ∷ groups (segments_left rest)
+groups-split :
+    (text first : List ℕ) (rest : Option (Bor (List ℕ))) → MatchOption rest (text ≡ first) (λ r. text ≡ first ++ 45 ∷ r.now) →
+    list_all goes_on (drop 1 (segments first)) ≡ true → opens (segments_left rest) ≡ true →
+    groups (segments text) ≡ segments first ∷ groups (segments_left rest)
 groups-split text first None whole long opened =
     ap (λ t. groups (segments t)) whole ∙ ap groups (sym (append-nil (segments first)))
     ∙ groups-append (segments first) [] (omega (arith, length-slice_split is_hyphen first)) long opened
@@ -73,6 +85,9 @@ groups-split text first (Some rest) joined long opened =
     ∙ groups-append (segments first) (segments rest.now) (omega (arith, length-slice_split is_hyphen first)) long opened
 
 -- the text of the first extension, and those of the others
-pub group_texts-split : (text first : List ℕ) (rest : Option (Bor (List ℕ))) → MatchOption rest (text ≡ first) (λ r. text ≡ first ++ 45 ∷ r.now) → list_all goes_on (drop 1 (segments first)) ≡ true → opens (segments_left rest) ≡ true → group_texts (segments text) ≡ first ∷ texts_left rest
+pub group_texts-split :
+    (text first : List ℕ) (rest : Option (Bor (List ℕ))) → MatchOption rest (text ≡ first) (λ r. text ≡ first ++ 45 ∷ r.now) →
+    list_all goes_on (drop 1 (segments first)) ≡ true → opens (segments_left rest) ≡ true →
+    group_texts (segments text) ≡ first ∷ texts_left rest
 group_texts-split text first rest joined long opened =
     ap (map join) (groups-split text first rest joined long opened) ∙ ap (λ t. t ∷ texts_left rest) (join_with_byte-slice_split 45 first)

@@ -103,7 +103,8 @@ impl<'a> Extensions<'a> {
 
     /// The first extension of the singleton, without regard to case: `A` finds `a-bb` in `a-bb-A-cc`.
     pub fn get(&self, singleton: Singleton) -> Option<Extension<'a>>
-        ensures first_match { (es : List model.Extension) → SpellsExtensions es (extensions_text self.now) → option_map extension_text result ≡ option_map extension_spelling (find_extension (singleton_byte singleton) es) }
+        ensures first_match { (es : List model.Extension) → SpellsExtensions es (extensions_text self.now) →
+            option_map extension_text result ≡ option_map extension_spelling (find_extension (singleton_byte singleton) es) }
     {
         self.iter()
             .find(|extension| extension.has_singleton(singleton))
@@ -112,7 +113,8 @@ impl<'a> Extensions<'a> {
     /// The subtags of the extension that `get` answers, and none where it answers none.
     #[tactic(auto, using(crate::proofs::LookUp::subtags_not_found))]
     pub fn iter_extension(&self, singleton: Singleton) -> ExtensionIter<'a>
-        ensures list { (es : List model.Extension) → SpellsExtensions es (extensions_text self.now) → extension_subtags_left result ≡ option_map_or (λ e. e.subtags) (find_extension (singleton_byte singleton) es) [] }
+        ensures list { (es : List model.Extension) → SpellsExtensions es (extensions_text self.now) →
+            extension_subtags_left result ≡ option_map_or (λ e. e.subtags) (find_extension (singleton_byte singleton) es) [] }
     {
         let Some(extension) = self.get(singleton) else {
             return ExtensionIter::empty();

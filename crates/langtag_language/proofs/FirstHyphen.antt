@@ -12,7 +12,9 @@ use Rattle.langtag_language.specs.Tests.{are_extended, are_extended_within, exte
 use Rattle.langtag_language.proofs.Rules.{IsLanguageExtension-from_test}
 
 -- the first subtag ends at the first hyphen
-segments_cut : (text : List ℕ) (end : ℕ) → end < length text → NoHyphenWithin text 0 end → get_or text end 0 ≡ 45 → segments text ≡ take end text ∷ segments (drop (end + 1) text)
+segments_cut :
+    (text : List ℕ) (end : ℕ) → end < length text → NoHyphenWithin text 0 end → get_or text end 0 ≡ 45 →
+    segments text ≡ take end text ∷ segments (drop (end + 1) text)
 segments_cut text end below free hyphen =
     let kept : IsHyphenFree (take end text) = grind (arith, common_steps) in
     let cut : text ≡ take end text ++ 45 ∷ drop (end + 1) text =
@@ -35,7 +37,9 @@ some_extended [] some few h = absurd (omega arith)
 some_extended (s ∷ ss) some few h = rw (le-leb _ _ few, h) refl
 
 -- what stands after the primary subtag is an extension
-is_extension_after : (primary rest : List ℕ) → are_language (primary ∷ segments rest) ≡ true → IsTrue (is_language_extension rest) × (segments rest ≡ subtags rest)
+is_extension_after :
+    (primary rest : List ℕ) → are_language (primary ∷ segments rest) ≡ true →
+    IsTrue (is_language_extension rest) × (segments rest ≡ subtags rest)
 unfolding is_extended
 is_extension_after primary [] h =
     let k = and_parts (is_primary primary) (are_extended_within (extended_room primary) (segments [])) h in
@@ -52,7 +56,9 @@ pub record IsAlone (text : List ℕ) : Type 0 where
   pub primary : IsTrue (is_primary text)
   pub list : subtags text ≡ text ∷ []
 
-pub language_alone : (text bytes : List ℕ) (end : ℕ) → IsTrue (is_language text) → bytes ≡ text → NoHyphenWithin bytes 0 end → end ≡ length text → IsAlone text
+pub language_alone :
+    (text bytes : List ℕ) (end : ℕ) → IsTrue (is_language text) → bytes ≡ text → NoHyphenWithin bytes 0 end → end ≡ length text →
+    IsAlone text
 language_alone text bytes end h same free whole =
     let kept : IsHyphenFree text = grind (arith, common_steps) in
     let list = subtags_some text h ∙ slice_split_none is_hyphen text kept in
@@ -65,7 +71,10 @@ pub record IsCut (text primary rest : List ℕ) : Type 0 where
   pub extension : IsLanguageExtension rest
   pub list : subtags text ≡ primary ∷ subtags rest
 
-pub language_cut : (text bytes : List ℕ) (end : ℕ) → IsTrue (is_language text) → bytes ≡ text → end ≤ length bytes → NoHyphenWithin bytes 0 end → (end < length bytes → slice_index bytes end ≡ 45) → (end ≡ length text → ⊥) → IsCut text (slice_range text 0 end) (drop (end + 1) text)
+pub language_cut :
+    (text bytes : List ℕ) (end : ℕ) → IsTrue (is_language text) → bytes ≡ text → end ≤ length bytes → NoHyphenWithin bytes 0 end →
+    (end < length bytes → slice_index bytes end ≡ 45) → (end ≡ length text → ⊥) →
+    IsCut text (slice_range text 0 end) (drop (end + 1) text)
 language_cut text bytes end h same within free hyphen more =
     let primary = take end text in
     let rest = drop (end + 1) text in

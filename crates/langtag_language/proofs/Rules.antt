@@ -19,7 +19,8 @@ are_language_extension-from_rule : (ss : List (List ℕ)) (text : List ℕ) → 
 are_language_extension-from_rule [] text spells = absurd (omega (arith, spells.some))
 are_language_extension-from_rule (s ∷ ss) text spells = rw (le-leb _ _ spells.few, test_from_each is_extended (s ∷ ss) spells.members) refl
 
-SpellsLanguageExtension-from_list : (ss : List (List ℕ)) (text : List ℕ) → join ss ≡ text → are_language_extension ss ≡ true → SpellsLanguageExtension ss text
+SpellsLanguageExtension-from_list :
+    (ss : List (List ℕ)) (text : List ℕ) → join ss ≡ text → are_language_extension ss ≡ true → SpellsLanguageExtension ss text
 SpellsLanguageExtension-from_list [] text joined h = absurd cc
 SpellsLanguageExtension-from_list (s ∷ ss) text joined h =
     let k = and_parts (leb (length (s ∷ ss)) 3) (are_extended (s ∷ ss)) h in
@@ -53,7 +54,9 @@ pub ruleset extension_members = (SpellsLanguageExtension-from_test, are_extended
 -- ---- language
 
 -- one text, one list
-pub subtags-language : (primary : List ℕ) (extended : List (List ℕ)) (text : List ℕ) → SpellsLanguage primary extended text → subtags text ≡ primary ∷ extended
+pub subtags-language :
+    (primary : List ℕ) (extended : List (List ℕ)) (text : List ℕ) → SpellsLanguage primary extended text →
+    subtags text ≡ primary ∷ extended
 subtags-language primary extended text spells =
     ap subtags (sym spells.joined) ∙ subtags-joined (primary ∷ extended) (of_primary primary spells.first, each_subtag is_extended of_extended extended spells.others)
 
@@ -61,14 +64,18 @@ within_room : (n : ℕ) (extended : List (List ℕ)) → length extended ≤ 3 �
 within_room n extended few (inl short) = rw (le-leb n 3 short) (le-leb _ _ few)
 within_room n extended few (inr none) = rw none (le-leb 0 _ (omega arith))
 
-rule_from_room : (n : ℕ) (extended : List (List ℕ)) → leb (length extended) (cond (leb n 3) 3 0) ≡ true → (length extended ≤ 3) × ((n ≤ 3) ⊎ (extended ≡ []))
+rule_from_room :
+    (n : ℕ) (extended : List (List ℕ)) → leb (length extended) (cond (leb n 3) 3 0) ≡ true →
+    (length extended ≤ 3) × ((n ≤ 3) ⊎ (extended ≡ []))
 rule_from_room n extended h = by_length (leb n 3) refl h
   where
     by_length : (b : Bool) → leb n 3 ≡ b → leb (length extended) (cond b 3 0) ≡ true → (length extended ≤ 3) × ((n ≤ 3) ⊎ (extended ≡ []))
     by_length true short h = (leb-true _ _ h, inl (leb-true _ _ short))
     by_length false long h = let none = leb-true _ _ h in (omega arith, inr (nil_from_length extended (omega arith)))
 
-are_language-from_rule : (primary : List ℕ) (extended : List (List ℕ)) (text : List ℕ) → SpellsLanguage primary extended text → are_language (primary ∷ extended) ≡ true
+are_language-from_rule :
+    (primary : List ℕ) (extended : List (List ℕ)) (text : List ℕ) → SpellsLanguage primary extended text →
+    are_language (primary ∷ extended) ≡ true
 are_language-from_rule primary extended text spells =
     rw (spells.first, within_room (length primary) extended spells.few spells.short, test_from_each is_extended extended spells.others) refl
 

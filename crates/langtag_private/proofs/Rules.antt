@@ -18,7 +18,9 @@ subtags-private text p fits joined =
 pub others_spelled : (text : List ℕ) (others : List (List ℕ)) → others ≡ drop 1 (subtags text) → EachSpelling text (λ members. others ≡ members)
 others_spelled text others list p fits joined = list ∙ ap (drop 1) (subtags-private text p fits joined)
 
-are_private_use-from_rule : (mark : ℕ) (ss : List (List ℕ)) → IsPrivateUse (record { mark = mark; subtags = ss }) → are_private_use ((mark ∷ []) ∷ ss) ≡ true
+are_private_use-from_rule :
+    (mark : ℕ) (ss : List (List ℕ)) → IsPrivateUse (record { mark = mark; subtags = ss }) →
+    are_private_use ((mark ∷ []) ∷ ss) ≡ true
 are_private_use-from_rule mark [] fits = absurd (omega (arith, fits.some))
 are_private_use-from_rule mark (s ∷ ss) fits = rw (fits.mark, test_from_each is_private_subtag (s ∷ ss) fits.subtags) refl
 

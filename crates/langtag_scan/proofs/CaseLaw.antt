@@ -200,12 +200,16 @@ pub spell-fold : (r : Record) → spell (fold_record r) ≡ fold_text (spell r)
 spell-fold r = ap join (flat-fold r) ∙ join-fold (flat r)
 
 -- where the fold changes nothing of a test, the folds of all members of a list pass it
-each-fold : (p : List ℕ → Bool) → ((s : List ℕ) → p (fold_text s) ≡ p s) → (ss : List (List ℕ)) → AllByRecursion (λ s. IsTrue (p s)) ss → AllByRecursion (λ s. IsTrue (p s)) (map fold_text ss)
+each-fold :
+    (p : List ℕ → Bool) → ((s : List ℕ) → p (fold_text s) ≡ p s) → (ss : List (List ℕ)) → AllByRecursion (λ s. IsTrue (p s)) ss →
+    AllByRecursion (λ s. IsTrue (p s)) (map fold_text ss)
 each-fold p same [] fits = tt
 each-fold p same (s ∷ ss) fits = (same s ∙ fits.0, each-fold p same ss fits.1)
 
 -- and the fold of the one that may be there
-if_some-fold : (p : List ℕ → Bool) → ((s : List ℕ) → p (fold_text s) ≡ p s) → (o : Option (List ℕ)) → IfSome o (λ s. IsTrue (p s)) → IfSome (option_map fold_text o) (λ s. IsTrue (p s))
+if_some-fold :
+    (p : List ℕ → Bool) → ((s : List ℕ) → p (fold_text s) ≡ p s) → (o : Option (List ℕ)) → IfSome o (λ s. IsTrue (p s)) →
+    IfSome (option_map fold_text o) (λ s. IsTrue (p s))
 if_some-fold p same None fits = tt
 if_some-fold p same (Some s) fits = same s ∙ fits
 

@@ -6,7 +6,9 @@ use Rattle.std.proofs.lemmas.Grind.{common_steps}
 use Rattle.langtag_scan.specs.Case.{fold_byte, Alike, case_cmp, EndsFirst}
 
 -- the order from an index on is that of the bytes there, and where they tie that of what follows
-case_cmp-drop : (a b : List ℕ) (i : ℕ) → i < length a → i < length b → case_cmp (drop i a) (drop i b) ≡ ordering_then (nat_cmp (fold_byte (get_or a i 0)) (fold_byte (get_or b i 0))) (case_cmp (drop (i + 1) a) (drop (i + 1) b))
+case_cmp-drop :
+    (a b : List ℕ) (i : ℕ) → i < length a → i < length b →
+    case_cmp (drop i a) (drop i b) ≡ ordering_then (nat_cmp (fold_byte (get_or a i 0)) (fold_byte (get_or b i 0))) (case_cmp (drop (i + 1) a) (drop (i + 1) b))
 case_cmp-drop a b i in_a in_b = rw (add-one, drop-cons a i 0 in_a, drop-cons b i 0 in_b) refl
 
 ordering_then-tied : (first rest : Ordering) → is_ne first ≡ false → ordering_then first rest ≡ rest
@@ -38,7 +40,9 @@ unfolding fold_byte
 end-above_fold_byte x byte = grind (arith, common_steps)
 
 -- where one text has ended, the longer one is less
-pub case_cmp-ended : (a b : List ℕ) (i : ℕ) → ((k : ℕ) → Fits w8 (get_or a k 0)) → ((k : ℕ) → Fits w8 (get_or b k 0)) → i ≡ min (length a) (length b) → case_cmp (drop i a) (drop i b) ≡ nat_cmp (length b) (length a)
+pub case_cmp-ended :
+    (a b : List ℕ) (i : ℕ) → ((k : ℕ) → Fits w8 (get_or a k 0)) → ((k : ℕ) → Fits w8 (get_or b k 0)) →
+    i ≡ min (length a) (length b) → case_cmp (drop i a) (drop i b) ≡ nat_cmp (length b) (length a)
 case_cmp-ended a b i bytes_a bytes_b ended = by_rest (drop i a) (drop i b) refl refl
   where
     by_rest : (s t : List ℕ) → drop i a ≡ s → drop i b ≡ t → case_cmp s t ≡ nat_cmp (length b) (length a)

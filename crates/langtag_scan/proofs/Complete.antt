@@ -67,7 +67,9 @@ speaking_extended taken = record {
   extended = (speaking_language taken).extended;
 }
 
-decode_cons : (stage : Stage) (s : List ℕ) (after : Stage) (ss : List (List ℕ)) (b : Read) → next_stage stage s ≡ Some after → decode after ss ≡ Some b → decode stage (s ∷ ss) ≡ Some (put after s b)
+decode_cons :
+    (stage : Stage) (s : List ℕ) (after : Stage) (ss : List (List ℕ)) (b : Read) → next_stage stage s ≡ Some after →
+    decode after ss ≡ Some b → decode stage (s ∷ ss) ≡ Some (put after s b)
 unfolding decode
 decode_cons stage s after ss b e h = rw (e, h) refl
 
@@ -79,25 +81,37 @@ in_private : (ss : List (List ℕ)) → AllByRecursion (λ s. IsTrue (is_private
 in_private [] fits = decode_nil InPrivate refl
 in_private (s ∷ ss) fits = decode_cons InPrivate s InPrivate ss (pending ss [] None) (rw fits.0 refl) (in_private ss fits.1)
 
-pub after_mark : (ss : List (List ℕ)) → 1 ≤ length ss → AllByRecursion (λ s. IsTrue (is_private_subtag s)) ss → decode AfterMark ss ≡ Some (pending ss [] None)
+pub after_mark :
+    (ss : List (List ℕ)) → 1 ≤ length ss → AllByRecursion (λ s. IsTrue (is_private_subtag s)) ss →
+    decode AfterMark ss ≡ Some (pending ss [] None)
 after_mark [] some fits = absurd (omega arith)
 after_mark (s ∷ ss) some fits = decode_cons AfterMark s InPrivate ss (pending ss [] None) (rw fits.0 refl) (in_private ss fits.1)
 
-tail_private : (stage : Stage) → Opening stage → (p : Option PrivateUse) → IfSome p IsPrivateUse → decode stage (private_part_flat p) ≡ Some (whole (from_private p))
+tail_private :
+    (stage : Stage) → Opening stage → (p : Option PrivateUse) → IfSome p IsPrivateUse →
+    decode stage (private_part_flat p) ≡ Some (whole (from_private p))
 tail_private stage o None fits = decode_nil stage o.ends
 tail_private stage o (Some p) fits =
     let opens : opened (p.mark ∷ []) ≡ Some AfterMark = rw fits.mark refl in
     decode_cons stage (p.mark ∷ []) AfterMark p.subtags (pending p.subtags [] None) (o.one p.mark ∙ opens) (after_mark p.subtags fits.some fits.subtags)
 
-in_extension : (es : List Extension) (p : Option PrivateUse) (rest : List (List ℕ)) → decode InExtension rest ≡ Some (whole (from_extensions es p)) → (ss : List (List ℕ)) → AllByRecursion (λ s. IsTrue (is_extension_subtag s)) ss → decode InExtension (ss ++ rest) ≡ Some (pending ss es p)
+in_extension :
+    (es : List Extension) (p : Option PrivateUse) (rest : List (List ℕ)) →
+    decode InExtension rest ≡ Some (whole (from_extensions es p)) → (ss : List (List ℕ)) →
+    AllByRecursion (λ s. IsTrue (is_extension_subtag s)) ss → decode InExtension (ss ++ rest) ≡ Some (pending ss es p)
 in_extension es p rest h [] fits = h
 in_extension es p rest h (s ∷ ss) fits = decode_cons InExtension s InExtension (ss ++ rest) (pending ss es p) (rw fits.0 refl) (in_extension es p rest h ss fits.1)
 
-after_singleton : (es : List Extension) (p : Option PrivateUse) (rest : List (List ℕ)) → decode InExtension rest ≡ Some (whole (from_extensions es p)) → (ss : List (List ℕ)) → 1 ≤ length ss → AllByRecursion (λ s. IsTrue (is_extension_subtag s)) ss → decode AfterSingleton (ss ++ rest) ≡ Some (pending ss es p)
+after_singleton :
+    (es : List Extension) (p : Option PrivateUse) (rest : List (List ℕ)) →
+    decode InExtension rest ≡ Some (whole (from_extensions es p)) → (ss : List (List ℕ)) → 1 ≤ length ss →
+    AllByRecursion (λ s. IsTrue (is_extension_subtag s)) ss → decode AfterSingleton (ss ++ rest) ≡ Some (pending ss es p)
 after_singleton es p rest h [] some fits = absurd (omega arith)
 after_singleton es p rest h (s ∷ ss) some fits = decode_cons AfterSingleton s InExtension (ss ++ rest) (pending ss es p) (rw fits.0 refl) (in_extension es p rest h ss fits.1)
 
-tail_extensions : (stage : Stage) → Opening stage → (es : List Extension) (p : Option PrivateUse) → AllByRecursion IsExtension es → IfSome p IsPrivateUse → decode stage (flat_map extension_flat es ++ private_part_flat p) ≡ Some (whole (from_extensions es p))
+tail_extensions :
+    (stage : Stage) → Opening stage → (es : List Extension) (p : Option PrivateUse) → AllByRecursion IsExtension es →
+    IfSome p IsPrivateUse → decode stage (flat_map extension_flat es ++ private_part_flat p) ≡ Some (whole (from_extensions es p))
 tail_extensions stage o [] p fits fit = tail_private stage o p fit
 tail_extensions stage o (e ∷ es) p fits fit =
     let opens : opened (e.singleton ∷ []) ≡ Some AfterSingleton = rw (singleton_no_mark e.singleton fits.0.singleton, fits.0.singleton) refl in
@@ -120,27 +134,37 @@ pub record RestFits (vs : List (List ℕ)) (es : List Extension) (p : Option Pri
 pub fits_tail : (s : List ℕ) (vs : List (List ℕ)) (es : List Extension) (p : Option PrivateUse) → RestFits (s ∷ vs) es p → RestFits vs es p
 fits_tail s vs es p fits = record { variants = fits.variants.1; extensions = fits.extensions; private_use = fits.private_use }
 
-tail_variants : (es : List Extension) (p : Option PrivateUse) (stage : Stage) → Varying stage → (vs : List (List ℕ)) → RestFits vs es p → decode stage (vs ++ rest_of es p) ≡ Some (whole (from_variants vs es p))
+tail_variants :
+    (es : List Extension) (p : Option PrivateUse) (stage : Stage) → Varying stage → (vs : List (List ℕ)) → RestFits vs es p →
+    decode stage (vs ++ rest_of es p) ≡ Some (whole (from_variants vs es p))
 tail_variants es p stage varying [] fits = tail_extensions stage varying.opening es p fits.extensions fits.private_use
 tail_variants es p stage varying (s ∷ vs) fits =
     decode_cons stage s AfterVariant (vs ++ rest_of es p) (whole (from_variants vs es p)) (varying.variant s fits.variants.0)
     (tail_variants es p AfterVariant varying_after_variant vs (fits_tail s vs es p fits))
 
 module _ (vs : List (List ℕ)) (es : List Extension) (p : Option PrivateUse) (fits : RestFits vs es p) where
-  tail_region : (stage : Stage) → Regional stage → (g : Option (List ℕ)) → IfSome g (λ s. IsTrue (is_region s)) → decode stage (one_flat g ++ (vs ++ rest_of es p)) ≡ Some (whole (from_region g vs es p))
+  tail_region :
+      (stage : Stage) → Regional stage → (g : Option (List ℕ)) → IfSome g (λ s. IsTrue (is_region s)) →
+      decode stage (one_flat g ++ (vs ++ rest_of es p)) ≡ Some (whole (from_region g vs es p))
   tail_region stage regional None fit = tail_variants es p stage regional.varying vs fits
   tail_region stage regional (Some s) fit =
       decode_cons stage s AfterRegion (vs ++ rest_of es p) (whole (from_variants vs es p)) (regional.region s fit)
       (tail_variants es p AfterRegion varying_after_region vs fits)
 
   module _ (g : Option (List ℕ)) (fit : IfSome g (λ s. IsTrue (is_region s))) where
-    tail_script : (taken : ℕ) (stage : Stage) → Speaking taken stage → (c : Option (List ℕ)) → IfSome c (λ s. IsTrue (is_script s)) → decode stage (one_flat c ++ (one_flat g ++ (vs ++ rest_of es p))) ≡ Some (whole (from_script c g vs es p))
+    tail_script :
+        (taken : ℕ) (stage : Stage) → Speaking taken stage → (c : Option (List ℕ)) → IfSome c (λ s. IsTrue (is_script s)) →
+        decode stage (one_flat c ++ (one_flat g ++ (vs ++ rest_of es p))) ≡ Some (whole (from_script c g vs es p))
     tail_script taken stage speaking None is = tail_region stage speaking.regional g fit
     tail_script taken stage speaking (Some s) is =
         decode_cons stage s AfterScript (one_flat g ++ (vs ++ rest_of es p)) (whole (from_region g vs es p)) (speaking.script s is)
         (tail_region AfterScript regional_after_script g fit)
 
-    tail_extended : (c : Option (List ℕ)) → IfSome c (λ s. IsTrue (is_script s)) → (xs : List (List ℕ)) → AllByRecursion (λ s. IsTrue (is_extended s)) xs → (taken : ℕ) → ((length xs + taken ≤ 3) ⊎ (xs ≡ [])) → (stage : Stage) → Speaking taken stage → decode stage (xs ++ (one_flat c ++ (one_flat g ++ (vs ++ rest_of es p)))) ≡ Some (whole (from_extended xs c g vs es p))
+    tail_extended :
+        (c : Option (List ℕ)) → IfSome c (λ s. IsTrue (is_script s)) → (xs : List (List ℕ)) →
+        AllByRecursion (λ s. IsTrue (is_extended s)) xs → (taken : ℕ) → ((length xs + taken ≤ 3) ⊎ (xs ≡ [])) → (stage : Stage) →
+        Speaking taken stage →
+        decode stage (xs ++ (one_flat c ++ (one_flat g ++ (vs ++ rest_of es p)))) ≡ Some (whole (from_extended xs c g vs es p))
     tail_extended c is [] all taken few stage speaking = tail_script taken stage speaking c is
     tail_extended c is (x ∷ xs) all taken (inr none_left) stage speaking = absurd cc
     tail_extended c is (x ∷ xs) all taken (inl few) stage speaking =

@@ -34,7 +34,9 @@ region_two_three s h =
       | inr a ↦ let k = and_parts (eqb (length s) 3) (are_digits s) a in inr (eqb-true _ _ k.0, k.1)
     ]
 
-pub variant_long : (s : List ℕ) → is_variant s ≡ true → ((5 ≤ length s) × (length s ≤ 8) × (are_alphanumeric s ≡ true)) ⊎ ((length s ≡ 4) × (are_alphanumeric s ≡ true) × (starts_with_digit s ≡ true))
+pub variant_long :
+    (s : List ℕ) → is_variant s ≡ true →
+    ((5 ≤ length s) × (length s ≤ 8) × (are_alphanumeric s ≡ true)) ⊎ ((length s ≡ 4) × (are_alphanumeric s ≡ true) × (starts_with_digit s ≡ true))
 unfolding is_variant
 variant_long s h =
     elim (or_cases (has_length 5 8 s && are_alphanumeric s) (eqb (length s) 4 && are_alphanumeric s && starts_with_digit s) h) [

@@ -49,7 +49,9 @@ after_language l script region vs es p = after_script l (l + weight (one_flat sc
 
 -- ---- one subtag
 
-one_subtag : (stage after : Stage) (s : List ℕ) (ss : List (List ℕ)) (e : Ends) (n : ℕ) → index_after stage e s ≡ n → next_stage stage s ≡ Some after → ends_after stage e (s ∷ ss) ≡ ends_after after (end_at after n e) ss
+one_subtag :
+    (stage after : Stage) (s : List ℕ) (ss : List (List ℕ)) (e : Ends) (n : ℕ) → index_after stage e s ≡ n →
+    next_stage stage s ≡ Some after → ends_after stage e (s ∷ ss) ≡ ends_after after (end_at after n e) ss
 one_subtag stage after s ss e n at next =
     ends_after-cons stage e s ss
     ∙ ap (λ o. option_map_or (λ x. ends_after x (end_at x (index_after stage e s) e) ss) o e) next
@@ -58,21 +60,27 @@ one_subtag stage after s ss e n at next =
 -- ---- the parts, from the last one on
 
 module _ (l c g v x : ℕ) where
-  private_ends : (ss : List (List ℕ)) → AllByRecursion (λ s. IsTrue (is_private_subtag s)) ss → (w : ℕ) → ends_after InPrivate (ends_at l c g v x w) ss ≡ ends_at l c g v x (w + weight ss)
+  private_ends :
+      (ss : List (List ℕ)) → AllByRecursion (λ s. IsTrue (is_private_subtag s)) ss → (w : ℕ) →
+      ends_after InPrivate (ends_at l c g v x w) ss ≡ ends_at l c g v x (w + weight ss)
   private_ends [] fits w = ends_after-nil InPrivate (ends_at l c g v x w) ∙ ap (ends_at l c g v x) (omega arith)
   private_ends (s ∷ ss) fits w =
       one_subtag InPrivate InPrivate s ss (ends_at l c g v x w) (w + 1 + length s) refl (rw fits.0 refl)
       ∙ private_ends ss fits.1 (w + 1 + length s)
       ∙ ap (ends_at l c g v x) (omega (arith, weight-cons s ss))
 
-  mark_ends : (ss : List (List ℕ)) → 1 ≤ length ss → AllByRecursion (λ s. IsTrue (is_private_subtag s)) ss → (w : ℕ) → ends_after AfterMark (ends_at l c g v x w) ss ≡ ends_at l c g v x (w + weight ss)
+  mark_ends :
+      (ss : List (List ℕ)) → 1 ≤ length ss → AllByRecursion (λ s. IsTrue (is_private_subtag s)) ss → (w : ℕ) →
+      ends_after AfterMark (ends_at l c g v x w) ss ≡ ends_at l c g v x (w + weight ss)
   mark_ends [] some fits w = absurd (omega arith)
   mark_ends (s ∷ ss) some fits w =
       one_subtag AfterMark InPrivate s ss (ends_at l c g v x w) (w + 1 + length s) refl (rw fits.0 refl)
       ∙ private_ends ss fits.1 (w + 1 + length s)
       ∙ ap (ends_at l c g v x) (omega (arith, weight-cons s ss))
 
-  private_part_ends : (stage : Stage) → Opening stage → (p : Option PrivateUse) → IfSome p IsPrivateUse → ends_after stage (ends_at l c g v x x) (private_part_flat p) ≡ after_extensions l c g v x p
+  private_part_ends :
+      (stage : Stage) → Opening stage → (p : Option PrivateUse) → IfSome p IsPrivateUse →
+      ends_after stage (ends_at l c g v x x) (private_part_flat p) ≡ after_extensions l c g v x p
   private_part_ends stage open_here None fits = ends_after-nil stage (ends_at l c g v x x) ∙ ap (ends_at l c g v x) (omega arith)
   private_part_ends stage open_here (Some p) fits =
       let opens : opened (p.mark ∷ []) ≡ Some AfterMark = rw fits.mark refl in
@@ -81,21 +89,28 @@ module _ (l c g v x : ℕ) where
       ∙ ap (ends_at l c g v x) (omega (arith, weight-cons (p.mark ∷ []) p.subtags))
 
 module _ (l c g v : ℕ) (rest : List (List ℕ)) where
-  extension_ends : (ss : List (List ℕ)) → AllByRecursion (λ s. IsTrue (is_extension_subtag s)) ss → (x : ℕ) → ends_after InExtension (ends_at l c g v x x) (ss ++ rest) ≡ ends_after InExtension (ends_at l c g v (x + weight ss) (x + weight ss)) rest
+  extension_ends :
+      (ss : List (List ℕ)) → AllByRecursion (λ s. IsTrue (is_extension_subtag s)) ss → (x : ℕ) →
+      ends_after InExtension (ends_at l c g v x x) (ss ++ rest) ≡ ends_after InExtension (ends_at l c g v (x + weight ss) (x + weight ss)) rest
   extension_ends [] fits x = ap (λ k. ends_after InExtension (ends_at l c g v k k) rest) (omega arith)
   extension_ends (s ∷ ss) fits x =
       one_subtag InExtension InExtension s (ss ++ rest) (ends_at l c g v x x) (x + 1 + length s) refl (rw fits.0 refl)
       ∙ extension_ends ss fits.1 (x + 1 + length s)
       ∙ ap (λ k. ends_after InExtension (ends_at l c g v k k) rest) (omega (arith, weight-cons s ss))
 
-  singleton_ends : (ss : List (List ℕ)) → 1 ≤ length ss → AllByRecursion (λ s. IsTrue (is_extension_subtag s)) ss → (x : ℕ) → ends_after AfterSingleton (ends_at l c g v x x) (ss ++ rest) ≡ ends_after InExtension (ends_at l c g v (x + weight ss) (x + weight ss)) rest
+  singleton_ends :
+      (ss : List (List ℕ)) → 1 ≤ length ss → AllByRecursion (λ s. IsTrue (is_extension_subtag s)) ss → (x : ℕ) →
+      ends_after AfterSingleton (ends_at l c g v x x) (ss ++ rest) ≡ ends_after InExtension (ends_at l c g v (x + weight ss) (x + weight ss)) rest
   singleton_ends [] some fits x = absurd (omega arith)
   singleton_ends (s ∷ ss) some fits x =
       one_subtag AfterSingleton InExtension s (ss ++ rest) (ends_at l c g v x x) (x + 1 + length s) refl (rw fits.0 refl)
       ∙ extension_ends ss fits.1 (x + 1 + length s)
       ∙ ap (λ k. ends_after InExtension (ends_at l c g v k k) rest) (omega (arith, weight-cons s ss))
 
-extensions_ends : (l c g v : ℕ) (stage : Stage) → Opening stage → (es : List Extension) (p : Option PrivateUse) → AllByRecursion IsExtension es → IfSome p IsPrivateUse → (x : ℕ) → ends_after stage (ends_at l c g v x x) (rest_of es p) ≡ after_extensions l c g v (x + weight (flat_map extension_flat es)) p
+extensions_ends :
+    (l c g v : ℕ) (stage : Stage) → Opening stage → (es : List Extension) (p : Option PrivateUse) →
+    AllByRecursion IsExtension es → IfSome p IsPrivateUse → (x : ℕ) →
+    ends_after stage (ends_at l c g v x x) (rest_of es p) ≡ after_extensions l c g v (x + weight (flat_map extension_flat es)) p
 extensions_ends l c g v stage open_here [] p fits fit x = private_part_ends l c g v x stage open_here p fit ∙ ap (λ k. after_extensions l c g v k p) (omega arith)
 extensions_ends l c g v stage open_here (e ∷ es) p fits fit x =
     let opens : opened (e.singleton ∷ []) ≡ Some AfterSingleton = rw (singleton_no_mark e.singleton fits.0.singleton, fits.0.singleton) refl in
@@ -107,7 +122,10 @@ extensions_ends l c g v stage open_here (e ∷ es) p fits fit x =
     ∙ extensions_ends l c g v InExtension opening_in_extension es p fits.1 fit (n + weight e.subtags)
     ∙ ap (λ k. after_extensions l c g v k p) (omega (arith, weighs))
 
-variants_ends : (l c g : ℕ) (es : List Extension) (p : Option PrivateUse) (stage : Stage) → Varying stage → (vs : List (List ℕ)) → RestFits vs es p → (v : ℕ) → ends_after stage (ends_at l c g v v v) (vs ++ rest_of es p) ≡ after_variants l c g (v + weight vs) es p
+variants_ends :
+    (l c g : ℕ) (es : List Extension) (p : Option PrivateUse) (stage : Stage) → Varying stage → (vs : List (List ℕ)) →
+    RestFits vs es p → (v : ℕ) →
+    ends_after stage (ends_at l c g v v v) (vs ++ rest_of es p) ≡ after_variants l c g (v + weight vs) es p
 variants_ends l c g es p stage vary [] fits v =
     extensions_ends l c g v stage vary.opening es p fits.extensions fits.private_use v
     ∙ ap (λ k. after_variants l c g k es p) (omega arith)
@@ -117,7 +135,10 @@ variants_ends l c g es p stage vary (s ∷ vs) fits v =
     ∙ ap (λ k. after_variants l c g k es p) (omega (arith, weight-cons s vs))
 
 module _ (vs : List (List ℕ)) (es : List Extension) (p : Option PrivateUse) (fits : RestFits vs es p) where
-  region_ends : (l c : ℕ) (stage : Stage) → Regional stage → (region : Option (List ℕ)) → IfSome region (λ s. IsTrue (is_region s)) → (g : ℕ) → ends_after stage (ends_at l c g g g g) (one_flat region ++ (vs ++ rest_of es p)) ≡ after_region l c (g + weight (one_flat region)) vs es p
+  region_ends :
+      (l c : ℕ) (stage : Stage) → Regional stage → (region : Option (List ℕ)) → IfSome region (λ s. IsTrue (is_region s)) →
+      (g : ℕ) →
+      ends_after stage (ends_at l c g g g g) (one_flat region ++ (vs ++ rest_of es p)) ≡ after_region l c (g + weight (one_flat region)) vs es p
   region_ends l c stage regional None fit g =
       variants_ends l c g es p stage regional.varying vs fits g ∙ ap (λ k. after_region l c k vs es p) (omega arith)
   region_ends l c stage regional (Some s) fit g =
@@ -126,7 +147,10 @@ module _ (vs : List (List ℕ)) (es : List Extension) (p : Option PrivateUse) (f
       ∙ ap (λ k. after_region l c k vs es p) (omega (arith, weight-cons s []))
 
   module _ (region : Option (List ℕ)) (fit : IfSome region (λ s. IsTrue (is_region s))) where
-    script_ends : (l : ℕ) (taken : ℕ) (stage : Stage) → Speaking taken stage → (script : Option (List ℕ)) → IfSome script (λ s. IsTrue (is_script s)) → (c : ℕ) → ends_after stage (ends_at l c c c c c) (one_flat script ++ (one_flat region ++ (vs ++ rest_of es p))) ≡ after_script l (c + weight (one_flat script)) region vs es p
+    script_ends :
+        (l : ℕ) (taken : ℕ) (stage : Stage) → Speaking taken stage → (script : Option (List ℕ)) →
+        IfSome script (λ s. IsTrue (is_script s)) → (c : ℕ) →
+        ends_after stage (ends_at l c c c c c) (one_flat script ++ (one_flat region ++ (vs ++ rest_of es p))) ≡ after_script l (c + weight (one_flat script)) region vs es p
     script_ends l taken stage speaking None is c =
         region_ends l c stage speaking.regional region fit c ∙ ap (λ k. after_script l k region vs es p) (omega arith)
     script_ends l taken stage speaking (Some s) is c =
@@ -134,7 +158,11 @@ module _ (vs : List (List ℕ)) (es : List Extension) (p : Option PrivateUse) (f
         ∙ region_ends l (c + 1 + length s) AfterScript regional_after_script region fit (c + 1 + length s)
         ∙ ap (λ k. after_script l k region vs es p) (omega (arith, weight-cons s []))
 
-    language_ends : (script : Option (List ℕ)) → IfSome script (λ s. IsTrue (is_script s)) → (xs : List (List ℕ)) → AllByRecursion (λ s. IsTrue (is_extended s)) xs → (taken : ℕ) → ((length xs + taken ≤ 3) ⊎ (xs ≡ [])) → (stage : Stage) → Speaking taken stage → (l : ℕ) → ends_after stage (all_at l) (xs ++ (one_flat script ++ (one_flat region ++ (vs ++ rest_of es p)))) ≡ after_language (l + weight xs) script region vs es p
+    language_ends :
+        (script : Option (List ℕ)) → IfSome script (λ s. IsTrue (is_script s)) → (xs : List (List ℕ)) →
+        AllByRecursion (λ s. IsTrue (is_extended s)) xs → (taken : ℕ) → ((length xs + taken ≤ 3) ⊎ (xs ≡ [])) → (stage : Stage) →
+        Speaking taken stage → (l : ℕ) →
+        ends_after stage (all_at l) (xs ++ (one_flat script ++ (one_flat region ++ (vs ++ rest_of es p)))) ≡ after_language (l + weight xs) script region vs es p
     language_ends script is [] fits taken few stage speaking l =
         script_ends l taken stage speaking script is l ∙ ap (λ k. after_language k script region vs es p) (omega arith)
     language_ends script is (x ∷ xs) fits taken (inr none_left) stage speaking l = absurd cc
@@ -146,7 +174,9 @@ module _ (vs : List (List ℕ)) (es : List Extension) (p : Option PrivateUse) (f
 -- ---- the law
 
 -- the ends of a record, by the weights of its parts
-ends_of-weights : (r : Record) → after_language (length r.primary + weight r.extended) r.script r.region r.variants r.extensions r.private_use ≡ ends_of r
+ends_of-weights :
+    (r : Record) →
+    after_language (length r.primary + weight r.extended) r.script r.region r.variants r.extensions r.private_use ≡ ends_of r
 ends_of-weights r =
     let xs = r.extended in
     let c = one_flat r.script in

@@ -28,7 +28,9 @@ IsRead p = HasStopped p ⊎ ((m : Machine) × Tracks p m)
 at_hyphen : (p : List ℕ) (m : Machine) → Tracks p m → IsRead (p ++ 45 ∷ [])
 at_hyphen p m tracks = by_next (next_by m.stage (classes_of_shape m.begun)) refl
   where
-    by_mark : next_by m.stage (classes_of_shape m.begun) ≡ None → ((m.stage ≡ Start) ⊎ (m.stage ≡ Start → ⊥)) → (v : Bool) → (classes_of_shape m.begun).mark ≡ v → IsRead (p ++ 45 ∷ [])
+    by_mark :
+        next_by m.stage (classes_of_shape m.begun) ≡ None → ((m.stage ≡ Start) ⊎ (m.stage ≡ Start → ⊥)) → (v : Bool) →
+        (classes_of_shape m.begun).mark ≡ v → IsRead (p ++ 45 ∷ [])
     by_mark next (inl first) true mark = inr (_, tracks_marked p m first mark tracks)
     by_mark next (inl first) false mark = inl (tracks_refused p m next (λ x. mark) tracks)
     by_mark next (inr later) v mark = inl (tracks_refused p m next (λ x. absurd (later x)) tracks)

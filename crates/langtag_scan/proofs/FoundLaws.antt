@@ -35,7 +35,9 @@ private_found text private_use h = (λ is. h, λ is. refl)
 private_found text (irregular index) h = (λ is. absurd cc, λ is. absurd (private_no_irregular text is (index, h)))
 
 -- the ends that were found are those of the text, and there are none where it is not normal
-pub found_ends : (text : List ℕ) (found : Finding) (ends : Option Ends) → IsFoundOf text found → ends ≡ normal_ends found → MatchOption ends (IsNormal text → ⊥) (λ e. HasEnds text e)
+pub found_ends :
+    (text : List ℕ) (found : Finding) (ends : Option Ends) → IsFoundOf text found → ends ≡ normal_ends found →
+    MatchOption ends (IsNormal text → ⊥) (λ e. HasEnds text e)
 unfolding IsIrregular
 found_ends text (normal e) ends h at = rw at h
 found_ends text private_use ends h at = rw at (λ is. normal_no_private text is h)
@@ -50,7 +52,9 @@ pub irregular_had : (index : ℕ) (text : List ℕ) → ∥ IsIrregularAt index 
 unfolding IsIrregularAt
 irregular_had index text merely = by_name (slice_get irregular_texts index) refl
   where
-    by_name : (o : Option (List ℕ)) → slice_get irregular_texts index ≡ o → (name : List ℕ) × (slice_get irregular_texts index ≡ Some name) × Alike name text
+    by_name :
+        (o : Option (List ℕ)) → slice_get irregular_texts index ≡ o →
+        (name : List ℕ) × (slice_get irregular_texts index ≡ Some name) × Alike name text
     by_name None past = absurd (∥∥₁_elim merely (λ x y. absurd x) (λ h. let at = h.1 in cc))
     by_name (Some name) at = (name, at, ∥∥₁_elim merely (hlevel props) (λ h. let here = h.1 in let same : h.0 ≡ name = cc in subst (λ n. Alike n text) same h.2))
 

@@ -122,7 +122,9 @@ first_tells b c x y h =
     ]
 
 -- what stands between two texts with one prefix has it too
-between_prefixes : (p x y z : List ℕ) → is_before x y ≡ true → is_before y z ≡ true → is_prefix p x ≡ true → is_prefix p z ≡ true → is_prefix p y ≡ true
+between_prefixes :
+    (p x y z : List ℕ) → is_before x y ≡ true → is_before y z ≡ true → is_prefix p x ≡ true → is_prefix p z ≡ true →
+    is_prefix p y ≡ true
 between_prefixes [] x y z xy yz fx fz = refl
 between_prefixes (b ∷ p) [] y z xy yz fx fz = absurd cc
 between_prefixes (b ∷ p) (c ∷ x) y [] xy yz fx fz = absurd cc

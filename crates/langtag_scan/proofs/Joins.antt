@@ -73,7 +73,9 @@ pub drop-join : (x : List ℕ) (xs ys : List (List ℕ)) → drop (length (join 
 drop-join x xs ys = drop_cut (join (x ∷ (xs ++ ys))) (join (x ∷ xs)) (hyphenated ys) (length (join (x ∷ xs))) (join-append x xs ys) refl
 
 -- to replace subtags, each after its hyphen, in the text is to replace them in the list
-pub join-replaced : (x : List ℕ) (xs ys zs us : List (List ℕ)) → replace_range (join (x ∷ (xs ++ (ys ++ zs)))) (length (join (x ∷ xs))) (length (join (x ∷ (xs ++ ys)))) (hyphenated us) ≡ join (x ∷ (xs ++ (us ++ zs)))
+pub join-replaced :
+    (x : List ℕ) (xs ys zs us : List (List ℕ)) →
+    replace_range (join (x ∷ (xs ++ (ys ++ zs)))) (length (join (x ∷ xs))) (length (join (x ∷ (xs ++ ys)))) (hyphenated us) ≡ join (x ∷ (xs ++ (us ++ zs)))
 join-replaced x xs ys zs us =
     let rest : drop (length (join (x ∷ (xs ++ ys)))) (join (x ∷ (xs ++ (ys ++ zs)))) ≡ hyphenated zs = simp append_assoc at (drop-join x (xs ++ ys) zs) in
     rw (take-join x xs (ys ++ zs), rest) (sym (join-around x xs us zs))
@@ -97,7 +99,9 @@ pub unwrap_or-joined : (ss : List (List ℕ)) → unwrap_or (joined ss) [] ≡ j
 unwrap_or-joined [] = refl
 unwrap_or-joined (s ∷ ss) = refl
 
-text_between-cut : (text prefix part rest : List ℕ) (end : ℕ) → text ≡ prefix ++ 45 ∷ (part ++ rest) → end ≡ length prefix + 1 + length part → text_between text (length prefix) end ≡ Some part
+text_between-cut :
+    (text prefix part rest : List ℕ) (end : ℕ) → text ≡ prefix ++ 45 ∷ (part ++ rest) → end ≡ length prefix + 1 + length part →
+    text_between text (length prefix) end ≡ Some part
 text_between-cut text prefix part rest end cut at =
     let later = ne_eqb (length prefix) end (λ same. omega arith) in
     let size : end - (length prefix + 1) ≡ length part = omega arith in
@@ -105,7 +109,9 @@ text_between-cut text prefix part rest end cut at =
     rw later (ap Some (rw (size, later_text) (take_at part rest (length part) refl)))
 
 -- the subtags between two prefixes of a list
-pub text_between-join : (x : List ℕ) (xs ys zs : List (List ℕ)) → text_between (join (x ∷ (xs ++ (ys ++ zs)))) (length (join (x ∷ xs))) (length (join (x ∷ (xs ++ ys)))) ≡ joined ys
+pub text_between-join :
+    (x : List ℕ) (xs ys zs : List (List ℕ)) →
+    text_between (join (x ∷ (xs ++ (ys ++ zs)))) (length (join (x ∷ xs))) (length (join (x ∷ (xs ++ ys)))) ≡ joined ys
 text_between-join x xs [] zs = rw (append-nil xs, eq-eqb (length (join (x ∷ xs))) (length (join (x ∷ xs))) refl) refl
 text_between-join x xs (y ∷ ys) zs =
     let part : hyphenated (y ∷ ys) ≡ 45 ∷ join (y ∷ ys) = ap (λ t. 45 ∷ t) (sym (join-hyphenated y ys)) in
@@ -113,5 +119,7 @@ text_between-join x xs (y ∷ ys) zs =
     text_between-cut (join (x ∷ (xs ++ ((y ∷ ys) ++ zs)))) (join (x ∷ xs)) (join (y ∷ ys)) (hyphenated zs) (length (join (x ∷ (xs ++ y ∷ ys)))) whole (omega (arith, length-join-append x xs (y ∷ ys), ap length part))
 
 -- the same, however the prefixes are grouped
-pub text_between-lists : (x : List ℕ) (xs ys zs prefix whole : List (List ℕ)) → prefix ≡ xs ++ ys → whole ≡ xs ++ (ys ++ zs) → text_between (join (x ∷ whole)) (length (join (x ∷ xs))) (length (join (x ∷ prefix))) ≡ joined ys
+pub text_between-lists :
+    (x : List ℕ) (xs ys zs prefix whole : List (List ℕ)) → prefix ≡ xs ++ ys → whole ≡ xs ++ (ys ++ zs) →
+    text_between (join (x ∷ whole)) (length (join (x ∷ xs))) (length (join (x ∷ prefix))) ≡ joined ys
 text_between-lists x xs ys zs prefix whole to_prefix to_whole = rw (to_prefix, to_whole) (text_between-join x xs ys zs)

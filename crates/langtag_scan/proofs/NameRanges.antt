@@ -51,7 +51,10 @@ module _ (passes : ℕ → Bool) (low high from to : ℕ) where
       and_from (is_within low high (to - 1)) (passes (to - 1)) (in_range low high (to - 1) (omega (arith, narrows.above)) (omega (arith, narrows.below))) (narrows.last some)
 
   -- where those that are left are neighbours, the new range has just them
-  pub narrowed : Narrows passes low high from to → ((i j k : ℕ) → i ≤ j → j ≤ k → k < high → is_left passes low high i ≡ true → is_left passes low high k ≡ true → is_left passes low high j ≡ true) → (k : ℕ) → is_left passes low high k ≡ is_within from to k
+  pub narrowed :
+      Narrows passes low high from to →
+      ((i j k : ℕ) → i ≤ j → j ≤ k → k < high → is_left passes low high i ≡ true → is_left passes low high k ≡ true → is_left passes low high j ≡ true) →
+      (k : ℕ) → is_left passes low high k ≡ is_within from to k
   narrowed narrows neighbours k =
       elim (cases_lt k from) [
         | inl before ↦ left_before narrows k before ∙ sym (below_range from to k before)
@@ -64,11 +67,16 @@ module _ (passes : ℕ → Bool) (low high from to : ℕ) where
       ]
 
 -- the texts that matter and may begin so are neighbours, so the new range has just them
-pub followed_narrowed : (len : ℕ) (p : List ℕ) (passes : ℕ → Bool) (low high from to : ℕ) → high ≤ 17 → ((k : ℕ) → k < 17 → is_followed len p k ≡ is_left passes low high k) → Narrows passes low high from to → (k : ℕ) → k < 17 → is_followed len p k ≡ is_within from to k
+pub followed_narrowed :
+    (len : ℕ) (p : List ℕ) (passes : ℕ → Bool) (low high from to : ℕ) → high ≤ 17 →
+    ((k : ℕ) → k < 17 → is_followed len p k ≡ is_left passes low high k) → Narrows passes low high from to → (k : ℕ) → k < 17 →
+    is_followed len p k ≡ is_within from to k
 followed_narrowed len p passes low high from to few left narrows k within =
     left k within ∙ narrowed passes low high from to narrows neighbours k
   where
-    neighbours : (i j l : ℕ) → i ≤ j → j ≤ l → l < high → is_left passes low high i ≡ true → is_left passes low high l ≡ true → is_left passes low high j ≡ true
+    neighbours :
+        (i j l : ℕ) → i ≤ j → j ≤ l → l < high → is_left passes low high i ≡ true → is_left passes low high l ≡ true →
+        is_left passes low high j ≡ true
     neighbours i j l first last below one other =
         sym (left j (omega arith)) ∙ followed_between len p i j l first last (omega arith) (left i (omega arith) ∙ one) (left l (omega arith) ∙ other)
 
@@ -88,7 +96,9 @@ follows-append p u names gone follows = record {
 }
 
 -- an irregular text is the first of the range, and has its length
-pub irregular_first : (p : List ℕ) (low high : ℕ) → high ≤ 17 → ((k : ℕ) → k < 17 → is_followed (length p) p k ≡ is_within low high k) → IsIrregular p → (low < high) × (length (folded_at low) ≡ length p)
+pub irregular_first :
+    (p : List ℕ) (low high : ℕ) → high ≤ 17 → ((k : ℕ) → k < 17 → is_followed (length p) p k ≡ is_within low high k) →
+    IsIrregular p → (low < high) × (length (folded_at low) ≡ length p)
 unfolding IsIrregular
 irregular_first p low high few possible (k, irregular) =
     let is = possible_itself p k irregular in

@@ -57,14 +57,18 @@ pub followed_possible : (len : ℕ) (p : List ℕ) (k : ℕ) → is_followed len
 followed_possible len p k followed = (and_parts (matters len k) (is_possible p k) followed).1
 
 -- they are neighbours
-pub followed_between : (len : ℕ) (p : List ℕ) (i j k : ℕ) → i ≤ j → j ≤ k → k < 17 → is_followed len p i ≡ true → is_followed len p k ≡ true → is_followed len p j ≡ true
+pub followed_between :
+    (len : ℕ) (p : List ℕ) (i j k : ℕ) → i ≤ j → j ≤ k → k < 17 → is_followed len p i ≡ true → is_followed len p k ≡ true →
+    is_followed len p j ≡ true
 followed_between len p i j k from to within first last =
     let a = and_parts (matters len i) (is_possible p i) first in
     let b = and_parts (matters len k) (is_possible p k) last in
     and_from (matters len j) (is_possible p j) (matters_between len i j k from to a.0 b.0) (possible_between p i j k from to within a.1 b.1)
 
 -- after one byte more: those that were, and have the byte, folded
-pub followed-push : (len : ℕ) (p : List ℕ) (b k : ℕ) → is_followed len (p ++ b ∷ []) k ≡ (is_followed len p k && has_at (folded_at k) (length p) (fold_byte b))
+pub followed-push :
+    (len : ℕ) (p : List ℕ) (b k : ℕ) →
+    is_followed len (p ++ b ∷ []) k ≡ (is_followed len p k && has_at (folded_at k) (length p) (fold_byte b))
 followed-push len p b k =
     ap (λ v. matters len k && v) (possible-push p b k)
     ∙ sym (and_assoc (matters len k) (is_possible p k) (has_at (folded_at k) (length p) (fold_byte b)))
@@ -79,7 +83,9 @@ followed-append len p (b ∷ u) k gone =
 -- ---- after the first byte
 
 -- those that matter and begin with it are possible then
-pub followed_first : (len : ℕ) (p : List ℕ) (b k : ℕ) → length p ≡ 0 → is_followed len (p ++ b ∷ []) k ≡ (matters len k && has_at (folded_at k) 0 (fold_byte b))
+pub followed_first :
+    (len : ℕ) (p : List ℕ) (b k : ℕ) → length p ≡ 0 →
+    is_followed len (p ++ b ∷ []) k ≡ (matters len k && has_at (folded_at k) 0 (fold_byte b))
 followed_first len [] b k none =
     followed-push len [] b k ∙ ap (λ v. v && has_at (folded_at k) 0 (fold_byte b)) (and-true (matters len k))
 followed_first len (a ∷ p) b k none = absurd (omega (arith, none))
@@ -106,7 +112,9 @@ pub begun_s : (len k : ℕ) → len ≡ 9 → k < 17 → (matters len k && has_a
 begun_s len k nine within = rw (has_initial k 115 within) (grind (arith, nat_tests))
 
 -- and none begins with another byte, or with another than `i` where the length is not nine
-pub begun_other : (len k b : ℕ) → (b ≡ 101 → ⊥) → (b ≡ 105 → ⊥) → (b ≡ 115 → ⊥) → k < 17 → (matters len k && has_at (folded_at k) 0 b) ≡ is_within 0 0 k
+pub begun_other :
+    (len k b : ℕ) → (b ≡ 101 → ⊥) → (b ≡ 105 → ⊥) → (b ≡ 115 → ⊥) → k < 17 →
+    (matters len k && has_at (folded_at k) 0 b) ≡ is_within 0 0 k
 begun_other len k b no_e no_i no_s within = rw (has_initial k b within) (grind (arith, nat_tests))
 
 pub begun_short : (len k b : ℕ) → (len ≡ 9 → ⊥) → (b ≡ 105 → ⊥) → k < 17 → (matters len k && has_at (folded_at k) 0 b) ≡ is_within 0 0 k

@@ -73,7 +73,9 @@ some_map : {A B : Type 0} (f : A → B) (o : Option A) → is_some (option_map f
 some_map f None = refl
 some_map f (Some x) = refl
 
-runs_bind : (f : Stage → Bool) (g : Stage → Option Read) (h : Stage → Read → Read) → ((x : Stage) → f x ≡ is_some (g x)) → (o : Option Stage) → option_map_or f o false ≡ is_some (option_and_then (λ x. option_map (h x) (g x)) o)
+runs_bind :
+    (f : Stage → Bool) (g : Stage → Option Read) (h : Stage → Read → Read) → ((x : Stage) → f x ≡ is_some (g x)) →
+    (o : Option Stage) → option_map_or f o false ≡ is_some (option_and_then (λ x. option_map (h x) (g x)) o)
 runs_bind f g h same None = refl
 runs_bind f g h same (Some x) = same x ∙ sym (some_map (h x) (g x))
 

@@ -43,7 +43,9 @@ unfolding folded_texts
 seventeen = refl
 
 -- where the fold changes nothing of the test, no irregular text passes it
-irregular_fails : (test : List (List ℕ) → Bool) → ((ss : List (List ℕ)) → test (map fold_text ss) ≡ test ss) → none_passes test ≡ true → (t : List ℕ) → IsIrregular t → test (segments t) ≡ false
+irregular_fails :
+    (test : List (List ℕ) → Bool) → ((ss : List (List ℕ)) → test (map fold_text ss) ≡ test ss) → none_passes test ≡ true →
+    (t : List ℕ) → IsIrregular t → test (segments t) ≡ false
 unfolding IsIrregular IsIrregularAt
 irregular_fails test same none t h =
     let here = irregular_here h.0 h.1.0 h.1.1 in

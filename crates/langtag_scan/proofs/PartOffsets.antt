@@ -46,7 +46,9 @@ pub variants_between : (r : Record) → text_between (spell r) (ends_of r).regio
 variants_between r =
     text_between-lists r.primary (to_region r) r.variants (flat_map extension_flat r.extensions ++ private_part_flat r.private_use) (to_variants r) (to_private_use r) (simp append_assoc) (simp append_assoc)
 
-pub extensions_between : (r : Record) → text_between (spell r) (ends_of r).variants (ends_of r).extensions ≡ joined (flat_map extension_flat r.extensions)
+pub extensions_between :
+    (r : Record) →
+    text_between (spell r) (ends_of r).variants (ends_of r).extensions ≡ joined (flat_map extension_flat r.extensions)
 extensions_between r =
     text_between-lists r.primary (to_variants r) (flat_map extension_flat r.extensions) (private_part_flat r.private_use) (to_extensions r) (to_private_use r) (simp append_assoc) (simp append_assoc)
 
@@ -82,10 +84,14 @@ join-parts r =
 abbrev ends_at : ℕ → ℕ → ℕ → ℕ → ℕ → ℕ → Ends
 ends_at l c g v x w = record { language = l; script = c; region = g; variants = v; extensions = x; whole = w }
 
-made_ends : (l c g v x w l' c' g' v' x' w' : ℕ) → l ≡ l' → c ≡ c' → g ≡ g' → v ≡ v' → x ≡ x' → w ≡ w' → ends_at l c g v x w ≡ ends_at l' c' g' v' x' w'
+made_ends :
+    (l c g v x w l' c' g' v' x' w' : ℕ) → l ≡ l' → c ≡ c' → g ≡ g' → v ≡ v' → x ≡ x' → w ≡ w' →
+    ends_at l c g v x w ≡ ends_at l' c' g' v' x' w'
 made_ends l c g v x w l' c' g' v' x' w' el ec eg ev ex ew = rw (el, ec, eg, ev, ex, ew) refl
 
 -- where each of their six offsets is
-pub ends_equal : (d e : Ends) → d.language ≡ e.language → d.script ≡ e.script → d.region ≡ e.region → d.variants ≡ e.variants → d.extensions ≡ e.extensions → d.whole ≡ e.whole → d ≡ e
+pub ends_equal :
+    (d e : Ends) → d.language ≡ e.language → d.script ≡ e.script → d.region ≡ e.region → d.variants ≡ e.variants →
+    d.extensions ≡ e.extensions → d.whole ≡ e.whole → d ≡ e
 ends_equal d e language script region variants extensions whole =
     made_ends _ _ _ _ _ _ e.language e.script e.region e.variants e.extensions e.whole language script region variants extensions whole

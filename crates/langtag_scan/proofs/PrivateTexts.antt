@@ -29,7 +29,9 @@ pub marked_from_private : (t : List ℕ) → IsPrivate t → IsMarked t
 unfolding IsPrivate
 marked_from_private t h = by_subtags h.0.mark h.0.subtags h.1.mark h.1.some h.1.subtags h.2
   where
-    by_subtags : (m : ℕ) (ss : List (List ℕ)) → is_mark m ≡ true → 1 ≤ length ss → AllByRecursion (λ s. IsTrue (is_private_subtag s)) ss → join ((m ∷ []) ∷ ss) ≡ t → IsMarked t
+    by_subtags :
+        (m : ℕ) (ss : List (List ℕ)) → is_mark m ≡ true → 1 ≤ length ss → AllByRecursion (λ s. IsTrue (is_private_subtag s)) ss →
+        join ((m ∷ []) ∷ ss) ≡ t → IsMarked t
     by_subtags m [] mark some each e = absurd (omega arith)
     by_subtags m (s ∷ ss) mark some each e =
         let d = after_mark (s ∷ ss) some each in
@@ -72,7 +74,9 @@ private_from_marked m u mark run =
     private_from_runs (m ∷ 45 ∷ u) (ap runs_private (segments-marked m u mark) ∙ and_from (is_mark m) (runs AfterMark (segments u)) mark run)
 
 -- a private text that begins with letters and digits and then another byte
-pub private_begun : (s : List ℕ) (b : ℕ) (u : List ℕ) → are_alphanumeric s ≡ true → IsPrivate (s ++ b ∷ u) → ((s ≡ []) × (is_mark b ≡ true)) ⊎ ((m : ℕ) × (s ≡ m ∷ []) × (is_mark m ≡ true) × (b ≡ 45))
+pub private_begun :
+    (s : List ℕ) (b : ℕ) (u : List ℕ) → are_alphanumeric s ≡ true → IsPrivate (s ++ b ∷ u) →
+    ((s ≡ []) × (is_mark b ≡ true)) ⊎ ((m : ℕ) × (s ≡ m ∷ []) × (is_mark m ≡ true) × (b ≡ 45))
 private_begun [] b u h p =
     let k = marked_from_private (b ∷ u) p in
     let split : b ∷ u ≡ k.mark ∷ 45 ∷ k.rest = k.split in

@@ -43,7 +43,10 @@ later_private : (p : List ℕ) (b : ℕ) → ((u : List ℕ) → IsPrivate (p ++
 later_private p b never u n = never (b ∷ u) (subst IsPrivate (append_assoc p (b ∷ []) u) n)
 
 -- no private text goes on with a byte after a prefix: neither after its first subtag, nor after a later one
-no_private : (p : List ℕ) (b : ℕ) (stage : Stage) (e : Ends) → ReadsNormal p stage (begun p) e → (stage ≡ Start → are_alphanumeric p ≡ true → p ≡ begun p → (u : List ℕ) → IsPrivate ((p ++ b ∷ []) ++ u) → ⊥) → (u : List ℕ) → IsPrivate ((p ++ b ∷ []) ++ u) → ⊥
+no_private :
+    (p : List ℕ) (b : ℕ) (stage : Stage) (e : Ends) → ReadsNormal p stage (begun p) e →
+    (stage ≡ Start → are_alphanumeric p ≡ true → p ≡ begun p → (u : List ℕ) → IsPrivate ((p ++ b ∷ []) ++ u) → ⊥) → (u : List ℕ) →
+    IsPrivate ((p ++ b ∷ []) ++ u) → ⊥
 no_private p b stage e n at_start u private =
     elim (starting stage) [
       | inl first ↦ let whole = n.first first in at_start first (rw whole n.goes.begun.alphanumeric) whole u private
@@ -62,7 +65,9 @@ normal_nothing = record {
 
 -- ---- one byte that the subtag holds
 
-pub normal_grown : (p : List ℕ) (b : ℕ) (stage : Stage) (e : Ends) → eqb b 45 ≡ false → may_hold stage b ≡ true → length (begun p) < 8 → ReadsNormal p stage (begun p) e → ReadsNormal (p ++ b ∷ []) stage (begun p ++ b ∷ []) e
+pub normal_grown :
+    (p : List ℕ) (b : ℕ) (stage : Stage) (e : Ends) → eqb b 45 ≡ false → may_hold stage b ≡ true → length (begun p) < 8 →
+    ReadsNormal p stage (begun p) e → ReadsNormal (p ++ b ∷ []) stage (begun p ++ b ∷ []) e
 normal_grown p b stage e other held short n = record {
   goes = goes_grown Start stage p (begun p) b held short n.goes;
   ends = λ u.
@@ -74,7 +79,9 @@ normal_grown p b stage e other held short n = record {
   later = λ h. later_private p b (n.later h);
 }
 
-pub private_grown : (p : List ℕ) (b : ℕ) (stage : Stage) → may_hold stage b ≡ true → length (begun p) < 8 → ReadsPrivate p stage (begun p) → ReadsPrivate (p ++ b ∷ []) stage (begun p ++ b ∷ [])
+pub private_grown :
+    (p : List ℕ) (b : ℕ) (stage : Stage) → may_hold stage b ≡ true → length (begun p) < 8 → ReadsPrivate p stage (begun p) →
+    ReadsPrivate (p ++ b ∷ []) stage (begun p ++ b ∷ [])
 private_grown p b stage held short n = record {
   mark = n.mark;
   rest = n.rest ++ b ∷ [];
@@ -88,7 +95,9 @@ private_grown p b stage held short n = record {
 -- ---- one byte that ends all
 
 -- at the first subtag, a byte that is no hyphen and no letter makes no private text
-first_stuck : (p : List ℕ) (b : ℕ) (u : List ℕ) → eqb b 45 ≡ false → ((is_letter b ≡ false) ⊎ (8 ≤ length p)) → are_alphanumeric p ≡ true → IsPrivate ((p ++ b ∷ []) ++ u) → ⊥
+first_stuck :
+    (p : List ℕ) (b : ℕ) (u : List ℕ) → eqb b 45 ≡ false → ((is_letter b ≡ false) ⊎ (8 ≤ length p)) → are_alphanumeric p ≡ true →
+    IsPrivate ((p ++ b ∷ []) ++ u) → ⊥
 first_stuck p b u other stuck held private =
     elim (private_begun p b u held (subst IsPrivate (append_assoc p (b ∷ []) u) private)) [
       | inl k ↦ elim stuck [
@@ -103,17 +112,23 @@ stuck_why : (stage : Stage) (s : List ℕ) (b : ℕ) → ((may_hold stage b ≡ 
 stuck_why stage s b (inl never) = stuck_other stage s b never
 stuck_why stage s b (inr full) = stuck_full stage s b full
 
-first_why : (p : List ℕ) (b : ℕ) (stage : Stage) → stage ≡ Start → p ≡ begun p → ((may_hold stage b ≡ false) ⊎ (8 ≤ length (begun p))) → (is_letter b ≡ false) ⊎ (8 ≤ length p)
+first_why :
+    (p : List ℕ) (b : ℕ) (stage : Stage) → stage ≡ Start → p ≡ begun p → ((may_hold stage b ≡ false) ⊎ (8 ≤ length (begun p))) →
+    (is_letter b ≡ false) ⊎ (8 ≤ length p)
 first_why p b stage first whole (inl never) = inl (rw first at never)
 first_why p b stage first whole (inr full) = inr (omega (arith, ap length whole))
 
-pub normal_stuck : (p : List ℕ) (b : ℕ) (stage : Stage) (e : Ends) → eqb b 45 ≡ false → ((may_hold stage b ≡ false) ⊎ (8 ≤ length (begun p))) → ReadsNormal p stage (begun p) e → HasStopped (p ++ b ∷ [])
+pub normal_stuck :
+    (p : List ℕ) (b : ℕ) (stage : Stage) (e : Ends) → eqb b 45 ≡ false → ((may_hold stage b ≡ false) ⊎ (8 ≤ length (begun p))) →
+    ReadsNormal p stage (begun p) e → HasStopped (p ++ b ∷ [])
 normal_stuck p b stage e other why n = record {
   not_normal = λ u. not_normal ((p ++ b ∷ []) ++ u) (goes_stuck Start stage p (begun p) b u other (stuck_why stage (begun p) b why) n.goes);
   not_private = no_private p b stage e n (λ first held whole u. first_stuck p b u other (first_why p b stage first whole why) held);
 }
 
-pub private_stuck : (p : List ℕ) (b : ℕ) (stage : Stage) → eqb b 45 ≡ false → ((may_hold stage b ≡ false) ⊎ (8 ≤ length (begun p))) → ReadsPrivate p stage (begun p) → HasStopped (p ++ b ∷ [])
+pub private_stuck :
+    (p : List ℕ) (b : ℕ) (stage : Stage) → eqb b 45 ≡ false → ((may_hold stage b ≡ false) ⊎ (8 ≤ length (begun p))) →
+    ReadsPrivate p stage (begun p) → HasStopped (p ++ b ∷ [])
 private_stuck p b stage other why n = record {
   not_normal = later_normal p b n.not_normal;
   not_private = λ u. not_marked n.mark (n.rest ++ b ∷ []) (p ++ b ∷ []) u (ap (λ t. t ++ b ∷ []) n.split) (goes_stuck AfterMark stage n.rest (begun p) b u other (stuck_why stage (begun p) b why) n.goes);
@@ -126,7 +141,9 @@ unfolding is_mark
 hyphen_no_mark = refl
 
 -- a first subtag after which a stage follows is no mark
-not_private_start : (p : List ℕ) (u : List ℕ) (after : Stage) → are_alphanumeric p ≡ true → next_stage Start p ≡ Some after → IsPrivate ((p ++ 45 ∷ []) ++ u) → ⊥
+not_private_start :
+    (p : List ℕ) (u : List ℕ) (after : Stage) → are_alphanumeric p ≡ true → next_stage Start p ≡ Some after →
+    IsPrivate ((p ++ 45 ∷ []) ++ u) → ⊥
 not_private_start p u after held next private =
     elim (private_begun p 45 u held (subst IsPrivate (append_assoc p (45 ∷ []) u) private)) [
       | inl k ↦ both_ways (is_mark 45) hyphen_no_mark k.1
@@ -137,14 +154,18 @@ not_private_start p u after held next private =
     ]
 
 -- the ends after a hyphen are those with the end of the subtag before it
-ends_hyphen : (stage after : Stage) (s u : List ℕ) (e : Ends) (n : ℕ) → are_alphanumeric s ≡ true → next_stage stage s ≡ Some after → index_after stage e s ≡ n → ends_after stage e (segments (s ++ 45 ∷ u)) ≡ ends_after after (end_at after n e) (segments u)
+ends_hyphen :
+    (stage after : Stage) (s u : List ℕ) (e : Ends) (n : ℕ) → are_alphanumeric s ≡ true → next_stage stage s ≡ Some after →
+    index_after stage e s ≡ n → ends_after stage e (segments (s ++ 45 ∷ u)) ≡ ends_after after (end_at after n e) (segments u)
 ends_hyphen stage after s u e n held next at =
     ap (ends_after stage e) (segments-hyphen s u held)
     ∙ ends_after-cons stage e s (segments u)
     ∙ ap (λ o. option_map_or (λ x. ends_after x (end_at x (index_after stage e s) e) (segments u)) o e) next
     ∙ ap (λ k. ends_after after (end_at after k e) (segments u)) at
 
-pub normal_after : (p : List ℕ) (stage after : Stage) (e : Ends) → next_stage stage (begun p) ≡ Some after → ReadsNormal p stage (begun p) e → ReadsNormal (p ++ 45 ∷ []) after [] (end_at after (length p) e)
+pub normal_after :
+    (p : List ℕ) (stage after : Stage) (e : Ends) → next_stage stage (begun p) ≡ Some after → ReadsNormal p stage (begun p) e →
+    ReadsNormal (p ++ 45 ∷ []) after [] (end_at after (length p) e)
 normal_after p stage after e next n = record {
   goes = goes_after Start stage after p (begun p) next n.goes;
   ends = λ u.
@@ -159,7 +180,9 @@ normal_after p stage after e next n = record {
     later : after ≡ Start → ⊥
     later = next_not_start stage after (begun p) next
 
-pub private_after : (p : List ℕ) (stage after : Stage) → next_stage stage (begun p) ≡ Some after → ReadsPrivate p stage (begun p) → ReadsPrivate (p ++ 45 ∷ []) after []
+pub private_after :
+    (p : List ℕ) (stage after : Stage) → next_stage stage (begun p) ≡ Some after → ReadsPrivate p stage (begun p) →
+    ReadsPrivate (p ++ 45 ∷ []) after []
 private_after p stage after next n = record {
   mark = n.mark;
   rest = n.rest ++ 45 ∷ [];
@@ -178,7 +201,9 @@ not_marked_start p u held unmarked private =
       | inr k ↦ both_ways (is_one is_mark p) unmarked (ap (is_one is_mark) k.1 ∙ k.2)
     ]
 
-pub normal_refused : (p : List ℕ) (stage : Stage) (e : Ends) → next_stage stage (begun p) ≡ None → (stage ≡ Start → is_one is_mark (begun p) ≡ false) → ReadsNormal p stage (begun p) e → HasStopped (p ++ 45 ∷ [])
+pub normal_refused :
+    (p : List ℕ) (stage : Stage) (e : Ends) → next_stage stage (begun p) ≡ None →
+    (stage ≡ Start → is_one is_mark (begun p) ≡ false) → ReadsNormal p stage (begun p) e → HasStopped (p ++ 45 ∷ [])
 normal_refused p stage e next unmarked n = record {
   not_normal = λ u. not_normal ((p ++ 45 ∷ []) ++ u) (goes_refused Start stage p (begun p) u next n.goes);
   not_private = no_private p 45 stage e n (λ first held whole u. not_marked_start p u held (ap (is_one is_mark) whole ∙ unmarked first));
@@ -197,7 +222,9 @@ one_mark [] marked = absurd cc
 one_mark (m ∷ []) marked = (m, refl, marked)
 one_mark (m ∷ c ∷ s) marked = absurd cc
 
-pub private_opened : (p : List ℕ) (e : Ends) → is_one is_mark (begun p) ≡ true → ReadsNormal p Start (begun p) e → ReadsPrivate (p ++ 45 ∷ []) AfterMark []
+pub private_opened :
+    (p : List ℕ) (e : Ends) → is_one is_mark (begun p) ≡ true → ReadsNormal p Start (begun p) e →
+    ReadsPrivate (p ++ 45 ∷ []) AfterMark []
 private_opened p e marked n =
     let m = one_mark (begun p) marked in
     let text : p ++ 45 ∷ [] ≡ m.0 ∷ 45 ∷ [] = ap (λ t. t ++ 45 ∷ []) (n.first refl ∙ m.1) in
@@ -253,7 +280,9 @@ found_with p found ends n =
     (n.0, n.1, sym ends ∙ ap (ends_after Start (all_at 0)) (sym same) ∙ ends_after-flat n.0 n.1.0)
 
 -- the ends of the text are those with the end of its last subtag
-ends_last : (p : List ℕ) (stage after : Stage) (e : Ends) → next_stage stage (begun p) ≡ Some after → ReadsNormal p stage (begun p) e → ends_after Start (all_at 0) (segments p) ≡ end_at after (length p) e
+ends_last :
+    (p : List ℕ) (stage after : Stage) (e : Ends) → next_stage stage (begun p) ≡ Some after → ReadsNormal p stage (begun p) e →
+    ends_after Start (all_at 0) (segments p) ≡ end_at after (length p) e
 ends_last p stage after e next n =
     ap (λ t. ends_after Start (all_at 0) (segments t)) (sym (append-nil p))
     ∙ n.ends []
@@ -264,12 +293,16 @@ ends_last p stage after e next n =
     ∙ ends_after-nil after (end_at after (index_after stage e (begun p)) e)
     ∙ ap (λ k. end_at after k e) n.index
 
-pub normal_accepted : (p : List ℕ) (stage after : Stage) (e : Ends) → next_stage stage (begun p) ≡ Some after → may_end after ≡ true → ReadsNormal p stage (begun p) e → IsFoundOf p (normal (end_at after (length p) e))
+pub normal_accepted :
+    (p : List ℕ) (stage after : Stage) (e : Ends) → next_stage stage (begun p) ≡ Some after → may_end after ≡ true →
+    ReadsNormal p stage (begun p) e → IsFoundOf p (normal (end_at after (length p) e))
 normal_accepted p stage after e next ends n =
     let run : runs Start (segments p) ≡ true = goes_ended Start stage p (begun p) n.goes ∙ ap (λ o. option_map_or may_end o false) next ∙ ends in
     found_with p (end_at after (length p) e) (ends_last p stage after e next n) (normal_from_runs p run)
 
-pub private_accepted : (p : List ℕ) (stage after : Stage) → next_stage stage (begun p) ≡ Some after → may_end after ≡ true → ReadsPrivate p stage (begun p) → IsPrivate p
+pub private_accepted :
+    (p : List ℕ) (stage after : Stage) → next_stage stage (begun p) ≡ Some after → may_end after ≡ true →
+    ReadsPrivate p stage (begun p) → IsPrivate p
 private_accepted p stage after next ends n =
     let run : runs AfterMark (segments n.rest) ≡ true = goes_ended AfterMark stage n.rest (begun p) n.goes ∙ ap (λ o. option_map_or may_end o false) next ∙ ends in
     subst IsPrivate (sym n.split) (private_from_marked n.mark n.rest n.marked run)

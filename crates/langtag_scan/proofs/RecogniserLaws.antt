@@ -23,7 +23,9 @@ use Rattle.langtag_scan.proofs.TagLaws.{tag_irregular, viable_from_tag, stop_at}
 -- ---- one byte more
 
 -- what is known of a prefix becomes known of the prefix with the next byte
-pub read_next : (t : List ℕ) (i b : ℕ) (P Q : List ℕ → Type 0) → i < length t → b ≡ get_or t i 0 → ((p : List ℕ) → length p ≡ i → P p → Q (p ++ b ∷ [])) → P (take i t) → Q (take (i + 1) t)
+pub read_next :
+    (t : List ℕ) (i b : ℕ) (P Q : List ℕ → Type 0) → i < length t → b ≡ get_or t i 0 →
+    ((p : List ℕ) → length p ≡ i → P p → Q (p ++ b ∷ [])) → P (take i t) → Q (take (i + 1) t)
 read_next t i b P Q within read step known =
     subst Q (ap (λ x. take i t ++ x ∷ []) read ∙ sym (take_more t i 0 within)) (step (take i t) (omega (arith, length-take i t)) known)
 
@@ -74,12 +76,16 @@ no_tag t refused never (inr (inl private)) = refused.not_private private
 no_tag t refused never (inr (inr irregular)) = never irregular
 
 -- what the irregular texts say of a text that is neither of the others
-pub found_irregular : (t : List ℕ) (found : Option Found) → IsRefused t → MatchOption found (IsIrregular t → ⊥) (λ f. IsFoundOf t (finding f)) → MatchOption found (IsTag t → ⊥) (λ f. IsFoundOf t (finding f))
+pub found_irregular :
+    (t : List ℕ) (found : Option Found) → IsRefused t → MatchOption found (IsIrregular t → ⊥) (λ f. IsFoundOf t (finding f)) →
+    MatchOption found (IsTag t → ⊥) (λ f. IsFoundOf t (finding f))
 found_irregular t None refused never = no_tag t refused never
 found_irregular t (Some f) refused found = found
 
 -- the range of the irregular texts after a prefix is that of the whole text, where the prefix is the whole or the range is empty
-pub whole_follows : (t : List ℕ) (i : ℕ) (names : Names) → i ≤ length t → (i < length t → IsGone (take i t) names) → Follows (take i t) names → Follows t names
+pub whole_follows :
+    (t : List ℕ) (i : ℕ) (names : Names) → i ≤ length t → (i < length t → IsGone (take i t) names) → Follows (take i t) names →
+    Follows t names
 whole_follows t i names within gone follows =
     elim (cases_lt i (length t)) [
       | inl before ↦ subst (λ p. Follows p names) (take-append-drop i t) (follows-append (take i t) (drop i t) names (gone before) follows)
@@ -93,7 +99,9 @@ dead_prefix t i n names le gone stopped =
     not_viable names.len (take n t) stopped (subst (λ p. IsGone p names) longer (gone-append (take i t) (drop i (take n t)) names gone))
 
 -- the stop of a text of which so many bytes were read when the machine had stopped
-pub stop_read : (t : List ℕ) (n : ℕ) (names : Names) (m : Machine) → names.high ≤ 17 → (n < length t → IsGone (take n t) names) → IsReadTo t n names m false → IsStop t n
+pub stop_read :
+    (t : List ℕ) (n : ℕ) (names : Names) (m : Machine) → names.high ≤ 17 → (n < length t → IsGone (take n t) names) →
+    IsReadTo t n names m false → IsStop t n
 stop_read t n names m few gone read =
     elim (cases_lt n (length t)) [
       | inl before ↦ stop_at t n read.within read.before (dead_prefix t n n names (omega arith) (gone before) (read.stopped refl))

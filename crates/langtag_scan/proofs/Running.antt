@@ -22,7 +22,9 @@ pub runs-nil : (stage : Stage) → runs stage [] ≡ may_end stage
 unfolding runs
 runs-nil stage = refl
 
-pub runs-cons : (stage : Stage) (s : List ℕ) (ss : List (List ℕ)) → runs stage (s ∷ ss) ≡ option_map_or (λ after. runs after ss) (next_stage stage s) false
+pub runs-cons :
+    (stage : Stage) (s : List ℕ) (ss : List (List ℕ)) →
+    runs stage (s ∷ ss) ≡ option_map_or (λ after. runs after ss) (next_stage stage s) false
 unfolding runs
 runs-cons stage s ss = refl
 
@@ -30,7 +32,9 @@ pub ends_after-nil : (stage : Stage) (e : Ends) → ends_after stage e [] ≡ e
 unfolding ends_after
 ends_after-nil stage e = refl
 
-pub ends_after-cons : (stage : Stage) (e : Ends) (s : List ℕ) (ss : List (List ℕ)) → ends_after stage e (s ∷ ss) ≡ option_map_or (λ after. ends_after after (end_at after (index_after stage e s) e) ss) (next_stage stage s) e
+pub ends_after-cons :
+    (stage : Stage) (e : Ends) (s : List ℕ) (ss : List (List ℕ)) →
+    ends_after stage e (s ∷ ss) ≡ option_map_or (λ after. ends_after after (end_at after (index_after stage e s) e) ss) (next_stage stage s) e
 unfolding ends_after
 ends_after-cons stage e s ss = refl
 
@@ -51,7 +55,9 @@ first_of : (u : List ℕ) → (v : List ℕ) × (ss : List (List ℕ)) × (segme
 first_of [] = ([], [], refl)
 first_of (b ∷ u) = by_hyphen (eqb b 45) refl (first_of u)
   where
-    by_hyphen : (v : Bool) → eqb b 45 ≡ v → ((w : List ℕ) × (ss : List (List ℕ)) × (segments u ≡ w ∷ ss)) → (w : List ℕ) × (ss : List (List ℕ)) × (segments (b ∷ u) ≡ w ∷ ss)
+    by_hyphen :
+        (v : Bool) → eqb b 45 ≡ v → ((w : List ℕ) × (ss : List (List ℕ)) × (segments u ≡ w ∷ ss)) →
+        (w : List ℕ) × (ss : List (List ℕ)) × (segments (b ∷ u) ≡ w ∷ ss)
     by_hyphen true e k = ([], segments u, slice_split-cons_yes is_hyphen b u e)
     by_hyphen false e k = (b ∷ k.0, k.1, slice_split-cons_no is_hyphen b u e ∙ ap (onto_first b) k.2)
 
@@ -108,7 +114,9 @@ start_letters : (s : List ℕ) (after : Stage) → next_stage Start s ≡ Some a
 start_letters s after e =
     elim (chosen (is_primary s) (Some (Language (cond (leb (length s) 3) 0 3))) None (Some after) e) [ inl h ↦ primary_letters s h.0 | inr h ↦ absurd cc ]
 
-not_held : (stage : Stage) (s : List ℕ) (b : ℕ) (v : List ℕ) → may_hold stage b ≡ false → (after : Stage) → next_stage stage (s ++ b ∷ v) ≡ Some after → ⊥
+not_held :
+    (stage : Stage) (s : List ℕ) (b : ℕ) (v : List ℕ) → may_hold stage b ≡ false → (after : Stage) →
+    next_stage stage (s ++ b ∷ v) ≡ Some after → ⊥
 not_held Start s b v m after e =
     let l = and_parts (are_letters s) (are_letters (b ∷ v)) (sym (list_all-append is_letter s (b ∷ v)) ∙ start_letters (s ++ b ∷ v) after e) in
     let k = and_parts (is_letter b) (are_letters v) l.1 in
@@ -144,7 +152,9 @@ pub stuck_other : (stage : Stage) (s : List ℕ) (b : ℕ) → may_hold stage b 
 unfolding IsStuck
 stuck_other stage s b m = λ v after e. not_held stage s b v m after e
 
-pub runs-stuck : (stage : Stage) (s : List ℕ) (b : ℕ) (u : List ℕ) → are_alphanumeric s ≡ true → eqb b 45 ≡ false → IsStuck stage s b → runs stage (segments (s ++ b ∷ u)) ≡ false
+pub runs-stuck :
+    (stage : Stage) (s : List ℕ) (b : ℕ) (u : List ℕ) → are_alphanumeric s ≡ true → eqb b 45 ≡ false → IsStuck stage s b →
+    runs stage (segments (s ++ b ∷ u)) ≡ false
 unfolding IsStuck
 runs-stuck stage s b u h other stuck =
     let k = first_of u in
@@ -154,30 +164,40 @@ runs-stuck stage s b u h other stuck =
 
 -- ---- one byte more of a text that goes on
 
-pub goes_grown : (first stage : Stage) (q s : List ℕ) (b : ℕ) → may_hold stage b ≡ true → length s < 8 → GoesOn first q stage s → GoesOn first (q ++ b ∷ []) stage (s ++ b ∷ [])
+pub goes_grown :
+    (first stage : Stage) (q s : List ℕ) (b : ℕ) → may_hold stage b ≡ true → length s < 8 → GoesOn first q stage s →
+    GoesOn first (q ++ b ∷ []) stage (s ++ b ∷ [])
 goes_grown first stage q s b m short g = record {
   begun = grown stage s b m short g.begun;
   same = λ u. ap (λ t. runs first (segments t)) (append_assoc q (b ∷ []) u) ∙ g.same (b ∷ u) ∙ ap (λ t. runs stage (segments t)) (sym (append_assoc s (b ∷ []) u));
 }
 
-pub goes_after : (first stage after : Stage) (q s : List ℕ) → next_stage stage s ≡ Some after → GoesOn first q stage s → GoesOn first (q ++ 45 ∷ []) after []
+pub goes_after :
+    (first stage after : Stage) (q s : List ℕ) → next_stage stage s ≡ Some after → GoesOn first q stage s →
+    GoesOn first (q ++ 45 ∷ []) after []
 goes_after first stage after q s e g = record {
   begun = empty_begun after;
   same = λ u. ap (λ t. runs first (segments t)) (append_assoc q (45 ∷ []) u) ∙ g.same (45 ∷ u) ∙ ap (runs stage) (segments-hyphen s u g.begun.alphanumeric) ∙ runs-cons stage s (segments u)
       ∙ ap (λ o. option_map_or (λ x. runs x (segments u)) o false) e;
 }
 
-pub goes_refused : (first stage : Stage) (q s u : List ℕ) → next_stage stage s ≡ None → GoesOn first q stage s → runs first (segments ((q ++ 45 ∷ []) ++ u)) ≡ false
+pub goes_refused :
+    (first stage : Stage) (q s u : List ℕ) → next_stage stage s ≡ None → GoesOn first q stage s →
+    runs first (segments ((q ++ 45 ∷ []) ++ u)) ≡ false
 goes_refused first stage q s u e g =
     ap (λ t. runs first (segments t)) (append_assoc q (45 ∷ []) u) ∙ g.same (45 ∷ u) ∙ ap (runs stage) (segments-hyphen s u g.begun.alphanumeric) ∙ runs-cons stage s (segments u)
     ∙ ap (λ o. option_map_or (λ x. runs x (segments u)) o false) e
 
-pub goes_stuck : (first stage : Stage) (q s : List ℕ) (b : ℕ) (u : List ℕ) → eqb b 45 ≡ false → IsStuck stage s b → GoesOn first q stage s → runs first (segments ((q ++ b ∷ []) ++ u)) ≡ false
+pub goes_stuck :
+    (first stage : Stage) (q s : List ℕ) (b : ℕ) (u : List ℕ) → eqb b 45 ≡ false → IsStuck stage s b → GoesOn first q stage s →
+    runs first (segments ((q ++ b ∷ []) ++ u)) ≡ false
 goes_stuck first stage q s b u other stuck g =
     ap (λ t. runs first (segments t)) (append_assoc q (b ∷ []) u) ∙ g.same (b ∷ u) ∙ runs-stuck stage s b u g.begun.alphanumeric other stuck
 
 -- at the end of the text
-pub goes_ended : (first stage : Stage) (q s : List ℕ) → GoesOn first q stage s → runs first (segments q) ≡ option_map_or may_end (next_stage stage s) false
+pub goes_ended :
+    (first stage : Stage) (q s : List ℕ) → GoesOn first q stage s →
+    runs first (segments q) ≡ option_map_or may_end (next_stage stage s) false
 goes_ended first stage q s g =
     ap (λ t. runs first (segments t)) (sym (append-nil q)) ∙ g.same [] ∙ ap (λ t. runs stage (segments t)) (append-nil s) ∙ ap (runs stage) (segments-one s g.begun.alphanumeric) ∙ runs-cons stage s []
     ∙ may_end_one (next_stage stage s)

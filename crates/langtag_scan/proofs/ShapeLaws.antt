@@ -52,7 +52,9 @@ unfolding leading_digits
 leading_digit [] b h e = rw h refl
 leading_digit (a ∷ s) b h e = by_digit (is_digit a) (λ k. leading_digit s b h k) e
   where
-    by_digit : (d : Bool) → (leading_digits s ≡ length s → leading_digits (s ++ b ∷ []) ≡ length s + 1) → cond d (leading_digits s + 1) 0 ≡ suc (length s) → cond d (leading_digits (s ++ b ∷ []) + 1) 0 ≡ suc (length s) + 1
+    by_digit :
+        (d : Bool) → (leading_digits s ≡ length s → leading_digits (s ++ b ∷ []) ≡ length s + 1) →
+        cond d (leading_digits s + 1) 0 ≡ suc (length s) → cond d (leading_digits (s ++ b ∷ []) + 1) 0 ≡ suc (length s) + 1
     by_digit true more k = omega (arith, more (omega (arith, k)))
     by_digit false more k = absurd (omega (arith, k))
 
@@ -63,7 +65,9 @@ leading_letter s b h = leading_no_digit s b (by_test (is_digit b) refl)
     by_test true e = absurd (letter_no_digit b h e)
     by_test false e = refl
 
-leading_on : (s : List ℕ) (b : ℕ) → is_alphanumeric b ≡ true → is_letter b ≡ false → leading_digits s ≡ length s → leading_digits (s ++ b ∷ []) ≡ length s + 1
+leading_on :
+    (s : List ℕ) (b : ℕ) → is_alphanumeric b ≡ true → is_letter b ≡ false → leading_digits s ≡ length s →
+    leading_digits (s ++ b ∷ []) ≡ length s + 1
 leading_on s b alnum h e = leading_digit s b (digit-letter b alnum ∙ ap not h) e
 
 leading_off : (s : List ℕ) (b : ℕ) → (leading_digits s ≡ length s → ⊥) → leading_digits (s ++ b ∷ []) ≡ leading_digits s
@@ -71,7 +75,10 @@ unfolding leading_digits
 leading_off [] b h = absurd (h refl)
 leading_off (a ∷ s) b h = by_digit (is_digit a) (λ k. leading_off s b k) h
   where
-    by_digit : (d : Bool) → ((leading_digits s ≡ length s → ⊥) → leading_digits (s ++ b ∷ []) ≡ leading_digits s) → (cond d (leading_digits s + 1) 0 ≡ suc (length s) → ⊥) → cond d (leading_digits (s ++ b ∷ []) + 1) 0 ≡ cond d (leading_digits s + 1) 0
+    by_digit :
+        (d : Bool) → ((leading_digits s ≡ length s → ⊥) → leading_digits (s ++ b ∷ []) ≡ leading_digits s) →
+        (cond d (leading_digits s + 1) 0 ≡ suc (length s) → ⊥) →
+        cond d (leading_digits (s ++ b ∷ []) + 1) 0 ≡ cond d (leading_digits s + 1) 0
     by_digit true more k = ap (λ (n : ℕ). n + 1) (more (λ e. k (omega (arith, e))))
     by_digit false more k = refl
 
@@ -82,13 +89,19 @@ last_pushed s b =
     ap (λ (n : ℕ). get_or (s ++ b ∷ []) n 0) at ∙ get_or-append_seam s b [] 0
 
 -- the shape after one more byte: a letter, a digit after digits alone, or another digit
-pub shape_letter : (s : List ℕ) (b : ℕ) → is_letter b ≡ true → shape_of (s ++ b ∷ []) ≡ record { len = length s + 1; last = b; letters = are_letters s; leading_digits = leading_digits s }
+pub shape_letter :
+    (s : List ℕ) (b : ℕ) → is_letter b ≡ true →
+    shape_of (s ++ b ∷ []) ≡ record { len = length s + 1; last = b; letters = are_letters s; leading_digits = leading_digits s }
 shape_letter s b h = rw (letters_letter s b h, leading_letter s b h, last_pushed s b, length_push s b) refl
 
-pub shape_on : (s : List ℕ) (b : ℕ) → is_alphanumeric b ≡ true → is_letter b ≡ false → leading_digits s ≡ length s → shape_of (s ++ b ∷ []) ≡ record { len = length s + 1; last = b; letters = false; leading_digits = length s + 1 }
+pub shape_on :
+    (s : List ℕ) (b : ℕ) → is_alphanumeric b ≡ true → is_letter b ≡ false → leading_digits s ≡ length s →
+    shape_of (s ++ b ∷ []) ≡ record { len = length s + 1; last = b; letters = false; leading_digits = length s + 1 }
 shape_on s b alnum h e = rw (letters_other s b h, leading_on s b alnum h e, last_pushed s b, length_push s b) refl
 
-pub shape_off : (s : List ℕ) (b : ℕ) → is_letter b ≡ false → (leading_digits s ≡ length s → ⊥) → shape_of (s ++ b ∷ []) ≡ record { len = length s + 1; last = b; letters = false; leading_digits = leading_digits s }
+pub shape_off :
+    (s : List ℕ) (b : ℕ) → is_letter b ≡ false → (leading_digits s ≡ length s → ⊥) →
+    shape_of (s ++ b ∷ []) ≡ record { len = length s + 1; last = b; letters = false; leading_digits = leading_digits s }
 shape_off s b h e = rw (letters_other s b h, leading_off s b e, last_pushed s b, length_push s b) refl
 
 -- ---- the classes
@@ -102,7 +115,9 @@ all_digits-leading (b ∷ s) = by_digit (is_digit b) (all_digits-leading s)
     one_more : (n m : ℕ) → eqb n m ≡ eqb (n + 1) (suc m)
     one_more n m = grind (arith, nat_tests)
 
-    by_digit : (d : Bool) → are_digits s ≡ eqb (leading_digits s) (length s) → (d && are_digits s) ≡ eqb (cond d (leading_digits s + 1) 0) (suc (length s))
+    by_digit :
+        (d : Bool) → are_digits s ≡ eqb (leading_digits s) (length s) →
+        (d && are_digits s) ≡ eqb (cond d (leading_digits s + 1) 0) (suc (length s))
     by_digit true h = h ∙ one_more (leading_digits s) (length s)
     by_digit false h = sym (ne_eqb 0 (suc (length s)) (λ e. omega (arith, e)))
 

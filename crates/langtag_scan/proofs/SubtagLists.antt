@@ -15,7 +15,9 @@ use Rattle.langtag_scan.proofs.SubtagFacts.{IsSubtag, no_hyphen}
 -- ---- the first and the last segment
 
 -- the first segment, and those of what stands after its hyphen
-pub segments_left-first : (text first : List ℕ) (rest : Option (Bor (List ℕ))) → IsHyphenFree first → MatchOption rest (text ≡ first) (λ r. text ≡ first ++ 45 ∷ r.now) → segments text ≡ first ∷ segments_left rest
+pub segments_left-first :
+    (text first : List ℕ) (rest : Option (Bor (List ℕ))) → IsHyphenFree first →
+    MatchOption rest (text ≡ first) (λ r. text ≡ first ++ 45 ∷ r.now) → segments text ≡ first ∷ segments_left rest
 segments_left-first text first None free whole = rw whole (slice_split_none is_hyphen first free)
 segments_left-first text first (Some rest) free joined = rw joined (slice_split_at is_hyphen first 45 rest.now free refl)
 
@@ -28,7 +30,9 @@ pub slice_split-append : (prefix back : List ℕ) → segments (prefix ++ 45 ∷
 slice_split-append [] back = refl
 slice_split-append (b ∷ prefix) back = by_first (is_hyphen b) refl (slice_split-append prefix back)
   where
-    by_first : (cut : Bool) → is_hyphen b ≡ cut → segments (prefix ++ 45 ∷ back) ≡ segments prefix ++ segments back → segments (b ∷ prefix ++ 45 ∷ back) ≡ segments (b ∷ prefix) ++ segments back
+    by_first :
+        (cut : Bool) → is_hyphen b ≡ cut → segments (prefix ++ 45 ∷ back) ≡ segments prefix ++ segments back →
+        segments (b ∷ prefix ++ 45 ∷ back) ≡ segments (b ∷ prefix) ++ segments back
     by_first true cut others =
         rw (slice_split-cons_yes is_hyphen b (prefix ++ 45 ∷ back) cut, slice_split-cons_yes is_hyphen b prefix cut, others) refl
     by_first false kept others =
@@ -40,7 +44,9 @@ pub slice_split-push : (prefix last : List ℕ) → IsHyphenFree last → segmen
 slice_split-push prefix last free = slice_split-append prefix last ∙ ap (λ back. segments prefix ++ back) (slice_split_none is_hyphen last free)
 
 -- the last segment, and those of what stands before its hyphen
-pub segments_left-last : (text last : List ℕ) (prefix : Option (Bor (List ℕ))) → IsHyphenFree last → MatchOption prefix (text ≡ last) (λ f. text ≡ f.now ++ 45 ∷ last) → segments text ≡ segments_left prefix ++ last ∷ []
+pub segments_left-last :
+    (text last : List ℕ) (prefix : Option (Bor (List ℕ))) → IsHyphenFree last →
+    MatchOption prefix (text ≡ last) (λ f. text ≡ f.now ++ 45 ∷ last) → segments text ≡ segments_left prefix ++ last ∷ []
 segments_left-last text last None free whole = rw whole (slice_split_none is_hyphen last free)
 segments_left-last text last (Some prefix) free joined = rw joined (slice_split-push prefix.now last free)
 
@@ -100,7 +106,9 @@ test_from_each test [] h = refl
 test_from_each test (s ∷ ss) h = rw (h.0, test_from_each test ss h.1) refl
 
 -- the members of a class of subtags are subtags
-pub each_subtag : (test : List ℕ → Bool) → ((s : List ℕ) → test s ≡ true → IsSubtag s) → (ss : List (List ℕ)) → AllByRecursion (λ s. IsTrue (test s)) ss → AllByRecursion IsSubtag ss
+pub each_subtag :
+    (test : List ℕ → Bool) → ((s : List ℕ) → test s ≡ true → IsSubtag s) → (ss : List (List ℕ)) →
+    AllByRecursion (λ s. IsTrue (test s)) ss → AllByRecursion IsSubtag ss
 each_subtag test shows [] h = tt
 each_subtag test shows (s ∷ ss) h = (shows s h.0, each_subtag test shows ss h.1)
 

@@ -33,7 +33,9 @@ begun-push p b other =
     rw (reverse-append p (b ∷ []), other) (ap (λ k. drop k (p ++ b ∷ [])) (omega (arith, length_push p b)) ∙ drop-append-le (length p - n) p (b ∷ []) (omega arith))
 
 -- what the shape says of the next stage, the subtag itself does
-next_of : (stage : Stage) (shape : Shape) (s : List ℕ) → shape ≡ shape_of s → IsBegun stage s → next_stage stage s ≡ next_by stage (classes_of_shape shape)
+next_of :
+    (stage : Stage) (shape : Shape) (s : List ℕ) → shape ≡ shape_of s → IsBegun stage s →
+    next_stage stage s ≡ next_by stage (classes_of_shape shape)
 next_of stage shape s is fits =
     next_stage-shape stage s (record { short = fits.short; alphanumeric = fits.alphanumeric }) ∙ ap (λ x. next_by stage (classes_of_shape x)) (sym is)
 
@@ -64,7 +66,9 @@ next_known : (p : List ℕ) (m : Machine) → Tracks p m → next_stage m.stage 
 next_known p m tracks = next_of m.stage m.begun (begun p) (shape_known p m tracks) (begun_known p m tracks)
 
 -- what follows from either kind
-by_kind : (p : List ℕ) (m : Machine) (Q : Type 0) → (ReadsNormal p m.stage (begun p) m.ends → Q) → (ReadsPrivate p m.stage (begun p) → Q) → Tracks p m → Q
+by_kind :
+    (p : List ℕ) (m : Machine) (Q : Type 0) → (ReadsNormal p m.stage (begun p) m.ends → Q) →
+    (ReadsPrivate p m.stage (begun p) → Q) → Tracks p m → Q
 by_kind p m Q normal private tracks = by_reading m.reading tracks.reads
   where
     by_reading : (r : Reading) → Reads r p m.stage m.begun m.ends → Q
@@ -78,7 +82,10 @@ tracks_nothing = (refl, normal_nothing)
 -- ---- a letter or a digit
 
 -- a byte that the subtag may hold
-pub tracks_grown : (p : List ℕ) (b : ℕ) (m : Machine) (next : Shape) → eqb b 45 ≡ false → may_hold m.stage b ≡ true → m.begun.len < 8 → (m.begun ≡ shape_of (begun p) → next ≡ shape_of (begun p ++ b ∷ [])) → Tracks p m → Tracks (p ++ b ∷ []) (record m { begun = next })
+pub tracks_grown :
+    (p : List ℕ) (b : ℕ) (m : Machine) (next : Shape) → eqb b 45 ≡ false → may_hold m.stage b ≡ true → m.begun.len < 8 →
+    (m.begun ≡ shape_of (begun p) → next ≡ shape_of (begun p ++ b ∷ [])) → Tracks p m →
+    Tracks (p ++ b ∷ []) (record m { begun = next })
 tracks_grown p b m next other held short grows tracks = record { reads = by_reading m.reading tracks.reads }
   where
     more : begun (p ++ b ∷ []) ≡ begun p ++ b ∷ []
@@ -98,7 +105,9 @@ tracks_grown p b m next other held short grows tracks = record { reads = by_read
     )
 
 -- a byte that it may not, or one too many
-pub tracks_stuck : (p : List ℕ) (b : ℕ) (m : Machine) → eqb b 45 ≡ false → ((may_hold m.stage b ≡ false) ⊎ (8 ≤ m.begun.len)) → Tracks p m → HasStopped (p ++ b ∷ [])
+pub tracks_stuck :
+    (p : List ℕ) (b : ℕ) (m : Machine) → eqb b 45 ≡ false → ((may_hold m.stage b ≡ false) ⊎ (8 ≤ m.begun.len)) → Tracks p m →
+    HasStopped (p ++ b ∷ [])
 tracks_stuck p b m other why tracks =
     by_kind p m (HasStopped (p ++ b ∷ [])) (normal_stuck p b m.stage m.ends other (of_subtag why)) (private_stuck p b m.stage other (of_subtag why)) tracks
   where
@@ -109,7 +118,9 @@ tracks_stuck p b m other why tracks =
 -- ---- a hyphen
 
 -- after which a stage follows
-pub tracks_after : (p : List ℕ) (m : Machine) (after : Stage) → next_by m.stage (classes_of_shape m.begun) ≡ Some after → Tracks p m → Tracks (p ++ 45 ∷ []) (record m { stage = after; begun = shape_of []; ends = end_at after (length p) m.ends })
+pub tracks_after :
+    (p : List ℕ) (m : Machine) (after : Stage) → next_by m.stage (classes_of_shape m.begun) ≡ Some after → Tracks p m →
+    Tracks (p ++ 45 ∷ []) (record m { stage = after; begun = shape_of []; ends = end_at after (length p) m.ends })
 tracks_after p m after next tracks = record { reads = by_reading m.reading tracks.reads }
   where
     none : begun (p ++ 45 ∷ []) ≡ []
@@ -126,7 +137,9 @@ tracks_after p m after next tracks = record { reads = by_reading m.reading track
     by_reading Private h = (ap shape_of (sym none), subst (λ s. ReadsPrivate (p ++ 45 ∷ []) after s) (sym none) (private_after p m.stage after there h.1))
 
 -- after a mark, at the first subtag: a private text
-pub tracks_marked : (p : List ℕ) (m : Machine) → m.stage ≡ Start → (classes_of_shape m.begun).mark ≡ true → Tracks p m → Tracks (p ++ 45 ∷ []) (record m { reading = Private; stage = AfterMark; begun = shape_of [] })
+pub tracks_marked :
+    (p : List ℕ) (m : Machine) → m.stage ≡ Start → (classes_of_shape m.begun).mark ≡ true → Tracks p m →
+    Tracks (p ++ 45 ∷ []) (record m { reading = Private; stage = AfterMark; begun = shape_of [] })
 tracks_marked p m first mark tracks = record {
   reads = (ap shape_of (sym none), subst (λ s. ReadsPrivate (p ++ 45 ∷ []) AfterMark s) (sym none) (by_kind p m (ReadsPrivate (p ++ 45 ∷ []) AfterMark []) opened (λ private. absurd (private.later first)) tracks));
 }
@@ -140,7 +153,9 @@ tracks_marked p m first mark tracks = record {
         private_opened p m.ends marked (subst (λ s. ReadsNormal p s (begun p) m.ends) first n)
 
 -- after which nothing follows
-pub tracks_refused : (p : List ℕ) (m : Machine) → next_by m.stage (classes_of_shape m.begun) ≡ None → (m.stage ≡ Start → (classes_of_shape m.begun).mark ≡ false) → Tracks p m → HasStopped (p ++ 45 ∷ [])
+pub tracks_refused :
+    (p : List ℕ) (m : Machine) → next_by m.stage (classes_of_shape m.begun) ≡ None →
+    (m.stage ≡ Start → (classes_of_shape m.begun).mark ≡ false) → Tracks p m → HasStopped (p ++ 45 ∷ [])
 tracks_refused p m next unmarked tracks =
     by_kind p m (HasStopped (p ++ 45 ∷ [])) (normal_refused p m.stage m.ends there no_mark) (private_refused p m.stage there) tracks
   where
@@ -159,14 +174,18 @@ tracks_filled p m tracks =
 -- ---- the end of the text
 
 -- where no tag may end
-pub tracks_rejected : (p : List ℕ) (m : Machine) → option_map_or may_end (next_by m.stage (classes_of_shape m.begun)) false ≡ false → Tracks p m → IsRefused p
+pub tracks_rejected :
+    (p : List ℕ) (m : Machine) → option_map_or may_end (next_by m.stage (classes_of_shape m.begun)) false ≡ false → Tracks p m →
+    IsRefused p
 tracks_rejected p m none tracks = by_kind p m (IsRefused p) (normal_rejected p m.stage m.ends stops) (private_rejected p m.stage stops) tracks
   where
     stops : option_map_or may_end (next_stage m.stage (begun p)) false ≡ false
     stops = ap (λ o. option_map_or may_end o false) (next_known p m tracks) ∙ none
 
 -- and where one may
-pub tracks_accepted : (p : List ℕ) (m : Machine) (after : Stage) → next_by m.stage (classes_of_shape m.begun) ≡ Some after → may_end after ≡ true → Tracks p m → IsFoundOf p (found_by m.reading (end_at after (length p) m.ends))
+pub tracks_accepted :
+    (p : List ℕ) (m : Machine) (after : Stage) → next_by m.stage (classes_of_shape m.begun) ≡ Some after → may_end after ≡ true →
+    Tracks p m → IsFoundOf p (found_by m.reading (end_at after (length p) m.ends))
 tracks_accepted p m after next ends tracks = by_reading m.reading tracks.reads
   where
     there : next_stage m.stage (begun p) ≡ Some after

@@ -95,7 +95,8 @@ impl Names {
 
     /// What was found, where the bytes that were read are the whole text.
     pub(crate) fn found(&self) -> Option<Found>
-        ensures { (p : List ℕ) → length p ≡ self.now.len → Follows p self.now → MatchOption result (IsIrregular p → ⊥) (λ found. IsFoundOf p (finding found)) }
+        ensures { (p : List ℕ) → length p ≡ self.now.len → Follows p self.now →
+            MatchOption result (IsIrregular p → ⊥) (λ found. IsFoundOf p (finding found)) }
     {
         // No text of the table begins another, so only the first can be whole.
         if self.low < self.high && folded(self.low).len() == self.len {

@@ -87,7 +87,8 @@ fn read_names<S: ByteSource>(
 /// [`recognise`] does. Its contract also has the law that a normal tag has one record of its parts.
 pub fn recognise_normal<S: ByteSource>(source: &mut S) -> Option<Found>
     requires { S.reads source.old ≤ 2 ^ 126 }
-    ensures found { MatchOption result (IsNormal (S.bytes source.old) → ⊥) (λ found. IsTrue (is_normal (finding found)) × IsFoundOf (S.bytes source.old) (finding found)) }
+    ensures found { MatchOption result (IsNormal (S.bytes source.old) → ⊥) (λ found.
+        IsTrue (is_normal (finding found)) × IsFoundOf (S.bytes source.old) (finding found)) }
     ensures bytes { S.bytes source.new ≡ S.bytes source.old }
     ensures reads { S.reads source.new ≤ S.reads source.old + length (S.bytes source.old) }
 

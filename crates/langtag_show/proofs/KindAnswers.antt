@@ -17,7 +17,9 @@ joined_pieces : (l s g v e p q : List ℕ) →
     ≡ codes "normal language=" ++ l ++ codes " script=" ++ s ++ codes " region=" ++ g ++ codes " variants=" ++ v ++ codes " extensions=" ++ e ++ codes " private=" ++ p ++ codes " repeats=" ++ q
 joined_pieces l s g v e p q = simp (append_assoc, append-nil)
 
-pub answer_normal : (line : List ℕ) (r : Record) (l s g v e p q : List ℕ) → Spells r line → l ≡ language_part r → s ≡ part_or_nothing r.script → g ≡ part_or_nothing r.region
+pub answer_normal :
+    (line : List ℕ) (r : Record) (l s g v e p q : List ℕ) → Spells r line → l ≡ language_part r → s ≡ part_or_nothing r.script →
+    g ≡ part_or_nothing r.region
     → v ≡ variants_part r → e ≡ extensions_part r → p ≡ part_or_nothing (private_use_part r) → q ≡ yes_or_no (has_repeats r)
     → IsAnswer line (codes "normal language=" ++ (l ++ (codes " script=" ++ (s ++ (codes " region=" ++ (g ++ (codes " variants=" ++ (v ++ (codes " extensions=" ++ (e ++ (codes " private=" ++ (p ++ (codes " repeats=" ++ (q ++ []))))))))))))))
 answer_normal line r l s g v e p q is language script region variants extensions private repeats =
@@ -44,7 +46,9 @@ spelling_at tag name at =
     let within : index_of tag < length irregular_texts = slice_get_within irregular_texts (index_of tag) name at in
     ap (λ texts. get_or texts (index_of tag) []) irregular_first ∙ get_or_append_left irregular_texts _ [] (index_of tag) within ∙ get_or_from_slice_get irregular_texts (index_of tag) name [] at
 
-pub answer_irregular : (line text : List ℕ) (tag : GrandfatheredLangTag) → IsIrregularAt (index_of tag) line → text ≡ text_of tag → IsAnswer line (codes "irregular " ++ (text ++ []))
+pub answer_irregular :
+    (line text : List ℕ) (tag : GrandfatheredLangTag) → IsIrregularAt (index_of tag) line → text ≡ text_of tag →
+    IsAnswer line (codes "irregular " ++ (text ++ []))
 unfolding IsIrregularAt
 answer_irregular line text tag (name, at, alike) is =
     irregular (index_of tag) name (name, at, alike) at (ap (λ t. codes "irregular " ++ t) (append-nil text ∙ is ∙ spelling_at tag name at))

@@ -22,7 +22,9 @@ record IsCutAs (input : List ℕ) (lines : List (List ℕ)) (rest : List ℕ) : 
   cut : IsCutInto input lines rest
   grows : (more : List ℕ) → pieces (input ++ more) ≡ lines ++ pieces (rest ++ more)
 
-cut_at_line_feed : (b : ℕ) (bs : List ℕ) (lines : List (List ℕ)) (rest : List ℕ) → is_line_feed b ≡ true → IsCutAs bs lines rest → IsCutAs (b ∷ bs) ([] ∷ lines) rest
+cut_at_line_feed :
+    (b : ℕ) (bs : List ℕ) (lines : List (List ℕ)) (rest : List ℕ) → is_line_feed b ≡ true → IsCutAs bs lines rest →
+    IsCutAs (b ∷ bs) ([] ∷ lines) rest
 cut_at_line_feed b bs lines rest feed cut = record {
   split = slice_split-cons_yes is_line_feed b bs feed ∙ ap (λ l. [] ∷ l) cut.split;
   cut = record {
@@ -80,7 +82,9 @@ lines_cut input =
     rw (complete_lines-pieces input lines rest cut.split, rest_of-pieces input lines rest cut.split) cut.cut
 
 -- the pieces of a cut input are its lines and its rest
-pieces-joined : (lines : List (List ℕ)) (rest : List ℕ) → AllByRecursion NoLineFeed lines → NoLineFeed rest → pieces (flat_map ended lines ++ rest) ≡ lines ++ rest ∷ []
+pieces-joined :
+    (lines : List (List ℕ)) (rest : List ℕ) → AllByRecursion NoLineFeed lines → NoLineFeed rest →
+    pieces (flat_map ended lines ++ rest) ≡ lines ++ rest ∷ []
 pieces-joined [] rest lines_free rest_free = slice_split_none is_line_feed rest rest_free
 pieces-joined (l ∷ ls) rest (free, lines_free) rest_free =
     let after = flat_map ended ls ++ rest in
@@ -88,13 +92,17 @@ pieces-joined (l ∷ ls) rest (free, lines_free) rest_free =
     ap pieces first ∙ slice_split_at is_line_feed l 10 after free refl ∙ ap (λ p. l ∷ p) (pieces-joined ls rest lines_free rest_free)
 
 -- so a cut is the complete lines and the rest
-cut_lines : (input : List ℕ) (lines : List (List ℕ)) (rest : List ℕ) → IsCutInto input lines rest → (lines ≡ complete_lines input) × (rest ≡ rest_of input)
+cut_lines :
+    (input : List ℕ) (lines : List (List ℕ)) (rest : List ℕ) → IsCutInto input lines rest →
+    (lines ≡ complete_lines input) × (rest ≡ rest_of input)
 cut_lines input lines rest cut =
     let are : pieces input ≡ lines ++ rest ∷ [] = ap pieces (sym cut.joined) ∙ pieces-joined lines rest cut.lines_free cut.rest_free in
     (sym (complete_lines-pieces input lines rest are), sym (rest_of-pieces input lines rest are))
 
 -- two cuts of an input are equal
-pub one_cut : (input : List ℕ) (lines others : List (List ℕ)) (rest other : List ℕ) → IsCutInto input lines rest → IsCutInto input others other → (lines ≡ others) × (rest ≡ other)
+pub one_cut :
+    (input : List ℕ) (lines others : List (List ℕ)) (rest other : List ℕ) → IsCutInto input lines rest →
+    IsCutInto input others other → (lines ≡ others) × (rest ≡ other)
 one_cut input lines others rest other cut also =
     let (these, this) = cut_lines input lines rest cut in
     let (those, that) = cut_lines input others other also in

@@ -22,7 +22,9 @@ one_record : (r q : Record) (line : List ℕ) → Spells r line → Spells q lin
 one_record r q line (well, spells) (also_well, also_spells) = spelled_once r q well also_well (spells ∙ sym also_spells)
 
 -- and one registered spelling
-one_spelling : (j k : ℕ) (text other line : List ℕ) → IsIrregularAt j line → IsIrregularAt k line → slice_get irregular_texts j ≡ Some text → slice_get irregular_texts k ≡ Some other
+one_spelling :
+    (j k : ℕ) (text other line : List ℕ) → IsIrregularAt j line → IsIrregularAt k line → slice_get irregular_texts j ≡ Some text →
+    slice_get irregular_texts k ≡ Some other
     → text ≡ other
 one_spelling j k text other line is also at there =
     let same : j ≡ k = irregular_once j k line is also in

@@ -19,7 +19,9 @@ pub Answers-one : (a b : Option (List ℕ)) (line text : List ℕ) → IsAnswer 
 Answers-one a b line text is p = (ended text ++ [], one_more line text [] [] is none, subst (Appends a b) (sym (append-nil (ended text))) p)
 
 -- what an empty page took until the writer gained the last of it
-pub page_written : (a b c : Option (List ℕ)) (page last taken : List ℕ) → page ≡ [] → Appends (append_known a page) (append_known b last) taken → Appends b c last → Appends a c taken
+pub page_written :
+    (a b c : Option (List ℕ)) (page last taken : List ℕ) → page ≡ [] → Appends (append_known a page) (append_known b last) taken →
+    Appends b c last → Appends a c taken
 page_written None b c page last taken empty took gained = tt
 page_written (Some x) None c page last taken empty took gained = absurd took
 page_written (Some x) (Some y) None page last taken empty took gained = absurd gained
@@ -38,14 +40,18 @@ Answers-same a b xs ys same p = subst (Answers a b) same p
 pub rest_more : (input rest more : List ℕ) → rest ≡ rest_of input → rest_of (rest ++ more) ≡ rest_of (input ++ more)
 rest_more input rest more is = ap (λ r. rest_of (r ++ more)) is ∙ sym (rest_of-append input more)
 
-lines_more : (input rest more : List ℕ) → rest ≡ rest_of input → complete_lines (input ++ more) ≡ complete_lines input ++ complete_lines (rest ++ more)
+lines_more :
+    (input rest more : List ℕ) → rest ≡ rest_of input →
+    complete_lines (input ++ more) ≡ complete_lines input ++ complete_lines (rest ++ more)
 lines_more input rest more is = complete_lines-append input more ∙ ap (λ r. complete_lines input ++ complete_lines (r ++ more)) (sym is)
 
 pub free_rest : (input rest : List ℕ) → rest ≡ rest_of input → NoLineFeed rest
 free_rest input rest is = subst NoLineFeed (sym is) (lines_cut input).rest_free
 
 -- the answers to what stood, and then to what more bytes complete
-pub written_more : (a b c : Option (List ℕ)) (input rest more : List ℕ) → rest ≡ rest_of input → Answers a b (complete_lines input) → Answers b c (complete_lines (rest ++ more))
+pub written_more :
+    (a b c : Option (List ℕ)) (input rest more : List ℕ) → rest ≡ rest_of input → Answers a b (complete_lines input) →
+    Answers b c (complete_lines (rest ++ more))
     → Answers a c (complete_lines (input ++ more))
 written_more a b c input rest more is p q = Answers-same a c _ _ (sym (lines_more input rest more is)) (Answers-trans a b c _ _ p q)
 
@@ -68,7 +74,9 @@ written_before a b c input more p kept =
     (length lines, Answers-same a c _ _ (sym prefix) (Answers-kept a b c _ p kept))
 
 -- the answers to the complete lines, and then to the last one
-pub written_all : (a b c : Option (List ℕ)) (input rest : List ℕ) → rest ≡ rest_of input → Answers a b (complete_lines input) → Answers b c (last_line rest) → Answers a c (lines_of input)
+pub written_all :
+    (a b c : Option (List ℕ)) (input rest : List ℕ) → rest ≡ rest_of input → Answers a b (complete_lines input) →
+    Answers b c (last_line rest) → Answers a c (lines_of input)
 written_all a b c input rest is p q = Answers-same a c _ _ (ap (λ r. complete_lines input ++ last_line r) is) (Answers-trans a b c _ _ p q)
 
 pub last_line-none : (rest : List ℕ) → length rest ≡ 0 → last_line rest ≡ []

@@ -36,8 +36,9 @@ normal_answer r =
 pub data IsAnswer (line : List ℕ) (text : List ℕ) : Type 0 where
   normal : (r : Record) → Spells r line → text ≡ normal_answer r → IsAnswer line text
   private_use : IsPrivate line → text ≡ codes "private " ++ line → IsAnswer line text
-  irregular : (k : ℕ) (registered : List ℕ) → IsIrregularAt k line → slice_get irregular_texts k ≡ Some registered → text ≡ codes "irregular " ++ registered
-      → IsAnswer line text
+  irregular :
+      (k : ℕ) (registered : List ℕ) → IsIrregularAt k line → slice_get irregular_texts k ≡ Some registered →
+      text ≡ codes "irregular " ++ registered → IsAnswer line text
   refused : ¬ (IsTag line) → text ≡ codes "refused" → IsAnswer line text
 
 -- the answers to lines, in order, each followed by LF

@@ -81,7 +81,8 @@ fn take_bytes<A: Allocator, W: Write>(
     requires { NoLineFeed line.old.items }
     ensures ok { OnOk result (Answers (W.contents output.old) (W.contents output.new) (complete_lines (line.old.items ++ bytes.now))) }
     ensures rest { OnOk result (line.new.items ≡ rest_of (line.old.items ++ bytes.now)) }
-    ensures memory { IsErrOf result ShowError.Memory → (k : ℕ) × Answers (W.contents output.old) (W.contents output.new) (take k (complete_lines (line.old.items ++ bytes.now))) }
+    ensures memory { IsErrOf result ShowError.Memory → (k : ℕ) ×
+        Answers (W.contents output.old) (W.contents output.new) (take k (complete_lines (line.old.items ++ bytes.now))) }
     ensures other { IfErr result (λ e. e ≢ ShowError.Read) }
 {
     for b in bytes {

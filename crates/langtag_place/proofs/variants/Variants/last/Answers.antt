@@ -13,7 +13,10 @@ slice_get-push [] last = refl
 slice_get-push (x ∷ prefix) last = slice_get-push prefix last
 
 -- what was taken from the end of a list was its last member
-option_map-taken : (taken : Option Variant) (list rest : List (List ℕ)) → MatchOption taken ((list ≡ []) × (rest ≡ [])) (λ variant. list ≡ rest ++ variant_text variant ∷ []) → option_map variant_text taken ≡ slice_get list (length list - 1)
+option_map-taken :
+    (taken : Option Variant) (list rest : List (List ℕ)) →
+    MatchOption taken ((list ≡ []) × (rest ≡ [])) (λ variant. list ≡ rest ++ variant_text variant ∷ []) →
+    option_map variant_text taken ≡ slice_get list (length list - 1)
 option_map-taken None list rest taken = rw taken.0 refl
 option_map-taken (Some variant) list rest taken =
     let index : length (rest ++ variant_text variant ∷ []) - 1 ≡ length rest = omega (arith, length_push rest (variant_text variant)) in
