@@ -24,11 +24,11 @@ impl<'a> Metered<'a> {
 }
 
 impl<'a> ByteSource for Metered<'a> {
-    ghost bytes = { λ s. s.source.bytes.now };
+    ghost bytes = { λ s. ⟦<MeteredBytes<'a> as ByteSource>⟧.bytes s.source };
 
-    ghost reads = { λ s. s.source.reads };
+    ghost reads = { λ s. ⟦<MeteredBytes<'a> as ByteSource>⟧.reads s.source };
 
-    ghost reach = { λ s. s.source.reach };
+    ghost reach = { λ s. ⟦<MeteredBytes<'a> as ByteSource>⟧.reach s.source };
 
     fn len(&self) -> usize {
         self.source.len()
