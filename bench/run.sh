@@ -1,6 +1,7 @@
 #!/usr/bin/env bash
 # Times recognise on a file of tags, one a line, beside plain loops; with no file, on two lists of 100,000 tags: one of
-# shapes of 18 bytes, and one of plain tags. With valgrind it also counts instructions. It needs rt, rustc and a linker.
+# shapes of 18 bytes, and one of plain tags, and then repeated_variant by number of variants. With valgrind it also counts
+# instructions. It needs rt, rustc and a linker.
 set -euo pipefail
 here=$(cd "$(dirname "$0")" && pwd)
 target=$here/target
@@ -10,20 +11,41 @@ mkdir -p "$target"
 rustc --edition 2024 -C opt-level=3 "$here/src/main.rs" -o "$target/bench" \
     -L "native=$here/../crates/langtag_bench/out" -l static=langtag_bench
 
+# Prints how many instructions an entry takes on a file of tags, with how many tags and bytes it has before them.
+instructions() {
+    local entry=$1 tags=$2 log=$target/$1.log sizes
+    sizes=$(valgrind --tool=callgrind --toggle-collect="langtag_bench_$entry" \
+        --callgrind-out-file="$target/$entry.callgrind" "$target/bench" once "$entry" "$tags" 2>"$log")
+    echo "$sizes $(awk '/Collected/ { print $4 }' "$log")"
+}
+
 # Times the entries on a file of tags, and counts their instructions.
 measure() {
-    local tags=$1 entry log sizes count bytes instructions
+    local tags=$1 entry count bytes instructions
     "$target/bench" "$tags"
     command -v valgrind >/dev/null || return 0
     echo "                   instructions a tag    a byte"
     for entry in recognise recognise_text lang_tag fold_and_sum copy; do
-        log=$target/$entry.log
-        sizes=$(valgrind --tool=callgrind --toggle-collect="langtag_bench_$entry" \
-            --callgrind-out-file="$target/$entry.callgrind" "$target/bench" once "$entry" "$tags" 2>"$log")
-        read -r count bytes <<<"$sizes"
-        instructions=$(awk '/Collected/ { print $4 }' "$log")
+        read -r count bytes instructions <<<"$(instructions "$entry" "$tags")"
         awk -v name="$entry" -v n="$instructions" -v count="$count" -v bytes="$bytes" \
             'BEGIN { printf "%-18s %18.1f %9.2f\n", name, n / count, n / bytes }'
+    done
+}
+
+# Times repeated_variant, without the parse before it, on tags of so many variants, and counts its instructions.
+grow() {
+    local count tag before with
+    echo "== repeated_variant"
+    echo "  variants         ns     instructions"
+    for count in 0 1 2 3 16 17 20 21 100 1000 10000 100000; do
+        tag=$target/variants.txt
+        "$target/bench" variants "$count" mixed >"$tag"
+        before=0 with=0
+        if command -v valgrind >/dev/null; then
+            read -r _ _ before <<<"$(instructions normal_lang_tag "$tag")"
+            read -r _ _ with <<<"$(instructions repeated_variant "$tag")"
+        fi
+        printf '%10d %10d %16d\n' "$count" "$("$target/bench" growth "$tag")" $((with - before))
     done
 }
 
@@ -35,4 +57,5 @@ else
         echo "== $list"
         measure "$target/$list.txt"
     done
+    grow
 fi

@@ -1,7 +1,8 @@
 //! Times `recognise` on a file of tags beside plain loops over the same bytes, in one run.
 //!
 //! `bench FILE` times, `bench shapes COUNT` and `bench plain COUNT` write lists of tags, and `bench once ENTRY FILE` calls one
-//! entry once for each tag, for a tool that counts instructions.
+//! entry once for each tag, for a tool that counts instructions. `bench variants COUNT ORDER` writes one tag of so many
+//! variants, and `bench growth FILE` times `repeated_variant` on the one tag of a file.
 
 use std::hint::black_box;
 use std::io::Write;
@@ -36,6 +37,8 @@ unsafe extern "C" {
     fn langtag_bench_recognise(bytes: *const u8, len: usize, ends: *mut PartEnds) -> bool;
     fn langtag_bench_recognise_text(bytes: *const u8, len: usize, ends: *mut PartEnds) -> bool;
     fn langtag_bench_lang_tag(bytes: *const u8, len: usize, lengths: *mut PartLengths) -> bool;
+    fn langtag_bench_normal_lang_tag(bytes: *const u8, len: usize) -> bool;
+    fn langtag_bench_repeated_variant(bytes: *const u8, len: usize) -> usize;
     fn langtag_bench_copy(bytes: *const u8, len: usize, into: *mut u8, into_len: usize) -> u8;
     fn langtag_bench_fold_and_sum(bytes: *const u8, len: usize) -> u8;
 }
@@ -48,8 +51,11 @@ enum Entry {
     LangTag,
     FoldAndSum,
     Copy,
+    NormalLangTag,
+    RepeatedVariant,
 }
 
+/// What is timed on lists of tags.
 const ENTRIES: [Entry; 5] = [
     Entry::Recognise,
     Entry::RecogniseText,
@@ -67,6 +73,8 @@ impl Entry {
             Entry::LangTag => "lang_tag",
             Entry::FoldAndSum => "fold_and_sum",
             Entry::Copy => "copy",
+            Entry::NormalLangTag => "normal_lang_tag",
+            Entry::RepeatedVariant => "repeated_variant",
         }
     }
 
@@ -92,6 +100,10 @@ impl Entry {
                 Entry::FoldAndSum => langtag_bench_fold_and_sum(tag.as_ptr(), tag.len()).into(),
                 Entry::Copy => {
                     langtag_bench_copy(tag.as_ptr(), tag.len(), into.as_mut_ptr(), into.len()).into()
+                }
+                Entry::NormalLangTag => langtag_bench_normal_lang_tag(tag.as_ptr(), tag.len()).into(),
+                Entry::RepeatedVariant => {
+                    langtag_bench_repeated_variant(tag.as_ptr(), tag.len()) as u64
                 }
             }
         }
@@ -175,11 +187,25 @@ fn time(path: &str) -> std::io::Result<()> {
 }
 
 fn once(name: &str, path: &str) -> std::io::Result<()> {
-    let entry = ENTRIES.iter().find(|entry| entry.name() == name).expect("no such entry");
+    let mut entries = ENTRIES.iter().chain(&[Entry::NormalLangTag, Entry::RepeatedVariant]);
+    let entry = entries.find(|entry| entry.name() == name).expect("no such entry");
     let tags = Tags::read(path)?;
     let mut into = vec![0; tags.longest];
     pass(*entry, &tags, &mut into);
     println!("{} {}", tags.indices.len(), tags.bytes());
+    Ok(())
+}
+
+/// The nanoseconds that `repeated_variant` takes on the tags of a file: the least of some passes with it, less that of as
+/// many without.
+fn growth(path: &str) -> std::io::Result<()> {
+    let tags = Tags::read(path)?;
+    let least = |entry| {
+        let passes = (20_000_000 / (pass(entry, &tags, &mut []) + 1)).clamp(3, 1000);
+        (0..passes).map(|_| pass(entry, &tags, &mut [])).min().unwrap_or(0)
+    };
+    let (before, with) = (least(Entry::NormalLangTag), least(Entry::RepeatedVariant));
+    println!("{}", with.saturating_sub(before));
     Ok(())
 }
 
@@ -243,15 +269,43 @@ fn write_plain(count: usize) -> std::io::Result<()> {
     out.flush()
 }
 
+/// Writes a tag with so many variants of six bytes, no two alike, in an order by name.
+fn write_variants(count: usize, order: &str) -> std::io::Result<()> {
+    let mut variants: Vec<usize> = (0..count).collect();
+    match order {
+        "rising" => {}
+        "falling" => variants.reverse(),
+        "mixed" => {
+            let mut numbers = Numbers(1);
+            for index in (1..count).rev() {
+                variants.swap(index, numbers.next(index + 1));
+            }
+        }
+        _ => panic!("ORDER is rising, falling or mixed"),
+    }
+    let mut out = std::io::BufWriter::new(std::io::stdout());
+    out.write_all(b"de")?;
+    for variant in variants {
+        write!(out, "-v{variant:05}")?;
+    }
+    writeln!(out)?;
+    out.flush()
+}
+
 fn main() -> std::io::Result<()> {
     let arguments: Vec<String> = std::env::args().skip(1).collect();
     match arguments.iter().map(String::as_str).collect::<Vec<_>>()[..] {
         ["shapes", count] => write_shapes(count.parse().expect("COUNT is a number")),
         ["plain", count] => write_plain(count.parse().expect("COUNT is a number")),
+        ["variants", count, order] => write_variants(count.parse().expect("COUNT is a number"), order),
         ["once", entry, path] => once(entry, path),
+        ["growth", path] => growth(path),
         [path] => time(path),
         _ => {
-            eprintln!("usage: bench FILE | bench shapes COUNT | bench plain COUNT | bench once ENTRY FILE");
+            eprintln!(
+                "usage: bench FILE | bench shapes COUNT | bench plain COUNT | bench variants COUNT ORDER | \
+                 bench growth FILE | bench once ENTRY FILE"
+            );
             std::process::exit(2)
         }
     }

@@ -1,8 +1,10 @@
 -- What the finding that a tag keeps says of its text.
 use Rattle.std.proofs.Common.{◌≡◌, ◌↔◌, ℕ, ◌<◌, List, Some, None, IsTrue, refl, sym, arith}
 use Rattle.langtag_scan.specs.Case.{Alike}
-use Rattle.langtag_scan.specs.Found.{Finding, Finding.normal, Finding.private_use, Finding.irregular, IsFoundOf, is_normal, is_private_use, irregular_index}
+use Rattle.langtag_scan.specs.Found.{IsFoundOf, is_normal, is_private_use, irregular_index}
 use Rattle.langtag_scan.specs.Tag.{IsNormal, IsPrivate, IsIrregularAt, IsIrregular, IsTag}
+use Rattle.langtag_scan.specs.declared.finding.Finding.{Finding}
+use Rattle.langtag_scan.specs.declared.finding.Finding.TheVariants as found_at
 use Rattle.langtag_scan.proofs.CaseLaw.{alike_normal, alike_private, alike_irregular}
 use Rattle.langtag_scan.proofs.FoundLaws.{tag_found, normal_found, private_found, found_had}
 use Rattle.langtag_scan.proofs.IrregularNames.{irregular_here}
@@ -34,10 +36,10 @@ pub irregular_kept :
     (text : List ℕ) (found : Finding) (index : ℕ) → ∥ IsFoundOf text found ∥₁ → Some index ≡ irregular_index found →
     IsAtIndex text index
 unfolding IsIrregularAt
-irregular_kept text (normal ends) index merely at = absurd cc
-irregular_kept text private_use index merely at = absurd cc
-irregular_kept text (irregular k) index merely at =
-    let kept = found_had text (irregular k) merely in
+irregular_kept text (found_at.Normal ends) index merely at = absurd cc
+irregular_kept text found_at.PrivateUse index merely at = absurd cc
+irregular_kept text (found_at.Irregular k) index merely at =
+    let kept = found_had text (found_at.Irregular k) merely in
     let same : index ≡ k = cc in
     let here = irregular_here k kept.0 kept.1 in
     rw same (record { within = omega (arith, here.0); is = kept })
@@ -46,9 +48,9 @@ irregular_kept text (irregular k) index merely at =
 pub private_otherwise :
     (text : List ℕ) (found : Finding) → ∥ IsFoundOf text found ∥₁ → (IsNormal text → ⊥) → None ≡ irregular_index found →
     IsPrivate text
-private_otherwise text (normal ends) merely other none = absurd (other ((found_kept text (normal ends) merely).normal.0 refl))
-private_otherwise text private_use merely other none = found_had text private_use merely
-private_otherwise text (irregular k) merely other none = absurd cc
+private_otherwise text (found_at.Normal ends) merely other none = absurd (other ((found_kept text (found_at.Normal ends) merely).normal.0 refl))
+private_otherwise text found_at.PrivateUse merely other none = found_had text found_at.PrivateUse merely
+private_otherwise text (found_at.Irregular k) merely other none = absurd cc
 
 -- the variant of a typed tag says of which kind its text is
 pub typed_kind : (text : List ℕ) (typed : TypedLangTag) → IsTypedAs text typed → IsOfKind text (kind_of typed)

@@ -5,3 +5,5 @@ pub mod RegisteredLaws
 pub mod KeptFound
 pub mod OrderLaws
 pub mod RepeatLaws
+pub mod VariantNumbers
+pub mod VariantBlockLaws

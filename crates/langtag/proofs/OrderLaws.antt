@@ -1,10 +1,18 @@
--- The derived comparisons of the grandfathered tags.
-use Rattle.std.proofs.Common.{◌≡◌, ◌==◌, ℕ, ◌<◌, map, get_or, sym, refl, ap, ◌∙◌}
+-- The derived comparisons of the grandfathered tags, and the order of tags of which one begins the other.
+use Rattle.std.proofs.Common.{◌≡◌, ◌==◌, ℕ, ◌<◌, List, map, get_or, sym, refl, ap, ◌∙◌, arith}
+use Rattle.std.proofs.Math.Facts.{Fits-of_lt}
 use denote.Enum.Declared.{tag_of}
+use Rattle.std.specs.Hash.{usize}
 use Rattle.std.specs.Ordering.{nat_cmp}
-use Rattle.std.specs.declared.cmp.Ordering.TheVariants.{Equal}
+use Rattle.std.specs.declared.cmp.Ordering.TheVariants.{Equal, Greater}
 use Rattle.std.proofs.lemmas.List.{get_or-map}
 use Rattle.std.proofs.lemmas.Option.{slice_get_within, get_or_from_slice_get}
+use Rattle.langtag_scan.specs.Case.{EndsFirst, case_cmp}
+use Rattle.langtag_scan.specs.Tag.{IsNormal, IsTag}
+use Rattle.langtag_scan.proofs.Ascii.{IsAscii-tag}
+use Rattle.langtag_scan.proofs.CaseOrder.{case_cmp-ends_first}
+use Rattle.langtag_scan.proofs.TagLaws.{tag_normal}
+use Rattle.langtag.specs.contracts.grandfathered.GrandfatheredLangTagHash.TheImpl as tag_hash
 use Rattle.langtag.specs.contracts.grandfathered.GrandfatheredLangTagOrd.TheImpl as tag_order
 use Rattle.langtag.specs.contracts.grandfathered.GrandfatheredLangTagPartialEq.TheImpl as tag_equality
 use Rattle.langtag.specs.contracts.grandfathered.GrandfatheredLangTag.{the_type}
@@ -12,7 +20,10 @@ use Rattle.langtag.specs.declared.grandfathered.GrandfatheredLangTag.TheVariants
 use Rattle.langtag.specs.declared.grandfathered.GrandfatheredLangTag.{GrandfatheredLangTag}
 use Rattle.langtag.specs.declared.grandfathered.TheConstants.{GRANDFATHERED}
 use Rattle.langtag.proofs.RegisteredLaws.{listed}
+use Rattle.langtag.specs.Compared.{TypedLangTagsCompareByKind}
 use Rattle.langtag.specs.Order.{TagsCompareByIndex}
+use Rattle.langtag.specs.declared.typed_lang_tag.TypedLangTag.{TypedLangTag}
+use Rattle.langtag.specs.declared.typed_lang_tag.TypedLangTag.TheVariants.{Normal, PrivateUse, Grandfathered}
 use Rattle.langtag.specs.Registered.{index_of}
 
 -- what a derived comparison reads of a variant is its index
@@ -46,5 +57,31 @@ ordered_along a = refl
 ordered : (a b : GrandfatheredLangTag) → tag_order.cmp-value.it a b ≡ nat_cmp (index_of a) (index_of b)
 ordered a b = each_tag (λ b. tag_order.cmp-value.it a b) (λ b. nat_cmp (index_of a) (index_of b)) Equal (ordered_along a) b
 
+-- and what it feeds to a hasher
+hashed : (tag : GrandfatheredLangTag) → tag_hash.hash_input-value.it tag ≡ usize (index_of tag)
+hashed EnGbOed = refl
+hashed tag = refl
+
 pub tags_compare : TagsCompareByIndex
-tags_compare = record { equal = equal; ordered = ordered }
+tags_compare = record { equal = equal; ordered = ordered; hashed = hashed }
+
+-- a tag that begins another, but for case, and ends first is the greater
+pub tag_ends_first : (t u : List ℕ) → IsTag u → EndsFirst t u → case_cmp t u ≡ Greater
+tag_ends_first t u tag ends =
+    let ascii = IsAscii-tag u tag in
+    case_cmp-ends_first t u (λ k. Fits-of_lt (omega (arith, ascii k))) ends
+
+pub normal_ends_first : (t u : List ℕ) → IsNormal u → EndsFirst t u → case_cmp t u ≡ Greater
+normal_ends_first t u normal ends = tag_ends_first t u (tag_normal u normal) ends
+
+-- the derived `==` of typed tags
+pub typed_equal : TypedLangTagsCompareByKind
+typed_equal (Normal a) (Normal b) = refl
+typed_equal (Normal a) (PrivateUse b) = refl
+typed_equal (Normal a) (Grandfathered b) = refl
+typed_equal (PrivateUse a) (Normal b) = refl
+typed_equal (PrivateUse a) (PrivateUse b) = refl
+typed_equal (PrivateUse a) (Grandfathered b) = refl
+typed_equal (Grandfathered a) (Normal b) = refl
+typed_equal (Grandfathered a) (PrivateUse b) = refl
+typed_equal (Grandfathered a) (Grandfathered b) = equal a b

@@ -4,13 +4,13 @@ use Rattle.std.specs.Option.{option_map}
 use Rattle.langtag_scan.specs.Class.{is_script, is_region}
 use Rattle.langtag_scan.specs.Ends.{HasEnds}
 use Rattle.langtag_scan.specs.Parts.{text_between}
-use Rattle.langtag_scan.specs.Record.{PrivateUse, IsPrivateUse, private_use_flat}
+use Rattle.langtag_scan.specs.Record.{PrivateUse, IsWellFormedPrivateUse, private_use_flat}
 use Rattle.langtag_scan.specs.Subtags.{join}
 use Rattle.langtag_scan.specs.Tag.{IsPrivate}
 use Rattle.langtag_scan.specs.declared.ends.Ends.{Ends}
 use Rattle.langtag_language.specs.Language.{IsLanguage}
 use Rattle.langtag_place.specs.Variants.{IsVariants}
-use Rattle.langtag_extension.specs.Spelling.{IsExtensionsText}
+use Rattle.langtag_extension.specs.Spelling.{IsExtensions}
 use Rattle.langtag.proofs.PartsFound.{language_found, script_found, region_found, variants_found, extensions_found, private_use_found}
 
 pub IsLanguage-cut : (text : List ℕ) (ends : Ends) → HasEnds text ends → IsLanguage (take ends.language text)
@@ -26,11 +26,11 @@ IsVariants-cut text ends (r, spells, at) =
     let same = variants_found text ends (r, spells, at) r spells in
     rw same (r.variants, record { members = spells.0.variants; joined = refl })
 
-pub IsExtensionsText-cut :
+pub IsExtensions-cut :
     (text : List ℕ) (ends : Ends) → HasEnds text ends →
-    IsExtensionsText (unwrap_or (text_between text ends.variants ends.extensions) [])
+    IsExtensions (unwrap_or (text_between text ends.variants ends.extensions) [])
 unfolding HasEnds
-IsExtensionsText-cut text ends (r, spells, at) =
+IsExtensions-cut text ends (r, spells, at) =
     let same = extensions_found text ends (r, spells, at) r spells in
     rw same (r.extensions, record { members = spells.0.extensions; joined = refl })
 
@@ -53,7 +53,7 @@ is_region-cut text ends part (r, spells, at) cut =
     of_some (λ s. IsTrue (is_region s)) part r.region (cut ∙ region_found text ends (r, spells, at) r spells) spells.0.region
 
 private_spelled :
-    (part : List ℕ) (o : Option PrivateUse) → Some part ≡ option_map (λ p. join (private_use_flat p)) o → IfSome o IsPrivateUse →
+    (part : List ℕ) (o : Option PrivateUse) → Some part ≡ option_map (λ p. join (private_use_flat p)) o → IfSome o IsWellFormedPrivateUse →
     IsPrivate part
 unfolding IsPrivate
 private_spelled part None same fits = absurd cc

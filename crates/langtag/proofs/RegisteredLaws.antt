@@ -13,6 +13,9 @@ use Rattle.langtag_scan.specs.Case.{fold_byte, fold_text, Alike, are_alike}
 use Rattle.langtag_scan.specs.CaseLaws.{are_alike-decides}
 use Rattle.langtag_scan.specs.Class.{is_letter, is_primary}
 use Rattle.langtag_scan.specs.Grandfathered.{Grandfathered, grandfathered_tags}
+use Rattle.langtag_scan.specs.Tag.{IsTag}
+use Rattle.langtag_scan.proofs.CaseLaw.{alike_tag}
+use Rattle.langtag_scan.proofs.RegisteredTags.{registered_tag}
 use Rattle.langtag_language.specs.Language.{IsLanguage}
 use Rattle.langtag.specs.declared.grandfathered.GrandfatheredLangTag.{GrandfatheredLangTag}
 use Rattle.langtag.specs.declared.grandfathered.GrandfatheredLangTag.TheVariants.{EnGbOed}
@@ -116,6 +119,19 @@ none_alike t none (k, at) =
     let is : Alike (text_of (get_or GRANDFATHERED k EnGbOed)) t = ap (λ i. fold_text (text_at i)) (index_listed k EnGbOed here.0) ∙ here.1 in
     let fails = fails_before_first (λ tag. are_alike (text_of tag) t) GRANDFATHERED k EnGbOed (omega (arith, here.0, past_end _ 26 none)) in
     both_ways _ fails ((are_alike-decides (text_of (get_or GRANDFATHERED k EnGbOed)) t).1 is)
+
+-- ---- they are tags
+
+pub grandfathered_tag : (t : List ℕ) → IsGrandfathered t → IsTag t
+unfolding IsGrandfathered IsGrandfatheredAt
+grandfathered_tag t (k, here) = alike_tag here.0.text t here.2 (registered_tag k here.0 here.1)
+
+-- so is each with its registered spelling
+pub spelling_tag : (tag : GrandfatheredLangTag) → IsTag (text_of tag)
+unfolding IsGrandfathered
+spelling_tag tag =
+    let within : index_of tag < 26 = slice_get_within GRANDFATHERED (index_of tag) tag (listed tag) in
+    grandfathered_tag (text_of tag) (index_of tag, grandfathered_at (index_of tag) (text_of tag) within refl)
 
 -- ---- the languages
 

@@ -2,18 +2,21 @@ pub mod Edit
 pub mod Moved
 pub mod Offsets
 pub mod Repeat
+pub mod VariantBlocks
 pub mod Text
 pub mod Registered
 pub mod LookUp
 pub mod Kinds
 pub mod Typed
 pub mod Order
+pub mod Compared
 -- what the clauses of this crate and of the types that it passes on cite, so that a caller names one crate
 pub use Rattle.langtag_scan.specs.AlikeRecords
 pub use Rattle.langtag_scan.specs.Case
+pub use Rattle.langtag_scan.specs.CaseLaws
 pub use Rattle.langtag_scan.specs.Class
+pub use Rattle.langtag_scan.specs.Compare
 pub use Rattle.langtag_scan.specs.Ends
-pub use Rattle.langtag_scan.specs.Findings
 pub use Rattle.langtag_scan.specs.Found
 pub use Rattle.langtag_scan.specs.Grandfathered
 pub use Rattle.langtag_scan.specs.Parts
@@ -21,11 +24,16 @@ pub use Rattle.langtag_scan.specs.Record
 pub use Rattle.langtag_scan.specs.Subtags
 pub use Rattle.langtag_scan.specs.Tag
 pub use Rattle.langtag_scan.specs.Viable
+pub use Rattle.langtag_language.specs.Compared as LanguageCompared
 pub use Rattle.langtag_language.specs.Language
 pub use Rattle.langtag_language.specs.Text as LanguageText
+pub use Rattle.langtag_place.specs.Compared as PlaceCompared
 pub use Rattle.langtag_place.specs.Text as PlaceText
 pub use Rattle.langtag_place.specs.Variants
+pub use Rattle.langtag_extension.specs.Compared as ExtensionCompared
+pub use Rattle.langtag_extension.specs.Conversion
 pub use Rattle.langtag_extension.specs.Spelling
 pub use Rattle.langtag_extension.specs.Text as ExtensionText
+pub use Rattle.langtag_private.specs.Compared as PrivateCompared
 pub use Rattle.langtag_private.specs.PrivateUse
 pub use Rattle.langtag_private.specs.Text as PrivateText

@@ -1,10 +1,13 @@
--- How grandfathered tags and kinds compare: by where they stand in their declarations. `order` and `equality` are what
--- the derived `cmp` and `==` of each compute.
+-- How grandfathered tags and kinds compare and are hashed: by where they stand in their declarations. `equality`, `order`
+-- and `fed` are what the derived `==`, `cmp` and `hash` of each compute.
 use Rattle.std.specs.Prelude.{◌≡◌, ℕ, ◌==◌, Bool}
+use Rattle.std.specs.Hash.{HashWrites, usize}
 use Rattle.std.specs.Ordering.{nat_cmp}
 use Rattle.std.specs.declared.cmp.Ordering.{Ordering}
+use Rattle.langtag.specs.contracts.grandfathered.GrandfatheredLangTagHash.TheImpl as tag_hash
 use Rattle.langtag.specs.contracts.grandfathered.GrandfatheredLangTagOrd.TheImpl as tag_order
 use Rattle.langtag.specs.contracts.grandfathered.GrandfatheredLangTagPartialEq.TheImpl as tag_equality
+use Rattle.langtag.specs.contracts.kind.KindHash.TheImpl as kind_hash
 use Rattle.langtag.specs.contracts.kind.KindOrd.TheImpl as kind_order
 use Rattle.langtag.specs.contracts.kind.KindPartialEq.TheImpl as kind_equality
 use Rattle.langtag.specs.declared.kind.Kind.{Kind}
@@ -17,13 +20,15 @@ index_of_kind Normal = 0
 index_of_kind PrivateUse = 1
 index_of_kind Grandfathered = 2
 
--- values compare as their indices do
-pub record CompareAs {K : Type 0} (index : K → ℕ) (equality : K → K → Bool) (order : K → K → Ordering) : Type 0 where
+-- values compare as their indices do, and feed them to a hasher
+pub record CompareAs {K : Type 0}
+    (index : K → ℕ) (equality : K → K → Bool) (order : K → K → Ordering) (fed : K → HashWrites) : Type 0 where
   pub equal : (a b : K) → equality a b ≡ (index a == index b)
   pub ordered : (a b : K) → order a b ≡ nat_cmp (index a) (index b)
+  pub hashed : (a : K) → fed a ≡ usize (index a)
 
 abbrev pub TagsCompareByIndex : Type 0
-TagsCompareByIndex = CompareAs index_of tag_equality.eq-value.it tag_order.cmp-value.it
+TagsCompareByIndex = CompareAs index_of tag_equality.eq-value.it tag_order.cmp-value.it tag_hash.hash_input-value.it
 
 abbrev pub KindsCompareByIndex : Type 0
-KindsCompareByIndex = CompareAs index_of_kind kind_equality.eq-value.it kind_order.cmp-value.it
+KindsCompareByIndex = CompareAs index_of_kind kind_equality.eq-value.it kind_order.cmp-value.it kind_hash.hash_input-value.it

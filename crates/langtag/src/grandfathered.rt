@@ -2,8 +2,10 @@
 ghost use Rattle.std.specs.Prelude.{◌≡◌, ◌↔◌, ◌<◌, ℕ, List, Some, IsTrue, IfOk, IfErr, is_ok, position, slice_get};
 ghost use Rattle.std.specs.Option.{option_map};
 ghost use Rattle.langtag_scan.specs.Case.{are_alike};
+ghost use Rattle.langtag_scan.specs.Tag.{IsTag};
 ghost use Rattle.langtag.specs.Registered.{text_of};
 
+use crate::lang_tag::LangTag;
 use langtag_language::Language;
 use langtag_scan::case_insensitive_eq;
 use std::convert::TryFrom;
@@ -22,7 +24,7 @@ pub struct InvalidGrandfatheredTag<T>(pub T);
 /// ones, from `art-lojban` on, are normal tags too.
 ///
 /// They are compared, ordered and hashed by where they stand in this declaration.
-#[derive(Clone, Copy, PartialEq, Eq, PartialOrd, Ord, Hash)]
+#[derive(Clone, Copy, Debug, PartialEq, Eq, PartialOrd, Ord, Hash)]
 pub enum GrandfatheredLangTag {
     /// `en-GB-oed`, English, by the spelling of the Oxford English Dictionary.
     EnGbOed,
@@ -140,21 +142,26 @@ static REGISTERED: [(&str, Option<&str>); 26] = [
 
 impl GrandfatheredLangTag {
     ghost use Rattle.langtag_language.specs.Text.{language_text};
+    ghost use Rattle.langtag.specs.Text.{lang_tag_text};
     ghost use Rattle.langtag.specs.Order.{TagsCompareByIndex};
     ghost use Rattle.langtag.specs.Registered.{index_of, language_of, IsGrandfatheredAt, IsGrandfathered};
 
-    /// The grandfathered tag with these bytes, in any case. Its contract also has the laws that no bytes are alike two
-    /// of them, that they compare as their indices do, and that [`GRANDFATHERED`] has each at its index.
+    /// The grandfathered tag with these bytes, in any case: `GrandfatheredLangTag::new(b"I-AMI")` is
+    /// `Ok(GrandfatheredLangTag::IAmi)`.
+    ///
+    /// Its contract also has the laws that no bytes are alike two of them, that all of them are tags, that they compare and
+    /// are hashed as their indices, and that [`GRANDFATHERED`] has each at its index.
     ///
     /// # Errors
     ///
-    /// Bytes that are no such tag come back, the same slice.
+    /// Bytes that are no such tag come back, the same slice: `b"fr"` does.
     pub fn new(bytes: &[u8]) -> Result<Self, &[u8]>
         ensures accepts { IsTrue (is_ok result) ↔ IsGrandfathered bytes.now }
         ensures same_tag { IfOk result (λ tag. IsGrandfatheredAt (index_of tag) bytes.now) }
         ensures given_back { IfErr result (λ same. same ≡ bytes.entry) }
 
         ensures one_index { (j k : ℕ) (t : List ℕ) → IsGrandfatheredAt j t → IsGrandfatheredAt k t → j ≡ k }
+        ensures are_tags { (t : List ℕ) → IsGrandfathered t → IsTag t }
         ensures by_index { TagsCompareByIndex }
         ensures listed { (tag : GrandfatheredLangTag) → slice_get GRANDFATHERED (index_of tag) ≡ Some tag }
     {
@@ -172,7 +179,7 @@ impl GrandfatheredLangTag {
         GRANDFATHERED[index]
     }
 
-    /// The primary language of a regular tag, as `zh` of `zh-min-nan`; an irregular one has none.
+    /// The primary language of a regular tag: `zh` of `zh-min-nan`. An irregular one has none: None of `i-lux`.
     #[tactic(auto, unfolding(langtag_scan::specs::Grandfathered::grandfathered_tags))]
     pub fn language(&self) -> Option<Language<'static>>
         ensures { option_map language_text result ≡ language_of self.now }
@@ -181,16 +188,23 @@ impl GrandfatheredLangTag {
         Some(Language::from_checked(language))
     }
 
-    /// The registered spelling.
+    /// The registered spelling: `sgn-BE-FR` of `GrandfatheredLangTag::SgnBeFr`.
     #[tactic(auto, unfolding(langtag_scan::specs::Grandfathered::grandfathered_tags))]
-    pub fn as_str(&self) -> &str
+    pub fn as_str(&self) -> &'static str
         ensures { result.now ≡ text_of self.now }
     {
         REGISTERED[*self as usize].0
     }
 
-    /// The bytes of the registered spelling.
-    pub fn as_bytes(&self) -> &[u8]
+    /// The tag with the registered spelling: `GrandfatheredLangTag::ILux.as_lang_tag().kind()` is `Kind::Grandfathered`.
+    pub fn as_lang_tag(&self) -> LangTag<'static>
+        ensures { lang_tag_text result ≡ text_of self.now }
+    {
+        LangTag::from_checked(self.as_str())
+    }
+
+    /// The bytes of the registered spelling: `b"i-lux"` of `GrandfatheredLangTag::ILux`.
+    pub fn as_bytes(&self) -> &'static [u8]
         ensures { result.now ≡ text_of self.now }
     {
         self.as_str().as_bytes()

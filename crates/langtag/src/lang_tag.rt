@@ -2,9 +2,8 @@
 ghost use Rattle.std.specs.Prelude.{◌≡◌, ◌↔◌, ℕ, List, [], Some, None, IsTrue, IfOk, IfErr, IfSome, is_ok, is_some};
 ghost use Rattle.std.specs.Option.{option_map};
 ghost use Rattle.langtag_scan.specs.AlikeRecords.{IsSpelledAlike};
-ghost use Rattle.langtag_scan.specs.Case.{are_alike};
-ghost use Rattle.langtag_scan.specs.Findings.{finding};
-ghost use Rattle.langtag_scan.specs.Found.{IsFoundOf};
+ghost use Rattle.langtag_scan.specs.Case.{EndsFirst, are_alike, case_cmp};
+ghost use Rattle.langtag_scan.specs.Found.{IsFoundOf, finding};
 ghost use Rattle.langtag_scan.specs.Parts.{language_part, variants_part, extensions_part, private_use_part, private_use_subtags};
 ghost use Rattle.langtag_scan.specs.Record.{EachRecord};
 ghost use Rattle.langtag_scan.specs.Tag.{IsNormal, IsPrivate, IsIrregular, IsTag};
@@ -14,7 +13,7 @@ use crate::kind::Kind;
 use crate::lang_tag_buf::LangTagBuf;
 use crate::normal_lang_tag::NormalLangTag;
 use crate::private_use_lang_tag::PrivateUseLangTag;
-use crate::recognise_text::recognise_text;
+use crate::recognise_text::{recognise_checked, recognise_text};
 use crate::typed_lang_tag::TypedLangTag;
 use langtag_extension::Extensions;
 use langtag_language::Language;
@@ -22,6 +21,7 @@ use langtag_place::{Region, Script, Variants};
 use langtag_private::{PrivateUse, PrivateUseIter};
 use langtag_scan::{Caseless, Found};
 use std::alloc::{AllocError, Global};
+use std::cmp::Ordering;
 use std::fmt;
 use std::fmt::Debug;
 use thiserror::Error;
@@ -51,18 +51,20 @@ impl<'a> LangTag<'a> {
     ghost use Rattle.langtag_language.specs.Text.{language_text};
     ghost use Rattle.langtag_place.specs.Text.{script_text, region_text, variants_text};
     ghost use Rattle.langtag_extension.specs.Text.{extensions_text};
-    ghost use Rattle.langtag_private.specs.Text.{private_use_text, private_left};
+    ghost use Rattle.langtag_private.specs.Text.{private_use_text, private_use_subtags_left};
+    ghost use Rattle.langtag.specs.Compared.{LangTagsCompareByCase};
     ghost use Rattle.langtag.specs.Kinds.{IsOfKind, AreOfOneKind};
     ghost use Rattle.langtag.specs.Order.{KindsCompareByIndex};
     ghost use Rattle.langtag.specs.Registered.{index_of, IsGrandfatheredAt, IsGrandfathered};
     ghost use Rattle.langtag.specs.Text.{normal_lang_tag_text, lang_tag_text, lang_tag_buf_text};
     ghost use Rattle.langtag.specs.Typed.{IsTypedAs};
 
-    /// The tag of a text. Its contract also has the laws that a tag is of one kind alone.
+    /// The tag of a text: `LangTag::new("zh-Hant-TW")` is Ok, and so are `x-fr-CH` and `I-Klingon`. Its contract also has the
+    /// laws that a tag is of one kind alone.
     ///
     /// # Errors
     ///
-    /// A text that is no tag comes back.
+    /// A text that is no tag comes back: `zh_Hant`, and the empty text.
     pub fn new(text: &'a str) -> Result<LangTag<'a>, InvalidLangTag<&'a str>>
         ensures accepts { IsTrue (is_ok result) ↔ IsTag text.now }
         ensures same_text { IfOk result (λ tag. lang_tag_text tag ≡ text.now) }
@@ -78,15 +80,13 @@ impl<'a> LangTag<'a> {
         Ok(LangTag::with_found(text, found))
     }
 
-    /// The tag of a text that is known to be one. The recogniser goes over it once more, for what it finds.
+    /// The tag of a text that is known to be one: `LangTag::from_checked(tag.as_str()) == tag` of each tag. The recogniser goes
+    /// over the text once more, for what it finds.
     pub fn from_checked(text: &'a str) -> LangTag<'a>
         requires { IsTag text.now }
         ensures { lang_tag_text result ≡ text.now }
     {
-        let Some(found) = recognise_text(text) else {
-            unreachable!()
-        };
-        LangTag::with_found(text, found)
+        LangTag::with_found(text, recognise_checked(text))
     }
 
     /// The tag of a text of which this was found: it is not looked at again.
@@ -100,7 +100,7 @@ impl<'a> LangTag<'a> {
         }
     }
 
-    /// The text, with its case.
+    /// The text, with its case: `ZH-hant` of `ZH-hant`.
     pub fn as_str(&self) -> &'a str
         ensures same_text { result.now ≡ lang_tag_text self.now }
         ensures in_class { IsTag result.now }
@@ -108,25 +108,31 @@ impl<'a> LangTag<'a> {
         self.text.0
     }
 
-    /// The bytes of the text.
+    /// The bytes of the text: `b"x-a"` of `x-a`.
     pub fn as_bytes(&self) -> &'a [u8]
         ensures { result.now ≡ lang_tag_text self.now }
     {
         self.as_str().as_bytes()
     }
 
-    /// Whether another text, of any form, is equal but for the case of ASCII letters. Then it is a tag of the same kind,
-    /// and, where that is a normal one, has alike parts at the same offsets.
+    /// Whether another text, of any form, is equal but for the case of ASCII letters: true of `zh-Hant` and `ZH-hant`. Then
+    /// it is a tag of the same kind, and, where that is a normal one, has alike parts at the same offsets.
+    ///
+    /// The contract also says that tags are compared, ordered and hashed without regard to case, and that a tag that begins
+    /// another is the greater of the two: `zh` comes after `zh-Latn`.
     pub fn eq_str(&self, other: &str) -> bool
         ensures test { result ≡ are_alike (lang_tag_text self.now) other.now }
         ensures same_kind { IsTrue result → AreOfOneKind (lang_tag_text self.now) other.now }
         ensures alike_parts { IsTrue result → EachRecord (lang_tag_text self.now) (λ r. IsSpelledAlike r other.now) }
+
+        ensures compared { LangTagsCompareByCase }
+        ensures ends_first { (t u : List ℕ) → IsTag u → EndsFirst t u → case_cmp t u ≡ Ordering.Greater }
     {
         self.text == Caseless(other)
     }
 
-    /// The kind of the tag. The regular grandfathered tags are normal. The contract also says that kinds compare as they
-    /// are declared.
+    /// The kind of the tag: `Kind::Normal` of `fr-x-a`, `Kind::PrivateUse` of `x-a`, `Kind::Grandfathered` of `i-lux`. The
+    /// regular grandfathered tags are normal. The contract also says that kinds compare and are hashed as they are declared.
     pub fn kind(&self) -> Kind
         ensures kind { IsOfKind (lang_tag_text self.now) result }
         ensures by_index { KindsCompareByIndex }
@@ -134,7 +140,7 @@ impl<'a> LangTag<'a> {
         self.as_typed().kind()
     }
 
-    /// The tag as a value of the type of its kind.
+    /// The tag as a value of the type of its kind: `TypedLangTag::PrivateUse(tag)` of `x-a`, where `tag` has the same text.
     pub fn as_typed(&self) -> TypedLangTag<'a>
         ensures { IsTypedAs (lang_tag_text self.now) result }
     {
@@ -147,28 +153,31 @@ impl<'a> LangTag<'a> {
         }
     }
 
-    /// Whether the tag is a normal one. The regular grandfathered ones are.
+    /// Whether the tag is a normal one: true of `zh-Latn`, false of `x-a` and `i-lux`. The regular grandfathered ones are.
     pub fn is_normal(&self) -> bool
         ensures { IsTrue result ↔ IsNormal (lang_tag_text self.now) }
     {
         self.found.is_normal()
     }
 
-    /// Whether the tag is for private use as a whole.
+    /// Whether the tag is for private use as a whole: true of `x-a`, false of `fr-x-a`.
     pub fn is_private_use(&self) -> bool
         ensures { IsTrue result ↔ IsPrivate (lang_tag_text self.now) }
     {
         self.found.is_private_use()
     }
 
-    /// Whether the tag is one of the 26 grandfathered ones, in any case. The regular ones are normal tags too.
+    /// Whether the tag is one of the 26 grandfathered ones, in any case (RFC 5646 section 2.2.8): true of `i-lux`.
+    ///
+    /// The regular ones are normal tags too, so this is true of `art-lojban`, whose kind is normal:
+    /// [`as_typed().is_grandfathered()`](TypedLangTag::is_grandfathered) is false of it.
     pub fn is_grandfathered(&self) -> bool
         ensures { IsTrue result ↔ IsGrandfathered (lang_tag_text self.now) }
     {
         self.as_grandfathered().is_some()
     }
 
-    /// The normal tag, where the tag is one.
+    /// The normal tag, where the tag is one: Some of `zh-Latn` and of `art-lojban`, None of `x-a`.
     pub fn as_normal(&self) -> Option<NormalLangTag<'a>>
         ensures kind { IsTrue (is_some result) ↔ IsNormal (lang_tag_text self.now) }
         ensures same_text { IfSome result (λ tag. normal_lang_tag_text tag ≡ lang_tag_text self.now) }
@@ -177,7 +186,7 @@ impl<'a> LangTag<'a> {
         Some(NormalLangTag::with_ends(self.text.0, ends))
     }
 
-    /// The tag for private use, where the whole tag is one.
+    /// The tag for private use, where the whole tag is one: Some of `x-a`, None of `fr-x-a`.
     pub fn as_private_use(&self) -> Option<PrivateUseLangTag<'a>>
         ensures kind { IsTrue (is_some result) ↔ IsPrivate (lang_tag_text self.now) }
         ensures same_text { IfSome result (λ tag. private_use_text tag ≡ lang_tag_text self.now) }
@@ -188,7 +197,7 @@ impl<'a> LangTag<'a> {
         Some(PrivateUse::from_checked(self.text.0))
     }
 
-    /// The grandfathered tag, where the tag is one of the 26, in any case.
+    /// The grandfathered tag, where the tag is one of the 26, in any case: Some of `I-Lux` and of `art-lojban`, None of `fr`.
     pub fn as_grandfathered(&self) -> Option<GrandfatheredLangTag>
         ensures kind { IsTrue (is_some result) ↔ IsGrandfathered (lang_tag_text self.now) }
         ensures same_tag { IfSome result (λ tag. IsGrandfatheredAt (index_of tag) (lang_tag_text self.now)) }
@@ -196,34 +205,31 @@ impl<'a> LangTag<'a> {
         GrandfatheredLangTag::new(self.as_bytes()).ok()
     }
 
-    /// The language of a normal tag.
+    /// The language of a normal tag: `zh-yue` of `zh-yue-HK`, None of `x-a` and of `i-lux`.
     pub fn language(&self) -> Option<Language<'a>>
         ensures part { EachRecord (lang_tag_text self.now) (λ r. option_map language_text result ≡ Some (language_part r)) }
         ensures absent { (IsNormal (lang_tag_text self.now) → ⊥) → result ≡ None }
     {
-        let tag = self.as_normal()?;
-        Some(tag.language())
+        Some(self.as_normal()?.language())
     }
 
-    /// The script of a normal tag.
+    /// The script of a normal tag: `Latn` of `sl-Latn-IT`, None of `sl-IT` and of `x-a`.
     pub fn script(&self) -> Option<Script<'a>>
         ensures part { EachRecord (lang_tag_text self.now) (λ r. option_map script_text result ≡ r.script) }
         ensures absent { (IsNormal (lang_tag_text self.now) → ⊥) → result ≡ None }
     {
-        let tag = self.as_normal()?;
-        tag.script()
+        self.as_normal()?.script()
     }
 
-    /// The region of a normal tag.
+    /// The region of a normal tag: `419` of `es-419`, None of `es` and of `x-a`.
     pub fn region(&self) -> Option<Region<'a>>
         ensures part { EachRecord (lang_tag_text self.now) (λ r. option_map region_text result ≡ r.region) }
         ensures absent { (IsNormal (lang_tag_text self.now) → ⊥) → result ≡ None }
     {
-        let tag = self.as_normal()?;
-        tag.region()
+        self.as_normal()?.region()
     }
 
-    /// The variants of a normal tag; none on any other.
+    /// The variants of a normal tag, none on any other: `rozaj-1994` of `sl-rozaj-1994`, the empty text of `x-a`.
     pub fn variants(&self) -> Variants<'a>
         ensures part { EachRecord (lang_tag_text self.now) (λ r. variants_text result ≡ variants_part r) }
         ensures absent { (IsNormal (lang_tag_text self.now) → ⊥) → variants_text result ≡ [] }
@@ -234,7 +240,7 @@ impl<'a> LangTag<'a> {
         tag.variants()
     }
 
-    /// The extensions of a normal tag; none on any other.
+    /// The extensions of a normal tag, none on any other: `a-bb-u-co` of `en-a-bb-u-co-x-y`, the empty text of `x-a`.
     pub fn extensions(&self) -> Extensions<'a>
         ensures part { EachRecord (lang_tag_text self.now) (λ r. extensions_text result ≡ extensions_part r) }
         ensures absent { (IsNormal (lang_tag_text self.now) → ⊥) → extensions_text result ≡ [] }
@@ -245,20 +251,19 @@ impl<'a> LangTag<'a> {
         tag.extensions()
     }
 
-    /// The private use part of a normal tag. A tag for private use as a whole has none: see
-    /// [`as_private_use`](LangTag::as_private_use).
+    /// The private use part of a normal tag: `x-y` of `en-x-y`. A tag for private use as a whole has none, so it is None of
+    /// `x-a`: see [`as_private_use`](LangTag::as_private_use).
     pub fn private_use(&self) -> Option<PrivateUse<'a>>
         ensures part { EachRecord (lang_tag_text self.now) (λ r. option_map private_use_text result ≡ private_use_part r) }
         ensures absent { (IsNormal (lang_tag_text self.now) → ⊥) → result ≡ None }
     {
-        let tag = self.as_normal()?;
-        tag.private_use()
+        self.as_normal()?.private_use()
     }
 
-    /// The subtags of the private use part of a normal tag; none where there is no such part.
+    /// The subtags of the private use part of a normal tag, `x` and `y` of `en-x-x-y`; none where there is no such part.
     pub fn private_use_subtags(&self) -> PrivateUseIter<'a>
-        ensures part { EachRecord (lang_tag_text self.now) (λ r. private_left result ≡ private_use_subtags r) }
-        ensures absent { (IsNormal (lang_tag_text self.now) → ⊥) → private_left result ≡ [] }
+        ensures part { EachRecord (lang_tag_text self.now) (λ r. private_use_subtags_left result ≡ private_use_subtags r) }
+        ensures absent { (IsNormal (lang_tag_text self.now) → ⊥) → private_use_subtags_left result ≡ [] }
     {
         let Some(tag) = self.as_normal() else {
             return PrivateUseIter::empty();
@@ -266,7 +271,7 @@ impl<'a> LangTag<'a> {
         tag.private_use_subtags()
     }
 
-    /// The owned form of the same text.
+    /// The owned form of the same text: `owned.as_str()` is `zh-Latn` where this is `zh-Latn`.
     ///
     /// # Errors
     ///
@@ -276,6 +281,28 @@ impl<'a> LangTag<'a> {
     {
         let text = String::from_str(alloc, self.as_str())?;
         Ok(LangTagBuf::with_found(text, self.found))
+    }
+}
+
+impl<'a> From<NormalLangTag<'a>> for LangTag<'a> {
+    ghost use Rattle.langtag.specs.Text.{normal_lang_tag_text, lang_tag_text};
+
+    ghost from_gives = { λ normal tag. lang_tag_text tag ≡ normal_lang_tag_text normal };
+
+    fn from(tag: NormalLangTag<'a>) -> LangTag<'a> {
+        tag.as_lang_tag()
+    }
+}
+
+#[tactic(auto, using(langtag_scan::proofs::TagLaws::tag_private))]
+impl<'a> From<PrivateUse<'a>> for LangTag<'a> {
+    ghost use Rattle.langtag_private.specs.Text.{private_use_text};
+    ghost use Rattle.langtag.specs.Text.{lang_tag_text};
+
+    ghost from_gives = { λ private_use tag. lang_tag_text tag ≡ private_use_text private_use };
+
+    fn from(tag: PrivateUse<'a>) -> LangTag<'a> {
+        LangTag::from_checked(tag.as_str())
     }
 }
 

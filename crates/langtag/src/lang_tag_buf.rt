@@ -1,13 +1,22 @@
 //! Language tags of every kind that own their text.
-ghost use Rattle.std.specs.Prelude.{◌≡◌, ◌↔◌, Some, IsTrue, IfOk, IfErr, is_ok};
+ghost use Rattle.std.specs.Prelude.{◌≡◌, ◌↔◌, Some, IsTrue, IsNone, IsOk, IsErrOf, IfOk, IfErr, OnOk, OnErr, is_ok};
+ghost use Rattle.std.specs.Option.{option_map};
 ghost use Rattle.std.specs.String.{string_bytes};
-ghost use Rattle.langtag_scan.specs.Findings.{finding};
-ghost use Rattle.langtag_scan.specs.Found.{IsFoundOf};
-ghost use Rattle.langtag_scan.specs.Tag.{IsTag};
+ghost use Rattle.langtag_scan.specs.Found.{finding, IsFoundOf};
+ghost use Rattle.langtag_scan.specs.Record.{EachRecord, Spells};
+ghost use Rattle.langtag_scan.specs.Tag.{IsNormal, IsTag};
+ghost use Rattle.langtag_place.specs.Text.{script_text, region_text};
+ghost use Rattle.langtag.specs.Edit.{with_script, with_region};
 
+use crate::edit::{put_region, put_script};
+use crate::edit_error::EditError;
 use crate::lang_tag::{InvalidLangTag, LangTag};
-use crate::recognise_text::recognise_text;
+use crate::normal_lang_tag_buf::NormalLangTagBuf;
+use crate::recognise_text::{recognise_checked, recognise_text};
+use langtag_place::{Region, Script};
+use langtag_private::PrivateUseBuf;
 use langtag_scan::{Caseless, Found};
+use std::alloc::Global;
 use std::fmt;
 
 /// A tag that owns its text. It keeps what was found of it, as [`LangTag`] does, and lends both.
@@ -22,13 +31,14 @@ pub struct LangTagBuf {
 
 #[tactic(auto, using(crate::proofs::KeptFound::found_kept))]
 impl LangTagBuf {
-    ghost use Rattle.langtag.specs.Text.{lang_tag_text, lang_tag_buf_string, lang_tag_buf_text};
+    ghost use Rattle.langtag.specs.Compared.{LangTagBufsCompareByCase};
+    ghost use Rattle.langtag.specs.Text.{lang_tag_text, lang_tag_buf_string, lang_tag_buf_text, normal_lang_tag_buf_string, normal_lang_tag_buf_text};
 
-    /// The tag of a text, which is neither copied nor moved in memory.
+    /// The tag of a text, which is neither copied nor moved in memory: Ok of `x-a`.
     ///
     /// # Errors
     ///
-    /// A text that is no tag comes back, the same `String`.
+    /// A text that is no tag comes back, the same `String`: `x-` does.
     pub fn new(text: String) -> Result<LangTagBuf, InvalidLangTag<String>>
         ensures accepts { IsTrue (is_ok result) ↔ IsTag (string_bytes text) }
         ensures same_text { IfOk result (λ tag. lang_tag_buf_text tag ≡ string_bytes text) }
@@ -39,6 +49,16 @@ impl LangTagBuf {
             return Err(InvalidLangTag(text));
         };
         Ok(LangTagBuf::with_found(text, found))
+    }
+
+    /// The tag of a text that is known to be one, which is neither copied nor moved in memory. The recogniser goes over it
+    /// once more, for what it finds.
+    pub(crate) fn from_checked(text: String) -> LangTagBuf
+        requires { IsTag (string_bytes text) }
+        ensures { lang_tag_buf_string result ≡ text }
+    {
+        let found = recognise_checked(text.as_str());
+        LangTagBuf::with_found(text, found)
     }
 
     /// The tag of a text of which this was found: it is not looked at again.
@@ -52,14 +72,18 @@ impl LangTagBuf {
         }
     }
 
-    /// The tag, lent, with what was found of it: nothing is looked at again.
+    /// The tag, lent, with what was found of it, so that nothing is looked at again: `owned.as_lang_tag().kind()` is
+    /// `Kind::PrivateUse` of `x-a`.
+    ///
+    /// The contract also says that owned tags are compared, ordered and hashed without regard to case.
     pub fn as_lang_tag(&self) -> LangTag<'_>
-        ensures { lang_tag_text result ≡ lang_tag_buf_text self.now }
+        ensures same_text { lang_tag_text result ≡ lang_tag_buf_text self.now }
+        ensures compared { LangTagBufsCompareByCase }
     {
         LangTag::with_found(self.as_str(), self.found)
     }
 
-    /// The text, with its case.
+    /// The text, with its case: `X-a` of `X-a`.
     pub fn as_str(&self) -> &str
         ensures same_text { result.now ≡ lang_tag_buf_text self.now }
         ensures in_class { IsTag result.now }
@@ -67,13 +91,97 @@ impl LangTagBuf {
         self.text.0.as_str()
     }
 
-    /// The text itself, which is not copied.
+    /// The same tag as a normal one, over the very `String`: Ok of `zh-TW`. Nothing is looked at again, and
+    /// [`into_lang_tag`](NormalLangTagBuf::into_lang_tag) is the way back.
+    ///
+    /// # Errors
+    ///
+    /// A tag of another kind comes back, as `x-a` does.
+    pub fn into_normal(self) -> Result<NormalLangTagBuf, LangTagBuf>
+        ensures accepts { IsTrue (is_ok result) ↔ IsNormal (lang_tag_buf_text self) }
+        ensures same_text { IfOk result (λ tag. normal_lang_tag_buf_text tag ≡ lang_tag_buf_text self) }
+        ensures same_string { IfOk result (λ tag. normal_lang_tag_buf_string tag ≡ lang_tag_buf_string self) }
+        ensures given_back { IfErr result (λ tag. tag ≡ self) }
+    {
+        let Some(ends) = self.found.ends() else {
+            return Err(self);
+        };
+        Ok(NormalLangTagBuf::with_ends(self.text.0, ends))
+    }
+
+    /// Puts a script into a normal tag, or takes it out, as [`NormalLangTagBuf::set_script`] does: `Latn` put into `sl-IT`
+    /// makes `sl-Latn-IT`. The recogniser goes over the new text once more.
+    ///
+    /// # Errors
+    ///
+    /// The tag is no normal one, as `x-a`, or no memory could be had. The tag is as it was.
+    #[tactic(auto, using(crate::proofs::KeptFound::found_kept, langtag_scan::proofs::SpelledTexts::offsets_kept, langtag_scan::proofs::TagLaws::tag_normal))]
+    pub fn set_script(&mut self, alloc: Global, script: Option<Script<'_>>) -> Result<(), EditError>
+        ensures set { OnOk result (EachRecord (lang_tag_buf_text self.old)
+            (λ r. Spells (with_script r (option_map script_text script.entry)) (lang_tag_buf_text self.new))) }
+        ensures not_normal { IsErrOf result EditError.NotNormal ↔ (IsNormal (lang_tag_buf_text self.old) → ⊥) }
+        ensures unchanged { OnErr result (self.new ≡ self.old) }
+        ensures taken_out { IsNone script.entry → IsNormal (lang_tag_buf_text self.old) → IsOk result }
+    {
+        let Some(ends) = self.found.ends() else {
+            return Err(EditError::NotNormal);
+        };
+        put_script(&mut self.text.0, ends, alloc, script)?;
+        self.found = recognise_checked(self.text.0.as_str());
+        Ok(())
+    }
+
+    /// Puts a region into a normal tag, or takes it out, as [`NormalLangTagBuf::set_region`] does: `AT` put into `de-DE-1996`
+    /// makes `de-AT-1996`. The recogniser goes over the new text once more.
+    ///
+    /// # Errors
+    ///
+    /// The tag is no normal one, as `x-a`, or no memory could be had. The tag is as it was.
+    #[tactic(auto, using(crate::proofs::KeptFound::found_kept, langtag_scan::proofs::SpelledTexts::offsets_kept, langtag_scan::proofs::TagLaws::tag_normal))]
+    pub fn set_region(&mut self, alloc: Global, region: Option<Region<'_>>) -> Result<(), EditError>
+        ensures set { OnOk result (EachRecord (lang_tag_buf_text self.old)
+            (λ r. Spells (with_region r (option_map region_text region.entry)) (lang_tag_buf_text self.new))) }
+        ensures not_normal { IsErrOf result EditError.NotNormal ↔ (IsNormal (lang_tag_buf_text self.old) → ⊥) }
+        ensures unchanged { OnErr result (self.new ≡ self.old) }
+        ensures taken_out { IsNone region.entry → IsNormal (lang_tag_buf_text self.old) → IsOk result }
+    {
+        let Some(ends) = self.found.ends() else {
+            return Err(EditError::NotNormal);
+        };
+        put_region(&mut self.text.0, ends, alloc, region)?;
+        self.found = recognise_checked(self.text.0.as_str());
+        Ok(())
+    }
+
+    /// The text itself, which is not copied: `x-a` of `x-a`.
     pub fn into_string(self) -> String
         ensures same_text { string_bytes result ≡ lang_tag_buf_text self }
         ensures same_string { result ≡ lang_tag_buf_string self }
         ensures in_class { IsTag (string_bytes result) }
     {
         self.text.0
+    }
+}
+
+impl From<NormalLangTagBuf> for LangTagBuf {
+    ghost use Rattle.langtag.specs.Text.{normal_lang_tag_buf_string, lang_tag_buf_string};
+
+    ghost from_gives = { λ normal tag. lang_tag_buf_string tag ≡ normal_lang_tag_buf_string normal };
+
+    fn from(tag: NormalLangTagBuf) -> LangTagBuf {
+        tag.into_lang_tag()
+    }
+}
+
+#[tactic(auto, using(langtag_scan::proofs::TagLaws::tag_private))]
+impl From<PrivateUseBuf> for LangTagBuf {
+    ghost use Rattle.langtag_private.specs.Text.{private_use_buf_string};
+    ghost use Rattle.langtag.specs.Text.{lang_tag_buf_string};
+
+    ghost from_gives = { λ private_use tag. lang_tag_buf_string tag ≡ private_use_buf_string private_use };
+
+    fn from(tag: PrivateUseBuf) -> LangTagBuf {
+        LangTagBuf::from_checked(tag.into_string())
     }
 }
 

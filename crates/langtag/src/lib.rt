@@ -34,22 +34,21 @@
 //! crate, as is what decides over bytes whether they are a tag ([`recognise`]).
 #![tactic(auto)]
 
+mod edit;
+mod edit_error;
 mod grandfathered;
 mod kind;
 mod lang_tag;
 mod lang_tag_buf;
-mod moved_ends;
 mod normal_lang_tag;
 mod normal_lang_tag_buf;
 mod private_use_lang_tag;
 mod recognise_text;
 mod repeats;
-mod replace_part;
-mod setters;
-#[cfg(test)]
-mod tests;
 mod typed_lang_tag;
+mod variant_blocks;
 
+pub use edit_error::EditError;
 pub use grandfathered::{GRANDFATHERED, GrandfatheredLangTag, InvalidGrandfatheredTag};
 pub use kind::Kind;
 pub use lang_tag::{InvalidLangTag, LangTag};
@@ -76,7 +75,7 @@ pub use langtag_scan::{
     ByteSource, Ends, Found, Metered, case_insensitive_cmp, case_insensitive_eq,
     case_insensitive_hash, into_smallcase, is_extended, is_extension_subtag, is_mark, is_primary,
     is_private_subtag, is_region, is_script, is_singleton, is_variant, recognise, recognise_normal,
-    segment_end, segment_start,
+    segment_end, segment_start, viable_len,
 };
 pub use normal_lang_tag::{InvalidNormalLangTag, NormalLangTag};
 pub use normal_lang_tag_buf::NormalLangTagBuf;

@@ -1,23 +1,27 @@
 //! Normal tags, which are made of parts: rule `langtag` of RFC 5646 section 2.1.
-ghost use Rattle.std.specs.Prelude.{◌≡◌, ◌↔◌, ◌≤◌, [], Some, IsTrue, IfOk, IfErr, is_ok, length, take, unwrap_or};
+ghost use Rattle.std.specs.Prelude.{◌≡◌, ◌↔◌, ◌≤◌, ℕ, List, [], Some, IsTrue, IfOk, IfErr, is_ok, length, take, map, unwrap_or};
 ghost use Rattle.std.specs.Option.{option_map};
 ghost use Rattle.langtag_scan.specs.AlikeRecords.{IsSpelledAlike};
-ghost use Rattle.langtag_scan.specs.Case.{are_alike};
+ghost use Rattle.langtag_scan.specs.Case.{EndsFirst, are_alike, case_cmp};
 ghost use Rattle.langtag_scan.specs.Ends.{HasEnds};
 ghost use Rattle.langtag_scan.specs.Parts.{language_part, variants_part, extensions_part, private_use_part, private_use_subtags, parts, text_between};
 ghost use Rattle.langtag_scan.specs.Record.{Record, EachRecord, IsWellFormed, spell};
 ghost use Rattle.langtag_scan.specs.Subtags.{join};
 ghost use Rattle.langtag_scan.specs.Tag.{IsNormal};
 ghost use Rattle.langtag.specs.Offsets.{PartsStandIn};
+ghost use Rattle.langtag.specs.Repeat.{repeat, IsFirstRepeat, are_alike_bytes};
 
+use crate::lang_tag::LangTag;
 use crate::normal_lang_tag_buf::NormalLangTagBuf;
 use crate::recognise_text::normal_ends;
-use langtag_extension::Extensions;
+use crate::repeats::{first_repeated_singleton, first_repeated_variant};
+use langtag_extension::{Extensions, Singleton};
 use langtag_language::Language;
-use langtag_place::{Region, Script, Variants};
+use langtag_place::{Region, Script, Variant, Variants};
 use langtag_private::{PrivateUse, PrivateUseIter};
 use langtag_scan::{Caseless, Ends};
 use std::alloc::{AllocError, Global};
+use std::cmp::Ordering;
 use std::fmt;
 use std::fmt::Debug;
 use thiserror::Error;
@@ -45,17 +49,20 @@ pub struct NormalLangTag<'a> {
 #[tactic(auto, using(langtag_scan::proofs::SpelledTexts::offsets_kept))]
 impl<'a> NormalLangTag<'a> {
     ghost use Rattle.langtag_language.specs.Text.{language_text};
-    ghost use Rattle.langtag_place.specs.Text.{script_text, region_text, variants_text};
-    ghost use Rattle.langtag_extension.specs.Text.{extensions_text};
-    ghost use Rattle.langtag_private.specs.Text.{private_use_text, private_left};
-    ghost use Rattle.langtag.specs.Text.{normal_lang_tag_text, normal_lang_tag_buf_text};
+    ghost use Rattle.langtag_place.specs.Text.{script_text, region_text, variant_text, variants_text};
+    ghost use Rattle.langtag_extension.specs.Text.{singleton_byte, extensions_text};
+    ghost use Rattle.langtag_private.specs.Text.{private_use_text, private_use_subtags_left};
+    ghost use Rattle.langtag.specs.Compared.{NormalLangTagsCompareByCase};
+    ghost use Rattle.langtag.specs.Text.{lang_tag_text, normal_lang_tag_text, normal_lang_tag_buf_text};
 
-    /// The normal tag of a text. Its contract also has laws: a normal tag has one record of its parts; the parts that are
-    /// there, joined by hyphens, are the whole text; and each stands between the end of the part before and its own.
+    /// The normal tag of a text: `NormalLangTag::new("sl-IT-rozaj")` is Ok.
+    ///
+    /// Its contract also has laws: a normal tag has one record of its parts; the parts that are there, joined by hyphens, are
+    /// the whole text; and each stands between the end of the part before and its own.
     ///
     /// # Errors
     ///
-    /// A text that is no normal tag comes back: also one that is a tag of another kind.
+    /// A text that is no normal tag comes back: `sl_IT`, and also `x-a`, which is a tag of another kind.
     pub fn new(text: &'a str) -> Result<NormalLangTag<'a>, InvalidNormalLangTag<&'a str>>
         ensures accepts { IsTrue (is_ok result) ↔ IsNormal text.now }
         ensures same_text { IfOk result (λ tag. normal_lang_tag_text tag ≡ text.now) }
@@ -71,8 +78,8 @@ impl<'a> NormalLangTag<'a> {
         Ok(NormalLangTag::with_ends(text, ends))
     }
 
-    /// The normal tag of a text that is known to be one. The recogniser goes over it once more, for the ends of its
-    /// parts.
+    /// The normal tag of a text that is known to be one: `NormalLangTag::from_checked(tag.as_str()) == tag` of each normal
+    /// tag. The recogniser goes over the text once more, for the ends of its parts.
     pub fn from_checked(text: &'a str) -> NormalLangTag<'a>
         requires { IsNormal text.now }
         ensures { normal_lang_tag_text result ≡ text.now }
@@ -94,7 +101,7 @@ impl<'a> NormalLangTag<'a> {
         }
     }
 
-    /// The text, with its case.
+    /// The text, with its case: `SL-it` of `SL-it`.
     pub fn as_str(&self) -> &'a str
         ensures same_text { result.now ≡ normal_lang_tag_text self.now }
         ensures in_class { IsNormal result.now }
@@ -102,30 +109,46 @@ impl<'a> NormalLangTag<'a> {
         self.text.0
     }
 
-    /// The bytes of the text.
+    /// The bytes of the text: `b"sl-IT"` of `sl-IT`.
     pub fn as_bytes(&self) -> &'a [u8]
         ensures { result.now ≡ normal_lang_tag_text self.now }
     {
         self.as_str().as_bytes()
     }
 
-    /// Whether another text, of any form, is equal but for the case of ASCII letters. Then it is a normal tag too, with
-    /// alike parts at the same offsets.
+    /// Whether another text, of any form, is equal but for the case of ASCII letters: true of `sl-IT` and `SL-it`. Then it is
+    /// a normal tag too, with alike parts at the same offsets.
+    ///
+    /// The contract also says that normal tags are compared, ordered and hashed without regard to case, and that a tag that
+    /// begins another is the greater of the two: `sl` comes after `sl-IT`.
     pub fn eq_str(&self, other: &str) -> bool
         ensures test { result ≡ are_alike (normal_lang_tag_text self.now) other.now }
         ensures alike_parts { IsTrue result → EachRecord (normal_lang_tag_text self.now) (λ r. IsSpelledAlike r other.now) }
+
+        ensures compared { NormalLangTagsCompareByCase }
+        ensures ends_first { (t u : List ℕ) → IsNormal u → EndsFirst t u → case_cmp t u ≡ Ordering.Greater }
     {
         self.text == Caseless(other)
     }
 
-    /// The language, `zh-min` of `zh-min-Latn-TW`.
+    /// The same tag as one of any kind: `tag.as_lang_tag().kind()` is `Kind::Normal`. The recogniser goes over the text once
+    /// more.
+    #[tactic(auto, using(langtag_scan::proofs::TagLaws::tag_normal))]
+    pub fn as_lang_tag(&self) -> LangTag<'a>
+        ensures same_text { lang_tag_text result ≡ normal_lang_tag_text self.now }
+        ensures kind { IsNormal (lang_tag_text result) }
+    {
+        LangTag::from_checked(self.as_str())
+    }
+
+    /// The language: `zh-min` of `zh-min-Latn-TW`.
     pub fn language(&self) -> Language<'a>
         ensures { EachRecord (normal_lang_tag_text self.now) (λ r. language_text result ≡ language_part r) }
     {
         Language::from_checked(self.language_str())
     }
 
-    /// The script, `Latn` of `zh-min-Latn-TW`.
+    /// The script: `Latn` of `zh-min-Latn-TW`, None of `zh-TW`.
     pub fn script(&self) -> Option<Script<'a>>
         ensures { EachRecord (normal_lang_tag_text self.now) (λ r. option_map script_text result ≡ r.script) }
     {
@@ -133,7 +156,7 @@ impl<'a> NormalLangTag<'a> {
         Some(Script::from_checked(script))
     }
 
-    /// The region, `TW` of `zh-min-Latn-TW`.
+    /// The region: `TW` of `zh-min-Latn-TW`, None of `zh-Latn`.
     pub fn region(&self) -> Option<Region<'a>>
         ensures { EachRecord (normal_lang_tag_text self.now) (λ r. option_map region_text result ≡ r.region) }
     {
@@ -141,21 +164,21 @@ impl<'a> NormalLangTag<'a> {
         Some(Region::from_checked(region))
     }
 
-    /// The variants, `rozaj-1994` of `sl-rozaj-1994`.
+    /// The variants: `rozaj-1994` of `sl-rozaj-1994`, the empty text of `sl`.
     pub fn variants(&self) -> Variants<'a>
         ensures { EachRecord (normal_lang_tag_text self.now) (λ r. variants_text result ≡ variants_part r) }
     {
         Variants::from_checked(self.part_or_empty(self.ends.region, self.ends.variants))
     }
 
-    /// The extensions, `a-bb-u-co` of `en-a-bb-u-co-x-y`.
+    /// The extensions: `a-bb-u-co` of `en-a-bb-u-co-x-y`, the empty text of `en-x-y`.
     pub fn extensions(&self) -> Extensions<'a>
         ensures { EachRecord (normal_lang_tag_text self.now) (λ r. extensions_text result ≡ extensions_part r) }
     {
         Extensions::from_checked(self.part_or_empty(self.ends.variants, self.ends.extensions))
     }
 
-    /// The private use part, `x-y` of `en-a-bb-u-co-x-y`.
+    /// The private use part: `x-y` of `en-a-bb-u-co-x-y`, None of `en-a-bb`.
     pub fn private_use(&self) -> Option<PrivateUse<'a>>
         ensures { EachRecord (normal_lang_tag_text self.now) (λ r. option_map private_use_text result ≡ private_use_part r) }
     {
@@ -163,9 +186,9 @@ impl<'a> NormalLangTag<'a> {
         Some(PrivateUse::from_checked(private_use))
     }
 
-    /// The subtags of the private use part, `x` and `y` of `en-x-x-y`; none where there is no such part.
+    /// The subtags of the private use part: `x` and `y` of `en-x-x-y`, none where there is no such part.
     pub fn private_use_subtags(&self) -> PrivateUseIter<'a>
-        ensures { EachRecord (normal_lang_tag_text self.now) (λ r. private_left result ≡ private_use_subtags r) }
+        ensures { EachRecord (normal_lang_tag_text self.now) (λ r. private_use_subtags_left result ≡ private_use_subtags r) }
     {
         match self.private_use() {
             Some(private_use) => private_use.iter(),
@@ -173,7 +196,30 @@ impl<'a> NormalLangTag<'a> {
         }
     }
 
-    /// The owned form of the same text.
+    /// The first variant that is equal, but for case, to an earlier one: the second `1996` of `de-1996-1996`.
+    ///
+    /// Such a tag is well formed, and is not valid (RFC 5646 section 2.2.5). No memory is taken, and less than 80 kB of the
+    /// stack. Up to 8,192 variants the time grows hardly faster than their number; past them, with its square divided by that.
+    pub fn repeated_variant(&self) -> Option<Variant<'a>>
+        ensures repeated { EachRecord (normal_lang_tag_text self.now) (λ r. option_map variant_text result ≡ repeat are_alike r.variants) }
+        ensures first { (variants : List (List ℕ)) → IsFirstRepeat are_alike variants (repeat are_alike variants) }
+    {
+        first_repeated_variant(self.variants())
+    }
+
+    /// The first singleton that is equal, but for case, to an earlier one, with its exact byte: the `A` of
+    /// `fr-a-bb-A-cc`.
+    ///
+    /// Such a tag is well formed, and is not valid (RFC 5646 section 2.2.6). No memory is taken.
+    pub fn repeated_singleton(&self) -> Option<Singleton>
+        ensures repeated { EachRecord (normal_lang_tag_text self.now) (λ r.
+            option_map singleton_byte result ≡ repeat are_alike_bytes (map (λ e. e.singleton) r.extensions)) }
+        ensures first { (singletons : List ℕ) → IsFirstRepeat are_alike_bytes singletons (repeat are_alike_bytes singletons) }
+    {
+        first_repeated_singleton(self.extensions().iter())
+    }
+
+    /// The owned form of the same text: `owned.as_str()` is `sl-IT` where this is `sl-IT`.
     ///
     /// # Errors
     ///

@@ -1,8 +1,7 @@
 //! The one place where this crate runs a recogniser.
 ghost use Rattle.std.specs.Prelude.{MatchOption};
 ghost use Rattle.langtag_scan.specs.Ends.{HasEnds};
-ghost use Rattle.langtag_scan.specs.Findings.{finding};
-ghost use Rattle.langtag_scan.specs.Found.{IsFoundOf};
+ghost use Rattle.langtag_scan.specs.Found.{finding, IsFoundOf};
 ghost use Rattle.langtag_scan.specs.Tag.{IsNormal, IsTag};
 
 use langtag_scan::{Ends, Found, Metered, recognise};
@@ -15,6 +14,17 @@ pub(crate) fn recognise_text(text: &str) -> Option<Found>
     ensures { MatchOption result (IsTag text.now → ⊥) (λ found. IsFoundOf text.now (finding found)) }
 {
     recognise(&mut Metered::new(text))
+}
+
+/// What the recogniser finds of a text that is known to be a tag.
+pub(crate) fn recognise_checked(text: &str) -> Found
+    requires { IsTag text.now }
+    ensures { IsFoundOf text.now (finding result) }
+{
+    let Some(found) = recognise_text(text) else {
+        unreachable!()
+    };
+    found
 }
 
 /// Where the parts of a normal tag end; None where the text is no normal tag.

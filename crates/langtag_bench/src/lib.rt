@@ -4,3 +4,4 @@
 mod lang_tag;
 mod loops;
 mod recognise;
+mod repeats;

@@ -16,7 +16,7 @@ pub struct PartEnds {
 }
 
 /// Whether the bytes are a tag. Those of a normal one leave the ends of its parts.
-#[tactic(auto, using(crate::proofs::FoundTags::found_tag))]
+#[tactic(auto, using(langtag_scan::proofs::FoundLaws::tag_found))]
 #[unsafe(no_mangle)]
 pub extern "C" fn langtag_bench_recognise(bytes: &[u8], ends: &mut PartEnds) -> bool
     ensures tag { IsTrue result → IsTag bytes.now }
@@ -32,7 +32,7 @@ pub extern "C" fn langtag_bench_recognise(bytes: &[u8], ends: &mut PartEnds) -> 
 }
 
 /// The same with the check that the bytes are UTF-8 before it.
-#[tactic(auto, using(crate::proofs::FoundTags::found_tag))]
+#[tactic(auto, using(langtag_scan::proofs::FoundLaws::tag_found))]
 #[unsafe(no_mangle)]
 pub extern "C" fn langtag_bench_recognise_text(bytes: &[u8], ends: &mut PartEnds) -> bool
     ensures tag { IsTrue result → IsTag bytes.now }

@@ -1,6 +1,7 @@
 -- A script that is set and set back.
-use Rattle.std.proofs.Common.{◌≡◌, ℕ, List, Option, Some, None, inl, sym, ap, ◌∙◌}
+use Rattle.std.proofs.Common.{◌≡◌, ℕ, List, Option, Some, None, Result, Ok, Err, inl, sym, ap, ◌∙◌}
 use Rattle.std.specs.Option.{option_or}
+use Rattle.std.specs.Result.{OnOk, OnErr}
 use Rattle.langtag.specs.Edit.{with_script}
 use Rattle.langtag.specs.Record.{EachRecord, Spells, spell}
 use Rattle.langtag.specs.Tag.{IsNormal, IsTag}
@@ -27,3 +28,12 @@ found_first first second text is = sym (ap (λ o. option_or o second) is)
 
 pub found_second : (first second found : Option (List ℕ)) → first ≡ None → found ≡ second → found ≡ option_or first second
 found_second first second found none is = is ∙ sym (ap (λ o. option_or o second) none)
+
+-- what holds however a call ends holds where it succeeds, and where it fails
+pub OnOk-anyway : {T E P : Type 0} (result : Result T E) → P → OnOk result P
+OnOk-anyway (Ok value) p = p
+OnOk-anyway (Err error) p = tt
+
+pub OnErr-anyway : {T E P : Type 0} (result : Result T E) → P → OnErr result P
+OnErr-anyway (Ok value) p = tt
+OnErr-anyway (Err error) p = p

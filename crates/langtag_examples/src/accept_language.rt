@@ -16,6 +16,8 @@ use std::fmt;
 const SPACES: [char; 2] = [' ', '\t'];
 
 /// A language range (RFC 4647 section 2.1), and how much it is wanted.
+///
+/// `fr;q=0.25` asks for the range `fr` with the weight 250.
 #[derive(Clone, Copy, Debug)]
 pub struct Wanted<'a> {
     /// The range, a slice of the header.
@@ -24,12 +26,12 @@ pub struct Wanted<'a> {
     pub weight: u32,
 }
 
-/// Why a header was refused.
+/// Why a header was refused: `de, *-CH` is `BadElement` with the index 1.
 #[derive(Debug, Drop)]
 pub enum HeaderError<'a> {
     /// The header, and how many commas stand before its first bad element.
     BadElement { header: &'a str, index: usize },
-    /// No memory could be had for the list.
+    /// No memory could be had for the list. Nothing is lost: the caller has the header still.
     Memory(AllocError),
 }
 
@@ -56,6 +58,8 @@ impl fmt::Display for HeaderError<'_> {
 impl Error for HeaderError<'_> {}
 
 /// The ranges of a header, those that are wanted most first.
+///
+/// `wanted_ranges(alloc, "fr;q=0.5, de")` is Ok: `de` with the weight 1000, and then `fr` with 500.
 ///
 /// # Errors
 ///

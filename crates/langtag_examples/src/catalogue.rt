@@ -12,6 +12,8 @@ use std::alloc::{AllocError, Global};
 use std::collections::HashMap;
 
 /// A text for each of some language tags, found in whatever case the tag is written.
+///
+/// After `Salut` was put in for `fr`, `find(alloc, "FR")` is `Ok(Some("Salut"))`.
 #[derive(Drop)]
 pub struct Catalogue {
     texts: HashMap<LangTagBuf, String>,
@@ -20,7 +22,7 @@ pub struct Catalogue {
 impl Catalogue {
     ghost use Rattle.langtag_examples.specs.Catalogue.{text_for};
 
-    /// No texts.
+    /// No texts: `Catalogue::new(alloc).find(alloc, "fr")` is `Ok(None)`.
     pub fn new(alloc: Global) -> Self
         ensures { (tag : List ℕ) → text_for result tag ≡ None }
     {
@@ -29,7 +31,7 @@ impl Catalogue {
         }
     }
 
-    /// Puts a text in for a tag, in the place of an older one.
+    /// Puts a text in for a tag, in the place of an older one: `Hoi` for `DE-ch` takes the place of `Grüezi` for `de-CH`.
     ///
     /// # Errors
     ///
@@ -45,7 +47,7 @@ impl Catalogue {
         Ok(())
     }
 
-    /// The text for a tag.
+    /// The text for a tag: that of `fr` is had by the tag `FR`, and not by `fr-CH`.
     pub fn get(&self, tag: &LangTagBuf) -> Option<&str>
         ensures { option_map (λ text. text.now) result ≡ text_for self.now (lang_tag_buf_text tag.now) }
     {
@@ -53,7 +55,7 @@ impl Catalogue {
         Some(text.as_str())
     }
 
-    /// The text for the tag that is written like this, in any case; None too where this is no tag.
+    /// The text for the tag that is written like this, in any case; None too where this is no tag, as `find(alloc, "de_CH")`.
     ///
     /// # Errors
     ///

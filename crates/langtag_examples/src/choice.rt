@@ -6,6 +6,8 @@ use langtag::{LangTag, segment_start};
 
 /// The tag of the first range that finds one, or the default. A range finds the tag that it is, or else one that is left
 /// of it when subtags are taken from its end.
+///
+/// `look_up(&["zh-Hant-CN"], &tags, default)` is `zh-Hant` where `tags` has it, else `zh`, and else the default.
 pub fn look_up<'a>(ranges: &[&str], tags: &[LangTag<'a>], default: LangTag<'a>) -> LangTag<'a>
     ensures { spec.IsChoice ranges.now tags.now default.entry result }
 {

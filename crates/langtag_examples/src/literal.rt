@@ -11,12 +11,14 @@ use langtag::LangTag;
 /// keeps one of them.
 #[derive(Clone, Copy, Debug, PartialEq, Eq, PartialOrd, Ord, Hash)]
 pub struct Literal<'a> {
+    /// The text, as `color`.
     pub text: &'a str,
+    /// The tag of its language, as `en-US`.
     pub language: LangTag<'a>,
 }
 
 impl<'a> Literal<'a> {
-    /// Whether two literals are the same.
+    /// Whether two literals are the same: `color` in `en-US` is `color` in `EN-us`, and neither `Color` nor `color` in `en-GB`.
     pub fn is_same(&self, other: &Literal<'_>) -> bool
         ensures { IsTrue result ↔ (self.now.text.now ≡ other.now.text.now) × IsTrue (are_alike (lang_tag_text self.now.language) (lang_tag_text other.now.language)) }
     {

@@ -11,6 +11,8 @@ use std::alloc::{AllocError, Global};
 
 /// The tag that is looked up for the ranges of a header, those that are wanted most first, without those of weight 0.
 ///
+/// For `fr;q=0.3, DE-ch-1996;q=0.9` it is `de-CH`, where `de-CH` and `fr` are at hand.
+///
 /// # Errors
 ///
 /// As [`wanted_ranges`].

@@ -1,5 +1,5 @@
 //! The same tag in another script.
-ghost use Rattle.std.specs.Prelude.{◌≡◌, ◌⊎◌, Some, IfOk, OnOk, OnErr};
+ghost use Rattle.std.specs.Prelude.{◌≡◌, ◌⊎◌, None, Some, IfOk, OnOk, OnErr};
 ghost use Rattle.std.specs.Option.{option_map, option_or};
 ghost use Rattle.langtag.specs.Record.{EachRecord, Spells, spell};
 ghost use Rattle.langtag.specs.PlaceText.{script_text, script_buf_text};
@@ -12,6 +12,8 @@ use langtag::{NormalLangTagBuf, Script, ScriptBuf};
 use std::alloc::{AllocError, Global};
 
 /// Puts another script into a tag, or takes the script out, and answers the old one.
+///
+/// With `Latn`, `sr-Cyrl-RS` is `sr-Latn-RS` afterwards, and the answer is `Ok(Some(Cyrl))`.
 ///
 /// # Errors
 ///
@@ -37,9 +39,12 @@ pub fn replace_script(
 /// The text that a catalogue has for a tag, or else the one that it has for the tag in another script. The tag has its own
 /// script again afterwards.
 ///
+/// For `sr-Cyrl-RS` and the script `Latn` it is the text for `sr-Cyrl-RS`, or else the one for `sr-Latn-RS`.
+///
 /// # Errors
 ///
-/// No memory could be had. The tag is as it was, or in the other script where none could be had to set it back.
+/// No memory could be had. The tag is as it was, or in the other script where none could be had to set it back, which
+/// a tag without a script needs none for.
 pub fn find_in_scripts<'a>(
     catalogue: &'a Catalogue,
     tag: &mut NormalLangTagBuf,
@@ -49,14 +54,16 @@ pub fn find_in_scripts<'a>(
     ensures found { IfOk result (λ text. EachRecord (normal_lang_tag_buf_text tag.old) (λ r.
         option_map (λ text. text.now) text ≡ option_or (text_for catalogue.now (spell r)) (text_for catalogue.now (spell (with_script r (Some (script_text script.entry))))))) }
     ensures set_back { OnOk result (normal_lang_tag_buf_text tag.new ≡ normal_lang_tag_buf_text tag.old) }
-    ensures not_lost { OnErr result ((tag.new ≡ tag.old) ⊎
+    ensures not_lost { OnErr result ((normal_lang_tag_buf_text tag.new ≡ normal_lang_tag_buf_text tag.old) ⊎
         EachRecord (normal_lang_tag_buf_text tag.old) (λ r. Spells (with_script r (Some (script_text script.entry))) (normal_lang_tag_buf_text tag.new))) }
+    ensures without_script { OnErr result (EachRecord (normal_lang_tag_buf_text tag.old) (λ r.
+        r.script ≡ None → normal_lang_tag_buf_text tag.new ≡ normal_lang_tag_buf_text tag.old)) }
 {
     if let Some(text) = catalogue.find(alloc, tag.as_str())? {
         return Ok(Some(text));
     }
     let old = replace_script(tag, alloc, Some(script))?;
-    let text = catalogue.find(alloc, tag.as_str())?;
-    replace_script(tag, alloc, old.as_ref().map(|script| script.as_script()))?;
-    Ok(text)
+    let text = catalogue.find(alloc, tag.as_str());
+    tag.set_script(alloc, old.as_ref().map(|script| script.as_script()))?;
+    text
 }

@@ -9,6 +9,8 @@ ghost use Rattle.langtag_examples.specs.Range as spec;
 use langtag::is_private_subtag;
 
 /// Whether a text is a basic language range: `*`, or subtags of up to 8 letters or digits, the first of letters alone.
+///
+/// `is_range("de-CH-1996")` is true, and `is_range("*-CH")` is false.
 pub fn is_range(text: &str) -> bool
     ensures { result ≡ spec.is_range text.now }
 {

@@ -21,5 +21,5 @@ length-groups (s ∷ ss) = omega (arith, length-put_first s (groups ss), length-
 pub length-extension_texts : (text : List ℕ) → length (extension_texts text) ≤ length text + 1
 length-extension_texts text = omega (arith, length-map (groups (subtags text)) join, length-groups (subtags text), length-subtags text)
 
--- how many subtags and how many extensions a text has at most
-pub ruleset counts = (length-subtags, length-extension_texts)
+-- no more of them than `count` can answer
+pub ruleset few_extensions = (length-extension_texts)

@@ -1,6 +1,7 @@
-pub mod SingletonLemmas
-pub mod WalkLemmas
-pub mod Joins
-pub mod Rules
-pub mod LookUp
-pub mod Counts
+mod Numbers
+mod SingletonLemmas
+mod WalkLemmas
+mod Joins
+mod Rules
+mod LookUp
+mod Counts

@@ -3,10 +3,10 @@ use Rattle.std.proofs.Common.{◌≡◌, ℕ, Bool, true, false, List, [], ◌�
 use Rattle.std.specs.Option.{option_map, option_map_or}
 use Rattle.std.specs.List.{AllByRecursion}
 use Rattle.langtag_scan.specs.Case.{fold_byte}
-use Rattle.langtag_scan.specs.Record.{Extension, IsExtension}
+use Rattle.langtag_scan.specs.Record.{Extension, IsWellFormedExtension}
 use Rattle.langtag_scan.specs.Subtags.{join}
 use Rattle.langtag_scan.proofs.BoolFacts.{chosen}
-use Rattle.langtag_extension.specs.Tests.{opens_alike}
+use Rattle.langtag_extension.specs.Decided.{opens_alike}
 use Rattle.langtag_extension.specs.Spelling.{extension_spelling, SpellsExtension, find_extension}
 
 -- the text of an extension begins with the singleton
@@ -34,17 +34,17 @@ find_spellings b (e ∷ es) =
     ∙ cond-map extension_spelling (fold_byte e.singleton == fold_byte b) e (find_extension b es) _ (find_spellings b es)
 
 -- what is found is one of the extensions
-pub extension_found : (b : ℕ) (es : List Extension) → AllByRecursion IsExtension es → (e : Extension) → find_extension b es ≡ Some e → IsExtension e
+pub extension_found : (b : ℕ) (es : List Extension) → AllByRecursion IsWellFormedExtension es → (e : Extension) → find_extension b es ≡ Some e → IsWellFormedExtension e
 extension_found b [] fits e found = absurd cc
 extension_found b (x ∷ es) fits e found =
     elim (chosen (fold_byte x.singleton == fold_byte b) (Some x) (find_extension b es) (Some e) found) [
-      | inl here ↦ let same : x ≡ e = cc in subst IsExtension same fits.0
+      | inl here ↦ let same : x ≡ e = cc in subst IsWellFormedExtension same fits.0
       | inr later ↦ extension_found b es fits.1 e later.1
     ]
 
 -- the subtags of the extension that is found
 pub subtags_found :
-    (b : ℕ) (es : List Extension) → AllByRecursion IsExtension es → (text : List ℕ) (left : List (List ℕ)) →
+    (b : ℕ) (es : List Extension) → AllByRecursion IsWellFormedExtension es → (text : List ℕ) (left : List (List ℕ)) →
     Some text ≡ option_map extension_spelling (find_extension b es) →
     ((e : Extension) → SpellsExtension e text → left ≡ e.subtags) → left ≡ option_map_or (λ e. e.subtags) (find_extension b es) []
 subtags_found b es fits text left found spelled = by_found (find_extension b es) refl found

@@ -1,17 +1,17 @@
 -- The one list that spells a text is found again in it, and the tests of its subtags say whether there is one.
-use Rattle.std.proofs.Common.{◌≡◌, ◌↔◌, ℕ, ◌≤◌, Bool, true, IsTrue, List, [], ◌∷◌, ◌++◌, length, refl, ap, sym, ◌∙◌, arith, map}
+use Rattle.std.proofs.Common.{◌≡◌, ◌↔◌, ℕ, ◌≤◌, Bool, true, IsTrue, List, [], ◌∷◌, ◌++◌, length, drop, length-drop, refl, ap, sym, ◌∙◌, arith, map}
 use Rattle.std.specs.List.{list_all, AllByRecursion, flat_map}
 use Rattle.std.proofs.lemmas.Bool.{and_parts}
 use Rattle.std.proofs.lemmas.Grind.{common_steps}
 use Rattle.langtag_scan.specs.Class.{is_singleton, is_extension_subtag, has_length, are_alphanumeric}
-use Rattle.langtag_scan.specs.Record.{Extension, IsExtension, extension_flat}
+use Rattle.langtag_scan.specs.Record.{Extension, IsWellFormedExtension, extension_flat}
 use Rattle.langtag_scan.specs.Subtags.{join, subtags}
 use Rattle.langtag_scan.proofs.BoolFacts.{between_true}
 use Rattle.langtag_scan.proofs.SubtagFacts.{IsSubtag, of_one, of_extension_subtag, singleton_alphanumeric}
-use Rattle.langtag_scan.proofs.SubtagLists.{each_from_test, test_from_each, each_subtag, subtags-joined, join-subtags}
+use Rattle.langtag_scan.proofs.SubtagLists.{each_from_test, test_from_each, each_subtag, subtags-joined, join-subtags, length-subtags}
 use Rattle.langtag_extension.specs.ExtensionTexts.{goes_on, opens, groups, group_texts, extension_texts}
-use Rattle.langtag_extension.specs.Tests.{is_extension_list, is_extension_text, are_extension_texts, is_extensions_text, are_extension_subtags}
-use Rattle.langtag_extension.specs.Spelling.{extension_spelling, SpellsExtension, IsExtensionText, SpellsExtensions, IsExtensionsText}
+use Rattle.langtag_extension.specs.Decided.{is_extension_list, is_extension_text, are_extension_texts, is_extensions_text, are_extension_subtags}
+use Rattle.langtag_extension.specs.Spelling.{extension_spelling, SpellsExtension, IsExtension, SpellsExtensions, IsExtensions}
 use Rattle.langtag_extension.proofs.WalkLemmas.{groups-first}
 use Rattle.langtag_extension.proofs.Joins.{join-group_texts, join-spellings}
 
@@ -33,7 +33,7 @@ goes_on-each [] fits = refl
 goes_on-each (s ∷ ss) fits = rw (goes_on-extension_subtag s fits.0, goes_on-each ss fits.1) refl
 
 -- each of an extension's subtags is one to eight letters and digits
-subtags-flat : (e : Extension) → IsExtension e → AllByRecursion IsSubtag (extension_flat e)
+subtags-flat : (e : Extension) → IsWellFormedExtension e → AllByRecursion IsSubtag (extension_flat e)
 subtags-flat e fits = (of_one e.singleton (singleton_alphanumeric e.singleton fits.singleton), each_subtag is_extension_subtag of_extension_subtag e.subtags fits.subtags)
 
 -- the subtags of an extension's text
@@ -49,13 +49,13 @@ is_extension_list-flat b [] one some pass = absurd (omega arith)
 is_extension_list-flat b (s ∷ ss) one some pass = rw one pass
 
 -- from the rule to the test
-pub is_extension_text-from_rule : (text : List ℕ) → IsExtensionText text → IsTrue (is_extension_text text)
+pub is_extension_text-from_rule : (text : List ℕ) → IsExtension text → IsTrue (is_extension_text text)
 is_extension_text-from_rule text (e, spells) =
     ap is_extension_list (subtags_spelled e text spells)
     ∙ is_extension_list-flat e.singleton e.subtags spells.member.singleton spells.member.some (test_from_each is_extension_subtag e.subtags spells.member.subtags)
 
 -- the extension that the subtags are
-extension_of_list : (ss : List (List ℕ)) → is_extension_list ss ≡ true → (e : Extension) × IsExtension e × (extension_flat e ≡ ss)
+extension_of_list : (ss : List (List ℕ)) → is_extension_list ss ≡ true → (e : Extension) × IsWellFormedExtension e × (extension_flat e ≡ ss)
 extension_of_list [] pass = absurd cc
 extension_of_list ([] ∷ ss) pass = absurd cc
 extension_of_list ((b ∷ c ∷ s) ∷ ss) pass = absurd cc
@@ -65,18 +65,37 @@ extension_of_list ((b ∷ []) ∷ s ∷ ss) pass =
     (record { singleton = b; subtags = s ∷ ss }, record { singleton = both.0; some = omega arith; subtags = each_from_test is_extension_subtag (s ∷ ss) both.1 }, refl)
 
 -- from the test to the rule
-pub IsExtensionText-from_test : (text : List ℕ) → IsTrue (is_extension_text text) → IsExtensionText text
-IsExtensionText-from_test text pass =
+pub IsExtension-from_test : (text : List ℕ) → IsTrue (is_extension_text text) → IsExtension text
+IsExtension-from_test text pass =
     let found = extension_of_list (subtags text) pass in
     (found.0, record { member = found.1; joined = ap join found.2 ∙ join-subtags text })
 
 -- an answer that is the test decides the rule
-pub IsExtensionText-decided : (text : List ℕ) (answer : Bool) → answer ≡ is_extension_text text → IsTrue answer ↔ IsExtensionText text
-IsExtensionText-decided text answer tested =
-    (λ pass. IsExtensionText-from_test text (sym tested ∙ pass), λ spelled. tested ∙ is_extension_text-from_rule text spelled)
+pub IsExtension-decided : (text : List ℕ) (answer : Bool) → answer ≡ is_extension_text text → IsTrue answer ↔ IsExtension text
+IsExtension-decided text answer tested =
+    (λ pass. IsExtension-from_test text (sym tested ∙ pass), λ spelled. tested ∙ is_extension_text-from_rule text spelled)
 
 -- the steps from the one to the other
-pub ruleset extension_rules = (IsExtensionText-from_test, is_extension_text-from_rule, IsExtensionText-decided)
+pub ruleset extension_rules = (IsExtension-from_test, is_extension_text-from_rule, IsExtension-decided)
+
+-- the subtags after the singleton
+are_extension_subtags-after : (ss : List (List ℕ)) → is_extension_list ss ≡ true → are_extension_subtags (drop 1 ss) ≡ true
+are_extension_subtags-after [] pass = absurd cc
+are_extension_subtags-after ([] ∷ ss) pass = absurd cc
+are_extension_subtags-after ((b ∷ c ∷ s) ∷ ss) pass = absurd cc
+are_extension_subtags-after ((b ∷ []) ∷ []) pass = absurd cc
+are_extension_subtags-after ((b ∷ []) ∷ s ∷ ss) pass = (and_parts (is_singleton b) (are_extension_subtags (s ∷ ss)) pass).1
+
+-- they are subtags of an extension
+pub are_extension_subtags-from_test : (text : List ℕ) → IsTrue (is_extension_text text) → IsTrue (are_extension_subtags (drop 1 (subtags text)))
+are_extension_subtags-from_test text pass = are_extension_subtags-after (subtags text) pass
+
+-- no more of them than bytes
+pub length-after_singleton : (text : List ℕ) → length (drop 1 (subtags text)) ≤ length text
+length-after_singleton text = omega (arith, length-drop 1 (subtags text), length-subtags text)
+
+-- what stands after the singleton
+pub ruleset after_singleton = (are_extension_subtags-from_test, length-after_singleton)
 
 -- ---- a list of extensions
 
@@ -86,7 +105,7 @@ opens-flat [] = refl
 opens-flat (e ∷ es) = refl
 
 -- the subtags of all extensions, in groups, are those of each
-groups-flat : (es : List Extension) → AllByRecursion IsExtension es → groups (flat_map extension_flat es) ≡ map extension_flat es
+groups-flat : (es : List Extension) → AllByRecursion IsWellFormedExtension es → groups (flat_map extension_flat es) ≡ map extension_flat es
 groups-flat [] fits = refl
 groups-flat (e ∷ es) fits =
     groups-first (e.singleton ∷ []) e.subtags (flat_map extension_flat es) (goes_on-each e.subtags fits.0.subtags) (opens-flat es)
@@ -97,11 +116,11 @@ all_subtags-append : (xs ys : List (List ℕ)) → AllByRecursion IsSubtag xs �
 all_subtags-append [] ys here there = there
 all_subtags-append (x ∷ xs) ys here there = (here.0, all_subtags-append xs ys here.1 there)
 
-all_subtags-flat : (es : List Extension) → AllByRecursion IsExtension es → AllByRecursion IsSubtag (flat_map extension_flat es)
+all_subtags-flat : (es : List Extension) → AllByRecursion IsWellFormedExtension es → AllByRecursion IsSubtag (flat_map extension_flat es)
 all_subtags-flat [] fits = tt
 all_subtags-flat (e ∷ es) fits = all_subtags-append (extension_flat e) (flat_map extension_flat es) (subtags-flat e fits.0) (all_subtags-flat es fits.1)
 
-subtags-flat_map : (es : List Extension) → AllByRecursion IsExtension es → subtags (join (flat_map extension_flat es)) ≡ flat_map extension_flat es
+subtags-flat_map : (es : List Extension) → AllByRecursion IsWellFormedExtension es → subtags (join (flat_map extension_flat es)) ≡ flat_map extension_flat es
 subtags-flat_map [] fits = refl
 subtags-flat_map (e ∷ es) fits = subtags-joined ((e.singleton ∷ []) ∷ (e.subtags ++ flat_map extension_flat es)) (all_subtags-flat (e ∷ es) fits)
 
@@ -115,37 +134,37 @@ extension_texts_spelled es text spells =
     ap extension_texts (sym spells.joined) ∙ ap group_texts (subtags-flat_map es spells.members)
     ∙ ap (map join) (groups-flat es spells.members) ∙ map-spelling es
 
-are_extension_texts_spelled : (es : List Extension) → AllByRecursion IsExtension es → are_extension_texts (map extension_spelling es) ≡ true
+are_extension_texts_spelled : (es : List Extension) → AllByRecursion IsWellFormedExtension es → are_extension_texts (map extension_spelling es) ≡ true
 are_extension_texts_spelled [] fits = refl
 are_extension_texts_spelled (e ∷ es) fits =
     rw (is_extension_text-from_rule (extension_spelling e) (e, record { member = fits.0; joined = refl })) (are_extension_texts_spelled es fits.1)
 
 -- from the rule to the test
-pub is_extensions_text-from_rule : (text : List ℕ) → IsExtensionsText text → IsTrue (is_extensions_text text)
+pub is_extensions_text-from_rule : (text : List ℕ) → IsExtensions text → IsTrue (is_extensions_text text)
 is_extensions_text-from_rule text (es, spells) =
     ap are_extension_texts (extension_texts_spelled es text spells) ∙ are_extension_texts_spelled es spells.members
 
 -- the extensions that the texts are
 extensions_of_texts :
     (ts : List (List ℕ)) → are_extension_texts ts ≡ true →
-    (es : List Extension) × AllByRecursion IsExtension es × (map extension_spelling es ≡ ts)
+    (es : List Extension) × AllByRecursion IsWellFormedExtension es × (map extension_spelling es ≡ ts)
 extensions_of_texts [] pass = ([], tt, refl)
 extensions_of_texts (t ∷ ts) pass =
     let both = and_parts (is_extension_text t) (are_extension_texts ts) pass in
-    let first = IsExtensionText-from_test t both.0 in
+    let first = IsExtension-from_test t both.0 in
     let others = extensions_of_texts ts both.1 in
     (first.0 ∷ others.0, (first.1.member, others.1), ap (λ x. x ∷ map extension_spelling others.0) first.1.joined ∙ ap (λ xs. t ∷ xs) others.2)
 
 -- from the test to the rule
-pub IsExtensionsText-from_test : (text : List ℕ) → IsTrue (is_extensions_text text) → IsExtensionsText text
-IsExtensionsText-from_test text pass =
+pub IsExtensions-from_test : (text : List ℕ) → IsTrue (is_extensions_text text) → IsExtensions text
+IsExtensions-from_test text pass =
     let found = extensions_of_texts (extension_texts text) pass in
     (found.0, record { members = found.1; joined = sym (join-spellings found.0) ∙ ap join found.2 ∙ join-group_texts (subtags text) ∙ join-subtags text })
 
 -- an answer that is the test decides the rule
-pub IsExtensionsText-decided : (text : List ℕ) (answer : Bool) → answer ≡ is_extensions_text text → IsTrue answer ↔ IsExtensionsText text
-IsExtensionsText-decided text answer tested =
-    (λ pass. IsExtensionsText-from_test text (sym tested ∙ pass), λ spelled. tested ∙ is_extensions_text-from_rule text spelled)
+pub IsExtensions-decided : (text : List ℕ) (answer : Bool) → answer ≡ is_extensions_text text → IsTrue answer ↔ IsExtensions text
+IsExtensions-decided text answer tested =
+    (λ pass. IsExtensions-from_test text (sym tested ∙ pass), λ spelled. tested ∙ is_extensions_text-from_rule text spelled)
 
 -- the steps from the one to the other
-pub ruleset extensions_rules = (IsExtensionsText-from_test, is_extensions_text-from_rule, IsExtensionsText-decided)
+pub ruleset extensions_rules = (IsExtensions-from_test, is_extensions_text-from_rule, IsExtensions-decided)

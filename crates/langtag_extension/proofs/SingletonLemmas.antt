@@ -1,10 +1,10 @@
 -- Singletons are ASCII.
-use Rattle.std.proofs.Common.{◌≡◌, ◌==◌, ◌&&◌, ◌||◌, not, ℕ, ◌<◌, ◌≤◌, false, true, refl, arith, ◌∷◌, [], encode_utf8}
+use Rattle.std.proofs.Common.{◌≡◌, ℕ, ◌<◌, ◌≤◌, false, true, arith, ◌∷◌, [], encode_utf8}
 use Rattle.std.proofs.lemmas.Bool.{false_from_ne_true}
 use Rattle.std.proofs.lemmas.Str.{encode_ascii}
 use Rattle.std.proofs.lemmas.Grind.{common_steps}
-use Rattle.std.specs.Char.{is_ascii, is_ascii_alphabetic, is_ascii_digit}
-use Rattle.langtag_scan.specs.Class.{is_letter, is_digit, is_mark, is_singleton}
+use Rattle.std.specs.Char.{is_ascii}
+use Rattle.langtag_scan.specs.Class.{is_singleton}
 use Rattle.langtag_scan.proofs.Ascii.{alphanumeric_below}
 use Rattle.langtag_scan.proofs.SubtagFacts.{singleton_alphanumeric}
 
@@ -23,8 +23,3 @@ encode_singleton b h = encode_ascii b (singleton_below b h)
 -- a character that is not ASCII is no singleton
 pub singleton_is_ascii : (b : ℕ) → is_ascii b ≡ false → is_singleton b ≡ false
 singleton_is_ascii b h = is_singleton_above b (grind (arith, common_steps))
-
--- the class by the numbers of its bytes
-pub singleton_numbers : (b : ℕ) → is_singleton b ≡ ((is_ascii_alphabetic b || is_ascii_digit b) && not ((b == 120) || (b == 88)))
-unfolding is_letter is_digit is_mark is_singleton
-singleton_numbers b = refl

@@ -1,5 +1,6 @@
 pub mod Text
+pub mod Compared
 pub mod Conversion
 pub mod Spelling
 pub mod ExtensionTexts
-pub mod Tests
+pub mod Decided

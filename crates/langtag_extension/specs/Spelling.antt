@@ -3,7 +3,7 @@ use Rattle.std.specs.Prelude.{◌≡◌, ◌==◌, ℕ, Bool, false, List, [], �
 use Rattle.std.specs.List.{AllByRecursion, flat_map}
 use Rattle.langtag_scan.specs.Case.{fold_byte}
 use Rattle.langtag_scan.specs.Class.{is_singleton}
-use Rattle.langtag_scan.specs.Record.{Extension, IsExtension, extension_flat}
+use Rattle.langtag_scan.specs.Record.{Extension, IsWellFormedExtension, extension_flat}
 use Rattle.langtag_scan.specs.Subtags.{join}
 
 -- one byte, which is a singleton
@@ -17,21 +17,21 @@ extension_spelling e = join (extension_flat e)
 
 -- the text is the extension
 pub record SpellsExtension (e : Extension) (text : List ℕ) : Type 0 where
-  pub member : IsExtension e
+  pub member : IsWellFormedExtension e
   pub joined : extension_spelling e ≡ text
 
 -- some extension spells the text
-abbrev pub IsExtensionText : List ℕ → Type 0
-IsExtensionText text = (e : Extension) × SpellsExtension e text
+abbrev pub IsExtension : List ℕ → Type 0
+IsExtension text = (e : Extension) × SpellsExtension e text
 
 -- the text is the subtags of all extensions, joined by hyphens
 pub record SpellsExtensions (es : List Extension) (text : List ℕ) : Type 0 where
-  pub members : AllByRecursion IsExtension es
+  pub members : AllByRecursion IsWellFormedExtension es
   pub joined : join (flat_map extension_flat es) ≡ text
 
 -- some list of extensions, which may be empty, spells the text
-abbrev pub IsExtensionsText : List ℕ → Type 0
-IsExtensionsText text = (es : List Extension) × SpellsExtensions es text
+abbrev pub IsExtensions : List ℕ → Type 0
+IsExtensions text = (es : List Extension) × SpellsExtensions es text
 
 -- the first extension whose singleton is the byte but for case
 abbrev pub find_extension : ℕ → List Extension → Option Extension

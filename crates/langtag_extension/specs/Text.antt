@@ -46,7 +46,7 @@ abbrev pub extensions_buf_text : ExtensionsBuf → List ℕ
 extensions_buf_text extensions = string_bytes (extensions_buf_string extensions)
 
 abbrev pub extension_subtags_left : ExtensionIter → List (List ℕ)
-extension_subtags_left it = it.subtags
+extension_subtags_left walk = walk.rest
 
 abbrev pub extensions_left : ExtensionsIter → List (List ℕ)
-extensions_left it = it.texts
+extensions_left walk = walk.rest

@@ -3,8 +3,8 @@ ghost use Rattle.std.specs.Prelude.{◌≡◌, ◌↔◌, Some, IsTrue, IfOk, If
 ghost use Rattle.std.specs.String.{string_bytes};
 ghost use Rattle.langtag_scan.specs.Case.{are_alike};
 ghost use Rattle.langtag_scan.specs.Record as model;
-ghost use Rattle.langtag_extension.specs.Spelling.{SpellsExtension, IsExtensionText};
-ghost use Rattle.langtag_extension.specs.Tests.{are_extension_subtags, is_extension_text, opens_alike};
+ghost use Rattle.langtag_extension.specs.Spelling.{SpellsExtension, IsExtension};
+ghost use Rattle.langtag_extension.specs.Decided.{are_extension_subtags, is_extension_text, opens_alike};
 
 use crate::extension_iter::ExtensionIter;
 use crate::singleton::Singleton;
@@ -23,7 +23,7 @@ pub struct InvalidExtension<T>(pub T);
 /// An extension (RFC 5646 section 2.2.6): a singleton and one or more subtags of two to eight letters and digits, as
 /// `u-co-phonebk`.
 ///
-/// Two extensions are equal where their texts differ at most in the case of ASCII letters.
+/// Two extensions are equal where their texts differ at most in the case of ASCII letters: `u-co` and `U-CO` are.
 #[derive(Clone, Copy, Debug, PartialEq, Eq, PartialOrd, Ord, Hash)]
 pub struct Extension<'a> {
     text: Caseless<&'a str>,
@@ -32,16 +32,18 @@ pub struct Extension<'a> {
 
 #[tactic(auto, using(crate::proofs::Rules::extension_rules))]
 impl<'a> Extension<'a> {
+    ghost use Rattle.langtag_extension.specs.Compared.{ExtensionsCompareByCase};
     ghost use Rattle.langtag_extension.specs.Text.{singleton_byte, extension_text, extension_buf_text, extension_subtags_left};
 
-    /// The extension of a text.
+    /// The extension of a text: `Extension::new("u-co-phonebk")` is Ok.
     ///
     /// # Errors
     ///
     /// A text that is not one extension comes back: one without a subtag, as `a`, or with two singletons, as
-    /// `a-bb-b-cc`, or with the mark of private use in the singleton's place, as `x-bb`.
+    /// `a-bb-b-cc`, or with the mark of private use in the singleton's place, as `x-bb`. `Extension::new("a")` is
+    /// `Err(InvalidExtension("a"))`.
     pub fn new(text: &'a str) -> Result<Extension<'a>, InvalidExtension<&'a str>>
-        ensures accepts { IsTrue (is_ok result) ↔ IsExtensionText text.now }
+        ensures accepts { IsTrue (is_ok result) ↔ IsExtension text.now }
         ensures same_text { IfOk result (λ extension. extension_text extension ≡ text.now) }
         ensures given_back { IfErr result (λ error. error.0 ≡ text.entry) }
     {
@@ -52,8 +54,9 @@ impl<'a> Extension<'a> {
     }
 
     /// The extension of a text that is known to be one: it is not looked at again.
+    /// `Extension::from_checked(extension.as_str())` is equal to `extension`.
     pub fn from_checked(text: &'a str) -> Extension<'a>
-        requires { IsExtensionText text.now }
+        requires { IsExtension text.now }
         ensures { extension_text result ≡ text.now }
     {
         Extension {
@@ -61,34 +64,52 @@ impl<'a> Extension<'a> {
         }
     }
 
-    /// The text, with its case.
+    /// The text, with its case: `Extension::new("U-CO")?.as_str()` is `"U-CO"`.
     pub fn as_str(&self) -> &'a str
         ensures same_text { result.now ≡ extension_text self.now }
-        ensures in_class { IsExtensionText result.now }
+        ensures in_class { IsExtension result.now }
     {
         self.text.0
     }
 
-    /// The bytes of the text.
+    /// The bytes of the text: `Extension::new("U-CO")?.as_bytes()` is `b"U-CO"`.
     pub fn as_bytes(&self) -> &'a [u8]
         ensures { result.now ≡ extension_text self.now }
     {
         self.as_str().as_bytes()
     }
 
-    /// Whether another text, of any form, is equal but for the case of ASCII letters.
+    /// Whether another text, of any form, is equal but for the case of ASCII letters:
+    /// `Extension::new("u-co")?.eq_str("U-CO")` is true. The contract also pins that extensions are compared, ordered
+    /// and hashed so.
     pub fn eq_str(&self, other: &str) -> bool
-        ensures { result ≡ are_alike (extension_text self.now) other.now }
+        ensures test { result ≡ are_alike (extension_text self.now) other.now }
+
+        ensures compared { ExtensionsCompareByCase }
     {
         self.text == Caseless(other)
     }
 
-    /// The singleton that opens the extension, with its case.
+    /// The owned form of the same text: `Extension::new("U-CO")?.try_to_owned(alloc)?.as_str()` is `"U-CO"`.
+    ///
+    /// # Errors
+    ///
+    /// No memory could be had.
+    pub fn try_to_owned(&self, alloc: Global) -> Result<ExtensionBuf, AllocError>
+        ensures { IfOk result (λ owned. extension_buf_text owned ≡ extension_text self.now) }
+    {
+        let text = String::from_str(alloc, self.as_str())?;
+        Ok(ExtensionBuf {
+            text: Caseless(text),
+        })
+    }
+
+    /// The singleton that opens the extension, with its case: `U` of `U-co-phonebk`.
     pub fn singleton(&self) -> Singleton
         ensures first_byte { singleton_byte result ≡ slice_index (extension_text self.now) 0 }
         ensures member { (e : model.Extension) → SpellsExtension e (extension_text self.now) → singleton_byte result ≡ e.singleton }
     {
-        Singleton::from_checked(self.text.0.as_bytes()[0])
+        Singleton::from_checked(self.as_bytes()[0])
     }
 
     /// Whether the extension is opened by the singleton, without regard to case.
@@ -99,27 +120,11 @@ impl<'a> Extension<'a> {
     }
 
     /// The subtags after the singleton, in order: `co` and `phonebk` of `u-co-phonebk`.
-    #[tactic(auto, using(crate::proofs::Rules::subtags_spelled, crate::proofs::Counts::counts))]
+    #[tactic(auto, using(crate::proofs::Rules::subtags_spelled))]
     pub fn iter(&self) -> ExtensionIter<'a>
         ensures list { (e : model.Extension) → SpellsExtension e (extension_text self.now) → extension_subtags_left result ≡ e.subtags }
     {
-        let mut subtags = Subtags::new(self.text.0);
-        let _singleton = subtags.next();
-        ExtensionIter::from_checked(subtags)
-    }
-
-    /// The owned form of the same text.
-    ///
-    /// # Errors
-    ///
-    /// No memory could be had.
-    pub fn try_to_owned(&self, alloc: Global) -> Result<ExtensionBuf, AllocError>
-        ensures { IfOk result (λ owned. extension_buf_text owned ≡ extension_text self.now) }
-    {
-        let text = String::from_str(alloc, self.text.0)?;
-        Ok(ExtensionBuf {
-            text: Caseless(text),
-        })
+        ExtensionIter::new(self.as_str())
     }
 }
 
@@ -142,15 +147,16 @@ pub struct ExtensionBuf {
 
 #[tactic(auto, using(crate::proofs::Rules::extension_rules))]
 impl ExtensionBuf {
+    ghost use Rattle.langtag_extension.specs.Compared.{ExtensionBufsCompareByCase};
     ghost use Rattle.langtag_extension.specs.Text.{extension_text, extension_buf_string, extension_buf_text};
 
-    /// The extension of a text, which is neither copied nor moved in memory.
+    /// The extension of a text, which is neither copied nor moved in memory: of the `String` `u-co` it is Ok.
     ///
     /// # Errors
     ///
-    /// A text that is not one extension comes back, the same `String`.
+    /// A text that is not one extension comes back, the same `String`: `a` does.
     pub fn new(text: String) -> Result<ExtensionBuf, InvalidExtension<String>>
-        ensures accepts { IsTrue (is_ok result) ↔ IsExtensionText (string_bytes text) }
+        ensures accepts { IsTrue (is_ok result) ↔ IsExtension (string_bytes text) }
         ensures same_text { IfOk result (λ extension. extension_buf_text extension ≡ string_bytes text) }
         ensures same_string { IfOk result (λ extension. extension_buf_string extension ≡ text) }
         ensures given_back { IfErr result (λ error. error.0 ≡ text) }
@@ -163,26 +169,29 @@ impl ExtensionBuf {
         })
     }
 
-    /// The extension, lent.
+    /// The extension, lent: `as_extension().as_str()` of the owned `U-CO` is `"U-CO"`. The contract also pins that
+    /// owned extensions are compared, ordered and hashed without regard to case.
     pub fn as_extension(&self) -> Extension<'_>
-        ensures { extension_text result ≡ extension_buf_text self.now }
+        ensures same_text { extension_text result ≡ extension_buf_text self.now }
+
+        ensures compared { ExtensionBufsCompareByCase }
     {
-        Extension::from_checked(self.text.0.as_str())
+        Extension::from_checked(self.as_str())
     }
 
-    /// The text, with its case.
+    /// The text, with its case: `as_str()` of the owned `U-CO` is `"U-CO"`.
     pub fn as_str(&self) -> &str
         ensures same_text { result.now ≡ extension_buf_text self.now }
-        ensures in_class { IsExtensionText result.now }
+        ensures in_class { IsExtension result.now }
     {
         self.text.0.as_str()
     }
 
-    /// The text itself, which is not copied.
+    /// The text itself, which is not copied: `into_string()` of the owned `U-CO` is the `String` `U-CO`.
     pub fn into_string(self) -> String
         ensures same_text { string_bytes result ≡ extension_buf_text self }
         ensures same_string { result ≡ extension_buf_string self }
-        ensures in_class { IsExtensionText (string_bytes result) }
+        ensures in_class { IsExtension (string_bytes result) }
     {
         self.text.0
     }

@@ -1,48 +1,75 @@
 //! The walk over the subtags of an extension.
-ghost use Rattle.std.specs.Prelude.{◌≡◌, ◌<◌, ◌^◌, [], IsTrue, length};
+ghost use Rattle.std.specs.Prelude.{◌≡◌, ◌<◌, ◌^◌, [], IsTrue, drop, length, ⊤};
 ghost use Rattle.std.specs.Iterator.{YieldsFirstBy, item_count};
-ghost use Rattle.langtag_extension.specs.Tests.{are_extension_subtags};
+ghost use Rattle.langtag_scan.specs.Subtags.{subtags};
+ghost use Rattle.langtag_extension.specs.Decided.{are_extension_subtags, is_extension_text};
 
 use crate::extension_subtag::ExtensionSubtag;
 use langtag_scan::Subtags;
+use std::alloc::AllocError;
 
-/// The subtags of an extension that are still to come (RFC 5646 section 2.2.6), without the singleton.
+/// The subtags of an extension that are still to come (RFC 5646 section 2.2.6), without the singleton: `co` and
+/// `phonebk` of `Extension::new("u-co-phonebk")?.iter()`.
 #[derive(Drop)]
 pub struct ExtensionIter<'a> {
-    subtags: Subtags<'a>,
-    ghost in_class: { IsTrue (are_extension_subtags subtags) },
-    ghost few: { length subtags < 2 ^ 64 },
+    rest: Subtags<'a>,
+    ghost in_class: { IsTrue (are_extension_subtags rest) },
+    ghost few: { length rest < 2 ^ 64 },
 }
 
 impl<'a> ExtensionIter<'a> {
     ghost use Rattle.langtag_extension.specs.Text.{extension_subtags_left};
 
-    /// No subtags.
+    /// No subtags: `ExtensionIter::empty().count()` is 0.
     pub fn empty() -> Self
         ensures { extension_subtags_left result ≡ [] }
     {
         ExtensionIter {
-            subtags: Subtags::empty(),
+            rest: Subtags::empty(),
         }
     }
 
-    /// The subtags that a walk has still to hand out, which are known to be those of an extension.
-    pub(crate) fn from_checked(subtags: Subtags<'a>) -> Self
-        requires in_class { IsTrue (are_extension_subtags subtags) }
-        requires few { length subtags < 2 ^ 64 }
-        ensures { extension_subtags_left result ≡ subtags.entry }
+    /// The subtags of an extension, without its singleton.
+    #[tactic(auto, using(crate::proofs::Rules::after_singleton))]
+    pub(crate) fn new(text: &'a str) -> Self
+        requires { IsTrue (is_extension_text text.now) }
+        ensures { extension_subtags_left result ≡ drop 1 (subtags text.now) }
     {
-        ExtensionIter { subtags }
+        ExtensionIter {
+            rest: after_singleton(text),
+        }
     }
+}
+
+/// The subtags of a text but for the first, which is the singleton.
+fn after_singleton<'a>(text: &'a str) -> Subtags<'a>
+    ensures { result ≡ drop 1 (subtags text.now) }
+{
+    let mut rest = Subtags::new(text);
+    let _singleton = rest.next();
+    rest
 }
 
 impl Default for ExtensionIter<'_> {
     ghost use Rattle.langtag_extension.specs.Text.{extension_subtags_left};
 
-    ghost is_default = { λ it. extension_subtags_left it ≡ [] };
+    ghost is_default = { λ walk. extension_subtags_left walk ≡ [] };
 
     fn default() -> Self {
         ExtensionIter::empty()
+    }
+}
+
+impl Clone for ExtensionIter<'_> {
+    ghost use Rattle.langtag_extension.specs.Text.{extension_subtags_left};
+
+    ghost is_clone = { λ walk copy. extension_subtags_left copy ≡ extension_subtags_left walk };
+
+    ghost is_infallible = { λ _. ⊤ };
+
+    fn clone(&self) -> Result<Self, AllocError> {
+        let rest = self.rest.clone()?;
+        Ok(ExtensionIter { rest })
     }
 }
 
@@ -56,7 +83,7 @@ impl<'a> Iterator for ExtensionIter<'a> {
     ghost remaining = { item_count extension_subtags_left };
 
     fn next(&mut self) -> Option<ExtensionSubtag<'a>> {
-        let text = self.subtags.next()?;
+        let text = self.rest.next()?;
         Some(ExtensionSubtag::from_checked(text))
     }
 }

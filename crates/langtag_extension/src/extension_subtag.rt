@@ -1,5 +1,8 @@
 //! A subtag of an extension (RFC 5646 section 2.2.6).
-ghost use Rattle.std.specs.Prelude.{◌≡◌, Some, IsTrue, IfOk, IfErr, is_ok};
+ghost use Rattle.std.specs.Prelude.{◌≡◌, ◌&&◌, ◌||◌, Some, IsTrue, IfOk, IfErr, is_ok, length};
+ghost use Rattle.std.specs.Char.{is_ascii_alphabetic, is_ascii_digit};
+ghost use Rattle.std.specs.Int.{is_in_range};
+ghost use Rattle.std.specs.List.{list_all};
 ghost use Rattle.std.specs.String.{string_bytes};
 ghost use Rattle.langtag_scan.specs.Case.{are_alike};
 ghost use Rattle.langtag_scan.specs.Class as class;
@@ -19,7 +22,7 @@ pub struct InvalidExtensionSubtag<T>(pub T);
 /// A subtag of an extension (RFC 5646 section 2.2.6): two to eight letters and digits, as `phonebk` in
 /// `u-co-phonebk`.
 ///
-/// Two subtags are equal where their texts differ at most in the case of ASCII letters.
+/// Two subtags are equal where their texts differ at most in the case of ASCII letters: `co` and `CO` are.
 #[derive(Clone, Copy, Debug, PartialEq, Eq, PartialOrd, Ord, Hash)]
 pub struct ExtensionSubtag<'a> {
     text: Caseless<&'a str>,
@@ -27,15 +30,21 @@ pub struct ExtensionSubtag<'a> {
 }
 
 impl<'a> ExtensionSubtag<'a> {
+    ghost use Rattle.langtag_extension.specs.Compared.{ExtensionSubtagsCompareByCase};
     ghost use Rattle.langtag_extension.specs.Text.{extension_subtag_text, extension_subtag_buf_text};
 
-    /// The subtag of a text.
+    /// The subtag of a text: `ExtensionSubtag::new("co")` is Ok. That a literal is one computes in a proof by its
+    /// numbers.
     ///
     /// # Errors
     ///
-    /// A text that is not two to eight letters and digits comes back.
+    /// A text that is not two to eight letters and digits comes back: `ExtensionSubtag::new("c")` is
+    /// `Err(InvalidExtensionSubtag("c"))`.
+    #[tactic(auto, using(crate::proofs::Numbers::extension_subtag_numbers))]
     pub fn new(text: &'a str) -> Result<ExtensionSubtag<'a>, InvalidExtensionSubtag<&'a str>>
         ensures accepts { is_ok result ≡ class.is_extension_subtag text.now }
+        ensures by_number { is_ok result ≡
+            (is_in_range 2 8 (length text.now) && list_all (λ b. is_ascii_alphabetic b || is_ascii_digit b) text.now) }
         ensures same_text { IfOk result (λ subtag. extension_subtag_text subtag ≡ text.now) }
         ensures given_back { IfErr result (λ error. error.0 ≡ text.entry) }
     {
@@ -46,6 +55,7 @@ impl<'a> ExtensionSubtag<'a> {
     }
 
     /// The subtag of a text that is known to be one: it is not looked at again.
+    /// `ExtensionSubtag::from_checked(subtag.as_str())` is equal to `subtag`.
     pub fn from_checked(text: &'a str) -> ExtensionSubtag<'a>
         requires { IsTrue (class.is_extension_subtag text.now) }
         ensures { extension_subtag_text result ≡ text.now }
@@ -55,7 +65,7 @@ impl<'a> ExtensionSubtag<'a> {
         }
     }
 
-    /// The text, with its case.
+    /// The text, with its case: `ExtensionSubtag::new("CO")?.as_str()` is `"CO"`.
     pub fn as_str(&self) -> &'a str
         ensures same_text { result.now ≡ extension_subtag_text self.now }
         ensures in_class { IsTrue (class.is_extension_subtag result.now) }
@@ -63,21 +73,25 @@ impl<'a> ExtensionSubtag<'a> {
         self.text.0
     }
 
-    /// The bytes of the text.
+    /// The bytes of the text: `ExtensionSubtag::new("CO")?.as_bytes()` is `b"CO"`.
     pub fn as_bytes(&self) -> &'a [u8]
         ensures { result.now ≡ extension_subtag_text self.now }
     {
         self.as_str().as_bytes()
     }
 
-    /// Whether another text, of any form, is equal but for the case of ASCII letters.
+    /// Whether another text, of any form, is equal but for the case of ASCII letters:
+    /// `ExtensionSubtag::new("co")?.eq_str("CO")` is true. The contract also pins that subtags are compared, ordered
+    /// and hashed so.
     pub fn eq_str(&self, other: &str) -> bool
-        ensures { result ≡ are_alike (extension_subtag_text self.now) other.now }
+        ensures test { result ≡ are_alike (extension_subtag_text self.now) other.now }
+
+        ensures compared { ExtensionSubtagsCompareByCase }
     {
         self.text == Caseless(other)
     }
 
-    /// The owned form of the same text.
+    /// The owned form of the same text: `ExtensionSubtag::new("CO")?.try_to_owned(alloc)?.as_str()` is `"CO"`.
     ///
     /// # Errors
     ///
@@ -110,13 +124,14 @@ pub struct ExtensionSubtagBuf {
 }
 
 impl ExtensionSubtagBuf {
+    ghost use Rattle.langtag_extension.specs.Compared.{ExtensionSubtagBufsCompareByCase};
     ghost use Rattle.langtag_extension.specs.Text.{extension_subtag_text, extension_subtag_buf_string, extension_subtag_buf_text};
 
-    /// The subtag of a text, which is neither copied nor moved in memory.
+    /// The subtag of a text, which is neither copied nor moved in memory: of the `String` `co` it is Ok.
     ///
     /// # Errors
     ///
-    /// A text that is not two to eight letters and digits comes back, the same `String`.
+    /// A text that is not two to eight letters and digits comes back, the same `String`: `c` does.
     pub fn new(text: String) -> Result<ExtensionSubtagBuf, InvalidExtensionSubtag<String>>
         ensures accepts { is_ok result ≡ class.is_extension_subtag (string_bytes text) }
         ensures same_text { IfOk result (λ subtag. extension_subtag_buf_text subtag ≡ string_bytes text) }
@@ -131,14 +146,17 @@ impl ExtensionSubtagBuf {
         })
     }
 
-    /// The subtag, lent.
+    /// The subtag, lent: `as_extension_subtag().as_str()` of the owned `CO` is `"CO"`. The contract also pins that
+    /// owned subtags are compared, ordered and hashed without regard to case.
     pub fn as_extension_subtag(&self) -> ExtensionSubtag<'_>
-        ensures { extension_subtag_text result ≡ extension_subtag_buf_text self.now }
+        ensures same_text { extension_subtag_text result ≡ extension_subtag_buf_text self.now }
+
+        ensures compared { ExtensionSubtagBufsCompareByCase }
     {
         ExtensionSubtag::from_checked(self.as_str())
     }
 
-    /// The text, with its case.
+    /// The text, with its case: `as_str()` of the owned `CO` is `"CO"`.
     pub fn as_str(&self) -> &str
         ensures same_text { result.now ≡ extension_subtag_buf_text self.now }
         ensures in_class { IsTrue (class.is_extension_subtag result.now) }
@@ -146,7 +164,7 @@ impl ExtensionSubtagBuf {
         self.text.0.as_str()
     }
 
-    /// The text itself, which is not copied.
+    /// The text itself, which is not copied: `into_string()` of the owned `CO` is the `String` `CO`.
     pub fn into_string(self) -> String
         ensures same_text { string_bytes result ≡ extension_subtag_buf_text self }
         ensures same_string { result ≡ extension_subtag_buf_string self }

@@ -1,11 +1,12 @@
 //! The walk over a text from one extension to the next.
-ghost use Rattle.std.specs.Prelude.{◌≡◌, ◌++◌, ◌∷◌, List, ℕ, IsTrue, MatchOption, drop};
+ghost use Rattle.std.specs.Prelude.{◌≡◌, ◌++◌, ◌∷◌, List, ℕ, IsTrue, MatchOption, drop, ⊤};
 ghost use Rattle.std.specs.Iterator.{YieldsFirstRef, item_count};
 ghost use Rattle.std.specs.List.{list_all};
 ghost use Rattle.langtag_scan.specs.Subtags.{segments, segments_left};
 ghost use Rattle.langtag_extension.specs.ExtensionTexts.{extension_texts, texts_left, goes_on, opens};
 
 use langtag_scan::segment_end;
+use std::alloc::AllocError;
 use std::marker::Model;
 
 /// The texts of the extensions that are still to come: a text is cut before each subtag of one byte.
@@ -29,6 +30,16 @@ impl<'a> ExtensionTexts<'a> {
             return ExtensionTexts { rest: None };
         }
         ExtensionTexts { rest: Some(text) }
+    }
+}
+
+impl Clone for ExtensionTexts<'_> {
+    ghost is_clone = { λ texts copy. copy ≡ texts };
+
+    ghost is_infallible = { λ _. ⊤ };
+
+    fn clone(&self) -> Result<Self, AllocError> {
+        Ok(ExtensionTexts { rest: self.rest })
     }
 }
 

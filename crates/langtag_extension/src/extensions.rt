@@ -4,8 +4,8 @@ ghost use Rattle.std.specs.Option.{option_map, option_map_or};
 ghost use Rattle.std.specs.String.{string_bytes};
 ghost use Rattle.langtag_scan.specs.Case.{are_alike};
 ghost use Rattle.langtag_scan.specs.Record as model;
-ghost use Rattle.langtag_extension.specs.Spelling.{SpellsExtensions, IsExtensionsText, extension_spelling, find_extension};
-ghost use Rattle.langtag_extension.specs.Tests.{is_extensions_text};
+ghost use Rattle.langtag_extension.specs.Spelling.{SpellsExtensions, IsExtensions, extension_spelling, find_extension};
+ghost use Rattle.langtag_extension.specs.Decided.{is_extensions_text};
 
 use crate::extension::{Extension, is_extension};
 use crate::extension_iter::ExtensionIter;
@@ -28,7 +28,7 @@ pub struct InvalidExtensions<T>(pub T);
 /// all, which is the empty text.
 ///
 /// A singleton may come twice: such a tag is well formed, though it is not valid (section 2.2.9). Two lists are equal
-/// where their texts differ at most in the case of ASCII letters.
+/// where their texts differ at most in the case of ASCII letters: `u-co` and `U-CO` are.
 #[derive(Clone, Copy, Debug, PartialEq, Eq, PartialOrd, Ord, Hash)]
 pub struct Extensions<'a> {
     text: Caseless<&'a str>,
@@ -37,18 +37,21 @@ pub struct Extensions<'a> {
 
 #[tactic(auto, using(crate::proofs::Rules::extensions_rules))]
 impl<'a> Extensions<'a> {
-    ghost use Rattle.langtag_extension.specs.Text.{singleton_byte, extension_text, extension_subtags_left, extensions_text, extensions_buf_text, extensions_left};
+    ghost use Rattle.langtag_extension.specs.Compared.{ExtensionListsCompareByCase};
+    ghost use Rattle.langtag_extension.specs.Text.{singleton_byte, extension_text, extension_subtags_left};
+    ghost use Rattle.langtag_extension.specs.Text.{extensions_text, extensions_buf_text, extensions_left};
 
-    /// No extensions: the empty text.
+    /// No extensions: `Extensions::EMPTY.as_str()` is `""`.
     pub const EMPTY: Extensions<'static> = Extensions { text: Caseless("") };
 
-    /// The extensions of a text.
+    /// The extensions of a text: `Extensions::new("a-ext1-u-co")` and `Extensions::new("")` are Ok.
     ///
     /// # Errors
     ///
-    /// A text that is not extensions joined by hyphens comes back.
+    /// A text that is not extensions joined by hyphens comes back: `Extensions::new("u-")` is
+    /// `Err(InvalidExtensions("u-"))`.
     pub fn new(text: &'a str) -> Result<Extensions<'a>, InvalidExtensions<&'a str>>
-        ensures accepts { IsTrue (is_ok result) ↔ IsExtensionsText text.now }
+        ensures accepts { IsTrue (is_ok result) ↔ IsExtensions text.now }
         ensures same_text { IfOk result (λ extensions. extensions_text extensions ≡ text.now) }
         ensures given_back { IfErr result (λ error. error.0 ≡ text.entry) }
     {
@@ -62,8 +65,9 @@ impl<'a> Extensions<'a> {
     }
 
     /// The extensions of a text that is known to be some: it is not looked at again.
+    /// `Extensions::from_checked(extensions.as_str())` is equal to `extensions`.
     pub fn from_checked(text: &'a str) -> Extensions<'a>
-        requires { IsExtensionsText text.now }
+        requires { IsExtensions text.now }
         ensures { extensions_text result ≡ text.now }
     {
         Extensions {
@@ -71,34 +75,53 @@ impl<'a> Extensions<'a> {
         }
     }
 
-    /// The text, with its case.
+    /// The text, with its case: `Extensions::new("U-CO")?.as_str()` is `"U-CO"`.
     pub fn as_str(&self) -> &'a str
         ensures same_text { result.now ≡ extensions_text self.now }
-        ensures in_class { IsExtensionsText result.now }
+        ensures in_class { IsExtensions result.now }
     {
         self.text.0
     }
 
-    /// The bytes of the text.
+    /// The bytes of the text: `Extensions::new("U-CO")?.as_bytes()` is `b"U-CO"`.
     pub fn as_bytes(&self) -> &'a [u8]
         ensures { result.now ≡ extensions_text self.now }
     {
         self.as_str().as_bytes()
     }
 
-    /// Whether another text, of any form, is equal but for the case of ASCII letters.
+    /// Whether another text, of any form, is equal but for the case of ASCII letters:
+    /// `Extensions::new("u-co")?.eq_str("U-CO")` is true. The contract also pins that lists of extensions are
+    /// compared, ordered and hashed so.
     pub fn eq_str(&self, other: &str) -> bool
-        ensures { result ≡ are_alike (extensions_text self.now) other.now }
+        ensures test { result ≡ are_alike (extensions_text self.now) other.now }
+
+        ensures compared { ExtensionListsCompareByCase }
     {
         self.text == Caseless(other)
     }
 
-    /// The extensions in order, those of a repeated singleton too.
-    #[tactic(auto, using(crate::proofs::Rules::extension_texts_spelled, crate::proofs::Counts::counts))]
-    pub fn iter(&self) -> ExtensionsIter<'a>
-        ensures list { (es : List model.Extension) → SpellsExtensions es (extensions_text self.now) → extensions_left result ≡ map extension_spelling es }
+    /// The owned form of the same text: `Extensions::new("U-CO")?.try_to_owned(alloc)?.as_str()` is `"U-CO"`.
+    ///
+    /// # Errors
+    ///
+    /// No memory could be had.
+    pub fn try_to_owned(&self, alloc: Global) -> Result<ExtensionsBuf, AllocError>
+        ensures { IfOk result (λ owned. extensions_buf_text owned ≡ extensions_text self.now) }
     {
-        ExtensionsIter::from_checked(ExtensionTexts::new(self.text.0))
+        let text = String::from_str(alloc, self.as_str())?;
+        Ok(ExtensionsBuf {
+            text: Caseless(text),
+        })
+    }
+
+    /// The extensions in order, those of a repeated singleton too: `a-bb` and `A-cc` of `a-bb-A-cc`.
+    #[tactic(auto, using(crate::proofs::Rules::extension_texts_spelled))]
+    pub fn iter(&self) -> ExtensionsIter<'a>
+        ensures list { (es : List model.Extension) → SpellsExtensions es (extensions_text self.now)
+            → extensions_left result ≡ map extension_spelling es }
+    {
+        ExtensionsIter::new(self.as_str())
     }
 
     /// The first extension of the singleton, without regard to case: `A` finds `a-bb` in `a-bb-A-cc`.
@@ -110,7 +133,8 @@ impl<'a> Extensions<'a> {
             .find(|extension| extension.has_singleton(singleton))
     }
 
-    /// The subtags of the extension that `get` answers, and none where it answers none.
+    /// The subtags of the extension that `get` answers, and none where it answers none: for `u`, `co` and `phonebk`
+    /// of `a-bb-u-co-phonebk`.
     #[tactic(auto, using(crate::proofs::LookUp::subtags_not_found))]
     pub fn iter_extension(&self, singleton: Singleton) -> ExtensionIter<'a>
         ensures list { (es : List model.Extension) → SpellsExtensions es (extensions_text self.now) →
@@ -120,20 +144,6 @@ impl<'a> Extensions<'a> {
             return ExtensionIter::empty();
         };
         extension.iter()
-    }
-
-    /// The owned form of the same text.
-    ///
-    /// # Errors
-    ///
-    /// No memory could be had.
-    pub fn try_to_owned(&self, alloc: Global) -> Result<ExtensionsBuf, AllocError>
-        ensures { IfOk result (λ owned. extensions_buf_text owned ≡ extensions_text self.now) }
-    {
-        let text = String::from_str(alloc, self.text.0)?;
-        Ok(ExtensionsBuf {
-            text: Caseless(text),
-        })
     }
 }
 
@@ -156,15 +166,17 @@ pub struct ExtensionsBuf {
 
 #[tactic(auto, using(crate::proofs::Rules::extensions_rules))]
 impl ExtensionsBuf {
+    ghost use Rattle.langtag_extension.specs.Compared.{ExtensionsBufsCompareByCase};
     ghost use Rattle.langtag_extension.specs.Text.{extensions_text, extensions_buf_string, extensions_buf_text};
 
-    /// The extensions of a text, which is neither copied nor moved in memory.
+    /// The extensions of a text, which is neither copied nor moved in memory: of the `String` `a-ext1-u-co` they are
+    /// Ok.
     ///
     /// # Errors
     ///
-    /// A text that is not extensions joined by hyphens comes back, the same `String`.
+    /// A text that is not extensions joined by hyphens comes back, the same `String`: `u-` does.
     pub fn new(text: String) -> Result<ExtensionsBuf, InvalidExtensions<String>>
-        ensures accepts { IsTrue (is_ok result) ↔ IsExtensionsText (string_bytes text) }
+        ensures accepts { IsTrue (is_ok result) ↔ IsExtensions (string_bytes text) }
         ensures same_text { IfOk result (λ extensions. extensions_buf_text extensions ≡ string_bytes text) }
         ensures same_string { IfOk result (λ extensions. extensions_buf_string extensions ≡ text) }
         ensures given_back { IfErr result (λ error. error.0 ≡ text) }
@@ -177,26 +189,29 @@ impl ExtensionsBuf {
         })
     }
 
-    /// The extensions, lent.
+    /// The extensions, lent: `as_extensions().as_str()` of the owned `U-CO` is `"U-CO"`. The contract also pins that
+    /// owned lists of extensions are compared, ordered and hashed without regard to case.
     pub fn as_extensions(&self) -> Extensions<'_>
-        ensures { extensions_text result ≡ extensions_buf_text self.now }
+        ensures same_text { extensions_text result ≡ extensions_buf_text self.now }
+
+        ensures compared { ExtensionsBufsCompareByCase }
     {
-        Extensions::from_checked(self.text.0.as_str())
+        Extensions::from_checked(self.as_str())
     }
 
-    /// The text, with its case.
+    /// The text, with its case: `as_str()` of the owned `U-CO` is `"U-CO"`.
     pub fn as_str(&self) -> &str
         ensures same_text { result.now ≡ extensions_buf_text self.now }
-        ensures in_class { IsExtensionsText result.now }
+        ensures in_class { IsExtensions result.now }
     {
         self.text.0.as_str()
     }
 
-    /// The text itself, which is not copied.
+    /// The text itself, which is not copied: `into_string()` of the owned `U-CO` is the `String` `U-CO`.
     pub fn into_string(self) -> String
         ensures same_text { string_bytes result ≡ extensions_buf_text self }
         ensures same_string { result ≡ extensions_buf_string self }
-        ensures in_class { IsExtensionsText (string_bytes result) }
+        ensures in_class { IsExtensions (string_bytes result) }
     {
         self.text.0
     }

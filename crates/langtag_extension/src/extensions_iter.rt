@@ -1,29 +1,47 @@
 //! The walk over the extensions of a tag.
-ghost use Rattle.std.specs.Prelude.{◌≡◌, ◌<◌, ◌^◌, IsTrue, length};
+ghost use Rattle.std.specs.Prelude.{◌≡◌, ◌<◌, ◌^◌, IsTrue, length, ⊤};
 ghost use Rattle.std.specs.Iterator.{YieldsFirstBy, item_count};
-ghost use Rattle.langtag_extension.specs.Tests.{are_extension_texts};
+ghost use Rattle.langtag_extension.specs.Decided.{are_extension_texts, is_extensions_text};
+ghost use Rattle.langtag_extension.specs.ExtensionTexts.{extension_texts};
 
 use crate::extension::Extension;
 use crate::extension_texts::ExtensionTexts;
+use std::alloc::AllocError;
 
-/// The extensions that are still to come (RFC 5646 section 2.2.6), in the order in which they are written.
+/// The extensions that are still to come (RFC 5646 section 2.2.6), in the order in which they are written: `a-ext1`
+/// and `u-co` of `Extensions::new("a-ext1-u-co")?.iter()`.
 #[derive(Drop)]
 pub struct ExtensionsIter<'a> {
-    texts: ExtensionTexts<'a>,
-    ghost in_class: { IsTrue (are_extension_texts texts) },
-    ghost few: { length texts < 2 ^ 64 },
+    rest: ExtensionTexts<'a>,
+    ghost in_class: { IsTrue (are_extension_texts rest) },
+    ghost few: { length rest < 2 ^ 64 },
 }
 
 impl<'a> ExtensionsIter<'a> {
     ghost use Rattle.langtag_extension.specs.Text.{extensions_left};
 
-    /// The extensions that a walk has still to hand out, whose texts are known to be extensions.
-    pub(crate) fn from_checked(texts: ExtensionTexts<'a>) -> Self
-        requires in_class { IsTrue (are_extension_texts texts) }
-        requires few { length texts < 2 ^ 64 }
-        ensures { extensions_left result ≡ texts.entry }
+    /// The extensions of a text.
+    #[tactic(auto, using(crate::proofs::Counts::few_extensions))]
+    pub(crate) fn new(text: &'a str) -> Self
+        requires { IsTrue (is_extensions_text text.now) }
+        ensures { extensions_left result ≡ extension_texts text.now }
     {
-        ExtensionsIter { texts }
+        ExtensionsIter {
+            rest: ExtensionTexts::new(text),
+        }
+    }
+}
+
+impl Clone for ExtensionsIter<'_> {
+    ghost use Rattle.langtag_extension.specs.Text.{extensions_left};
+
+    ghost is_clone = { λ walk copy. extensions_left copy ≡ extensions_left walk };
+
+    ghost is_infallible = { λ _. ⊤ };
+
+    fn clone(&self) -> Result<Self, AllocError> {
+        let rest = self.rest.clone()?;
+        Ok(ExtensionsIter { rest })
     }
 }
 
@@ -38,7 +56,7 @@ impl<'a> Iterator for ExtensionsIter<'a> {
 
     #[tactic(auto, using(crate::proofs::Rules::extension_rules))]
     fn next(&mut self) -> Option<Extension<'a>> {
-        let text = self.texts.next()?;
+        let text = self.rest.next()?;
         Some(Extension::from_checked(text))
     }
 }

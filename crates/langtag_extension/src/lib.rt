@@ -16,8 +16,6 @@ mod extension_texts;
 mod extensions;
 mod extensions_iter;
 mod singleton;
-#[cfg(test)]
-mod tests;
 
 pub use extension::{Extension, ExtensionBuf, InvalidExtension};
 pub use extension_iter::ExtensionIter;

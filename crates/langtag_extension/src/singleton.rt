@@ -28,19 +28,24 @@ pub struct Singleton {
 }
 
 impl Singleton {
+    ghost use Rattle.langtag_extension.specs.Compared.{SingletonsCompareByByte};
     ghost use Rattle.langtag_extension.specs.Text.{singleton_byte};
 
-    /// The singleton of a byte. That a literal is one, as `b'u'`, computes in a proof by its number.
+    /// The singleton of a byte: `Singleton::new(b'u')` is Ok. That a literal is one computes in a proof by its
+    /// number. The contract also pins that singletons are compared, ordered and hashed by their exact bytes.
     ///
     /// # Errors
     ///
-    /// A byte that is no ASCII letter or digit, or is `x` or `X`, comes back.
-    #[tactic(auto, using(crate::proofs::SingletonLemmas::singleton_numbers))]
+    /// A byte that is no ASCII letter or digit, or is `x` or `X`, comes back: `Singleton::new(b'x')` is
+    /// `Err(InvalidSingleton(b'x'))`.
+    #[tactic(auto, using(crate::proofs::Numbers::singleton_numbers))]
     pub fn new(c: u8) -> Result<Self, InvalidSingleton<u8>>
         ensures accepts { is_ok result ≡ class.is_singleton c }
         ensures by_number { is_ok result ≡ ((is_ascii_alphabetic c || is_ascii_digit c) && not ((c == 120) || (c == 88))) }
         ensures same_byte { IfOk result (λ singleton. singleton_byte singleton ≡ c) }
         ensures given_back { IfErr result (λ error. error.0 ≡ c) }
+
+        ensures compared { SingletonsCompareByByte }
     {
         if !is_singleton(c) {
             return Err(InvalidSingleton(c));
@@ -48,11 +53,20 @@ impl Singleton {
         Ok(Singleton { byte: c })
     }
 
-    /// The singleton of a text of one byte.
+    /// The singleton of a byte that is known to be one.
+    pub(crate) fn from_checked(byte: u8) -> Self
+        requires { IsTrue (class.is_singleton byte) }
+        ensures { singleton_byte result ≡ byte }
+    {
+        Singleton { byte }
+    }
+
+    /// The singleton of a text of one byte: `Singleton::from_string("u")` is Ok.
     ///
     /// # Errors
     ///
-    /// A text that is not one byte, or whose byte is no singleton, comes back.
+    /// A text that is not one byte, or whose byte is no singleton, comes back: `Singleton::from_string("uu")` is
+    /// `Err(InvalidSingleton("uu"))`.
     pub fn from_string(str: &str) -> Result<Self, InvalidSingleton<&str>>
         ensures accepts { is_ok result ≡ is_singleton_text str.now }
         ensures same_byte { IfOk result (λ singleton. str.now ≡ singleton_byte singleton ∷ []) }
@@ -66,15 +80,7 @@ impl Singleton {
         Err(InvalidSingleton(str))
     }
 
-    /// The singleton of a byte that is known to be one.
-    pub(crate) fn from_checked(byte: u8) -> Self
-        requires { IsTrue (class.is_singleton byte) }
-        ensures { singleton_byte result ≡ byte }
-    {
-        Singleton { byte }
-    }
-
-    /// The byte, with its case.
+    /// The byte, with its case: `Singleton::new(b'U')?.unwrap()` is `b'U'`.
     pub fn unwrap(self) -> u8
         ensures same_byte { result ≡ singleton_byte self }
         ensures in_class { IsTrue (class.is_singleton result) }

@@ -8,7 +8,7 @@ use Rattle.std.proofs.lemmas.Grind.{common_steps}
 use Rattle.langtag_scan.specs.Class.{is_primary, is_extended}
 use Rattle.langtag_scan.specs.Subtags.{is_hyphen, segments, subtags, NoHyphenWithin, IsHyphenFree}
 use Rattle.langtag_language.specs.Language.{IsLanguageExtension}
-use Rattle.langtag_language.specs.Tests.{are_extended, are_extended_within, extended_room, are_language_extension, are_language, is_language_extension, is_language}
+use Rattle.langtag_language.specs.Decided.{are_extended, are_extended_within, extended_room, are_language_extension, are_language, is_language_extension, is_language}
 use Rattle.langtag_language.proofs.Rules.{IsLanguageExtension-from_test}
 
 -- the first subtag ends at the first hyphen

@@ -1,3 +1,4 @@
-pub mod Rules
-pub mod FirstHyphen
-pub mod Members
+mod Rules
+mod FirstHyphen
+mod Members
+mod Numbers

@@ -3,7 +3,7 @@ use Rattle.std.proofs.Common.{◌≡◌, ◌↔◌, ℕ, List, [], ◌∷◌, dr
 use Rattle.langtag_scan.specs.Subtags.{subtags}
 use Rattle.langtag_language.specs.declared.language_extension.LanguageExtension.{LanguageExtension}
 use Rattle.langtag_language.specs.Language.{EachSpelling, SpellsLanguageExtension}
-use Rattle.langtag_language.specs.Tests.{are_language_extension}
+use Rattle.langtag_language.specs.Decided.{are_language_extension}
 use Rattle.langtag_language.specs.Text.{language_extension_text, extension_list}
 use Rattle.langtag_language.proofs.Rules.{subtags-language, SpellsLanguageExtension-from_test}
 

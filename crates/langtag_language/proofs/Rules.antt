@@ -7,7 +7,7 @@ use Rattle.langtag_scan.specs.Subtags.{join, subtags}
 use Rattle.langtag_scan.proofs.SubtagFacts.{of_primary, of_extended}
 use Rattle.langtag_scan.proofs.SubtagLists.{each_from_test, test_from_each, each_subtag, subtags-joined, join-subtags}
 use Rattle.langtag_language.specs.Language.{SpellsLanguageExtension, IsLanguageExtension, SpellsLanguage, IsLanguage}
-use Rattle.langtag_language.specs.Tests.{are_extended, are_extended_within, extended_room, are_language_extension, are_language, is_language_extension, is_language}
+use Rattle.langtag_language.specs.Decided.{are_extended, are_extended_within, extended_room, are_language_extension, are_language, is_language_extension, is_language}
 
 -- ---- extlang
 

@@ -1,3 +1,4 @@
 pub mod Language
-pub mod Tests
+pub mod Decided
 pub mod Text
+pub mod Compared

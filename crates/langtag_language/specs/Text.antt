@@ -49,8 +49,8 @@ extension_list None = []
 extension_list (Some extension) = subtags (language_extension_text extension)
 
 -- the extended subtags still to come
-abbrev pub extended_left : LanguageExtensionIter → List (List ℕ)
-extended_left subtags = subtags.rest
+abbrev pub extended_subtags_left : LanguageExtensionIter → List (List ℕ)
+extended_subtags_left subtags = subtags.rest
 
 abbrev pub language_text : Language → List ℕ
 language_text language = language.text.0.now

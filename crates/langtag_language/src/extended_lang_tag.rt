@@ -1,5 +1,7 @@
 //! The extended language subtag (RFC 5646 section 2.2.2).
-ghost use Rattle.std.specs.Prelude.{◌≡◌, Some, IsTrue, IfOk, IfErr, is_ok};
+ghost use Rattle.std.specs.Prelude.{◌≡◌, ◌==◌, ◌&&◌, length, Some, IsTrue, IfOk, IfErr, is_ok};
+ghost use Rattle.std.specs.Char.{is_ascii_alphabetic};
+ghost use Rattle.std.specs.List.{list_all};
 ghost use Rattle.std.specs.String.{string_bytes};
 ghost use Rattle.langtag_scan.specs.Case.{are_alike};
 ghost use Rattle.langtag_scan.specs.Class as class;
@@ -18,7 +20,7 @@ pub struct InvalidExtendedLangTag<T>(pub T);
 
 /// An extended language subtag (RFC 5646 section 2.2.2): three letters, as `yue` in `zh-yue`.
 ///
-/// Two of them are equal where their texts differ at most in the case of ASCII letters.
+/// Two of them are equal where their texts differ at most in the case of ASCII letters: `yue` and `YUE` are.
 #[derive(Clone, Copy, Debug, PartialEq, Eq, PartialOrd, Ord, Hash)]
 pub struct ExtendedLangTag<'a> {
     text: Caseless<&'a str>,
@@ -26,15 +28,20 @@ pub struct ExtendedLangTag<'a> {
 }
 
 impl<'a> ExtendedLangTag<'a> {
+    ghost use Rattle.langtag_language.specs.Compared.{ExtendedLangTagsCompareByCase};
     ghost use Rattle.langtag_language.specs.Text.{extended_lang_tag_text, extended_lang_tag_buf_text};
 
-    /// The extended language subtag of a text.
+    /// The extended language subtag of a text: `ExtendedLangTag::new("yue")` is Ok. That a literal is one computes in a
+    /// proof by its numbers.
     ///
     /// # Errors
     ///
-    /// A text that is not three letters comes back.
+    /// A text that is not three letters comes back: `ExtendedLangTag::new("yu")` is
+    /// `Err(InvalidExtendedLangTag("yu"))`.
+    #[tactic(auto, using(crate::proofs::Numbers::extended_numbers))]
     pub fn new(text: &'a str) -> Result<ExtendedLangTag<'a>, InvalidExtendedLangTag<&'a str>>
         ensures accepts { is_ok result ≡ class.is_extended text.now }
+        ensures by_number { is_ok result ≡ ((length text.now == 3) && list_all is_ascii_alphabetic text.now) }
         ensures same_text { IfOk result (λ extended. extended_lang_tag_text extended ≡ text.now) }
         ensures given_back { IfErr result (λ error. error.0 ≡ text.entry) }
     {
@@ -45,6 +52,7 @@ impl<'a> ExtendedLangTag<'a> {
     }
 
     /// The subtag of a text that is known to be one: it is not looked at again.
+    /// `ExtendedLangTag::from_checked(extended.as_str())` is equal to `extended`.
     pub fn from_checked(text: &'a str) -> ExtendedLangTag<'a>
         requires { IsTrue (class.is_extended text.now) }
         ensures { extended_lang_tag_text result ≡ text.now }
@@ -54,7 +62,7 @@ impl<'a> ExtendedLangTag<'a> {
         }
     }
 
-    /// The text, with its case.
+    /// The text, with its case: `ExtendedLangTag::new("YUE")?.as_str()` is `"YUE"`.
     pub fn as_str(&self) -> &'a str
         ensures same_text { result.now ≡ extended_lang_tag_text self.now }
         ensures in_class { IsTrue (class.is_extended result.now) }
@@ -62,21 +70,25 @@ impl<'a> ExtendedLangTag<'a> {
         self.text.0
     }
 
-    /// The bytes of the text.
+    /// The bytes of the text: `ExtendedLangTag::new("YUE")?.as_bytes()` is `b"YUE"`.
     pub fn as_bytes(&self) -> &'a [u8]
         ensures { result.now ≡ extended_lang_tag_text self.now }
     {
         self.as_str().as_bytes()
     }
 
-    /// Whether another text, of any form, is equal but for the case of ASCII letters.
+    /// Whether another text, of any form, is equal but for the case of ASCII letters:
+    /// `ExtendedLangTag::new("yue")?.eq_str("YUE")` is true. The contract also pins that extended subtags are compared,
+    /// ordered and hashed so.
     pub fn eq_str(&self, other: &str) -> bool
-        ensures { result ≡ are_alike (extended_lang_tag_text self.now) other.now }
+        ensures test { result ≡ are_alike (extended_lang_tag_text self.now) other.now }
+
+        ensures compared { ExtendedLangTagsCompareByCase }
     {
         self.text == Caseless(other)
     }
 
-    /// The owned form of the same text.
+    /// The owned form of the same text: `ExtendedLangTag::new("YUE")?.try_to_owned(alloc)?.as_str()` is `"YUE"`.
     ///
     /// # Errors
     ///
@@ -109,13 +121,14 @@ pub struct ExtendedLangTagBuf {
 }
 
 impl ExtendedLangTagBuf {
+    ghost use Rattle.langtag_language.specs.Compared.{ExtendedLangTagBufsCompareByCase};
     ghost use Rattle.langtag_language.specs.Text.{extended_lang_tag_text, extended_lang_tag_buf_text, extended_lang_tag_buf_string};
 
-    /// The subtag of a text, which is neither copied nor moved in memory.
+    /// The subtag of a text, which is neither copied nor moved in memory: of the `String` `yue` it is Ok.
     ///
     /// # Errors
     ///
-    /// A text that is not three letters comes back, the same `String`.
+    /// A text that is not three letters comes back, the same `String`: `yu` does.
     pub fn new(text: String) -> Result<ExtendedLangTagBuf, InvalidExtendedLangTag<String>>
         ensures accepts { is_ok result ≡ class.is_extended (string_bytes text) }
         ensures same_text { IfOk result (λ extended. extended_lang_tag_buf_text extended ≡ string_bytes text) }
@@ -130,14 +143,17 @@ impl ExtendedLangTagBuf {
         })
     }
 
-    /// The subtag, lent.
+    /// The subtag, lent: `as_extended_lang_tag().as_str()` of the owned `YUE` is `"YUE"`. The contract also pins that
+    /// owned extended subtags are compared, ordered and hashed without regard to case.
     pub fn as_extended_lang_tag(&self) -> ExtendedLangTag<'_>
-        ensures { extended_lang_tag_text result ≡ extended_lang_tag_buf_text self.now }
+        ensures same_text { extended_lang_tag_text result ≡ extended_lang_tag_buf_text self.now }
+
+        ensures compared { ExtendedLangTagBufsCompareByCase }
     {
         ExtendedLangTag::from_checked(self.as_str())
     }
 
-    /// The text, with its case.
+    /// The text, with its case: `as_str()` of the owned `YUE` is `"YUE"`.
     pub fn as_str(&self) -> &str
         ensures same_text { result.now ≡ extended_lang_tag_buf_text self.now }
         ensures in_class { IsTrue (class.is_extended result.now) }
@@ -145,7 +161,7 @@ impl ExtendedLangTagBuf {
         self.text.0.as_str()
     }
 
-    /// The text itself, which is not copied.
+    /// The text itself, which is not copied: `into_string()` of the owned `YUE` is the `String` `YUE`.
     pub fn into_string(self) -> String
         ensures same_text { string_bytes result ≡ extended_lang_tag_buf_text self }
         ensures same_string { result ≡ extended_lang_tag_buf_string self }

@@ -1,6 +1,6 @@
 //! The subtags that may follow a primary language subtag (RFC 5646 section 2.2.2).
 ghost use Rattle.std.specs.Prelude.{◌≡◌};
-ghost use Rattle.langtag_language.specs.Tests as test;
+ghost use Rattle.langtag_language.specs.Decided as test;
 
 use langtag_scan::{Subtags, is_extended};
 

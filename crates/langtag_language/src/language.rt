@@ -5,7 +5,7 @@ ghost use Rattle.std.specs.String.{string_bytes};
 ghost use Rattle.langtag_scan.specs.Case.{are_alike};
 ghost use Rattle.langtag_scan.specs.Subtags.{subtags};
 ghost use Rattle.langtag_language.specs.Language.{IsLanguage, EachSpelling, SpellsLanguageExtension};
-ghost use Rattle.langtag_language.specs.Tests as test;
+ghost use Rattle.langtag_language.specs.Decided as test;
 
 use crate::extended_subtags::are_extended_within;
 use crate::language_extension::LanguageExtension;
@@ -26,7 +26,7 @@ pub struct InvalidLanguage<T>(pub T);
 /// The language of a tag: a primary subtag (RFC 5646 section 2.2.1), as `fr`, after which at most three extended
 /// subtags stand (section 2.2.2), as in `zh-min-nan`. They stand after two or three letters alone.
 ///
-/// Two languages are equal where their texts differ at most in the case of ASCII letters.
+/// Two languages are equal where their texts differ at most in the case of ASCII letters: `zh-yue` and `ZH-YUE` are.
 #[derive(Clone, Copy, Debug, PartialEq, Eq, PartialOrd, Ord, Hash)]
 pub struct Language<'a> {
     text: Caseless<&'a str>,
@@ -35,15 +35,16 @@ pub struct Language<'a> {
 
 #[tactic(auto, using(crate::proofs::Rules::language_rules))]
 impl<'a> Language<'a> {
+    ghost use Rattle.langtag_language.specs.Compared.{LanguagesCompareByCase};
     ghost use Rattle.langtag_language.specs.Text.{language_text, language_buf_text, primary_language_text};
-    ghost use Rattle.langtag_language.specs.Text.{language_extension_text, extension_list, extended_left};
+    ghost use Rattle.langtag_language.specs.Text.{language_extension_text, extension_list, extended_subtags_left};
 
-    /// The language of a text.
+    /// The language of a text: `Language::new("zh-yue")` is Ok.
     ///
     /// # Errors
     ///
-    /// A text that is not a primary subtag, or one of two or three letters with one to three extended subtags after
-    /// it, comes back.
+    /// A text that is not a primary subtag, or one of two or three letters with one to three extended subtags after it,
+    /// comes back: `Language::new("zh-")` is `Err(InvalidLanguage("zh-"))`.
     pub fn new(text: &'a str) -> Result<Language<'a>, InvalidLanguage<&'a str>>
         ensures accepts { IsTrue (is_ok result) ↔ (IsLanguage text.now) }
         ensures same_text { IfOk result (λ language. language_text language ≡ text.now) }
@@ -56,6 +57,7 @@ impl<'a> Language<'a> {
     }
 
     /// The language of a text that is known to be one: it is not looked at again.
+    /// `Language::from_checked(language.as_str())` is equal to `language`.
     pub fn from_checked(text: &'a str) -> Language<'a>
         requires { IsLanguage text.now }
         ensures { language_text result ≡ text.now }
@@ -65,7 +67,7 @@ impl<'a> Language<'a> {
         }
     }
 
-    /// The text, with its case.
+    /// The text, with its case: `Language::new("ZH-YUE")?.as_str()` is `"ZH-YUE"`.
     pub fn as_str(&self) -> &'a str
         ensures same_text { result.now ≡ language_text self.now }
         ensures in_class { IsLanguage result.now }
@@ -73,21 +75,39 @@ impl<'a> Language<'a> {
         self.text.0
     }
 
-    /// The bytes of the text.
+    /// The bytes of the text: `Language::new("ZH-YUE")?.as_bytes()` is `b"ZH-YUE"`.
     pub fn as_bytes(&self) -> &'a [u8]
         ensures { result.now ≡ language_text self.now }
     {
         self.as_str().as_bytes()
     }
 
-    /// Whether another text, of any form, is equal but for the case of ASCII letters.
+    /// Whether another text, of any form, is equal but for the case of ASCII letters:
+    /// `Language::new("zh-yue")?.eq_str("ZH-YUE")` is true. The contract also pins that languages are compared, ordered
+    /// and hashed so.
     pub fn eq_str(&self, other: &str) -> bool
-        ensures { result ≡ are_alike (language_text self.now) other.now }
+        ensures test { result ≡ are_alike (language_text self.now) other.now }
+
+        ensures compared { LanguagesCompareByCase }
     {
         self.text == Caseless(other)
     }
 
-    /// The primary subtag, `fr` of `fr-abc`.
+    /// The owned form of the same text: `Language::new("ZH-YUE")?.try_to_owned(alloc)?.as_str()` is `"ZH-YUE"`.
+    ///
+    /// # Errors
+    ///
+    /// No memory could be had.
+    pub fn try_to_owned(&self, alloc: Global) -> Result<LanguageBuf, AllocError>
+        ensures { IfOk result (λ owned. language_buf_text owned ≡ language_text self.now) }
+    {
+        let text = String::from_str(alloc, self.as_str())?;
+        Ok(LanguageBuf {
+            text: Caseless(text),
+        })
+    }
+
+    /// The primary subtag: `Language::new("zh-yue")?.primary().as_str()` is `"zh"`.
     pub fn primary(&self) -> PrimaryLanguage<'a>
         ensures list { slice_get (subtags (language_text self.now)) 0 ≡ Some (primary_language_text result) }
         ensures member { EachSpelling (language_text self.now) (λ primary extended. primary_language_text result ≡ primary) }
@@ -95,7 +115,8 @@ impl<'a> Language<'a> {
         self.split().0
     }
 
-    /// The extended subtags as one text, `abc-def` of `fr-abc-def`.
+    /// The extended subtags as one text, None where there is none: `Language::new("zh-min-nan")?.extension()` is that of
+    /// `min-nan`.
     pub fn extension(&self) -> Option<LanguageExtension<'a>>
         ensures absent { EachSpelling (language_text self.now) (λ primary extended. IsNone result ↔ (extended ≡ [])) }
         ensures members { EachSpelling (language_text self.now) (λ primary extended.
@@ -104,10 +125,11 @@ impl<'a> Language<'a> {
         self.split().1
     }
 
-    /// The extended subtags one by one; none where there is no extension.
+    /// The extended subtags one by one; none where there is no extension:
+    /// `Language::new("zh-min-nan")?.extension_subtags()` hands out `min` and `nan`.
     pub fn extension_subtags(&self) -> LanguageExtensionIter<'a>
-        ensures list { extended_left result ≡ drop 1 (subtags (language_text self.now)) }
-        ensures members { EachSpelling (language_text self.now) (λ primary extended. extended_left result ≡ extended) }
+        ensures list { extended_subtags_left result ≡ drop 1 (subtags (language_text self.now)) }
+        ensures members { EachSpelling (language_text self.now) (λ primary extended. extended_subtags_left result ≡ extended) }
     {
         let (_, extension) = self.split();
         match extension {
@@ -128,20 +150,6 @@ impl<'a> Language<'a> {
         let primary = PrimaryLanguage::from_checked(&text[..end]);
         let extension = LanguageExtension::from_checked(&text[end + 1..]);
         (primary, Some(extension))
-    }
-
-    /// The owned form of the same text.
-    ///
-    /// # Errors
-    ///
-    /// No memory could be had.
-    pub fn try_to_owned(&self, alloc: Global) -> Result<LanguageBuf, AllocError>
-        ensures { IfOk result (λ owned. language_buf_text owned ≡ language_text self.now) }
-    {
-        let text = String::from_str(alloc, self.as_str())?;
-        Ok(LanguageBuf {
-            text: Caseless(text),
-        })
     }
 }
 
@@ -176,14 +184,15 @@ pub struct LanguageBuf {
 
 #[tactic(auto, using(crate::proofs::Rules::language_rules))]
 impl LanguageBuf {
+    ghost use Rattle.langtag_language.specs.Compared.{LanguageBufsCompareByCase};
     ghost use Rattle.langtag_language.specs.Text.{language_text, language_buf_text, language_buf_string};
 
-    /// The language of a text, which is neither copied nor moved in memory.
+    /// The language of a text, which is neither copied nor moved in memory: of the `String` `zh-yue` it is Ok.
     ///
     /// # Errors
     ///
-    /// A text that is not a primary subtag, or one of two or three letters with one to three extended subtags after
-    /// it, comes back, the same `String`.
+    /// A text that is not a primary subtag, or one of two or three letters with one to three extended subtags after it,
+    /// comes back, the same `String`: `zh-` does.
     pub fn new(text: String) -> Result<LanguageBuf, InvalidLanguage<String>>
         ensures accepts { IsTrue (is_ok result) ↔ (IsLanguage (string_bytes text)) }
         ensures same_text { IfOk result (λ language. language_buf_text language ≡ string_bytes text) }
@@ -198,14 +207,17 @@ impl LanguageBuf {
         })
     }
 
-    /// The language, lent.
+    /// The language, lent: `as_language().as_str()` of the owned `ZH-YUE` is `"ZH-YUE"`. The contract also pins that
+    /// owned languages are compared, ordered and hashed without regard to case.
     pub fn as_language(&self) -> Language<'_>
-        ensures { language_text result ≡ language_buf_text self.now }
+        ensures same_text { language_text result ≡ language_buf_text self.now }
+
+        ensures compared { LanguageBufsCompareByCase }
     {
-        Language::from_checked(self.text.0.as_str())
+        Language::from_checked(self.as_str())
     }
 
-    /// The text, with its case.
+    /// The text, with its case: `as_str()` of the owned `ZH-YUE` is `"ZH-YUE"`.
     pub fn as_str(&self) -> &str
         ensures same_text { result.now ≡ language_buf_text self.now }
         ensures in_class { IsLanguage result.now }
@@ -213,7 +225,7 @@ impl LanguageBuf {
         self.text.0.as_str()
     }
 
-    /// The text itself, which is not copied.
+    /// The text itself, which is not copied: `into_string()` of the owned `ZH-YUE` is the `String` `ZH-YUE`.
     pub fn into_string(self) -> String
         ensures same_text { string_bytes result ≡ language_buf_text self }
         ensures same_string { result ≡ language_buf_string self }

@@ -4,7 +4,7 @@ ghost use Rattle.std.specs.String.{string_bytes};
 ghost use Rattle.langtag_scan.specs.Case.{are_alike};
 ghost use Rattle.langtag_scan.specs.Subtags.{subtags};
 ghost use Rattle.langtag_language.specs.Language.{IsLanguageExtension, SpellsLanguageExtension};
-ghost use Rattle.langtag_language.specs.Tests as test;
+ghost use Rattle.langtag_language.specs.Decided as test;
 
 use crate::extended_subtags::are_extended_within;
 use crate::language_extension_iter::LanguageExtensionIter;
@@ -22,7 +22,7 @@ pub struct InvalidLanguageExtension<T>(pub T);
 
 /// The extended subtags of a language (RFC 5646 section 2.2.2): one to three, joined by hyphens, as `min-nan`.
 ///
-/// Two of them are equal where their texts differ at most in the case of ASCII letters.
+/// Two of them are equal where their texts differ at most in the case of ASCII letters: `min-nan` and `MIN-NAN` are.
 #[derive(Clone, Copy, Debug, PartialEq, Eq, PartialOrd, Ord, Hash)]
 pub struct LanguageExtension<'a> {
     text: Caseless<&'a str>,
@@ -31,13 +31,15 @@ pub struct LanguageExtension<'a> {
 
 #[tactic(auto, using(crate::proofs::Rules::extension_rules))]
 impl<'a> LanguageExtension<'a> {
-    ghost use Rattle.langtag_language.specs.Text.{language_extension_text, language_extension_buf_text, extended_left};
+    ghost use Rattle.langtag_language.specs.Compared.{LanguageExtensionsCompareByCase};
+    ghost use Rattle.langtag_language.specs.Text.{language_extension_text, language_extension_buf_text, extended_subtags_left};
 
-    /// The language extension of a text.
+    /// The language extension of a text: `LanguageExtension::new("min-nan")` is Ok.
     ///
     /// # Errors
     ///
-    /// A text that is not one to three extended subtags with one hyphen between neighbours comes back.
+    /// A text that is not one to three extended subtags with one hyphen between neighbours comes back:
+    /// `LanguageExtension::new("min-")` is `Err(InvalidLanguageExtension("min-"))`.
     pub fn new(text: &'a str) -> Result<LanguageExtension<'a>, InvalidLanguageExtension<&'a str>>
         ensures accepts { IsTrue (is_ok result) ↔ (IsLanguageExtension text.now) }
         ensures same_text { IfOk result (λ extension. language_extension_text extension ≡ text.now) }
@@ -50,6 +52,7 @@ impl<'a> LanguageExtension<'a> {
     }
 
     /// The language extension of a text that is known to be one: it is not looked at again.
+    /// `LanguageExtension::from_checked(extension.as_str())` is equal to `extension`.
     pub fn from_checked(text: &'a str) -> LanguageExtension<'a>
         requires { IsLanguageExtension text.now }
         ensures { language_extension_text result ≡ text.now }
@@ -59,7 +62,7 @@ impl<'a> LanguageExtension<'a> {
         }
     }
 
-    /// The text, with its case.
+    /// The text, with its case: `LanguageExtension::new("MIN-NAN")?.as_str()` is `"MIN-NAN"`.
     pub fn as_str(&self) -> &'a str
         ensures same_text { result.now ≡ language_extension_text self.now }
         ensures in_class { IsLanguageExtension result.now }
@@ -67,29 +70,26 @@ impl<'a> LanguageExtension<'a> {
         self.text.0
     }
 
-    /// The bytes of the text.
+    /// The bytes of the text: `LanguageExtension::new("MIN-NAN")?.as_bytes()` is `b"MIN-NAN"`.
     pub fn as_bytes(&self) -> &'a [u8]
         ensures { result.now ≡ language_extension_text self.now }
     {
         self.as_str().as_bytes()
     }
 
-    /// Whether another text, of any form, is equal but for the case of ASCII letters.
+    /// Whether another text, of any form, is equal but for the case of ASCII letters:
+    /// `LanguageExtension::new("min-nan")?.eq_str("MIN-NAN")` is true. The contract also pins that language extensions
+    /// are compared, ordered and hashed so.
     pub fn eq_str(&self, other: &str) -> bool
-        ensures { result ≡ are_alike (language_extension_text self.now) other.now }
+        ensures test { result ≡ are_alike (language_extension_text self.now) other.now }
+
+        ensures compared { LanguageExtensionsCompareByCase }
     {
         self.text == Caseless(other)
     }
 
-    /// The extended subtags one by one.
-    pub fn iter(&self) -> LanguageExtensionIter<'a>
-        ensures list { extended_left result ≡ subtags (language_extension_text self.now) }
-        ensures spells { SpellsLanguageExtension (extended_left result) (language_extension_text self.now) }
-    {
-        LanguageExtensionIter::new(self.as_str())
-    }
-
-    /// The owned form of the same text.
+    /// The owned form of the same text: `LanguageExtension::new("MIN-NAN")?.try_to_owned(alloc)?.as_str()` is
+    /// `"MIN-NAN"`.
     ///
     /// # Errors
     ///
@@ -101,6 +101,14 @@ impl<'a> LanguageExtension<'a> {
         Ok(LanguageExtensionBuf {
             text: Caseless(text),
         })
+    }
+
+    /// The extended subtags one by one: `LanguageExtension::new("min-nan")?.iter()` hands out `min` and `nan`.
+    pub fn iter(&self) -> LanguageExtensionIter<'a>
+        ensures list { extended_subtags_left result ≡ subtags (language_extension_text self.now) }
+        ensures spells { SpellsLanguageExtension (extended_subtags_left result) (language_extension_text self.now) }
+    {
+        LanguageExtensionIter::new(self.as_str())
     }
 }
 
@@ -130,14 +138,16 @@ pub struct LanguageExtensionBuf {
 
 #[tactic(auto, using(crate::proofs::Rules::extension_rules))]
 impl LanguageExtensionBuf {
+    ghost use Rattle.langtag_language.specs.Compared.{LanguageExtensionBufsCompareByCase};
     ghost use Rattle.langtag_language.specs.Text.{language_extension_text, language_extension_buf_text, language_extension_buf_string};
 
-    /// The language extension of a text, which is neither copied nor moved in memory.
+    /// The language extension of a text, which is neither copied nor moved in memory: of the `String` `min-nan` it is
+    /// Ok.
     ///
     /// # Errors
     ///
     /// A text that is not one to three extended subtags with one hyphen between neighbours comes back, the same
-    /// `String`.
+    /// `String`: `min-` does.
     pub fn new(text: String) -> Result<LanguageExtensionBuf, InvalidLanguageExtension<String>>
         ensures accepts { IsTrue (is_ok result) ↔ (IsLanguageExtension (string_bytes text)) }
         ensures same_text { IfOk result (λ extension. language_extension_buf_text extension ≡ string_bytes text) }
@@ -152,14 +162,17 @@ impl LanguageExtensionBuf {
         })
     }
 
-    /// The language extension, lent.
+    /// The language extension, lent: `as_language_extension().as_str()` of the owned `MIN-NAN` is `"MIN-NAN"`. The
+    /// contract also pins that owned language extensions are compared, ordered and hashed without regard to case.
     pub fn as_language_extension(&self) -> LanguageExtension<'_>
-        ensures { language_extension_text result ≡ language_extension_buf_text self.now }
+        ensures same_text { language_extension_text result ≡ language_extension_buf_text self.now }
+
+        ensures compared { LanguageExtensionBufsCompareByCase }
     {
-        LanguageExtension::from_checked(self.text.0.as_str())
+        LanguageExtension::from_checked(self.as_str())
     }
 
-    /// The text, with its case.
+    /// The text, with its case: `as_str()` of the owned `MIN-NAN` is `"MIN-NAN"`.
     pub fn as_str(&self) -> &str
         ensures same_text { result.now ≡ language_extension_buf_text self.now }
         ensures in_class { IsLanguageExtension result.now }
@@ -167,7 +180,7 @@ impl LanguageExtensionBuf {
         self.text.0.as_str()
     }
 
-    /// The text itself, which is not copied.
+    /// The text itself, which is not copied: `into_string()` of the owned `MIN-NAN` is the `String` `MIN-NAN`.
     pub fn into_string(self) -> String
         ensures same_text { string_bytes result ≡ language_extension_buf_text self }
         ensures same_string { result ≡ language_extension_buf_string self }

@@ -1,13 +1,14 @@
 //! The extended subtags of a language one by one.
-ghost use Rattle.std.specs.Prelude.{◌≡◌, ◌≤◌, IsTrue, [], length};
+ghost use Rattle.std.specs.Prelude.{◌≡◌, ◌≤◌, IsTrue, [], length, ⊤};
 ghost use Rattle.std.specs.Iterator.{YieldsFirstBy, item_count};
 ghost use Rattle.langtag_scan.specs.Subtags.{subtags};
-ghost use Rattle.langtag_language.specs.Tests.{are_extended, is_language_extension};
+ghost use Rattle.langtag_language.specs.Decided.{are_extended, is_language_extension};
 
 use crate::extended_lang_tag::ExtendedLangTag;
 use langtag_scan::Subtags;
+use std::alloc::AllocError;
 
-/// The extended subtags that are still to come (RFC 5646 section 2.2.2).
+/// The extended subtags that are still to come (RFC 5646 section 2.2.2): `min` and `nan` of `min-nan`.
 #[derive(Drop)]
 pub struct LanguageExtensionIter<'a> {
     rest: Subtags<'a>,
@@ -16,11 +17,11 @@ pub struct LanguageExtensionIter<'a> {
 }
 
 impl<'a> LanguageExtensionIter<'a> {
-    ghost use Rattle.langtag_language.specs.Text.{extended_left};
+    ghost use Rattle.langtag_language.specs.Text.{extended_subtags_left};
 
-    /// No extended subtags.
+    /// No extended subtags: `LanguageExtensionIter::empty().next()` is None.
     pub fn empty() -> Self
-        ensures { extended_left result ≡ [] }
+        ensures { extended_subtags_left result ≡ [] }
     {
         LanguageExtensionIter {
             rest: Subtags::empty(),
@@ -31,7 +32,7 @@ impl<'a> LanguageExtensionIter<'a> {
     #[tactic(auto, using(crate::proofs::Rules::extension_members))]
     pub(crate) fn new(text: &'a str) -> Self
         requires { IsTrue (is_language_extension text.now) }
-        ensures { extended_left result ≡ subtags text.now }
+        ensures { extended_subtags_left result ≡ subtags text.now }
     {
         LanguageExtensionIter {
             rest: Subtags::new(text),
@@ -40,23 +41,36 @@ impl<'a> LanguageExtensionIter<'a> {
 }
 
 impl Default for LanguageExtensionIter<'_> {
-    ghost use Rattle.langtag_language.specs.Text.{extended_left};
+    ghost use Rattle.langtag_language.specs.Text.{extended_subtags_left};
 
-    ghost is_default = { λ subtags. extended_left subtags ≡ [] };
+    ghost is_default = { λ subtags. extended_subtags_left subtags ≡ [] };
 
     fn default() -> Self {
         LanguageExtensionIter::empty()
     }
 }
 
+impl Clone for LanguageExtensionIter<'_> {
+    ghost use Rattle.langtag_language.specs.Text.{extended_subtags_left};
+
+    ghost is_clone = { λ walk copy. extended_subtags_left copy ≡ extended_subtags_left walk };
+
+    ghost is_infallible = { λ _. ⊤ };
+
+    fn clone(&self) -> Result<Self, AllocError> {
+        let rest = self.rest.clone()?;
+        Ok(LanguageExtensionIter { rest })
+    }
+}
+
 impl<'a> Iterator for LanguageExtensionIter<'a> {
-    ghost use Rattle.langtag_language.specs.Text.{extended_lang_tag_text, extended_left};
+    ghost use Rattle.langtag_language.specs.Text.{extended_lang_tag_text, extended_subtags_left};
 
     type Item = ExtendedLangTag<'a>;
 
-    ghost next_gives = { YieldsFirstBy extended_lang_tag_text extended_left };
+    ghost next_gives = { YieldsFirstBy extended_lang_tag_text extended_subtags_left };
 
-    ghost remaining = { item_count extended_left };
+    ghost remaining = { item_count extended_subtags_left };
 
     fn next(&mut self) -> Option<ExtendedLangTag<'a>> {
         let text = self.rest.next()?;

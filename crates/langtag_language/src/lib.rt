@@ -14,8 +14,6 @@ mod language;
 mod language_extension;
 mod language_extension_iter;
 mod primary_language;
-#[cfg(test)]
-mod tests;
 
 pub use extended_lang_tag::{ExtendedLangTag, ExtendedLangTagBuf, InvalidExtendedLangTag};
 pub use language::{InvalidLanguage, Language, LanguageBuf};

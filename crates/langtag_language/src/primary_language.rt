@@ -1,5 +1,8 @@
 //! The primary language subtag (RFC 5646 section 2.2.1).
-ghost use Rattle.std.specs.Prelude.{◌≡◌, Some, IsTrue, IfOk, IfErr, is_ok};
+ghost use Rattle.std.specs.Prelude.{◌≡◌, ◌&&◌, length, Some, IsTrue, IfOk, IfErr, is_ok};
+ghost use Rattle.std.specs.Char.{is_ascii_alphabetic};
+ghost use Rattle.std.specs.Int.{is_in_range};
+ghost use Rattle.std.specs.List.{list_all};
 ghost use Rattle.std.specs.String.{string_bytes};
 ghost use Rattle.langtag_scan.specs.Case.{are_alike};
 ghost use Rattle.langtag_scan.specs.Class as class;
@@ -18,7 +21,7 @@ pub struct InvalidPrimaryLanguage<T>(pub T);
 
 /// A primary language subtag (RFC 5646 section 2.2.1): two to eight letters, as `fr`.
 ///
-/// Two of them are equal where their texts differ at most in the case of ASCII letters.
+/// Two of them are equal where their texts differ at most in the case of ASCII letters: `fr` and `FR` are.
 #[derive(Clone, Copy, Debug, PartialEq, Eq, PartialOrd, Ord, Hash)]
 pub struct PrimaryLanguage<'a> {
     text: Caseless<&'a str>,
@@ -26,15 +29,20 @@ pub struct PrimaryLanguage<'a> {
 }
 
 impl<'a> PrimaryLanguage<'a> {
+    ghost use Rattle.langtag_language.specs.Compared.{PrimaryLanguagesCompareByCase};
     ghost use Rattle.langtag_language.specs.Text.{primary_language_text, primary_language_buf_text};
 
-    /// The primary language subtag of a text.
+    /// The primary language subtag of a text: `PrimaryLanguage::new("fr")` is Ok. That a literal is one computes in a
+    /// proof by its numbers.
     ///
     /// # Errors
     ///
-    /// A text that is not two to eight letters comes back.
+    /// A text that is not two to eight letters comes back: `PrimaryLanguage::new("f")` is
+    /// `Err(InvalidPrimaryLanguage("f"))`.
+    #[tactic(auto, using(crate::proofs::Numbers::primary_numbers))]
     pub fn new(text: &'a str) -> Result<PrimaryLanguage<'a>, InvalidPrimaryLanguage<&'a str>>
         ensures accepts { is_ok result ≡ class.is_primary text.now }
+        ensures by_number { is_ok result ≡ (is_in_range 2 8 (length text.now) && list_all is_ascii_alphabetic text.now) }
         ensures same_text { IfOk result (λ primary. primary_language_text primary ≡ text.now) }
         ensures given_back { IfErr result (λ error. error.0 ≡ text.entry) }
     {
@@ -45,6 +53,7 @@ impl<'a> PrimaryLanguage<'a> {
     }
 
     /// The subtag of a text that is known to be one: it is not looked at again.
+    /// `PrimaryLanguage::from_checked(primary.as_str())` is equal to `primary`.
     pub fn from_checked(text: &'a str) -> PrimaryLanguage<'a>
         requires { IsTrue (class.is_primary text.now) }
         ensures { primary_language_text result ≡ text.now }
@@ -54,7 +63,7 @@ impl<'a> PrimaryLanguage<'a> {
         }
     }
 
-    /// The text, with its case.
+    /// The text, with its case: `PrimaryLanguage::new("FR")?.as_str()` is `"FR"`.
     pub fn as_str(&self) -> &'a str
         ensures same_text { result.now ≡ primary_language_text self.now }
         ensures in_class { IsTrue (class.is_primary result.now) }
@@ -62,21 +71,25 @@ impl<'a> PrimaryLanguage<'a> {
         self.text.0
     }
 
-    /// The bytes of the text.
+    /// The bytes of the text: `PrimaryLanguage::new("FR")?.as_bytes()` is `b"FR"`.
     pub fn as_bytes(&self) -> &'a [u8]
         ensures { result.now ≡ primary_language_text self.now }
     {
         self.as_str().as_bytes()
     }
 
-    /// Whether another text, of any form, is equal but for the case of ASCII letters.
+    /// Whether another text, of any form, is equal but for the case of ASCII letters:
+    /// `PrimaryLanguage::new("fr")?.eq_str("FR")` is true. The contract also pins that primary languages are compared,
+    /// ordered and hashed so.
     pub fn eq_str(&self, other: &str) -> bool
-        ensures { result ≡ are_alike (primary_language_text self.now) other.now }
+        ensures test { result ≡ are_alike (primary_language_text self.now) other.now }
+
+        ensures compared { PrimaryLanguagesCompareByCase }
     {
         self.text == Caseless(other)
     }
 
-    /// The owned form of the same text.
+    /// The owned form of the same text: `PrimaryLanguage::new("FR")?.try_to_owned(alloc)?.as_str()` is `"FR"`.
     ///
     /// # Errors
     ///
@@ -109,13 +122,14 @@ pub struct PrimaryLanguageBuf {
 }
 
 impl PrimaryLanguageBuf {
+    ghost use Rattle.langtag_language.specs.Compared.{PrimaryLanguageBufsCompareByCase};
     ghost use Rattle.langtag_language.specs.Text.{primary_language_text, primary_language_buf_text, primary_language_buf_string};
 
-    /// The subtag of a text, which is neither copied nor moved in memory.
+    /// The subtag of a text, which is neither copied nor moved in memory: of the `String` `fr` it is Ok.
     ///
     /// # Errors
     ///
-    /// A text that is not two to eight letters comes back, the same `String`.
+    /// A text that is not two to eight letters comes back, the same `String`: `f` does.
     pub fn new(text: String) -> Result<PrimaryLanguageBuf, InvalidPrimaryLanguage<String>>
         ensures accepts { is_ok result ≡ class.is_primary (string_bytes text) }
         ensures same_text { IfOk result (λ primary. primary_language_buf_text primary ≡ string_bytes text) }
@@ -130,14 +144,17 @@ impl PrimaryLanguageBuf {
         })
     }
 
-    /// The subtag, lent.
+    /// The subtag, lent: `as_primary_language().as_str()` of the owned `FR` is `"FR"`. The contract also pins that
+    /// owned primary languages are compared, ordered and hashed without regard to case.
     pub fn as_primary_language(&self) -> PrimaryLanguage<'_>
-        ensures { primary_language_text result ≡ primary_language_buf_text self.now }
+        ensures same_text { primary_language_text result ≡ primary_language_buf_text self.now }
+
+        ensures compared { PrimaryLanguageBufsCompareByCase }
     {
         PrimaryLanguage::from_checked(self.as_str())
     }
 
-    /// The text, with its case.
+    /// The text, with its case: `as_str()` of the owned `FR` is `"FR"`.
     pub fn as_str(&self) -> &str
         ensures same_text { result.now ≡ primary_language_buf_text self.now }
         ensures in_class { IsTrue (class.is_primary result.now) }
@@ -145,7 +162,7 @@ impl PrimaryLanguageBuf {
         self.text.0.as_str()
     }
 
-    /// The text itself, which is not copied.
+    /// The text itself, which is not copied: `into_string()` of the owned `FR` is the `String` `FR`.
     pub fn into_string(self) -> String
         ensures same_text { string_bytes result ≡ primary_language_buf_text self }
         ensures same_string { result ≡ primary_language_buf_string self }

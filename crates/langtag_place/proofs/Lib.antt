@@ -1,1 +1,2 @@
-pub mod Rules
+mod Rules
+mod Numbers

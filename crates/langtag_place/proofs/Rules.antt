@@ -4,7 +4,7 @@ use Rattle.langtag_scan.specs.Class.{is_variant}
 use Rattle.langtag_scan.specs.Subtags.{subtags}
 use Rattle.langtag_scan.proofs.SubtagFacts.{of_variant}
 use Rattle.langtag_scan.proofs.SubtagLists.{each_from_test, test_from_each, each_subtag, subtags-joined, join-subtags, length-subtags}
-use Rattle.langtag_place.specs.Tests.{are_variants, is_variants}
+use Rattle.langtag_place.specs.Decided.{are_variants, is_variants}
 use Rattle.langtag_place.specs.Variants.{IsVariants, SpellsVariants}
 
 -- one text, one list

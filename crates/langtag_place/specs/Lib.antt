@@ -1,3 +1,4 @@
 pub mod Text
+pub mod Compared
 pub mod Variants
-pub mod Tests
+pub mod Decided

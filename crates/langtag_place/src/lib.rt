@@ -3,8 +3,6 @@
 
 mod region;
 mod script;
-#[cfg(test)]
-mod tests;
 mod variant;
 mod variants;
 mod variants_iter;

@@ -1,5 +1,7 @@
 //! The region subtag (RFC 5646 section 2.2.4).
-ghost use Rattle.std.specs.Prelude.{◌≡◌, Some, IsTrue, IfOk, IfErr, is_ok};
+ghost use Rattle.std.specs.Prelude.{◌≡◌, ◌==◌, ◌&&◌, ◌||◌, Some, IsTrue, IfOk, IfErr, is_ok, length};
+ghost use Rattle.std.specs.Char.{is_ascii_alphabetic, is_ascii_digit};
+ghost use Rattle.std.specs.List.{list_all};
 ghost use Rattle.std.specs.String.{string_bytes};
 ghost use Rattle.langtag_scan.specs.Case.{are_alike};
 ghost use Rattle.langtag_scan.specs.Class as class;
@@ -18,7 +20,7 @@ pub struct InvalidRegion<T>(pub T);
 
 /// A region subtag (RFC 5646 section 2.2.4): two letters, as `FR`, or three digits, as `419`.
 ///
-/// Two regions are equal where their texts differ at most in the case of ASCII letters.
+/// Two regions are equal where their texts differ at most in the case of ASCII letters: `fr` and `FR` are.
 #[derive(Clone, Copy, Debug, PartialEq, Eq, PartialOrd, Ord, Hash)]
 pub struct Region<'a> {
     text: Caseless<&'a str>,
@@ -26,15 +28,21 @@ pub struct Region<'a> {
 }
 
 impl<'a> Region<'a> {
+    ghost use Rattle.langtag_place.specs.Compared.{RegionsCompareByCase};
     ghost use Rattle.langtag_place.specs.Text.{region_text, region_buf_text};
 
-    /// The region of a text.
+    /// The region of a text: `Region::new("fr")` is Ok. That a literal is one computes in a proof by its numbers.
     ///
     /// # Errors
     ///
-    /// A text that is neither two letters nor three digits comes back.
+    /// A text that is neither two letters nor three digits comes back: `Region::new("FR1")` is
+    /// `Err(InvalidRegion("FR1"))`.
+    #[tactic(auto, using(crate::proofs::Numbers::region_numbers))]
     pub fn new(text: &'a str) -> Result<Region<'a>, InvalidRegion<&'a str>>
         ensures accepts { is_ok result ≡ class.is_region text.now }
+        ensures by_number { is_ok result ≡
+            (((length text.now == 2) && list_all is_ascii_alphabetic text.now)
+            || ((length text.now == 3) && list_all is_ascii_digit text.now)) }
         ensures same_text { IfOk result (λ region. region_text region ≡ text.now) }
         ensures given_back { IfErr result (λ error. error.0 ≡ text.entry) }
     {
@@ -45,6 +53,7 @@ impl<'a> Region<'a> {
     }
 
     /// The region of a text that is known to be one: it is not looked at again.
+    /// `Region::from_checked(region.as_str())` is equal to `region`.
     pub fn from_checked(text: &'a str) -> Region<'a>
         requires { IsTrue (class.is_region text.now) }
         ensures { region_text result ≡ text.now }
@@ -54,7 +63,7 @@ impl<'a> Region<'a> {
         }
     }
 
-    /// The text, with its case.
+    /// The text, with its case: `Region::new("FR")?.as_str()` is `"FR"`.
     pub fn as_str(&self) -> &'a str
         ensures same_text { result.now ≡ region_text self.now }
         ensures in_class { IsTrue (class.is_region result.now) }
@@ -62,21 +71,25 @@ impl<'a> Region<'a> {
         self.text.0
     }
 
-    /// The bytes of the text.
+    /// The bytes of the text: `Region::new("FR")?.as_bytes()` is `b"FR"`.
     pub fn as_bytes(&self) -> &'a [u8]
         ensures { result.now ≡ region_text self.now }
     {
         self.as_str().as_bytes()
     }
 
-    /// Whether another text, of any form, is equal but for the case of ASCII letters.
+    /// Whether another text, of any form, is equal but for the case of ASCII letters:
+    /// `Region::new("fr")?.eq_str("FR")` is true. The contract also pins that regions are compared, ordered and
+    /// hashed so.
     pub fn eq_str(&self, other: &str) -> bool
-        ensures { result ≡ are_alike (region_text self.now) other.now }
+        ensures test { result ≡ are_alike (region_text self.now) other.now }
+
+        ensures compared { RegionsCompareByCase }
     {
         self.text == Caseless(other)
     }
 
-    /// The owned form of the same text.
+    /// The owned form of the same text: `Region::new("FR")?.try_to_owned(alloc)?.as_str()` is `"FR"`.
     ///
     /// # Errors
     ///
@@ -101,7 +114,7 @@ impl fmt::Display for Region<'_> {
     }
 }
 
-/// A region subtag that owns its text.
+/// A region that owns its text.
 #[derive(Debug, Drop, PartialEq, Eq, PartialOrd, Ord, Hash)]
 pub struct RegionBuf {
     text: Caseless<String>,
@@ -109,13 +122,14 @@ pub struct RegionBuf {
 }
 
 impl RegionBuf {
+    ghost use Rattle.langtag_place.specs.Compared.{RegionBufsCompareByCase};
     ghost use Rattle.langtag_place.specs.Text.{region_text, region_buf_string, region_buf_text};
 
-    /// The region of a text, which is neither copied nor moved in memory.
+    /// The region of a text, which is neither copied nor moved in memory: of the `String` `fr` it is Ok.
     ///
     /// # Errors
     ///
-    /// A text that is neither two letters nor three digits comes back, the same `String`.
+    /// A text that is neither two letters nor three digits comes back, the same `String`: `FR1` does.
     pub fn new(text: String) -> Result<RegionBuf, InvalidRegion<String>>
         ensures accepts { is_ok result ≡ class.is_region (string_bytes text) }
         ensures same_text { IfOk result (λ region. region_buf_text region ≡ string_bytes text) }
@@ -130,14 +144,17 @@ impl RegionBuf {
         })
     }
 
-    /// The region, lent.
+    /// The region, lent: `as_region().as_str()` of the owned `FR` is `"FR"`. The contract also pins that owned
+    /// regions are compared, ordered and hashed without regard to case.
     pub fn as_region(&self) -> Region<'_>
-        ensures { region_text result ≡ region_buf_text self.now }
+        ensures same_text { region_text result ≡ region_buf_text self.now }
+
+        ensures compared { RegionBufsCompareByCase }
     {
         Region::from_checked(self.as_str())
     }
 
-    /// The text, with its case.
+    /// The text, with its case: `as_str()` of the owned `FR` is `"FR"`.
     pub fn as_str(&self) -> &str
         ensures same_text { result.now ≡ region_buf_text self.now }
         ensures in_class { IsTrue (class.is_region result.now) }
@@ -145,7 +162,7 @@ impl RegionBuf {
         self.text.0.as_str()
     }
 
-    /// The text itself, which is not copied.
+    /// The text itself, which is not copied: `into_string()` of the owned `FR` is the `String` `FR`.
     pub fn into_string(self) -> String
         ensures same_text { string_bytes result ≡ region_buf_text self }
         ensures same_string { result ≡ region_buf_string self }

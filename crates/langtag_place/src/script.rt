@@ -1,5 +1,7 @@
 //! The script subtag (RFC 5646 section 2.2.3).
-ghost use Rattle.std.specs.Prelude.{◌≡◌, Some, IsTrue, IfOk, IfErr, is_ok};
+ghost use Rattle.std.specs.Prelude.{◌≡◌, ◌==◌, ◌&&◌, Some, IsTrue, IfOk, IfErr, is_ok, length};
+ghost use Rattle.std.specs.Char.{is_ascii_alphabetic};
+ghost use Rattle.std.specs.List.{list_all};
 ghost use Rattle.std.specs.String.{string_bytes};
 ghost use Rattle.langtag_scan.specs.Case.{are_alike};
 ghost use Rattle.langtag_scan.specs.Class as class;
@@ -18,7 +20,7 @@ pub struct InvalidScript<T>(pub T);
 
 /// A script subtag (RFC 5646 section 2.2.3): four letters, as `Latn`.
 ///
-/// Two scripts are equal where their texts differ at most in the case of ASCII letters.
+/// Two scripts are equal where their texts differ at most in the case of ASCII letters: `Latn` and `LATN` are.
 #[derive(Clone, Copy, Debug, PartialEq, Eq, PartialOrd, Ord, Hash)]
 pub struct Script<'a> {
     text: Caseless<&'a str>,
@@ -26,15 +28,18 @@ pub struct Script<'a> {
 }
 
 impl<'a> Script<'a> {
+    ghost use Rattle.langtag_place.specs.Compared.{ScriptsCompareByCase};
     ghost use Rattle.langtag_place.specs.Text.{script_text, script_buf_text};
 
-    /// The script of a text.
+    /// The script of a text: `Script::new("Latn")` is Ok. That a literal is one computes in a proof by its numbers.
     ///
     /// # Errors
     ///
-    /// A text that is not four letters comes back.
+    /// A text that is not four letters comes back: `Script::new("Lat")` is `Err(InvalidScript("Lat"))`.
+    #[tactic(auto, using(crate::proofs::Numbers::script_numbers))]
     pub fn new(text: &'a str) -> Result<Script<'a>, InvalidScript<&'a str>>
         ensures accepts { is_ok result ≡ class.is_script text.now }
+        ensures by_number { is_ok result ≡ ((length text.now == 4) && list_all is_ascii_alphabetic text.now) }
         ensures same_text { IfOk result (λ script. script_text script ≡ text.now) }
         ensures given_back { IfErr result (λ error. error.0 ≡ text.entry) }
     {
@@ -45,6 +50,7 @@ impl<'a> Script<'a> {
     }
 
     /// The script of a text that is known to be one: it is not looked at again.
+    /// `Script::from_checked(script.as_str())` is equal to `script`.
     pub fn from_checked(text: &'a str) -> Script<'a>
         requires { IsTrue (class.is_script text.now) }
         ensures { script_text result ≡ text.now }
@@ -54,7 +60,7 @@ impl<'a> Script<'a> {
         }
     }
 
-    /// The text, with its case.
+    /// The text, with its case: `Script::new("LATN")?.as_str()` is `"LATN"`.
     pub fn as_str(&self) -> &'a str
         ensures same_text { result.now ≡ script_text self.now }
         ensures in_class { IsTrue (class.is_script result.now) }
@@ -62,21 +68,25 @@ impl<'a> Script<'a> {
         self.text.0
     }
 
-    /// The bytes of the text.
+    /// The bytes of the text: `Script::new("LATN")?.as_bytes()` is `b"LATN"`.
     pub fn as_bytes(&self) -> &'a [u8]
         ensures { result.now ≡ script_text self.now }
     {
         self.as_str().as_bytes()
     }
 
-    /// Whether another text, of any form, is equal but for the case of ASCII letters.
+    /// Whether another text, of any form, is equal but for the case of ASCII letters:
+    /// `Script::new("Latn")?.eq_str("LATN")` is true. The contract also pins that scripts are compared, ordered and
+    /// hashed so.
     pub fn eq_str(&self, other: &str) -> bool
-        ensures { result ≡ are_alike (script_text self.now) other.now }
+        ensures test { result ≡ are_alike (script_text self.now) other.now }
+
+        ensures compared { ScriptsCompareByCase }
     {
         self.text == Caseless(other)
     }
 
-    /// The owned form of the same text.
+    /// The owned form of the same text: `Script::new("LATN")?.try_to_owned(alloc)?.as_str()` is `"LATN"`.
     ///
     /// # Errors
     ///
@@ -101,7 +111,7 @@ impl fmt::Display for Script<'_> {
     }
 }
 
-/// A script subtag that owns its text.
+/// A script that owns its text.
 #[derive(Debug, Drop, PartialEq, Eq, PartialOrd, Ord, Hash)]
 pub struct ScriptBuf {
     text: Caseless<String>,
@@ -109,13 +119,14 @@ pub struct ScriptBuf {
 }
 
 impl ScriptBuf {
+    ghost use Rattle.langtag_place.specs.Compared.{ScriptBufsCompareByCase};
     ghost use Rattle.langtag_place.specs.Text.{script_text, script_buf_string, script_buf_text};
 
-    /// The script of a text, which is neither copied nor moved in memory.
+    /// The script of a text, which is neither copied nor moved in memory: of the `String` `Latn` it is Ok.
     ///
     /// # Errors
     ///
-    /// A text that is not four letters comes back, the same `String`.
+    /// A text that is not four letters comes back, the same `String`: `Lat` does.
     pub fn new(text: String) -> Result<ScriptBuf, InvalidScript<String>>
         ensures accepts { is_ok result ≡ class.is_script (string_bytes text) }
         ensures same_text { IfOk result (λ script. script_buf_text script ≡ string_bytes text) }
@@ -130,14 +141,17 @@ impl ScriptBuf {
         })
     }
 
-    /// The script, lent.
+    /// The script, lent: `as_script().as_str()` of the owned `LATN` is `"LATN"`. The contract also pins that owned
+    /// scripts are compared, ordered and hashed without regard to case.
     pub fn as_script(&self) -> Script<'_>
-        ensures { script_text result ≡ script_buf_text self.now }
+        ensures same_text { script_text result ≡ script_buf_text self.now }
+
+        ensures compared { ScriptBufsCompareByCase }
     {
         Script::from_checked(self.as_str())
     }
 
-    /// The text, with its case.
+    /// The text, with its case: `as_str()` of the owned `LATN` is `"LATN"`.
     pub fn as_str(&self) -> &str
         ensures same_text { result.now ≡ script_buf_text self.now }
         ensures in_class { IsTrue (class.is_script result.now) }
@@ -145,7 +159,7 @@ impl ScriptBuf {
         self.text.0.as_str()
     }
 
-    /// The text itself, which is not copied.
+    /// The text itself, which is not copied: `into_string()` of the owned `LATN` is the `String` `LATN`.
     pub fn into_string(self) -> String
         ensures same_text { string_bytes result ≡ script_buf_text self }
         ensures same_string { result ≡ script_buf_string self }

@@ -1,5 +1,8 @@
 //! The variant subtag (RFC 5646 section 2.2.5).
-ghost use Rattle.std.specs.Prelude.{◌≡◌, Some, IsTrue, IfOk, IfErr, is_ok};
+ghost use Rattle.std.specs.Prelude.{◌≡◌, ◌==◌, ◌&&◌, ◌||◌, Some, IsTrue, IfOk, IfErr, is_ok, length, slice_index};
+ghost use Rattle.std.specs.Char.{is_ascii_alphabetic, is_ascii_digit};
+ghost use Rattle.std.specs.Int.{is_in_range};
+ghost use Rattle.std.specs.List.{list_all};
 ghost use Rattle.std.specs.String.{string_bytes};
 ghost use Rattle.langtag_scan.specs.Case.{are_alike};
 ghost use Rattle.langtag_scan.specs.Class as class;
@@ -19,7 +22,7 @@ pub struct InvalidVariant<T>(pub T);
 /// A variant subtag (RFC 5646 section 2.2.5): five to eight letters and digits, as `rozaj`, or four of which the
 /// first is a digit, as `1996`.
 ///
-/// Two variants are equal where their texts differ at most in the case of ASCII letters.
+/// Two variants are equal where their texts differ at most in the case of ASCII letters: `rozaj` and `ROZAJ` are.
 #[derive(Clone, Copy, Debug, PartialEq, Eq, PartialOrd, Ord, Hash)]
 pub struct Variant<'a> {
     text: Caseless<&'a str>,
@@ -27,16 +30,23 @@ pub struct Variant<'a> {
 }
 
 impl<'a> Variant<'a> {
+    ghost use Rattle.langtag_place.specs.Compared.{VariantsCompareByCase};
     ghost use Rattle.langtag_place.specs.Text.{variant_text, variant_buf_text};
 
-    /// The variant of a text.
+    /// The variant of a text: `Variant::new("rozaj")` is Ok. That a literal is one computes in a proof by its
+    /// numbers.
     ///
     /// # Errors
     ///
     /// A text that is neither five to eight letters and digits nor four of which the first is a digit
-    /// comes back.
+    /// comes back: `Variant::new("roza")` is `Err(InvalidVariant("roza"))`.
+    #[tactic(auto, using(crate::proofs::Numbers::variant_numbers))]
     pub fn new(text: &'a str) -> Result<Variant<'a>, InvalidVariant<&'a str>>
         ensures accepts { is_ok result ≡ class.is_variant text.now }
+        ensures by_number { is_ok result ≡
+            ((is_in_range 5 8 (length text.now) && list_all (λ b. is_ascii_alphabetic b || is_ascii_digit b) text.now)
+            || ((length text.now == 4) && list_all (λ b. is_ascii_alphabetic b || is_ascii_digit b) text.now
+            && is_ascii_digit (slice_index text.now 0))) }
         ensures same_text { IfOk result (λ variant. variant_text variant ≡ text.now) }
         ensures given_back { IfErr result (λ error. error.0 ≡ text.entry) }
     {
@@ -47,6 +57,7 @@ impl<'a> Variant<'a> {
     }
 
     /// The variant of a text that is known to be one: it is not looked at again.
+    /// `Variant::from_checked(variant.as_str())` is equal to `variant`.
     pub fn from_checked(text: &'a str) -> Variant<'a>
         requires { IsTrue (class.is_variant text.now) }
         ensures { variant_text result ≡ text.now }
@@ -56,7 +67,7 @@ impl<'a> Variant<'a> {
         }
     }
 
-    /// The text, with its case.
+    /// The text, with its case: `Variant::new("ROZAJ")?.as_str()` is `"ROZAJ"`.
     pub fn as_str(&self) -> &'a str
         ensures same_text { result.now ≡ variant_text self.now }
         ensures in_class { IsTrue (class.is_variant result.now) }
@@ -64,21 +75,25 @@ impl<'a> Variant<'a> {
         self.text.0
     }
 
-    /// The bytes of the text.
+    /// The bytes of the text: `Variant::new("ROZAJ")?.as_bytes()` is `b"ROZAJ"`.
     pub fn as_bytes(&self) -> &'a [u8]
         ensures { result.now ≡ variant_text self.now }
     {
         self.as_str().as_bytes()
     }
 
-    /// Whether another text, of any form, is equal but for the case of ASCII letters.
+    /// Whether another text, of any form, is equal but for the case of ASCII letters:
+    /// `Variant::new("rozaj")?.eq_str("ROZAJ")` is true. The contract also pins that variants are compared, ordered
+    /// and hashed so.
     pub fn eq_str(&self, other: &str) -> bool
-        ensures { result ≡ are_alike (variant_text self.now) other.now }
+        ensures test { result ≡ are_alike (variant_text self.now) other.now }
+
+        ensures compared { VariantsCompareByCase }
     {
         self.text == Caseless(other)
     }
 
-    /// The owned form of the same text.
+    /// The owned form of the same text: `Variant::new("ROZAJ")?.try_to_owned(alloc)?.as_str()` is `"ROZAJ"`.
     ///
     /// # Errors
     ///
@@ -103,7 +118,7 @@ impl fmt::Display for Variant<'_> {
     }
 }
 
-/// A variant subtag that owns its text.
+/// A variant that owns its text.
 #[derive(Debug, Drop, PartialEq, Eq, PartialOrd, Ord, Hash)]
 pub struct VariantBuf {
     text: Caseless<String>,
@@ -111,14 +126,15 @@ pub struct VariantBuf {
 }
 
 impl VariantBuf {
+    ghost use Rattle.langtag_place.specs.Compared.{VariantBufsCompareByCase};
     ghost use Rattle.langtag_place.specs.Text.{variant_text, variant_buf_string, variant_buf_text};
 
-    /// The variant of a text, which is neither copied nor moved in memory.
+    /// The variant of a text, which is neither copied nor moved in memory: of the `String` `rozaj` it is Ok.
     ///
     /// # Errors
     ///
     /// A text that is neither five to eight letters and digits nor four of which the first is a digit
-    /// comes back, the same `String`.
+    /// comes back, the same `String`: `roza` does.
     pub fn new(text: String) -> Result<VariantBuf, InvalidVariant<String>>
         ensures accepts { is_ok result ≡ class.is_variant (string_bytes text) }
         ensures same_text { IfOk result (λ variant. variant_buf_text variant ≡ string_bytes text) }
@@ -133,14 +149,17 @@ impl VariantBuf {
         })
     }
 
-    /// The variant, lent.
+    /// The variant, lent: `as_variant().as_str()` of the owned `ROZAJ` is `"ROZAJ"`. The contract also pins that
+    /// owned variants are compared, ordered and hashed without regard to case.
     pub fn as_variant(&self) -> Variant<'_>
-        ensures { variant_text result ≡ variant_buf_text self.now }
+        ensures same_text { variant_text result ≡ variant_buf_text self.now }
+
+        ensures compared { VariantBufsCompareByCase }
     {
         Variant::from_checked(self.as_str())
     }
 
-    /// The text, with its case.
+    /// The text, with its case: `as_str()` of the owned `ROZAJ` is `"ROZAJ"`.
     pub fn as_str(&self) -> &str
         ensures same_text { result.now ≡ variant_buf_text self.now }
         ensures in_class { IsTrue (class.is_variant result.now) }
@@ -148,7 +167,7 @@ impl VariantBuf {
         self.text.0.as_str()
     }
 
-    /// The text itself, which is not copied.
+    /// The text itself, which is not copied: `into_string()` of the owned `ROZAJ` is the `String` `ROZAJ`.
     pub fn into_string(self) -> String
         ensures same_text { string_bytes result ≡ variant_buf_text self }
         ensures same_string { result ≡ variant_buf_string self }

@@ -4,7 +4,7 @@ ghost use Rattle.std.specs.Option.{option_map};
 ghost use Rattle.std.specs.String.{string_bytes};
 ghost use Rattle.langtag_scan.specs.Case.{are_alike};
 ghost use Rattle.langtag_scan.specs.Subtags.{subtags};
-ghost use Rattle.langtag_place.specs.Tests.{is_variants};
+ghost use Rattle.langtag_place.specs.Decided.{is_variants};
 ghost use Rattle.langtag_place.specs.Variants.{IsVariants, SpellsVariants};
 
 use crate::variant::Variant;
@@ -24,7 +24,7 @@ pub struct InvalidVariants<T>(pub T);
 /// The variants of a tag, joined by hyphens, or nothing (RFC 5646 section 2.2.5), as `rozaj-1994`.
 ///
 /// A variant may stand twice: that makes a tag invalid, and leaves it well formed (section 2.2.9).
-/// Two values are equal where their texts differ at most in the case of ASCII letters.
+/// Two lists are equal where their texts differ at most in the case of ASCII letters: `rozaj` and `ROZAJ` are.
 #[derive(Clone, Copy, Debug, PartialEq, Eq, PartialOrd, Ord, Hash)]
 pub struct Variants<'a> {
     text: Caseless<&'a str>,
@@ -33,16 +33,18 @@ pub struct Variants<'a> {
 
 #[tactic(auto, using(crate::proofs::Rules::variants_rules))]
 impl<'a> Variants<'a> {
+    ghost use Rattle.langtag_place.specs.Compared.{VariantListsCompareByCase};
     ghost use Rattle.langtag_place.specs.Text.{variant_text, variants_text, variants_buf_text, variants_left};
 
-    /// No variants: the empty text.
+    /// No variants: `Variants::EMPTY.as_str()` is `""`.
     pub const EMPTY: Variants<'static> = Variants { text: Caseless("") };
 
-    /// The variants of a text.
+    /// The variants of a text: `Variants::new("rozaj-1994")` and `Variants::new("")` are Ok.
     ///
     /// # Errors
     ///
-    /// A text that holds anything else than variants with one hyphen between neighbours comes back.
+    /// A text that holds anything else than variants with one hyphen between neighbours comes back:
+    /// `Variants::new("rozaj-")` is `Err(InvalidVariants("rozaj-"))`.
     pub fn new(text: &'a str) -> Result<Variants<'a>, InvalidVariants<&'a str>>
         ensures accepts { IsTrue (is_ok result) ↔ (IsVariants text.now) }
         ensures same_text { IfOk result (λ variants. variants_text variants ≡ text.now) }
@@ -55,6 +57,7 @@ impl<'a> Variants<'a> {
     }
 
     /// The variants of a text that is known to be spelled by a list of them: it is not looked at again.
+    /// `Variants::from_checked(variants.as_str())` is equal to `variants`.
     pub fn from_checked(text: &'a str) -> Variants<'a>
         requires { IsVariants text.now }
         ensures { variants_text result ≡ text.now }
@@ -64,7 +67,7 @@ impl<'a> Variants<'a> {
         }
     }
 
-    /// The text, with its case.
+    /// The text, with its case: `Variants::new("ROZAJ-1994")?.as_str()` is `"ROZAJ-1994"`.
     pub fn as_str(&self) -> &'a str
         ensures same_text { result.now ≡ variants_text self.now }
         ensures in_class { IsVariants result.now }
@@ -72,45 +75,25 @@ impl<'a> Variants<'a> {
         self.text.0
     }
 
-    /// The bytes of the text.
+    /// The bytes of the text: `Variants::new("ROZAJ-1994")?.as_bytes()` is `b"ROZAJ-1994"`.
     pub fn as_bytes(&self) -> &'a [u8]
         ensures { result.now ≡ variants_text self.now }
     {
         self.as_str().as_bytes()
     }
 
-    /// Whether another text, of any form, is equal but for the case of ASCII letters.
+    /// Whether another text, of any form, is equal but for the case of ASCII letters:
+    /// `Variants::new("rozaj")?.eq_str("ROZAJ")` is true. The contract also pins that lists of variants are compared,
+    /// ordered and hashed so.
     pub fn eq_str(&self, other: &str) -> bool
-        ensures { result ≡ are_alike (variants_text self.now) other.now }
+        ensures test { result ≡ are_alike (variants_text self.now) other.now }
+
+        ensures compared { VariantListsCompareByCase }
     {
         self.text == Caseless(other)
     }
 
-    /// The variants one by one, from either end.
-    pub fn iter(&self) -> VariantsIter<'a>
-        ensures list { variants_left result ≡ subtags (variants_text self.now) }
-        ensures spells { SpellsVariants (variants_left result) (variants_text self.now) }
-    {
-        VariantsIter::new(self.as_str())
-    }
-
-    /// The first variant, if there is one.
-    pub fn first(&self) -> Option<Variant<'a>>
-        ensures member { (variants : List (List ℕ)) → SpellsVariants variants (variants_text self.now)
-            → option_map variant_text result ≡ slice_get variants 0 }
-    {
-        self.iter().next()
-    }
-
-    /// The last variant, if there is one; it is the first where there is just one.
-    pub fn last(&self) -> Option<Variant<'a>>
-        ensures member { (variants : List (List ℕ)) → SpellsVariants variants (variants_text self.now)
-            → option_map variant_text result ≡ slice_get variants (length variants - 1) }
-    {
-        self.iter().next_back()
-    }
-
-    /// The owned form of the same text.
+    /// The owned form of the same text: `Variants::new("ROZAJ")?.try_to_owned(alloc)?.as_str()` is `"ROZAJ"`.
     ///
     /// # Errors
     ///
@@ -122,6 +105,30 @@ impl<'a> Variants<'a> {
         Ok(VariantsBuf {
             text: Caseless(text),
         })
+    }
+
+    /// The variants one by one, from either end: `rozaj` and `1994` of `rozaj-1994`.
+    pub fn iter(&self) -> VariantsIter<'a>
+        ensures list { variants_left result ≡ subtags (variants_text self.now) }
+        ensures spells { SpellsVariants (variants_left result) (variants_text self.now) }
+    {
+        VariantsIter::new(self.as_str())
+    }
+
+    /// The first variant, if there is one: `rozaj` of `rozaj-1994`, and None of the empty text.
+    pub fn first(&self) -> Option<Variant<'a>>
+        ensures member { (variants : List (List ℕ)) → SpellsVariants variants (variants_text self.now)
+            → option_map variant_text result ≡ slice_get variants 0 }
+    {
+        self.iter().next()
+    }
+
+    /// The last variant, if there is one: `1994` of `rozaj-1994`, and `rozaj` of `rozaj`.
+    pub fn last(&self) -> Option<Variant<'a>>
+        ensures member { (variants : List (List ℕ)) → SpellsVariants variants (variants_text self.now)
+            → option_map variant_text result ≡ slice_get variants (length variants - 1) }
+    {
+        self.iter().next_back()
     }
 }
 
@@ -144,13 +151,15 @@ pub struct VariantsBuf {
 
 #[tactic(auto, using(crate::proofs::Rules::variants_rules))]
 impl VariantsBuf {
+    ghost use Rattle.langtag_place.specs.Compared.{VariantsBufsCompareByCase};
     ghost use Rattle.langtag_place.specs.Text.{variants_text, variants_buf_string, variants_buf_text};
 
-    /// The variants of a text, which is neither copied nor moved in memory.
+    /// The variants of a text, which is neither copied nor moved in memory: of the `String` `rozaj-1994` they are Ok.
     ///
     /// # Errors
     ///
-    /// A text that holds anything else than variants with one hyphen between neighbours comes back, the same `String`.
+    /// A text that holds anything else than variants with one hyphen between neighbours comes back, the same
+    /// `String`: `rozaj-` does.
     pub fn new(text: String) -> Result<VariantsBuf, InvalidVariants<String>>
         ensures accepts { IsTrue (is_ok result) ↔ (IsVariants (string_bytes text)) }
         ensures same_text { IfOk result (λ variants. variants_buf_text variants ≡ string_bytes text) }
@@ -165,14 +174,17 @@ impl VariantsBuf {
         })
     }
 
-    /// The variants, lent.
+    /// The variants, lent: `as_variants().as_str()` of the owned `ROZAJ` is `"ROZAJ"`. The contract also pins that
+    /// owned lists of variants are compared, ordered and hashed without regard to case.
     pub fn as_variants(&self) -> Variants<'_>
-        ensures { variants_text result ≡ variants_buf_text self.now }
+        ensures same_text { variants_text result ≡ variants_buf_text self.now }
+
+        ensures compared { VariantsBufsCompareByCase }
     {
         Variants::from_checked(self.as_str())
     }
 
-    /// The text, with its case.
+    /// The text, with its case: `as_str()` of the owned `ROZAJ` is `"ROZAJ"`.
     pub fn as_str(&self) -> &str
         ensures same_text { result.now ≡ variants_buf_text self.now }
         ensures in_class { IsVariants result.now }
@@ -180,7 +192,7 @@ impl VariantsBuf {
         self.text.0.as_str()
     }
 
-    /// The text itself, which is not copied.
+    /// The text itself, which is not copied: `into_string()` of the owned `ROZAJ` is the `String` `ROZAJ`.
     pub fn into_string(self) -> String
         ensures same_text { string_bytes result ≡ variants_buf_text self }
         ensures same_string { result ≡ variants_buf_string self }

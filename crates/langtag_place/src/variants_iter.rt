@@ -1,15 +1,17 @@
 //! The variants of a tag one by one, from either end.
-ghost use Rattle.std.specs.Prelude.{◌≡◌, ◌<◌, ◌^◌, IsTrue, [], length};
+ghost use Rattle.std.specs.Prelude.{◌≡◌, ◌<◌, ◌^◌, IsTrue, [], length, ⊤};
 ghost use Rattle.std.specs.Iterator.{YieldsFirstBy, YieldsLastBy, item_count};
 ghost use Rattle.langtag_scan.specs.Subtags.{subtags};
-ghost use Rattle.langtag_place.specs.Tests.{are_variants, is_variants};
+ghost use Rattle.langtag_place.specs.Decided.{are_variants, is_variants};
 
 use crate::variant::Variant;
 use crate::variants::Variants;
 use langtag_scan::Subtags;
+use std::alloc::AllocError;
 
-/// The variants of a tag that are still to come, in the order in which they are written (RFC 5646
-/// section 2.2.5), from either end. Each caller knows that they are few enough for `count`.
+/// The variants of a tag that are still to come, in the order in which they are written (RFC 5646 section 2.2.5),
+/// from either end: `rozaj` and `1994` of `Variants::new("rozaj-1994")?.iter()`. Each caller knows that they are few
+/// enough for `count`.
 #[derive(Drop)]
 pub struct VariantsIter<'a> {
     rest: Subtags<'a>,
@@ -20,7 +22,7 @@ pub struct VariantsIter<'a> {
 impl<'a> VariantsIter<'a> {
     ghost use Rattle.langtag_place.specs.Text.{variants_left};
 
-    /// The walk over no variants.
+    /// The walk over no variants: `VariantsIter::empty().count()` is 0.
     pub fn empty() -> Self
         ensures { variants_left result ≡ [] }
     {
@@ -46,6 +48,19 @@ impl Default for VariantsIter<'_> {
 
     fn default() -> Self {
         VariantsIter::empty()
+    }
+}
+
+impl Clone for VariantsIter<'_> {
+    ghost use Rattle.langtag_place.specs.Text.{variants_left};
+
+    ghost is_clone = { λ walk copy. variants_left copy ≡ variants_left walk };
+
+    ghost is_infallible = { λ _. ⊤ };
+
+    fn clone(&self) -> Result<Self, AllocError> {
+        let rest = self.rest.clone()?;
+        Ok(VariantsIter { rest })
     }
 }
 

@@ -1,1 +1,2 @@
 pub mod Rules
+mod Numbers

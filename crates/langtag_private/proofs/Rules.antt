@@ -2,16 +2,16 @@
 use Rattle.std.proofs.Common.{◌≡◌, ◌↔◌, ℕ, ◌≤◌, true, Bool, IsTrue, List, [], ◌∷◌, length, drop, length-drop, refl, sym, ap, ◌∙◌, arith}
 use Rattle.std.proofs.lemmas.Bool.{and_parts}
 use Rattle.langtag_scan.specs.Class.{is_mark, is_private_subtag}
-use Rattle.langtag_scan.specs.Record.{PrivateUse, IsPrivateUse, private_use_flat}
+use Rattle.langtag_scan.specs.Record.{PrivateUse, IsWellFormedPrivateUse, private_use_flat}
 use Rattle.langtag_scan.specs.Subtags.{join, subtags}
 use Rattle.langtag_scan.specs.Tag.{IsPrivate}
 use Rattle.langtag_scan.proofs.SubtagFacts.{of_one, of_private_subtag, mark_alphanumeric}
 use Rattle.langtag_scan.proofs.SubtagLists.{each_from_test, test_from_each, each_subtag, subtags-joined, join-subtags, length-subtags}
 use Rattle.langtag_private.specs.PrivateUse.{EachSpelling}
-use Rattle.langtag_private.specs.Tests.{are_private, are_private_use, is_mark_alone, is_private_use}
+use Rattle.langtag_private.specs.Decided.{are_private, are_private_use, is_mark_alone, is_private_use}
 
 -- one text, one list
-pub subtags-private : (text : List ℕ) (p : PrivateUse) → IsPrivateUse p → join (private_use_flat p) ≡ text → subtags text ≡ private_use_flat p
+pub subtags-private : (text : List ℕ) (p : PrivateUse) → IsWellFormedPrivateUse p → join (private_use_flat p) ≡ text → subtags text ≡ private_use_flat p
 subtags-private text p fits joined =
     ap subtags (sym joined) ∙ subtags-joined (private_use_flat p) (of_one p.mark (mark_alphanumeric p.mark fits.mark), each_subtag is_private_subtag of_private_subtag p.subtags fits.subtags)
 
@@ -19,7 +19,7 @@ pub others_spelled : (text : List ℕ) (others : List (List ℕ)) → others ≡
 others_spelled text others list p fits joined = list ∙ ap (drop 1) (subtags-private text p fits joined)
 
 are_private_use-from_rule :
-    (mark : ℕ) (ss : List (List ℕ)) → IsPrivateUse (record { mark = mark; subtags = ss }) →
+    (mark : ℕ) (ss : List (List ℕ)) → IsWellFormedPrivateUse (record { mark = mark; subtags = ss }) →
     are_private_use ((mark ∷ []) ∷ ss) ≡ true
 are_private_use-from_rule mark [] fits = absurd (omega (arith, fits.some))
 are_private_use-from_rule mark (s ∷ ss) fits = rw (fits.mark, test_from_each is_private_subtag (s ∷ ss) fits.subtags) refl

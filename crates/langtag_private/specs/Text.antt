@@ -29,5 +29,5 @@ abbrev pub private_use_buf_text : PrivateUseBuf → List ℕ
 private_use_buf_text private_use = string_bytes (private_use_buf_string private_use)
 
 -- the private use subtags still to come
-abbrev pub private_left : PrivateUseIter → List (List ℕ)
-private_left subtags = subtags.rest
+abbrev pub private_use_subtags_left : PrivateUseIter → List (List ℕ)
+private_use_subtags_left subtags = subtags.rest

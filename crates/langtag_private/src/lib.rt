@@ -10,8 +10,6 @@
 mod private_use;
 mod private_use_iter;
 mod private_use_subtag;
-#[cfg(test)]
-mod tests;
 
 pub use private_use::{InvalidPrivateUse, PrivateUse, PrivateUseBuf};
 pub use private_use_iter::PrivateUseIter;

@@ -3,9 +3,8 @@ ghost use Rattle.std.specs.Prelude.{◌≡◌, ◌↔◌, Some, IsTrue, IfOk, If
 ghost use Rattle.std.specs.String.{string_bytes};
 ghost use Rattle.langtag_scan.specs.Case.{are_alike};
 ghost use Rattle.langtag_scan.specs.Subtags.{subtags};
-ghost use Rattle.langtag_scan.specs.Tag.{IsPrivate};
-ghost use Rattle.langtag_private.specs.PrivateUse.{EachSpelling};
-ghost use Rattle.langtag_private.specs.Tests as test;
+ghost use Rattle.langtag_private.specs.PrivateUse.{IsPrivateUse, EachSpelling};
+ghost use Rattle.langtag_private.specs.Decided as test;
 
 use crate::private_use_iter::PrivateUseIter;
 use langtag_scan::{Caseless, Subtags, is_mark, is_private_subtag};
@@ -20,10 +19,10 @@ use thiserror::Error;
 #[error_bound(T: Debug + Drop)]
 pub struct InvalidPrivateUse<T>(pub T);
 
-/// A private use part (RFC 5646 section 2.2.7): the mark `x`, in either case, and one subtag or more after it,
-/// joined by hyphens, as `x-twain`. It may stand at the end of a tag, and alone as a tag of its own.
+/// A private use part (RFC 5646 section 2.2.7): the mark `x`, in either case, and one subtag or more after it, joined
+/// by hyphens, as `x-twain`. It may stand at the end of a tag, and alone as a tag of its own.
 ///
-/// Two of them are equal where their texts differ at most in the case of ASCII letters.
+/// Two of them are equal where their texts differ at most in the case of ASCII letters: `x-twain` and `X-TWAIN` are.
 #[derive(Clone, Copy, Debug, PartialEq, Eq, PartialOrd, Ord, Hash)]
 pub struct PrivateUse<'a> {
     text: Caseless<&'a str>,
@@ -32,15 +31,17 @@ pub struct PrivateUse<'a> {
 
 #[tactic(auto, using(crate::proofs::Rules::private_rules))]
 impl<'a> PrivateUse<'a> {
-    ghost use Rattle.langtag_private.specs.Text.{private_use_text, private_use_buf_text, private_left};
+    ghost use Rattle.langtag_private.specs.Compared.{PrivateUsesCompareByCase};
+    ghost use Rattle.langtag_private.specs.Text.{private_use_text, private_use_buf_text, private_use_subtags_left};
 
-    /// The private use part of a text.
+    /// The private use part of a text: `PrivateUse::new("x-twain")` is Ok.
     ///
     /// # Errors
     ///
-    /// A text that is not a mark and private use subtags with one hyphen between neighbours comes back.
+    /// A text that is not a mark and private use subtags with one hyphen between neighbours comes back:
+    /// `PrivateUse::new("x")` is `Err(InvalidPrivateUse("x"))`.
     pub fn new(text: &'a str) -> Result<PrivateUse<'a>, InvalidPrivateUse<&'a str>>
-        ensures accepts { IsTrue (is_ok result) ↔ (IsPrivate text.now) }
+        ensures accepts { IsTrue (is_ok result) ↔ (IsPrivateUse text.now) }
         ensures same_text { IfOk result (λ private_use. private_use_text private_use ≡ text.now) }
         ensures given_back { IfErr result (λ error. error.0 ≡ text.entry) }
     {
@@ -51,8 +52,9 @@ impl<'a> PrivateUse<'a> {
     }
 
     /// The private use part of a text that is known to be one: it is not looked at again.
+    /// `PrivateUse::from_checked(private_use.as_str())` is equal to `private_use`.
     pub fn from_checked(text: &'a str) -> PrivateUse<'a>
-        requires { IsPrivate text.now }
+        requires { IsPrivateUse text.now }
         ensures { private_use_text result ≡ text.now }
     {
         PrivateUse {
@@ -60,37 +62,33 @@ impl<'a> PrivateUse<'a> {
         }
     }
 
-    /// The text, with its case.
+    /// The text, with its case: `PrivateUse::new("X-TWAIN")?.as_str()` is `"X-TWAIN"`.
     pub fn as_str(&self) -> &'a str
         ensures same_text { result.now ≡ private_use_text self.now }
-        ensures in_class { IsPrivate result.now }
+        ensures in_class { IsPrivateUse result.now }
     {
         self.text.0
     }
 
-    /// The bytes of the text.
+    /// The bytes of the text: `PrivateUse::new("X-TWAIN")?.as_bytes()` is `b"X-TWAIN"`.
     pub fn as_bytes(&self) -> &'a [u8]
         ensures { result.now ≡ private_use_text self.now }
     {
         self.as_str().as_bytes()
     }
 
-    /// Whether another text, of any form, is equal but for the case of ASCII letters.
+    /// Whether another text, of any form, is equal but for the case of ASCII letters:
+    /// `PrivateUse::new("x-twain")?.eq_str("X-TWAIN")` is true. The contract also pins that private use parts are
+    /// compared, ordered and hashed so.
     pub fn eq_str(&self, other: &str) -> bool
-        ensures { result ≡ are_alike (private_use_text self.now) other.now }
+        ensures test { result ≡ are_alike (private_use_text self.now) other.now }
+
+        ensures compared { PrivateUsesCompareByCase }
     {
         self.text == Caseless(other)
     }
 
-    /// The subtags one by one, without the mark: `a` and `b` of `x-a-b`.
-    pub fn iter(&self) -> PrivateUseIter<'a>
-        ensures list { private_left result ≡ drop 1 (subtags (private_use_text self.now)) }
-        ensures members { EachSpelling (private_use_text self.now) (λ members. private_left result ≡ members) }
-    {
-        PrivateUseIter::new(self.as_str())
-    }
-
-    /// The owned form of the same text.
+    /// The owned form of the same text: `PrivateUse::new("X-TWAIN")?.try_to_owned(alloc)?.as_str()` is `"X-TWAIN"`.
     ///
     /// # Errors
     ///
@@ -102,6 +100,14 @@ impl<'a> PrivateUse<'a> {
         Ok(PrivateUseBuf {
             text: Caseless(text),
         })
+    }
+
+    /// The subtags one by one, without the mark: `PrivateUse::new("x-a-x")?.iter()` hands out `a` and `x`.
+    pub fn iter(&self) -> PrivateUseIter<'a>
+        ensures list { private_use_subtags_left result ≡ drop 1 (subtags (private_use_text self.now)) }
+        ensures members { EachSpelling (private_use_text self.now) (λ members. private_use_subtags_left result ≡ members) }
+    {
+        PrivateUseIter::new(self.as_str())
     }
 }
 
@@ -155,16 +161,17 @@ pub struct PrivateUseBuf {
 
 #[tactic(auto, using(crate::proofs::Rules::private_rules))]
 impl PrivateUseBuf {
+    ghost use Rattle.langtag_private.specs.Compared.{PrivateUseBufsCompareByCase};
     ghost use Rattle.langtag_private.specs.Text.{private_use_text, private_use_buf_text, private_use_buf_string};
 
-    /// The private use part of a text, which is neither copied nor moved in memory.
+    /// The private use part of a text, which is neither copied nor moved in memory: of the `String` `x-twain` it is Ok.
     ///
     /// # Errors
     ///
     /// A text that is not a mark and private use subtags with one hyphen between neighbours comes back, the same
-    /// `String`.
+    /// `String`: `x` does.
     pub fn new(text: String) -> Result<PrivateUseBuf, InvalidPrivateUse<String>>
-        ensures accepts { IsTrue (is_ok result) ↔ (IsPrivate (string_bytes text)) }
+        ensures accepts { IsTrue (is_ok result) ↔ (IsPrivateUse (string_bytes text)) }
         ensures same_text { IfOk result (λ private_use. private_use_buf_text private_use ≡ string_bytes text) }
         ensures same_string { IfOk result (λ private_use. private_use_buf_string private_use ≡ text) }
         ensures given_back { IfErr result (λ error. error.0 ≡ text) }
@@ -177,26 +184,29 @@ impl PrivateUseBuf {
         })
     }
 
-    /// The private use part, lent.
+    /// The private use part, lent: `as_private_use().as_str()` of the owned `X-TWAIN` is `"X-TWAIN"`. The contract also
+    /// pins that owned private use parts are compared, ordered and hashed without regard to case.
     pub fn as_private_use(&self) -> PrivateUse<'_>
-        ensures { private_use_text result ≡ private_use_buf_text self.now }
+        ensures same_text { private_use_text result ≡ private_use_buf_text self.now }
+
+        ensures compared { PrivateUseBufsCompareByCase }
     {
-        PrivateUse::from_checked(self.text.0.as_str())
+        PrivateUse::from_checked(self.as_str())
     }
 
-    /// The text, with its case.
+    /// The text, with its case: `as_str()` of the owned `X-TWAIN` is `"X-TWAIN"`.
     pub fn as_str(&self) -> &str
         ensures same_text { result.now ≡ private_use_buf_text self.now }
-        ensures in_class { IsPrivate result.now }
+        ensures in_class { IsPrivateUse result.now }
     {
         self.text.0.as_str()
     }
 
-    /// The text itself, which is not copied.
+    /// The text itself, which is not copied: `into_string()` of the owned `X-TWAIN` is the `String` `X-TWAIN`.
     pub fn into_string(self) -> String
         ensures same_text { string_bytes result ≡ private_use_buf_text self }
         ensures same_string { result ≡ private_use_buf_string self }
-        ensures in_class { IsPrivate (string_bytes result) }
+        ensures in_class { IsPrivateUse (string_bytes result) }
     {
         self.text.0
     }

@@ -1,13 +1,14 @@
 //! The subtags of a private use part one by one.
-ghost use Rattle.std.specs.Prelude.{◌≡◌, ◌<◌, ◌^◌, IsTrue, [], drop, length};
+ghost use Rattle.std.specs.Prelude.{◌≡◌, ◌<◌, ◌^◌, IsTrue, [], drop, length, ⊤};
 ghost use Rattle.std.specs.Iterator.{YieldsFirstBy, item_count};
 ghost use Rattle.langtag_scan.specs.Subtags.{subtags};
-ghost use Rattle.langtag_private.specs.Tests.{are_private, is_private_use};
+ghost use Rattle.langtag_private.specs.Decided.{are_private, is_private_use};
 
 use crate::private_use_subtag::PrivateUseSubtag;
 use langtag_scan::Subtags;
+use std::alloc::AllocError;
 
-/// The private use subtags that are still to come (RFC 5646 section 2.2.7).
+/// The private use subtags that are still to come (RFC 5646 section 2.2.7): `a` and `b` of `x-a-b`.
 #[derive(Drop)]
 pub struct PrivateUseIter<'a> {
     rest: Subtags<'a>,
@@ -16,11 +17,11 @@ pub struct PrivateUseIter<'a> {
 }
 
 impl<'a> PrivateUseIter<'a> {
-    ghost use Rattle.langtag_private.specs.Text.{private_left};
+    ghost use Rattle.langtag_private.specs.Text.{private_use_subtags_left};
 
-    /// No subtags.
+    /// No subtags: `PrivateUseIter::empty().next()` is None.
     pub fn empty() -> Self
-        ensures { private_left result ≡ [] }
+        ensures { private_use_subtags_left result ≡ [] }
     {
         PrivateUseIter {
             rest: Subtags::empty(),
@@ -31,7 +32,7 @@ impl<'a> PrivateUseIter<'a> {
     #[tactic(auto, using(crate::proofs::Rules::after_mark))]
     pub(crate) fn new(text: &'a str) -> Self
         requires { IsTrue (is_private_use text.now) }
-        ensures { private_left result ≡ drop 1 (subtags text.now) }
+        ensures { private_use_subtags_left result ≡ drop 1 (subtags text.now) }
     {
         PrivateUseIter {
             rest: after_mark(text),
@@ -49,23 +50,36 @@ fn after_mark<'a>(text: &'a str) -> Subtags<'a>
 }
 
 impl Default for PrivateUseIter<'_> {
-    ghost use Rattle.langtag_private.specs.Text.{private_left};
+    ghost use Rattle.langtag_private.specs.Text.{private_use_subtags_left};
 
-    ghost is_default = { λ subtags. private_left subtags ≡ [] };
+    ghost is_default = { λ subtags. private_use_subtags_left subtags ≡ [] };
 
     fn default() -> Self {
         PrivateUseIter::empty()
     }
 }
 
+impl Clone for PrivateUseIter<'_> {
+    ghost use Rattle.langtag_private.specs.Text.{private_use_subtags_left};
+
+    ghost is_clone = { λ walk copy. private_use_subtags_left copy ≡ private_use_subtags_left walk };
+
+    ghost is_infallible = { λ _. ⊤ };
+
+    fn clone(&self) -> Result<Self, AllocError> {
+        let rest = self.rest.clone()?;
+        Ok(PrivateUseIter { rest })
+    }
+}
+
 impl<'a> Iterator for PrivateUseIter<'a> {
-    ghost use Rattle.langtag_private.specs.Text.{private_use_subtag_text, private_left};
+    ghost use Rattle.langtag_private.specs.Text.{private_use_subtag_text, private_use_subtags_left};
 
     type Item = PrivateUseSubtag<'a>;
 
-    ghost next_gives = { YieldsFirstBy private_use_subtag_text private_left };
+    ghost next_gives = { YieldsFirstBy private_use_subtag_text private_use_subtags_left };
 
-    ghost remaining = { item_count private_left };
+    ghost remaining = { item_count private_use_subtags_left };
 
     fn next(&mut self) -> Option<PrivateUseSubtag<'a>> {
         let text = self.rest.next()?;

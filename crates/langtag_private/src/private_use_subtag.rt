@@ -1,5 +1,8 @@
 //! A subtag of a private use part (RFC 5646 section 2.2.7).
-ghost use Rattle.std.specs.Prelude.{◌≡◌, Some, IsTrue, IfOk, IfErr, is_ok};
+ghost use Rattle.std.specs.Prelude.{◌≡◌, ◌&&◌, ◌||◌, length, Some, IsTrue, IfOk, IfErr, is_ok};
+ghost use Rattle.std.specs.Char.{is_ascii_alphabetic, is_ascii_digit};
+ghost use Rattle.std.specs.Int.{is_in_range};
+ghost use Rattle.std.specs.List.{list_all};
 ghost use Rattle.std.specs.String.{string_bytes};
 ghost use Rattle.langtag_scan.specs.Case.{are_alike};
 ghost use Rattle.langtag_scan.specs.Class as class;
@@ -18,7 +21,7 @@ pub struct InvalidPrivateUseSubtag<T>(pub T);
 
 /// A private use subtag (RFC 5646 section 2.2.7): one to eight letters and digits, as `twain` in `en-x-twain`.
 ///
-/// Two of them are equal where their texts differ at most in the case of ASCII letters.
+/// Two of them are equal where their texts differ at most in the case of ASCII letters: `twain` and `TWAIN` are.
 #[derive(Clone, Copy, Debug, PartialEq, Eq, PartialOrd, Ord, Hash)]
 pub struct PrivateUseSubtag<'a> {
     text: Caseless<&'a str>,
@@ -26,15 +29,21 @@ pub struct PrivateUseSubtag<'a> {
 }
 
 impl<'a> PrivateUseSubtag<'a> {
+    ghost use Rattle.langtag_private.specs.Compared.{PrivateUseSubtagsCompareByCase};
     ghost use Rattle.langtag_private.specs.Text.{private_use_subtag_text, private_use_subtag_buf_text};
 
-    /// The private use subtag of a text.
+    /// The private use subtag of a text: `PrivateUseSubtag::new("twain")` is Ok. That a literal is one computes in a
+    /// proof by its numbers.
     ///
     /// # Errors
     ///
-    /// A text that is not one to eight letters and digits comes back.
+    /// A text that is not one to eight letters and digits comes back: `PrivateUseSubtag::new("a-b")` is
+    /// `Err(InvalidPrivateUseSubtag("a-b"))`.
+    #[tactic(auto, using(crate::proofs::Numbers::private_subtag_numbers))]
     pub fn new(text: &'a str) -> Result<PrivateUseSubtag<'a>, InvalidPrivateUseSubtag<&'a str>>
         ensures accepts { is_ok result ≡ class.is_private_subtag text.now }
+        ensures by_number { is_ok result ≡
+            (is_in_range 1 8 (length text.now) && list_all (λ b. is_ascii_alphabetic b || is_ascii_digit b) text.now) }
         ensures same_text { IfOk result (λ subtag. private_use_subtag_text subtag ≡ text.now) }
         ensures given_back { IfErr result (λ error. error.0 ≡ text.entry) }
     {
@@ -45,6 +54,7 @@ impl<'a> PrivateUseSubtag<'a> {
     }
 
     /// The subtag of a text that is known to be one: it is not looked at again.
+    /// `PrivateUseSubtag::from_checked(subtag.as_str())` is equal to `subtag`.
     pub fn from_checked(text: &'a str) -> PrivateUseSubtag<'a>
         requires { IsTrue (class.is_private_subtag text.now) }
         ensures { private_use_subtag_text result ≡ text.now }
@@ -54,7 +64,7 @@ impl<'a> PrivateUseSubtag<'a> {
         }
     }
 
-    /// The text, with its case.
+    /// The text, with its case: `PrivateUseSubtag::new("TWAIN")?.as_str()` is `"TWAIN"`.
     pub fn as_str(&self) -> &'a str
         ensures same_text { result.now ≡ private_use_subtag_text self.now }
         ensures in_class { IsTrue (class.is_private_subtag result.now) }
@@ -62,21 +72,25 @@ impl<'a> PrivateUseSubtag<'a> {
         self.text.0
     }
 
-    /// The bytes of the text.
+    /// The bytes of the text: `PrivateUseSubtag::new("TWAIN")?.as_bytes()` is `b"TWAIN"`.
     pub fn as_bytes(&self) -> &'a [u8]
         ensures { result.now ≡ private_use_subtag_text self.now }
     {
         self.as_str().as_bytes()
     }
 
-    /// Whether another text, of any form, is equal but for the case of ASCII letters.
+    /// Whether another text, of any form, is equal but for the case of ASCII letters:
+    /// `PrivateUseSubtag::new("twain")?.eq_str("TWAIN")` is true. The contract also pins that private use subtags are
+    /// compared, ordered and hashed so.
     pub fn eq_str(&self, other: &str) -> bool
-        ensures { result ≡ are_alike (private_use_subtag_text self.now) other.now }
+        ensures test { result ≡ are_alike (private_use_subtag_text self.now) other.now }
+
+        ensures compared { PrivateUseSubtagsCompareByCase }
     {
         self.text == Caseless(other)
     }
 
-    /// The owned form of the same text.
+    /// The owned form of the same text: `PrivateUseSubtag::new("TWAIN")?.try_to_owned(alloc)?.as_str()` is `"TWAIN"`.
     ///
     /// # Errors
     ///
@@ -109,13 +123,14 @@ pub struct PrivateUseSubtagBuf {
 }
 
 impl PrivateUseSubtagBuf {
+    ghost use Rattle.langtag_private.specs.Compared.{PrivateUseSubtagBufsCompareByCase};
     ghost use Rattle.langtag_private.specs.Text.{private_use_subtag_text, private_use_subtag_buf_text, private_use_subtag_buf_string};
 
-    /// The subtag of a text, which is neither copied nor moved in memory.
+    /// The subtag of a text, which is neither copied nor moved in memory: of the `String` `twain` it is Ok.
     ///
     /// # Errors
     ///
-    /// A text that is not one to eight letters and digits comes back, the same `String`.
+    /// A text that is not one to eight letters and digits comes back, the same `String`: `a-b` does.
     pub fn new(text: String) -> Result<PrivateUseSubtagBuf, InvalidPrivateUseSubtag<String>>
         ensures accepts { is_ok result ≡ class.is_private_subtag (string_bytes text) }
         ensures same_text { IfOk result (λ subtag. private_use_subtag_buf_text subtag ≡ string_bytes text) }
@@ -130,14 +145,17 @@ impl PrivateUseSubtagBuf {
         })
     }
 
-    /// The subtag, lent.
+    /// The subtag, lent: `as_private_use_subtag().as_str()` of the owned `TWAIN` is `"TWAIN"`. The contract also pins
+    /// that owned private use subtags are compared, ordered and hashed without regard to case.
     pub fn as_private_use_subtag(&self) -> PrivateUseSubtag<'_>
-        ensures { private_use_subtag_text result ≡ private_use_subtag_buf_text self.now }
+        ensures same_text { private_use_subtag_text result ≡ private_use_subtag_buf_text self.now }
+
+        ensures compared { PrivateUseSubtagBufsCompareByCase }
     {
         PrivateUseSubtag::from_checked(self.as_str())
     }
 
-    /// The text, with its case.
+    /// The text, with its case: `as_str()` of the owned `TWAIN` is `"TWAIN"`.
     pub fn as_str(&self) -> &str
         ensures same_text { result.now ≡ private_use_subtag_buf_text self.now }
         ensures in_class { IsTrue (class.is_private_subtag result.now) }
@@ -145,7 +163,7 @@ impl PrivateUseSubtagBuf {
         self.text.0.as_str()
     }
 
-    /// The text itself, which is not copied.
+    /// The text itself, which is not copied: `into_string()` of the owned `TWAIN` is the `String` `TWAIN`.
     pub fn into_string(self) -> String
         ensures same_text { string_bytes result ≡ private_use_subtag_buf_text self }
         ensures same_string { result ≡ private_use_subtag_buf_string self }

@@ -10,9 +10,9 @@ use Rattle.langtag_scan.specs.declared.stage.Stage.TheVariants.{Start, AfterMark
 use Rattle.langtag_scan.specs.Case.{fold_byte, fold_text, Alike}
 use Rattle.langtag_scan.specs.AlikeRecords.{fold_extension, fold_private_use, fold_record, AlikeRecords, IsSpelledAlike}
 use Rattle.langtag_scan.specs.Class.{is_letter, is_digit, is_alphanumeric, are_letters, are_digits, are_alphanumeric, starts_with_digit, is_primary, is_extended, is_script, is_region, is_variant, is_extension_subtag, is_private_subtag, is_mark, is_singleton}
-use Rattle.langtag_scan.specs.Ends.{ends_of}
+use Rattle.langtag_scan.specs.Ends.{to_language, to_script, to_region, to_variants, to_extensions, ends_of}
 use Rattle.langtag_scan.proofs.PartOffsets.{ends_equal}
-use Rattle.langtag_scan.specs.Record.{Extension, PrivateUse, Record, IsExtension, IsPrivateUse, IsWellFormed, extension_flat, one_flat, private_part_flat, flat, spell, EachRecord}
+use Rattle.langtag_scan.specs.Record.{Extension, PrivateUse, Record, IsWellFormedExtension, IsWellFormedPrivateUse, IsWellFormed, extension_flat, one_flat, private_part_flat, flat, spell, EachRecord}
 use Rattle.langtag_scan.specs.Stage.{is_one, classes_of, next_by, next_stage, runs}
 use Rattle.langtag_scan.specs.Subtags.{join, segments}
 use Rattle.langtag_scan.specs.Tag.{IsNormal, IsPrivate, IsIrregular, IsIrregularAt, IsTag}
@@ -57,7 +57,7 @@ is_singleton-fold b = rw (is_alphanumeric-fold b, is_mark-fold b) refl
 -- ---- the classes of subtags
 
 -- the fold of a text has as many bytes
-length-fold : (s : List ℕ) → length (fold_text s) ≡ length s
+pub length-fold : (s : List ℕ) → length (fold_text s) ≡ length s
 length-fold s = length-map s fold_byte
 
 -- a test of each byte that the fold does not change
@@ -168,7 +168,7 @@ segments-fold [] = refl
 segments-fold (b ∷ t) = rw (hyphen-fold b, segments-fold t, onto-map b (segments t)) (cond-map (eqb b 45) ([] ∷ segments t) (onto_first b (segments t)))
 
 -- and a join of folded subtags is the join, folded
-join-fold : (ss : List (List ℕ)) → join (map fold_text ss) ≡ fold_text (join ss)
+pub join-fold : (ss : List (List ℕ)) → join (map fold_text ss) ≡ fold_text (join ss)
 unfolding fold_byte
 join-fold [] = refl
 join-fold (s ∷ []) = refl
@@ -214,10 +214,10 @@ if_some-fold p same None fits = tt
 if_some-fold p same (Some s) fits = same s ∙ fits
 
 -- folded extensions are extensions
-is_extension-fold : (es : List Extension) → AllByRecursion IsExtension es → AllByRecursion IsExtension (map fold_extension es)
+is_extension-fold : (es : List Extension) → AllByRecursion IsWellFormedExtension es → AllByRecursion IsWellFormedExtension (map fold_extension es)
 is_extension-fold [] fits = tt
 is_extension-fold (e ∷ es) fits =
-    let first : IsExtension (fold_extension e) = record {
+    let first : IsWellFormedExtension (fold_extension e) = record {
       singleton = is_singleton-fold e.singleton ∙ fits.0.singleton;
       some = omega (arith, fits.0.some, length-map e.subtags fold_text);
       subtags = each-fold is_extension_subtag is_extension_subtag-fold e.subtags fits.0.subtags;
@@ -225,7 +225,7 @@ is_extension-fold (e ∷ es) fits =
     (first, is_extension-fold es fits.1)
 
 -- a folded private use part is one
-is_private_use-fold : (o : Option PrivateUse) → IfSome o IsPrivateUse → IfSome (option_map fold_private_use o) IsPrivateUse
+is_private_use-fold : (o : Option PrivateUse) → IfSome o IsWellFormedPrivateUse → IfSome (option_map fold_private_use o) IsWellFormedPrivateUse
 is_private_use-fold None fits = tt
 is_private_use-fold (Some p) fits = record {
   mark = is_mark-fold p.mark ∙ fits.mark;
@@ -246,22 +246,6 @@ well_formed-fold r fits = record {
   extensions = is_extension-fold r.extensions fits.extensions;
   private_use = is_private_use-fold r.private_use fits.private_use;
 }
-
--- the subtags up to and with a part
-abbrev to_language : Record → List (List ℕ)
-to_language r = r.primary ∷ r.extended
-
-abbrev to_script : Record → List (List ℕ)
-to_script r = r.primary ∷ (r.extended ++ one_flat r.script)
-
-abbrev to_region : Record → List (List ℕ)
-to_region r = r.primary ∷ (r.extended ++ (one_flat r.script ++ one_flat r.region))
-
-abbrev to_variants : Record → List (List ℕ)
-to_variants r = r.primary ∷ (r.extended ++ (one_flat r.script ++ (one_flat r.region ++ r.variants)))
-
-abbrev to_extensions : Record → List (List ℕ)
-to_extensions r = r.primary ∷ (r.extended ++ (one_flat r.script ++ (one_flat r.region ++ (r.variants ++ flat_map extension_flat r.extensions))))
 
 -- a join of folded subtags is as long
 joined_length : (ss us : List (List ℕ)) → us ≡ map fold_text ss → length (join us) ≡ length (join ss)

@@ -6,7 +6,7 @@ use Rattle.std.proofs.lemmas.Bool.{lt-ltb, le-leb}
 use Rattle.langtag_scan.specs.declared.stage.Stage.{Stage}
 use Rattle.langtag_scan.specs.declared.stage.Stage.TheVariants.{Start, Language, Extended, AfterScript, AfterRegion, AfterVariant, AfterSingleton, InExtension, AfterMark, InPrivate}
 use Rattle.langtag_scan.specs.Class.{is_extended, is_script, is_region, is_variant, is_extension_subtag, is_private_subtag}
-use Rattle.langtag_scan.specs.Record.{PrivateUse, Extension, Record, IsPrivateUse, IsExtension, IsWellFormed, extension_flat, one_flat, private_part_flat, flat}
+use Rattle.langtag_scan.specs.Record.{PrivateUse, Extension, Record, IsWellFormedPrivateUse, IsWellFormedExtension, IsWellFormed, extension_flat, one_flat, private_part_flat, flat}
 use Rattle.langtag_scan.specs.Stage.{opened, next_stage, may_end}
 use Rattle.langtag_scan.specs.Machine.{index_after}
 use Rattle.langtag_scan.specs.declared.ends.Ends.{Ends}
@@ -88,7 +88,7 @@ after_mark [] some fits = absurd (omega arith)
 after_mark (s ∷ ss) some fits = decode_cons AfterMark s InPrivate ss (pending ss [] None) (rw fits.0 refl) (in_private ss fits.1)
 
 tail_private :
-    (stage : Stage) → Opening stage → (p : Option PrivateUse) → IfSome p IsPrivateUse →
+    (stage : Stage) → Opening stage → (p : Option PrivateUse) → IfSome p IsWellFormedPrivateUse →
     decode stage (private_part_flat p) ≡ Some (whole (from_private p))
 tail_private stage o None fits = decode_nil stage o.ends
 tail_private stage o (Some p) fits =
@@ -110,8 +110,8 @@ after_singleton es p rest h [] some fits = absurd (omega arith)
 after_singleton es p rest h (s ∷ ss) some fits = decode_cons AfterSingleton s InExtension (ss ++ rest) (pending ss es p) (rw fits.0 refl) (in_extension es p rest h ss fits.1)
 
 tail_extensions :
-    (stage : Stage) → Opening stage → (es : List Extension) (p : Option PrivateUse) → AllByRecursion IsExtension es →
-    IfSome p IsPrivateUse → decode stage (flat_map extension_flat es ++ private_part_flat p) ≡ Some (whole (from_extensions es p))
+    (stage : Stage) → Opening stage → (es : List Extension) (p : Option PrivateUse) → AllByRecursion IsWellFormedExtension es →
+    IfSome p IsWellFormedPrivateUse → decode stage (flat_map extension_flat es ++ private_part_flat p) ≡ Some (whole (from_extensions es p))
 tail_extensions stage o [] p fits fit = tail_private stage o p fit
 tail_extensions stage o (e ∷ es) p fits fit =
     let opens : opened (e.singleton ∷ []) ≡ Some AfterSingleton = rw (singleton_no_mark e.singleton fits.0.singleton, fits.0.singleton) refl in
@@ -127,8 +127,8 @@ rest_of es p = flat_map extension_flat es ++ private_part_flat p
 -- the members of the parts after the region are of their classes
 pub record RestFits (vs : List (List ℕ)) (es : List Extension) (p : Option PrivateUse) : Type 0 where
   pub variants : AllByRecursion (λ s. IsTrue (is_variant s)) vs
-  pub extensions : AllByRecursion IsExtension es
-  pub private_use : IfSome p IsPrivateUse
+  pub extensions : AllByRecursion IsWellFormedExtension es
+  pub private_use : IfSome p IsWellFormedPrivateUse
 
 -- those of all but the first of some variants
 pub fits_tail : (s : List ℕ) (vs : List (List ℕ)) (es : List Extension) (p : Option PrivateUse) → RestFits (s ∷ vs) es p → RestFits vs es p

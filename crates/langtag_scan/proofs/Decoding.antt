@@ -8,7 +8,7 @@ use Rattle.std.proofs.lemmas.Bool.{ltb-true, leb-true}
 use Rattle.langtag_scan.specs.declared.stage.Stage.{Stage}
 use Rattle.langtag_scan.specs.declared.stage.Stage.TheVariants.{Start, Language, Extended, AfterScript, AfterRegion, AfterVariant, AfterSingleton, InExtension, AfterMark, InPrivate}
 use Rattle.langtag_scan.specs.Class.{is_primary, is_extended, is_script, is_region, is_variant, is_extension_subtag, is_private_subtag, is_mark, is_singleton}
-use Rattle.langtag_scan.specs.Record.{PrivateUse, Extension, Record, IsPrivateUse, IsExtension, IsWellFormed, extension_flat, one_flat, private_part_flat, flat}
+use Rattle.langtag_scan.specs.Record.{PrivateUse, Extension, Record, IsWellFormedPrivateUse, IsWellFormedExtension, IsWellFormed, extension_flat, one_flat, private_part_flat, flat}
 use Rattle.langtag_scan.specs.Stage.{opened, after_region, after_script, after_language, next_stage, may_end}
 use Rattle.langtag_scan.proofs.BoolFacts.{chosen}
 
@@ -107,7 +107,7 @@ flat_from InPrivate b = b.after
 
 -- what holds of the parts from a part on (products and no records: they are to compute at `put`)
 abbrev FitExtensions : Record → Type 0
-FitExtensions r = AllByRecursion IsExtension r.extensions × IfSome r.private_use IsPrivateUse
+FitExtensions r = AllByRecursion IsWellFormedExtension r.extensions × IfSome r.private_use IsWellFormedPrivateUse
 
 abbrev FitVariants : Record → Type 0
 FitVariants r = AllByRecursion (λ s. IsTrue (is_variant s)) r.variants × FitExtensions r

@@ -10,7 +10,7 @@ use Rattle.langtag_scan.specs.declared.stage.Stage.TheVariants.{Start, Language,
 use Rattle.langtag_scan.specs.Class.{is_extended, is_script, is_region, is_extension_subtag, is_private_subtag}
 use Rattle.langtag_scan.specs.Ends.{ends_of}
 use Rattle.langtag_scan.specs.Machine.{all_at, end_at, index_after, ends_after}
-use Rattle.langtag_scan.specs.Record.{PrivateUse, Extension, Record, IsPrivateUse, IsExtension, IsWellFormed, extension_flat, one_flat, private_part_flat, flat}
+use Rattle.langtag_scan.specs.Record.{PrivateUse, Extension, Record, IsWellFormedPrivateUse, IsWellFormedExtension, IsWellFormed, extension_flat, one_flat, private_part_flat, flat}
 use Rattle.langtag_scan.specs.Stage.{opened, next_stage}
 use Rattle.langtag_scan.specs.declared.ends.Ends.{Ends}
 use Rattle.langtag_scan.proofs.Complete.{Opening, Varying, Regional, Speaking, opening_in_extension, varying_after_region, varying_after_variant, regional_after_script, speaking_language, speaking_extended, RestFits, fits_tail, rest_of, taken_by}
@@ -79,7 +79,7 @@ module _ (l c g v x : ℕ) where
       ∙ ap (ends_at l c g v x) (omega (arith, weight-cons s ss))
 
   private_part_ends :
-      (stage : Stage) → Opening stage → (p : Option PrivateUse) → IfSome p IsPrivateUse →
+      (stage : Stage) → Opening stage → (p : Option PrivateUse) → IfSome p IsWellFormedPrivateUse →
       ends_after stage (ends_at l c g v x x) (private_part_flat p) ≡ after_extensions l c g v x p
   private_part_ends stage open_here None fits = ends_after-nil stage (ends_at l c g v x x) ∙ ap (ends_at l c g v x) (omega arith)
   private_part_ends stage open_here (Some p) fits =
@@ -109,7 +109,7 @@ module _ (l c g v : ℕ) (rest : List (List ℕ)) where
 
 extensions_ends :
     (l c g v : ℕ) (stage : Stage) → Opening stage → (es : List Extension) (p : Option PrivateUse) →
-    AllByRecursion IsExtension es → IfSome p IsPrivateUse → (x : ℕ) →
+    AllByRecursion IsWellFormedExtension es → IfSome p IsWellFormedPrivateUse → (x : ℕ) →
     ends_after stage (ends_at l c g v x x) (rest_of es p) ≡ after_extensions l c g v (x + weight (flat_map extension_flat es)) p
 extensions_ends l c g v stage open_here [] p fits fit x = private_part_ends l c g v x stage open_here p fit ∙ ap (λ k. after_extensions l c g v k p) (omega arith)
 extensions_ends l c g v stage open_here (e ∷ es) p fits fit x =

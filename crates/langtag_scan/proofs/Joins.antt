@@ -27,10 +27,6 @@ hyphenated-append xs ys = flat_map-append (λ s. 45 ∷ s) xs ys
 pub join-append : (x : List ℕ) (xs ys : List (List ℕ)) → join (x ∷ (xs ++ ys)) ≡ join (x ∷ xs) ++ hyphenated ys
 join-append x xs ys = simp (join-hyphenated, hyphenated-append, append_assoc)
 
--- the join of a prefix, as one subtag in its place
-pub join-prefix : (x : List ℕ) (xs ys : List (List ℕ)) → join (join (x ∷ xs) ∷ ys) ≡ join (x ∷ (xs ++ ys))
-join-prefix x xs ys = join-hyphenated (join (x ∷ xs)) ys ∙ sym (join-append x xs ys)
-
 -- the join of some subtags, where there are any, in their place
 pub hyphenated-present : (ss : List (List ℕ)) → hyphenated (present ss) ≡ hyphenated ss
 hyphenated-present [] = refl

@@ -1,24 +1,24 @@
 pub mod BoolFacts
-pub mod Disjoint
-pub mod Decoding
-pub mod Complete
+mod Disjoint
+mod Decoding
+mod Complete
 pub mod SubtagFacts
 pub mod NormalTexts
 pub mod CaseOrder
-pub mod ShapeLaws
-pub mod Running
-pub mod Filling
-pub mod PrivateTexts
-pub mod StageLaws
-pub mod ReadingLaws
-pub mod EndsLaw
+mod ShapeLaws
+mod Running
+mod Filling
+mod PrivateTexts
+mod StageLaws
+mod ReadingLaws
+mod EndsLaw
 pub mod IrregularNames
-pub mod NamesByLength
-pub mod NameRanges
+mod NamesByLength
+mod NameRanges
 pub mod TagLaws
-pub mod TracksLaws
-pub mod RecogniserLaws
-pub mod FillLaw
+mod TracksLaws
+mod RecogniserLaws
+mod FillLaw
 pub mod CaseLaw
 pub mod OneKind
 pub mod Ascii
@@ -27,3 +27,5 @@ pub mod Joins
 pub mod PartOffsets
 pub mod SpelledTexts
 pub mod FoundLaws
+pub mod RegisteredTags
+mod ViableLaws

@@ -9,10 +9,11 @@ use Rattle.langtag_scan.specs.Tag.{IsNormal, IsPrivate}
 use Rattle.langtag_scan.specs.Stage.{is_one, next_stage, may_end, runs}
 use Rattle.langtag_scan.specs.Record.{flat}
 use Rattle.langtag_scan.specs.Ends.{HasEnds}
-use Rattle.langtag_scan.specs.Found.{Finding.normal, IsFoundOf}
+use Rattle.langtag_scan.specs.Found.{IsFoundOf}
 use Rattle.langtag_scan.specs.Viable.{filling, fill}
 use Rattle.langtag_scan.specs.Machine.{begun, may_hold, all_at, end_at, index_after, ends_after, ReadsNormal, ReadsPrivate, HasStopped, IsRefused}
 use Rattle.langtag_scan.specs.declared.ends.Ends.{Ends}
+use Rattle.langtag_scan.specs.declared.finding.Finding.TheVariants.{Normal}
 use Rattle.langtag_scan.specs.declared.stage.Stage.{Stage}
 use Rattle.langtag_scan.specs.declared.stage.Stage.TheVariants.{Start, AfterMark}
 use Rattle.langtag_scan.proofs.NormalTexts.{normal_from_runs, runs_from_normal, spelled_segments}
@@ -273,7 +274,7 @@ private_rejected p stage stops n = record {
     ended = ap (λ t. runs AfterMark (segments t)) (append-nil n.rest) ∙ goes_ended AfterMark stage n.rest (begun p) n.goes ∙ stops
 
 -- where a normal tag may end, the ends are those of the record
-found_with : (p : List ℕ) (found : Ends) → ends_after Start (all_at 0) (segments p) ≡ found → IsNormal p → IsFoundOf p (normal found)
+found_with : (p : List ℕ) (found : Ends) → ends_after Start (all_at 0) (segments p) ≡ found → IsNormal p → IsFoundOf p (Normal found)
 unfolding IsNormal HasEnds
 found_with p found ends n =
     let same : flat n.0 ≡ segments p = sym (spelled_segments n.0 n.1.0) ∙ ap segments n.1.1 in
@@ -295,7 +296,7 @@ ends_last p stage after e next n =
 
 pub normal_accepted :
     (p : List ℕ) (stage after : Stage) (e : Ends) → next_stage stage (begun p) ≡ Some after → may_end after ≡ true →
-    ReadsNormal p stage (begun p) e → IsFoundOf p (normal (end_at after (length p) e))
+    ReadsNormal p stage (begun p) e → IsFoundOf p (Normal (end_at after (length p) e))
 normal_accepted p stage after e next ends n =
     let run : runs Start (segments p) ≡ true = goes_ended Start stage p (begun p) n.goes ∙ ap (λ o. option_map_or may_end o false) next ∙ ends in
     found_with p (end_at after (length p) e) (ends_last p stage after e next n) (normal_from_runs p run)

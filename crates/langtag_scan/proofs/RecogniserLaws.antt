@@ -3,8 +3,7 @@ use Rattle.std.proofs.Common.{◌≡◌, ℕ, ◌+◌, ◌<◌, ◌≤◌, true,
 use Rattle.std.specs.Prelude.{Option, Some, None, MatchOption}
 use Rattle.std.proofs.lemmas.Bool.{cases_lt}
 use Rattle.std.proofs.lemmas.List.{take_more, take_all, take-append-drop, take-take, length-take}
-use Rattle.langtag_scan.specs.Findings.{finding}
-use Rattle.langtag_scan.specs.Found.{IsFoundOf}
+use Rattle.langtag_scan.specs.Found.{finding, IsFoundOf}
 use Rattle.langtag_scan.specs.Irregular.{is_possible}
 use Rattle.langtag_scan.specs.Machine.{begun, HasStopped, IsRefused}
 use Rattle.langtag_scan.specs.Names.{Follows, IsGone}

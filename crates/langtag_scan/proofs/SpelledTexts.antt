@@ -23,11 +23,6 @@ pub normal_from_ends : (text : List ℕ) (ends : Ends) → HasEnds text ends →
 unfolding HasEnds
 normal_from_ends text ends (r, spells, at) = normal_spelled text r spells
 
--- a normal text is spelled by some record, and has its ends
-pub ends_from_normal : (text : List ℕ) → IsNormal text → (ends : Ends) × HasEnds text ends
-unfolding IsNormal HasEnds
-ends_from_normal text (r, spells) = (ends_of r, (r, spells, refl))
-
 -- there is one record, so each record has these ends
 pub ends_each : (text : List ℕ) (ends : Ends) → HasEnds text ends → EachRecord text (λ r. ends ≡ ends_of r)
 unfolding HasEnds

@@ -31,7 +31,7 @@ bytes_eq-push end (x ∷ z ∷ xs) [] = and-false (x == end)
 bytes_eq-push end (x ∷ xs) (y ∷ ys) = ap (λ rest. (x == y) && rest) (bytes_eq-push end xs ys)
 
 -- the order ties exactly where texts are alike
-case_cmp-ties : (a b : List ℕ) → are_alike a b ≡ eq_by_cmp case_cmp a b
+pub case_cmp-ties : (a b : List ℕ) → are_alike a b ≡ eq_by_cmp case_cmp a b
 case_cmp-ties a b = sym (bytes_eq-push 256 (fold_text a) (fold_text b)) ∙ lists_ties nat_cmp unsigned_ties (order_key a) (order_key b)
 
 -- what a text feeds to a hasher follows from its fold

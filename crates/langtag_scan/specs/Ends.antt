@@ -2,18 +2,36 @@
 use Rattle.std.specs.Prelude.{◌≡◌, ℕ, List, ◌∷◌, ◌++◌, length}
 use Rattle.std.specs.List.{flat_map}
 use Rattle.langtag_scan.specs.Subtags.{join}
-use Rattle.langtag_scan.specs.Record.{Record, Spells, extension_flat, one_flat, flat}
+use Rattle.langtag_scan.specs.Record.{Record, Spells, extension_flat, one_flat, spell}
 use Rattle.langtag_scan.specs.declared.ends.Ends.{Ends}
 
--- the end of each part is the length of the join of all subtags up to and with that part
+-- the subtags of a record up to and with each part
+abbrev pub to_language : Record → List (List ℕ)
+to_language r = r.primary ∷ r.extended
+
+abbrev pub to_script : Record → List (List ℕ)
+to_script r = r.primary ∷ (r.extended ++ one_flat r.script)
+
+abbrev pub to_region : Record → List (List ℕ)
+to_region r = r.primary ∷ (r.extended ++ (one_flat r.script ++ one_flat r.region))
+
+abbrev pub to_variants : Record → List (List ℕ)
+to_variants r = r.primary ∷ (r.extended ++ (one_flat r.script ++ (one_flat r.region ++ r.variants)))
+
+abbrev pub to_extensions : Record → List (List ℕ)
+to_extensions r =
+    r.primary
+    ∷ (r.extended ++ (one_flat r.script ++ (one_flat r.region ++ (r.variants ++ flat_map extension_flat r.extensions))))
+
+-- the end of each part is the length of their join
 abbrev pub ends_of : Record → Ends
 ends_of r = record {
-  language = length (join (r.primary ∷ r.extended));
-  script = length (join (r.primary ∷ (r.extended ++ one_flat r.script)));
-  region = length (join (r.primary ∷ (r.extended ++ (one_flat r.script ++ one_flat r.region))));
-  variants = length (join (r.primary ∷ (r.extended ++ (one_flat r.script ++ (one_flat r.region ++ r.variants)))));
-  extensions = length (join (r.primary ∷ (r.extended ++ (one_flat r.script ++ (one_flat r.region ++ (r.variants ++ flat_map extension_flat r.extensions))))));
-  whole = length (join (flat r));
+  language = length (join (to_language r));
+  script = length (join (to_script r));
+  region = length (join (to_region r));
+  variants = length (join (to_variants r));
+  extensions = length (join (to_extensions r));
+  whole = length (spell r);
 }
 
 -- a record spells the text, and its parts end there

@@ -3,35 +3,36 @@ use Rattle.std.specs.Prelude.{ℕ, Bool, true, false, List, Option, Some, None}
 use Rattle.langtag_scan.specs.Tag.{IsPrivate, IsIrregularAt}
 use Rattle.langtag_scan.specs.Ends.{HasEnds}
 use Rattle.langtag_scan.specs.declared.ends.Ends.{Ends}
+use Rattle.langtag_scan.specs.declared.finding.Finding.{Finding}
+use Rattle.langtag_scan.specs.declared.finding.Finding.TheVariants.{Normal, PrivateUse, Irregular}
+use Rattle.langtag_scan.specs.declared.found.Found.{Found}
 
--- one of the three cases: normal with the ends of its parts, private use, or irregular with the index in the table
-pub data Finding : Type 0 where
-  normal : Ends → Finding
-  private_use : Finding
-  irregular : ℕ → Finding
+-- what was found: normal with the ends of its parts, private use, or irregular with the index in the table
+abbrev pub finding : Found → Finding
+finding found = found.finding
 
 -- the text is a tag of this case, with these ends or at this index
 abbrev pub IsFoundOf : List ℕ → Finding → Type 0
-IsFoundOf t (normal ends) = HasEnds t ends
-IsFoundOf t private_use = IsPrivate t
-IsFoundOf t (irregular index) = IsIrregularAt index t
+IsFoundOf t (Normal ends) = HasEnds t ends
+IsFoundOf t PrivateUse = IsPrivate t
+IsFoundOf t (Irregular index) = IsIrregularAt index t
 
 abbrev pub is_normal : Finding → Bool
-is_normal (normal ends) = true
-is_normal private_use = false
-is_normal (irregular index) = false
+is_normal (Normal ends) = true
+is_normal PrivateUse = false
+is_normal (Irregular index) = false
 
 abbrev pub is_private_use : Finding → Bool
-is_private_use (normal ends) = false
-is_private_use private_use = true
-is_private_use (irregular index) = false
+is_private_use (Normal ends) = false
+is_private_use PrivateUse = true
+is_private_use (Irregular index) = false
 
 abbrev pub irregular_index : Finding → Option ℕ
-irregular_index (normal ends) = None
-irregular_index private_use = None
-irregular_index (irregular index) = Some index
+irregular_index (Normal ends) = None
+irregular_index PrivateUse = None
+irregular_index (Irregular index) = Some index
 
 abbrev pub normal_ends : Finding → Option Ends
-normal_ends (normal ends) = Some ends
-normal_ends private_use = None
-normal_ends (irregular index) = None
+normal_ends (Normal ends) = Some ends
+normal_ends PrivateUse = None
+normal_ends (Irregular index) = None

@@ -1,6 +1,8 @@
--- The grandfathered tags (RFC 5646 section 2.2.8), in the order in which section 2.1 lists them: first the
--- seventeen irregular ones, which no rule but their own admits, then the nine regular ones.
-use Rattle.std.specs.Prelude.{ℕ, List, [], ◌∷◌, take, map, codes, Option, Some, None}
+-- The grandfathered tags (RFC 5646 section 2.2.8), in the order in which section 2.1 lists them: first the irregular
+-- ones, which no rule but their own admits, then the regular ones.
+use Rattle.std.specs.Prelude.{ℕ, List, [], ◌∷◌, map, codes, Option, Some, None}
+use Rattle.std.specs.List.{filter}
+use Rattle.std.specs.Option.{is_none}
 
 -- the registered spelling, and the primary language subtag of a regular one
 pub record Grandfathered : Type 0 where
@@ -43,6 +45,6 @@ grandfathered_tags =
     ∷ regular_tag (codes "zh-xiang") (codes "zh")
     ∷ []
 
--- the registered spellings of the irregular ones
+-- the registered spellings of the irregular ones, which have no language
 unfoldable pub irregular_texts : List (List ℕ)
-irregular_texts = map (λ tag. tag.text) (take 17 grandfathered_tags)
+irregular_texts = map (λ tag. tag.text) (filter (λ tag. is_none tag.language) grandfathered_tags)

@@ -12,8 +12,8 @@ pub mod Stage
 pub mod Shape
 pub mod Machine
 pub mod CaseLaws
+pub mod Compare
 pub mod AlikeRecords
 pub mod Irregular
 pub mod Names
-pub mod Findings
 pub mod Tracking

@@ -1,5 +1,12 @@
 -- What the machine knows of the bytes that it has read.
 -- Only contracts of private functions cite this page.
+--
+-- What implies what, here and on the page Tracking:
+--   IsReadTo t n names m goes_on     after n bytes of the text t; where goes_on, and p are these bytes:
+--     → Tracks p m                   a tag may begin with p, and the machine m knows which
+--       → Reads reading p ..         ReadsNormal or ReadsPrivate, by what the machine reads
+--         → GoesOn first p stage s   however p goes on, its subtags run as s, the one that has begun, does from the stage
+--       → IsReadAs p m               where p ends with s: p is a tag, if one may end at the stage
 use Rattle.std.specs.Prelude.{◌≡◌, ℕ, ◌+◌, ◌≤◌, Bool, true, List, [], ◌∷◌, ◌++◌, length}
 use Rattle.std.specs.List.{after_last}
 use Rattle.std.specs.Option.{option_map_or}
@@ -8,11 +15,12 @@ use Rattle.langtag_scan.specs.Subtags.{is_hyphen, segments}
 use Rattle.langtag_scan.specs.Tag.{IsNormal, IsPrivate}
 use Rattle.langtag_scan.specs.Stage.{next_stage, runs}
 use Rattle.langtag_scan.specs.Shape.{shape_of}
-use Rattle.langtag_scan.specs.Found.{Finding, Finding.normal, Finding.private_use}
 use Rattle.langtag_scan.specs.declared.stage.Stage.{Stage}
 use Rattle.langtag_scan.specs.declared.stage.Stage.TheVariants.{Start, Language, Extended, AfterScript, AfterRegion, AfterVariant, AfterSingleton, InExtension, AfterMark, InPrivate}
 use Rattle.langtag_scan.specs.declared.shape.Shape.{Shape}
 use Rattle.langtag_scan.specs.declared.ends.Ends.{Ends}
+use Rattle.langtag_scan.specs.declared.finding.Finding.{Finding}
+use Rattle.langtag_scan.specs.declared.finding.Finding.TheVariants as found
 use Rattle.langtag_scan.specs.declared.machine.Reading.{Reading}
 use Rattle.langtag_scan.specs.declared.machine.Reading.TheVariants.{Normal, Private}
 
@@ -98,7 +106,7 @@ abbrev pub Reads : Reading → List ℕ → Stage → Shape → Ends → Type 0
 Reads Normal p stage shape ends = (shape ≡ shape_of (begun p)) × ReadsNormal p stage (begun p) ends
 Reads Private p stage shape ends = (shape ≡ shape_of (begun p)) × ReadsPrivate p stage (begun p)
 
--- what is found where the text ends so
+-- what is found of a text that ends here, with these ends
 abbrev pub found_by : Reading → Ends → Finding
-found_by Normal ends = normal ends
-found_by Private ends = private_use
+found_by Normal ends = found.Normal ends
+found_by Private ends = found.PrivateUse

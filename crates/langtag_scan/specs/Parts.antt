@@ -30,7 +30,10 @@ present (subtag ∷ subtags) = join (subtag ∷ subtags) ∷ []
 
 -- the texts of the parts that are there, in order
 abbrev pub parts : Record → List (List ℕ)
-parts r = language_part r ∷ (one_flat r.script ++ (one_flat r.region ++ (present r.variants ++ (present (flat_map extension_flat r.extensions) ++ present (private_part_flat r.private_use)))))
+parts r =
+    language_part r
+    ∷ (one_flat r.script ++ (one_flat r.region ++ (present r.variants
+    ++ (present (flat_map extension_flat r.extensions) ++ present (private_part_flat r.private_use)))))
 
 -- what stands in a text between the end of one part and the end of the next, after the hyphen: nothing where the
 -- next one is absent

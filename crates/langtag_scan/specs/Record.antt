@@ -25,13 +25,13 @@ pub record Record : Type 0 where
   pub private_use : Option PrivateUse
 
 -- extension = singleton 1*("-" (2*8alphanum))
-pub record IsExtension (e : Extension) : Type 0 where
+pub record IsWellFormedExtension (e : Extension) : Type 0 where
   pub singleton : IsTrue (is_singleton e.singleton)
   pub some : 1 ≤ length e.subtags
   pub subtags : AllByRecursion (λ s. IsTrue (is_extension_subtag s)) e.subtags
 
 -- privateuse = "x" 1*("-" (1*8alphanum))
-pub record IsPrivateUse (p : PrivateUse) : Type 0 where
+pub record IsWellFormedPrivateUse (p : PrivateUse) : Type 0 where
   pub mark : IsTrue (is_mark p.mark)
   pub some : 1 ≤ length p.subtags
   pub subtags : AllByRecursion (λ s. IsTrue (is_private_subtag s)) p.subtags
@@ -46,8 +46,8 @@ pub record IsWellFormed (r : Record) : Type 0 where
   pub script : IfSome r.script (λ s. IsTrue (is_script s))
   pub region : IfSome r.region (λ s. IsTrue (is_region s))
   pub variants : AllByRecursion (λ s. IsTrue (is_variant s)) r.variants
-  pub extensions : AllByRecursion IsExtension r.extensions
-  pub private_use : IfSome r.private_use IsPrivateUse
+  pub extensions : AllByRecursion IsWellFormedExtension r.extensions
+  pub private_use : IfSome r.private_use IsWellFormedPrivateUse
 
 -- the subtags of each part, in order
 abbrev pub extension_flat : Extension → List (List ℕ)
@@ -66,7 +66,10 @@ private_part_flat (Some p) = private_use_flat p
 
 -- all subtags of a record, in order
 abbrev pub flat : Record → List (List ℕ)
-flat r = r.primary ∷ (r.extended ++ (one_flat r.script ++ (one_flat r.region ++ (r.variants ++ (flat_map extension_flat r.extensions ++ private_part_flat r.private_use)))))
+flat r =
+    r.primary
+    ∷ (r.extended ++ (one_flat r.script ++ (one_flat r.region ++ (r.variants
+    ++ (flat_map extension_flat r.extensions ++ private_part_flat r.private_use)))))
 
 abbrev pub spell : Record → List ℕ
 spell r = join (flat r)

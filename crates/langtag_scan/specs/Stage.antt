@@ -52,7 +52,10 @@ after_script_by c = if c.region then Some AfterRegion else after_region_by c
 
 -- after the primary subtag, where so many of the three places for extended subtags are taken
 abbrev pub after_language_by : ℕ → Classes → Option Stage
-after_language_by taken c = if c.extended then (if nat_lt taken 3 then Some (Extended (taken + 1)) else None) else if c.script then Some AfterScript else after_script_by c
+after_language_by taken c =
+    if c.extended then (if nat_lt taken 3 then Some (Extended (taken + 1)) else None)
+    else if c.script then Some AfterScript
+    else after_script_by c
 
 -- the stage after one more subtag, of these classes
 abbrev pub next_by : Stage → Classes → Option Stage

@@ -2,7 +2,7 @@
 use Rattle.std.specs.Prelude.{◌≡◌, ℕ, ◌⊎◌, List, slice_get, Some}
 use Rattle.langtag_scan.specs.Case.{Alike}
 use Rattle.langtag_scan.specs.Subtags.{join}
-use Rattle.langtag_scan.specs.Record.{PrivateUse, Record, IsPrivateUse, Spells, private_use_flat}
+use Rattle.langtag_scan.specs.Record.{PrivateUse, Record, IsWellFormedPrivateUse, Spells, private_use_flat}
 use Rattle.langtag_scan.specs.Grandfathered.{irregular_texts}
 
 -- a well-formed record spells the text
@@ -11,7 +11,7 @@ IsNormal t = (r : Record) × Spells r t
 
 -- a private list spells the text
 unfoldable pub IsPrivate : List ℕ → Type 0
-IsPrivate t = (p : PrivateUse) × IsPrivateUse p × (join (private_use_flat p) ≡ t)
+IsPrivate t = (p : PrivateUse) × IsWellFormedPrivateUse p × (join (private_use_flat p) ≡ t)
 
 -- the text is alike the irregular one at an index of the table
 unfoldable pub IsIrregularAt : ℕ → List ℕ → Type 0

@@ -16,6 +16,12 @@ pub record IsStop (t : List ℕ) (n : ℕ) : Type 0 where
   pub before : (k : ℕ) → k < n → IsViable (take k t)
   pub at : (IsViable (take n t) × (n ≡ length t)) ⊎ (IsViable (take n t) → ⊥)
 
+-- each prefix up to this length is viable, and no longer one is
+pub record IsViableLength (t : List ℕ) (n : ℕ) : Type 0 where
+  pub within : n ≤ length t
+  pub viable : (k : ℕ) → k ≤ n → IsViable (take k t)
+  pub longest : (k : ℕ) → n < k → k ≤ length t → IsViable (take k t) → ⊥
+
 -- as many letters `a` as bring a subtag that has begun to five bytes
 abbrev pub filling : List ℕ → List ℕ
 filling s = replicate (5 - length s) 97

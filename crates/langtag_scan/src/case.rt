@@ -7,6 +7,8 @@ use std::cmp::Ordering;
 use std::hash::Hasher;
 
 /// The fold of a byte (RFC 5646 section 2.1.1): the small letter of an ASCII capital, and any other byte as it stands.
+///
+/// `into_smallcase(b'L')` is `b'l'`, and `into_smallcase(b'[')` is `b'['`.
 #[tactic(auto, unfolding(crate::specs::Case::fold_byte))]
 pub fn into_smallcase(c: u8) -> u8
     ensures { result ≡ fold_byte c }
@@ -15,6 +17,8 @@ pub fn into_smallcase(c: u8) -> u8
 }
 
 /// Whether two texts are equal but for the case of ASCII letters (RFC 5646 section 2.1.1).
+///
+/// `case_insensitive_eq(b"zh-Latn", b"ZH-LATN")` is true.
 #[tactic(auto, unfolding(crate::specs::Case::fold_byte))]
 pub fn case_insensitive_eq(a: &[u8], b: &[u8]) -> bool
     ensures test { result ≡ are_alike a.now b.now }
@@ -23,9 +27,9 @@ pub fn case_insensitive_eq(a: &[u8], b: &[u8]) -> bool
     a.eq_ignore_ascii_case(b)
 }
 
-/// The order of two texts by their folded bytes, the first difference deciding.
+/// The order of two texts by their folded bytes (RFC 5646 section 2.1.1), the first difference deciding.
 ///
-/// A text that ends first is the greater: `zh` comes after `zh-Latn`.
+/// A text that ends first is the greater: `case_insensitive_cmp(b"zh", b"zh-Latn")` is Greater.
 pub fn case_insensitive_cmp(a: &[u8], b: &[u8]) -> Ordering
     ensures order { result ≡ case_cmp a.now b.now }
     ensures ends_first { EndsFirst a.now b.now → result ≡ Ordering.Greater }
@@ -39,7 +43,9 @@ pub fn case_insensitive_cmp(a: &[u8], b: &[u8]) -> Ordering
     b.len().cmp(&a.len())
 }
 
-/// Feeds a hasher the folded bytes in order, one at a time, with no length and no end mark.
+/// Feeds a hasher the folded bytes in order (RFC 5646 section 2.1.1), one at a time, with no length and no end mark.
+///
+/// Of `b"FR"` it is fed `b'f'`, then `b'r'`.
 pub fn case_insensitive_hash<H: Hasher>(bytes: &[u8], hasher: &mut H)
     ensures { hasher.new ≡ fold H.write hasher.old (case_writes bytes.now) }
 {

@@ -50,6 +50,8 @@ fn starts_with_digit(bytes: &[u8]) -> bool
 }
 
 /// Whether the bytes are a primary language subtag (section 2.2.1): two to eight letters.
+///
+/// `is_primary(b"zh")` is true, and `is_primary(b"z")` and `is_primary(b"z4")` are false.
 #[tactic(auto, unfolding(crate::specs::Class::is_primary))]
 pub fn is_primary(bytes: &[u8]) -> bool
     ensures { result ≡ class.is_primary bytes.now }
@@ -58,6 +60,8 @@ pub fn is_primary(bytes: &[u8]) -> bool
 }
 
 /// Whether the bytes are an extended language subtag (section 2.2.2): three letters.
+///
+/// `is_extended(b"min")` is true, and `is_extended(b"419")` is false.
 #[tactic(auto, unfolding(crate::specs::Class::is_extended))]
 pub fn is_extended(bytes: &[u8]) -> bool
     ensures { result ≡ class.is_extended bytes.now }
@@ -66,6 +70,8 @@ pub fn is_extended(bytes: &[u8]) -> bool
 }
 
 /// Whether the bytes are a script subtag (section 2.2.3): four letters.
+///
+/// `is_script(b"Latn")` is true, and `is_script(b"1694")` is false.
 #[tactic(auto, unfolding(crate::specs::Class::is_script))]
 pub fn is_script(bytes: &[u8]) -> bool
     ensures { result ≡ class.is_script bytes.now }
@@ -74,6 +80,8 @@ pub fn is_script(bytes: &[u8]) -> bool
 }
 
 /// Whether the bytes are a region subtag (section 2.2.4): two letters, or three digits.
+///
+/// `is_region(b"FR")` and `is_region(b"419")` are true, and `is_region(b"4F")` is false.
 #[tactic(auto, unfolding(crate::specs::Class::is_region))]
 pub fn is_region(bytes: &[u8]) -> bool
     ensures { result ≡ class.is_region bytes.now }
@@ -83,6 +91,8 @@ pub fn is_region(bytes: &[u8]) -> bool
 
 /// Whether the bytes are a variant subtag (section 2.2.5): five to eight letters and digits, or four of which
 /// the first is a digit.
+///
+/// `is_variant(b"rozaj")` and `is_variant(b"1694")` are true, and `is_variant(b"Latn")` is false.
 #[tactic(auto, unfolding(crate::specs::Class::is_variant))]
 pub fn is_variant(bytes: &[u8]) -> bool
     ensures { result ≡ class.is_variant bytes.now }
@@ -92,6 +102,8 @@ pub fn is_variant(bytes: &[u8]) -> bool
 }
 
 /// Whether the bytes are a subtag of an extension (section 2.2.6): two to eight letters and digits.
+///
+/// `is_extension_subtag(b"co")` is true, and `is_extension_subtag(b"c")` is false.
 #[tactic(auto, unfolding(crate::specs::Class::is_extension_subtag))]
 pub fn is_extension_subtag(bytes: &[u8]) -> bool
     ensures { result ≡ class.is_extension_subtag bytes.now }
@@ -100,6 +112,8 @@ pub fn is_extension_subtag(bytes: &[u8]) -> bool
 }
 
 /// Whether the bytes are a private use subtag (section 2.2.7): one to eight letters and digits.
+///
+/// `is_private_subtag(b"a")` is true, and `is_private_subtag(b"")` is false.
 #[tactic(auto, unfolding(crate::specs::Class::is_private_subtag))]
 pub fn is_private_subtag(bytes: &[u8]) -> bool
     ensures { result ≡ class.is_private_subtag bytes.now }
@@ -108,6 +122,8 @@ pub fn is_private_subtag(bytes: &[u8]) -> bool
 }
 
 /// Whether the byte opens a private use part (section 2.2.7): `x` or `X`.
+///
+/// `is_mark(b'X')` is true, and `is_mark(b'u')` is false.
 #[tactic(auto, unfolding(crate::specs::Class::is_mark))]
 pub fn is_mark(byte: u8) -> bool
     ensures { result ≡ class.is_mark byte }
@@ -117,6 +133,8 @@ pub fn is_mark(byte: u8) -> bool
 
 /// Whether the byte is a singleton (section 2.2.6), which opens an extension: a letter or digit other than `x`
 /// and `X`.
+///
+/// `is_singleton(b'u')` and `is_singleton(b'1')` are true, and `is_singleton(b'X')` is false.
 #[tactic(auto, unfolding(crate::specs::Class::is_singleton))]
 pub fn is_singleton(byte: u8) -> bool
     ensures { result ≡ class.is_singleton byte }

@@ -7,20 +7,20 @@ use crate::stage::Stage;
 /// the start of the text, each one past the last byte (RFC 5646 section 2.1).
 ///
 /// The language begins at 0. Any other part that is there begins one past the end of the part before, after a
-/// hyphen. In `en-Latn-x-a` they are 2, 7, 7, 7, 7 and 11.
+/// hyphen. In `en-Latn-x-a` the ends are 2, 7, 7, 7, 7 and 11, in the order of the fields.
 #[derive(Clone, Copy, Debug, PartialEq, Eq)]
 pub struct Ends {
-    /// The end of the primary language subtag and its extended subtags.
+    /// The end of the primary language subtag and its extended subtags: 6 in `zh-min-Latn`.
     pub language: usize,
-    /// The end of the script.
+    /// The end of the script: 7 in `zh-Hant-TW`, and 2 in `zh-TW`.
     pub script: usize,
-    /// The end of the region.
+    /// The end of the region: 10 in `zh-Hant-TW`, and 7 in `zh-Hant`.
     pub region: usize,
-    /// The end of the last variant.
+    /// The end of the last variant: 14 in `sl-rozaj-biske`, and 2 in `sl`.
     pub variants: usize,
-    /// The end of the last extension.
+    /// The end of the last extension: 10 in `de-u-co-eo-x-a`, and 2 in `de-x-a`.
     pub extensions: usize,
-    /// The length of the text.
+    /// The length of the text, which is the end of the private use part where there is one: 6 in `de-x-a`.
     pub whole: usize,
 }
 

@@ -1,82 +1,52 @@
 //! What a recogniser found.
 ghost use Rattle.std.specs.Prelude.{◌≡◌};
-ghost use Rattle.langtag_scan.specs.Found.{Finding.normal, Finding.private_use, Finding.irregular, is_normal, is_private_use, irregular_index, normal_ends};
-ghost use Rattle.langtag_scan.specs.Findings.{finding};
+ghost use Rattle.langtag_scan.specs.Found.{finding, is_normal, is_private_use, irregular_index, normal_ends};
 
 use crate::ends::Ends;
-
-#[derive(Clone, Copy)]
-enum Kind {
-    Normal(Ends),
-    PrivateUse,
-    Irregular(usize),
-}
+use crate::finding::Finding;
 
 /// What a recogniser found of a text that is a tag (RFC 5646 section 2.1): which of the three kinds it is, with
 /// the ends of the parts of a normal tag, and the index in the table of an irregular one.
 ///
-/// Only the recognisers make one.
+/// Only the recognisers make one. `recognise(&mut Metered::new("x-a"))` is Some of one whose `is_private_use()` is true.
 #[derive(Clone, Copy)]
 pub struct Found {
-    kind: Kind,
+    pub(crate) finding: Finding,
 }
 
 impl Found {
-    pub(crate) fn normal(ends: Ends) -> Self
-        ensures { finding result ≡ normal ends }
-    {
-        Found {
-            kind: Kind::Normal(ends),
-        }
-    }
-
-    pub(crate) fn private_use() -> Self
-        ensures { finding result ≡ private_use }
-    {
-        Found {
-            kind: Kind::PrivateUse,
-        }
-    }
-
-    pub(crate) fn at_irregular(index: usize) -> Self
-        ensures { finding result ≡ irregular index }
-    {
-        Found {
-            kind: Kind::Irregular(index),
-        }
-    }
-
-    /// Whether the text is a normal tag. The regular grandfathered tags are.
+    /// Whether the text is a normal tag. The regular grandfathered tags are: true of `zh-min`, false of `i-lux` and `x-a`.
     pub fn is_normal(&self) -> bool
         ensures { result ≡ is_normal (finding self.now) }
     {
-        matches!(self.kind, Kind::Normal(_))
+        matches!(self.finding, Finding::Normal(_))
     }
 
-    /// Whether the text is a private use tag (section 2.2.7), which has a mark and private use subtags alone.
+    /// Whether the text is a private use tag (section 2.2.7), which has a mark and private use subtags alone: true of
+    /// `x-a`, false of `fr-x-a`.
     pub fn is_private_use(&self) -> bool
         ensures { result ≡ is_private_use (finding self.now) }
     {
-        matches!(self.kind, Kind::PrivateUse)
+        matches!(self.finding, Finding::PrivateUse)
     }
 
     /// The index in the table of an irregular grandfathered tag (section 2.2.8): 0 to 16, in the order in which
-    /// section 2.1 lists them.
+    /// section 2.1 lists them. It is Some(1) of `i-AMI`, and None of `zh-min`, which is regular.
     pub fn irregular(&self) -> Option<usize>
         ensures { result ≡ irregular_index (finding self.now) }
     {
-        match self.kind {
-            Kind::Irregular(index) => Some(index),
+        match self.finding {
+            Finding::Irregular(index) => Some(index),
             _ => None,
         }
     }
 
-    /// The ends of the parts of a normal tag.
+    /// The ends of the parts of a normal tag (section 2.1): of `fr-FR`, language 2 and all others 5. It is None of `x-a`.
     pub fn ends(&self) -> Option<Ends>
         ensures { result ≡ normal_ends (finding self.now) }
     {
-        match self.kind {
-            Kind::Normal(ends) => Some(ends),
+        match self.finding {
+            Finding::Normal(ends) => Some(ends),
             _ => None,
         }
     }

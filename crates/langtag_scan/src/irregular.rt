@@ -2,10 +2,10 @@
 ghost use Rattle.std.specs.Prelude.{◌≡◌, ℕ, ◌-◌, ◌<◌, ◌≤◌, List, [], ◌∷◌, ◌++◌, length, ◌&&◌, nat_le, nat_lt, IsTrue, true, false, MatchOption};
 ghost use Rattle.langtag_scan.specs.Irregular.{folded_at, has_at, matters, is_possible, is_followed};
 ghost use Rattle.langtag_scan.specs.Tag.{IsIrregular};
-ghost use Rattle.langtag_scan.specs.Findings.{finding};
-ghost use Rattle.langtag_scan.specs.Found.{IsFoundOf};
+ghost use Rattle.langtag_scan.specs.Found.{finding, IsFoundOf};
 
 use crate::case::into_smallcase;
+use crate::finding::Finding;
 use crate::found::Found;
 
 /// The irregular texts with small letters. They stand in alphabetical order.
@@ -100,7 +100,9 @@ impl Names {
     {
         // No text of the table begins another, so only the first can be whole.
         if self.low < self.high && folded(self.low).len() == self.len {
-            Some(Found::at_irregular(self.low))
+            Some(Found {
+                finding: Finding::Irregular(self.low),
+            })
         } else {
             None
         }

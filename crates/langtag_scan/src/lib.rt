@@ -2,7 +2,7 @@
 //! the bytes of a source are a tag.
 //!
 //! ```
-//! use langtag_scan::{ByteSource, Metered, recognise};
+//! use langtag_scan::{ByteSource, Metered, recognise, viable_len};
 //!
 //! let mut source = Metered::new("fr-abc-bz-x-a");
 //! let ends = recognise(&mut source)?.ends()?;
@@ -11,6 +11,8 @@
 //! let mut source = Metered::new("i-notexist");
 //! recognise(&mut source);                                // None
 //! source.reads();                                        // 4: no tag begins with `i-no`
+//!
+//! viable_len(b"zh_Hant");                                // 2: no tag begins with `zh_`
 //! ```
 //!
 //! `Caseless` and `Subtags` serve the crates of this workspace that build the text types, and `MeteredBytes` its tests
@@ -20,7 +22,9 @@
 mod case;
 mod caseless;
 mod class;
+mod ended_bytes;
 mod ends;
+mod finding;
 mod found;
 mod irregular;
 mod machine;
@@ -32,8 +36,7 @@ mod shape;
 mod source;
 mod stage;
 mod subtags;
-#[cfg(test)]
-mod tests;
+mod viable;
 
 pub use case::{case_insensitive_cmp, case_insensitive_eq, case_insensitive_hash, into_smallcase};
 pub use caseless::Caseless;
@@ -49,3 +52,4 @@ pub use recogniser::{recognise, recognise_normal};
 pub use segment::{segment_end, segment_start};
 pub use source::ByteSource;
 pub use subtags::Subtags;
+pub use viable::viable_len;

@@ -1,12 +1,12 @@
 //! The machine that reads a text byte by byte and follows normal tags and private ones (RFC 5646 section 2.1).
 ghost use Rattle.std.specs.Prelude.{◌≡◌, ◌∷◌, [], ◌++◌, ◌⊎◌, List, ℕ, IsTrue, false, MatchOption, length};
-ghost use Rattle.langtag_scan.specs.Findings.{finding};
-ghost use Rattle.langtag_scan.specs.Found.{IsFoundOf};
+ghost use Rattle.langtag_scan.specs.Found.{finding, IsFoundOf};
 ghost use Rattle.langtag_scan.specs.Stage.{may_end};
 ghost use Rattle.langtag_scan.specs.Machine.{HasStopped, IsRefused};
 
 use crate::class::{is_digit, is_letter};
 use crate::ends::Ends;
+use crate::finding::Finding;
 use crate::found::Found;
 use crate::shape::Shape;
 use crate::stage::Stage;
@@ -96,10 +96,11 @@ impl Machine {
         ensures { (p : List ℕ) → length p ≡ len → Tracks p self → MatchOption result (IsRefused p) (λ found. IsFoundOf p (finding found)) }
     {
         if self.end_subtag(len) && self.stage.may_end() {
-            Some(match self.reading {
-                Reading::Normal => Found::normal(self.ends),
-                Reading::Private => Found::private_use(),
-            })
+            let finding = match self.reading {
+                Reading::Normal => Finding::Normal(self.ends),
+                Reading::Private => Finding::PrivateUse,
+            };
+            Some(Found { finding })
         } else {
             None
         }

@@ -4,14 +4,15 @@ ghost use Rattle.std.specs.Prelude.{◌≡◌};
 use crate::metered_bytes::MeteredBytes;
 use crate::source::ByteSource;
 
-/// The bytes of a text, with a count of the reads. There is no other way to them.
+/// The bytes of a text, with a count of the reads, to show how much of it is read to recognise a tag (RFC 5646 section
+/// 2.1). There is no other way to them.
 #[derive(Drop)]
 pub struct Metered<'a> {
     source: MeteredBytes<'a>,
 }
 
 impl<'a> Metered<'a> {
-    /// The bytes of a text, of which none was read yet.
+    /// The bytes of a text, of which none was read yet: `Metered::new("fr").reads()` is 0.
     pub fn new(text: &'a str) -> Self
         ensures bytes { ⟦<Metered<'a> as ByteSource>⟧.bytes result ≡ text.now }
         ensures reads { ⟦<Metered<'a> as ByteSource>⟧.reads result ≡ 0 }

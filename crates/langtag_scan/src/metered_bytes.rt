@@ -15,7 +15,7 @@ pub struct MeteredBytes<'a> {
 }
 
 impl<'a> MeteredBytes<'a> {
-    /// The bytes, of which none was read yet.
+    /// The bytes, of which none was read yet: `MeteredBytes::new(b"fr\xFF").len()` is 3.
     pub fn new(bytes: &'a [u8]) -> Self
         ensures bytes { ⟦<MeteredBytes<'a> as ByteSource>⟧.bytes result ≡ bytes.now }
         ensures reads { ⟦<MeteredBytes<'a> as ByteSource>⟧.reads result ≡ 0 }

@@ -3,8 +3,7 @@ ghost use Rattle.std.specs.Prelude.{◌≡◌, ◌↔◌, ◌⊎◌, ℕ, ◌<�
 ghost use Rattle.langtag_scan.specs.Record.{Record, IsWellFormed, spell};
 ghost use Rattle.langtag_scan.specs.Tag.{IsNormal, IsPrivate, IsIrregularAt, IsIrregular, IsTag};
 ghost use Rattle.langtag_scan.specs.Viable.{IsStop, IsViable, IsIrregularPrefix, fill};
-ghost use Rattle.langtag_scan.specs.Findings.{finding};
-ghost use Rattle.langtag_scan.specs.Found.{IsFoundOf, is_normal};
+ghost use Rattle.langtag_scan.specs.Found.{finding, IsFoundOf, is_normal};
 ghost use Rattle.langtag_scan.specs.Names.{Follows, IsGone};
 ghost use Rattle.langtag_scan.specs.Tracking.{Tracks, IsReadTo};
 
@@ -17,14 +16,15 @@ use crate::source::ByteSource;
 /// are none.
 ///
 /// It asks for the bytes in order, each once, up to the first one after which no tag can follow, and takes no
-/// memory. Its contract also has the laws that make its answer the only one, and says which texts begin a tag.
-#[tactic(auto, using(crate::proofs::OneKind::normal_no_private, crate::proofs::OneKind::normal_no_irregular, crate::proofs::OneKind::private_no_irregular, crate::proofs::IrregularNames::irregular_once, crate::proofs::FillLaw::viable_fill))]
+/// memory: `recognise(&mut Metered::new("i-notexist"))` is None after four reads. Its contract also has the laws that
+/// make its answer the only one, and says which texts begin a tag.
 #[inline(always)]
 pub fn recognise<S: ByteSource>(source: &mut S) -> Option<Found>
     requires { S.reads source.old ≤ 2 ^ 126 }
     ensures found { MatchOption result (IsTag (S.bytes source.old) → ⊥) (λ found. IsFoundOf (S.bytes source.old) (finding found)) }
     ensures bytes { S.bytes source.new ≡ S.bytes source.old }
-    ensures reads { (n : ℕ) × IsStop (S.bytes source.old) n × (S.reads source.new ≡ S.reads source.old + n) × (S.reach source.new ≡ max (S.reach source.old) n) }
+    ensures reads { (n : ℕ) × IsStop (S.bytes source.old) n ×
+        (S.reads source.new ≡ S.reads source.old + n) × (S.reach source.new ≡ max (S.reach source.old) n) }
 
     // Laws of these words: a text has one kind, one index and one stop, and a prefix, filled, shows whether it begins a tag.
     ensures normal_not_private { (t : List ℕ) → IsNormal t → IsPrivate t → ⊥ }
@@ -85,6 +85,8 @@ fn read_names<S: ByteSource>(
 
 /// Decides whether the bytes of a source are a normal tag (rule `langtag` of RFC 5646 section 2.1), as
 /// [`recognise`] does. Its contract also has the law that a normal tag has one record of its parts.
+///
+/// `recognise_normal(&mut Metered::new("zh-min"))` is Some, and that of `x-a` and of `i-lux` is None.
 pub fn recognise_normal<S: ByteSource>(source: &mut S) -> Option<Found>
     requires { S.reads source.old ≤ 2 ^ 126 }
     ensures found { MatchOption result (IsNormal (S.bytes source.old) → ⊥) (λ found.

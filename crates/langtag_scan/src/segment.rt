@@ -5,7 +5,7 @@ ghost use Rattle.langtag_scan.specs.Subtags.{NoHyphenWithin};
 
 /// The index of the first hyphen at or after `index`, else the length.
 ///
-/// In `fr-FR` the segment that begins at 3 ends at 5.
+/// `segment_end(b"fr-FR", 0)` is 2, and `segment_end(b"fr-FR", 3)` is 5.
 pub fn segment_end(bytes: &[u8], index: usize) -> usize
     requires { index ≤ length bytes.now }
     ensures at_or_after { index ≤ result }
@@ -22,7 +22,7 @@ pub fn segment_end(bytes: &[u8], index: usize) -> usize
 
 /// One past the last hyphen before `end`, else 0.
 ///
-/// In `fr-FR` the segment that ends at 5 begins at 3, and the one that ends at 2 begins at 0.
+/// `segment_start(b"fr-FR", 5)` is 3, and `segment_start(b"fr-FR", 2)` is 0.
 pub fn segment_start(bytes: &[u8], end: usize) -> usize
     requires { end ≤ length bytes.now }
     ensures within { result ≤ end }

@@ -1,9 +1,10 @@
 //! The walk over the subtags of a text (RFC 5646 section 2.1), from both ends and without a copy.
-ghost use Rattle.std.specs.Prelude.{◌≡◌, ◌++◌, ◌∷◌, List, ℕ, [], Some, All, MatchOption};
+ghost use Rattle.std.specs.Prelude.{◌≡◌, ◌++◌, ◌∷◌, List, ℕ, [], Some, All, MatchOption, ⊤};
 ghost use Rattle.std.specs.Iterator.{YieldsFirstRef, YieldsLastRef, item_count};
 ghost use Rattle.langtag_scan.specs.Subtags.{join, subtags, segments_left, IsHyphenFree};
 
 use crate::segment::{segment_end, segment_start};
+use std::alloc::AllocError;
 use std::marker::Model;
 
 /// The subtags of a text that are still to come, from either end: slices of the text, none of which holds a hyphen.
@@ -22,7 +23,7 @@ impl<'a> Model for Subtags<'a> {
 }
 
 impl<'a> Subtags<'a> {
-    /// All subtags of a text. The empty text has none.
+    /// All subtags of a text. `Subtags::new("fr-FR")` has `fr` and `FR`, and `Subtags::new("")` has none.
     pub fn new(text: &'a str) -> Self
         ensures list { result ≡ subtags text.now }
         ensures joined { join result ≡ text.now }
@@ -34,11 +35,21 @@ impl<'a> Subtags<'a> {
         Subtags { rest: Some(text) }
     }
 
-    /// No subtags.
+    /// No subtags: `Subtags::empty().next()` is None.
     pub fn empty() -> Self
         ensures { result ≡ [] }
     {
         Subtags { rest: None }
+    }
+}
+
+impl Clone for Subtags<'_> {
+    ghost is_clone = { λ walk copy. copy ≡ walk };
+
+    ghost is_infallible = { λ _. ⊤ };
+
+    fn clone(&self) -> Result<Self, AllocError> {
+        Ok(Subtags { rest: self.rest })
     }
 }
 

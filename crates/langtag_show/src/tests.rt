@@ -1,3 +1,20 @@
+//! Tests of the program: what no clause says.
+use crate::run::run;
+use crate::show_error::ShowError;
+use std::alloc::Global;
+use std::io::{Read, Write};
+
+// A call, made again where it fails. `rt try --test --fail-alloc N` has one growth of each test refused: a test that is not
+// about memory looks at the call that met none.
+macro_rules! once_more {
+    ($call:expr) => {
+        match $call {
+            Ok(value) => Ok(value),
+            Err(_) => $call,
+        }
+    };
+}
+
 mod faults;
 mod feed;
 mod hostile;
@@ -18,6 +35,20 @@ const FR_FR: &str =
 
 const DE_CH_1996: &str =
     "normal language=de script= region=CH variants=1996 extensions= private= repeats=no";
+
+/// `run`, made again from the start where it fails.
+fn run_again<R: Read + Copy, W: Write + Copy>(
+    alloc: Global,
+    input: &mut R,
+    output: &mut W,
+) -> Result<(), ShowError> {
+    let (unread, unwritten) = (*input, *output);
+    once_more!({
+        *input = unread;
+        *output = unwritten;
+        run(alloc, input, output)
+    })
+}
 
 /// Whether a text is these lines, each followed by LF.
 fn is_report(text: &[u8], lines: &[&str]) -> bool {

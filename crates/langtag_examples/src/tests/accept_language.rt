@@ -1,7 +1,7 @@
 //! The Accept-Language header (RFC 9110 section 12.5.4).
 use crate::{HeaderError, is_range, tag_for_header, wanted_ranges};
 use langtag::LangTag;
-use std::alloc::Global;
+use std::alloc::{AllocError, Global};
 use std::test::Fail;
 
 #[test]
@@ -29,6 +29,18 @@ fn ranges(rt: HostRuntime) {
     }
 }
 
+/// The ranges of a header and their weights, as text.
+fn shown(alloc: Global, header: &str) -> Result<String, HeaderError<'_>> {
+    let mut text = String::new(alloc);
+    for wanted in wanted_ranges(alloc, header)?.iter() {
+        let range = wanted.range;
+        let weight = wanted.weight;
+        let element = format!(in alloc; "{range} {weight} ")?;
+        text.push_str(element.as_str()).map_err(AllocError::from)?;
+    }
+    Ok(text)
+}
+
 /// The example of section 12.5.4, OWS and empty elements, and how weights are written (section 12.4.2).
 #[test]
 fn headers_that_are_read(rt: HostRuntime) -> Result<(), Fail> {
@@ -49,12 +61,7 @@ fn headers_that_are_read(rt: HostRuntime) -> Result<(), Fail> {
         ),
     ];
     for (header, read) in cases {
-        let mut text = String::new(rt.alloc());
-        for wanted in wanted_ranges(rt.alloc(), header).ok().ok_or(header)?.iter() {
-            let range = wanted.range;
-            let weight = wanted.weight;
-            write!(text, "{range} {weight} ")?;
-        }
+        let text = once_more!(shown(rt.alloc(), header)).ok().ok_or(header)?;
         assert_eq!(rt; text.as_str(), read, "of {header}");
     }
     Ok(())
@@ -89,51 +96,81 @@ fn headers_that_are_refused(rt: HostRuntime) {
         ("de,é", 1),
     ];
     for (text, index) in cases {
-        assert_eq!(rt; bad_element(rt.alloc(), text), Some(index), "of {text}");
+        let refused = once_more!(bad_element(rt.alloc(), text).ok_or(()));
+        assert_eq!(rt; refused, Ok(index), "of {text}");
+    }
+}
+
+/// What a refusal for an element says.
+fn words(alloc: Global) -> Result<String, AllocError> {
+    match wanted_ranges(alloc, "de, e!") {
+        Ok(_) => Ok(String::new(alloc)),
+        Err(HeaderError::Memory(error)) => Err(error),
+        Err(refused) => refused.to_string(alloc),
     }
 }
 
 #[test]
 fn a_refusal_tells_the_element(rt: HostRuntime) -> Result<(), Fail> {
-    let refused = wanted_ranges(rt.alloc(), "de, e!").err().ok_or("read")?;
-    assert_eq!(rt;
-        refused.to_string(rt.alloc())?.as_str(),
-        "element 1 is no language range"
-    );
+    let words = once_more!(words(rt.alloc()))?;
+    assert_eq!(rt; words.as_str(), "element 1 is no language range");
     Ok(())
 }
 
-/// A million bytes: half a million empty elements, ranges of rising weight, one range without an end, and one bad element
-/// at the end.
+/// A text over and over, and then an end.
+fn repeated(alloc: Global, piece: &str, times: usize, end: &str) -> Result<String, AllocError> {
+    let mut text = String::new(alloc);
+    for _ in 0..times {
+        text.push_str(piece)?;
+    }
+    text.push_str(end)?;
+    Ok(text)
+}
+
+/// How many ranges a header has.
+fn count(alloc: Global, header: &str) -> Result<usize, HeaderError<'_>> {
+    Ok(wanted_ranges(alloc, header)?.len())
+}
+
+/// Memory is wanted for the list, and had: for each number of elements, and for headers of each length.
+#[test]
+fn headers_of_each_length(rt: HostRuntime) -> Result<(), Fail> {
+    for times in 0..100 {
+        for (piece, end, elements) in [
+            ("de,", "", times),
+            ("de;q=0.5,", "fr", times + 1),
+            (" ", "de", 1),
+        ] {
+            let header = once_more!(repeated(rt.alloc(), piece, times, end))?;
+            let ranges = once_more!(count(rt.alloc(), header.as_str()));
+            assert_eq!(rt; ranges.ok(), Some(elements), "of {header}");
+        }
+    }
+    Ok(())
+}
+
+/// Up to three million bytes: white space, empty elements, ranges of rising weight, ranges of one weight, one range without an end, and one
+/// bad element at the end.
 #[test]
 fn long_headers(rt: HostRuntime) -> Result<(), Fail> {
     let pieces = [
+        (" ", 3_000_000, 0),
         (",", 1_000_000, 0),
         ("a;q=0.1,b;q=0.9,", 62_500, 125_000),
         ("de,", 333_334, 333_334),
     ];
-    for (piece, times, count) in pieces {
-        let mut header = String::new(rt.alloc());
-        for _ in 0..times {
-            header.push_str(piece)?;
-        }
-        assert!(rt; header.len() >= 1_000_000);
-        {
-            let wanted = wanted_ranges(rt.alloc(), header.as_str());
-            let wanted = wanted.ok().ok_or("refused")?;
-            assert_eq!(rt; wanted.len(), count, "of {piece}");
-        }
-        header.push_str("?")?;
-        assert!(rt; wanted_ranges(rt.alloc(), header.as_str()).is_err());
+    for (piece, times, ranges) in pieces {
+        let header = once_more!(repeated(rt.alloc(), piece, times, ""))?;
+        let counted = once_more!(count(rt.alloc(), header.as_str()));
+        assert_eq!(rt; counted.ok(), Some(ranges), "of {piece}");
+        let header = once_more!(repeated(rt.alloc(), piece, times, "?"))?;
+        assert!(rt; bad_element(rt.alloc(), header.as_str()).is_some());
     }
     for piece in ["a", "a-", " ", "\t;", "0"] {
-        let mut header = String::new(rt.alloc());
-        for _ in 0..1_000_000 {
-            header.push_str(piece)?;
-        }
-        header.push_str("é")?;
-        assert!(rt;
-            wanted_ranges(rt.alloc(), header.as_str()).is_err(),
+        let header = once_more!(repeated(rt.alloc(), piece, 1_000_000, "é"))?;
+        assert_eq!(rt;
+            bad_element(rt.alloc(), header.as_str()),
+            Some(0),
             "of {piece}"
         );
     }
@@ -151,14 +188,14 @@ fn the_tag_for_a_header(rt: HostRuntime) -> Result<(), Fail> {
     let cases = [
         ("fr;q=0.3, DE-ch-1996;q=0.9", "de-CH"),
         ("de, fr;q=0.1", "fr"),
+        ("nl,nl,nl,nl,nl,nl,nl,nl,nl,nl,nl,nl,nl,nl,nl,nl,fr", "fr"),
         ("fr;q=0, nl", "en"),
         ("*", "en"),
         ("", "en"),
     ];
     for (header, tag) in cases {
-        let chosen = tag_for_header(rt.alloc(), header, &tags, english)
-            .ok()
-            .ok_or(header)?;
+        let chosen = once_more!(tag_for_header(rt.alloc(), header, &tags, english));
+        let chosen = chosen.ok().ok_or(header)?;
         assert_eq!(rt; chosen.as_str(), tag, "of {header}");
     }
     assert!(rt; tag_for_header(rt.alloc(), "de;q", &tags, english).is_err());

@@ -1,27 +1,25 @@
 //! The catalogue.
 use crate::Catalogue;
 use langtag::LangTagBuf;
-use std::alloc::Global;
+use std::alloc::{AllocError, Global};
+use std::process::Abort;
 use std::test::Fail;
 
-fn tag(alloc: Global, text: &str) -> Result<LangTagBuf, Fail> {
+fn tag(rt: &impl Abort, alloc: Global, text: &str) -> Result<LangTagBuf, AllocError> {
     let tag = LangTagBuf::new(String::from_str(alloc, text)?);
-    Ok(tag.ok().ok_or("refused")?)
+    Ok(tag.ok().expect(rt, "a tag"))
 }
 
-#[test]
-fn texts_are_found_in_any_case(rt: HostRuntime) -> Result<(), Fail> {
-    let mut catalogue = Catalogue::new(rt.alloc());
+fn are_found_in_any_case(rt: &impl Abort, alloc: Global) -> Result<(), AllocError> {
+    let mut catalogue = Catalogue::new(alloc);
+    assert_eq!(rt; catalogue.find(alloc, "fr")?, None);
     for (language, text) in [
         ("de-CH", "Grüezi"),
         ("fr", "Salut"),
         ("i-klingon", "nuqneH"),
         ("DE-ch", "Hoi"),
     ] {
-        catalogue.put(
-            tag(rt.alloc(), language)?,
-            String::from_str(rt.alloc(), text)?,
-        )?;
+        catalogue.put(tag(rt, alloc, language)?, String::from_str(alloc, text)?)?;
     }
     let cases = [
         ("de-CH", Some("Hoi")),
@@ -35,8 +33,71 @@ fn texts_are_found_in_any_case(rt: HostRuntime) -> Result<(), Fail> {
         ("ÿ", None),
     ];
     for (text, found) in cases {
-        assert_eq!(rt; catalogue.find(rt.alloc(), text)?, found, "of {text}");
+        assert_eq!(rt; catalogue.find(alloc, text)?, found, "of {text}");
     }
-    assert_eq!(rt; catalogue.get(&tag(rt.alloc(), "Fr")?), Some("Salut"));
+    assert_eq!(rt; catalogue.get(&tag(rt, alloc, "Fr")?), Some("Salut"));
+    assert_eq!(rt; catalogue.get(&tag(rt, alloc, "fr-CH")?), None);
+    Ok(())
+}
+
+#[test]
+fn texts_are_found_in_any_case(rt: HostRuntime) -> Result<(), Fail> {
+    once_more!(are_found_in_any_case(&rt, rt.alloc()))?;
+    Ok(())
+}
+
+/// A tag of private use of `len` bytes, three or more.
+fn private_text(alloc: Global, len: usize) -> Result<String, AllocError> {
+    let start = if len % 2 == 1 { "x" } else { "x-aa" };
+    let mut text = String::from_str(alloc, start)?;
+    for _ in 0..len.saturating_sub(start.len()) / 2 {
+        text.push_str("-a")?;
+    }
+    Ok(text)
+}
+
+/// A tag of so many bytes is put in, found and had.
+fn is_kept(rt: &impl Abort, alloc: Global, len: usize) -> Result<(), AllocError> {
+    let text = private_text(alloc, len)?;
+    assert_eq!(rt; text.len(), len);
+    let mut catalogue = Catalogue::new(alloc);
+    let key = tag(rt, alloc, text.as_str())?;
+    catalogue.put(key, text.clone()?)?;
+    let found = catalogue.find(alloc, text.as_str())?;
+    assert_eq!(rt; found, Some(text.as_str()), "of {len} bytes");
+    assert_eq!(rt;
+        catalogue.get(&tag(rt, alloc, text.as_str())?),
+        Some(text.as_str())
+    );
+    Ok(())
+}
+
+// `find` and `put` want memory, and have it at each length.
+#[test]
+fn tags_of_each_length_are_kept(rt: HostRuntime) -> Result<(), Fail> {
+    for len in 3..100 {
+        once_more!(is_kept(&rt, rt.alloc(), len))?;
+    }
+    once_more!(is_kept(&rt, rt.alloc(), 3_000_000))?;
+    Ok(())
+}
+
+/// A thousand tags, each with its own text.
+fn are_kept(rt: &impl Abort, alloc: Global) -> Result<(), AllocError> {
+    let mut catalogue = Catalogue::new(alloc);
+    for number in 0..1000_u32 {
+        let text = format!(in alloc; "x-{number}")?;
+        catalogue.put(tag(rt, alloc, text.as_str())?, text)?;
+    }
+    for number in 0..1000_u32 {
+        let text = format!(in alloc; "x-{number}")?;
+        assert_eq!(rt; catalogue.find(alloc, text.as_str())?, Some(text.as_str()));
+    }
+    Ok(())
+}
+
+#[test]
+fn many_tags_are_kept(rt: HostRuntime) -> Result<(), Fail> {
+    once_more!(are_kept(&rt, rt.alloc()))?;
     Ok(())
 }

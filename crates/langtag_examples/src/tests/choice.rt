@@ -43,9 +43,9 @@ const CASES: [(&str, &str); 20] = [
 #[test]
 fn ranges_are_shortened_from_their_ends(rt: HostRuntime) -> Result<(), Fail> {
     let default = LangTag::new("en").ok().ok_or("refused")?;
-    let mut tags = Vec::new(rt.alloc());
-    for text in TAGS {
-        tags.push(LangTag::new(text).ok().ok_or("refused")?)?;
+    let mut tags = [default; 8];
+    for (tag, text) in tags.iter_mut().zip(TAGS) {
+        *tag = LangTag::new(text).ok().ok_or("refused")?;
     }
     for (range, chosen) in CASES {
         assert_eq!(rt;

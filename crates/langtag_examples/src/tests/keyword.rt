@@ -1,7 +1,21 @@
 //! The keywords of RFC 6067.
 use crate::types_of;
 use langtag::LangTag;
+use std::alloc::{AllocError, Global};
 use std::test::Fail;
+
+/// The types of a key, as text.
+fn shown(alloc: Global, tag: &LangTag<'_>, key: &str) -> Result<String, AllocError> {
+    let Some(types) = types_of(tag, key) else {
+        return String::from_str(alloc, "none");
+    };
+    let mut text = String::new(alloc);
+    for subtag in types {
+        text.push_str(subtag.as_str())?;
+        text.push_str(" ")?;
+    }
+    Ok(text)
+}
 
 #[test]
 fn types_of_a_key(rt: HostRuntime) -> Result<(), Fail> {
@@ -26,15 +40,7 @@ fn types_of_a_key(rt: HostRuntime) -> Result<(), Fail> {
     ];
     for (text, key, types) in cases {
         let tag = LangTag::new(text).ok().ok_or(text)?;
-        let mut found = String::new(rt.alloc());
-        match types_of(&tag, key) {
-            None => found.push_str("none")?,
-            Some(types) => {
-                for subtag in types {
-                    write!(found, "{subtag} ")?;
-                }
-            }
-        }
+        let found = once_more!(shown(rt.alloc(), &tag, key))?;
         assert_eq!(rt; found.as_str(), types, "of {text}");
     }
     Ok(())

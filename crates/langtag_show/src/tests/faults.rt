@@ -1,8 +1,7 @@
 //! A read, a write or the flush that fails.
 use super::feed::Feed;
 use super::sheet::Sheet;
-use super::{FR, FR_FR, is_report};
-use crate::run::run;
+use super::{FR, FR_FR, is_report, run_again};
 use crate::show_error::ShowError;
 use std::io::ErrorKind;
 
@@ -23,7 +22,7 @@ fn a_failing_read_ends_the_run(rt: HostRuntime) {
             let mut input = Feed::failing(text, step, read, kind);
             let mut output = Sheet::new();
             assert_eq!(rt;
-                run(rt.alloc(), &mut input, &mut output),
+                run_again(rt.alloc(), &mut input, &mut output),
                 Err(ShowError::Read)
             );
             assert!(rt; is_report(output.text(), want), "of {text:?}");
@@ -42,7 +41,7 @@ fn a_failing_write_ends_the_run(rt: HostRuntime) {
     ];
     for (mut output, flushes) in rows {
         assert_eq!(rt;
-            run(rt.alloc(), &mut Feed::new(b"fr\n", 3), &mut output),
+            run_again(rt.alloc(), &mut Feed::new(b"fr\n", 3), &mut output),
             Err(ShowError::Write)
         );
         assert_eq!(rt; output.flushes, flushes);
@@ -53,7 +52,7 @@ fn a_failing_write_ends_the_run(rt: HostRuntime) {
 fn an_interrupted_write_is_tried_again(rt: HostRuntime) {
     let mut output = Sheet::failing(1, ErrorKind::Interrupted);
     assert_eq!(rt;
-        run(rt.alloc(), &mut Feed::new(b"fr\n", 3), &mut output),
+        run_again(rt.alloc(), &mut Feed::new(b"fr\n", 3), &mut output),
         Ok(())
     );
     assert!(rt; is_report(output.text(), &[FR]));

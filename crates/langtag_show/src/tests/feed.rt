@@ -2,13 +2,14 @@
 use std::io;
 use std::io::{ErrorKind, Read};
 
-/// Gives a text, and then another one as often as is stated, at most `step` bytes a read. It fails at one read, where
-/// that is stated.
-#[derive(Drop)]
+/// Gives a text, then another one as often as is stated, and then a last one, at most `step` bytes a read. It fails at one
+/// read, where that is stated.
+#[derive(Clone, Copy)]
 pub(crate) struct Feed<'a> {
     rest: &'a [u8],
     again: &'a [u8],
     rounds: u64,
+    last: &'a [u8],
     step: usize,
     fails_at: Option<(u64, ErrorKind)>,
     pub(crate) reads: u64,
@@ -26,6 +27,7 @@ impl<'a> Feed<'a> {
             rest: text,
             again,
             rounds,
+            last: b"",
             step,
             fails_at: None,
             reads: 0,
@@ -38,6 +40,34 @@ impl<'a> Feed<'a> {
         feed.fails_at = Some((read, kind));
         feed
     }
+
+    pub(crate) fn ending(mut self, last: &'a [u8]) -> Feed<'a> {
+        self.last = last;
+        self
+    }
+
+    /// The next bytes, at most so many.
+    pub(crate) fn next_bytes(&mut self, most: usize) -> &'a [u8] {
+        self.turn();
+        let n = most.min(self.rest.len());
+        let (bytes, rest) = self.rest.split_at(n);
+        self.rest = rest;
+        bytes
+    }
+
+    /// Goes on to the next text where the one that it gives has ended.
+    fn turn(&mut self) {
+        if !self.rest.is_empty() {
+            return;
+        }
+        if self.rounds > 0 {
+            self.rounds -= 1;
+            self.rest = self.again;
+        } else {
+            self.rest = self.last;
+            self.last = b"";
+        }
+    }
 }
 
 impl<'a> Read for Feed<'a> {
@@ -48,10 +78,7 @@ impl<'a> Read for Feed<'a> {
         {
             return Err(io::Error::from(kind));
         }
-        if self.rest.is_empty() && self.rounds > 0 {
-            self.rounds -= 1;
-            self.rest = self.again;
-        }
+        self.turn();
         let n = buf.len().min(self.rest.len()).min(self.step);
         buf[..n].copy_from_slice(&self.rest[..n]);
         self.rest = &self.rest[n..];

@@ -8,6 +8,12 @@ use crate::show_error::ShowError;
 use std::alloc::Global;
 use std::process::Abort;
 
+// The input of the stored run.
+const WORKED: &[u8] = b"fr-FR\n\nx-a\ni-ami\nde-CH-1996";
+
+// The answers to its lines.
+const ANSWERS: [&str; 5] = [FR_FR, REFUSED, "private x-a", "irregular i-ami", DE_CH_1996];
+
 // The input that ends in a long line: `fr`, and then `en-x` and 10,000 times `-a` without LF.
 fn long_input() -> Feed<'static> {
     Feed::repeating(b"fr\nen-x", b"-a", 10_000, 7)
@@ -38,20 +44,66 @@ fn leaves_whole_answers(
     }
 }
 
-// These two pass under `rt try --test --fail-alloc N` for each N: each counts the growths of its own run, and the
-// other tests want all their memory.
+// Under `rt try --test --fail-alloc N` these two meet the Nth growth of their own run refused.
 #[test]
 fn a_refused_growth_leaves_whole_answers(rt: HostRuntime) {
-    let input = Feed::new(b"fr-FR\n\nx-a\ni-ami\nde-CH-1996", 100);
     let complete = [FR_FR, REFUSED, "private x-a", "irregular i-ami"];
     let last = ("variants=1996 extensions= private= repeats=no\n", 83);
-    leaves_whole_answers(&rt, rt.alloc(), input, &complete, last);
+    leaves_whole_answers(&rt, rt.alloc(), Feed::new(WORKED, 100), &complete, last);
 }
 
 #[test]
 fn a_refused_growth_of_a_long_line_leaves_whole_answers(rt: HostRuntime) {
     let last = ("-a-a-a repeats=no\n", 20078);
     leaves_whole_answers(&rt, rt.alloc(), long_input(), &[FR], last);
+}
+
+// A run over an allocator that gives no larger block ends so, and leaves these answers. It is made again where it ends
+// otherwise: `--fail-alloc N` may have refused another growth.
+fn ends_so(
+    rt: &impl Abort,
+    heap: Small<Global>,
+    input: Feed<'_>,
+    want: Result<(), ShowError>,
+    answers: &[&str],
+) {
+    let (mut outcome, mut output) = run_on_sheet(heap, input);
+    if outcome != want || !is_report(output.text(), answers) {
+        (outcome, output) = run_on_sheet(heap, input);
+    }
+    assert_eq!(rt; outcome, want);
+    assert!(rt; is_report(output.text(), answers));
+    assert_eq!(rt; output.flushes, u64::from(want.is_ok()));
+}
+
+fn run_on_sheet(heap: Small<Global>, mut input: Feed<'_>) -> (Result<(), ShowError>, Sheet) {
+    let mut output = Sheet::new();
+    (run_in(heap, &mut input, &mut output), output)
+}
+
+// The line that is gathered first has room for 8 bytes, and then for 16: each of the two growths of the worked input is
+// refused in turn, and then none. What needs no growth has no memory at all, and so no room is taken beforehand.
+#[test]
+fn each_growth_is_refused_in_turn(rt: HostRuntime) {
+    let rows: [(&[u8], usize, Result<(), ShowError>, &[&str]); 8] = [
+        (WORKED, 0, Err(ShowError::Memory), &[]),
+        (WORKED, 7, Err(ShowError::Memory), &[]),
+        (WORKED, 8, Err(ShowError::Memory), &ANSWERS[..4]),
+        (WORKED, 15, Err(ShowError::Memory), &ANSWERS[..4]),
+        (WORKED, 16, Ok(()), &ANSWERS),
+        (b"", 0, Ok(()), &[]),
+        (b"\n", 0, Ok(()), &[REFUSED]),
+        (b"\n\n", 0, Ok(()), &[REFUSED, REFUSED]),
+    ];
+    for (text, largest, want, answers) in rows {
+        for step in [1, 3, 100] {
+            let heap = Small {
+                inner: rt.alloc(),
+                largest,
+            };
+            ends_so(&rt, heap, Feed::new(text, step), want, answers);
+        }
+    }
 }
 
 // The line that can't grow is the one that is gathered: all answers before it stand, and nothing else. With the long
@@ -72,17 +124,16 @@ fn the_answers_before_a_refused_growth_stand(rt: HostRuntime) {
         ),
         (long_input(), &[FR]),
     ];
-    for (mut input, want) in rows {
-        let heap = Small { inner: rt.alloc() };
-        let mut output = Sheet::new();
-        let outcome = run_in(heap, &mut input, &mut output);
-        assert_eq!(rt; outcome, Err(ShowError::Memory));
-        assert!(rt; is_report(output.text(), want));
-        assert_eq!(rt; output.flushes, 0);
+    for (input, answers) in rows {
+        let heap = Small {
+            inner: rt.alloc(),
+            largest: 16_384,
+        };
+        ends_so(&rt, heap, input, Err(ShowError::Memory), answers);
     }
 }
 
-// Whole lines, and then a line that is longer than the largest block of `Small`.
+// Whole lines, and then a line that is longer than the largest block of the allocator.
 fn before_a_long_line(lines: &[u8]) -> Feed<'_> {
     Feed::repeating(lines, b"a", 20_000, 100)
 }

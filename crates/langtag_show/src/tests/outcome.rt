@@ -2,6 +2,7 @@
 use super::sheet::Sheet;
 use crate::outcome::conclude;
 use crate::show_error::ShowError;
+use std::io::Write;
 use std::process::ExitCode;
 use std::test::Fail;
 
@@ -27,16 +28,17 @@ fn concludes_each_outcome(rt: HostRuntime) -> Result<(), Fail> {
 
 #[test]
 fn tells_each_fault(rt: HostRuntime) -> Result<(), Fail> {
-    let rows = [
-        (ShowError::Memory, "out of memory", 3, "Memory"),
-        (ShowError::Read, "read failed", 4, "Read"),
-        (ShowError::Write, "write failed", 5, "Write"),
+    let rows: [(ShowError, &str, u8, &[u8]); 3] = [
+        (ShowError::Memory, "out of memory", 3, b"Memory"),
+        (ShowError::Read, "read failed", 4, b"Read"),
+        (ShowError::Write, "write failed", 5, b"Write"),
     ];
     for (error, text, status, debug) in rows {
         assert_eq!(rt; error.text(), text);
         assert_eq!(rt; error.status(), status);
-        let shown = format!(in rt.alloc(); "{error:?}")?;
-        assert_eq!(rt; shown.as_str(), debug);
+        let mut shown = Sheet::new();
+        write!(shown, "{error:?}")?;
+        assert_eq!(rt; shown.text(), debug);
     }
     Ok(())
 }

@@ -1,14 +1,17 @@
-//! What stands in the output at each read.
+//! What stands in the output at each read, and lines of millions of bytes.
 use super::feed::Feed;
-use super::line_feeds;
 use super::small::Small;
-use crate::run::{run, run_in};
+use super::{line_feeds, run_again};
+use crate::run::run_in;
+use crate::show_error::ShowError;
+use std::alloc::Global;
 use std::cell::Cell;
 use std::io;
 use std::io::{ErrorKind, Read, Write};
+use std::process::Abort;
 
 // Gives lines, and notes how many answers they owe. None may be owed at a read.
-#[derive(Drop)]
+#[derive(Clone, Copy)]
 struct Asker<'a> {
     feed: Feed<'a>,
     owed: &'a Cell<u64>,
@@ -27,7 +30,7 @@ impl<'a> Asker<'a> {
 
 impl Read for Asker<'_> {
     fn read(&mut self, buf: &mut [u8]) -> io::Result<usize> {
-        if self.owed.get() > 0 {
+        if self.feed.reads > 0 && self.owed.get() > 0 {
             self.is_late = true;
         }
         let n = self.feed.read(buf)?;
@@ -36,39 +39,33 @@ impl Read for Asker<'_> {
     }
 }
 
-// Takes the same answers again and again, and nothing else.
-#[derive(Drop)]
+// Takes the answers that are wanted, and nothing else.
+#[derive(Clone, Copy)]
 struct Taker<'a> {
-    answers: &'a [u8],
-    rest: &'a [u8],
+    wanted: Feed<'a>,
     owed: &'a Cell<u64>,
-    rounds: u64,
 }
 
 impl<'a> Taker<'a> {
-    fn new(answers: &'a [u8], owed: &'a Cell<u64>) -> Taker<'a> {
-        Taker {
-            answers,
-            rest: answers,
-            owed,
-            rounds: 0,
-        }
+    fn new(wanted: Feed<'a>, owed: &'a Cell<u64>) -> Taker<'a> {
+        Taker { wanted, owed }
+    }
+
+    /// Whether it has taken all that is wanted.
+    fn has_all(mut self) -> bool {
+        self.wanted.next_bytes(1).is_empty()
     }
 }
 
 impl Write for Taker<'_> {
     fn write(&mut self, buf: &[u8]) -> io::Result<usize> {
-        let n = buf.len().min(self.rest.len());
-        if buf[..n] != self.rest[..n] {
+        let wanted = self.wanted.next_bytes(buf.len());
+        let n = wanted.len();
+        if n > buf.len() || &buf[..n] != wanted {
             return Err(io::Error::from(ErrorKind::InvalidData));
         }
         let paid = line_feeds(&buf[..n]);
         self.owed.set(self.owed.get().saturating_sub(paid));
-        self.rest = &self.rest[n..];
-        if self.rest.is_empty() {
-            self.rest = self.answers;
-            self.rounds = self.rounds.saturating_add(1);
-        }
         Ok(n)
     }
 
@@ -84,37 +81,119 @@ const ANSWERS: &[u8] =
 
 const LONG_LINE: &[u8] = b"--------------------------------------------------\n";
 
-// The lines, how often they are given, the bytes of a read, and the answers and how often they are to come.
-type Row<'a> = (&'a [u8], u64, usize, &'a [u8], u64);
-
 // Before each read stand the answers of all lines that were read until then. One row makes over two million reads of
 // one byte each, and one fills the whole buffer.
 #[test]
 fn answers_stand_before_the_next_read(rt: HostRuntime) {
-    let rows: [Row<'_>; 5] = [
+    let rows: [(&[u8], u64, usize, &[u8], u64); 5] = [
         (LINES, 1, 100, ANSWERS, 1),
         (LINES, 10, 2, ANSWERS, 10),
         (LINES, 10, 5, ANSWERS, 10),
         (LONG_LINE, 40_000, 1, b"refused\n", 40_000),
         (&[b'\n'; 10_000], 2, 10_000, b"refused\n", 20_000),
     ];
-    for (lines, rounds, step, answers, want) in rows {
+    for (lines, rounds, step, answer, answers) in rows {
         let owed = Cell::new(0);
         let mut input = Asker::new(Feed::repeating(b"", lines, rounds, step), &owed);
-        let mut output = Taker::new(answers, &owed);
-        assert_eq!(rt; run(rt.alloc(), &mut input, &mut output), Ok(()));
+        let wanted = Feed::repeating(b"", answer, answers, 1);
+        let mut output = Taker::new(wanted, &owed);
+        assert_eq!(rt; run_again(rt.alloc(), &mut input, &mut output), Ok(()));
         assert!(rt; !input.is_late);
-        assert_eq!(rt; (output.rounds, output.rest), (want, answers));
+        assert!(rt; output.has_all());
     }
 }
 
-// 21,000 bytes of short lines, more than the largest block of `Small`.
+// How an input begins and what follows how often, and how its report begins, goes on and ends.
+type Long<'a> = (&'a [u8], &'a [u8], u64, &'a [u8], &'a [u8], u64, &'a [u8]);
+
+const LONG_LINES: [Long<'static>; 2] = [
+    (b"", &[b'a'; 20_000], 150, b"refused", b"", 0, b"\n"),
+    (
+        b"fr\nen-x",
+        b"-a-a-a-a-a-a-a-a-a-a-a-a-a-a-a-a-a-a-a-a",
+        75_000,
+        b"normal language=fr script= region= variants= extensions= private= repeats=no\nnormal language=en script= region= variants= extensions= private=x",
+        b"-a-a-a-a-a-a-a-a-a-a-a-a-a-a-a-a-a-a-a-a",
+        75_000,
+        b" repeats=no\n",
+    ),
+];
+
+const LONG_PARTS: [Long<'static>; 6] = [
+    (b"", &[b'-'; 10_000], 15, b"refused", b"", 0, b"\n"),
+    (b"", &[255; 10_000], 15, b"refused", b"", 0, b"\n"),
+    (b"x", b"-a", 75_000, b"private x", b"-a", 75_000, b"\n"),
+    (
+        b"en-u",
+        b"-aa",
+        50_000,
+        b"normal language=en script= region= variants= extensions=u",
+        b"-aa",
+        50_000,
+        b" private= repeats=no\n",
+    ),
+    (
+        b"en",
+        b"-a-aa",
+        30_000,
+        b"normal language=en script= region= variants= extensions=a-aa",
+        b"-a-aa",
+        29_999,
+        b" private= repeats=yes\n",
+    ),
+    (
+        b"de",
+        b"-1996",
+        30_000,
+        b"normal language=de script= region= variants=1996",
+        b"-1996",
+        29_999,
+        b" extensions= private= repeats=yes\n",
+    ),
+];
+
+fn are_answered(rt: &impl Abort, alloc: Global, rows: &[Long<'_>]) {
+    for (first, again, rounds, start, part, parts, end) in rows {
+        let owed = Cell::new(0);
+        let mut input = Feed::repeating(first, again, *rounds, 20_000);
+        let wanted = Feed::repeating(start, part, *parts, 1).ending(end);
+        let mut output = Taker::new(wanted, &owed);
+        assert_eq!(rt; run_again(alloc, &mut input, &mut output), Ok(()));
+        assert!(rt; output.has_all(), "of {again:?}");
+    }
+}
+
+// Lines of three million bytes.
+#[test]
+fn long_lines_are_answered(rt: HostRuntime) {
+    are_answered(&rt, rt.alloc(), &LONG_LINES);
+}
+
+// Lines and parts of 150,000 bytes: each piece of an answer that can be long is one.
+#[test]
+fn long_parts_are_answered(rt: HostRuntime) {
+    are_answered(&rt, rt.alloc(), &LONG_PARTS);
+}
+
+// Short lines are answered, over an allocator that gives no larger block.
+fn short_lines_in(heap: Small<Global>) -> Result<bool, ShowError> {
+    let owed = Cell::new(0);
+    let wanted = Feed::repeating(b"", ANSWERS, 1_500, 1);
+    let mut output = Taker::new(wanted, &owed);
+    run_in(
+        heap,
+        &mut Feed::repeating(b"", LINES, 1_500, 100),
+        &mut output,
+    )?;
+    Ok(output.has_all())
+}
+
+// 21,000 bytes of short lines, and no block of more than 16 bytes.
 #[test]
 fn short_lines_take_no_large_block(rt: HostRuntime) {
-    let owed = Cell::new(0);
-    let heap = Small { inner: rt.alloc() };
-    let mut input = Feed::repeating(b"", LINES, 1_500, 100);
-    let mut output = Taker::new(ANSWERS, &owed);
-    assert_eq!(rt; run_in(heap, &mut input, &mut output), Ok(()));
-    assert_eq!(rt; output.rounds, 1_500);
+    let heap = Small {
+        inner: rt.alloc(),
+        largest: 16,
+    };
+    assert_eq!(rt; once_more!(short_lines_in(heap)), Ok(true));
 }

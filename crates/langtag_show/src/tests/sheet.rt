@@ -7,7 +7,7 @@ const ROOM: usize = 20_480;
 
 /// Holds what is written in an array, and takes nothing when that is full. It fails at one write, where that is
 /// stated, and at the flush, where it is to.
-#[derive(Drop)]
+#[derive(Clone, Copy)]
 pub(crate) struct Sheet {
     bytes: [u8; ROOM],
     len: usize,

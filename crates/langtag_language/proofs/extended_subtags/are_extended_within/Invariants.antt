@@ -1,5 +1,5 @@
 use Rattle.std.proofs.Common.{◌≡◌}
-use Rattle.langtag_language.specs.Tests.{are_extended_within}
+use Rattle.langtag_language.specs.Decided.{are_extended_within}
 use Rattle.langtag_language.proofs.extended_subtags.are_extended_within.Given as goal
 
 abbrev pub invariant-loop-subtag : goal.invariant-loop-subtag

@@ -3,6 +3,9 @@ use Rattle.langtag_scan.specs.Machine.{HasStopped, IsRefused}
 use Rattle.langtag_scan.specs.Names.{Follows}
 use Rattle.langtag_scan.specs.Tracking.{Tracks}
 use Rattle.langtag_scan.specs.Viable.{IsStop}
+use Rattle.langtag_scan.proofs.FillLaw.{viable_fill}
+use Rattle.langtag_scan.proofs.IrregularNames.{irregular_once}
+use Rattle.langtag_scan.proofs.OneKind.{normal_no_private, normal_no_irregular, private_no_irregular}
 use Rattle.langtag_scan.proofs.RecogniserLaws.{read_next, tracks_whole, whole_refused, whole_follows, found_irregular, dead_prefix, stop_read, viable_tracks}
 use Rattle.langtag_scan.proofs.TagLaws.{no_tag_dead, prefixes_viable, stop_at, stop_whole}
 use Rattle.langtag_scan.proofs.recogniser.recognise.Goals as goal
@@ -79,3 +82,65 @@ returns-in-None-clause-reads g c =
     let t = g.S.ByteSource.bytes c.args.source.now in
     let tracks = tracks_whole t c.loop-index.index c.loop-index.machine (omega arith) c.loop-index.invariant.tracks in
     (length t, stop_whole t (viable_tracks t c.loop-index.machine tracks), omega arith, omega arith)
+
+-- ---- the laws of these words, the same at each return
+
+pub returns-then-not-goes_on-clause-normal_not_private : goal.returns-then-not-goes_on-clause-normal_not_private
+returns-then-not-goes_on-clause-normal_not_private g c = normal_no_private
+
+pub returns-then-not-goes_on-clause-normal_not_irregular : goal.returns-then-not-goes_on-clause-normal_not_irregular
+returns-then-not-goes_on-clause-normal_not_irregular g c = normal_no_irregular
+
+pub returns-then-not-goes_on-clause-private_not_irregular : goal.returns-then-not-goes_on-clause-private_not_irregular
+returns-then-not-goes_on-clause-private_not_irregular g c = private_no_irregular
+
+pub returns-then-not-goes_on-clause-one_index : goal.returns-then-not-goes_on-clause-one_index
+returns-then-not-goes_on-clause-one_index g c = irregular_once
+
+pub returns-then-not-goes_on-clause-viable : goal.returns-then-not-goes_on-clause-viable
+returns-then-not-goes_on-clause-viable g c = viable_fill
+
+pub returns-then-not-step-clause-normal_not_private : goal.returns-then-not-step-clause-normal_not_private
+returns-then-not-step-clause-normal_not_private g c = normal_no_private
+
+pub returns-then-not-step-clause-normal_not_irregular : goal.returns-then-not-step-clause-normal_not_irregular
+returns-then-not-step-clause-normal_not_irregular g c = normal_no_irregular
+
+pub returns-then-not-step-clause-private_not_irregular : goal.returns-then-not-step-clause-private_not_irregular
+returns-then-not-step-clause-private_not_irregular g c = private_no_irregular
+
+pub returns-then-not-step-clause-one_index : goal.returns-then-not-step-clause-one_index
+returns-then-not-step-clause-one_index g c = irregular_once
+
+pub returns-then-not-step-clause-viable : goal.returns-then-not-step-clause-viable
+returns-then-not-step-clause-viable g c = viable_fill
+
+pub returns-in-Some-clause-normal_not_private : goal.returns-in-Some-clause-normal_not_private
+returns-in-Some-clause-normal_not_private g c = normal_no_private
+
+pub returns-in-Some-clause-normal_not_irregular : goal.returns-in-Some-clause-normal_not_irregular
+returns-in-Some-clause-normal_not_irregular g c = normal_no_irregular
+
+pub returns-in-Some-clause-private_not_irregular : goal.returns-in-Some-clause-private_not_irregular
+returns-in-Some-clause-private_not_irregular g c = private_no_irregular
+
+pub returns-in-Some-clause-one_index : goal.returns-in-Some-clause-one_index
+returns-in-Some-clause-one_index g c = irregular_once
+
+pub returns-in-Some-clause-viable : goal.returns-in-Some-clause-viable
+returns-in-Some-clause-viable g c = viable_fill
+
+pub returns-in-None-clause-normal_not_private : goal.returns-in-None-clause-normal_not_private
+returns-in-None-clause-normal_not_private g c = normal_no_private
+
+pub returns-in-None-clause-normal_not_irregular : goal.returns-in-None-clause-normal_not_irregular
+returns-in-None-clause-normal_not_irregular g c = normal_no_irregular
+
+pub returns-in-None-clause-private_not_irregular : goal.returns-in-None-clause-private_not_irregular
+returns-in-None-clause-private_not_irregular g c = private_no_irregular
+
+pub returns-in-None-clause-one_index : goal.returns-in-None-clause-one_index
+returns-in-None-clause-one_index g c = irregular_once
+
+pub returns-in-None-clause-viable : goal.returns-in-None-clause-viable
+returns-in-None-clause-viable g c = viable_fill

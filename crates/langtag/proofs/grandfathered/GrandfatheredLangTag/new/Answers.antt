@@ -1,7 +1,7 @@
 use Rattle.std.proofs.Common.{refl, sym}
 use Rattle.langtag.specs.Registered.{IsGrandfathered}
 use Rattle.langtag.proofs.OrderLaws.{tags_compare}
-use Rattle.langtag.proofs.RegisteredLaws.{one_index, first_alike_found, none_alike}
+use Rattle.langtag.proofs.RegisteredLaws.{one_index, grandfathered_tag, first_alike_found, none_alike}
 use Rattle.langtag.proofs.grandfathered.GrandfatheredLangTag.new.Goals as goal
 
 pub returns-in-Some-clause-accepts : goal.returns-in-Some-clause-accepts
@@ -25,3 +25,9 @@ returns-in-Some-clause-by_index c = tags_compare
 
 pub returns-in-None-clause-by_index : goal.returns-in-None-clause-by_index
 returns-in-None-clause-by_index c = tags_compare
+
+pub returns-in-Some-clause-are_tags : goal.returns-in-Some-clause-are_tags
+returns-in-Some-clause-are_tags c = grandfathered_tag
+
+pub returns-in-None-clause-are_tags : goal.returns-in-None-clause-are_tags
+returns-in-None-clause-are_tags c = grandfathered_tag

@@ -13,7 +13,7 @@ returns-then-folded-self c =
     λ p whole follows.
     let followed = follows.possible names.low within ∙ in_range names.low names.high names.low (omega arith) c.if-self.true in
     let long = sym (ap length c.folded.ensures) ∙ c.if-folded-self.true ∙ sym whole in
-    rw c.at_irregular.ensures (irregular_from_length p names.low within (followed_possible names.len p names.low followed) long)
+    irregular_from_length p names.low within (followed_possible names.len p names.low followed) long
 
 pub returns-else-self : goal.returns-else-self
 returns-else-self c =

@@ -1,0 +1,37 @@
+-- What a block of variants keeps. Contracts of private functions alone speak of it.
+use Rattle.std.specs.Prelude.{◌≡◌, ℕ, ◌+◌, ◌*◌, ◌<◌, ◌≤◌, Bool, false, ◌==◌, List, fold, map, take, drop, length, slice_index, slice_index_or, [], Option, None, Some}
+use Rattle.std.specs.List.{list_any}
+use Rattle.std.specs.List.Sorted.{IsPermutation}
+use Rattle.langtag_scan.specs.Case.{fold_byte, are_alike}
+use Rattle.langtag.specs.Repeat.{repeat}
+
+-- the folded bytes of a text as the digits of a number in base 256
+abbrev pub folded_number : List ℕ → ℕ
+folded_number text = fold (λ number byte. number * 256 + fold_byte byte) 0 text
+
+-- no text before an index is alike an earlier one
+abbrev pub HasNoRepeatBefore : ℕ → List (List ℕ) → Type 0
+HasNoRepeatBefore end texts = (i : ℕ) → i < end → list_any (are_alike (slice_index_or texts i [])) (take i texts) ≡ false
+
+-- this is the first repeat of the texts; or there is none before an index
+abbrev pub IsRepeatBefore : ℕ → List (List ℕ) → Option (List ℕ) → Type 0
+IsRepeatBefore end texts None = HasNoRepeatBefore end texts
+IsRepeatBefore end texts (Some text) = Some text ≡ repeat are_alike texts
+
+-- a block has, in order, the numbers of as many texts from a start on
+abbrev pub HoldsFrom : ℕ → List (List ℕ) → List ℕ → Type 0
+HoldsFrom start texts block = IsPermutation (map folded_number (take (length block) (drop start texts))) block
+
+-- where a number stands in a block, or would: those before the place are less, and the others are not
+pub record IsPlaceOf (block : List ℕ) (number place : ℕ) : Type 0 where
+  pub within : place ≤ length block
+  pub below : (k : ℕ) → k < place → slice_index block k < number
+  pub above : (k : ℕ) → place ≤ k → k < length block → number ≤ slice_index block k
+
+-- the first place at which a number stands
+abbrev pub IsFirstPlace : List ℕ → ℕ → Type 0
+IsFirstPlace block place = (place < length block) × ((k : ℕ) → k < place → slice_index block k < slice_index block place)
+
+-- the flag at the first place of each number of a block says whether it is among these numbers
+abbrev pub AreMet : List ℕ → List Bool → List ℕ → Type 0
+AreMet block met numbers = (place : ℕ) → IsFirstPlace block place → slice_index_or met place false ≡ list_any (λ other. other == slice_index block place) numbers

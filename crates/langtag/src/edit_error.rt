@@ -1,0 +1,25 @@
+//! Why a tag could not be edited.
+ghost use Rattle.std.specs.Prelude.{◌≡◌};
+ghost use Rattle.langtag.specs.declared.edit_error.EditError.TheVariants.{Memory};
+
+use std::alloc::AllocError;
+use thiserror::Error;
+
+/// Why a part was not put into a tag, or taken out of it. The tag is as it was.
+#[derive(Clone, Copy, Debug, PartialEq, Eq, Error)]
+pub enum EditError {
+    /// The tag is no normal one, and has no parts (RFC 5646 section 2.1): `x-a` and `i-klingon` are refused so.
+    #[error("not a normal language tag")]
+    NotNormal,
+    /// No memory could be had.
+    #[error("out of memory")]
+    Memory(AllocError),
+}
+
+impl From<AllocError> for EditError {
+    ghost from_gives = { λ error refusal. refusal ≡ Memory error };
+
+    fn from(error: AllocError) -> Self {
+        EditError::Memory(error)
+    }
+}

@@ -1,0 +1,114 @@
+//! The first repeated variant of very many: they are gone over a block at a time.
+ghost use Rattle.std.specs.Prelude.{◌≡◌, ◌==◌, ◌&&◌, ◌+◌, ◌≤◌, ℕ, List, [], ◌∷◌, ◌++◌, length, take, drop, map};
+ghost use Rattle.std.specs.List.{list_any};
+ghost use Rattle.std.specs.List.Sorted.{IsNonDecreasing, IsPermutation};
+ghost use Rattle.std.specs.Option.{option_map};
+ghost use Rattle.langtag_scan.specs.Case.{are_alike};
+ghost use Rattle.langtag_scan.specs.Subtags.{subtags};
+ghost use Rattle.langtag_place.specs.Text.{variant_text, variants_text, variants_left};
+ghost use Rattle.langtag.specs.Repeat.{repeat};
+ghost use Rattle.langtag.specs.VariantBlocks.{folded_number, HasNoRepeatBefore, IsRepeatBefore, HoldsFrom, IsPlaceOf, AreMet};
+
+use langtag_place::{Variant, Variants, VariantsIter};
+use langtag_scan::into_smallcase;
+use std::mem;
+
+/// How many variants a block has, but for the last one. Each takes nine bytes of the stack, which are 72 kB together.
+const BLOCK: usize = 8192;
+
+/// The first of these variants that is equal, but for case, to an earlier one.
+///
+/// The variants are gone over once for each block of them. What is kept of a block are its numbers in order, and which of them
+/// were met, so that each variant is looked up in few steps, whatever their order.
+// Not inlined: the stack that it takes is not taken for a few variants.
+#[inline(never)]
+pub(crate) fn first_repeated_of_many<'a>(variants: Variants<'a>) -> Option<Variant<'a>>
+    ensures { option_map variant_text result ≡ repeat are_alike (subtags (variants_text variants.entry)) }
+{
+    let mut numbers = [0; BLOCK];
+    let mut rest = variants.iter();
+    let count = variants.iter().count();
+    let mut start = 0;
+    while start < count {
+        let size = BLOCK.min(count - start);
+        let block = &mut numbers[..size];
+        fill(block, &mut rest);
+        block.sort_unstable();
+        let repeated = first_met_again(block, variants, start);
+        if repeated.is_some() {
+            return repeated;
+        }
+        start += size;
+    }
+    None
+}
+
+/// Fills a block with the numbers of the next variants.
+fn fill(block: &mut [u64], rest: &mut VariantsIter<'_>)
+    requires { length block.old ≤ length (variants_left rest.old) }
+    ensures filled { block.new ≡ map folded_number (take (length block.old) (variants_left rest.old)) }
+    ensures left { variants_left rest.new ≡ drop (length block.old) (variants_left rest.old) }
+{
+    for number in block.iter_mut() {
+        if let Some(variant) = rest.next() {
+            *number = folded_number(variant);
+        }
+    }
+}
+
+/// The first variant up to the end of a block that is equal, but for case, to an earlier one. The block has, in order, the
+/// numbers of the variants from the index `start` on; none of those before them is.
+fn first_met_again<'a>(block: &[u64], variants: Variants<'a>, start: usize) -> Option<Variant<'a>>
+    requires room { length block.now ≤ BLOCK }
+    requires within { start + length block.now ≤ length (subtags (variants_text variants)) }
+    requires new { HasNoRepeatBefore start (subtags (variants_text variants)) }
+    requires rises { IsNonDecreasing block.now }
+    requires from_start { HoldsFrom start (subtags (variants_text variants)) block.now }
+    ensures { IsRepeatBefore (start + length block.now) (subtags (variants_text variants.entry)) (option_map variant_text result) }
+{
+    let mut met = [false; BLOCK];
+    for (index, variant) in variants.iter().enumerate() {
+        if index == start + block.len() {
+            break;
+        }
+        if meet(block, &mut met, folded_number(variant)) {
+            return Some(variant);
+        }
+    }
+    None
+}
+
+/// Whether a number of a block was met before. From now on it was. Where it stands twice, its first place counts.
+fn meet(block: &[u64], met: &mut [bool], number: u64) -> bool
+    requires room { length block.now ≤ length met.old }
+    requires rises { IsNonDecreasing block.now }
+    ensures room { length met.new ≡ length met.old }
+    ensures met { (numbers : List ℕ) → AreMet block.now met.old numbers → AreMet block.now met.new (numbers ++ number ∷ []) }
+    ensures again { (numbers : List ℕ) → AreMet block.now met.old numbers
+        → result ≡ (list_any (λ other. other == number) block.now && list_any (λ other. other == number) numbers) }
+{
+    let place = place_of(number, block);
+    if place == block.len() || block[place] != number {
+        return false;
+    }
+    mem::replace(&mut met[place], true)
+}
+
+/// Where a number stands in a block first, or would stand.
+fn place_of(number: u64, block: &[u64]) -> usize
+    requires { IsNonDecreasing block.now }
+    ensures { IsPlaceOf block.now number result }
+{
+    block.partition_point(|other| *other < number)
+}
+
+/// The folded bytes of a variant as the digits of one number. A variant has eight at most.
+fn folded_number(variant: Variant<'_>) -> u64
+    ensures { result ≡ folded_number (variant_text variant.entry) }
+{
+    let mut number = 0;
+    for byte in variant.as_bytes() {
+        number = number * 256 + u64::from(into_smallcase(*byte));
+    }
+    number
+}

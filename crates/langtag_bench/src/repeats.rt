@@ -1,0 +1,37 @@
+//! The first repeated variant of a normal tag.
+ghost use Rattle.std.specs.Prelude.{◌≡◌, ◌↔◌, IsTrue, length};
+ghost use Rattle.std.specs.Option.{option_map_or};
+ghost use Rattle.langtag_scan.specs.Case.{are_alike};
+ghost use Rattle.langtag_scan.specs.Record.{EachRecord};
+ghost use Rattle.langtag_scan.specs.Tag.{IsNormal};
+ghost use Rattle.langtag.specs.Repeat.{repeat};
+
+use langtag::NormalLangTag;
+
+/// Whether the bytes are UTF-8 and a normal tag, which is all that is done before its repeated variant is asked for.
+#[unsafe(no_mangle)]
+pub extern "C" fn langtag_bench_normal_lang_tag(bytes: &[u8]) -> bool
+    ensures { IsTrue result ↔ IsNormal bytes.now }
+{
+    let Ok(text) = str::from_utf8(bytes) else {
+        return false;
+    };
+    NormalLangTag::new(text).is_ok()
+}
+
+/// The length of the first variant of a normal tag that repeats an earlier one; 0 where none does.
+#[unsafe(no_mangle)]
+pub extern "C" fn langtag_bench_repeated_variant(bytes: &[u8]) -> usize
+    ensures { EachRecord bytes.now (λ r. result ≡ option_map_or length (repeat are_alike r.variants) 0) }
+{
+    let Ok(text) = str::from_utf8(bytes) else {
+        return 0;
+    };
+    let Ok(tag) = NormalLangTag::new(text) else {
+        return 0;
+    };
+    match tag.repeated_variant() {
+        Some(variant) => variant.as_str().len(),
+        None => 0,
+    }
+}

@@ -1,0 +1,51 @@
+//! Counts by language tag, in the order of the tags.
+ghost use Rattle.std.specs.Prelude.{◌≡◌, ℕ, List, Some, None, OnOk, OnErr, IsTrue, false};
+ghost use Rattle.langtag.specs.Case.{are_alike};
+ghost use Rattle.langtag.specs.Text.{lang_tag_buf_text};
+ghost use Rattle.langtag.specs.declared.lang_tag_buf.LangTagBuf.{LangTagBuf};
+
+use langtag::LangTagBuf;
+use std::alloc::{AllocError, Global};
+use std::collections::BTreeMap;
+
+/// How often each of some language tags was seen, in whatever case it was written.
+#[derive(Drop)]
+pub struct Counts {
+    counts: BTreeMap<LangTagBuf, u32>,
+}
+
+impl Counts {
+    ghost use Rattle.langtag_examples.specs.Counts.{count_for};
+
+    /// No counts.
+    pub fn new(alloc: Global) -> Self
+        ensures { (tag : List ℕ) → count_for result tag ≡ None }
+    {
+        Counts {
+            counts: BTreeMap::new(alloc),
+        }
+    }
+
+    /// Sets the count of a tag: after `de-CH` with 3 and `DE-ch` with 5, that of `de-ch` is 5.
+    ///
+    /// # Errors
+    ///
+    /// No memory could be had. The counts are as they were.
+    pub fn put(&mut self, tag: LangTagBuf, count: u32) -> Result<(), AllocError>
+        ensures put { OnOk result ((other : List ℕ) → IsTrue (are_alike (lang_tag_buf_text tag) other) →
+            count_for self.new other ≡ Some count) }
+        ensures others { OnOk result ((other : LangTagBuf) → are_alike (lang_tag_buf_text tag) (lang_tag_buf_text other) ≡ false →
+            count_for self.new (lang_tag_buf_text other) ≡ count_for self.old (lang_tag_buf_text other)) }
+        ensures unchanged { OnErr result ((other : List ℕ) → count_for self.new other ≡ count_for self.old other) }
+    {
+        self.counts.insert(tag, count)?;
+        Ok(())
+    }
+
+    /// The count of a tag, in any case; None of a tag that was not seen.
+    pub fn get(&self, tag: &LangTagBuf) -> Option<u32>
+        ensures { result ≡ count_for self.now (lang_tag_buf_text tag.now) }
+    {
+        self.counts.get(tag).copied()
+    }
+}

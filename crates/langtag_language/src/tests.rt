@@ -1,5 +1,0 @@
-mod callers;
-mod extended_lang_tag;
-mod language;
-mod language_extension;
-mod primary_language;

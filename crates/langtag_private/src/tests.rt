@@ -1,3 +1,0 @@
-mod callers;
-mod private_use;
-mod private_use_subtag;

@@ -1,0 +1,9 @@
+//! Tests of the types of a tag's parts.
+mod callers;
+mod extensions;
+mod languages;
+mod long;
+mod private_use;
+mod singleton;
+mod text_types;
+mod variants;

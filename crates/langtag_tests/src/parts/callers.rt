@@ -1,0 +1,92 @@
+//! The types as a caller uses them: refusals handed on by `?`, `.ok()?`, and closures over slices of values.
+use crate::support::with_memory;
+use langtag_language::{ExtendedLangTag, InvalidLanguage, Language, LanguageBuf};
+use langtag_place::{InvalidVariants, Region, Variants, VariantsBuf};
+use langtag_private::{InvalidPrivateUse, PrivateUse, PrivateUseBuf};
+
+/// A language and how many extended subtags it has, or its text again.
+fn counted<'a>(text: &'a str) -> Result<(Language<'a>, usize), InvalidLanguage<&'a str>> {
+    let language = Language::new(text)?;
+    Ok((language, language.extension_subtags().count()))
+}
+
+fn first<'a>(text: &'a str) -> Option<ExtendedLangTag<'a>> {
+    Language::new(text).ok()?.extension()?.iter().next()
+}
+
+fn variants_of(text: &str) -> Result<Variants<'_>, InvalidVariants<&str>> {
+    let variants = Variants::new(text)?;
+    Ok(variants)
+}
+
+fn region_text(text: &str) -> Option<&str> {
+    let region = Region::new(text).ok()?;
+    Some(region.as_str())
+}
+
+fn owned_again(owned: LanguageBuf) -> Result<LanguageBuf, InvalidLanguage<String>> {
+    let again = LanguageBuf::new(owned.into_string())?;
+    Ok(again)
+}
+
+fn variants_again(text: String) -> Option<String> {
+    let variants = VariantsBuf::new(text).ok()?;
+    Some(variants.into_string())
+}
+
+fn owned_private(text: String) -> Result<PrivateUseBuf, InvalidPrivateUse<String>> {
+    let part = PrivateUseBuf::new(text)?;
+    Ok(part)
+}
+
+#[test]
+fn refusals_are_handed_on(rt: HostRuntime) {
+    assert_eq!(rt; counted("zh-min-nan").expect(&rt, "refused").1, 2);
+    assert_eq!(rt; counted("zh-").expect_err(&rt, "accepted").0, "zh-");
+    assert_eq!(rt; first("zh-min-nan").expect(&rt, "none").as_str(), "min");
+    assert!(rt; first("zh").is_none() && first("zh-").is_none());
+    assert_eq!(rt;
+        variants_of("rozaj-1994").expect(&rt, "refused").as_str(),
+        "rozaj-1994"
+    );
+    assert_eq!(rt; variants_of("1994-").expect_err(&rt, "accepted").0, "1994-");
+    assert_eq!(rt; region_text("419"), Some("419"));
+    assert_eq!(rt; region_text("4a9"), None);
+}
+
+#[test]
+fn owned_texts_are_handed_on(rt: HostRuntime) {
+    with_memory(&rt, || {
+        let owned = LanguageBuf::new(String::from_str(rt.alloc(), "zh-min")?);
+        let again = owned_again(owned.expect(&rt, "refused")).expect(&rt, "refused");
+        assert_eq!(rt; again.as_str(), "zh-min");
+        let again = variants_again(String::from_str(rt.alloc(), "rozaj-1994")?);
+        assert_eq!(rt; again.expect(&rt, "refused").as_str(), "rozaj-1994");
+        let refused = owned_private(String::from_str(rt.alloc(), "x-")?);
+        assert_eq!(rt; refused.expect_err(&rt, "accepted").0.as_str(), "x-");
+        Ok(())
+    });
+}
+
+#[test]
+fn values_are_chosen_by_a_closure(rt: HostRuntime) {
+    let short = Language::new("zh").expect(&rt, "refused");
+    let long = Language::new("zh-min-nan").expect(&rt, "refused");
+    let languages = [short, long];
+    let mut extended = languages
+        .iter()
+        .filter(|language| language.extension().is_some());
+    assert!(rt; extended.next().copied() == Some(long));
+    let most = languages
+        .iter()
+        .map(|language| language.extension_subtags().count())
+        .max();
+    assert_eq!(rt; most, Some(2));
+    assert!(rt; long.extension_subtags().any(|subtag| subtag.eq_str("NAN")));
+    assert_eq!(rt;
+        languages.iter().position(|language| *language == long),
+        Some(1)
+    );
+    let part = PrivateUse::new("x-twain-a").expect(&rt, "refused");
+    assert!(rt; part.iter().any(|subtag| subtag.eq_str("TWAIN")));
+}

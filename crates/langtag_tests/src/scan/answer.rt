@@ -1,0 +1,87 @@
+//! What a recogniser answers, in a form that compares.
+use langtag_scan::{ByteSource, Ends, Found, Metered, MeteredBytes, recognise, recognise_normal};
+use std::process::Abort;
+
+/// The answer of a recogniser.
+#[derive(Clone, Copy, Debug, PartialEq)]
+pub(crate) enum Answer {
+    Refused,
+    Normal(Ends),
+    PrivateUse,
+    Irregular(usize),
+    /// Not exactly one of the three kinds, or not with the ends that go with it.
+    Torn,
+}
+
+impl Answer {
+    pub(crate) fn of(answer: Option<Found>) -> Self {
+        let Some(found) = answer else {
+            return Answer::Refused;
+        };
+        match (
+            found.is_normal(),
+            found.is_private_use(),
+            found.irregular(),
+            found.ends(),
+        ) {
+            (true, false, None, Some(ends)) => Answer::Normal(ends),
+            (false, true, None, None) => Answer::PrivateUse,
+            (false, false, Some(index), None) => Answer::Irregular(index),
+            _ => Answer::Torn,
+        }
+    }
+
+    /// The same of `recognise_normal`, which refuses all but normal tags.
+    pub(crate) fn if_normal(self) -> Self {
+        match self {
+            Answer::Normal(_) => self,
+            _ => Answer::Refused,
+        }
+    }
+}
+
+/// The answer of `recognise` on a text, and how many bytes it read, of which the last was the furthest.
+pub(crate) fn of_text(rt: &impl Abort, text: &str) -> (Answer, usize) {
+    let mut source = Metered::new(text);
+    let found = recognise(&mut source);
+    assert_eq!(rt; source.reads(), source.reach() as u128, "reading {text}");
+    (Answer::of(found), source.reach())
+}
+
+/// The answer of `recognise` on bytes, and how many of them it read, of which the last was the furthest.
+pub(crate) fn of_bytes(rt: &impl Abort, bytes: &[u8]) -> (Answer, usize) {
+    let mut source = MeteredBytes::new(bytes);
+    let found = recognise(&mut source);
+    assert_eq!(rt; source.reads(), source.reach() as u128, "reading {bytes:?}");
+    (Answer::of(found), source.reach())
+}
+
+/// The answer of `recognise_normal` on a text, which reads no byte twice.
+pub(crate) fn of_normal(rt: &impl Abort, text: &str) -> Answer {
+    let mut source = Metered::new(text);
+    let found = recognise_normal(&mut source);
+    assert!(rt; source.reads() <= text.len() as u128, "reading {text}");
+    Answer::of(found)
+}
+
+/// The text, and after it one byte again and again.
+pub(crate) fn followed(text: &str, tail: u8) -> [u8; 160] {
+    let mut bytes = [tail; 160];
+    for (to, from) in bytes.iter_mut().zip(text.as_bytes()) {
+        *to = *from;
+    }
+    bytes
+}
+
+/// The text with each letter in the other case, and underscores after it.
+pub(crate) fn case_swapped(text: &str) -> [u8; 160] {
+    let mut bytes = [b'_'; 160];
+    for (to, from) in bytes.iter_mut().zip(text.as_bytes()) {
+        *to = if from.is_ascii_lowercase() {
+            from.to_ascii_uppercase()
+        } else {
+            from.to_ascii_lowercase()
+        };
+    }
+    bytes
+}

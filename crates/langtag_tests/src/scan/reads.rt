@@ -1,0 +1,122 @@
+//! What the recognisers answer, after how many bytes, and where the parts of normal tags stand.
+use crate::scan::answer::{Answer, case_swapped, of_bytes, of_normal, of_text};
+use crate::scan::rows::{self, Row};
+use crate::scan::source::PrivateSubtags;
+use langtag_scan::{ByteSource, Ends, Metered, recognise, recognise_normal};
+use std::process::Abort;
+use std::test::Fail;
+
+fn are_decided(rt: &impl Abort, rows: &[Row]) {
+    for row in rows {
+        let text = row.text;
+        assert_eq!(rt; of_text(rt, text), (row.answer, row.reads), "at {text}");
+        assert_eq!(rt; of_normal(rt, text), row.answer.if_normal(), "at {text}");
+        assert!(rt; text.len() <= 160);
+        let swapped = of_bytes(rt, &case_swapped(text)[..text.len()]);
+        assert_eq!(rt;
+            swapped,
+            (row.answer, row.reads),
+            "at {text} in the other case"
+        );
+    }
+}
+
+#[test]
+fn texts_are_decided_by_so_many_bytes(rt: HostRuntime) {
+    for rows in rows::all() {
+        are_decided(&rt, rows);
+    }
+}
+
+/// The text of a part that ends here, the part before ending at `before`; where they are the same there is none.
+fn part(text: &str, before: usize, end: usize) -> Option<&str> {
+    if before < end {
+        text.get(before + 1..end)
+    } else {
+        Some("")
+    }
+}
+
+/// The parts that stand between the ends; "past the end" where there is no such text.
+fn parts_between(text: &'static str, ends: Ends) -> [&'static str; 6] {
+    [
+        text.get(..ends.language),
+        part(text, ends.language, ends.script),
+        part(text, ends.script, ends.region),
+        part(text, ends.region, ends.variants),
+        part(text, ends.variants, ends.extensions),
+        part(text, ends.extensions, ends.whole),
+    ]
+    .map(|part| part.unwrap_or("past the end"))
+}
+
+fn have_parts_between_the_ends(rt: &impl Abort, rows: &[Row]) {
+    for row in rows {
+        if let Answer::Normal(ends) = row.answer {
+            assert!(rt;
+                parts_between(row.text, ends) == row.parts,
+                "in {}",
+                row.text
+            );
+        }
+    }
+}
+
+#[test]
+fn parts_stand_between_the_ends(rt: HostRuntime) {
+    for rows in rows::normal_tags() {
+        have_parts_between_the_ends(&rt, rows);
+    }
+}
+
+#[test]
+fn debug_shows_each_end(rt: HostRuntime) -> Result<(), Fail> {
+    let ends = recognise(&mut Metered::new("fr-abc-nice-bz-e-foo"))
+        .and_then(|found| found.ends())
+        .ok_or("refused")?;
+    let shown = format!(in rt.alloc(); "{ends:?}")?;
+    assert_eq!(rt;
+        shown.as_str(),
+        "Ends { language: 6, script: 11, region: 14, variants: 14, extensions: 20, whole: 20 }"
+    );
+    Ok(())
+}
+
+#[test]
+fn a_source_that_was_read_before(rt: HostRuntime) {
+    for (text, last, reads, reach) in [
+        ("fr-FR", 3, 10, 5),
+        ("i-notexist", 8, 9, 9),
+        ("i-klingon-x", 10, 15, 11),
+    ] {
+        let mut source = Metered::new(text);
+        for _ in 0..5 {
+            assert!(rt; last < source.len() && source.reads() < 5, "at {text}");
+            source.byte(last);
+        }
+        assert_eq!(rt; source.reads(), 5, "at {text}");
+        let found = recognise(&mut source);
+        assert_eq!(rt; found.is_some(), text == "fr-FR", "at {text}");
+        assert_eq!(rt; source.reads(), reads, "at {text}");
+        assert_eq!(rt; source.reach(), reach, "at {text}");
+    }
+}
+
+#[test]
+fn ten_thousand_private_subtags(rt: HostRuntime) {
+    let want = Answer::Normal(Ends {
+        language: 2,
+        script: 2,
+        region: 2,
+        variants: 2,
+        extensions: 2,
+        whole: 20_004,
+    });
+    let mut source = PrivateSubtags::new(10_000);
+    assert_eq!(rt; Answer::of(recognise(&mut source)), want);
+    assert_eq!(rt; source.reads(), 20_004);
+    assert_eq!(rt; source.reach(), 20_004);
+    let mut source = PrivateSubtags::new(10_000);
+    assert_eq!(rt; Answer::of(recognise_normal(&mut source)), want);
+    assert!(rt; source.reads() <= 20_004);
+}

@@ -1,0 +1,59 @@
+//! The walk over subtags (RFC 5646 section 2.1).
+use langtag_scan::Subtags;
+use std::alloc::Global;
+use std::test::Fail;
+
+/// What a walk gives: at most `first` subtags from the front, a `>` after each, and then all others from the back, a
+/// `<` before each.
+fn walked(alloc: Global, text: &str, first: u8) -> Result<String, Fail> {
+    let mut walk = Subtags::new(text);
+    let mut out = String::new(alloc);
+    for _ in 0..first {
+        if let Some(subtag) = walk.next() {
+            out.push_str(subtag)?;
+            out.push_str(">")?;
+        }
+    }
+    for subtag in walk.rev() {
+        out.push_str("<")?;
+        out.push_str(subtag)?;
+    }
+    Ok(out)
+}
+
+#[test]
+fn walks_from_both_ends(rt: HostRuntime) -> Result<(), Fail> {
+    for (text, first, want) in [
+        ("zh-cmn-Hans-CN", 0, "<CN<Hans<cmn<zh"),
+        ("zh-cmn-Hans-CN", 2, "zh>cmn><CN<Hans"),
+        ("zh-cmn-Hans-CN", 9, "zh>cmn>Hans>CN>"),
+        ("zh", 0, "<zh"),
+        ("zh", 1, "zh>"),
+        ("", 1, ""),
+        ("-", 1, "><"),
+        ("-", 0, "<<"),
+        ("a--b-", 9, "a>>b>>"),
+        ("a--b-", 0, "<<b<<a"),
+        ("-a", 1, "><a"),
+    ] {
+        let found = walked(rt.alloc(), text, first)?;
+        assert_eq!(rt;
+            found.as_str(),
+            want,
+            "walking {text} with {first} from the front"
+        );
+    }
+    Ok(())
+}
+
+#[test]
+fn ends_for_good(rt: HostRuntime) {
+    let mut walk = Subtags::new("x-a");
+    assert_eq!(rt; walk.next_back(), Some("a"));
+    assert_eq!(rt; walk.next(), Some("x"));
+    assert!(rt; walk.next_back().is_none());
+    assert!(rt; walk.next().is_none());
+    let mut none = Subtags::empty();
+    assert!(rt; none.next().is_none());
+    assert!(rt; none.next_back().is_none());
+}

@@ -1,0 +1,183 @@
+//! The types of tags as their callers use them.
+use crate::support::with_memory;
+use langtag::{
+    GrandfatheredLangTag, InvalidGrandfatheredTag, InvalidLangTag, InvalidNormalLangTag, Kind,
+    LangTag, LangTagBuf, NormalLangTag, NormalLangTagBuf, Region, TypedLangTag,
+};
+use std::alloc::{AllocError, Global};
+use std::collections::{BTreeMap, HashMap};
+use std::convert::TryFrom;
+use std::process::Abort;
+
+/// The kind of a tag, or its text again.
+fn kind_of<'a>(text: &'a str) -> Result<Kind, InvalidLangTag<&'a str>> {
+    let tag = LangTag::new(text)?;
+    Ok(tag.kind())
+}
+
+/// A normal tag and how long it is, or its text again.
+fn measured<'a>(
+    text: &'a str,
+) -> Result<(NormalLangTag<'a>, usize), InvalidNormalLangTag<&'a str>> {
+    let tag = NormalLangTag::new(text)?;
+    Ok((tag, tag.as_str().len()))
+}
+
+fn region<'a>(text: &'a str) -> Option<Region<'a>> {
+    NormalLangTag::new(text).ok()?.region()
+}
+
+fn region_text<'a>(text: &'a str) -> Option<&'a str> {
+    let region = LangTag::new(text).ok()?.region()?;
+    Some(region.as_str())
+}
+
+fn owned_again(owned: LangTagBuf) -> Result<LangTagBuf, InvalidLangTag<String>> {
+    let again = LangTagBuf::new(owned.into_string())?;
+    Ok(again)
+}
+
+fn owned_normal_again(
+    owned: NormalLangTagBuf,
+) -> Result<NormalLangTagBuf, InvalidNormalLangTag<String>> {
+    let again = NormalLangTagBuf::new(owned.into_string())?;
+    Ok(again)
+}
+
+/// The registered spelling of a grandfathered tag, or its bytes again.
+fn registered<'a>(
+    bytes: &'a [u8],
+) -> Result<GrandfatheredLangTag, InvalidGrandfatheredTag<&'a [u8]>> {
+    let tag = GrandfatheredLangTag::try_from(bytes)?;
+    Ok(tag)
+}
+
+/// The first private use subtag, by a match over the types of tags.
+fn first_private<'a>(tag: &TypedLangTag<'a>) -> Option<&'a str> {
+    let first = match tag {
+        TypedLangTag::Normal(tag) => tag.private_use_subtags().next()?,
+        TypedLangTag::PrivateUse(tag) => tag.iter().next()?,
+        TypedLangTag::Grandfathered(_) => return None,
+    };
+    Some(first.as_str())
+}
+
+fn tag<'a>(rt: &impl Abort, text: &'a str) -> LangTag<'a> {
+    LangTag::new(text).ok().expect(rt, "refused")
+}
+
+#[test]
+fn refusals_are_handed_on(rt: HostRuntime) {
+    assert_eq!(rt; kind_of("x-a").ok(), Some(Kind::PrivateUse));
+    assert_eq!(rt;
+        kind_of("ab--ab").err().map(|refused| refused.0),
+        Some("ab--ab")
+    );
+    assert_eq!(rt; measured("fr-FR").ok().map(|(_, len)| len), Some(5));
+    assert_eq!(rt; measured("x-a").err().map(|refused| refused.0), Some("x-a"));
+    assert_eq!(rt; region("fr-FR").map(|region| region.as_str()), Some("FR"));
+    assert!(rt; region("fr").is_none() && region("x-FR").is_none());
+    assert_eq!(rt; region_text("fr-FR"), Some("FR"));
+    assert!(rt; region_text("x-FR").is_none());
+    let found = registered(b"I-AMI".as_slice()).ok();
+    assert_eq!(rt; found.map(|tag| tag.as_str().len()), Some(5));
+    assert!(rt; registered(b"fr".as_slice()).is_err());
+}
+
+#[test]
+fn owned_tags_are_handed_on(rt: HostRuntime) {
+    with_memory(&rt, || {
+        let owned = tag(&rt, "i-ami").try_to_owned(rt.alloc())?;
+        let again = owned_again(owned).ok().expect(&rt, "refused");
+        assert_eq!(rt; again.as_str(), "i-ami");
+        let normal = tag(&rt, "fr-FR").as_normal().expect(&rt, "not normal");
+        let owned = normal.try_to_owned(rt.alloc())?;
+        let again = owned_normal_again(owned).ok().expect(&rt, "refused");
+        assert_eq!(rt; again.as_str(), "fr-FR");
+        Ok(())
+    });
+}
+
+#[test]
+fn tags_are_chosen_by_a_closure(rt: HostRuntime) {
+    with_memory(&rt, || {
+        let chinese = tag(&rt, "zh-min");
+        let private_use = tag(&rt, "x-a-b");
+        let klingon = tag(&rt, "i-klingon");
+        let tags = [chinese, private_use, klingon];
+        assert_eq!(rt; tags.iter().filter(|tag| tag.is_grandfathered()).count(), 2);
+        let place = tags.iter().position(|tag| tag.kind().is_private_use());
+        assert_eq!(rt; place, Some(1));
+        assert!(rt; tags.iter().all(|tag| tag.private_use().is_none()));
+        let owned = [
+            chinese.try_to_owned(rt.alloc())?,
+            klingon.try_to_owned(rt.alloc())?,
+        ];
+        let place = owned.iter().position(|tag| tag.as_lang_tag() == klingon);
+        assert_eq!(rt; place, Some(1));
+        assert_eq!(rt; first_private(&private_use.as_typed()), Some("a"));
+        assert!(rt; first_private(&chinese.as_typed()).is_none());
+        assert!(rt; first_private(&klingon.as_typed()).is_none());
+        Ok(())
+    });
+}
+
+#[test]
+fn normal_tags_are_chosen_by_a_closure(rt: HostRuntime) {
+    with_memory(&rt, || {
+        let french = tag(&rt, "fr-FR").as_normal().expect(&rt, "not normal");
+        let german = tag(&rt, "de-1996").as_normal().expect(&rt, "not normal");
+        let tags = [french, german];
+        assert_eq!(rt; tags.iter().filter(|tag| tag.region().is_some()).count(), 1);
+        assert!(rt; tags.iter().any(|tag| tag.language().eq_str("DE")));
+        let owned = [
+            french.try_to_owned(rt.alloc())?,
+            german.try_to_owned(rt.alloc())?,
+        ];
+        let place = owned
+            .iter()
+            .position(|tag| tag.as_normal_lang_tag() == german);
+        assert_eq!(rt; place, Some(1));
+        Ok(())
+    });
+}
+
+#[test]
+fn owned_tags_are_keys(rt: HostRuntime) {
+    with_memory(&rt, || {
+        let mut tags = HashMap::new(rt.alloc());
+        tags.insert(tag(&rt, "zh-Latn").try_to_owned(rt.alloc())?, 7)?;
+        let capital = tag(&rt, "ZH-LATN").try_to_owned(rt.alloc())?;
+        assert_eq!(rt; tags.get(&capital).copied(), Some(7));
+        let mut ordered = BTreeMap::new(rt.alloc());
+        ordered.insert(capital, 8)?;
+        for text in ["zh", "x-Latn"] {
+            let other = tag(&rt, text).try_to_owned(rt.alloc())?;
+            assert!(rt; ordered.get(&other).is_none() && tags.get(&other).is_none());
+        }
+        Ok(())
+    });
+}
+
+#[test]
+fn kinds_and_grandfathered_tags_are_keys(rt: HostRuntime) {
+    with_memory(&rt, || {
+        let mut kinds = HashMap::new(rt.alloc());
+        let mut tags = BTreeMap::new(rt.alloc());
+        for text in ["fr", "zh-min", "i-ami"] {
+            let tag = tag(&rt, text);
+            kinds.insert(tag.kind(), text)?;
+            if let Some(tag) = tag.as_grandfathered() {
+                tags.insert(tag, text)?;
+            }
+        }
+        assert_eq!(rt; kinds.get(&Kind::Normal).copied(), Some("zh-min"));
+        assert!(rt; kinds.get(&Kind::PrivateUse).is_none());
+        assert_eq!(rt;
+            tags.get(&GrandfatheredLangTag::ZhMin).copied(),
+            Some("zh-min")
+        );
+        assert_eq!(rt; tags.len(), 2);
+        Ok(())
+    });
+}

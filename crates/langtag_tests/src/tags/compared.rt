@@ -1,0 +1,114 @@
+//! How tags of every kind and normal ones are shown, kept and compared (RFC 5646 section 2.1.1).
+use crate::scan::case::Calls;
+use crate::support::{assert_compared, text_type, with_memory};
+use langtag::{Kind, LangTag, LangTagBuf, NormalLangTag, NormalLangTagBuf};
+use std::alloc::AllocError;
+use std::cmp::Ordering;
+use std::hash::Hash;
+use std::process::Abort;
+
+#[test]
+fn tags(rt: HostRuntime) {
+    text_type!(
+        rt,
+        LangTag,
+        LangTagBuf,
+        as_lang_tag,
+        "invalid language tag",
+        [
+            "fr",
+            "AaBbCcDd",
+            "en-GB",
+            "zh-Latn",
+            "de-001-1996-0-00-x-0-1",
+            "x-0",
+            "x-Fr",
+            "X-fR",
+            "I-kLINgon",
+            "sgn-BE-FR"
+        ],
+        ["", "i-no", "ab--ab", "x", "zh-x-Üńìcødê"]
+    );
+}
+
+#[test]
+fn normal_tags(rt: HostRuntime) {
+    text_type!(
+        rt,
+        NormalLangTag,
+        NormalLangTagBuf,
+        as_normal_lang_tag,
+        "invalid normal language tag",
+        [
+            "fr",
+            "fR-fr",
+            "AaBbCcDd",
+            "en-GB",
+            "zh-Latn",
+            "zh-min-nan",
+            "de-001-1996-0-00-x-0-1"
+        ],
+        ["", "x-a", "i-ami", "ab--ab", "en-GB-oed", "zh-x-Üńìcødê"]
+    );
+}
+
+/// Two tags and how they are ordered.
+const PAIRS: [(&str, &str, Ordering); 7] = [
+    ("dE-AraB-lY", "DE-aRaB-LY", Ordering::Equal),
+    ("fr-FR", "Fr-fr", Ordering::Equal),
+    ("x-fr-CH", "X-FR-ch", Ordering::Equal),
+    ("I-kLINgon", "i-KLINGON", Ordering::Equal),
+    ("zh", "zh-Latn", Ordering::Greater),
+    ("i-ami", "x-a", Ordering::Less),
+    ("fr-BE", "FR-ca", Ordering::Less),
+];
+
+#[test]
+fn tags_are_ordered_without_regard_to_case(rt: HostRuntime) {
+    for (text, other, order) in PAIRS {
+        let tag = LangTag::new(text).ok().expect(&rt, "refused");
+        let others = LangTag::new(other).ok().expect(&rt, "refused");
+        assert_eq!(rt; tag.cmp(&others), order, "of {text}");
+        assert_eq!(rt; tag.eq_str(other), order == Ordering::Equal, "of {text}");
+        assert_compared(&rt, (&tag, &others), (text, other));
+        if let (Some(tag), Some(others)) = (tag.as_normal(), others.as_normal()) {
+            assert_eq!(rt; tag.cmp(&others), order, "of {text}");
+            assert_compared(&rt, (&tag, &others), (text, other));
+        }
+    }
+}
+
+/// What a value feeds a hasher is each byte of `de-arab-ly` in a call of its own.
+fn feeds_small_letters(rt: &impl Abort, value: &impl Hash) {
+    let mut calls = Calls(0);
+    value.hash(&mut calls);
+    assert_eq!(rt; calls.0, 0x164_165_12d_161_172_161_162_12d_16c_179);
+}
+
+#[test]
+fn tags_feed_their_small_letters(rt: HostRuntime) {
+    with_memory(&rt, || {
+        for text in ["dE-AraB-lY", "DE-aRaB-LY"] {
+            let tag = LangTag::new(text).ok().expect(&rt, "refused");
+            feeds_small_letters(&rt, &tag);
+            feeds_small_letters(&rt, &tag.try_to_owned(rt.alloc())?);
+            let tag = tag.as_normal().expect(&rt, "none");
+            feeds_small_letters(&rt, &tag);
+            feeds_small_letters(&rt, &tag.try_to_owned(rt.alloc())?);
+        }
+        Ok(())
+    });
+}
+
+#[test]
+fn kinds_are_shown_and_ordered(rt: HostRuntime) {
+    with_memory(&rt, || {
+        let shown = format!(in rt.alloc();
+            "{:?}",
+            [Kind::Normal, Kind::PrivateUse, Kind::Grandfathered]
+        )?;
+        assert_eq!(rt; shown.as_str(), "[Normal, PrivateUse, Grandfathered]");
+        assert!(rt; Kind::Normal < Kind::PrivateUse && Kind::PrivateUse < Kind::Grandfathered);
+        Ok(())
+    });
+}

@@ -1,0 +1,178 @@
+//! Texts of two million bytes: no call may need a stack that grows with its text, or more than linear time.
+use crate::scan::answer::{Answer, of_text};
+use crate::support::with_memory;
+use crate::tags::parts::normal;
+use crate::tags::setters::{WAYS, is_set_and_set_back};
+use crate::tags::sweeps::{is_shown_and_copied, is_shown_and_copied_as_normal};
+use langtag::{
+    LangTag, NormalLangTag, case_insensitive_eq, is_extension_subtag, is_primary,
+    is_private_subtag, is_variant, segment_end, segment_start,
+};
+use std::alloc::{AllocError, Global};
+use std::process::Abort;
+
+/// A text, and after it a piece so many times.
+fn repeated(alloc: Global, text: &str, piece: &str, count: u32) -> Result<String, AllocError> {
+    let mut long = String::from_str(alloc, text)?;
+    for _ in 0..count {
+        long.push_str(piece)?;
+    }
+    Ok(long)
+}
+
+/// A normal tag of a text and a piece so many times after it, which makes so many variants, extensions and private use
+/// subtags.
+fn is_normal(
+    rt: &impl Abort,
+    alloc: Global,
+    (text, piece, count): (&str, &str, u32),
+    counts: [usize; 3],
+) -> Result<(), AllocError> {
+    let long = repeated(alloc, text, piece, count)?;
+    let (answer, reads) = of_text(rt, long.as_str());
+    assert!(rt; answer.if_normal() != Answer::Refused, "at {text}");
+    assert_eq!(rt; reads, long.len(), "at {text}");
+    let tag = LangTag::new(long.as_str()).ok().expect(rt, "refused");
+    assert_eq!(rt; tag.variants().iter().count(), counts[0], "at {text}");
+    assert_eq!(rt; tag.variants().iter().rev().count(), counts[0], "at {text}");
+    assert_eq!(rt; tag.extensions().iter().count(), counts[1], "at {text}");
+    assert_eq!(rt; tag.private_use_subtags().count(), counts[2], "at {text}");
+    let tag = normal(rt, long.as_str());
+    assert!(rt;
+        tag.eq_str(long.as_str()) && tag == normal(rt, long.as_str()),
+        "at {text}"
+    );
+    assert_eq!(rt;
+        tag.repeated_variant().is_some(),
+        counts[0] > 1,
+        "at {text}"
+    );
+    assert_eq!(rt;
+        tag.repeated_singleton().is_some(),
+        counts[1] > 1,
+        "at {text}"
+    );
+    Ok(())
+}
+
+#[test]
+fn variants(rt: HostRuntime) {
+    with_memory(
+        &rt,
+        || is_normal(&rt, rt.alloc(), ("en", "-1996", 400_000), [400_000, 0, 0]),
+    );
+}
+
+#[test]
+fn one_extension(rt: HostRuntime) {
+    with_memory(
+        &rt,
+        || is_normal(&rt, rt.alloc(), ("en-a", "-bb", 700_000), [0, 1, 0]),
+    );
+}
+
+#[test]
+fn extensions(rt: HostRuntime) {
+    with_memory(
+        &rt,
+        || is_normal(&rt, rt.alloc(), ("en", "-a-bb", 400_000), [0, 400_000, 0]),
+    );
+}
+
+#[test]
+fn private_use_subtags(rt: HostRuntime) {
+    with_memory(
+        &rt,
+        || is_normal(
+            &rt,
+            rt.alloc(),
+            ("en-x", "-a", 1_000_000),
+            [0, 0, 1_000_000],
+        ),
+    );
+}
+
+#[test]
+fn copies_and_setters(rt: HostRuntime) {
+    with_memory(&rt, || {
+        for (text, piece) in [
+            ("en-x", "-a"),
+            ("en", "-rozaj"),
+            ("en", "-a-bb"),
+            ("fr-abc-Latn-FR-a", "-bb"),
+        ] {
+            let long = repeated(rt.alloc(), text, piece, 10_000)?;
+            let tag = LangTag::new(long.as_str()).ok().expect(&rt, "refused");
+            is_shown_and_copied(&rt, rt.alloc(), &tag, long.as_str())?;
+            let tag = normal(&rt, long.as_str());
+            is_shown_and_copied_as_normal(&rt, rt.alloc(), &tag, long.as_str())?;
+            is_set_and_set_back(&rt, rt.alloc(), long.as_str(), &WAYS)?;
+        }
+        Ok(())
+    });
+}
+
+#[test]
+fn a_private_use_tag(rt: HostRuntime) {
+    with_memory(&rt, || {
+        let long = repeated(rt.alloc(), "x", "-a", 1_000_000)?;
+        let text = long.as_str();
+        assert!(rt; of_text(&rt, text) == (Answer::PrivateUse, text.len()));
+        let tag = LangTag::new(text).ok().expect(&rt, "refused");
+        let private_use = tag.as_private_use().expect(&rt, "none");
+        assert_eq!(rt; private_use.iter().count(), 1_000_000);
+        assert!(rt; tag.language().is_none() && tag.private_use().is_none());
+        assert!(rt; NormalLangTag::new(text).is_err());
+        is_shown_and_copied(&rt, rt.alloc(), &tag, text)
+    });
+}
+
+/// What a text that is no tag begins with, what follows it a million times, and how many bytes decide it.
+const REFUSED: [(&str, &str, usize); 9] = [
+    ("", "a", 9),
+    ("x-", "a", 11),
+    ("en-x-", "a", 14),
+    ("en-a-", "b", 14),
+    ("en-", "a", 12),
+    ("en-1996-", "0", 17),
+    ("", "-", 1),
+    ("en", "-", 4),
+    ("en-x", "--", 6),
+];
+
+#[test]
+fn texts_that_are_no_tags(rt: HostRuntime) {
+    with_memory(&rt, || {
+        for (text, piece, reads) in REFUSED {
+            let long = repeated(rt.alloc(), text, piece, 1_000_000)?;
+            assert!(rt;
+                of_text(&rt, long.as_str()) == (Answer::Refused, reads),
+                "at {text}"
+            );
+            let refused = LangTag::new(long.as_str()).err().expect(&rt, "accepted");
+            assert_eq!(rt; refused.0.len(), long.len(), "at {text}");
+            let refused = NormalLangTag::new(long.as_str())
+                .err()
+                .expect(&rt, "accepted");
+            assert_eq!(rt; refused.0.len(), long.len(), "at {text}");
+        }
+        Ok(())
+    });
+}
+
+#[test]
+fn bytes_without_a_hyphen(rt: HostRuntime) {
+    with_memory(&rt, || {
+        let long = repeated(rt.alloc(), "", "a", 1_000_000)?;
+        let bytes = long.as_bytes();
+        let is_subtag = is_primary(bytes)
+            || is_variant(bytes)
+            || is_extension_subtag(bytes)
+            || is_private_subtag(bytes);
+        assert!(rt; !is_subtag);
+        assert_eq!(rt; segment_end(bytes, 0), bytes.len());
+        assert_eq!(rt; segment_start(bytes, bytes.len()), 0);
+        assert!(rt; case_insensitive_eq(bytes, bytes));
+        Ok(())
+    });
+}

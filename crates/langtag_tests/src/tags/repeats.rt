@@ -1,0 +1,138 @@
+//! Variants and singletons that stand in a tag twice (RFC 5646 sections 2.2.5, 2.2.6 and 2.2.9).
+use crate::scan::rows::{self, Row};
+use crate::support::with_memory;
+use crate::tags::parts::normal;
+use langtag::NormalLangTag;
+use std::alloc::{AllocError, Global};
+use std::process::Abort;
+
+/// The variant that stands in a tag twice, in the letters of the later one; empty where none does.
+fn repeated_variant<'a>(tag: &NormalLangTag<'a>) -> &'a str {
+    tag.repeated_variant()
+        .map_or("", |variant| variant.as_str())
+}
+
+fn tell_the_later_one(rt: &impl Abort, rows: &[Row]) {
+    for row in rows {
+        let [variant, singleton] = row.repeated;
+        let tag = normal(rt, row.text);
+        assert_eq!(rt; repeated_variant(&tag), variant, "of {}", row.text);
+        let repeated = tag.repeated_singleton().map(|singleton| singleton.unwrap());
+        assert_eq!(rt;
+            repeated,
+            singleton.as_bytes().first().copied(),
+            "of {}",
+            row.text
+        );
+    }
+}
+
+#[test]
+fn the_later_one_of_two_is_told(rt: HostRuntime) {
+    for rows in rows::normal_tags() {
+        tell_the_later_one(&rt, rows);
+    }
+}
+
+/// A tag of so many variants, `a0000`, `a0001` .., of which each has five bytes and a hyphen before it.
+fn with_variants(alloc: Global, count: u16) -> Result<String, AllocError> {
+    let mut text = String::from_str(alloc, "en")?;
+    for index in 0..count {
+        text.push_str(format!(in alloc; "-a{index:04}")?.as_str())?;
+    }
+    Ok(text)
+}
+
+/// The first variants of such a tag, with others at some indices.
+fn with_others(
+    rt: &impl Abort,
+    alloc: Global,
+    text: &str,
+    (count, others): (u16, &[(u16, &str)]),
+) -> Result<String, AllocError> {
+    let mut changed = String::new(alloc);
+    let mut end: usize = 0;
+    for &(index, variant) in others {
+        let start = 3 + 6 * usize::from(index);
+        changed.push_str(text.get(end..start).expect(rt, "past the end"))?;
+        changed.push_str(variant)?;
+        end = start + 5;
+    }
+    changed.push_str(
+        text.get(end..2 + 6 * usize::from(count))
+            .expect(rt, "past the end"),
+    )?;
+    Ok(changed)
+}
+
+/// How many variants a tag has, which of them are others, and the one that stands twice.
+type Variants = (u16, &'static [(u16, &'static str)], &'static str);
+
+fn are_repeated(rt: &impl Abort, alloc: Global, cases: &[Variants]) -> Result<(), AllocError> {
+    let variants = with_variants(alloc, 8_300)?;
+    for &(count, others, repeated) in cases {
+        let text = with_others(rt, alloc, variants.as_str(), (count, others))?;
+        let tag = normal(rt, text.as_str());
+        assert_eq!(rt; tag.variants().iter().count(), usize::from(count));
+        assert_eq!(rt; repeated_variant(&tag), repeated, "of {count}");
+    }
+    Ok(())
+}
+
+const FEW: [Variants; 10] = [
+    (1, &[], ""),
+    (16, &[], ""),
+    (16, &[(15, "A0000")], "A0000"),
+    (17, &[], ""),
+    (17, &[(16, "A0000")], "A0000"),
+    (17, &[(16, "A0015")], "A0015"),
+    (18, &[(17, "A0016")], "A0016"),
+    (40, &[(39, "a0020")], "a0020"),
+    (40, &[(38, "A0037"), (39, "A0020")], "A0037"),
+    (40, &[(39, "b0020")], ""),
+];
+
+/// Past one block of 4,096, and past two.
+const MANY: [Variants; 12] = [
+    (4_096, &[], ""),
+    (4_096, &[(4_095, "A0000")], "A0000"),
+    (4_097, &[(4_096, "A0000")], "A0000"),
+    (4_098, &[(4_097, "A4096")], "A4096"),
+    (8_300, &[], ""),
+    (8_300, &[(4_000, "A0005")], "A0005"),
+    (8_300, &[(5_000, "A0005")], "A0005"),
+    (8_300, &[(8_299, "a4500")], "a4500"),
+    (8_300, &[(8_299, "A8298")], "A8298"),
+    (8_300, &[(8_000, "A5000"), (8_250, "A0010")], "A5000"),
+    (8_300, &[(8_000, "A0010"), (8_250, "A5000")], "A0010"),
+    (
+        8_300,
+        &[(7_000, "B6999"), (8_000, "A5000"), (8_250, "A0010")],
+        "A5000",
+    ),
+];
+
+#[test]
+fn a_repeat_among_few_variants(rt: HostRuntime) {
+    with_memory(&rt, || are_repeated(&rt, rt.alloc(), &FEW));
+}
+
+#[test]
+fn a_repeat_among_many_variants(rt: HostRuntime) {
+    with_memory(&rt, || are_repeated(&rt, rt.alloc(), &MANY));
+}
+
+#[test]
+fn a_repeat_after_all_singletons(rt: HostRuntime) {
+    with_memory(&rt, || {
+        let mut text = String::from_str(rt.alloc(), "en")?;
+        for letter in "0123456789abcdefghijklmnopqrstuvwyz".chars() {
+            text.push_str(format!(in rt.alloc(); "-{letter}-aa")?.as_str())?;
+        }
+        assert!(rt; normal(&rt, text.as_str()).repeated_singleton().is_none());
+        text.push_str("-Z-aa")?;
+        let repeated = normal(&rt, text.as_str()).repeated_singleton();
+        assert_eq!(rt; repeated.map(|singleton| singleton.unwrap()), Some(b'Z'));
+        Ok(())
+    });
+}

@@ -1,0 +1,109 @@
+//! Each prefix of a tag that is one: shown, kept and copied.
+use crate::scan::rows::{self, Row};
+use crate::support::{assert_exact, with_memory};
+use langtag::{LangTag, NormalLangTag};
+use std::alloc::{AllocError, Global};
+use std::process::Abort;
+
+/// A tag and its copy are shown as the text, of which the copy has no room to spare. Where memory is refused once, the
+/// tag answers as before.
+pub(super) fn is_shown_and_copied(
+    rt: &impl Abort,
+    alloc: Global,
+    tag: &LangTag<'_>,
+    text: &str,
+) -> Result<(), AllocError> {
+    assert_eq!(rt; tag.to_string(alloc)?.as_str(), text);
+    let copy = tag.try_to_owned(alloc);
+    assert_eq!(rt; tag.as_str(), text);
+    let copy = match copy {
+        Ok(copy) => copy,
+        Err(AllocError) => tag.try_to_owned(alloc)?,
+    };
+    assert_eq!(rt; copy.as_lang_tag().kind(), tag.kind(), "of {text}");
+    assert_eq!(rt; copy.as_str(), text);
+    assert_eq!(rt; copy.to_string(alloc)?.as_str(), text);
+    assert_exact(rt, copy.into_string(), text);
+    Ok(())
+}
+
+/// The same of a normal tag.
+pub(super) fn is_shown_and_copied_as_normal(
+    rt: &impl Abort,
+    alloc: Global,
+    tag: &NormalLangTag<'_>,
+    text: &str,
+) -> Result<(), AllocError> {
+    assert_eq!(rt; tag.to_string(alloc)?.as_str(), text);
+    let copy = tag.try_to_owned(alloc);
+    assert_eq!(rt; tag.as_str(), text);
+    let copy = match copy {
+        Ok(copy) => copy,
+        Err(AllocError) => tag.try_to_owned(alloc)?,
+    };
+    assert!(rt; copy.as_normal_lang_tag() == *tag, "of {text}");
+    assert_eq!(rt; copy.as_str(), text);
+    assert_eq!(rt; copy.to_string(alloc)?.as_str(), text);
+    assert_exact(rt, copy.into_string(), text);
+    Ok(())
+}
+
+fn come_back_drawn_out(rt: &impl Abort, alloc: Global, rows: &[Row]) -> Result<(), AllocError> {
+    for row in rows {
+        for more in ["_", "--"] {
+            let mut text = String::from_str(alloc, row.text)?;
+            text.push_str(more)?;
+            let refused = LangTag::new(text.as_str()).err().expect(rt, "accepted");
+            assert_eq!(rt; refused.0, text.as_str());
+            let refused = NormalLangTag::new(text.as_str())
+                .err()
+                .expect(rt, "accepted");
+            assert_eq!(rt; refused.0, text.as_str());
+        }
+    }
+    Ok(())
+}
+
+#[test]
+fn tags_with_more_after_them_come_back(rt: HostRuntime) {
+    with_memory(&rt, || {
+        for (rows, _) in rows::tags() {
+            come_back_drawn_out(&rt, rt.alloc(), rows)?;
+        }
+        Ok(())
+    });
+}
+
+fn prefixes_are_shown_and_copied(
+    rt: &impl Abort,
+    alloc: Global,
+    text: &str,
+) -> Result<(), AllocError> {
+    for end in 0..=text.len() {
+        let prefix = text.get(..end).expect(rt, "past the end");
+        if let Ok(tag) = LangTag::new(prefix) {
+            is_shown_and_copied(rt, alloc, &tag, prefix)?;
+            if let Some(tag) = tag.as_normal() {
+                is_shown_and_copied_as_normal(rt, alloc, &tag, prefix)?;
+            }
+        }
+    }
+    Ok(())
+}
+
+fn are_shown_and_copied(rt: &impl Abort, alloc: Global, rows: &[Row]) -> Result<(), AllocError> {
+    for row in rows {
+        prefixes_are_shown_and_copied(rt, alloc, row.text)?;
+    }
+    Ok(())
+}
+
+#[test]
+fn each_prefix_is_shown_and_copied(rt: HostRuntime) {
+    with_memory(&rt, || {
+        for (rows, _) in rows::tags() {
+            are_shown_and_copied(&rt, rt.alloc(), rows)?;
+        }
+        Ok(())
+    });
+}
