@@ -3,6 +3,7 @@ pub mod PartRules
 pub mod EditLaws
 pub mod RegisteredLaws
 pub mod KeptFound
+mod PartOfLaws
 pub mod OrderLaws
 pub mod RepeatLaws
 pub mod VariantNumbers

@@ -22,7 +22,6 @@ use Rattle.langtag.specs.declared.grandfathered.TheConstants.{GRANDFATHERED}
 use Rattle.langtag.proofs.RegisteredLaws.{listed}
 use Rattle.langtag.specs.Compared.{TypedLangTagsCompareByKind}
 use Rattle.langtag.specs.Order.{TagsCompareByIndex}
-use Rattle.langtag.specs.declared.typed_lang_tag.TypedLangTag.{TypedLangTag}
 use Rattle.langtag.specs.declared.typed_lang_tag.TypedLangTag.TheVariants.{Normal, PrivateUse, Grandfathered}
 use Rattle.langtag.specs.Registered.{index_of}
 

@@ -9,6 +9,7 @@ pub mod LookUp
 pub mod Kinds
 pub mod Typed
 pub mod Order
+pub mod Part
 pub mod Compared
 -- what the clauses of this crate and of the types that it passes on cite, so that a caller names one crate
 pub use Rattle.langtag_scan.specs.AlikeRecords

@@ -55,12 +55,12 @@ impl<'a> LangTag<'a> {
     ghost use Rattle.langtag.specs.Compared.{LangTagsCompareByCase};
     ghost use Rattle.langtag.specs.Kinds.{IsOfKind, AreOfOneKind};
     ghost use Rattle.langtag.specs.Order.{KindsCompareByIndex};
+    ghost use Rattle.langtag.specs.Part.{PartOf};
     ghost use Rattle.langtag.specs.Registered.{index_of, IsGrandfatheredAt, IsGrandfathered};
     ghost use Rattle.langtag.specs.Text.{normal_lang_tag_text, lang_tag_text, lang_tag_buf_text};
     ghost use Rattle.langtag.specs.Typed.{IsTypedAs};
 
-    /// The tag of a text: `LangTag::new("zh-Hant-TW")` is Ok, and so are `x-fr-CH` and `I-Klingon`. Its contract also has the
-    /// laws that a tag is of one kind alone.
+    /// The tag of a text: `LangTag::new("zh-Hant-TW")` is Ok, and so are `x-fr-CH` and `I-Klingon`.
     ///
     /// # Errors
     ///
@@ -69,10 +69,6 @@ impl<'a> LangTag<'a> {
         ensures accepts { IsTrue (is_ok result) ↔ IsTag text.now }
         ensures same_text { IfOk result (λ tag. lang_tag_text tag ≡ text.now) }
         ensures given_back { IfErr result (λ error. error.0 ≡ text.entry) }
-
-        ensures normal_not_private { (t : List ℕ) → IsNormal t → IsPrivate t → ⊥ }
-        ensures normal_not_irregular { (t : List ℕ) → IsNormal t → IsIrregular t → ⊥ }
-        ensures private_not_irregular { (t : List ℕ) → IsPrivate t → IsIrregular t → ⊥ }
     {
         let Some(found) = recognise_text(text) else {
             return Err(InvalidLangTag(text));
@@ -132,10 +128,15 @@ impl<'a> LangTag<'a> {
     }
 
     /// The kind of the tag: `Kind::Normal` of `fr-x-a`, `Kind::PrivateUse` of `x-a`, `Kind::Grandfathered` of `i-lux`. The
-    /// regular grandfathered tags are normal. The contract also says that kinds compare and are hashed as they are declared.
+    /// regular grandfathered tags are normal. The contract also says that kinds compare and are hashed as they are declared,
+    /// and that no text is of two kinds.
     pub fn kind(&self) -> Kind
         ensures kind { IsOfKind (lang_tag_text self.now) result }
         ensures by_index { KindsCompareByIndex }
+
+        ensures normal_not_private { (t : List ℕ) → IsNormal t → IsPrivate t → ⊥ }
+        ensures normal_not_irregular { (t : List ℕ) → IsNormal t → IsIrregular t → ⊥ }
+        ensures private_not_irregular { (t : List ℕ) → IsPrivate t → IsIrregular t → ⊥ }
     {
         self.as_typed().kind()
     }
@@ -206,33 +207,33 @@ impl<'a> LangTag<'a> {
     }
 
     /// The language of a normal tag: `zh-yue` of `zh-yue-HK`, None of `x-a` and of `i-lux`.
+    #[tactic(auto, using(crate::proofs::PartOfLaws::part_found))]
     pub fn language(&self) -> Option<Language<'a>>
-        ensures part { EachRecord (lang_tag_text self.now) (λ r. option_map language_text result ≡ Some (language_part r)) }
-        ensures absent { (IsNormal (lang_tag_text self.now) → ⊥) → result ≡ None }
+        ensures { PartOf (lang_tag_text self.now) (λ r. Some (language_part r)) None (option_map language_text result) }
     {
         Some(self.as_normal()?.language())
     }
 
     /// The script of a normal tag: `Latn` of `sl-Latn-IT`, None of `sl-IT` and of `x-a`.
+    #[tactic(auto, using(crate::proofs::PartOfLaws::part_found))]
     pub fn script(&self) -> Option<Script<'a>>
-        ensures part { EachRecord (lang_tag_text self.now) (λ r. option_map script_text result ≡ r.script) }
-        ensures absent { (IsNormal (lang_tag_text self.now) → ⊥) → result ≡ None }
+        ensures { PartOf (lang_tag_text self.now) (λ r. r.script) None (option_map script_text result) }
     {
         self.as_normal()?.script()
     }
 
     /// The region of a normal tag: `419` of `es-419`, None of `es` and of `x-a`.
+    #[tactic(auto, using(crate::proofs::PartOfLaws::part_found))]
     pub fn region(&self) -> Option<Region<'a>>
-        ensures part { EachRecord (lang_tag_text self.now) (λ r. option_map region_text result ≡ r.region) }
-        ensures absent { (IsNormal (lang_tag_text self.now) → ⊥) → result ≡ None }
+        ensures { PartOf (lang_tag_text self.now) (λ r. r.region) None (option_map region_text result) }
     {
         self.as_normal()?.region()
     }
 
     /// The variants of a normal tag, none on any other: `rozaj-1994` of `sl-rozaj-1994`, the empty text of `x-a`.
+    #[tactic(auto, using(crate::proofs::PartOfLaws::part_found))]
     pub fn variants(&self) -> Variants<'a>
-        ensures part { EachRecord (lang_tag_text self.now) (λ r. variants_text result ≡ variants_part r) }
-        ensures absent { (IsNormal (lang_tag_text self.now) → ⊥) → variants_text result ≡ [] }
+        ensures { PartOf (lang_tag_text self.now) variants_part [] (variants_text result) }
     {
         let Some(tag) = self.as_normal() else {
             return Variants::EMPTY;
@@ -241,9 +242,9 @@ impl<'a> LangTag<'a> {
     }
 
     /// The extensions of a normal tag, none on any other: `a-bb-u-co` of `en-a-bb-u-co-x-y`, the empty text of `x-a`.
+    #[tactic(auto, using(crate::proofs::PartOfLaws::part_found))]
     pub fn extensions(&self) -> Extensions<'a>
-        ensures part { EachRecord (lang_tag_text self.now) (λ r. extensions_text result ≡ extensions_part r) }
-        ensures absent { (IsNormal (lang_tag_text self.now) → ⊥) → extensions_text result ≡ [] }
+        ensures { PartOf (lang_tag_text self.now) extensions_part [] (extensions_text result) }
     {
         let Some(tag) = self.as_normal() else {
             return Extensions::EMPTY;
@@ -253,17 +254,17 @@ impl<'a> LangTag<'a> {
 
     /// The private use part of a normal tag: `x-y` of `en-x-y`. A tag for private use as a whole has none, so it is None of
     /// `x-a`: see [`as_private_use`](LangTag::as_private_use).
+    #[tactic(auto, using(crate::proofs::PartOfLaws::part_found))]
     pub fn private_use(&self) -> Option<PrivateUse<'a>>
-        ensures part { EachRecord (lang_tag_text self.now) (λ r. option_map private_use_text result ≡ private_use_part r) }
-        ensures absent { (IsNormal (lang_tag_text self.now) → ⊥) → result ≡ None }
+        ensures { PartOf (lang_tag_text self.now) private_use_part None (option_map private_use_text result) }
     {
         self.as_normal()?.private_use()
     }
 
     /// The subtags of the private use part of a normal tag, `x` and `y` of `en-x-x-y`; none where there is no such part.
+    #[tactic(auto, using(crate::proofs::PartOfLaws::part_found))]
     pub fn private_use_subtags(&self) -> PrivateUseIter<'a>
-        ensures part { EachRecord (lang_tag_text self.now) (λ r. private_use_subtags_left result ≡ private_use_subtags r) }
-        ensures absent { (IsNormal (lang_tag_text self.now) → ⊥) → private_use_subtags_left result ≡ [] }
+        ensures { PartOf (lang_tag_text self.now) private_use_subtags [] (private_use_subtags_left result) }
     {
         let Some(tag) = self.as_normal() else {
             return PrivateUseIter::empty();

@@ -1,4 +1,4 @@
-use Rattle.std.proofs.Common.{◌≡◌, ◌≤◌, length, take, drop, map}
+use Rattle.std.proofs.Common.{◌≡◌, length, take, drop, map}
 use Rattle.langtag_place.specs.Text.{variants_left}
 use Rattle.langtag.specs.VariantBlocks.{folded_number}
 use Rattle.langtag.proofs.variant_blocks.fill.Given as goal

@@ -1,4 +1,4 @@
-use Rattle.std.proofs.Common.{◌≡◌, false, ◌&&◌, ◌==◌, [], ◌∷◌, ◌++◌, length, take, map, arith, refl, sym, ap, subst, ◌∙◌, rules}
+use Rattle.std.proofs.Common.{false, ◌&&◌, ◌==◌, [], ◌∷◌, ◌++◌, length, take, map, arith, refl, sym, ap, subst, ◌∙◌, rules}
 use Rattle.std.specs.List.{list_any}
 use Rattle.std.proofs.lemmas.List.{get_or-replicate}
 use Rattle.langtag_scan.specs.Subtags.{subtags}

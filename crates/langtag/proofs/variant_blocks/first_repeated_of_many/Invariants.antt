@@ -1,7 +1,6 @@
-use Rattle.std.proofs.Common.{◌≡◌, ◌≤◌, ◌-◌, length, drop}
+use Rattle.std.proofs.Common.{◌≡◌, ◌≤◌, ◌-◌, drop}
 use Rattle.langtag_scan.specs.Subtags.{subtags}
 use Rattle.langtag_place.specs.Text.{variants_text, variants_left}
-use Rattle.langtag.specs.declared.variant_blocks.TheConstants.{BLOCK}
 use Rattle.langtag.specs.VariantBlocks.{HasNoRepeatBefore}
 use Rattle.langtag.proofs.variant_blocks.first_repeated_of_many.Given as goal
 

@@ -1,5 +1,5 @@
-use Rattle.langtag_scan.proofs.SpelledTexts.{normal_spelled}
+use Rattle.langtag.proofs.PartOfLaws.{no_part}
 use Rattle.langtag.proofs.lang_tag.LangTag.language.Goals as goal
 
-pub returns-in_err-as_normal-clause-part : goal.returns-in_err-as_normal-clause-part
-returns-in_err-as_normal-clause-part c r spells = let there = c.in_err-as_normal.ensures.kind.1 (normal_spelled _ r spells) in absurd cc
+pub returns-in_err-as_normal : goal.returns-in_err-as_normal
+returns-in_err-as_normal c = no_part (λ normal. let there = c.in_err-as_normal.ensures.kind.1 normal in absurd cc) search
