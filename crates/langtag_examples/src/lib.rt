@@ -2,6 +2,7 @@
 #![tactic(auto)]
 
 mod accept_language;
+mod broken;
 mod catalogue;
 mod choice;
 mod counts;
@@ -17,6 +18,7 @@ mod tests;
 mod weight;
 
 pub use accept_language::{HeaderError, Wanted, wanted_ranges};
+pub use broken::{BrokenTag, tag_or_break};
 pub use catalogue::Catalogue;
 pub use choice::look_up;
 pub use counts::Counts;

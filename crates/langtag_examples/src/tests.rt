@@ -12,6 +12,7 @@ macro_rules! once_more {
 }
 
 mod accept_language;
+mod broken;
 mod catalogue;
 mod choice;
 mod counts;
