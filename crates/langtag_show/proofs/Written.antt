@@ -18,15 +18,32 @@ Answers-nil a = ([], none, Appends-nil a)
 pub Answers-one : (a b : Option (List ℕ)) (line text : List ℕ) → IsAnswer line text → Appends a b (ended text) → Answers a b (line ∷ [])
 Answers-one a b line text is p = (ended text ++ [], one_more line text [] [] is none, subst (Appends a b) (sym (append-nil (ended text))) p)
 
--- what an empty page took until the writer gained the last of it
-pub page_written :
-    (a b c : Option (List ℕ)) (page last taken : List ℕ) → page ≡ [] → Appends (append_known a page) (append_known b last) taken →
-    Appends b c last → Appends a c taken
-page_written None b c page last taken empty took gained = tt
-page_written (Some x) None c page last taken empty took gained = absurd took
-page_written (Some x) (Some y) None page last taken empty took gained = absurd gained
-page_written (Some x) (Some y) (Some z) page last taken empty took gained =
-    gained ∙ took ∙ ap (λ l. (x ++ l) ++ taken) empty ∙ ap (λ l. l ++ taken) (append-nil x)
+-- the bytes before an empty page
+append_known-empty : (a : Option (List ℕ)) (page : List ℕ) → page ≡ [] → append_known a page ≡ a
+append_known-empty None page empty = refl
+append_known-empty (Some x) page empty = ap Some (ap (λ l. x ++ l) empty ∙ append-nil x)
+
+-- an empty page holds no answer
+pub Answers-empty : (a : Option (List ℕ)) (page : List ℕ) → page ≡ [] → Answers a (append_known a page) []
+Answers-empty a page empty = subst (λ b. Answers a b []) (sym (append_known-empty a page empty)) (Answers-nil a)
+
+-- and takes nothing from those that come on it
+pub Answers-from_empty :
+    (a b : Option (List ℕ)) (page : List ℕ) (xs : List (List ℕ)) → page ≡ [] → Answers (append_known a page) b xs → Answers a b xs
+Answers-from_empty a b page xs empty = subst (λ x. Answers x b xs) (append_known-empty a page empty)
+
+Appends-written :
+    (a b c : Option (List ℕ)) (page taken : List ℕ) → Appends a (append_known b page) taken → Appends b c page → Appends a c taken
+Appends-written None b c page taken took gained = tt
+Appends-written (Some x) None c page taken took gained = absurd took
+Appends-written (Some x) (Some y) None page taken took gained = absurd gained
+Appends-written (Some x) (Some y) (Some z) page taken took gained = gained ∙ took
+
+-- the answers on a page stand where it is written out
+pub Answers-written :
+    (a b c : Option (List ℕ)) (page : List ℕ) (xs : List (List ℕ)) → Answers a (append_known b page) xs → Appends b c page →
+    Answers a c xs
+Answers-written a b c page xs (s, p, q) gained = (s, p, Appends-written a b c page s q gained)
 
 pub Answers-trans : (a b c : Option (List ℕ)) (xs ys : List (List ℕ)) → Answers a b xs → Answers b c ys → Answers a c (xs ++ ys)
 Answers-trans a b c xs ys (s, p, q) (t, p', q') = (s ++ t, AreAnswers-append xs ys s t p p', Appends-trans a b c s t q q')
@@ -65,13 +82,14 @@ written_prefix a b c input rest more is p (k, q) =
     ap (take (length lines + k)) (lines_more input rest more is) ∙ take-append-add lines later k in
     (length lines + k, Answers-same a c _ _ (sym prefix) (Answers-trans a b c _ _ p q))
 
-pub written_before : (a b c : Option (List ℕ)) (input more : List ℕ) → Answers a b (complete_lines input) → Keeps b c
-    → (k : ℕ) × Answers a c (take k (complete_lines (input ++ more)))
-written_before a b c input more p kept =
+pub written_before :
+    (a b : Option (List ℕ)) (input more : List ℕ) → Answers a b (complete_lines input) →
+    (k : ℕ) × Answers a b (take k (complete_lines (input ++ more)))
+written_before a b input more p =
     let lines = complete_lines input in
     let prefix : take (length lines) (complete_lines (input ++ more)) ≡ lines =
     ap (take (length lines)) (complete_lines-append input more) ∙ take-append_seam lines (complete_lines (rest_of input ++ more)) in
-    (length lines, Answers-same a c _ _ (sym prefix) (Answers-kept a b c _ p kept))
+    (length lines, Answers-same a b _ _ (sym prefix) p)
 
 -- the answers to the complete lines, and then to the last one
 pub written_all :

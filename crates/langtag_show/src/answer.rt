@@ -1,6 +1,6 @@
 //! The answer to one line.
 ghost use Rattle.std.specs.Prelude.{◌≡◌, [], ◌∷◌, OnOk, IsOkUnless, MatchOption, unwrap_or};
-ghost use Rattle.std.specs.Io.KnownBytes.{Appends};
+ghost use Rattle.std.specs.Io.KnownBytes.{Appends, append_known};
 ghost use Rattle.std.specs.List.{flat_map};
 ghost use Rattle.std.specs.Option.{option_map};
 ghost use Rattle.langtag_scan.specs.Record.{EachRecord};
@@ -16,18 +16,25 @@ use crate::show_error::ShowError;
 use langtag::{LangTag, NormalLangTag, PrivateUse, Region, Script, TypedLangTag};
 use std::io::Write;
 
-/// Writes the answer to a line, and the LF that ends it.
-pub(crate) fn write_answer<W: Write>(line: &[u8], output: &mut W) -> Result<(), ShowError>
-    ensures ok { OnOk result (Answers (W.contents output.old) (W.contents output.new) (line.now ∷ [])) }
+/// Puts the answer to a line on the page, and the LF that ends it.
+pub(crate) fn put_answer<W: Write>(
+    line: &[u8],
+    page: &mut Page,
+    output: &mut W,
+) -> Result<(), ShowError>
+    ensures ok { OnOk result (Answers (append_known (W.contents output.old) page.old) (append_known (W.contents output.new) page.new)
+        (line.now ∷ [])) }
     ensures err { IsOkUnless result ShowError.Write }
 {
     let Some(tag) = tag_of(line) else {
-        return write_pieces(&["refused"], output);
+        return put_pieces(&["refused"], page, output);
     };
     match tag.as_typed() {
-        TypedLangTag::Normal(tag) => write_pieces(&normal_answer(&tag), output),
-        TypedLangTag::PrivateUse(tag) => write_pieces(&["private ", tag.as_str()], output),
-        TypedLangTag::Grandfathered(tag) => write_pieces(&["irregular ", tag.as_str()], output),
+        TypedLangTag::Normal(tag) => put_pieces(&normal_answer(&tag), page, output),
+        TypedLangTag::PrivateUse(tag) => put_pieces(&["private ", tag.as_str()], page, output),
+        TypedLangTag::Grandfathered(tag) => {
+            put_pieces(&["irregular ", tag.as_str()], page, output)
+        }
     }
 }
 
@@ -86,15 +93,14 @@ fn has_repeats(tag: &NormalLangTag<'_>) -> bool
     tag.repeated_variant().is_some() || tag.repeated_singleton().is_some()
 }
 
-/// Writes the pieces of an answer and an LF, gathered on a page.
-fn write_pieces<W: Write>(pieces: &[&str], output: &mut W) -> Result<(), ShowError>
-    ensures ok { OnOk result (Appends (W.contents output.old) (W.contents output.new) (ended (flat_map (λ piece. piece.now) pieces.now))) }
+/// Puts the pieces of an answer and an LF on the page.
+fn put_pieces<W: Write>(pieces: &[&str], page: &mut Page, output: &mut W) -> Result<(), ShowError>
+    ensures ok { OnOk result (Appends (append_known (W.contents output.old) page.old) (append_known (W.contents output.new) page.new)
+        (ended (flat_map (λ piece. piece.now) pieces.now))) }
     ensures err { IsOkUnless result ShowError.Write }
 {
-    let mut page = Page::new();
     for piece in pieces {
         page.put(piece, output)?;
     }
-    page.put("\n", output)?;
-    page.finish(output)
+    page.put("\n", output)
 }

@@ -1,4 +1,4 @@
-//! A page, on which the pieces of one answer are gathered.
+//! A page, on which answers are gathered.
 ghost use Rattle.std.specs.Prelude.{◌≡◌, ◌+◌, ◌≤◌, List, ℕ, [], ◌++◌, length, take, OnOk, IsOkUnless};
 ghost use Rattle.std.specs.Io.KnownBytes.{Appends, append_known};
 ghost use Rattle.langtag_show.specs.declared.page.TheConstants.{PAGE_LEN};
@@ -7,13 +7,13 @@ use crate::show_error::ShowError;
 use std::io::Write;
 use std::marker::Model;
 
-/// How many bytes a page holds: more than the answer to an ordinary tag has.
-const PAGE_LEN: usize = 256;
+/// How many bytes a page holds: some two hundred answers to ordinary tags.
+const PAGE_LEN: usize = 16_384;
 
-/// The end of an answer that is not written yet, so that an answer of ordinary length is one write.
+/// The end of the answers, as far as it is not written yet, so that one write takes the answers to many lines.
 ///
-/// It takes no memory, and is used up when its answer ends: no answer waits for the next. A longer answer goes out in
-/// several writes, whole and in order.
+/// It takes no memory. Who reads on writes it out first, so that no answer waits for a read. Answers longer than a page
+/// go out in several writes, whole and in order.
 #[derive(Drop)]
 pub(crate) struct Page {
     bytes: [u8; PAGE_LEN],
@@ -39,7 +39,7 @@ impl Page {
         }
     }
 
-    /// Takes the next piece of the answer. What does not fit any more is written out first, and a piece longer than a
+    /// Takes the next piece of an answer. What does not fit any more is written out first, and a piece longer than a
     /// page after it.
     pub(crate) fn put<W: Write>(&mut self, piece: &str, output: &mut W) -> Result<(), ShowError>
         ensures ok { OnOk result (Appends (append_known (W.contents output.old) self.old)
@@ -50,6 +50,16 @@ impl Page {
             self.add(piece.as_bytes());
             return Ok(());
         }
+        self.put_on_next_page(piece, output)
+    }
+
+    /// Writes the page out, and takes a piece on the next. Out of line, so that a piece that fits pays nothing for it.
+    #[inline(never)]
+    fn put_on_next_page<W: Write>(&mut self, piece: &str, output: &mut W) -> Result<(), ShowError>
+        ensures ok { OnOk result (Appends (append_known (W.contents output.old) self.old)
+            (append_known (W.contents output.new) self.new) piece.now) }
+        ensures err { IsOkUnless result ShowError.Write }
+    {
         self.write_out(output)?;
         if piece.len() <= PAGE_LEN {
             self.add(piece.as_bytes());
@@ -58,14 +68,6 @@ impl Page {
         output
             .write_all(piece.as_bytes())
             .map_err(|_| ShowError::Write)
-    }
-
-    /// Ends the answer.
-    pub(crate) fn finish<W: Write>(mut self, output: &mut W) -> Result<(), ShowError>
-        ensures ok { OnOk result (Appends (W.contents output.old) (W.contents output.new) self) }
-        ensures err { IsOkUnless result ShowError.Write }
-    {
-        self.write_out(output)
     }
 
     /// Takes bytes that fit.
@@ -79,7 +81,7 @@ impl Page {
     }
 
     /// Writes what the page holds, which is empty then.
-    fn write_out<W: Write>(&mut self, output: &mut W) -> Result<(), ShowError>
+    pub(crate) fn write_out<W: Write>(&mut self, output: &mut W) -> Result<(), ShowError>
         ensures ok { OnOk result (Appends (W.contents output.old) (W.contents output.new) self.old) }
         ensures empty { OnOk result (self.new ≡ []) }
         ensures err { IsOkUnless result ShowError.Write }

@@ -1,23 +1,25 @@
 //! From what is read to what is written.
 ghost use Rattle.std.specs.Prelude.{◌≡◌, ◌≢◌, ℕ, List, [], ◌∷◌, ◌++◌, take, OnOk, IfErr, IfSome, IsErrOf, IsOkUnless};
-ghost use Rattle.std.specs.Io.KnownBytes.{Keeps, IsAtEnd};
+ghost use Rattle.std.specs.Io.KnownBytes.{Appends, IsAtEnd, append_known};
 ghost use Rattle.langtag_show.specs.Lines.{IsCutInto, NoLineFeed, complete_lines, rest_of, last_line, lines_of};
 ghost use Rattle.langtag_show.specs.Report.{IsAnswer, AreAnswers, Answers, HavingRead};
 
-use crate::answer::write_answer;
+use crate::answer::put_answer;
+use crate::page::Page;
 use crate::show_error::ShowError;
 use std::alloc::{Allocator, Global};
 use std::io::{Read, Write};
 
 /// How many bytes a read asks for.
-const BUFFER_LEN: usize = 4096;
+const BUFFER_LEN: usize = 16_384;
 
 const LINE_FEED: u8 = b'\n';
 
 /// Writes the answer to each line of the input, each followed by LF, and flushes once at the end.
 ///
-/// The answers of the lines that a read completed are written before the next read. The buffer of the reads has a
-/// fixed size, and only the line that is being gathered takes memory.
+/// The answers of the lines that a read completed are gathered on a page, which is written out before the next read and
+/// where it is full. The page and the buffer of the reads have fixed sizes, and only the line that is being gathered
+/// takes memory.
 ///
 /// # Errors
 ///
@@ -59,65 +61,81 @@ pub(crate) fn run_in<A: Allocator, R: Read, W: Write>(
         (λ i. (k : ℕ) × Answers (W.contents output.old) (W.contents output.new) (take k (complete_lines i))) }
 {
     let mut line = Vec::new(alloc);
+    let mut page = Page::new();
     let mut buffer = [0; BUFFER_LEN];
     for _ in 0..u64::MAX {
         let Ok(count) = input.read(&mut buffer) else {
             return Err(ShowError::Read);
         };
         if count == 0 {
-            return finish(&line, output);
+            return finish(&line, &mut page, output);
         }
-        take_bytes(&mut line, &buffer[..count], output)?;
+        take_bytes(&mut line, &buffer[..count], &mut page, output)?;
     }
     Err(ShowError::Read)
 }
 
 /// Takes bytes into the line that is gathered, and writes the answer to each line that they complete.
+///
+/// The page is empty again when it returns Ok, and so no answer waits for the next bytes.
 fn take_bytes<A: Allocator, W: Write>(
     line: &mut Vec<u8, A>,
     bytes: &[u8],
+    page: &mut Page,
     output: &mut W,
 ) -> Result<(), ShowError>
-    requires { NoLineFeed line.old.items }
+    requires free { NoLineFeed line.old.items }
+    requires written { page.old ≡ [] }
     ensures ok { OnOk result (Answers (W.contents output.old) (W.contents output.new) (complete_lines (line.old.items ++ bytes.now))) }
     ensures rest { OnOk result (line.new.items ≡ rest_of (line.old.items ++ bytes.now)) }
+    ensures empty { OnOk result (page.new ≡ []) }
     ensures memory { IsErrOf result ShowError.Memory → (k : ℕ) ×
         Answers (W.contents output.old) (W.contents output.new) (take k (complete_lines (line.old.items ++ bytes.now))) }
     ensures other { IfErr result (λ e. e ≢ ShowError.Read) }
 {
     for b in bytes {
-        take_byte(line, *b, output)?;
+        take_byte(line, *b, page, output)?;
+    }
+    page.write_out(output)
+}
+
+/// Takes a byte into the line that is gathered, or at LF puts the answer to it on the page.
+///
+/// Where the line can't grow, the page is written out: the answers to the lines before it stand.
+fn take_byte<A: Allocator, W: Write>(
+    line: &mut Vec<u8, A>,
+    byte: u8,
+    page: &mut Page,
+    output: &mut W,
+) -> Result<(), ShowError>
+    requires { NoLineFeed line.old.items }
+    ensures ok { OnOk result (Answers (append_known (W.contents output.old) page.old) (append_known (W.contents output.new) page.new)
+        (complete_lines (line.old.items ++ byte ∷ []))) }
+    ensures rest { OnOk result (line.new.items ≡ rest_of (line.old.items ++ byte ∷ [])) }
+    ensures memory { IsErrOf result ShowError.Memory → Appends (W.contents output.old) (W.contents output.new) page.old }
+    ensures other { IfErr result (λ e. e ≢ ShowError.Read) }
+{
+    if byte == LINE_FEED {
+        put_answer(line, page, output)?;
+        line.clear();
+        return Ok(());
+    }
+    if line.push(byte).is_err() {
+        page.write_out(output)?;
+        return Err(ShowError::Memory);
     }
     Ok(())
 }
 
-/// Takes a byte into the line that is gathered, or at LF writes the answer to it.
-fn take_byte<A: Allocator, W: Write>(
-    line: &mut Vec<u8, A>,
-    byte: u8,
-    output: &mut W,
-) -> Result<(), ShowError>
-    requires { NoLineFeed line.old.items }
-    ensures ok { OnOk result (Answers (W.contents output.old) (W.contents output.new) (complete_lines (line.old.items ++ byte ∷ []))) }
-    ensures rest { OnOk result (line.new.items ≡ rest_of (line.old.items ++ byte ∷ [])) }
-    ensures memory { IsErrOf result ShowError.Memory → Keeps (W.contents output.old) (W.contents output.new) }
-    ensures other { IfErr result (λ e. e ≢ ShowError.Read) }
-{
-    if byte == LINE_FEED {
-        write_answer(line, output)?;
-        line.clear();
-        return Ok(());
-    }
-    line.push(byte).map_err(|_| ShowError::Memory)
-}
-
 /// Writes the answer to the rest where it is a line, and flushes.
-fn finish<W: Write>(rest: &[u8], output: &mut W) -> Result<(), ShowError>
+fn finish<W: Write>(rest: &[u8], page: &mut Page, output: &mut W) -> Result<(), ShowError>
+    requires { page.old ≡ [] }
     ensures ok { OnOk result (Answers (W.contents output.old) (W.contents output.new) (last_line rest.now)) }
     ensures err { IsOkUnless result ShowError.Write }
 {
     if !rest.is_empty() {
-        write_answer(rest, output)?;
+        put_answer(rest, page, output)?;
+        page.write_out(output)?;
     }
     output.flush().map_err(|_| ShowError::Write)
 }

@@ -32,17 +32,35 @@ fn a_failing_read_ends_the_run(rt: HostRuntime) {
     }
 }
 
+// The text, the bytes of a read, the output, and the writes and flushes that it meets.
+type FailingWrite<'a> = (&'a [u8], usize, Sheet, u64, u64);
+
+// One row has answers for three pages, and the first fails.
 #[test]
 fn a_failing_write_ends_the_run(rt: HostRuntime) {
-    let rows = [
-        (Sheet::failing(1, ErrorKind::Other), 0),
-        (Sheet::full(), 0),
-        (Sheet::failing_to_flush(), 1),
+    let rows: [FailingWrite<'_>; 6] = [
+        (b"fr\n", 3, Sheet::failing(1, ErrorKind::Other), 1, 0),
+        (b"fr\n", 3, Sheet::full(), 1, 0),
+        (b"fr\n", 3, Sheet::failing_to_flush(), 1, 1),
+        (b"fr\nx-a\nen", 3, Sheet::failing(2, ErrorKind::Other), 2, 0),
+        (b"fr\nx-a\nen", 9, Sheet::failing(2, ErrorKind::Other), 2, 0),
+        (
+            &[b'\n'; 5_000],
+            5_000,
+            Sheet::failing(1, ErrorKind::Other),
+            1,
+            0,
+        ),
     ];
-    for (mut output, flushes) in rows {
+    for (text, step, mut output, writes, flushes) in rows {
         assert_eq!(rt;
-            run_again(rt.alloc(), &mut Feed::new(b"fr\n", 3), &mut output),
+            run_again(rt.alloc(), &mut Feed::new(text, step), &mut output),
             Err(ShowError::Write)
+        );
+        assert_eq!(rt;
+            output.writes,
+            writes,
+            "no write follows the one that failed"
         );
         assert_eq!(rt; output.flushes, flushes);
     }

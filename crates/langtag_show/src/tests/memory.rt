@@ -6,6 +6,7 @@ use super::{DE_CH_1996, FR, FR_FR, REFUSED, is_report};
 use crate::run::{run, run_in};
 use crate::show_error::ShowError;
 use std::alloc::Global;
+use std::io::ErrorKind;
 use std::process::Abort;
 
 // The input of the stored run.
@@ -67,17 +68,20 @@ fn ends_so(
     want: Result<(), ShowError>,
     answers: &[&str],
 ) {
-    let (mut outcome, mut output) = run_on_sheet(heap, input);
+    let (mut outcome, mut output) = run_on(Sheet::new(), heap, input);
     if outcome != want || !is_report(output.text(), answers) {
-        (outcome, output) = run_on_sheet(heap, input);
+        (outcome, output) = run_on(Sheet::new(), heap, input);
     }
     assert_eq!(rt; outcome, want);
     assert!(rt; is_report(output.text(), answers));
     assert_eq!(rt; output.flushes, u64::from(want.is_ok()));
 }
 
-fn run_on_sheet(heap: Small<Global>, mut input: Feed<'_>) -> (Result<(), ShowError>, Sheet) {
-    let mut output = Sheet::new();
+fn run_on(
+    mut output: Sheet,
+    heap: Small<Global>,
+    mut input: Feed<'_>,
+) -> (Result<(), ShowError>, Sheet) {
     (run_in(heap, &mut input, &mut output), output)
 }
 
@@ -130,6 +134,28 @@ fn the_answers_before_a_refused_growth_stand(rt: HostRuntime) {
             largest: 16_384,
         };
         ends_so(&rt, heap, input, Err(ShowError::Memory), answers);
+    }
+}
+
+// What waits on the page goes out where a growth is refused, in one write. Where that write fails, the run says so, and
+// makes no other.
+#[test]
+fn a_refused_growth_makes_one_write(rt: HostRuntime) {
+    let rows = [
+        (Sheet::new(), ShowError::Memory),
+        (Sheet::failing(1, ErrorKind::Other), ShowError::Write),
+    ];
+    let heap = Small {
+        inner: rt.alloc(),
+        largest: 8,
+    };
+    for (sheet, want) in rows {
+        let (mut outcome, mut output) = run_on(sheet, heap, Feed::new(WORKED, 100));
+        if outcome != Err(want) || output.writes == 0 {
+            (outcome, output) = run_on(sheet, heap, Feed::new(WORKED, 100));
+        }
+        assert_eq!(rt; outcome, Err(want));
+        assert_eq!(rt; (output.writes, output.flushes), (1, 0));
     }
 }
 

@@ -1,32 +1,60 @@
-//! How many writes an answer takes.
+//! How many writes the answers take.
+use super::feed::Feed;
+use super::run_again;
 use super::sheet::Sheet;
 use crate::page::Page;
 use std::test::Fail;
 
 #[test]
-fn a_page_is_written_when_it_is_full_or_ends(rt: HostRuntime) -> Result<(), Fail> {
-    // The lengths of the pieces, of the answer, and the writes.
+fn a_page_is_written_out_when_it_is_full(rt: HostRuntime) -> Result<(), Fail> {
+    // The lengths of the pieces, and of all of them, and the writes.
     let rows: [(&[usize], usize, u64); 7] = [
         (&[], 0, 0),
         (&[1], 1, 1),
-        (&[200, 56], 256, 1),
-        (&[200, 57], 257, 2),
-        (&[256, 256], 512, 2),
-        (&[100, 300, 100], 500, 3),
-        (&[512], 512, 1),
+        (&[16_000, 384], 16_384, 1),
+        (&[16_000, 385], 16_385, 2),
+        (&[4_000, 16_384], 20_384, 2),
+        (&[100, 20_000, 100], 20_200, 3),
+        (&[20_000], 20_000, 1),
     ];
-    let bytes = [b'a'; 512];
+    let bytes = [b'a'; 20_000];
     let text = std::str::from_utf8(&bytes)?;
-    for (pieces, answer, writes) in rows {
+    for (pieces, all, writes) in rows {
         let mut output = Sheet::new();
         let mut page = Page::new();
         for len in pieces {
             let piece = text.get(..*len).ok_or("a piece is longer than the text")?;
             assert_eq!(rt; page.put(piece, &mut output), Ok(()));
         }
-        assert_eq!(rt; page.finish(&mut output), Ok(()));
-        assert_eq!(rt; output.text().len(), answer);
+        assert_eq!(rt; page.write_out(&mut output), Ok(()));
+        assert_eq!(rt; output.text().len(), all);
         assert_eq!(rt; output.writes, writes);
     }
     Ok(())
+}
+
+// The answers to the lines of a read go out in one write, as far as a page holds them (2,048 times `refused` and LF), and that
+// to a last line without LF in one more.
+#[test]
+fn a_read_is_answered_in_one_write(rt: HostRuntime) {
+    // The text, the bytes of a read, and the writes.
+    let rows: [(&[u8], usize, u64); 8] = [
+        (b"", 100, 0),
+        (b"fr", 1, 1),
+        (b"fr\nx-a\nen\n", 100, 1),
+        (b"fr\nx-a\nen", 100, 2),
+        (b"fr\nx-a\nen\n", 7, 2),
+        (b"fr\nx-a\nen\n", 1, 3),
+        (&[b'\n'; 2_048], 2_048, 1),
+        (&[b'\n'; 2_049], 2_049, 2),
+    ];
+    for (text, step, writes) in rows {
+        let mut output = Sheet::new();
+        assert_eq!(rt;
+            run_again(rt.alloc(), &mut Feed::new(text, step), &mut output),
+            Ok(())
+        );
+        assert_eq!(rt; output.writes, writes, "of {text:?}");
+        assert_eq!(rt; output.flushes, 1);
+    }
 }

@@ -90,7 +90,7 @@ fn answers_stand_before_the_next_read(rt: HostRuntime) {
         (LINES, 10, 2, ANSWERS, 10),
         (LINES, 10, 5, ANSWERS, 10),
         (LONG_LINE, 40_000, 1, b"refused\n", 40_000),
-        (&[b'\n'; 10_000], 2, 10_000, b"refused\n", 20_000),
+        (&[b'\n'; 20_000], 1, 20_000, b"refused\n", 20_000),
     ];
     for (lines, rounds, step, answer, answers) in rows {
         let owed = Cell::new(0);

@@ -2,7 +2,7 @@
 use std::io;
 use std::io::{ErrorKind, Write};
 
-/// Room for the answers to `fr` and to `en-x` and 10,000 times `-a`.
+/// Room for the answers to `fr` and to `en-x` and 10,000 times `-a`, and for more than a page.
 const ROOM: usize = 20_480;
 
 /// Holds what is written in an array, and takes nothing when that is full. It fails at one write, where that is

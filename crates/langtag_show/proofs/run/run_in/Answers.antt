@@ -9,27 +9,28 @@ use Rattle.langtag_show.proofs.run.run_in.Goals as goal
 
 pub loop-init : goal.loop-init
 unfolding complete_lines rest_of
-loop-init g c = ([], Consumes-nil _, c.new-line.ensures.items, Answers-nil _)
+loop-init g c = ([], Consumes-nil _, c.new-line.ensures.items, c.new-page.ensures, Answers-nil _)
 
-pub take_bytes-requires : goal.take_bytes-requires
-take_bytes-requires g c =
-    let (seen, read, rest, written) = c.loop.invariant in
+pub take_bytes-requires-clause-free : goal.take_bytes-requires-clause-free
+take_bytes-requires-clause-free g c =
+    let (seen, read, rest, empty, written) = c.loop.invariant in
     free_rest seen _ rest
 
 pub loop-preserved : goal.loop-preserved
 loop-preserved g c =
-    let (seen, read, rest, written) = c.loop.invariant in
+    let (seen, read, rest, empty, written) = c.loop.invariant in
     let more = take c.in-Ok.count c.read.new.buf in (
       seen ++ more,
       Consumes-trans _ _ _ _ _ read c.in-Ok.ensures.bytes.0,
       c.in_ok-take_bytes.ensures.rest ∙ rest_more seen _ more rest,
+      c.in_ok-take_bytes.ensures.empty,
       written_more _ _ _ seen _ more rest written c.in_ok-take_bytes.ensures.ok,
     )
 
 pub returns-in_err-take_bytes-clause-after_memory :
     goal.returns-in_err-take_bytes-clause-after_memory
 returns-in_err-take_bytes-clause-after_memory g c = λ memory.
-    let (seen, read, rest, written) = c.loop.invariant in
+    let (seen, read, rest, empty, written) = c.loop.invariant in
     let more = take c.in-Ok.count c.read.new.buf in
     let p = err_from_is_err_and c.from_residual.result c.from_residual.ensures.1 in
     let same : Err c.in_err-take_bytes.field-0.0 ≡ Err Memory = cc in (
@@ -40,7 +41,7 @@ returns-in_err-take_bytes-clause-after_memory g c = λ memory.
 
 pub returns-then-count-eq0-clause-report : goal.returns-then-count-eq0-clause-report
 returns-then-count-eq0-clause-report g c =
-    let (seen, read, rest, written) = c.loop.invariant in
+    let (seen, read, rest, empty, written) = c.loop.invariant in
     let none : seen ++ take c.in-Ok.count c.read.new.buf ≡ seen = ap (λ n. seen ++ take n c.read.new.buf) c.if-count-eq0.true ∙ append-nil seen in
     let all = rw none at (Consumes-trans _ _ _ _ _ read c.in-Ok.ensures.bytes.0) in
     let end = c.in-Ok.ensures.bytes.1 c.if-count-eq0.true (omega arith) in

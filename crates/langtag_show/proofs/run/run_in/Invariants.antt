@@ -1,4 +1,4 @@
-use Rattle.std.proofs.Common.{◌≡◌, ℕ, List}
+use Rattle.std.proofs.Common.{◌≡◌, ℕ, List, []}
 use Rattle.std.specs.Io.KnownBytes.{Consumes}
 use Rattle.langtag_show.specs.Lines.{complete_lines, rest_of}
 use Rattle.langtag_show.specs.Report.{Answers}
@@ -7,4 +7,5 @@ use Rattle.langtag_show.proofs.run.run_in.Given as goal
 abbrev pub invariant-loop : goal.invariant-loop
 invariant-loop g l = (seen : List ℕ) × Consumes (g.R.Read.remaining l.initial.input) (g.R.Read.remaining l.input) seen
     × (l.line.items ≡ rest_of seen)
+    × (l.page ≡ [])
     × Answers (g.W.Write.contents l.initial.output) (g.W.Write.contents l.output) (complete_lines seen)

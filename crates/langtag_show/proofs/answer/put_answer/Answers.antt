@@ -3,23 +3,23 @@ use Rattle.std.proofs.lemmas.Result.{on_ok_weaker}
 use Rattle.langtag_show.specs.Report.{refused}
 use Rattle.langtag_show.proofs.KindAnswers.{answer_same, answer_private, answer_irregular}
 use Rattle.langtag_show.proofs.Written.{Answers-one}
-use Rattle.langtag_show.proofs.answer.write_answer.Goals as goal
+use Rattle.langtag_show.proofs.answer.put_answer.Goals as goal
 
 pub returns-in_default-clause-ok : goal.returns-in_default-clause-ok
 returns-in_default-clause-ok g c =
-    on_ok_weaker c.write_pieces.result (λ gained. Answers-one _ _ _ _ (refused c.in_default.ensures refl) gained) c.write_pieces.ensures.ok
+    on_ok_weaker c.put_pieces.result (λ gained. Answers-one _ _ _ _ (refused c.in_default.ensures refl) gained) c.put_pieces.ensures.ok
 
 pub returns-in-Normal-clause-ok : goal.returns-in-Normal-clause-ok
 returns-in-Normal-clause-ok g c =
     let is = answer_same _ _ _ (c.in-Normal.ensures ∙ c.in-Some.ensures) c.normal_answer.ensures in
-    on_ok_weaker c.write_pieces-in-Normal.result (λ gained. Answers-one _ _ _ _ is gained) c.write_pieces-in-Normal.ensures.ok
+    on_ok_weaker c.put_pieces-in-Normal.result (λ gained. Answers-one _ _ _ _ is gained) c.put_pieces-in-Normal.ensures.ok
 
 pub returns-in-PrivateUse-clause-ok : goal.returns-in-PrivateUse-clause-ok
 returns-in-PrivateUse-clause-ok g c =
     let is = answer_private _ _ c.as_str.ensures.in_class (c.as_str.ensures.same_text ∙ c.in-PrivateUse.ensures ∙ c.in-Some.ensures) in
-    on_ok_weaker c.write_pieces-in-PrivateUse.result (λ gained. Answers-one _ _ _ _ is gained) c.write_pieces-in-PrivateUse.ensures.ok
+    on_ok_weaker c.put_pieces-in-PrivateUse.result (λ gained. Answers-one _ _ _ _ is gained) c.put_pieces-in-PrivateUse.ensures.ok
 
 pub returns-in-Grandfathered-clause-ok : goal.returns-in-Grandfathered-clause-ok
 returns-in-Grandfathered-clause-ok g c =
     let is = answer_same _ _ _ c.in-Some.ensures (answer_irregular _ _ _ c.in-Grandfathered.ensures c.as_str-in-Grandfathered.ensures) in
-    on_ok_weaker c.write_pieces-in-Grandfathered.result (λ gained. Answers-one _ _ _ _ is gained) c.write_pieces-in-Grandfathered.ensures.ok
+    on_ok_weaker c.put_pieces-in-Grandfathered.result (λ gained. Answers-one _ _ _ _ is gained) c.put_pieces-in-Grandfathered.ensures.ok

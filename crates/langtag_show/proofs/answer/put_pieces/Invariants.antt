@@ -1,7 +1,7 @@
 use Rattle.std.proofs.Common.{take}
 use Rattle.std.specs.Io.KnownBytes.{Appends, append_known}
 use Rattle.std.specs.List.{flat_map}
-use Rattle.langtag_show.proofs.answer.write_pieces.Given as goal
+use Rattle.langtag_show.proofs.answer.put_pieces.Given as goal
 
 -- the page and the writer have taken the pieces before this one
 abbrev pub invariant-loop-piece : goal.invariant-loop-piece
