@@ -1,0 +1,2 @@
+mod filtering;
+mod language_range;
