@@ -11,12 +11,11 @@ macro_rules! once_more {
     };
 }
 
-mod accept_language;
 mod catalogue;
-mod choice;
 mod counts;
 mod direction;
 mod keyword;
 mod literal;
 mod other_script;
 mod prefix;
+mod request;

@@ -6,8 +6,8 @@ use Rattle.std.proofs.lemmas.Bool.{and_parts, both_ways, not-true}
 use Rattle.std.proofs.lemmas.List.{length-map}
 use Rattle.langtag_scan.specs.Case.{fold_byte, Alike, are_alike}
 use Rattle.langtag_scan.specs.CaseLaws.{are_alike-decides}
-use Rattle.langtag_match.specs.Extended.{is_single, have_no_single, StandAmong, without_stars}
-use Rattle.langtag_match.specs.Range.{is_star}
+use Rattle.langtag_match.specs.Extended.{have_no_single, StandAmong, without_stars}
+use Rattle.langtag_match.specs.Range.{is_star, is_single}
 
 -- texts that are alike are as long
 alike_single : (w t : List ℕ) → are_alike w t ≡ true → is_single t ≡ is_single w

@@ -1,17 +1,13 @@
 -- Extended filtering (RFC 4647 section 3.3.2).
-use Rattle.std.specs.Prelude.{◌≡◌, ℕ, ◌==◌, Bool, not, ◌||◌, IsTrue, List, [], ◌∷◌, ◌++◌, length, filter}
+use Rattle.std.specs.Prelude.{◌≡◌, ℕ, Bool, not, ◌||◌, IsTrue, List, [], ◌∷◌, ◌++◌, filter}
 use Rattle.std.specs.List.{list_all}
 use Rattle.langtag.specs.Case.{are_alike}
 use Rattle.langtag.specs.Subtags.{subtags}
-use Rattle.langtag_match.specs.Range.{is_star}
+use Rattle.langtag_match.specs.Range.{is_star, is_single}
 
 -- a subtag of a range is "*", or that of a tag but for case
 abbrev pub matches_subtag : List ℕ → List ℕ → Bool
 matches_subtag range subtag = is_star range || are_alike range subtag
-
--- a single letter or digit, which includes the mark "x"
-abbrev pub is_single : List ℕ → Bool
-is_single subtag = length subtag == 1
 
 abbrev pub have_no_single : List (List ℕ) → Bool
 have_no_single subtags = list_all (λ s. not (is_single s)) subtags

@@ -1,9 +1,8 @@
 -- Language ranges (RFC 4647 section 2).
-use Rattle.std.specs.Prelude.{ℕ, Bool, false, ◌&&◌, ◌||◌, List, [], ◌∷◌}
+use Rattle.std.specs.Prelude.{ℕ, ◌==◌, Bool, false, not, ◌&&◌, ◌||◌, List, [], ◌∷◌, length}
 use Rattle.std.specs.Char.{is_ascii_alphabetic}
 use Rattle.std.specs.Int.{is_in_range}
 use Rattle.std.specs.List.{list_all}
-use Rattle.std.specs.Prelude.{length}
 use Rattle.std.specs.Str.{bytes_eq}
 use Rattle.langtag.specs.Class.{is_private_subtag}
 use Rattle.langtag.specs.Subtags.{subtags}
@@ -11,6 +10,14 @@ use Rattle.langtag.specs.Subtags.{subtags}
 -- "*"
 abbrev pub is_star : List ℕ → Bool
 is_star text = bytes_eq text (42 ∷ [])
+
+-- a single character; of a tag that is a letter or digit, the mark "x" and those that begin an extension among them
+abbrev pub is_single : List ℕ → Bool
+is_single subtag = length subtag == 1
+
+-- a single letter or digit of a range, where a single character may be "*" also
+abbrev pub is_single_alphanum : List ℕ → Bool
+is_single_alphanum subtag = is_single subtag && not (is_star subtag)
 
 -- ALPHA alone
 abbrev pub are_letters : List ℕ → Bool

@@ -5,10 +5,12 @@ ghost use Rattle.langtag.specs.Case.{are_alike};
 ghost use Rattle.langtag.specs.Text.{lang_tag_text};
 ghost use Rattle.langtag_match.specs.Basic.{MatchesBasic};
 ghost use Rattle.langtag_match.specs.Extended.{MatchesExtended};
+ghost use Rattle.langtag_match.specs.Fallback.{fallbacks};
 ghost use Rattle.langtag_match.specs.Range as spec;
 
 use crate::basic::matches_basic;
 use crate::extended::matches_extended;
+use crate::fallbacks::Fallbacks;
 use crate::range_text::{is_basic_range, is_language_range};
 use langtag::LangTag;
 use langtag_scan::Caseless;
@@ -36,7 +38,7 @@ pub struct LanguageRange<'a> {
 
 impl<'a> LanguageRange<'a> {
     ghost use Rattle.langtag_match.specs.Compared.{LanguageRangesCompareByCase};
-    ghost use Rattle.langtag_match.specs.Text.{language_range_text, language_range_buf_text};
+    ghost use Rattle.langtag_match.specs.Text.{language_range_text, language_range_buf_text, fallbacks_left};
 
     /// The range of a text: `LanguageRange::new("de-*-DE")` is Ok.
     ///
@@ -107,6 +109,14 @@ impl<'a> LanguageRange<'a> {
         ensures { IsTrue result ↔ MatchesExtended (language_range_text self.now) (lang_tag_text tag.now) }
     {
         matches_extended(self.as_str(), tag.as_str())
+    }
+
+    /// The range, and what is left of it when subtags are taken away from its end, the longest first (RFC 4647 section 3.4):
+    /// `zh-Hant-TW`, `zh-Hant` and `zh`. [`look_up`](crate::look_up) looks for these.
+    pub fn fallbacks(&self) -> Fallbacks<'a>
+        ensures { fallbacks_left result ≡ fallbacks (language_range_text self.now) }
+    {
+        Fallbacks::new(*self)
     }
 
     /// The owned form of the same text: `LanguageRange::new("de-*")?.try_to_owned(alloc)?.as_str()` is `"de-*"`.
