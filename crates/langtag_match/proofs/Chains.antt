@@ -1,14 +1,12 @@
 -- The fallbacks of a range, by what is left when its last subtag is taken away.
-use Rattle.std.proofs.Common.{◌≡◌, ◌⊎◌, inl, inr, ℕ, ◌+◌, ◌-◌, ◌<◌, ◌≤◌, true, false, ◌||◌, List, [], ◌∷◌, ◌++◌, map, reverse, take, drop, length, length-drop, get_or, refl, sym, ap, ◌∙◌, subst, arith}
-use Rattle.std.specs.List.{list_all}
-use Rattle.std.proofs.lemmas.Bool.{and_parts, cases_order}
+use Rattle.std.proofs.Common.{◌≡◌, inl, inr, ℕ, ◌+◌, ◌-◌, ◌<◌, ◌≤◌, false, List, [], ◌∷◌, ◌++◌, map, reverse, take, drop, length, length-drop, get_or, refl, sym, ap, ◌∙◌, subst, arith}
+use Rattle.std.proofs.lemmas.Bool.{cases_order}
 use Rattle.std.proofs.lemmas.List.{reverse-append, reverse-reverse, length-reverse, get_or-drop, at_drop_more, take-append-drop}
-use Rattle.std.proofs.lemmas.List.Folds.{list_all-append}
 use Rattle.std.proofs.lemmas.List.Splits.{join_with_byte-slice_split, length-slice_split, slice_split_none}
 use Rattle.langtag.specs.Subtags.{is_hyphen, IsHyphenFree, NoHyphenWithin, join, segments}
 use Rattle.langtag_scan.proofs.SubtagLists.{slice_split-push}
 use Rattle.langtag_match.specs.Fallback.{shortened, chain, fallbacks}
-use Rattle.langtag_match.specs.Range.{is_single_alphanum, is_star, is_first_subtag, is_range_subtag, are_range_subtags, are_extended_range, is_language_range}
+use Rattle.langtag_match.specs.Range.{is_single_alphanum}
 
 -- the subtags but the last one, backwards
 abbrev pub before_last : List ℕ → List (List ℕ)
@@ -54,38 +52,6 @@ module _ (text left : List ℕ) (same : shortened (before_last left) ≡ shorten
       fallbacks-next many =
           let kept : shortened (reverse (segments shorter)) ≡ chain (reverse (segments shorter)) = rw (backwards shorter end front shorter_cut, many) refl in
           fallbacks-first text ∙ ap (λ more. text ∷ map (λ subtags. join (reverse subtags)) more) (others ∙ kept)
-
-      -- and is shortened again where one does
-      pub shortened-again : is_single_alphanum end ≡ true → shortened (before_last shorter) ≡ shortened (before_last text)
-      shortened-again single =
-          let gone : shortened (reverse (segments shorter)) ≡ shortened (before_last shorter) = rw (backwards shorter end front shorter_cut, single) refl in
-          sym (others ∙ gone)
-
--- ---- what is left of a range is a range
-
-front_range : (first last : List ℕ) (front : List (List ℕ)) → are_extended_range ((first ∷ front) ++ last ∷ []) ≡ true → are_extended_range (first ∷ front) ≡ true
-front_range first last front is =
-    let k = and_parts (is_star first || is_first_subtag first) (are_range_subtags (front ++ last ∷ [])) is in
-    let each = and_parts (are_range_subtags front) (are_range_subtags (last ∷ [])) (sym (list_all-append is_range_subtag front (last ∷ [])) ∙ k.1) in
-    rw (k.0, each.0) refl
-
--- a range has a first subtag, which is not empty
-subtags_segments : (text : List ℕ) → are_extended_range (segments text) ≡ true → is_language_range text ≡ true
-subtags_segments [] is = absurd cc
-subtags_segments (b ∷ text) is = is
-
-segments_subtags : (text : List ℕ) → is_language_range text ≡ true → are_extended_range (segments text) ≡ true
-segments_subtags [] is = absurd cc
-segments_subtags (b ∷ text) is = is
-
-range_front : (front : List (List ℕ)) (last : List ℕ) → 0 < length front → are_extended_range (front ++ last ∷ []) ≡ true → are_extended_range front ≡ true
-range_front [] last some is = absurd (omega (arith, some))
-range_front (first ∷ front) last some is = front_range first last front is
-
-pub range-cut : (text before last : List ℕ) → is_language_range text ≡ true → segments text ≡ segments before ++ last ∷ [] → is_language_range before ≡ true
-range-cut text before last is cut =
-    let whole : are_extended_range (segments before ++ last ∷ []) ≡ true = sym (ap are_extended_range cut) ∙ segments_subtags text is in
-    subtags_segments before (range_front (segments before) last (omega (arith, length-slice_split is_hyphen before)) whole)
 
 -- ---- where the last subtag of a text begins, as `segment_start` answers over its bytes
 

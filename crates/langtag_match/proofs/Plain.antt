@@ -15,7 +15,7 @@ use Rattle.langtag.specs.Subtags.{join, segments}
 use Rattle.langtag_match.specs.AcceptLanguage.{is_space, IsPadded}
 use Rattle.langtag_match.proofs.BasicRanges.{list_all-weaker}
 use Rattle.langtag_match.specs.Weight.{is_fraction, is_qvalue, is_q, IsWeight}
-use Rattle.langtag_match.specs.Range.{is_star, are_letters, is_first_subtag, are_basic_subtags, are_basic_range, is_basic_range}
+use Rattle.langtag_match.specs.Range.{is_star, is_first_subtag, are_basic_subtags, are_basic_range, is_basic_range}
 
 abbrev pub is_plain : ℕ → Bool
 is_plain b = not (is_space b) && not (eqb b 59)
@@ -96,14 +96,6 @@ name_plain : (name : List ℕ) → is_q name ≡ true → list_all is_plain name
 name_plain name is =
     let (b, one, which) = name_is name is in
     ap (list_all is_plain) one ∙ elim which [ inl small ↦ rw small refl | inr capital ↦ rw capital refl ]
-
--- "=" is no part of the name
-pub no_equals : (name : List ℕ) → is_q name ≡ true → (i : ℕ) → i < length name → get_or name i 0 ≢ 61
-no_equals name is i within here =
-    let (b, one, which) = name_is name is in
-    let first : i ≡ 0 = omega (arith, ap length one) in
-    let same : b ≡ 61 = ap (λ text. get_or text 0 0) (sym one) ∙ ap (λ k. get_or name k 0) (sym first) ∙ here in
-    elim which [ inl small ↦ omega arith | inr capital ↦ omega arith ]
 
 pub weight_plain : (text : List ℕ) (weight : ℕ) → IsWeight text weight → list_all is_plain text ≡ true
 weight_plain text weight (name, qvalue, written, named, valued, value) =

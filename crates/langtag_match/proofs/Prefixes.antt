@@ -1,6 +1,5 @@
 -- A tag that begins with a range.
-use Rattle.std.proofs.Common.{◌≡◌, ◌↔◌, ℕ, ◌+◌, ◌-◌, ◌<◌, ◌≤◌, Bool, true, false, IsTrue, List, [], ◌∷◌, ◌++◌, length, take, drop, get_or, inl, inr, refl, sym, ap, subst, ◌∙◌, arith}
-use Rattle.std.proofs.lemmas.Bool.{eqb-true}
+use Rattle.std.proofs.Common.{◌≡◌, ℕ, ◌+◌, ◌-◌, ◌<◌, ◌≤◌, List, ◌∷◌, ◌++◌, length, take, drop, get_or, inl, inr, sym, ap, ◌∙◌, arith}
 use Rattle.std.proofs.lemmas.List.{take_at, length-map, length-append, at_drop_more, take-append-drop, get_or-append_right, take_all}
 use Rattle.langtag_scan.specs.Case.{fold_byte, fold_text, Alike}
 use Rattle.langtag_match.specs.Basic.{BeginsWith}
@@ -8,12 +7,6 @@ use Rattle.langtag_match.specs.Basic.{BeginsWith}
 -- texts that are alike are as long
 length-alike : (a b : List ℕ) → Alike a b → length a ≡ length b
 length-alike a b alike = sym (length-map a fold_byte) ∙ ap length alike ∙ length-map b fold_byte
-
--- the tag is as long as the range
-pub begins_whole : (range tag : List ℕ) → length range ≡ length tag → Alike range (take (length range) tag) → BeginsWith range tag
-begins_whole range tag same alike =
-    let whole : take (length range) tag ≡ tag = take_all (length range) tag (omega (arith, same)) in
-    inl (alike ∙ ap fold_text whole)
 
 -- the tag goes on with a hyphen
 pub begins_before :

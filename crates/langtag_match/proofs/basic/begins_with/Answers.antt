@@ -1,4 +1,4 @@
-use Rattle.std.proofs.Common.{◌≡◌, ◌<◌, length, take, sym, arith, rules}
+use Rattle.std.proofs.Common.{◌<◌, length, take, arith, rules}
 use Rattle.std.proofs.lemmas.Bool.{eqb-true, eq-eqb}
 use Rattle.langtag_scan.specs.Case.{Alike}
 use Rattle.langtag_match.proofs.Prefixes.{begins_before, begins_shown}

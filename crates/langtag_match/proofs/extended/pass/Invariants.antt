@@ -1,4 +1,4 @@
-use Rattle.std.proofs.Common.{◌↔◌, ◌∷◌, ℕ, List, length}
+use Rattle.std.proofs.Common.{◌↔◌, ◌∷◌, ℕ, List}
 use Rattle.langtag_match.specs.Extended.{StandAmong}
 use Rattle.langtag_match.proofs.extended.pass.Given as goal
 

@@ -1,4 +1,4 @@
-use Rattle.std.proofs.Common.{◌≡◌, false, refl, rules, tests}
+use Rattle.std.proofs.Common.{◌≡◌, false, rules, tests}
 use Rattle.langtag_match.specs.Range.{is_star}
 use Rattle.langtag_match.proofs.Among.{walk_missed}
 use Rattle.langtag_match.proofs.extended.stand_among.Goals as goal

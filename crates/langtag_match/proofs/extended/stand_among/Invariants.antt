@@ -1,4 +1,4 @@
-use Rattle.std.proofs.Common.{◌↔◌, ℕ, List}
+use Rattle.std.proofs.Common.{◌↔◌}
 use Rattle.langtag_match.specs.Extended.{StandAmong, without_stars}
 use Rattle.langtag_match.proofs.extended.stand_among.Given as goal
 

@@ -1,7 +1,5 @@
-use Rattle.std.proofs.Common.{◌≡◌, ◌∷◌, [], false, ap, sym, ◌∙◌, rules}
-use Rattle.langtag_match.specs.Fallback.{fallbacks}
+use Rattle.std.proofs.Common.{◌≡◌, false, sym, ◌∙◌, rules}
 use Rattle.langtag_match.specs.Range.{is_single_alphanum}
-use Rattle.langtag_match.specs.Text.{language_range_text}
 use Rattle.langtag_match.proofs.Chains.{fallbacks-last, fallbacks-next}
 use Rattle.langtag_match.proofs.fallbacks.shortened.Goals as goal
 

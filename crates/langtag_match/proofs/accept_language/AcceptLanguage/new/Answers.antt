@@ -1,4 +1,4 @@
-use Rattle.std.proofs.Common.{◌≡◌, ◌<◌, nat_lt, subst, rules, tests}
+use Rattle.std.proofs.Common.{◌≡◌, nat_lt, subst, rules, tests}
 use Rattle.std.proofs.lemmas.List.Elements.{filter_from_retain}
 use Rattle.std.proofs.lemmas.List.Sorted.{answers_always}
 use Rattle.langtag_match.specs.AcceptLanguage.{IsByWeight, acceptable}
