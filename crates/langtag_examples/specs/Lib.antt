@@ -1,9 +1,6 @@
-pub mod AcceptLanguage
 pub mod Catalogue
 pub mod Counts
 pub mod Direction
 pub mod Keyword
-pub mod LookUp
 pub mod Prefix
-pub mod Range
-pub mod Weight
+pub mod Request

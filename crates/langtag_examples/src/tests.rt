@@ -11,13 +11,12 @@ macro_rules! once_more {
     };
 }
 
-mod accept_language;
 mod broken;
 mod catalogue;
-mod choice;
 mod counts;
 mod direction;
 mod keyword;
 mod literal;
 mod other_script;
 mod prefix;
+mod request;

@@ -1,0 +1,98 @@
+-- What one subtag of a tag says of the subtags of a range that stand among it and those after it: the steps of
+-- RFC 4647 section 3.3.2.
+use Rattle.std.proofs.Common.{◌≡◌, ◌↔◌, ℕ, true, false, not, ◌==◌, subst, IsTrue, List, [], ◌∷◌, ◌++◌, length, refl, sym, ap, ◌∙◌, append_assoc}
+use Rattle.std.proofs.lemmas.Bool.{and_parts, both_ways, not-true}
+use Rattle.std.proofs.lemmas.List.{length-map}
+use Rattle.langtag_scan.specs.Case.{fold_byte, Alike, are_alike}
+use Rattle.langtag_scan.specs.CaseLaws.{are_alike-decides}
+use Rattle.langtag_match.specs.Extended.{have_no_single, StandAmong, without_stars}
+use Rattle.langtag_match.specs.Range.{is_star, is_single}
+
+-- texts that are alike are as long
+alike_single : (w t : List ℕ) → are_alike w t ≡ true → is_single t ≡ is_single w
+alike_single w t alike =
+    let same : Alike w t = (are_alike-decides w t).0 alike in
+    ap (λ n. n == 1) (sym (length-map t fold_byte) ∙ ap length (sym same) ∙ length-map w fold_byte)
+
+have_no_single-append : (a b : List (List ℕ)) → IsTrue (have_no_single a) → IsTrue (have_no_single b) → IsTrue (have_no_single (a ++ b))
+have_no_single-append [] b ha hb = hb
+have_no_single-append (s ∷ a) b ha hb =
+    let k = and_parts (not (is_single s)) (have_no_single a) ha in
+    rw (k.0, have_no_single-append a b k.1 hb) refl
+
+-- subtags that are no singletons may stand before
+StandAmong-after : (extra : List (List ℕ)) → IsTrue (have_no_single extra) → (more rest : List (List ℕ)) → StandAmong more rest → StandAmong more (extra ++ rest)
+StandAmong-after extra none [] rest h = tt
+StandAmong-after extra none (w ∷ more) rest (left_out, found, later, cut, free, alike, h) =
+    (extra ++ left_out, found, later, ap (λ ss. extra ++ ss) cut ∙ sym (append_assoc extra left_out (found ∷ later)), have_no_single-append extra left_out none free, alike, h)
+
+-- a subtag that is the wanted one may be taken for it: what another choice leaves out after it has no singleton either
+among_found-from : (w t : List ℕ) (more ts : List (List ℕ)) → are_alike w t ≡ true → StandAmong (w ∷ more) (t ∷ ts) → StandAmong more ts
+among_found-from w t more ts alike ([], found, rest, cut, free, same, h) =
+    let at : ts ≡ rest = cc in
+    rw at h
+among_found-from w t more ts alike (s ∷ left_out, found, rest, cut, free, same, h) =
+    let here : t ≡ s = cc in
+    let at : ts ≡ left_out ++ found ∷ rest = cc in
+    let k = and_parts (not (is_single s)) (have_no_single left_out) free in
+    let single : is_single found ≡ is_single s = alike_single w found same ∙ sym (alike_single w t alike) ∙ ap is_single here in
+    let one : IsTrue (have_no_single (found ∷ [])) = rw (single, k.0) refl in
+    let later = StandAmong-after (left_out ++ found ∷ []) (have_no_single-append left_out (found ∷ []) k.1 one) more rest h in
+    rw (at, ← append_assoc left_out (found ∷ []) rest) later
+
+pub among_found : (w t : List ℕ) (more ts : List (List ℕ)) → are_alike w t ≡ true → StandAmong more ts ↔ StandAmong (w ∷ more) (t ∷ ts)
+among_found w t more ts alike = (λ h. ([], t, ts, refl, refl, alike, h), among_found-from w t more ts alike)
+
+among_left-from : (w t : List ℕ) (more ts : List (List ℕ)) → are_alike w t ≡ false → StandAmong (w ∷ more) (t ∷ ts) → StandAmong (w ∷ more) ts × (is_single t ≡ false)
+among_left-from w t more ts other ([], found, rest, cut, free, same, h) =
+    let here : t ≡ found = cc in
+    absurd (both_ways (are_alike w t) other (ap (are_alike w) here ∙ same))
+among_left-from w t more ts other (s ∷ left_out, found, rest, cut, free, same, h) =
+    let here : t ≡ s = cc in
+    let at : ts ≡ left_out ++ found ∷ rest = cc in
+    let k = and_parts (not (is_single s)) (have_no_single left_out) free in
+    ((left_out, found, rest, at, k.1, same, h), ap is_single here ∙ not-true (is_single s) k.0)
+
+-- any other subtag is left out
+pub among_left : (w t : List ℕ) (more ts : List (List ℕ)) → are_alike w t ≡ false → is_single t ≡ false → StandAmong (w ∷ more) ts ↔ StandAmong (w ∷ more) (t ∷ ts)
+among_left w t more ts other many = (
+  λ h. (t ∷ h.0, h.1, h.2, ap (λ ss. t ∷ ss) h.3, rw (many, h.4) refl, h.5, h.6),
+  λ h. (among_left-from w t more ts other h).0,
+)
+
+-- and a singleton may not be
+pub among_blocked : (w t : List ℕ) (more ts : List (List ℕ)) → are_alike w t ≡ false → is_single t ≡ true → StandAmong (w ∷ more) (t ∷ ts) → ⊥
+among_blocked w t more ts other single h = both_ways (is_single t) (among_left-from w t more ts other h).1 single
+
+pub among_none : (w : List ℕ) (more : List (List ℕ)) → StandAmong (w ∷ more) [] → ⊥
+among_none w more ([], found, rest, cut, free, same, h) = absurd cc
+among_none w more (s ∷ left_out, found, rest, cut, free, same, h) = absurd cc
+
+-- ---- a walk over the subtags of a tag, of which these are left
+
+module _ (w t : List ℕ) (left ts all more : List (List ℕ)) (cut : left ≡ t ∷ ts) (same : StandAmong (w ∷ more) left ↔ StandAmong (w ∷ more) all) where
+  pub walk_found : are_alike w t ≡ true → StandAmong more ts ↔ StandAmong (w ∷ more) all
+  walk_found alike =
+      let step = among_found w t more ts alike in
+      (λ h. same.0 (subst (StandAmong (w ∷ more)) (sym cut) (step.0 h)), λ h. step.1 (subst (StandAmong (w ∷ more)) cut (same.1 h)))
+
+  pub walk_left : are_alike w t ≡ false → is_single t ≡ false → StandAmong (w ∷ more) ts ↔ StandAmong (w ∷ more) all
+  walk_left other many =
+      let step = among_left w t more ts other many in
+      (λ h. same.0 (subst (StandAmong (w ∷ more)) (sym cut) (step.0 h)), λ h. step.1 (subst (StandAmong (w ∷ more)) cut (same.1 h)))
+
+  pub walk_blocked : are_alike w t ≡ false → is_single t ≡ true → StandAmong (w ∷ more) all → ⊥
+  walk_blocked other single h = among_blocked w t more ts other single (subst (StandAmong (w ∷ more)) cut (same.1 h))
+
+pub walk_ended : (w : List ℕ) (left all more : List (List ℕ)) → left ≡ [] → StandAmong (w ∷ more) left ↔ StandAmong (w ∷ more) all → StandAmong (w ∷ more) all → ⊥
+walk_ended w left all more none same h = among_none w more (subst (StandAmong (w ∷ more)) none (same.1 h))
+
+-- ---- a walk over the subtags of a range
+
+-- a subtag other than "*", which stands not among those that are left
+pub walk_missed :
+    (w : List ℕ) (left ws left_tag : List (List ℕ)) (Whole : Type 0) → left ≡ w ∷ ws → is_star w ≡ false →
+    ((more : List (List ℕ)) → StandAmong (w ∷ more) left_tag → ⊥) → StandAmong (without_stars left) left_tag ↔ Whole → Whole → ⊥
+walk_missed w left ws left_tag Whole cut plain missed same whole =
+    let kept : without_stars left ≡ w ∷ without_stars ws = ap without_stars cut ∙ rw plain refl in
+    missed (without_stars ws) (subst (λ ss. StandAmong ss left_tag) kept (same.1 whole))

@@ -1,0 +1,53 @@
+use Rattle.std.proofs.Common.{◌≡◌, ◌++◌, ◌∷◌, [], refl, sym, ap, ◌∙◌, subst, lit<, length, take, arith}
+use Rattle.std.proofs.lemmas.Grind.{common_steps}
+use Rattle.std.specs.List.{slice_get}
+use Rattle.std.proofs.lemmas.Option.{slice_get_read}
+use Rattle.std.proofs.lemmas.List.{take_all}
+use Rattle.std.proofs.lemmas.List.FromFn.{length-enumerate_from}
+use Rattle.std.proofs.lemmas.Iterator.Splits.{YieldsList-from_str_split}
+use Rattle.std.proofs.lemmas.Iterator.Consumers.{YieldsList-from_enumerate, YieldsList-at, YieldsList-turn, YieldsList-end}
+use Rattle.langtag_match.specs.AcceptLanguage.{items, AreElements}
+use Rattle.langtag_match.proofs.Elements.{turn_at, after_empty, after_element}
+use Rattle.langtag_match.proofs.accept_language.elements.Goals as goal
+
+pub loop-index-preserved-then-is_ows : goal.loop-index-preserved-then-is_ows
+loop-index-preserved-then-is_ows c =
+    let pieces = YieldsList-from_str_split {s = c.split.result} 44 c.args.header.now (lit< tt) c.split.ensures.text c.split.ensures.has_more c.split.ensures.pattern in
+    let road = YieldsList-from_enumerate {s = c.into_iter-index-iterator.result} (YieldsList-at (cc) pieces) cc in
+    let turn = YieldsList-turn road c.loop-index.yielded _ c.loop-index.yielded_by _ _ (c.in-Some.index, c.in-Some.item) c.in-Some.is c.next.ensures.steps in
+    let (below, nth, here) = turn_at (items c.args.header.now) _ _ _ turn in
+    after_empty (items c.args.header.now) c.loop-index.yielded _ c.in-Some.item.now _ below here c.loop-index.invariant (sym c.is_ows.ensures ∙ c.if-is_ows.true)
+
+pub returns-in_default-clause-refused : goal.returns-in_default-clause-refused
+returns-in_default-clause-refused c =
+    let pieces = YieldsList-from_str_split {s = c.split.result} 44 c.args.header.now (lit< tt) c.split.ensures.text c.split.ensures.has_more c.split.ensures.pattern in
+    let road = YieldsList-from_enumerate {s = c.into_iter-index-iterator.result} (YieldsList-at (cc) pieces) cc in
+    let turn = YieldsList-turn road c.loop-index.yielded _ c.loop-index.yielded_by _ _ (c.in-Some.index, c.in-Some.item) c.in-Some.is c.next.ensures.steps in
+    let (below, nth, here) = turn_at (items c.args.header.now) _ _ _ turn in (
+      refl,
+      record {
+        item = c.in-Some.item.now;
+        there = ap (slice_get (items c.args.header.now)) nth ∙ slice_get_read (items c.args.header.now) _ _ c.in-Some.item.now refl below here;
+        not_empty = sym c.is_ows.ensures ∙ c.if-is_ows.false;
+        no_element = c.in_default.ensures.none refl;
+        before = (c.loop-index.elements.items, subst (λ n. AreElements (take n (items c.args.header.now)) c.loop-index.elements.items) (sym nth) c.loop-index.invariant);
+      },
+      c.offset_of-offset.ensures,
+    )
+
+pub loop-index-preserved : goal.loop-index-preserved
+loop-index-preserved c =
+    let pieces = YieldsList-from_str_split {s = c.split.result} 44 c.args.header.now (lit< tt) c.split.ensures.text c.split.ensures.has_more c.split.ensures.pattern in
+    let road = YieldsList-from_enumerate {s = c.into_iter-index-iterator.result} (YieldsList-at (cc) pieces) cc in
+    let turn = YieldsList-turn road c.loop-index.yielded _ c.loop-index.yielded_by _ _ (c.in-Some.index, c.in-Some.item) c.in-Some.is c.next.ensures.steps in
+    let (below, nth, here) = turn_at (items c.args.header.now) _ _ _ turn in
+    let pushed : c.push.new.self.items ≡ c.loop-index.elements.items ++ c.in-Some-element_of.element ∷ [] = grind (arith, common_steps) in
+    rw pushed (after_element (items c.args.header.now) c.loop-index.yielded _ c.in-Some.item.now c.loop-index.elements.items c.in-Some-element_of.element below here c.loop-index.invariant c.in-Some-element_of.ensures.some)
+
+pub returns-clause-elements : goal.returns-clause-elements
+returns-clause-elements c =
+    let pieces = YieldsList-from_str_split {s = c.split.result} 44 c.args.header.now (lit< tt) c.split.ensures.text c.split.ensures.has_more c.split.ensures.pattern in
+    let road = YieldsList-from_enumerate {s = c.into_iter-index-iterator.result} (YieldsList-at (cc) pieces) cc in
+    let (all, count) = YieldsList-end road c.loop-index.yielded _ c.loop-index.yielded_by _ _ c.in-None.is c.next.ensures.steps in
+    let whole = take_all (length c.loop-index.yielded) (items c.args.header.now) (omega (arith, count, length-enumerate_from 0 (items c.args.header.now))) in
+    subst (λ t. AreElements t c.loop-index.elements.items) whole c.loop-index.invariant

@@ -1,0 +1,6 @@
+use Rattle.std.proofs.Common.{length, take}
+use Rattle.langtag_match.specs.AcceptLanguage.{AreElements, items}
+use Rattle.langtag_match.proofs.accept_language.elements.Given as goal
+
+abbrev pub invariant-loop-index : goal.invariant-loop-index
+invariant-loop-index l = AreElements (take (length l.yielded) (items l.header)) l.elements.items

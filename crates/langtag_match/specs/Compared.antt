@@ -1,0 +1,17 @@
+-- The range types: their `==`, `cmp` and `hash` go by their texts, folded (RFC 4647 section 2: ranges ignore case).
+use Rattle.langtag.specs.Compare.{ComparesByCase}
+use Rattle.langtag_match.specs.contracts.language_range.LanguageRangeHash.TheImpl as range_hash
+use Rattle.langtag_match.specs.contracts.language_range.LanguageRangeOrd.TheImpl as range_order
+use Rattle.langtag_match.specs.contracts.language_range.LanguageRangePartialEq.TheImpl as range_equality
+use Rattle.langtag_match.specs.contracts.language_range.LanguageRangeBufHash.TheImpl as range_buf_hash
+use Rattle.langtag_match.specs.contracts.language_range.LanguageRangeBufOrd.TheImpl as range_buf_order
+use Rattle.langtag_match.specs.contracts.language_range.LanguageRangeBufPartialEq.TheImpl as range_buf_equality
+use Rattle.langtag_match.specs.Text.{language_range_text, language_range_buf_text}
+
+abbrev pub LanguageRangesCompareByCase : Type 0
+LanguageRangesCompareByCase =
+    ComparesByCase language_range_text range_equality.eq-value.it range_order.cmp-value.it range_hash.hash_input-value.it
+
+abbrev pub LanguageRangeBufsCompareByCase : Type 0
+LanguageRangeBufsCompareByCase =
+    ComparesByCase language_range_buf_text range_buf_equality.eq-value.it range_buf_order.cmp-value.it range_buf_hash.hash_input-value.it

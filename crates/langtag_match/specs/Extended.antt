@@ -1,0 +1,33 @@
+-- Extended filtering (RFC 4647 section 3.3.2).
+use Rattle.std.specs.Prelude.{◌≡◌, ℕ, Bool, not, ◌||◌, IsTrue, List, [], ◌∷◌, ◌++◌, filter}
+use Rattle.std.specs.List.{list_all}
+use Rattle.langtag.specs.Case.{are_alike}
+use Rattle.langtag.specs.Subtags.{subtags}
+use Rattle.langtag_match.specs.Range.{is_star, is_single}
+
+-- a subtag of a range is "*", or that of a tag but for case
+abbrev pub matches_subtag : List ℕ → List ℕ → Bool
+matches_subtag range subtag = is_star range || are_alike range subtag
+
+abbrev pub have_no_single : List (List ℕ) → Bool
+have_no_single subtags = list_all (λ s. not (is_single s)) subtags
+
+-- some subtags stand among others in their order, and those that are left out before the last of them have no singleton
+abbrev pub StandAmong : List (List ℕ) → List (List ℕ) → Type 0
+StandAmong [] subtags = Unit {0}
+StandAmong (wanted ∷ more) subtags =
+    (left_out : List (List ℕ)) × (found : List ℕ) × (rest : List (List ℕ)) × (subtags ≡ left_out ++ found ∷ rest) ×
+    IsTrue (have_no_single left_out) × IsTrue (are_alike wanted found) × StandAmong more rest
+
+-- "*" matches any sequence of subtags after the first
+abbrev pub without_stars : List (List ℕ) → List (List ℕ)
+without_stars subtags = filter (λ s. not (is_star s)) subtags
+
+-- the first subtags match, and the others of the range stand among the others of the tag
+abbrev pub MatchSubtags : List (List ℕ) → List (List ℕ) → Type 0
+MatchSubtags [] tag = ⊥
+MatchSubtags (first ∷ others) [] = ⊥
+MatchSubtags (first ∷ others) (subtag ∷ subtags) = IsTrue (matches_subtag first subtag) × StandAmong (without_stars others) subtags
+
+abbrev pub MatchesExtended : List ℕ → List ℕ → Type 0
+MatchesExtended range tag = MatchSubtags (subtags range) (subtags tag)

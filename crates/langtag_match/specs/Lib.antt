@@ -1,0 +1,9 @@
+pub mod AcceptLanguage
+pub mod Basic
+pub mod Compared
+pub mod Extended
+pub mod Fallback
+pub mod LookUp
+pub mod Range
+pub mod Text
+pub mod Weight

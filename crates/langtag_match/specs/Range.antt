@@ -1,0 +1,56 @@
+-- Language ranges (RFC 4647 section 2).
+use Rattle.std.specs.Prelude.{ℕ, ◌==◌, Bool, false, not, ◌&&◌, ◌||◌, List, [], ◌∷◌, length}
+use Rattle.std.specs.Char.{is_ascii_alphabetic}
+use Rattle.std.specs.Int.{is_in_range}
+use Rattle.std.specs.List.{list_all}
+use Rattle.std.specs.Str.{bytes_eq}
+use Rattle.langtag.specs.Class.{is_private_subtag}
+use Rattle.langtag.specs.Subtags.{subtags}
+
+-- "*"
+abbrev pub is_star : List ℕ → Bool
+is_star text = bytes_eq text (42 ∷ [])
+
+-- a single character; of a tag that is a letter or digit, the mark "x" and those that begin an extension among them
+abbrev pub is_single : List ℕ → Bool
+is_single subtag = length subtag == 1
+
+-- a single letter or digit of a range, where a single character may be "*" also
+abbrev pub is_single_alphanum : List ℕ → Bool
+is_single_alphanum subtag = is_single subtag && not (is_star subtag)
+
+-- ALPHA alone
+abbrev pub are_letters : List ℕ → Bool
+are_letters subtag = list_all is_ascii_alphabetic subtag
+
+-- 1*8ALPHA
+abbrev pub is_first_subtag : List ℕ → Bool
+is_first_subtag subtag = is_in_range 1 8 (length subtag) && are_letters subtag
+
+-- 1*8alphanum / "*"
+abbrev pub is_range_subtag : List ℕ → Bool
+is_range_subtag subtag = is_star subtag || is_private_subtag subtag
+
+abbrev pub are_range_subtags : List (List ℕ) → Bool
+are_range_subtags others = list_all is_range_subtag others
+
+-- extended-language-range = (1*8ALPHA / "*") *("-" (1*8alphanum / "*")) (section 2.2), over the subtags
+abbrev pub are_extended_range : List (List ℕ) → Bool
+are_extended_range [] = false
+are_extended_range (first ∷ others) = (is_star first || is_first_subtag first) && are_range_subtags others
+
+-- a range of either kind: each basic one is an extended one
+abbrev pub is_language_range : List ℕ → Bool
+is_language_range text = are_extended_range (subtags text)
+
+abbrev pub are_basic_subtags : List (List ℕ) → Bool
+are_basic_subtags others = list_all is_private_subtag others
+
+-- 1*8ALPHA *("-" 1*8alphanum), over the subtags
+abbrev pub are_basic_range : List (List ℕ) → Bool
+are_basic_range [] = false
+are_basic_range (first ∷ others) = is_first_subtag first && are_basic_subtags others
+
+-- language-range = (1*8ALPHA *("-" 1*8alphanum)) / "*" (section 2.1)
+abbrev pub is_basic_range : List ℕ → Bool
+is_basic_range text = is_star text || are_basic_range (subtags text)

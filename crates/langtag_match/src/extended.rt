@@ -1,0 +1,55 @@
+//! Extended filtering (RFC 4647 section 3.3.2).
+ghost use Rattle.std.specs.Prelude.{◌≡◌, ◌↔◌, ◌∷◌, ℕ, List, IsTrue, true, false};
+ghost use Rattle.langtag_match.specs.Extended as spec;
+
+use langtag::case_insensitive_eq;
+use langtag_scan::Subtags;
+
+/// Whether the first subtags match, and the others of the range stand among those of the tag.
+pub(crate) fn matches_extended(range: &str, tag: &str) -> bool
+    ensures { IsTrue result ↔ spec.MatchesExtended range.now tag.now }
+{
+    let mut wanted = Subtags::new(range);
+    let mut subtags = Subtags::new(tag);
+    let (Some(first), Some(subtag)) = (wanted.next(), subtags.next()) else {
+        return false;
+    };
+    matches_first(first, subtag) && stand_among(wanted, subtags)
+}
+
+/// Whether a subtag of a range is `*`, or that of a tag but for case.
+fn matches_first(range: &str, subtag: &str) -> bool
+    ensures { result ≡ spec.matches_subtag range.now subtag.now }
+{
+    range == "*" || case_insensitive_eq(range.as_bytes(), subtag.as_bytes())
+}
+
+/// Whether the subtags of a range, but for each `*`, stand among those of a tag in their order, with no singleton left out
+/// between.
+fn stand_among(wanted: Subtags<'_>, mut subtags: Subtags<'_>) -> bool
+    ensures { IsTrue result ↔ spec.StandAmong (spec.without_stars wanted.entry) subtags.entry }
+{
+    for subtag in wanted {
+        if subtag != "*" && !pass(&mut subtags, subtag) {
+            return false;
+        }
+    }
+    true
+}
+
+/// Goes on to what stands after the next subtag that is the wanted one but for case. False where none stands before the
+/// next singleton.
+fn pass(subtags: &mut Subtags<'_>, wanted: &str) -> bool
+    ensures found { result ≡ true → (more : List (List ℕ)) → spec.StandAmong more subtags.new ↔ spec.StandAmong (wanted.now ∷ more) subtags.old }
+    ensures missed { result ≡ false → (more : List (List ℕ)) → spec.StandAmong (wanted.now ∷ more) subtags.old → ⊥ }
+{
+    while let Some(subtag) = subtags.next() {
+        if case_insensitive_eq(wanted.as_bytes(), subtag.as_bytes()) {
+            return true;
+        }
+        if subtag.len() == 1 {
+            return false;
+        }
+    }
+    false
+}

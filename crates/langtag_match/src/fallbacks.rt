@@ -1,0 +1,85 @@
+//! What is left of a language range when subtags are taken away from its end (RFC 4647 section 3.4).
+ghost use Rattle.std.specs.Prelude.{◌≡◌, ◌<◌, ◌++◌, ◌∷◌, ℕ, List, [], length, IfSome};
+ghost use Rattle.std.specs.Iterator.{YieldsFirstBy, item_count};
+ghost use Rattle.std.specs.Option.{option_map_or};
+ghost use Rattle.langtag.specs.Subtags.{segments, segments_left};
+ghost use Rattle.langtag_match.specs.Fallback as spec;
+ghost use Rattle.langtag_match.specs.Range.{is_single_alphanum};
+ghost use Rattle.langtag_match.specs.Text.{language_range_text, fallbacks_left};
+
+use crate::language_range::LanguageRange;
+use langtag::segment_start;
+
+/// What is left of a range when subtags are taken away from its end, the longest first and the range itself before all:
+/// `zh-Hant-TW`, `zh-Hant` and `zh` (RFC 4647 section 3.4).
+///
+/// A single letter or digit goes with the subtag after it: `de-CH-x-a` is followed by `de-CH`.
+#[derive(Clone, Debug, Drop)]
+pub struct Fallbacks<'a> {
+    rest: Option<LanguageRange<'a>>,
+}
+
+impl<'a> Fallbacks<'a> {
+    /// The fallbacks of a range.
+    pub(crate) fn new(range: LanguageRange<'a>) -> Self
+        ensures { fallbacks_left result ≡ spec.fallbacks (language_range_text range.entry) }
+    {
+        Fallbacks { rest: Some(range) }
+    }
+}
+
+impl<'a> Iterator for Fallbacks<'a> {
+    type Item = LanguageRange<'a>;
+
+    ghost next_gives = { YieldsFirstBy language_range_text fallbacks_left };
+
+    ghost remaining = { item_count fallbacks_left };
+
+    fn next(&mut self) -> Option<LanguageRange<'a>> {
+        let range = self.rest?;
+        self.rest = shortened(range);
+        Some(range)
+    }
+}
+
+/// What is left of a range without its last subtag, and without each single letter or digit that would stand last then.
+fn shortened(range: LanguageRange<'_>) -> Option<LanguageRange<'_>>
+    ensures { spec.fallbacks (language_range_text range.entry) ≡ language_range_text range.entry
+        ∷ option_map_or (λ shorter. spec.fallbacks (language_range_text shorter)) result [] }
+{
+    let mut text = range.as_str();
+    while let Some(before) = without_last(text) {
+        if !ends_in_single(before) {
+            return Some(LanguageRange::from_checked(before));
+        }
+        text = before;
+    }
+    None
+}
+
+/// What stands before the last subtag of a text and its hyphen, where there is a hyphen.
+fn without_last(text: &str) -> Option<&str>
+    ensures cut { (last : List ℕ) × (segments text.now ≡ segments_left result ++ last ∷ []) }
+    ensures shorter { IfSome result (λ before. length before.now < length text.now) }
+{
+    let start = segment_start(text.as_bytes(), text.len());
+    if start == 0 {
+        return None;
+    }
+    Some(&text[..start - 1])
+}
+
+/// Whether the last subtag of a text is a single letter or digit.
+fn ends_in_single(text: &str) -> bool
+    ensures { (before : List (List ℕ)) × (last : List ℕ) × (segments text.now ≡ before ++ last ∷ []) × (result ≡ is_single_alphanum last) }
+{
+    let bytes = text.as_bytes();
+    is_single(&bytes[segment_start(bytes, bytes.len())..])
+}
+
+/// Whether a subtag of a range is a single letter or digit, and not `*`.
+fn is_single(subtag: &[u8]) -> bool
+    ensures { result ≡ is_single_alphanum subtag.now }
+{
+    matches!(subtag, [single] if *single != b'*')
+}

@@ -1,0 +1,213 @@
+//! Language ranges (RFC 4647 section 2), lent and owned.
+ghost use Rattle.std.specs.Prelude.{◌≡◌, ◌↔◌, Some, IsTrue, IfOk, IfErr, is_ok};
+ghost use Rattle.std.specs.String.{string_bytes};
+ghost use Rattle.langtag.specs.Case.{are_alike};
+ghost use Rattle.langtag.specs.Text.{lang_tag_text};
+ghost use Rattle.langtag_match.specs.Basic.{MatchesBasic};
+ghost use Rattle.langtag_match.specs.Extended.{MatchesExtended};
+ghost use Rattle.langtag_match.specs.Fallback.{fallbacks};
+ghost use Rattle.langtag_match.specs.Range as spec;
+
+use crate::basic::matches_basic;
+use crate::extended::matches_extended;
+use crate::fallbacks::Fallbacks;
+use crate::range_text::{is_basic_range, is_language_range};
+use langtag::LangTag;
+use langtag_scan::Caseless;
+use std::alloc::{AllocError, Global};
+use std::fmt;
+use std::fmt::Debug;
+use thiserror::Error;
+
+/// A text that is no language range. It hands the text back.
+#[derive(Debug, Drop, Error)]
+#[error("invalid language range")]
+#[error_bound(T: Debug + Drop)]
+pub struct InvalidLanguageRange<T>(pub T);
+
+/// A language range, basic or extended (RFC 4647 sections 2.1 and 2.2): `de-CH`, `*`, `*-CH`, `de-*-DE`.
+///
+/// It is one or more subtags of up to eight letters or digits, the first of letters alone, and in the place of each may
+/// stand `*`. A range need be no tag: `de-x` and `a-1` are ranges. Two ranges are equal where their texts differ at most
+/// in the case of ASCII letters.
+#[derive(Clone, Copy, Debug, PartialEq, Eq, PartialOrd, Ord, Hash)]
+pub struct LanguageRange<'a> {
+    text: Caseless<&'a str>,
+    ghost in_class: { IsTrue (spec.is_language_range text.0.now) },
+}
+
+impl<'a> LanguageRange<'a> {
+    ghost use Rattle.langtag_match.specs.Compared.{LanguageRangesCompareByCase};
+    ghost use Rattle.langtag_match.specs.Text.{language_range_text, language_range_buf_text, fallbacks_left};
+
+    /// The range of a text: `LanguageRange::new("de-*-DE")` is Ok.
+    ///
+    /// # Errors
+    ///
+    /// A text that is no range comes back: `LanguageRange::new("de_DE")` is `Err(InvalidLanguageRange("de_DE"))`.
+    pub fn new(text: &'a str) -> Result<LanguageRange<'a>, InvalidLanguageRange<&'a str>>
+        ensures accepts { is_ok result ≡ spec.is_language_range text.now }
+        ensures same_text { IfOk result (λ range. language_range_text range ≡ text.now) }
+        ensures given_back { IfErr result (λ error. error.0 ≡ text.entry) }
+    {
+        if !is_language_range(text) {
+            return Err(InvalidLanguageRange(text));
+        }
+        Ok(LanguageRange::from_checked(text))
+    }
+
+    /// The range of a text that is known to be one: it is not looked at again.
+    /// `LanguageRange::from_checked(range.as_str())` is equal to `range`.
+    pub fn from_checked(text: &'a str) -> LanguageRange<'a>
+        requires { IsTrue (spec.is_language_range text.now) }
+        ensures { language_range_text result ≡ text.now }
+    {
+        LanguageRange {
+            text: Caseless(text),
+        }
+    }
+
+    /// The text, with its case: `LanguageRange::new("de-ch")?.as_str()` is `"de-ch"`.
+    pub fn as_str(&self) -> &'a str
+        ensures same_text { result.now ≡ language_range_text self.now }
+        ensures in_class { IsTrue (spec.is_language_range result.now) }
+    {
+        self.text.0
+    }
+
+    /// Whether another text, of any form, is equal but for the case of ASCII letters:
+    /// `LanguageRange::new("de-CH")?.eq_str("DE-ch")` is true. The contract also pins that ranges are compared, ordered
+    /// and hashed so.
+    pub fn eq_str(&self, other: &str) -> bool
+        ensures test { result ≡ are_alike (language_range_text self.now) other.now }
+
+        ensures compared { LanguageRangesCompareByCase }
+    {
+        self.text == Caseless(other)
+    }
+
+    /// Whether the range is a basic one (RFC 4647 section 2.1): true of `de-CH` and of `*`, false of `*-CH`.
+    pub fn is_basic(&self) -> bool
+        ensures { result ≡ spec.is_basic_range (language_range_text self.now) }
+    {
+        is_basic_range(self.as_str())
+    }
+
+    /// Whether the range matches a tag by basic filtering (RFC 4647 section 3.3.1): `de-DE` matches `de-DE-1996`, and
+    /// neither `de-Deva` nor `de-Latn-DE`.
+    ///
+    /// It is meant for basic ranges. A `*` beside other subtags equals the subtag of no tag, so `de-*` matches none.
+    pub fn matches_basic(&self, tag: &LangTag<'_>) -> bool
+        ensures { IsTrue result ↔ MatchesBasic (language_range_text self.now) (lang_tag_text tag.now) }
+    {
+        matches_basic(self.as_str(), tag.as_str())
+    }
+
+    /// Whether the range matches a tag by extended filtering (RFC 4647 section 3.3.2): `de-DE` and `de-*-DE` match
+    /// `de-Latn-DE-1996`, and not `de-x-DE`, where a singleton would be left out.
+    pub fn matches_extended(&self, tag: &LangTag<'_>) -> bool
+        ensures { IsTrue result ↔ MatchesExtended (language_range_text self.now) (lang_tag_text tag.now) }
+    {
+        matches_extended(self.as_str(), tag.as_str())
+    }
+
+    /// The range, and what is left of it when subtags are taken away from its end, the longest first (RFC 4647 section 3.4):
+    /// `zh-Hant-TW`, `zh-Hant` and `zh`. [`look_up`](crate::look_up) looks for these.
+    pub fn fallbacks(&self) -> Fallbacks<'a>
+        ensures { fallbacks_left result ≡ fallbacks (language_range_text self.now) }
+    {
+        Fallbacks::new(*self)
+    }
+
+    /// The owned form of the same text: `LanguageRange::new("de-*")?.try_to_owned(alloc)?.as_str()` is `"de-*"`.
+    ///
+    /// # Errors
+    ///
+    /// No memory could be had.
+    pub fn try_to_owned(&self, alloc: Global) -> Result<LanguageRangeBuf, AllocError>
+        ensures { IfOk result (λ owned. language_range_buf_text owned ≡ language_range_text self.now) }
+    {
+        let text = String::from_str(alloc, self.as_str())?;
+        Ok(LanguageRangeBuf {
+            text: Caseless(text),
+        })
+    }
+}
+
+impl fmt::Display for LanguageRange<'_> {
+    ghost use Rattle.langtag_match.specs.Text.{language_range_text};
+
+    ghost output = { λ range. Some (language_range_text range) };
+
+    fn fmt<W: fmt::Write>(&self, f: &mut fmt::Formatter<W>) -> fmt::Result {
+        f.write_str(self.as_str())
+    }
+}
+
+/// A language range that owns its text.
+#[derive(Debug, Drop, PartialEq, Eq, PartialOrd, Ord, Hash)]
+pub struct LanguageRangeBuf {
+    text: Caseless<String>,
+    ghost in_class: { IsTrue (spec.is_language_range (string_bytes text.0)) },
+}
+
+impl LanguageRangeBuf {
+    ghost use Rattle.langtag_match.specs.Compared.{LanguageRangeBufsCompareByCase};
+    ghost use Rattle.langtag_match.specs.Text.{language_range_text, language_range_buf_string, language_range_buf_text};
+
+    /// The range of a text, which is neither copied nor moved in memory: of the `String` `de-*` it is Ok.
+    ///
+    /// # Errors
+    ///
+    /// A text that is no range comes back, the same `String`: `de-` does.
+    pub fn new(text: String) -> Result<LanguageRangeBuf, InvalidLanguageRange<String>>
+        ensures accepts { is_ok result ≡ spec.is_language_range (string_bytes text) }
+        ensures same_text { IfOk result (λ range. language_range_buf_text range ≡ string_bytes text) }
+        ensures same_string { IfOk result (λ range. language_range_buf_string range ≡ text) }
+        ensures given_back { IfErr result (λ error. error.0 ≡ text) }
+    {
+        if !is_language_range(text.as_str()) {
+            return Err(InvalidLanguageRange(text));
+        }
+        Ok(LanguageRangeBuf {
+            text: Caseless(text),
+        })
+    }
+
+    /// The range, lent: `as_language_range().is_basic()` of the owned `de` is true. The contract also pins that owned
+    /// ranges are compared, ordered and hashed without regard to case.
+    pub fn as_language_range(&self) -> LanguageRange<'_>
+        ensures same_text { language_range_text result ≡ language_range_buf_text self.now }
+
+        ensures compared { LanguageRangeBufsCompareByCase }
+    {
+        LanguageRange::from_checked(self.as_str())
+    }
+
+    /// The text, with its case: `as_str()` of the owned `de-ch` is `"de-ch"`.
+    pub fn as_str(&self) -> &str
+        ensures same_text { result.now ≡ language_range_buf_text self.now }
+        ensures in_class { IsTrue (spec.is_language_range result.now) }
+    {
+        self.text.0.as_str()
+    }
+
+    /// The text itself, which is not copied: `into_string()` of the owned `de-ch` is the `String` `de-ch`.
+    pub fn into_string(self) -> String
+        ensures same_text { string_bytes result ≡ language_range_buf_text self }
+        ensures same_string { result ≡ language_range_buf_string self }
+        ensures in_class { IsTrue (spec.is_language_range (string_bytes result)) }
+    {
+        self.text.0
+    }
+}
+
+impl fmt::Display for LanguageRangeBuf {
+    ghost use Rattle.langtag_match.specs.Text.{language_range_buf_text};
+
+    ghost output = { λ range. Some (language_range_buf_text range) };
+
+    fn fmt<W: fmt::Write>(&self, f: &mut fmt::Formatter<W>) -> fmt::Result {
+        f.write_str(self.as_str())
+    }
+}

@@ -1,0 +1,39 @@
+//! Matching of language tags by RFC 4647: language ranges, which tags they match, and the tag for an Accept-Language
+//! header (RFC 9110 section 12.5.4).
+//!
+//! ```
+//! use langtag::LangTag;
+//! use langtag_match::{AcceptLanguage, LanguageRange, look_up};
+//!
+//! let range = LanguageRange::new("de-*-DE")?;
+//! range.matches_extended(&LangTag::new("de-Latn-DE-1996")?); // true
+//! range.matches_extended(&LangTag::new("de-x-DE")?);         // false: no singleton may be left out
+//! LanguageRange::new("de-DE")?.matches_basic(&LangTag::new("de-de-1996")?); // true
+//!
+//! let (english, german) = (LangTag::new("en")?, LangTag::new("de")?);
+//! look_up(&[LanguageRange::new("de-CH")?], &[english, german], english); // de
+//! let accepted = AcceptLanguage::new(alloc, "en;q=0.5, de-CH")?;
+//! accepted.ranges()[0].range.as_str();            // "de-CH"
+//! accepted.look_up(&[english, german], english);  // de
+//! ```
+#![tactic(auto)]
+
+mod accept_language;
+mod accept_language_error;
+mod basic;
+mod choice;
+mod extended;
+mod fallbacks;
+mod language_range;
+mod range_text;
+#[cfg(test)]
+mod tests;
+mod weight;
+mod weighted_range;
+
+pub use accept_language::{AcceptLanguage, tag_for_header};
+pub use accept_language_error::AcceptLanguageError;
+pub use choice::look_up;
+pub use fallbacks::Fallbacks;
+pub use language_range::{InvalidLanguageRange, LanguageRange, LanguageRangeBuf};
+pub use weighted_range::WeightedRange;

@@ -1,0 +1,105 @@
+//! Headers and ranges as an attacker writes them: each is answered, in time that grows with its length.
+use crate::{AcceptLanguage, AcceptLanguageError, LanguageRange, look_up};
+use langtag::LangTag;
+use std::alloc::{AllocError, Global};
+use std::test::Fail;
+
+/// A text over and over, and then an end.
+fn repeated(alloc: Global, piece: &str, times: usize, end: &str) -> Result<String, AllocError> {
+    let mut text = String::new(alloc);
+    for _ in 0..times {
+        text.push_str(piece)?;
+    }
+    text.push_str(end)?;
+    Ok(text)
+}
+
+/// How many ranges a header has.
+fn count(alloc: Global, header: &str) -> Result<usize, AcceptLanguageError<'_>> {
+    Ok(AcceptLanguage::new(alloc, header)?.ranges().len())
+}
+
+/// Memory is wanted for the list, and had: for each number of elements, and for headers of each length.
+#[test]
+fn headers_of_each_length(rt: HostRuntime) -> Result<(), Fail> {
+    for times in 0..100 {
+        for (piece, end, elements) in [
+            ("de,", "", times),
+            ("de;q=0.5,", "fr", times + 1),
+            (" ", "de", 1),
+        ] {
+            let header = once_more!(repeated(rt.alloc(), piece, times, end))?;
+            let ranges = once_more!(count(rt.alloc(), header.as_str()));
+            assert_eq!(rt; ranges.ok(), Some(elements), "of {header}");
+        }
+    }
+    Ok(())
+}
+
+/// A piece of a header, how often it stands there, and how many ranges that makes: white space, empty elements, elements that
+/// are not acceptable, ranges of rising weight, and 10,000 and more ranges of one weight.
+const READ: [(&str, usize, usize); 7] = [
+    (" ", 3_000_000, 0),
+    (",", 65_536, 0),
+    (",", 1_000_000, 0),
+    ("a;q=0.000,", 6_554, 0),
+    ("a;q=0.1,b;q=0.9,", 62_500, 125_000),
+    ("de,", 10_000, 10_000),
+    ("de,", 333_334, 333_334),
+];
+
+#[test]
+fn long_headers_are_read(rt: HostRuntime) -> Result<(), Fail> {
+    for (piece, times, ranges) in READ {
+        let header = once_more!(repeated(rt.alloc(), piece, times, ""))?;
+        let counted = once_more!(count(rt.alloc(), header.as_str()));
+        assert_eq!(rt; counted.ok(), Some(ranges), "of {piece}");
+    }
+    Ok(())
+}
+
+/// Where a header is refused.
+fn offset(alloc: Global, header: &str) -> Option<usize> {
+    match AcceptLanguage::new(alloc, header) {
+        Err(AcceptLanguageError::BadElement { offset, .. }) => Some(offset),
+        _ => None,
+    }
+}
+
+/// A bad element at the end of a long header, and one that is long itself: a piece, how often it stands there, what follows
+/// it, and where the bad element begins.
+const REFUSED: [(&str, usize, &str, usize); 7] = [
+    (",", 1_000_000, "?", 1_000_000),
+    ("aa;q=0.5,", 7_282, "?", 65_538),
+    ("a", 1_000_000, "é", 0),
+    ("a-", 1_000_000, "é", 0),
+    (" ", 1_000_000, "é", 0),
+    ("\t;", 1_000_000, "é", 0),
+    ("0", 1_000_000, "é", 0),
+];
+
+#[test]
+fn long_headers_are_refused(rt: HostRuntime) -> Result<(), Fail> {
+    for (piece, times, end, place) in REFUSED {
+        let header = once_more!(repeated(rt.alloc(), piece, times, end))?;
+        let refused = once_more!(offset(rt.alloc(), header.as_str()).ok_or(()));
+        assert_eq!(rt; refused, Ok(place), "of {piece}");
+    }
+    Ok(())
+}
+
+/// One range of many subtags: of singletons, which fall back to nothing, and of others.
+#[test]
+fn long_ranges(rt: HostRuntime) -> Result<(), Fail> {
+    let default = LangTag::new("en").ok().ok_or("refused")?;
+    let german = LangTag::new("de").ok().ok_or("refused")?;
+    for piece in ["-a", "-bb", "-*"] {
+        let tail = once_more!(repeated(rt.alloc(), piece, 20_000, ""))?;
+        let text = once_more!(repeated(rt.alloc(), "de", 1, tail.as_str()))?;
+        let range = LanguageRange::new(text.as_str()).ok().ok_or("refused")?;
+        assert!(rt; !range.matches_basic(&german));
+        let tag = look_up(&[range], &[default, german], default);
+        assert_eq!(rt; tag.as_str(), "de");
+    }
+    Ok(())
+}

@@ -1,0 +1,78 @@
+//! Which texts are ranges (RFC 4647 sections 2.1 and 2.2), and what is done with one.
+use crate::{LanguageRange, LanguageRangeBuf};
+use std::alloc::Global;
+use std::test::Fail;
+
+#[test]
+fn ranges_are_told_apart(rt: HostRuntime) -> Result<(), Fail> {
+    for text in [
+        "*",
+        "de",
+        "de-DE",
+        "DE-de-1996-x-a",
+        "x-a",
+        "i-klingon",
+        "a-1",
+        "abcdefgh-12345678",
+    ] {
+        let range = LanguageRange::new(text).ok().ok_or("refused")?;
+        assert!(rt; range.is_basic(), "{text}");
+        assert_eq!(rt; range.as_str(), text);
+    }
+    for text in ["*-CH", "de-*", "de-*-DE", "*-*", "de-*-*-x-*"] {
+        let range = LanguageRange::new(text).ok().ok_or("refused")?;
+        assert!(rt; !range.is_basic(), "{text}");
+        assert!(rt; range.eq_str(text));
+    }
+    for text in [
+        "",
+        "-",
+        "de-",
+        "-de",
+        "de--DE",
+        "de_DE",
+        "1",
+        "1a-b",
+        "abcdefghi",
+        "de-123456789",
+        "**",
+        "de-**",
+        "d*",
+        "é",
+    ] {
+        let refused = LanguageRange::new(text).err();
+        assert_eq!(rt; refused.map(|error| error.0), Some(text));
+    }
+    Ok(())
+}
+
+/// The owned form of a range, made of a text of its own.
+fn owned(alloc: Global, text: &str) -> Option<LanguageRangeBuf> {
+    LanguageRangeBuf::new(String::from_str(alloc, text).ok()?).ok()
+}
+
+#[test]
+fn owned_ranges_are_as_lent_ones(rt: HostRuntime) -> Result<(), Fail> {
+    let range = LanguageRange::new("de-*-CH").ok().ok_or("refused")?;
+    let copy = once_more!(range.try_to_owned(rt.alloc()))?;
+    let made = once_more!(owned(rt.alloc(), "DE-*-ch").ok_or(()))
+        .ok()
+        .ok_or("refused")?;
+    assert!(rt; copy == made);
+    assert!(rt; made.as_language_range() == range);
+    assert_eq!(rt; made.as_str(), "DE-*-ch");
+    assert_eq!(rt; copy.into_string().as_str(), "de-*-CH");
+    assert!(rt; owned(rt.alloc(), "de_CH").is_none());
+    Ok(())
+}
+
+#[test]
+fn ranges_are_shown(rt: HostRuntime) -> Result<(), Fail> {
+    let range = LanguageRange::new("de-*").ok().ok_or("refused")?;
+    let text = once_more!(format!(in rt.alloc(); "{range}"))?;
+    assert_eq!(rt; text.as_str(), "de-*");
+    let refused = LanguageRange::new("de_CH").err().ok_or("taken")?;
+    let words = once_more!(format!(in rt.alloc(); "{refused}"))?;
+    assert_eq!(rt; words.as_str(), "invalid language range");
+    Ok(())
+}
