@@ -40,6 +40,7 @@ mod grandfathered;
 mod kind;
 mod lang_tag;
 mod lang_tag_buf;
+mod lengths;
 mod normal_lang_tag;
 mod normal_lang_tag_buf;
 mod private_use_lang_tag;
