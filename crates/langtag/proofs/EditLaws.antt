@@ -9,7 +9,7 @@ use Rattle.langtag_scan.specs.Record.{Extension, PrivateUse, Record, EachRecord,
 use Rattle.langtag_scan.specs.Subtags.{join}
 use Rattle.langtag_scan.specs.Tag.{IsPrivate}
 use Rattle.langtag_scan.specs.declared.ends.Ends.{Ends}
-use Rattle.langtag_scan.proofs.Joins.{hyphenated, join-hyphenated, join-append, drop-join, length-join, length-hyphenated, join-replaced}
+use Rattle.langtag_scan.proofs.Joins.{hyphenated, join-hyphenated, join-append, drop-join, length-join, length-hyphenated, join-replaced, join-around}
 use Rattle.langtag_scan.proofs.PartOffsets.{ends_equal}
 use Rattle.langtag_scan.proofs.SpelledTexts.{ends_each, ends_had}
 use Rattle.langtag_scan.proofs.SubtagFacts.{of_script, of_region, of_variant}
@@ -22,7 +22,7 @@ use Rattle.langtag_extension.specs.Spelling.{SpellsExtensions}
 use Rattle.langtag_private.specs.declared.private_use.PrivateUse as private
 use Rattle.langtag_private.specs.Text.{private_use_text}
 use Rattle.langtag_private.proofs.Rules.{IsPrivate-from_test}
-use Rattle.langtag.specs.Edit.{with_language, with_script, with_region, with_variants, with_extensions, with_private_use, SpellsPrivateUse}
+use Rattle.langtag.specs.Edit.{of_parts, with_language, with_script, with_region, with_variants, with_extensions, with_private_use, SpellsPrivateUse}
 use Rattle.langtag.specs.Lengths.{after_hyphen, ends_from, lengths_of}
 use Rattle.langtag.specs.declared.lengths.Lengths.{Lengths}
 
@@ -182,11 +182,17 @@ if_some : (P Q : List ℕ → Type 0) (part : Option (List ℕ)) → ((s : List 
 if_some P Q None step fact = tt
 if_some P Q (Some s) step fact = step s fact
 
+script_part : (script : Option (List ℕ)) → IfSome script (λ s. IsTrue (is_script s)) → IsPart (unwrap_or script []) (one_flat script)
+script_part script member = one_part script (if_some _ _ script (λ s h. (of_script s h).some) member)
+
+region_part : (region : Option (List ℕ)) → IfSome region (λ s. IsTrue (is_region s)) → IsPart (unwrap_or region []) (one_flat region)
+region_part region member = one_part region (if_some _ _ region (λ s h. (of_region s h).some) member)
+
 pub script-replaces :
     (script : Option (List ℕ)) → IfSome script (λ s. IsTrue (is_script s)) →
     Replaces (after_hyphen (unwrap_or script [])) (λ ends. ends.language) (λ ends. ends.script) (λ m n. record m { script = n }) (λ r. with_script r script)
 script-replaces script member =
-    let is : IsPart (unwrap_or script []) (one_flat script) = one_part script (if_some _ _ script (λ s h. (of_script s h).some) member) in
+    let is = script_part script member in
     record {
       fits = λ r fits. record { primary = fits.primary; extended = fits.extended; few = fits.few; short = fits.short; script = member; region = fits.region; variants = fits.variants; extensions = fits.extensions; private_use = fits.private_use };
       spelled = λ r. join-part_replaced _ r.primary r.extended (one_flat r.script) (after_script r) (one_flat script) _ _ _ is refl refl refl;
@@ -197,7 +203,7 @@ pub region-replaces :
     (region : Option (List ℕ)) → IfSome region (λ s. IsTrue (is_region s)) →
     Replaces (after_hyphen (unwrap_or region [])) (λ ends. ends.script) (λ ends. ends.region) (λ m n. record m { region = n }) (λ r. with_region r region)
 region-replaces region member =
-    let is : IsPart (unwrap_or region []) (one_flat region) = one_part region (if_some _ _ region (λ s h. (of_region s h).some) member) in
+    let is = region_part region member in
     record {
       fits = λ r fits. record { primary = fits.primary; extended = fits.extended; few = fits.few; short = fits.short; script = fits.script; region = member; variants = fits.variants; extensions = fits.extensions; private_use = fits.private_use };
       spelled = λ r.
@@ -267,3 +273,36 @@ private_use_spelled None = (None, record { member = tt; joined = refl })
 private_use_spelled (Some part) =
     let spelled = IsPrivate-from_test _ part.in_class in
     (Some spelled.0, record { member = spelled.1; joined = ap Some spelled.2 })
+
+-- ---- a tag of a language, a script and a region
+
+-- the record spells the text, and its parts end where the lengths add up to
+pub record IsMade (text : List ℕ) (m : Lengths) (r : Record) : Type 0 where
+  pub spells : Spells r text
+  pub kept : ∥ HasEnds text (ends_from m) ∥₁
+
+pub made_of_parts :
+    (primary : List ℕ) (extended : List (List ℕ)) (language : List ℕ) (script region : Option (List ℕ)) (text : List ℕ) →
+    SpellsLanguage primary extended language → IfSome script (λ s. IsTrue (is_script s)) → IfSome region (λ s. IsTrue (is_region s)) →
+    text ≡ (language ++ after_hyphen (unwrap_or script [])) ++ after_hyphen (unwrap_or region []) →
+    IsMade text (lengths (length language) (length (after_hyphen (unwrap_or script []))) (length (after_hyphen (unwrap_or region []))) 0 0 0) (of_parts primary extended script region)
+unfolding HasEnds
+made_of_parts primary extended language script region text spelled script_member region_member made =
+    let r = of_parts primary extended script region in
+    let first = after_hyphen-part _ _ (script_part script script_member) in
+    let second = after_hyphen-part _ _ (region_part region region_member) in
+    let fits : IsWellFormed r = record { primary = spelled.first; extended = spelled.others; few = spelled.few; short = spelled.short; script = script_member; region = region_member; variants = tt; extensions = tt; private_use = tt } in
+    let spells : Spells r text = (fits, rw (made, first, second, ← spelled.joined, append-nil (one_flat region)) (join-around primary extended (one_flat script) (one_flat region))) in
+    record { spells = spells; kept = ∣ (r, spells, rw (first, second, ← spelled.joined) (ends_from-part_lengths r)) ∣₁ }
+
+-- a part of one subtag takes at most nine bytes
+short_part : (part : Option (List ℕ)) → IfSome part (λ s. length s ≤ 8) → length (after_hyphen (unwrap_or part [])) ≤ 9
+short_part None short = omega arith
+short_part (Some []) short = omega arith
+short_part (Some (b ∷ s)) short = omega (arith, short)
+
+pub short_script : (script : Option (List ℕ)) → IfSome script (λ s. IsTrue (is_script s)) → length (after_hyphen (unwrap_or script [])) ≤ 9
+short_script script member = short_part script (if_some _ _ script (λ s h. (of_script s h).short) member)
+
+pub short_region : (region : Option (List ℕ)) → IfSome region (λ s. IsTrue (is_region s)) → length (after_hyphen (unwrap_or region [])) ≤ 9
+short_region region member = short_part region (if_some _ _ region (λ s h. (of_region s h).short) member)

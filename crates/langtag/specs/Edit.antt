@@ -1,6 +1,6 @@
 -- What the setters make of a normal tag: the record with one member in the old one's place, or with none there
 -- (RFC 5646 sections 2.2.1 to 2.2.7), and the text that it spells.
-use Rattle.std.specs.Prelude.{◌≡◌, ℕ, List, Option, IfSome}
+use Rattle.std.specs.Prelude.{◌≡◌, ℕ, List, [], Option, None, IfSome}
 use Rattle.std.specs.Option.{option_map}
 use Rattle.langtag_scan.specs.Record.{Extension, PrivateUse, Record, EachRecord, IsWellFormedPrivateUse, Spells, private_use_flat}
 use Rattle.langtag_scan.specs.Subtags.{join}
@@ -33,6 +33,18 @@ with_extensions r extensions = record r { extensions = extensions }
 -- with this private use part
 abbrev pub with_private_use : Record → Option PrivateUse → Record
 with_private_use r private_use = record r { private_use = private_use }
+
+-- of these parts and no others
+abbrev pub of_parts : List ℕ → List (List ℕ) → Option (List ℕ) → Option (List ℕ) → Record
+of_parts primary extended script region = record {
+  primary = primary;
+  extended = extended;
+  script = script;
+  region = region;
+  variants = [];
+  extensions = [];
+  private_use = None;
+}
 
 -- ---- the text: what the record of the old one spells with the member that is set
 

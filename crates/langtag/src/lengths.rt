@@ -1,7 +1,7 @@
 //! How long the parts of a normal tag are.
-ghost use Rattle.std.specs.Prelude.{◌≡◌, ◌<◌, ◌^◌};
+ghost use Rattle.std.specs.Prelude.{◌≡◌, ◌<◌, ◌^◌, length};
 ghost use Rattle.langtag_scan.specs.Parts.{AreInOrder};
-ghost use Rattle.langtag.specs.Lengths.{lengths_of, ends_from};
+ghost use Rattle.langtag.specs.Lengths.{after_hyphen, lengths_of, ends_from};
 
 use langtag_scan::Ends;
 
@@ -15,6 +15,13 @@ pub(crate) struct Lengths {
     pub(crate) variants: usize,
     pub(crate) extensions: usize,
     pub(crate) private_use: usize,
+}
+
+/// How many bytes a part takes with the hyphen before it: none where it is empty.
+pub(crate) fn length_with_hyphen(part: &str) -> usize
+    ensures { result ≡ length (after_hyphen part.now) }
+{
+    if part.is_empty() { 0 } else { 1 + part.len() }
 }
 
 impl Lengths {

@@ -4,19 +4,21 @@ ghost use Rattle.std.specs.Option.{option_map};
 ghost use Rattle.std.specs.String.{string_bytes};
 ghost use Rattle.langtag_scan.specs.Ends.{HasEnds};
 ghost use Rattle.langtag_scan.specs.Record as model;
-ghost use Rattle.langtag_scan.specs.Record.{Extension, Record};
+ghost use Rattle.langtag_scan.specs.Record.{Extension, Record, Spells};
 ghost use Rattle.langtag_scan.specs.Tag.{IsNormal};
+ghost use Rattle.langtag_language.specs.Language.{EachSpelling};
 ghost use Rattle.langtag_language.specs.Text.{language_text};
 ghost use Rattle.langtag_place.specs.Text.{script_text, region_text, variants_text};
 ghost use Rattle.langtag_extension.specs.Text.{extensions_text};
 ghost use Rattle.langtag_private.specs.Text.{private_use_text};
-ghost use Rattle.langtag.specs.Edit.{with_language, with_script, with_region, with_variants, with_extensions, with_private_use};
+ghost use Rattle.langtag.specs.Edit.{of_parts, with_language, with_script, with_region, with_variants, with_extensions, with_private_use};
 ghost use Rattle.langtag.specs.Edit.{SetsLanguage, SetsScript, SetsRegion, SetsVariants, SetsExtensions, SetsPrivateUse};
 
 use crate::edit::{
-    put_extensions, put_language, put_private_use, put_region, put_script, put_variants,
+    join_parts, put_extensions, put_language, put_private_use, put_region, put_script, put_variants,
 };
 use crate::lang_tag_buf::LangTagBuf;
+use crate::lengths::{Lengths, length_with_hyphen};
 use crate::normal_lang_tag::{InvalidNormalLangTag, NormalLangTag};
 use crate::recognise_text::normal_ends;
 use langtag_extension::Extensions;
@@ -57,6 +59,38 @@ impl NormalLangTagBuf {
             return Err(InvalidNormalLangTag(text));
         };
         Ok(NormalLangTagBuf::with_ends(text, ends))
+    }
+
+    /// The normal tag of a language, a script and a region, and no other parts: `zh-Hant-TW` of `zh`, `Hant` and `TW`, and `zh` of
+    /// `zh`, None and None. Memory is taken once, and no more than the text needs.
+    ///
+    /// # Errors
+    ///
+    /// No memory could be had.
+    pub fn from_parts(
+        alloc: Global,
+        language: Language<'_>,
+        script: Option<Script<'_>>,
+        region: Option<Region<'_>>,
+    ) -> Result<NormalLangTagBuf, AllocError>
+        ensures { IfOk result (λ tag. EachSpelling (language_text language.entry) (λ primary extended.
+            Spells (of_parts primary extended (option_map script_text script.entry) (option_map region_text region.entry))
+            (normal_lang_tag_buf_text tag))) }
+    {
+        let language = language.as_str();
+        let script = script.map_or("", |script| script.as_str());
+        let region = region.map_or("", |region| region.as_str());
+        let lengths = Lengths {
+            language: language.len(),
+            script: length_with_hyphen(script),
+            region: length_with_hyphen(region),
+            variants: 0,
+            extensions: 0,
+            private_use: 0,
+        };
+        let ends = lengths.ends();
+        let whole = join_parts(alloc, ends.whole, language, script, region)?;
+        Ok(NormalLangTagBuf::with_ends(whole, ends))
     }
 
     /// The normal tag of a text whose parts are known to end at these offsets: it is not looked at again.
