@@ -1,36 +1,87 @@
--- A record with another script or region is well formed, it spells the text in which that part is replaced, and its
--- parts end where they have moved to.
-use Rattle.std.proofs.Common.{◌≡◌, ℕ, ◌+◌, IsTrue, List, ◌∷◌, ◌++◌, length, Option, None, Some, IfSome, refl, sym, ap, ◌∙◌, arith, append_assoc}
-use Rattle.std.specs.List.{flat_map, replace_range}
+-- A record with another part is well formed, it spells the text in which that part is replaced, and its parts end where
+-- their lengths add up to.
+use Rattle.std.proofs.Common.{◌≡◌, ℕ, ◌≤◌, IsTrue, List, [], ◌∷◌, ◌++◌, length, Option, None, Some, IfSome, unwrap_or, refl, sym, ap, ◌∙◌, arith, append_assoc, append-nil}
+use Rattle.std.specs.List.{AllByRecursion, flat_map, replace_range}
 use Rattle.std.specs.Option.{option_map}
-use Rattle.langtag_scan.specs.Class.{is_script, is_region}
+use Rattle.langtag_scan.specs.Class.{is_script, is_region, is_variant}
 use Rattle.langtag_scan.specs.Ends.{ends_of, HasEnds}
-use Rattle.langtag_scan.specs.Record.{Record, EachRecord, IsWellFormed, Spells, extension_flat, one_flat, private_part_flat, spell}
+use Rattle.langtag_scan.specs.Record.{Extension, PrivateUse, Record, EachRecord, IsWellFormed, Spells, extension_flat, one_flat, private_part_flat, spell}
 use Rattle.langtag_scan.specs.Subtags.{join}
+use Rattle.langtag_scan.specs.Tag.{IsPrivate}
 use Rattle.langtag_scan.specs.declared.ends.Ends.{Ends}
-use Rattle.langtag_scan.proofs.Joins.{hyphenated, hyphenated-one, length-join, length-hyphenated, join-replaced}
+use Rattle.langtag_scan.proofs.Joins.{hyphenated, join-hyphenated, join-append, drop-join, length-join, length-hyphenated, join-replaced, join-around}
 use Rattle.langtag_scan.proofs.PartOffsets.{ends_equal}
 use Rattle.langtag_scan.proofs.SpelledTexts.{ends_each, ends_had}
+use Rattle.langtag_scan.proofs.SubtagFacts.{of_script, of_region, of_variant}
+use Rattle.langtag_language.specs.Language.{SpellsLanguage}
 use Rattle.langtag_place.specs.declared.region.Region.{Region}
 use Rattle.langtag_place.specs.declared.script.Script.{Script}
 use Rattle.langtag_place.specs.Text.{region_text, script_text}
-use Rattle.langtag.specs.Edit.{with_script, with_region}
-use Rattle.langtag.specs.Moved.{after_hyphen, with_script_end, with_region_end}
+use Rattle.langtag_place.specs.Variants.{SpellsVariants}
+use Rattle.langtag_extension.specs.Spelling.{SpellsExtensions}
+use Rattle.langtag_private.specs.declared.private_use.PrivateUse as private
+use Rattle.langtag_private.specs.Text.{private_use_text}
+use Rattle.langtag_private.proofs.Rules.{IsPrivate-from_test}
+use Rattle.langtag.specs.Edit.{of_parts, with_language, with_script, with_region, with_variants, with_extensions, with_private_use, SpellsPrivateUse}
+use Rattle.langtag.specs.Lengths.{after_hyphen, ends_from, lengths_of}
+use Rattle.langtag.specs.declared.lengths.Lengths.{Lengths}
+
+-- ---- the lengths of the parts of a record
+
+abbrev part_lengths : Record → Lengths
+part_lengths r = record {
+  language = length (join (r.primary ∷ r.extended));
+  script = length (hyphenated (one_flat r.script));
+  region = length (hyphenated (one_flat r.region));
+  variants = length (hyphenated r.variants);
+  extensions = length (hyphenated (flat_map extension_flat r.extensions));
+  private_use = length (hyphenated (private_part_flat r.private_use));
+}
+
+-- its parts end where they add up to
+ends_from-part_lengths : (r : Record) → ends_from (part_lengths r) ≡ ends_of r
+ends_from-part_lengths r = ends_equal _ _ refl
+    (simp (length-join, length-hyphenated) (omega arith))
+    (simp (length-join, length-hyphenated) (omega arith))
+    (simp (length-join, length-hyphenated) (omega arith))
+    (simp (length-join, length-hyphenated) (omega arith))
+    (simp (length-join, length-hyphenated) (omega arith))
+
+abbrev lengths : ℕ → ℕ → ℕ → ℕ → ℕ → ℕ → Lengths
+lengths l s g v x p = record { language = l; script = s; region = g; variants = v; extensions = x; private_use = p }
+
+-- where lengths are equal
+lengths_equal :
+    (l s g v x p s' g' v' x' p' : ℕ) → s ≡ s' → g ≡ g' → v ≡ v' → x ≡ x' → p ≡ p' →
+    lengths l s g v x p ≡ lengths l s' g' v' x' p'
+lengths_equal l s g v x p s' g' v' x' p' es eg ev ex ep = rw (es, eg, ev, ex, ep) refl
+
+-- lengths are found again between the ends that they add up to
+lengths_of-ends_from : (m : Lengths) → lengths_of (ends_from m) ≡ m
+lengths_of-ends_from m =
+    lengths_equal m.language _ _ _ _ _ m.script m.region m.variants m.extensions m.private_use
+    (omega arith) (omega arith) (omega arith) (omega arith) (omega arith)
+
+lengths_of-ends_of : (r : Record) → lengths_of (ends_of r) ≡ part_lengths r
+lengths_of-ends_of r = ap lengths_of (sym (ends_from-part_lengths r)) ∙ lengths_of-ends_from (part_lengths r)
 
 -- ---- an edit of a text and the change of its record
 
--- to put a text between two of the ends of a record, and to move the later ends, is to change the record
-pub record Replaces (part : List ℕ) (low high : Ends → ℕ) (with_end : Ends → ℕ → Ends) (change : Record → Record) : Type 0 where
+-- to put a text between two of the ends of a record is to change the record, and one of the lengths of its parts
+pub record Replaces (part : List ℕ) (low high : Ends → ℕ) (with_length : Lengths → ℕ → Lengths) (change : Record → Record) : Type 0 where
   pub fits : (r : Record) → IsWellFormed r → IsWellFormed (change r)
   pub spelled : (r : Record) → replace_range (spell r) (low (ends_of r)) (high (ends_of r)) part ≡ spell (change r)
-  pub ends : (r : Record) → with_end (ends_of r) (low (ends_of r) + length part) ≡ ends_of (change r)
+  pub lengths : (r : Record) → with_length (part_lengths r) (length part) ≡ part_lengths (change r)
 
 -- so it is with the ends that a text keeps
 pub record IsEdited (old new : List ℕ) (ends : Ends) (change : Record → Record) : Type 0 where
   pub spells : EachRecord old (λ r. Spells (change r) new)
   pub kept : ∥ HasEnds new ends ∥₁
 
-module _ {part : List ℕ} {low high : Ends → ℕ} {with_end : Ends → ℕ → Ends} {change : Record → Record} (replaces : Replaces part low high with_end change) where
+module _ {part : List ℕ} {low high : Ends → ℕ} {with_length : Lengths → ℕ → Lengths} {change : Record → Record} (replaces : Replaces part low high with_length change) where
+  ends-changed : (r : Record) → ends_from (with_length (lengths_of (ends_of r)) (length part)) ≡ ends_of (change r)
+  ends-changed r = rw (lengths_of-ends_of r, replaces.lengths r) (ends_from-part_lengths (change r))
+
   spells-edited :
       (old new : List ℕ) (ends : Ends) → HasEnds old ends → new ≡ replace_range old (low ends) (high ends) part →
       EachRecord old (λ r. Spells (change r) new)
@@ -38,124 +89,220 @@ module _ {part : List ℕ} {low high : Ends → ℕ} {with_end : Ends → ℕ �
       (replaces.fits r spells.0, sym (made ∙ rw (ends_each old ends kept r spells, ← spells.1) (replaces.spelled r)))
 
   ends-edited :
-      (old new : List ℕ) (ends : Ends) (offset : ℕ) → HasEnds old ends → new ≡ replace_range old (low ends) (high ends) part →
-      offset ≡ low ends + length part → HasEnds new (with_end ends offset)
+      (old new : List ℕ) (ends : Ends) (count : ℕ) → HasEnds old ends → new ≡ replace_range old (low ends) (high ends) part →
+      count ≡ length part → HasEnds new (ends_from (with_length (lengths_of ends) count))
   unfolding HasEnds
-  ends-edited old new ends offset (r, spells, is) made at =
-      (change r, spells-edited old new ends (r, spells, is) made r spells, rw (at, is) (replaces.ends r))
+  ends-edited old new ends count (r, spells, is) made counted =
+      (change r, spells-edited old new ends (r, spells, is) made r spells, rw (counted, is) (ends-changed r))
 
   pub edited :
-      (old new : List ℕ) (ends : Ends) (offset : ℕ) → ∥ HasEnds old ends ∥₁ →
-      new ≡ replace_range old (low ends) (high ends) part → offset ≡ low ends + length part →
-      IsEdited old new (with_end ends offset) change
-  edited old new ends offset merely made at =
+      (old new : List ℕ) (ends : Ends) (count : ℕ) → ∥ HasEnds old ends ∥₁ →
+      new ≡ replace_range old (low ends) (high ends) part → count ≡ length part →
+      IsEdited old new (ends_from (with_length (lengths_of ends) count)) change
+  edited old new ends count merely made counted =
       let kept = ends_had old ends merely in
-      record { spells = spells-edited old new ends kept made; kept = ∣ ends-edited old new ends offset kept made at ∣₁ }
+      record { spells = spells-edited old new ends kept made; kept = ∣ ends-edited old new ends count kept made counted ∣₁ }
 
 -- ---- one part among the subtags
 
-hyphenated-part : (part : Option (List ℕ)) → hyphenated (one_flat part) ≡ after_hyphen part
-hyphenated-part None = refl
-hyphenated-part (Some s) = hyphenated-one s
+-- no subtags, or a first one that is not empty
+abbrev BeginsWithByte : List (List ℕ) → Type 0
+BeginsWithByte [] = Unit {0}
+BeginsWithByte ([] ∷ ss) = ⊥
+BeginsWithByte ((b ∷ s) ∷ ss) = Unit {0}
 
-length-part : (part : Option (List ℕ)) → length (hyphenated (one_flat part)) ≡ length (after_hyphen part)
-length-part part = ap length (hyphenated-part part)
+-- these subtags, joined, are the part, which is empty only where there are none
+record IsPart (part : List ℕ) (ss : List (List ℕ)) : Type 0 where
+  pub joined : join ss ≡ part
+  pub begins : BeginsWithByte ss
 
--- to replace the part in the text is to replace it in the list of subtags
+begins : (s : List ℕ) (ss : List (List ℕ)) → 1 ≤ length s → BeginsWithByte (s ∷ ss)
+begins [] ss some = absurd (omega (arith, some))
+begins (b ∷ s) ss some = tt
+
+-- what stands in the text for the part is each of its subtags after a hyphen
+after_hyphen-join : (ss : List (List ℕ)) → BeginsWithByte ss → after_hyphen (join ss) ≡ hyphenated ss
+after_hyphen-join [] some = refl
+after_hyphen-join ([] ∷ ss) some = absurd some
+after_hyphen-join ((b ∷ s) ∷ []) some = ap (λ t. 45 ∷ t) (join-hyphenated (b ∷ s) [])
+after_hyphen-join ((b ∷ s) ∷ t ∷ ss) some = ap (λ t. 45 ∷ t) (join-hyphenated (b ∷ s) (t ∷ ss))
+
+after_hyphen-part : (part : List ℕ) (ss : List (List ℕ)) → IsPart part ss → after_hyphen part ≡ hyphenated ss
+after_hyphen-part part ss is = rw (← is.joined) (after_hyphen-join ss is.begins)
+
+-- to replace the part in the text is to replace its subtags in the list, however they are grouped
 join-part_replaced :
-    (x : List ℕ) (before after : List (List ℕ)) (old new : Option (List ℕ)) →
-    replace_range (join (x ∷ (before ++ (one_flat old ++ after)))) (length (join (x ∷ before))) (length (join (x ∷ (before ++ one_flat old)))) (after_hyphen new) ≡ join (x ∷ (before ++ (one_flat new ++ after)))
-join-part_replaced x before after old new =
-    rw (← hyphenated-part new) (join-replaced x before (one_flat old) after (one_flat new))
+    (part x : List ℕ) (xs ys zs us prefix whole changed : List (List ℕ)) → IsPart part us →
+    prefix ≡ xs ++ ys → whole ≡ xs ++ (ys ++ zs) → changed ≡ xs ++ (us ++ zs) →
+    replace_range (join (x ∷ whole)) (length (join (x ∷ xs))) (length (join (x ∷ prefix))) (after_hyphen part) ≡ join (x ∷ changed)
+join-part_replaced part x xs ys zs us prefix whole changed is to_prefix to_whole to_changed =
+    rw (to_prefix, to_whole, to_changed, after_hyphen-part part us is) (join-replaced x xs ys zs us)
 
--- ---- the script
+-- ---- what stands after each part
 
-IsWellFormed-with_script : (r : Record) (s : Option (List ℕ)) → IfSome s (λ s. IsTrue (is_script s)) → IsWellFormed r → IsWellFormed (with_script r s)
-IsWellFormed-with_script r s member fits = record {
-  primary = fits.primary;
-  extended = fits.extended;
-  few = fits.few;
-  short = fits.short;
-  script = member;
-  region = fits.region;
-  variants = fits.variants;
-  extensions = fits.extensions;
-  private_use = fits.private_use;
+abbrev after_variants : Record → List (List ℕ)
+after_variants r = flat_map extension_flat r.extensions ++ private_part_flat r.private_use
+
+abbrev after_region : Record → List (List ℕ)
+after_region r = r.variants ++ after_variants r
+
+abbrev after_script : Record → List (List ℕ)
+after_script r = one_flat r.region ++ after_region r
+
+abbrev after_language : Record → List (List ℕ)
+after_language r = one_flat r.script ++ after_script r
+
+-- ---- the language
+
+pub language-replaces :
+    (primary : List ℕ) (extended : List (List ℕ)) (text : List ℕ) → SpellsLanguage primary extended text →
+    Replaces text (λ ends. 0) (λ ends. ends.language) (λ m n. record m { language = n }) (λ r. with_language r primary extended)
+language-replaces primary extended text spells = record {
+  fits = λ r fits. record { primary = spells.first; extended = spells.others; few = spells.few; short = spells.short; script = fits.script; region = fits.region; variants = fits.variants; extensions = fits.extensions; private_use = fits.private_use };
+  spelled = λ r. rw (drop-join r.primary r.extended (after_language r), ← spells.joined) (sym (join-append primary extended (after_language r)));
+  lengths = λ r. rw spells.joined refl;
 }
 
-is_script-member : (script : Option Script) → IfSome (option_map script_text script) (λ s. IsTrue (is_script s))
+-- ---- the script and the region
+
+pub is_script-member : (script : Option Script) → IfSome (option_map script_text script) (λ s. IsTrue (is_script s))
 is_script-member None = tt
 is_script-member (Some script) = script.in_class
 
-ends_of-with_script :
-    (r : Record) (s : Option (List ℕ)) →
-    with_script_end (ends_of r) ((ends_of r).language + length (after_hyphen s)) ≡ ends_of (with_script r s)
-ends_of-with_script r s = ends_equal _ _ refl
-    (simp (length-join, length-hyphenated, length-part) (omega arith))
-    (simp (length-join, length-hyphenated, length-part) (omega arith))
-    (simp (length-join, length-hyphenated, length-part) (omega arith))
-    (simp (length-join, length-hyphenated, length-part) (omega arith))
-    (simp (length-join, length-hyphenated, length-part) (omega arith))
-
-abbrev script_member : Option Script → Option (List ℕ)
-script_member script = option_map script_text script
-
-pub script-replaces :
-    (script : Option Script) →
-    Replaces (after_hyphen (script_member script)) (λ ends. ends.language) (λ ends. ends.script) with_script_end (λ r. with_script r (script_member script))
-script-replaces script = record {
-  fits = λ r. IsWellFormed-with_script r (script_member script) (is_script-member script);
-  spelled = λ r. join-part_replaced r.primary r.extended _ r.script (script_member script);
-  ends = λ r. ends_of-with_script r (script_member script);
-}
-
--- ---- the region
-
-IsWellFormed-with_region : (r : Record) (s : Option (List ℕ)) → IfSome s (λ s. IsTrue (is_region s)) → IsWellFormed r → IsWellFormed (with_region r s)
-IsWellFormed-with_region r s member fits = record {
-  primary = fits.primary;
-  extended = fits.extended;
-  few = fits.few;
-  short = fits.short;
-  script = fits.script;
-  region = member;
-  variants = fits.variants;
-  extensions = fits.extensions;
-  private_use = fits.private_use;
-}
-
-is_region-member : (region : Option Region) → IfSome (option_map region_text region) (λ s. IsTrue (is_region s))
+pub is_region-member : (region : Option Region) → IfSome (option_map region_text region) (λ s. IsTrue (is_region s))
 is_region-member None = tt
 is_region-member (Some region) = region.in_class
 
--- what stands after the region
-abbrev after_region : Record → List (List ℕ)
-after_region r = r.variants ++ (flat_map extension_flat r.extensions ++ private_part_flat r.private_use)
+-- a subtag that may be there
+one_part : (part : Option (List ℕ)) → IfSome part (λ s. 1 ≤ length s) → IsPart (unwrap_or part []) (one_flat part)
+one_part None some = record { joined = refl; begins = tt }
+one_part (Some s) some = record { joined = refl; begins = begins s [] some }
 
-spell-with_region :
-    (r : Record) (s : Option (List ℕ)) →
-    replace_range (spell r) (ends_of r).script (ends_of r).region (after_hyphen s) ≡ spell (with_region r s)
-spell-with_region r s =
-    let before = append_assoc r.extended (one_flat r.script) in
-    rw (← before (one_flat r.region ++ after_region r), ← before (one_flat r.region), ← before (one_flat s ++ after_region r)) (join-part_replaced r.primary (r.extended ++ one_flat r.script) (after_region r) r.region s)
+if_some : (P Q : List ℕ → Type 0) (part : Option (List ℕ)) → ((s : List ℕ) → P s → Q s) → IfSome part P → IfSome part Q
+if_some P Q None step fact = tt
+if_some P Q (Some s) step fact = step s fact
 
-ends_of-with_region :
-    (r : Record) (s : Option (List ℕ)) →
-    with_region_end (ends_of r) ((ends_of r).script + length (after_hyphen s)) ≡ ends_of (with_region r s)
-ends_of-with_region r s = ends_equal _ _ refl refl
-    (simp (length-join, length-hyphenated, length-part) (omega arith))
-    (simp (length-join, length-hyphenated, length-part) (omega arith))
-    (simp (length-join, length-hyphenated, length-part) (omega arith))
-    (simp (length-join, length-hyphenated, length-part) (omega arith))
+script_part : (script : Option (List ℕ)) → IfSome script (λ s. IsTrue (is_script s)) → IsPart (unwrap_or script []) (one_flat script)
+script_part script member = one_part script (if_some _ _ script (λ s h. (of_script s h).some) member)
 
-abbrev region_member : Option Region → Option (List ℕ)
-region_member region = option_map region_text region
+region_part : (region : Option (List ℕ)) → IfSome region (λ s. IsTrue (is_region s)) → IsPart (unwrap_or region []) (one_flat region)
+region_part region member = one_part region (if_some _ _ region (λ s h. (of_region s h).some) member)
+
+pub script-replaces :
+    (script : Option (List ℕ)) → IfSome script (λ s. IsTrue (is_script s)) →
+    Replaces (after_hyphen (unwrap_or script [])) (λ ends. ends.language) (λ ends. ends.script) (λ m n. record m { script = n }) (λ r. with_script r script)
+script-replaces script member =
+    let is = script_part script member in
+    record {
+      fits = λ r fits. record { primary = fits.primary; extended = fits.extended; few = fits.few; short = fits.short; script = member; region = fits.region; variants = fits.variants; extensions = fits.extensions; private_use = fits.private_use };
+      spelled = λ r. join-part_replaced _ r.primary r.extended (one_flat r.script) (after_script r) (one_flat script) _ _ _ is refl refl refl;
+      lengths = λ r. rw (after_hyphen-part _ _ is) refl;
+    }
 
 pub region-replaces :
-    (region : Option Region) →
-    Replaces (after_hyphen (region_member region)) (λ ends. ends.script) (λ ends. ends.region) with_region_end (λ r. with_region r (region_member region))
-region-replaces region = record {
-  fits = λ r. IsWellFormed-with_region r (region_member region) (is_region-member region);
-  spelled = λ r. spell-with_region r (region_member region);
-  ends = λ r. ends_of-with_region r (region_member region);
-}
+    (region : Option (List ℕ)) → IfSome region (λ s. IsTrue (is_region s)) →
+    Replaces (after_hyphen (unwrap_or region [])) (λ ends. ends.script) (λ ends. ends.region) (λ m n. record m { region = n }) (λ r. with_region r region)
+region-replaces region member =
+    let is = region_part region member in
+    record {
+      fits = λ r fits. record { primary = fits.primary; extended = fits.extended; few = fits.few; short = fits.short; script = fits.script; region = member; variants = fits.variants; extensions = fits.extensions; private_use = fits.private_use };
+      spelled = λ r.
+          join-part_replaced _ r.primary (r.extended ++ one_flat r.script) (one_flat r.region) (after_region r) (one_flat region) _ _ _ is
+          (simp append_assoc) (simp append_assoc) (simp append_assoc);
+      lengths = λ r. rw (after_hyphen-part _ _ is) refl;
+    }
+
+-- ---- the variants, the extensions and the private use part
+
+pub variants-replaces :
+    (variants : List (List ℕ)) (text : List ℕ) → SpellsVariants variants text →
+    Replaces (after_hyphen text) (λ ends. ends.region) (λ ends. ends.variants) (λ m n. record m { variants = n }) (λ r. with_variants r variants)
+variants-replaces variants text spells =
+    let is : IsPart text variants = record { joined = spells.joined; begins = variants-begin variants spells.members } in
+    record {
+      fits = λ r fits. record { primary = fits.primary; extended = fits.extended; few = fits.few; short = fits.short; script = fits.script; region = fits.region; variants = spells.members; extensions = fits.extensions; private_use = fits.private_use };
+      spelled = λ r.
+          join-part_replaced _ r.primary (r.extended ++ (one_flat r.script ++ one_flat r.region)) r.variants (after_variants r) variants _ _ _ is
+          (simp append_assoc) (simp append_assoc) (simp append_assoc);
+      lengths = λ r. rw (after_hyphen-part _ _ is) refl;
+    }
+  where
+    variants-begin : (variants : List (List ℕ)) → AllByRecursion (λ s. IsTrue (is_variant s)) variants → BeginsWithByte variants
+    variants-begin [] members = tt
+    variants-begin (s ∷ variants) members = begins s variants (of_variant s members.0).some
+
+pub extensions-replaces :
+    (extensions : List Extension) (text : List ℕ) → SpellsExtensions extensions text →
+    Replaces (after_hyphen text) (λ ends. ends.variants) (λ ends. ends.extensions) (λ m n. record m { extensions = n }) (λ r. with_extensions r extensions)
+extensions-replaces extensions text spells =
+    let is : IsPart text (flat_map extension_flat extensions) = record { joined = spells.joined; begins = extensions-begin extensions } in
+    record {
+      fits = λ r fits. record { primary = fits.primary; extended = fits.extended; few = fits.few; short = fits.short; script = fits.script; region = fits.region; variants = fits.variants; extensions = spells.members; private_use = fits.private_use };
+      spelled = λ r.
+          join-part_replaced _ r.primary (r.extended ++ (one_flat r.script ++ (one_flat r.region ++ r.variants))) (flat_map extension_flat r.extensions) (private_part_flat r.private_use) (flat_map extension_flat extensions) _ _ _ is
+          (simp append_assoc) (simp append_assoc) (simp append_assoc);
+      lengths = λ r. rw (after_hyphen-part _ _ is) refl;
+    }
+  where
+    extensions-begin : (extensions : List Extension) → BeginsWithByte (flat_map extension_flat extensions)
+    extensions-begin [] = tt
+    extensions-begin (e ∷ extensions) = tt
+
+-- the text of a private use part that may be there, and the subtags of the one that spells it
+private_use_part : (part : Option PrivateUse) (text : Option (List ℕ)) → SpellsPrivateUse part text → IsPart (unwrap_or text []) (private_part_flat part)
+private_use_part None text spells = record { joined = ap (λ o. unwrap_or o []) spells.joined; begins = tt }
+private_use_part (Some p) text spells = record { joined = ap (λ o. unwrap_or o []) spells.joined; begins = tt }
+
+pub private_use-replaces :
+    (part : Option PrivateUse) (text : Option (List ℕ)) → SpellsPrivateUse part text →
+    Replaces (after_hyphen (unwrap_or text [])) (λ ends. ends.extensions) (λ ends. ends.whole) (λ m n. record m { private_use = n }) (λ r. with_private_use r part)
+private_use-replaces part text spells =
+    let is = private_use_part part text spells in
+    record {
+      fits = λ r fits. record { primary = fits.primary; extended = fits.extended; few = fits.few; short = fits.short; script = fits.script; region = fits.region; variants = fits.variants; extensions = fits.extensions; private_use = spells.member };
+      spelled = λ r.
+          join-part_replaced _ r.primary (r.extended ++ (one_flat r.script ++ (one_flat r.region ++ (r.variants ++ flat_map extension_flat r.extensions)))) (private_part_flat r.private_use) [] (private_part_flat part) _ _ _ is
+          (simp append_assoc) (simp (append_assoc, append-nil)) (simp (append_assoc, append-nil));
+      lengths = λ r. rw (after_hyphen-part _ _ is) refl;
+    }
+
+-- a private use part that is kept is spelled by some private list
+pub private_use_spelled : (part : Option private.PrivateUse) → (p : Option PrivateUse) × SpellsPrivateUse p (option_map private_use_text part)
+unfolding IsPrivate
+private_use_spelled None = (None, record { member = tt; joined = refl })
+private_use_spelled (Some part) =
+    let spelled = IsPrivate-from_test _ part.in_class in
+    (Some spelled.0, record { member = spelled.1; joined = ap Some spelled.2 })
+
+-- ---- a tag of a language, a script and a region
+
+-- the record spells the text, and its parts end where the lengths add up to
+pub record IsMade (text : List ℕ) (m : Lengths) (r : Record) : Type 0 where
+  pub spells : Spells r text
+  pub kept : ∥ HasEnds text (ends_from m) ∥₁
+
+pub made_of_parts :
+    (primary : List ℕ) (extended : List (List ℕ)) (language : List ℕ) (script region : Option (List ℕ)) (text : List ℕ) →
+    SpellsLanguage primary extended language → IfSome script (λ s. IsTrue (is_script s)) → IfSome region (λ s. IsTrue (is_region s)) →
+    text ≡ (language ++ after_hyphen (unwrap_or script [])) ++ after_hyphen (unwrap_or region []) →
+    IsMade text (lengths (length language) (length (after_hyphen (unwrap_or script []))) (length (after_hyphen (unwrap_or region []))) 0 0 0) (of_parts primary extended script region)
+unfolding HasEnds
+made_of_parts primary extended language script region text spelled script_member region_member made =
+    let r = of_parts primary extended script region in
+    let first = after_hyphen-part _ _ (script_part script script_member) in
+    let second = after_hyphen-part _ _ (region_part region region_member) in
+    let fits : IsWellFormed r = record { primary = spelled.first; extended = spelled.others; few = spelled.few; short = spelled.short; script = script_member; region = region_member; variants = tt; extensions = tt; private_use = tt } in
+    let spells : Spells r text = (fits, rw (made, first, second, ← spelled.joined, append-nil (one_flat region)) (join-around primary extended (one_flat script) (one_flat region))) in
+    record { spells = spells; kept = ∣ (r, spells, rw (first, second, ← spelled.joined) (ends_from-part_lengths r)) ∣₁ }
+
+-- a part of one subtag takes at most nine bytes
+short_part : (part : Option (List ℕ)) → IfSome part (λ s. length s ≤ 8) → length (after_hyphen (unwrap_or part [])) ≤ 9
+short_part None short = omega arith
+short_part (Some []) short = omega arith
+short_part (Some (b ∷ s)) short = omega (arith, short)
+
+pub short_script : (script : Option (List ℕ)) → IfSome script (λ s. IsTrue (is_script s)) → length (after_hyphen (unwrap_or script [])) ≤ 9
+short_script script member = short_part script (if_some _ _ script (λ s h. (of_script s h).short) member)
+
+pub short_region : (region : Option (List ℕ)) → IfSome region (λ s. IsTrue (is_region s)) → length (after_hyphen (unwrap_or region [])) ≤ 9
+short_region region member = short_part region (if_some _ _ region (λ s h. (of_region s h).short) member)

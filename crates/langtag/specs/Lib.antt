@@ -1,5 +1,5 @@
 pub mod Edit
-pub mod Moved
+pub mod Lengths
 pub mod Offsets
 pub mod Repeat
 pub mod VariantBlocks

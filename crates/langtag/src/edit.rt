@@ -1,23 +1,49 @@
 //! A part of a tag's text that is replaced, and where the parts end then.
-ghost use Rattle.std.specs.Prelude.{◌≡◌, ◌∷◌, ◌+◌, ◌-◌, ◌^◌, ◌≤◌, ◌<◌, length, None, IfOk, OnOk, OnErr, IsNone, IsOk};
+ghost use Rattle.std.specs.Prelude.{◌≡◌, ◌++◌, ◌+◌, ◌≤◌, [], length, IfOk, OnOk, OnErr, IsNone, IsOk};
 ghost use Rattle.std.specs.List.{replace_range};
 ghost use Rattle.std.specs.Option.{option_map};
 ghost use Rattle.std.specs.Str.{IsAscii};
 ghost use Rattle.std.specs.String.{string_bytes};
 ghost use Rattle.langtag_scan.specs.Ends.{HasEnds};
-ghost use Rattle.langtag_scan.specs.Parts.{AreInOrder};
-ghost use Rattle.langtag_scan.specs.Record.{EachRecord, Spells};
-ghost use Rattle.langtag_place.specs.Text.{script_text, region_text};
-ghost use Rattle.langtag.specs.Edit.{with_script, with_region};
-ghost use Rattle.langtag.specs.Moved as moved;
-ghost use Rattle.langtag.specs.Moved.{after_hyphen, lent};
+ghost use Rattle.langtag_language.specs.Text.{language_text};
+ghost use Rattle.langtag_place.specs.Text.{script_text, region_text, variants_text};
+ghost use Rattle.langtag_extension.specs.Text.{extensions_text};
+ghost use Rattle.langtag_private.specs.Text.{private_use_text};
+ghost use Rattle.langtag.specs.Edit.{SetsLanguage, SetsScript, SetsRegion, SetsVariants, SetsExtensions, SetsPrivateUse};
+ghost use Rattle.langtag.specs.Lengths.{after_hyphen};
 
-use langtag_place::{Region, Script};
+use crate::lengths::Lengths;
+use langtag_extension::Extensions;
+use langtag_language::Language;
+use langtag_place::{Region, Script, Variants};
+use langtag_private::PrivateUse;
 use langtag_scan::Ends;
 use std::alloc::{AllocError, Global};
 
-/// Puts a script into the text of a normal tag whose parts end at these offsets, or takes it out. Answers where they end
-/// then: the text is not looked at again.
+/// Puts a language into the text of a normal tag whose parts end at these offsets. Answers where they end then: the text is
+/// not looked at again.
+#[tactic(auto, using(langtag_scan::proofs::SpelledTexts::offsets_kept))]
+pub(crate) fn put_language(
+    text: &mut String,
+    ends: Ends,
+    alloc: Global,
+    language: Language<'_>,
+) -> Result<Ends, AllocError>
+    requires { ∥ HasEnds (string_bytes text.old) ends ∥₁ }
+    ensures set { OnOk result (SetsLanguage (language_text language.entry) (string_bytes text.old) (string_bytes text.new)) }
+    ensures kept { IfOk result (λ moved. ∥ HasEnds (string_bytes text.new) moved ∥₁) }
+    ensures unchanged { OnErr result (text.new ≡ text.old) }
+{
+    let language = language.as_str();
+    *text = with_part(alloc, text.as_str(), 0, ends.language, "", language)?;
+    let lengths = Lengths {
+        language: language.len(),
+        ..Lengths::of(ends)
+    };
+    Ok(lengths.ends())
+}
+
+/// Puts a script into such a text, or takes it out.
 #[tactic(auto, using(langtag_scan::proofs::SpelledTexts::offsets_kept))]
 pub(crate) fn put_script(
     text: &mut String,
@@ -26,15 +52,18 @@ pub(crate) fn put_script(
     script: Option<Script<'_>>,
 ) -> Result<Ends, AllocError>
     requires { ∥ HasEnds (string_bytes text.old) ends ∥₁ }
-    ensures set { OnOk result (EachRecord (string_bytes text.old)
-        (λ r. Spells (with_script r (option_map script_text script.entry)) (string_bytes text.new))) }
+    ensures set { OnOk result (SetsScript (option_map script_text script.entry) (string_bytes text.old) (string_bytes text.new)) }
     ensures kept { IfOk result (λ moved. ∥ HasEnds (string_bytes text.new) moved ∥₁) }
     ensures unchanged { OnErr result (text.new ≡ text.old) }
     ensures taken_out { IsNone script.entry → IsOk result }
 {
-    let script = script.map(|script| script.as_str());
-    let end = replace_part(text, alloc, ends.language, ends.script, script)?;
-    Ok(with_script_end(ends, end))
+    let script = script.map_or("", |script| script.as_str());
+    let script = replace_part(text, alloc, ends.language, ends.script, script)?;
+    let lengths = Lengths {
+        script,
+        ..Lengths::of(ends)
+    };
+    Ok(lengths.ends())
 }
 
 /// The same of a region.
@@ -46,19 +75,91 @@ pub(crate) fn put_region(
     region: Option<Region<'_>>,
 ) -> Result<Ends, AllocError>
     requires { ∥ HasEnds (string_bytes text.old) ends ∥₁ }
-    ensures set { OnOk result (EachRecord (string_bytes text.old)
-        (λ r. Spells (with_region r (option_map region_text region.entry)) (string_bytes text.new))) }
+    ensures set { OnOk result (SetsRegion (option_map region_text region.entry) (string_bytes text.old) (string_bytes text.new)) }
     ensures kept { IfOk result (λ moved. ∥ HasEnds (string_bytes text.new) moved ∥₁) }
     ensures unchanged { OnErr result (text.new ≡ text.old) }
     ensures taken_out { IsNone region.entry → IsOk result }
 {
-    let region = region.map(|region| region.as_str());
-    let end = replace_part(text, alloc, ends.script, ends.region, region)?;
-    Ok(with_region_end(ends, end))
+    let region = region.map_or("", |region| region.as_str());
+    let region = replace_part(text, alloc, ends.script, ends.region, region)?;
+    let lengths = Lengths {
+        region,
+        ..Lengths::of(ends)
+    };
+    Ok(lengths.ends())
 }
 
-/// Puts a part, after its hyphen, in place of what stands between two offsets of a text, or takes that out where there
-/// is no part. Answers where the part ends then.
+/// The same of variants.
+#[tactic(auto, using(langtag_scan::proofs::SpelledTexts::offsets_kept))]
+pub(crate) fn put_variants(
+    text: &mut String,
+    ends: Ends,
+    alloc: Global,
+    variants: Variants<'_>,
+) -> Result<Ends, AllocError>
+    requires { ∥ HasEnds (string_bytes text.old) ends ∥₁ }
+    ensures set { OnOk result (SetsVariants (variants_text variants.entry) (string_bytes text.old) (string_bytes text.new)) }
+    ensures kept { IfOk result (λ moved. ∥ HasEnds (string_bytes text.new) moved ∥₁) }
+    ensures unchanged { OnErr result (text.new ≡ text.old) }
+    ensures taken_out { variants_text variants.entry ≡ [] → IsOk result }
+{
+    let variants = variants.as_str();
+    let variants = replace_part(text, alloc, ends.region, ends.variants, variants)?;
+    let lengths = Lengths {
+        variants,
+        ..Lengths::of(ends)
+    };
+    Ok(lengths.ends())
+}
+
+/// The same of extensions.
+#[tactic(auto, using(langtag_scan::proofs::SpelledTexts::offsets_kept))]
+pub(crate) fn put_extensions(
+    text: &mut String,
+    ends: Ends,
+    alloc: Global,
+    extensions: Extensions<'_>,
+) -> Result<Ends, AllocError>
+    requires { ∥ HasEnds (string_bytes text.old) ends ∥₁ }
+    ensures set { OnOk result (SetsExtensions (extensions_text extensions.entry) (string_bytes text.old) (string_bytes text.new)) }
+    ensures kept { IfOk result (λ moved. ∥ HasEnds (string_bytes text.new) moved ∥₁) }
+    ensures unchanged { OnErr result (text.new ≡ text.old) }
+    ensures taken_out { extensions_text extensions.entry ≡ [] → IsOk result }
+{
+    let extensions = extensions.as_str();
+    let extensions = replace_part(text, alloc, ends.variants, ends.extensions, extensions)?;
+    let lengths = Lengths {
+        extensions,
+        ..Lengths::of(ends)
+    };
+    Ok(lengths.ends())
+}
+
+/// The same of a private use part.
+#[tactic(auto, using(langtag_scan::proofs::SpelledTexts::offsets_kept))]
+pub(crate) fn put_private_use(
+    text: &mut String,
+    ends: Ends,
+    alloc: Global,
+    private_use: Option<PrivateUse<'_>>,
+) -> Result<Ends, AllocError>
+    requires { ∥ HasEnds (string_bytes text.old) ends ∥₁ }
+    ensures set { OnOk result (SetsPrivateUse (option_map private_use_text private_use.entry) (string_bytes text.old) (string_bytes text.new)) }
+    ensures kept { IfOk result (λ moved. ∥ HasEnds (string_bytes text.new) moved ∥₁) }
+    ensures unchanged { OnErr result (text.new ≡ text.old) }
+    ensures taken_out { IsNone private_use.entry → IsOk result }
+{
+    let private_use = private_use.map_or("", |private_use| private_use.as_str());
+    let private_use = replace_part(text, alloc, ends.extensions, ends.whole, private_use)?;
+    let lengths = Lengths {
+        private_use,
+        ..Lengths::of(ends)
+    };
+    Ok(lengths.ends())
+}
+
+/// Puts a part, after its hyphen, in place of what stands between two offsets of a text; the empty part takes that out.
+/// Answers how many bytes the part takes with its hyphen.
 ///
 /// With a part the whole new text is made before the old one is given up. Without one the bytes are taken out in place,
 /// which needs no memory.
@@ -67,76 +168,75 @@ pub(crate) fn replace_part(
     alloc: Global,
     start: usize,
     end: usize,
-    part: Option<&str>,
+    part: &str,
 ) -> Result<usize, AllocError>
     requires order { start ≤ end }
     requires within { end ≤ length (string_bytes text.old) }
     requires ascii { IsAscii (string_bytes text.old) }
-    ensures replaced { OnOk result (string_bytes text.new ≡ replace_range (string_bytes text.old) start end (after_hyphen (lent part.entry))) }
-    ensures ends_at { IfOk result (λ offset. offset ≡ start + length (after_hyphen (lent part.entry))) }
-    ensures moved { IfOk result (λ offset. length (string_bytes text.new) + end ≡ length (string_bytes text.old) + offset) }
+    ensures replaced { OnOk result (string_bytes text.new ≡ replace_range (string_bytes text.old) start end (after_hyphen part.now)) }
+    ensures counted { IfOk result (λ count. count ≡ length (after_hyphen part.now)) }
+    ensures moved { IfOk result (λ count. length (string_bytes text.new) + end ≡ length (string_bytes text.old) + start + count) }
     ensures unchanged { OnErr result (text.new ≡ text.old) }
-    ensures taken_out { lent part.entry ≡ None → IsOk result }
+    ensures taken_out { part.now ≡ [] → IsOk result }
 {
-    let Some(part) = part else {
+    if part.is_empty() {
         text.replace_range(start..end, "")?;
-        return Ok(start);
-    };
-    *text = with_part(alloc, text.as_str(), start, end, part)?;
-    Ok(start + 1 + part.len())
+        return Ok(0);
+    }
+    *text = with_part(alloc, text.as_str(), start, end, "-", part)?;
+    Ok(1 + part.len())
 }
 
-/// A new text: the given one, with a part after its hyphen in place of what stands between two offsets. It takes memory
-/// once, and no more than it needs.
+/// A new text: the given one, with a part after its hyphen, if it has one, in place of what stands between two offsets.
+/// It takes memory once, and no more than it needs.
 fn with_part(
     alloc: Global,
     text: &str,
     start: usize,
     end: usize,
+    hyphen: &str,
     part: &str,
 ) -> Result<String, AllocError>
     requires order { start ≤ end }
     requires within { end ≤ length text.now }
     requires ascii { IsAscii text.now }
-    ensures { IfOk result (λ whole. string_bytes whole ≡ replace_range text.now start end (45 ∷ part.now)) }
+    requires one { length hyphen.now ≤ 1 }
+    ensures { IfOk result (λ whole. string_bytes whole ≡ replace_range text.now start end (hyphen.now ++ part.now)) }
 {
-    let len = start + 1 + part.len() + (text.len() - end);
+    let len = start + hyphen.len() + part.len() + (text.len() - end);
     let mut whole = String::with_capacity(alloc, len)?;
     whole.push_str(&text[..start])?;
-    whole.push_str("-")?;
+    whole.push_str(hyphen)?;
     whole.push_str(part)?;
     whole.push_str(&text[end..])?;
     Ok(whole)
 }
 
-/// The ends where the script ends at another offset, and all that stands after it has moved with it.
-pub(crate) fn with_script_end(ends: Ends, end: usize) -> Ends
-    requires order { AreInOrder ends }
-    requires fits { ends.whole - ends.script + end < 2 ^ 64 }
-    ensures { result ≡ moved.with_script_end ends end }
+/// A new text with room for so many bytes: a language, and a script and a region after it, each after its hyphen; an empty
+/// one is none.
+pub(crate) fn join_parts(
+    alloc: Global,
+    room: usize,
+    language: &str,
+    script: &str,
+    region: &str,
+) -> Result<String, AllocError>
+    ensures { IfOk result (λ whole. string_bytes whole ≡ (language.now ++ after_hyphen script.now) ++ after_hyphen region.now) }
 {
-    Ends {
-        language: ends.language,
-        script: end,
-        region: ends.region - ends.script + end,
-        variants: ends.variants - ends.script + end,
-        extensions: ends.extensions - ends.script + end,
-        whole: ends.whole - ends.script + end,
-    }
+    let mut whole = String::with_capacity(alloc, room)?;
+    whole.push_str(language)?;
+    push_part(&mut whole, script)?;
+    push_part(&mut whole, region)?;
+    Ok(whole)
 }
 
-/// The same where the region ends at another offset.
-pub(crate) fn with_region_end(ends: Ends, end: usize) -> Ends
-    requires order { AreInOrder ends }
-    requires fits { ends.whole - ends.region + end < 2 ^ 64 }
-    ensures { result ≡ moved.with_region_end ends end }
+/// Puts a part, after its hyphen, at the end of a text; the empty part is none.
+fn push_part(text: &mut String, part: &str) -> Result<(), AllocError>
+    ensures { OnOk result (string_bytes text.new ≡ string_bytes text.old ++ after_hyphen part.now) }
 {
-    Ends {
-        language: ends.language,
-        script: ends.script,
-        region: end,
-        variants: ends.variants - ends.region + end,
-        extensions: ends.extensions - ends.region + end,
-        whole: ends.whole - ends.region + end,
+    if part.is_empty() {
+        return Ok(());
     }
+    text.push_str("-")?;
+    text.push_str(part)
 }

@@ -1,11 +1,12 @@
 //! Language tags of every kind: rule `Language-Tag` of RFC 5646 section 2.1.
-ghost use Rattle.std.specs.Prelude.{◌≡◌, ◌↔◌, ℕ, List, [], Some, None, IsTrue, IfOk, IfErr, IfSome, is_ok, is_some};
+ghost use Rattle.std.specs.Prelude.{◌≡◌, ◌↔◌, ◌<◌, ◌^◌, ℕ, List, [], Some, None, IsTrue, IfOk, IfErr, IfSome, is_ok, is_some, length};
 ghost use Rattle.std.specs.Option.{option_map};
 ghost use Rattle.langtag_scan.specs.AlikeRecords.{IsSpelledAlike};
 ghost use Rattle.langtag_scan.specs.Case.{EndsFirst, are_alike, case_cmp};
 ghost use Rattle.langtag_scan.specs.Found.{IsFoundOf, finding};
 ghost use Rattle.langtag_scan.specs.Parts.{language_part, variants_part, extensions_part, private_use_part, private_use_subtags};
-ghost use Rattle.langtag_scan.specs.Record.{EachRecord};
+ghost use Rattle.langtag_scan.specs.Record.{EachRecord, flat};
+ghost use Rattle.langtag_scan.specs.Subtags.{subtags};
 ghost use Rattle.langtag_scan.specs.Tag.{IsNormal, IsPrivate, IsIrregular, IsTag};
 
 use crate::grandfathered::GrandfatheredLangTag;
@@ -19,7 +20,7 @@ use langtag_extension::Extensions;
 use langtag_language::Language;
 use langtag_place::{Region, Script, Variants};
 use langtag_private::{PrivateUse, PrivateUseIter};
-use langtag_scan::{Caseless, Found};
+use langtag_scan::{Caseless, Found, Subtags};
 use std::alloc::{AllocError, Global};
 use std::cmp::Ordering;
 use std::fmt;
@@ -109,6 +110,16 @@ impl<'a> LangTag<'a> {
         ensures { result.now ≡ lang_tag_text self.now }
     {
         self.as_str().as_bytes()
+    }
+
+    /// All subtags of the tag, in order and from both ends: `zh`, `Hant` and `TW` of `zh-Hant-TW`, `x` and `a` of `x-a`.
+    #[tactic(auto, using(langtag_scan::proofs::SpelledTexts::tag_subtags))]
+    pub fn subtags(&self) -> Subtags<'a>
+        ensures list { result ≡ subtags (lang_tag_text self.now) }
+        ensures record { EachRecord (lang_tag_text self.now) (λ r. result ≡ flat r) }
+        ensures few { length result < 2 ^ 64 }
+    {
+        Subtags::new(self.as_str())
     }
 
     /// Whether another text, of any form, is equal but for the case of ASCII letters: true of `zh-Hant` and `ZH-hant`. Then

@@ -1,20 +1,26 @@
 //! Language tags of every kind that own their text.
-ghost use Rattle.std.specs.Prelude.{◌≡◌, ◌↔◌, Some, IsTrue, IsNone, IsOk, IsErrOf, IfOk, IfErr, OnOk, OnErr, is_ok};
+ghost use Rattle.std.specs.Prelude.{◌≡◌, ◌↔◌, [], Some, IsTrue, IsNone, IsOk, IsErrOf, IfOk, IfErr, OnOk, OnErr, is_ok};
 ghost use Rattle.std.specs.Option.{option_map};
 ghost use Rattle.std.specs.String.{string_bytes};
 ghost use Rattle.langtag_scan.specs.Found.{finding, IsFoundOf};
-ghost use Rattle.langtag_scan.specs.Record.{EachRecord, Spells};
 ghost use Rattle.langtag_scan.specs.Tag.{IsNormal, IsTag};
-ghost use Rattle.langtag_place.specs.Text.{script_text, region_text};
-ghost use Rattle.langtag.specs.Edit.{with_script, with_region};
+ghost use Rattle.langtag_language.specs.Text.{language_text};
+ghost use Rattle.langtag_place.specs.Text.{script_text, region_text, variants_text};
+ghost use Rattle.langtag_extension.specs.Text.{extensions_text};
+ghost use Rattle.langtag_private.specs.Text.{private_use_text};
+ghost use Rattle.langtag.specs.Edit.{SetsLanguage, SetsScript, SetsRegion, SetsVariants, SetsExtensions, SetsPrivateUse};
 
-use crate::edit::{put_region, put_script};
+use crate::edit::{
+    put_extensions, put_language, put_private_use, put_region, put_script, put_variants,
+};
 use crate::edit_error::EditError;
 use crate::lang_tag::{InvalidLangTag, LangTag};
 use crate::normal_lang_tag_buf::NormalLangTagBuf;
 use crate::recognise_text::{recognise_checked, recognise_text};
-use langtag_place::{Region, Script};
-use langtag_private::PrivateUseBuf;
+use langtag_extension::Extensions;
+use langtag_language::Language;
+use langtag_place::{Region, Script, Variants};
+use langtag_private::{PrivateUse, PrivateUseBuf};
 use langtag_scan::{Caseless, Found};
 use std::alloc::Global;
 use std::fmt;
@@ -109,6 +115,26 @@ impl LangTagBuf {
         Ok(NormalLangTagBuf::with_ends(self.text.0, ends))
     }
 
+    /// Puts a language into a normal tag, as [`NormalLangTagBuf::set_language`] does: `zh-yue` put into `sl-IT` makes
+    /// `zh-yue-IT`. The recogniser goes over the new text once more.
+    ///
+    /// # Errors
+    ///
+    /// The tag is no normal one, as `x-a`, or no memory could be had. The tag is as it was.
+    #[tactic(auto, using(crate::proofs::KeptFound::found_kept, langtag_scan::proofs::SpelledTexts::offsets_kept, langtag_scan::proofs::TagLaws::tag_normal))]
+    pub fn set_language(&mut self, alloc: Global, language: Language<'_>) -> Result<(), EditError>
+        ensures set { OnOk result (SetsLanguage (language_text language.entry) (lang_tag_buf_text self.old) (lang_tag_buf_text self.new)) }
+        ensures not_normal { IsErrOf result EditError.NotNormal ↔ (IsNormal (lang_tag_buf_text self.old) → ⊥) }
+        ensures unchanged { OnErr result (self.new ≡ self.old) }
+    {
+        let Some(ends) = self.found.ends() else {
+            return Err(EditError::NotNormal);
+        };
+        put_language(&mut self.text.0, ends, alloc, language)?;
+        self.found = recognise_checked(self.text.0.as_str());
+        Ok(())
+    }
+
     /// Puts a script into a normal tag, or takes it out, as [`NormalLangTagBuf::set_script`] does: `Latn` put into `sl-IT`
     /// makes `sl-Latn-IT`. The recogniser goes over the new text once more.
     ///
@@ -117,8 +143,7 @@ impl LangTagBuf {
     /// The tag is no normal one, as `x-a`, or no memory could be had. The tag is as it was.
     #[tactic(auto, using(crate::proofs::KeptFound::found_kept, langtag_scan::proofs::SpelledTexts::offsets_kept, langtag_scan::proofs::TagLaws::tag_normal))]
     pub fn set_script(&mut self, alloc: Global, script: Option<Script<'_>>) -> Result<(), EditError>
-        ensures set { OnOk result (EachRecord (lang_tag_buf_text self.old)
-            (λ r. Spells (with_script r (option_map script_text script.entry)) (lang_tag_buf_text self.new))) }
+        ensures set { OnOk result (SetsScript (option_map script_text script.entry) (lang_tag_buf_text self.old) (lang_tag_buf_text self.new)) }
         ensures not_normal { IsErrOf result EditError.NotNormal ↔ (IsNormal (lang_tag_buf_text self.old) → ⊥) }
         ensures unchanged { OnErr result (self.new ≡ self.old) }
         ensures taken_out { IsNone script.entry → IsNormal (lang_tag_buf_text self.old) → IsOk result }
@@ -139,8 +164,7 @@ impl LangTagBuf {
     /// The tag is no normal one, as `x-a`, or no memory could be had. The tag is as it was.
     #[tactic(auto, using(crate::proofs::KeptFound::found_kept, langtag_scan::proofs::SpelledTexts::offsets_kept, langtag_scan::proofs::TagLaws::tag_normal))]
     pub fn set_region(&mut self, alloc: Global, region: Option<Region<'_>>) -> Result<(), EditError>
-        ensures set { OnOk result (EachRecord (lang_tag_buf_text self.old)
-            (λ r. Spells (with_region r (option_map region_text region.entry)) (lang_tag_buf_text self.new))) }
+        ensures set { OnOk result (SetsRegion (option_map region_text region.entry) (lang_tag_buf_text self.old) (lang_tag_buf_text self.new)) }
         ensures not_normal { IsErrOf result EditError.NotNormal ↔ (IsNormal (lang_tag_buf_text self.old) → ⊥) }
         ensures unchanged { OnErr result (self.new ≡ self.old) }
         ensures taken_out { IsNone region.entry → IsNormal (lang_tag_buf_text self.old) → IsOk result }
@@ -149,6 +173,77 @@ impl LangTagBuf {
             return Err(EditError::NotNormal);
         };
         put_region(&mut self.text.0, ends, alloc, region)?;
+        self.found = recognise_checked(self.text.0.as_str());
+        Ok(())
+    }
+
+    /// Puts variants into a normal tag, or takes them out, as [`NormalLangTagBuf::set_variants`] does: `1996` put into `de-AT`
+    /// makes `de-AT-1996`. The recogniser goes over the new text once more.
+    ///
+    /// # Errors
+    ///
+    /// The tag is no normal one, as `x-a`, or no memory could be had. The tag is as it was.
+    #[tactic(auto, using(crate::proofs::KeptFound::found_kept, langtag_scan::proofs::SpelledTexts::offsets_kept, langtag_scan::proofs::TagLaws::tag_normal))]
+    pub fn set_variants(&mut self, alloc: Global, variants: Variants<'_>) -> Result<(), EditError>
+        ensures set { OnOk result (SetsVariants (variants_text variants.entry) (lang_tag_buf_text self.old) (lang_tag_buf_text self.new)) }
+        ensures not_normal { IsErrOf result EditError.NotNormal ↔ (IsNormal (lang_tag_buf_text self.old) → ⊥) }
+        ensures unchanged { OnErr result (self.new ≡ self.old) }
+        ensures taken_out { variants_text variants.entry ≡ [] → IsNormal (lang_tag_buf_text self.old) → IsOk result }
+    {
+        let Some(ends) = self.found.ends() else {
+            return Err(EditError::NotNormal);
+        };
+        put_variants(&mut self.text.0, ends, alloc, variants)?;
+        self.found = recognise_checked(self.text.0.as_str());
+        Ok(())
+    }
+
+    /// Puts extensions into a normal tag, or takes them out, as [`NormalLangTagBuf::set_extensions`] does: `u-co-eor` put
+    /// into `de-x-a` makes `de-u-co-eor-x-a`. The recogniser goes over the new text once more.
+    ///
+    /// # Errors
+    ///
+    /// The tag is no normal one, as `x-a`, or no memory could be had. The tag is as it was.
+    #[tactic(auto, using(crate::proofs::KeptFound::found_kept, langtag_scan::proofs::SpelledTexts::offsets_kept, langtag_scan::proofs::TagLaws::tag_normal))]
+    pub fn set_extensions(
+        &mut self,
+        alloc: Global,
+        extensions: Extensions<'_>,
+    ) -> Result<(), EditError>
+        ensures set { OnOk result (SetsExtensions (extensions_text extensions.entry) (lang_tag_buf_text self.old) (lang_tag_buf_text self.new)) }
+        ensures not_normal { IsErrOf result EditError.NotNormal ↔ (IsNormal (lang_tag_buf_text self.old) → ⊥) }
+        ensures unchanged { OnErr result (self.new ≡ self.old) }
+        ensures taken_out { extensions_text extensions.entry ≡ [] → IsNormal (lang_tag_buf_text self.old) → IsOk result }
+    {
+        let Some(ends) = self.found.ends() else {
+            return Err(EditError::NotNormal);
+        };
+        put_extensions(&mut self.text.0, ends, alloc, extensions)?;
+        self.found = recognise_checked(self.text.0.as_str());
+        Ok(())
+    }
+
+    /// Puts a private use part into a normal tag, or takes it out, as [`NormalLangTagBuf::set_private_use`] does: `x-mine`
+    /// put into `de-x-a` makes `de-x-mine`. The recogniser goes over the new text once more.
+    ///
+    /// # Errors
+    ///
+    /// The tag is no normal one, as `x-a`, or no memory could be had. The tag is as it was.
+    #[tactic(auto, using(crate::proofs::KeptFound::found_kept, langtag_scan::proofs::SpelledTexts::offsets_kept, langtag_scan::proofs::TagLaws::tag_normal))]
+    pub fn set_private_use(
+        &mut self,
+        alloc: Global,
+        private_use: Option<PrivateUse<'_>>,
+    ) -> Result<(), EditError>
+        ensures set { OnOk result (SetsPrivateUse (option_map private_use_text private_use.entry) (lang_tag_buf_text self.old) (lang_tag_buf_text self.new)) }
+        ensures not_normal { IsErrOf result EditError.NotNormal ↔ (IsNormal (lang_tag_buf_text self.old) → ⊥) }
+        ensures unchanged { OnErr result (self.new ≡ self.old) }
+        ensures taken_out { IsNone private_use.entry → IsNormal (lang_tag_buf_text self.old) → IsOk result }
+    {
+        let Some(ends) = self.found.ends() else {
+            return Err(EditError::NotNormal);
+        };
+        put_private_use(&mut self.text.0, ends, alloc, private_use)?;
         self.found = recognise_checked(self.text.0.as_str());
         Ok(())
     }

@@ -40,6 +40,7 @@ mod grandfathered;
 mod kind;
 mod lang_tag;
 mod lang_tag_buf;
+mod lengths;
 mod normal_lang_tag;
 mod normal_lang_tag_buf;
 mod private_use_lang_tag;
@@ -72,7 +73,7 @@ pub use langtag_private::{
     PrivateUseSubtag, PrivateUseSubtagBuf,
 };
 pub use langtag_scan::{
-    ByteSource, Ends, Found, Metered, case_insensitive_cmp, case_insensitive_eq,
+    ByteSource, Ends, Found, Metered, Subtags, case_insensitive_cmp, case_insensitive_eq,
     case_insensitive_hash, into_smallcase, is_extended, is_extension_subtag, is_mark, is_primary,
     is_private_subtag, is_region, is_script, is_singleton, is_variant, recognise, recognise_normal,
     segment_end, segment_start, viable_len,

@@ -1,12 +1,12 @@
 //! Normal tags, which are made of parts: rule `langtag` of RFC 5646 section 2.1.
-ghost use Rattle.std.specs.Prelude.{◌≡◌, ◌↔◌, ◌≤◌, ℕ, List, [], Some, IsTrue, IfOk, IfErr, is_ok, length, take, map, unwrap_or};
+ghost use Rattle.std.specs.Prelude.{◌≡◌, ◌↔◌, ◌<◌, ◌≤◌, ◌^◌, ℕ, List, [], Some, IsTrue, IfOk, IfErr, is_ok, length, take, map, unwrap_or};
 ghost use Rattle.std.specs.Option.{option_map};
 ghost use Rattle.langtag_scan.specs.AlikeRecords.{IsSpelledAlike};
 ghost use Rattle.langtag_scan.specs.Case.{EndsFirst, are_alike, case_cmp};
 ghost use Rattle.langtag_scan.specs.Ends.{HasEnds};
 ghost use Rattle.langtag_scan.specs.Parts.{language_part, variants_part, extensions_part, private_use_part, private_use_subtags, parts, text_between};
-ghost use Rattle.langtag_scan.specs.Record.{Record, EachRecord, IsWellFormed, spell};
-ghost use Rattle.langtag_scan.specs.Subtags.{join};
+ghost use Rattle.langtag_scan.specs.Record.{Record, EachRecord, IsWellFormed, flat, spell};
+ghost use Rattle.langtag_scan.specs.Subtags.{join, subtags};
 ghost use Rattle.langtag_scan.specs.Tag.{IsNormal};
 ghost use Rattle.langtag.specs.Offsets.{PartsStandIn};
 ghost use Rattle.langtag.specs.Repeat.{repeat, IsFirstRepeat, are_alike_bytes};
@@ -19,7 +19,7 @@ use langtag_extension::{Extensions, Singleton};
 use langtag_language::Language;
 use langtag_place::{Region, Script, Variant, Variants};
 use langtag_private::{PrivateUse, PrivateUseIter};
-use langtag_scan::{Caseless, Ends};
+use langtag_scan::{Caseless, Ends, Subtags};
 use std::alloc::{AllocError, Global};
 use std::cmp::Ordering;
 use std::fmt;
@@ -114,6 +114,16 @@ impl<'a> NormalLangTag<'a> {
         ensures { result.now ≡ normal_lang_tag_text self.now }
     {
         self.as_str().as_bytes()
+    }
+
+    /// All subtags of the tag, in order and from both ends: `sl`, `Latn` and `IT` of `sl-Latn-IT`.
+    #[tactic(auto, using(langtag_scan::proofs::SpelledTexts::tag_subtags))]
+    pub fn subtags(&self) -> Subtags<'a>
+        ensures list { result ≡ subtags (normal_lang_tag_text self.now) }
+        ensures record { EachRecord (normal_lang_tag_text self.now) (λ r. result ≡ flat r) }
+        ensures few { length result < 2 ^ 64 }
+    {
+        Subtags::new(self.as_str())
     }
 
     /// Whether another text, of any form, is equal but for the case of ASCII letters: true of `sl-IT` and `SL-it`. Then it is

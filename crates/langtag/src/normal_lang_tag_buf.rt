@@ -1,18 +1,30 @@
 //! Normal tags that own their text.
-ghost use Rattle.std.specs.Prelude.{◌≡◌, ◌↔◌, ℕ, List, Option, Some, IsTrue, IsNone, IsOk, IfOk, IfErr, OnOk, OnErr, is_ok};
+ghost use Rattle.std.specs.Prelude.{◌≡◌, ◌↔◌, ℕ, List, [], Option, Some, IsTrue, IsNone, IsOk, IfOk, IfErr, OnOk, OnErr, is_ok};
 ghost use Rattle.std.specs.Option.{option_map};
 ghost use Rattle.std.specs.String.{string_bytes};
 ghost use Rattle.langtag_scan.specs.Ends.{HasEnds};
-ghost use Rattle.langtag_scan.specs.Record.{Record, EachRecord, Spells};
+ghost use Rattle.langtag_scan.specs.Record as model;
+ghost use Rattle.langtag_scan.specs.Record.{Extension, Record, Spells};
 ghost use Rattle.langtag_scan.specs.Tag.{IsNormal};
-ghost use Rattle.langtag_place.specs.Text.{script_text, region_text};
-ghost use Rattle.langtag.specs.Edit.{with_script, with_region};
+ghost use Rattle.langtag_language.specs.Language.{EachSpelling};
+ghost use Rattle.langtag_language.specs.Text.{language_text};
+ghost use Rattle.langtag_place.specs.Text.{script_text, region_text, variants_text};
+ghost use Rattle.langtag_extension.specs.Text.{extensions_text};
+ghost use Rattle.langtag_private.specs.Text.{private_use_text};
+ghost use Rattle.langtag.specs.Edit.{of_parts, with_language, with_script, with_region, with_variants, with_extensions, with_private_use};
+ghost use Rattle.langtag.specs.Edit.{SetsLanguage, SetsScript, SetsRegion, SetsVariants, SetsExtensions, SetsPrivateUse};
 
-use crate::edit::{put_region, put_script};
+use crate::edit::{
+    join_parts, put_extensions, put_language, put_private_use, put_region, put_script, put_variants,
+};
 use crate::lang_tag_buf::LangTagBuf;
+use crate::lengths::{Lengths, length_with_hyphen};
 use crate::normal_lang_tag::{InvalidNormalLangTag, NormalLangTag};
 use crate::recognise_text::normal_ends;
-use langtag_place::{Region, Script};
+use langtag_extension::Extensions;
+use langtag_language::Language;
+use langtag_place::{Region, Script, Variants};
+use langtag_private::PrivateUse;
 use langtag_scan::{Caseless, Ends};
 use std::alloc::{AllocError, Global};
 use std::fmt;
@@ -47,6 +59,38 @@ impl NormalLangTagBuf {
             return Err(InvalidNormalLangTag(text));
         };
         Ok(NormalLangTagBuf::with_ends(text, ends))
+    }
+
+    /// The normal tag of a language, a script and a region, and no other parts: `zh-Hant-TW` of `zh`, `Hant` and `TW`, and `zh` of
+    /// `zh`, None and None. Memory is taken once, and no more than the text needs.
+    ///
+    /// # Errors
+    ///
+    /// No memory could be had.
+    pub fn from_parts(
+        alloc: Global,
+        language: Language<'_>,
+        script: Option<Script<'_>>,
+        region: Option<Region<'_>>,
+    ) -> Result<NormalLangTagBuf, AllocError>
+        ensures { IfOk result (λ tag. EachSpelling (language_text language.entry) (λ primary extended.
+            Spells (of_parts primary extended (option_map script_text script.entry) (option_map region_text region.entry))
+            (normal_lang_tag_buf_text tag))) }
+    {
+        let language = language.as_str();
+        let script = script.map_or("", |script| script.as_str());
+        let region = region.map_or("", |region| region.as_str());
+        let lengths = Lengths {
+            language: language.len(),
+            script: length_with_hyphen(script),
+            region: length_with_hyphen(region),
+            variants: 0,
+            extensions: 0,
+            private_use: 0,
+        };
+        let ends = lengths.ends();
+        let whole = join_parts(alloc, ends.whole, language, script, region)?;
+        Ok(NormalLangTagBuf::with_ends(whole, ends))
     }
 
     /// The normal tag of a text whose parts are known to end at these offsets: it is not looked at again.
@@ -99,6 +143,23 @@ impl NormalLangTagBuf {
         self.text.0
     }
 
+    /// Puts a language in the old one's place (RFC 5646 sections 2.2.1 and 2.2.2), with its extended subtags: `zh-yue` put into
+    /// `sl-IT` makes `zh-yue-IT`.
+    ///
+    /// It goes about this as [`set_script`](NormalLangTagBuf::set_script) does.
+    ///
+    /// # Errors
+    ///
+    /// No memory could be had. The tag is as it was.
+    pub fn set_language(&mut self, alloc: Global, language: Language<'_>) -> Result<(), AllocError>
+        ensures set { OnOk result (SetsLanguage (language_text language.entry) (normal_lang_tag_buf_text self.old) (normal_lang_tag_buf_text self.new)) }
+        ensures unchanged { OnErr result (self.new ≡ self.old) }
+        ensures set_back { (r : Record) (primary : List ℕ) (extended : List (List ℕ)) → with_language (with_language r primary extended) r.primary r.extended ≡ r }
+    {
+        self.ends = put_language(&mut self.text.0, self.ends, alloc, language)?;
+        Ok(())
+    }
+
     /// Puts a script in the old one's place, or where one would stand (RFC 5646 section 2.2.3): `Latn` put into `sl-IT` makes
     /// `sl-Latn-IT`. None takes it out.
     ///
@@ -113,8 +174,7 @@ impl NormalLangTagBuf {
         alloc: Global,
         script: Option<Script<'_>>,
     ) -> Result<(), AllocError>
-        ensures set { OnOk result (EachRecord (normal_lang_tag_buf_text self.old)
-            (λ r. Spells (with_script r (option_map script_text script.entry)) (normal_lang_tag_buf_text self.new))) }
+        ensures set { OnOk result (SetsScript (option_map script_text script.entry) (normal_lang_tag_buf_text self.old) (normal_lang_tag_buf_text self.new)) }
         ensures unchanged { OnErr result (self.new ≡ self.old) }
         ensures taken_out { IsNone script.entry → IsOk result }
         ensures set_back { (r : Record) (script : Option (List ℕ)) → with_script (with_script r script) r.script ≡ r }
@@ -136,13 +196,74 @@ impl NormalLangTagBuf {
         alloc: Global,
         region: Option<Region<'_>>,
     ) -> Result<(), AllocError>
-        ensures set { OnOk result (EachRecord (normal_lang_tag_buf_text self.old)
-            (λ r. Spells (with_region r (option_map region_text region.entry)) (normal_lang_tag_buf_text self.new))) }
+        ensures set { OnOk result (SetsRegion (option_map region_text region.entry) (normal_lang_tag_buf_text self.old) (normal_lang_tag_buf_text self.new)) }
         ensures unchanged { OnErr result (self.new ≡ self.old) }
         ensures taken_out { IsNone region.entry → IsOk result }
         ensures set_back { (r : Record) (region : Option (List ℕ)) → with_region (with_region r region) r.region ≡ r }
     {
         self.ends = put_region(&mut self.text.0, self.ends, alloc, region)?;
+        Ok(())
+    }
+
+    /// Puts variants in the old ones' place, or where some would stand (RFC 5646 section 2.2.5): `1996` put into `de-AT-1901`
+    /// makes `de-AT-1996`. [`Variants::EMPTY`] takes them out, which needs no memory.
+    ///
+    /// It goes about this as [`set_script`](NormalLangTagBuf::set_script) does.
+    ///
+    /// # Errors
+    ///
+    /// No memory could be had. The tag is as it was.
+    pub fn set_variants(&mut self, alloc: Global, variants: Variants<'_>) -> Result<(), AllocError>
+        ensures set { OnOk result (SetsVariants (variants_text variants.entry) (normal_lang_tag_buf_text self.old) (normal_lang_tag_buf_text self.new)) }
+        ensures unchanged { OnErr result (self.new ≡ self.old) }
+        ensures taken_out { variants_text variants.entry ≡ [] → IsOk result }
+        ensures set_back { (r : Record) (variants : List (List ℕ)) → with_variants (with_variants r variants) r.variants ≡ r }
+    {
+        self.ends = put_variants(&mut self.text.0, self.ends, alloc, variants)?;
+        Ok(())
+    }
+
+    /// Puts extensions in the old ones' place, or where some would stand (RFC 5646 section 2.2.6): `u-co-phonebk` put into
+    /// `de-x-mine` makes `de-u-co-phonebk-x-mine`. [`Extensions::EMPTY`] takes them out, which needs no memory.
+    ///
+    /// It goes about this as [`set_script`](NormalLangTagBuf::set_script) does.
+    ///
+    /// # Errors
+    ///
+    /// No memory could be had. The tag is as it was.
+    pub fn set_extensions(
+        &mut self,
+        alloc: Global,
+        extensions: Extensions<'_>,
+    ) -> Result<(), AllocError>
+        ensures set { OnOk result (SetsExtensions (extensions_text extensions.entry) (normal_lang_tag_buf_text self.old) (normal_lang_tag_buf_text self.new)) }
+        ensures unchanged { OnErr result (self.new ≡ self.old) }
+        ensures taken_out { extensions_text extensions.entry ≡ [] → IsOk result }
+        ensures set_back { (r : Record) (extensions : List Extension) → with_extensions (with_extensions r extensions) r.extensions ≡ r }
+    {
+        self.ends = put_extensions(&mut self.text.0, self.ends, alloc, extensions)?;
+        Ok(())
+    }
+
+    /// Puts a private use part in the old one's place, or at the end (RFC 5646 section 2.2.7): `x-mine` put into `de-x-a` makes
+    /// `de-x-mine`. None takes it out.
+    ///
+    /// It goes about this as [`set_script`](NormalLangTagBuf::set_script) does.
+    ///
+    /// # Errors
+    ///
+    /// No memory could be had. The tag is as it was.
+    pub fn set_private_use(
+        &mut self,
+        alloc: Global,
+        private_use: Option<PrivateUse<'_>>,
+    ) -> Result<(), AllocError>
+        ensures set { OnOk result (SetsPrivateUse (option_map private_use_text private_use.entry) (normal_lang_tag_buf_text self.old) (normal_lang_tag_buf_text self.new)) }
+        ensures unchanged { OnErr result (self.new ≡ self.old) }
+        ensures taken_out { IsNone private_use.entry → IsOk result }
+        ensures set_back { (r : Record) (part : Option model.PrivateUse) → with_private_use (with_private_use r part) r.private_use ≡ r }
+    {
+        self.ends = put_private_use(&mut self.text.0, self.ends, alloc, private_use)?;
         Ok(())
     }
 }

@@ -7,12 +7,15 @@ use mathlib.Core.Bool.{Bool-set}
 use Rattle.std.specs.Str.{IsAscii}
 use Rattle.langtag_scan.specs.Ends.{ends_of, HasEnds}
 use Rattle.langtag_scan.specs.Parts.{AreInOrder}
-use Rattle.langtag_scan.specs.Record.{EachRecord}
+use Rattle.langtag_scan.specs.Record.{EachRecord, flat}
+use Rattle.langtag_scan.specs.Subtags.{subtags}
 use Rattle.langtag_scan.specs.Tag.{IsNormal}
 use Rattle.langtag_scan.specs.declared.ends.Ends.{Ends}
 use Rattle.langtag_scan.proofs.Ascii.{IsAscii-normal}
 use Rattle.langtag_scan.proofs.PartOffsets.{ends_in_order}
-use Rattle.langtag_scan.proofs.NormalTexts.{spelled_once, normal_from_runs, runs_from_normal}
+use Rattle.langtag_scan.proofs.Complete.{decode_complete}
+use Rattle.langtag_scan.proofs.NormalTexts.{decoded_subtags, spelled_once, normal_from_runs, runs_from_normal}
+use Rattle.langtag_scan.proofs.SubtagLists.{length-subtags, subtags-joined}
 
 -- a text that a record spells is normal
 pub normal_spelled : (text : List ℕ) → EachRecord text (λ r. IsNormal text)
@@ -42,6 +45,16 @@ unfolding HasEnds IsNormal
 ends_had text ends merely =
     let normal = normal_had text (∥∥₁_elim merely ∥∥₁_prop (λ h. ∣ normal_from_ends text ends h ∣₁)) in
     (normal.0, normal.1, ∥∥₁_elim merely (hlevel props) (λ h. ends_each text ends h normal.0 normal.1))
+
+-- ---- the subtags of the text
+
+-- are those of its record
+pub subtags-spelled : (text : List ℕ) → EachRecord text (λ r. subtags text ≡ flat r)
+subtags-spelled text r spells =
+    ap subtags (sym spells.1) ∙ subtags-joined (flat r) (decoded_subtags (flat r) _ _ (decode_complete r spells.0))
+
+-- and no more of them than `count` can answer
+pub ruleset tag_subtags = (subtags-spelled, length-subtags)
 
 -- ---- the offsets of the parts in the text
 

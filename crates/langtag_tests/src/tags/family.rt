@@ -2,7 +2,8 @@
 use crate::support::with_memory;
 use crate::tags::parts::{normal, part_texts};
 use langtag::{
-    EditError, GRANDFATHERED, Kind, LangTag, LangTagBuf, PrivateUse, PrivateUseBuf, Region, Script,
+    EditError, Extensions, GRANDFATHERED, Kind, LangTag, LangTagBuf, PrivateUse, PrivateUseBuf,
+    Region, Script, Variants,
 };
 use std::alloc::{AllocError, Global};
 use std::process::Abort;
@@ -81,6 +82,14 @@ fn a_tag_of_another_kind_comes_back(rt: HostRuntime) {
             assert!(rt; matches!(answer, Err(EditError::NotNormal)), "of {text}");
             let answer = tag.set_script(rt.alloc(), None);
             assert!(rt; matches!(answer, Err(EditError::NotNormal)), "of {text}");
+            let answer = tag.set_language(rt.alloc(), normal(&rt, "de").language());
+            assert!(rt; matches!(answer, Err(EditError::NotNormal)), "of {text}");
+            let answer = tag.set_variants(rt.alloc(), Variants::EMPTY);
+            assert!(rt; matches!(answer, Err(EditError::NotNormal)), "of {text}");
+            let answer = tag.set_extensions(rt.alloc(), Extensions::EMPTY);
+            assert!(rt; matches!(answer, Err(EditError::NotNormal)), "of {text}");
+            let answer = tag.set_private_use(rt.alloc(), None);
+            assert!(rt; matches!(answer, Err(EditError::NotNormal)), "of {text}");
             let same = tag
                 .into_normal()
                 .err()
@@ -102,6 +111,26 @@ fn a_normal_tag_is_edited(rt: HostRuntime) {
         assert_eq!(rt; region.as_str(), "TW");
         edited(&rt, tag.set_script(rt.alloc(), None))?;
         assert_eq!(rt; tag.into_string().as_str(), "zh-TW-x-mine");
+        Ok(())
+    });
+}
+
+#[test]
+fn the_other_parts_of_a_normal_tag_are_edited(rt: HostRuntime) {
+    with_memory(&rt, || {
+        let other = normal(&rt, "zh-yue-rozaj-u-co-eor-x-mine");
+        let mut tag = owned(&rt, rt.alloc(), "de-AT")?;
+        edited(&rt, tag.set_language(rt.alloc(), other.language()))?;
+        assert_eq!(rt; tag.as_str(), "zh-yue-AT");
+        edited(&rt, tag.set_variants(rt.alloc(), other.variants()))?;
+        edited(&rt, tag.set_extensions(rt.alloc(), other.extensions()))?;
+        edited(&rt, tag.set_private_use(rt.alloc(), other.private_use()))?;
+        assert_eq!(rt; tag.as_str(), "zh-yue-AT-rozaj-u-co-eor-x-mine");
+        edited(&rt, tag.set_variants(rt.alloc(), Variants::EMPTY))?;
+        edited(&rt, tag.set_extensions(rt.alloc(), Extensions::EMPTY))?;
+        assert_eq!(rt; tag.as_str(), "zh-yue-AT-x-mine");
+        edited(&rt, tag.set_private_use(rt.alloc(), None))?;
+        assert_eq!(rt; tag.into_string().as_str(), "zh-yue-AT");
         Ok(())
     });
 }

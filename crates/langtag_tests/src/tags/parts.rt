@@ -1,7 +1,7 @@
 //! The parts of normal tags, and their lists (RFC 5646 sections 2.1 and 2.2).
 use crate::scan::rows::{self, Row};
 use crate::support::{assert_subtags, with_memory};
-use langtag::{NormalLangTag, Singleton};
+use langtag::{LangTag, NormalLangTag, Singleton};
 use std::alloc::{AllocError, Global};
 use std::process::Abort;
 
@@ -190,4 +190,42 @@ fn private_use_subtags_are_walked(rt: HostRuntime) {
         }
         assert!(rt; walk.next().is_none(), "of {text}");
     }
+}
+
+/// Tags of each kind, and their subtags.
+const SUBTAGS: [(&str, &[&str]); 4] = [
+    ("fr", &["fr"]),
+    (
+        "zh-min-Hant-TW-rozaj-u-co-x-a",
+        &["zh", "min", "Hant", "TW", "rozaj", "u", "co", "x", "a"],
+    ),
+    ("X-a-1", &["X", "a", "1"]),
+    ("sgn-BE-FR", &["sgn", "BE", "FR"]),
+];
+
+#[test]
+fn subtags_are_walked_from_both_ends(rt: HostRuntime) {
+    for (text, subtags) in SUBTAGS {
+        let tag = LangTag::new(text).ok().expect(&rt, "refused");
+        assert_eq!(rt; tag.subtags().count(), subtags.len(), "of {text}");
+        let mut walk = tag.subtags();
+        for subtag in subtags {
+            assert_eq!(rt; walk.next(), Some(*subtag), "of {text}");
+        }
+        assert!(rt; walk.next().is_none(), "of {text}");
+        let mut walk = tag.subtags();
+        for subtag in subtags.iter().rev() {
+            assert_eq!(rt; walk.next_back(), Some(*subtag), "of {text}");
+        }
+        assert!(rt; walk.next_back().is_none(), "of {text}");
+    }
+}
+
+#[test]
+fn subtags_of_a_normal_tag_are_walked(rt: HostRuntime) {
+    let tag = normal(&rt, "zh-min-Hant");
+    assert_eq!(rt; tag.subtags().count(), 3);
+    assert_eq!(rt; tag.subtags().last(), Some("Hant"));
+    assert_eq!(rt; tag.subtags().next_back(), Some("Hant"));
+    assert_eq!(rt; tag.subtags().next(), Some("zh"));
 }

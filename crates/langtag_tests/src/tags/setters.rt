@@ -1,30 +1,59 @@
-//! The script and the region of an owned tag put in and taken out (RFC 5646 sections 2.2.3 and 2.2.4).
+//! The parts of an owned tag put in and taken out (RFC 5646 sections 2.2.1 to 2.2.7).
 use crate::scan::rows::{self, Row};
-use crate::support::with_memory;
+use crate::support::{assert_exact, with_memory};
 use crate::tags::parts::{normal, part_texts};
-use langtag::{NormalLangTag, NormalLangTagBuf, Region, Script};
+use langtag::{
+    Extensions, Language, NormalLangTag, NormalLangTagBuf, PrivateUse, Region, Script, Variants,
+};
 use std::alloc::{AllocError, Global};
 use std::process::Abort;
 
 /// What is set of a tag; the empty text takes it out.
 #[derive(Clone, Copy)]
 pub(super) enum Part<'a> {
+    Language(&'a str),
     Script(&'a str),
     Region(&'a str),
+    Variants(&'a str),
+    Extensions(&'a str),
+    PrivateUse(&'a str),
 }
 
 impl<'a> Part<'a> {
     fn is_absent(self) -> bool {
         match self {
-            Part::Script(text) | Part::Region(text) => text.is_empty(),
+            Part::Language(text)
+            | Part::Script(text)
+            | Part::Region(text)
+            | Part::Variants(text)
+            | Part::Extensions(text)
+            | Part::PrivateUse(text) => text.is_empty(),
         }
     }
 
     /// Sets it of a tag.
-    fn set(self, tag: &mut NormalLangTagBuf, alloc: Global) -> Result<(), AllocError> {
+    fn set(
+        self,
+        rt: &impl Abort,
+        alloc: Global,
+        tag: &mut NormalLangTagBuf,
+    ) -> Result<(), AllocError> {
         match self {
+            Part::Language(text) => {
+                let language = Language::new(text).ok().expect(rt, "refused");
+                tag.set_language(alloc, language)
+            }
             Part::Script(text) => tag.set_script(alloc, Script::new(text).ok()),
             Part::Region(text) => tag.set_region(alloc, Region::new(text).ok()),
+            Part::Variants(text) => {
+                let variants = Variants::new(text).ok().expect(rt, "refused");
+                tag.set_variants(alloc, variants)
+            }
+            Part::Extensions(text) => {
+                let extensions = Extensions::new(text).ok().expect(rt, "refused");
+                tag.set_extensions(alloc, extensions)
+            }
+            Part::PrivateUse(text) => tag.set_private_use(alloc, PrivateUse::new(text).ok()),
         }
     }
 
@@ -32,6 +61,10 @@ impl<'a> Part<'a> {
     fn put_among(self, parts: [&'a str; 6]) -> ([&'a str; 6], Part<'a>) {
         let [language, script, region, variants, extensions, private_use] = parts;
         match self {
+            Part::Language(new) => (
+                [new, script, region, variants, extensions, private_use],
+                Part::Language(language),
+            ),
             Part::Script(new) => (
                 [language, new, region, variants, extensions, private_use],
                 Part::Script(script),
@@ -40,12 +73,24 @@ impl<'a> Part<'a> {
                 [language, script, new, variants, extensions, private_use],
                 Part::Region(region),
             ),
+            Part::Variants(new) => (
+                [language, script, region, new, extensions, private_use],
+                Part::Variants(variants),
+            ),
+            Part::Extensions(new) => (
+                [language, script, region, variants, new, private_use],
+                Part::Extensions(extensions),
+            ),
+            Part::PrivateUse(new) => (
+                [language, script, region, variants, extensions, new],
+                Part::PrivateUse(private_use),
+            ),
         }
     }
 }
 
 /// Tags, what is set of them, and their text then.
-const CASES: [(&str, Part<'static>, &str); 14] = [
+const CASES: [(&str, Part<'static>, &str); 26] = [
     (
         "fr-abc-bz-e-foo",
         Part::Script("nice"),
@@ -72,10 +117,37 @@ const CASES: [(&str, Part<'static>, &str); 14] = [
     ),
     ("fr", Part::Script(""), "fr"),
     ("zh-min", Part::Region("CN"), "zh-min-CN"),
+    ("sl-IT", Part::Language("zh-yue"), "zh-yue-IT"),
+    ("zh-min-nan-TW", Part::Language("fr"), "fr-TW"),
+    ("de", Part::Language("abcdefgh"), "abcdefgh"),
+    ("de-AT", Part::Variants("1996"), "de-AT-1996"),
+    (
+        "de-AT-1901-x-a",
+        Part::Variants("1996-rozaj"),
+        "de-AT-1996-rozaj-x-a",
+    ),
+    ("sl-rozaj-biske-u-co-eor", Part::Variants(""), "sl-u-co-eor"),
+    ("de-x-a", Part::Extensions("u-co-eor"), "de-u-co-eor-x-a"),
+    (
+        "de-a-bb-b-cc",
+        Part::Extensions("U-co-eor-u-eor"),
+        "de-U-co-eor-u-eor",
+    ),
+    ("de-1996-a-bb-b-cc-x-a", Part::Extensions(""), "de-1996-x-a"),
+    ("de", Part::PrivateUse("x-mine"), "de-x-mine"),
+    (
+        "de-a-bb-x-a-b",
+        Part::PrivateUse("X-mine-1"),
+        "de-a-bb-X-mine-1",
+    ),
+    ("de-a-bb-x-a-b", Part::PrivateUse(""), "de-a-bb"),
 ];
 
-/// Ten ways to set a tag.
-pub(super) const WAYS: [Part<'static>; 10] = [
+/// Ways to set a tag.
+pub(super) const WAYS: [Part<'static>; 22] = [
+    Part::Language("de"),
+    Part::Language("zh-MIN-nan"),
+    Part::Language("abcdefgh"),
     Part::Script(""),
     Part::Script("Latn"),
     Part::Script("cYRL"),
@@ -86,6 +158,15 @@ pub(super) const WAYS: [Part<'static>; 10] = [
     Part::Region("us"),
     Part::Region("419"),
     Part::Region("000"),
+    Part::Variants(""),
+    Part::Variants("1996"),
+    Part::Variants("rozaj-BISKE-1994"),
+    Part::Extensions(""),
+    Part::Extensions("a-bb"),
+    Part::Extensions("u-co-eor-U-cc-dd"),
+    Part::PrivateUse(""),
+    Part::PrivateUse("x-a"),
+    Part::PrivateUse("X-mine-12345678"),
 ];
 
 /// Whether these are the parts of a tag, by the ends that it keeps and by those that are found anew.
@@ -101,13 +182,13 @@ fn set<'a>(
     tag: &mut NormalLangTagBuf,
     (parts, part): ([&'a str; 6], Part<'a>),
 ) -> Result<([&'a str; 6], Part<'a>), AllocError> {
-    if part.set(tag, alloc).is_err() {
+    if part.set(rt, alloc, tag).is_err() {
         assert!(rt;
             !part.is_absent() && has_parts(rt, tag, parts),
             "of {}",
             tag.as_str()
         );
-        part.set(tag, alloc)?;
+        part.set(rt, alloc, tag)?;
     }
     let (parts, old) = part.put_among(parts);
     assert!(rt; has_parts(rt, tag, parts), "of {}", tag.as_str());
@@ -151,7 +232,7 @@ fn parts_are_put_in_and_taken_out_again(rt: HostRuntime) {
     });
 }
 
-/// Each prefix of a tag that is one is set in ten ways.
+/// Each prefix of a tag that is one is set in each way.
 fn prefixes_are_set(rt: &impl Abort, alloc: Global, text: &str) -> Result<(), AllocError> {
     for end in 0..=text.len() {
         let prefix = text.get(..end).expect(rt, "past the end");
@@ -171,7 +252,7 @@ fn are_set_and_set_back(rt: &impl Abort, alloc: Global, rows: &[Row]) -> Result<
 }
 
 #[test]
-fn each_prefix_is_set_in_ten_ways(rt: HostRuntime) {
+fn each_prefix_is_set_in_each_way(rt: HostRuntime) {
     with_memory(&rt, || {
         for rows in rows::normal_tags() {
             are_set_and_set_back(&rt, rt.alloc(), rows)?;
@@ -180,23 +261,54 @@ fn each_prefix_is_set_in_ten_ways(rt: HostRuntime) {
     });
 }
 
-/// Sets the script and then the region, and puts the old ones back in the same order.
+/// Two parts that are set one after the other.
+const PAIRS: [(Part<'static>, Part<'static>); 8] = [
+    (Part::Script("Latn"), Part::Region("US")),
+    (Part::Script("cYRL"), Part::Region("419")),
+    (Part::Script(""), Part::Region("zz")),
+    (Part::Script(""), Part::Region("")),
+    (Part::Language("zh-min"), Part::Variants("1996")),
+    (Part::Variants(""), Part::Extensions("a-bb-U-co")),
+    (Part::Extensions(""), Part::PrivateUse("")),
+    (Part::PrivateUse("x-mine"), Part::Script("Latn")),
+];
+
+/// Sets two parts, and puts the old ones back in the same order.
 fn is_set_back_after_another(rt: &impl Abort, alloc: Global, text: &str) -> Result<(), AllocError> {
-    for (script, region) in [
-        ("Latn", "US"),
-        ("cYRL", "419"),
-        ("", "zz"),
-        ("AaBb", ""),
-        ("", ""),
-    ] {
+    for (first, second) in PAIRS {
         let tag = normal(rt, text);
         let mut owned = tag.try_to_owned(alloc)?;
-        let put = (part_texts(&tag), Part::Script(script));
-        let (parts, old_script) = set(rt, alloc, &mut owned, put)?;
-        let (parts, old_region) = set(rt, alloc, &mut owned, (parts, Part::Region(region)))?;
-        let (parts, _) = set(rt, alloc, &mut owned, (parts, old_script))?;
-        set(rt, alloc, &mut owned, (parts, old_region))?;
+        let (parts, old_first) = set(rt, alloc, &mut owned, (part_texts(&tag), first))?;
+        let (parts, old_second) = set(rt, alloc, &mut owned, (parts, second))?;
+        let (parts, _) = set(rt, alloc, &mut owned, (parts, old_first))?;
+        set(rt, alloc, &mut owned, (parts, old_second))?;
         assert_eq!(rt; owned.as_str(), text);
     }
     Ok(())
+}
+
+/// The language, script and region of a tag, and its text.
+const MADE: [(&str, &str, &str, &str); 5] = [
+    ("zh", "Hant", "TW", "zh-Hant-TW"),
+    ("zh-yue", "", "HK", "zh-yue-HK"),
+    ("SR", "latn", "", "SR-latn"),
+    ("es", "", "419", "es-419"),
+    ("abcdefgh", "", "", "abcdefgh"),
+];
+
+#[test]
+fn a_tag_is_made_of_its_parts(rt: HostRuntime) {
+    with_memory(&rt, || {
+        for (language, script, region, text) in MADE {
+            let tag = NormalLangTagBuf::from_parts(
+                rt.alloc(),
+                Language::new(language).ok().expect(&rt, "refused"),
+                Script::new(script).ok(),
+                Region::new(region).ok(),
+            )?;
+            assert!(rt; has_parts(&rt, &tag, [language, script, region, "", "", ""]));
+            assert_exact(&rt, tag.into_string(), text);
+        }
+        Ok(())
+    });
 }

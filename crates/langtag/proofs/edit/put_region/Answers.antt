@@ -1,18 +1,16 @@
-use Rattle.std.proofs.Common.{◌≡◌, rules}
+use Rattle.std.proofs.Common.{◌≡◌, [], unwrap_or, rules}
 use Rattle.std.specs.Option.{option_map}
 use Rattle.langtag_place.specs.Text.{region_text}
-use Rattle.langtag.specs.Moved.{lent}
-use Rattle.langtag.proofs.EditLaws.{edited, region-replaces}
+use Rattle.langtag.proofs.EditLaws.{edited, is_region-member, region-replaces}
 use Rattle.langtag.proofs.edit.put_region.Goals as goal
 
-pub returns-clause-set : goal.returns-clause-set
-returns-clause-set c =
-    let same : lent c.map-region.result ≡ option_map region_text c.args.region = search rules in
-    let done = edited (region-replaces c.args.region) _ _ c.args.ends _ c.requires (rw same at c.in_ok-end.ensures.replaced) (rw same at c.in_ok-end.ensures.ends_at) in
-    done.spells
-
-pub returns-clause-kept : goal.returns-clause-kept
-returns-clause-kept c =
-    let same : lent c.map-region.result ≡ option_map region_text c.args.region = search rules in
-    let done = edited (region-replaces c.args.region) _ _ c.args.ends _ c.requires (rw same at c.in_ok-end.ensures.replaced) (rw same at c.in_ok-end.ensures.ends_at) in
-    rw c.with_region_end.ensures done.kept
+pub returns : goal.returns
+returns c =
+    let same : c.map_or-region.result.now ≡ unwrap_or (option_map region_text c.args.region) [] = search rules in
+    let done = edited (region-replaces (option_map region_text c.args.region) (is_region-member c.args.region)) _ _ c.args.ends _ c.requires (rw same at c.in_ok-region.ensures.replaced) (rw same at c.in_ok-region.ensures.counted) in
+    record {
+      set = done.spells;
+      kept = rw (c.ends.ensures, c.of.ensures) done.kept;
+      unchanged = search rules;
+      taken_out = search rules;
+    }

@@ -1,0 +1,33 @@
+-- How many bytes each part of a tag's text takes, with the hyphen before it, and where parts of such lengths end.
+-- Only contracts of private functions cite this page.
+use Rattle.std.specs.Prelude.{ℕ, ◌+◌, ◌-◌, List, [], ◌∷◌}
+use Rattle.langtag_scan.specs.declared.ends.Ends.{Ends}
+use Rattle.langtag.specs.declared.lengths.Lengths.{Lengths}
+
+-- a part stands after a hyphen, and where it is absent there is nothing
+abbrev pub after_hyphen : List ℕ → List ℕ
+after_hyphen [] = []
+after_hyphen (b ∷ part) = 45 ∷ b ∷ part
+
+-- each part takes what lies between the end of the part before and its own
+abbrev pub lengths_of : Ends → Lengths
+lengths_of ends = record {
+  language = ends.language;
+  script = ends.script - ends.language;
+  region = ends.region - ends.script;
+  variants = ends.variants - ends.region;
+  extensions = ends.extensions - ends.variants;
+  private_use = ends.whole - ends.extensions;
+}
+
+-- each part ends where the lengths up to its own add up to
+abbrev pub ends_from : Lengths → Ends
+ends_from lengths = record {
+  language = lengths.language;
+  script = lengths.language + lengths.script;
+  region = lengths.language + lengths.script + lengths.region;
+  variants = lengths.language + lengths.script + lengths.region + lengths.variants;
+  extensions = lengths.language + lengths.script + lengths.region + lengths.variants + lengths.extensions;
+  whole =
+      lengths.language + lengths.script + lengths.region + lengths.variants + lengths.extensions + lengths.private_use;
+}

@@ -1,0 +1,61 @@
+//! How long the parts of a normal tag are.
+ghost use Rattle.std.specs.Prelude.{◌≡◌, ◌<◌, ◌^◌, length};
+ghost use Rattle.langtag_scan.specs.Parts.{AreInOrder};
+ghost use Rattle.langtag.specs.Lengths.{after_hyphen, lengths_of, ends_from};
+
+use langtag_scan::Ends;
+
+/// How many bytes each part of a normal tag takes, with the hyphen before it: 0 where it is absent. In `en-Latn-x-a` they
+/// are 2, 5, 0, 0, 0 and 4, in the order of the fields.
+#[derive(Clone, Copy)]
+pub(crate) struct Lengths {
+    pub(crate) language: usize,
+    pub(crate) script: usize,
+    pub(crate) region: usize,
+    pub(crate) variants: usize,
+    pub(crate) extensions: usize,
+    pub(crate) private_use: usize,
+}
+
+/// How many bytes a part takes with the hyphen before it: none where it is empty.
+pub(crate) fn length_with_hyphen(part: &str) -> usize
+    ensures { result ≡ length (after_hyphen part.now) }
+{
+    if part.is_empty() { 0 } else { 1 + part.len() }
+}
+
+impl Lengths {
+    /// The lengths of parts that end at these offsets.
+    pub(crate) fn of(ends: Ends) -> Lengths
+        requires { AreInOrder ends }
+        ensures { result ≡ lengths_of ends }
+    {
+        Lengths {
+            language: ends.language,
+            script: ends.script - ends.language,
+            region: ends.region - ends.script,
+            variants: ends.variants - ends.region,
+            extensions: ends.extensions - ends.variants,
+            private_use: ends.whole - ends.extensions,
+        }
+    }
+
+    /// Where parts of these lengths end.
+    pub(crate) fn ends(self) -> Ends
+        requires { (ends_from self).whole < 2 ^ 64 }
+        ensures { result ≡ ends_from self }
+    {
+        let script = self.language + self.script;
+        let region = script + self.region;
+        let variants = region + self.variants;
+        let extensions = variants + self.extensions;
+        Ends {
+            language: self.language,
+            script,
+            region,
+            variants,
+            extensions,
+            whole: extensions + self.private_use,
+        }
+    }
+}
