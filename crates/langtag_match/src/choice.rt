@@ -11,6 +11,7 @@ use langtag::LangTag;
 /// else the first of its [`fallbacks`](LanguageRange::fallbacks) that is one of the tags.
 ///
 /// For the ranges `nl` and `zh-Hant-CN` it is `zh-Hant` where the tags have it, else `zh`, and else the default.
+/// It is meant for basic ranges: a `*` equals the subtag of no tag, so `*` alone finds none, and the next range is looked up.
 pub fn look_up<'a>(
     ranges: &[LanguageRange<'_>],
     tags: &[LangTag<'a>],

@@ -26,6 +26,47 @@ pub(crate) fn hash_of<T: Hash>(value: &T) -> u64 {
     hasher.finish()
 }
 
+/// Fails the test where a condition does not hold of a case. What `assert_that!` calls.
+pub(crate) fn expect_true(rt: &impl Abort, holds: bool, case: &impl Debug) {
+    assert!(rt; holds, "of {case:?}");
+}
+
+/// Fails the test where a case has another answer than the one wanted. What `assert_same!` calls.
+pub(crate) fn expect_same<T: Debug + PartialEq>(
+    rt: &impl Abort,
+    found: &T,
+    wanted: &T,
+    case: &impl Debug,
+) {
+    assert_eq!(rt; *found, *wanted, "of {case:?}");
+}
+
+/// Asserts that a condition holds, of a case where one is named: `assert_that!(rt; walk.next().is_none(), text)`.
+///
+/// This and `assert_same!` are calls, and stand in place of `assert!` and `assert_eq!`, whose failure the check proves
+/// safe anew wherever one stands, at ten times the cost of a call.
+macro_rules! assert_that {
+    ($rt:expr; $holds:expr) => {
+        $crate::support::expect_true(&$rt, $holds, &stringify!($holds))
+    };
+    ($rt:expr; $holds:expr, $case:expr) => {
+        $crate::support::expect_true(&$rt, $holds, &$case)
+    };
+}
+
+/// Asserts that an answer is the one wanted, of a case where one is named: `assert_same!(rt; tag.as_str(), "fr")`.
+macro_rules! assert_same {
+    ($rt:expr; $found:expr, $wanted:expr) => {
+        $crate::support::expect_same(&$rt, &$found, &$wanted, &stringify!($found))
+    };
+    ($rt:expr; $found:expr, $wanted:expr, $case:expr) => {
+        $crate::support::expect_same(&$rt, &$found, &$wanted, &$case)
+    };
+}
+
+pub(crate) use assert_same;
+pub(crate) use assert_that;
+
 /// Asserts that a value is shown as its text stands (Display answers Ok wherever the writer does, which no clause can say),
 /// and in Debug by the name of its type and its text.
 pub(crate) fn assert_shown<T: Debug + Display>(
@@ -34,10 +75,10 @@ pub(crate) fn assert_shown<T: Debug + Display>(
     (name, text): (&str, &str),
     alloc: Global,
 ) -> Result<(), AllocError> {
-    assert_eq!(rt; value.to_string(alloc)?.as_str(), text);
+    assert_same!(rt; value.to_string(alloc)?.as_str(), text);
     let debug = format!(in alloc; "{value:?}")?;
     let wanted = format!(in alloc; "{name} {{ text: Caseless({text:?})")?;
-    assert!(rt; debug.as_str().starts_with(wanted.as_str()), "{debug}");
+    assert_that!(rt; debug.as_str().starts_with(wanted.as_str()), debug);
     Ok(())
 }
 
@@ -48,10 +89,10 @@ pub(crate) fn assert_refusal<E: Debug + Display>(
     (message, name, text): (&str, &str, &str),
     alloc: Global,
 ) -> Result<(), AllocError> {
-    assert_eq!(rt; refusal.to_string(alloc)?.as_str(), message);
+    assert_same!(rt; refusal.to_string(alloc)?.as_str(), message);
     let debug = format!(in alloc; "{refusal:?}")?;
     let wanted = format!(in alloc; "Invalid{name}({text:?})")?;
-    assert_eq!(rt; debug, wanted);
+    assert_same!(rt; debug, wanted);
     Ok(())
 }
 
@@ -64,20 +105,20 @@ pub(crate) fn assert_compared<T: Ord + Hash>(
     let order = case_insensitive_cmp(texts.0.as_bytes(), texts.1.as_bytes());
     assert_alike(rt, value == other, texts);
     assert_alike(rt, hash_of(value) == hash_of(other), texts);
-    assert_eq!(rt; value.cmp(other), order);
-    assert_eq!(rt; value.partial_cmp(other), Some(order));
+    assert_same!(rt; value.cmp(other), order, texts);
+    assert_same!(rt; value.partial_cmp(other), Some(order), texts);
 }
 
 /// Asserts that an answer is whether two texts are equal but for the case of ASCII letters.
 pub(crate) fn assert_alike(rt: &impl Abort, answer: bool, (text, other): (&str, &str)) {
     let alike = case_insensitive_eq(text.as_bytes(), other.as_bytes());
-    assert_eq!(rt; answer, alike, "of {text} and {other}");
+    assert_same!(rt; answer, alike, (text, other));
 }
 
 /// Asserts that a copy is a text, with room for that text alone.
 pub(crate) fn assert_exact(rt: &impl Abort, copy: String, text: &str) {
-    assert_eq!(rt; copy.as_str(), text);
-    assert_eq!(rt; copy.capacity(), text.len(), "of {text}");
+    assert_same!(rt; copy.as_str(), text);
+    assert_same!(rt; copy.capacity(), text.len(), text);
 }
 
 /// Asserts that a value is found in a HashMap and in a BTreeMap by one that is alike.
@@ -91,8 +132,8 @@ pub(crate) fn assert_key<K: Ord + Hash + Drop>(
     let mut sorted = BTreeMap::new(alloc);
     hashed.insert(keys.0, 1)?;
     sorted.insert(keys.1, 1)?;
-    assert_eq!(rt; hashed.get(alike).copied(), Some(1));
-    assert_eq!(rt; sorted.get(alike).copied(), Some(1));
+    assert_same!(rt; hashed.get(alike).copied(), Some(1));
+    assert_same!(rt; sorted.get(alike).copied(), Some(1));
     Ok(())
 }
 
@@ -145,37 +186,37 @@ pub(crate) struct TextType<'a> {
 
 /// Asserts that a borrowed type keeps each accepted text, compares it with each text as the texts do, and hands the others
 /// back.
-pub(crate) fn assert_borrowed<'a, T, E, N, A>(
+fn assert_borrowed<'a, T, E, N, A>(
     rt: &impl Abort,
     texts: TextType<'a>,
     alloc: Global,
-    new: N,
-    is_alike: A,
+    new: &N,
+    is_alike: &A,
 ) -> Result<(), AllocError>
 where
     T: Debug + Display + Ord + Hash + Drop,
     E: Debug + Display + Drop,
     N: Fn(&'a str) -> Result<T, E>,
     A: Fn(&T, &str) -> bool,
-    requires new { N.IsAlwaysCallable new }
-    requires is_alike { A.IsAlwaysCallable is_alike }
+    requires new { N.IsAlwaysCallable new.now }
+    requires is_alike { A.IsAlwaysCallable is_alike.now }
 {
     for text in texts.accepted {
-        let value = new(*text).expect(rt, "refused");
+        let value = (*new)(*text).expect(rt, "refused");
         assert_shown(rt, &value, (texts.name, *text), alloc)?;
         for other in texts.accepted {
-            let other_value = new(*other).expect(rt, "refused");
+            let other_value = (*new)(*other).expect(rt, "refused");
             assert_compared(rt, (&value, &other_value), (*text, *other));
         }
         for list in [texts.accepted, texts.refused, HOSTILE] {
             for other in list {
-                assert_alike(rt, is_alike(&value, *other), (*text, *other));
+                assert_alike(rt, (*is_alike)(&value, *other), (*text, *other));
             }
         }
     }
     for list in [texts.refused, HOSTILE] {
         for text in list {
-            let refusal = new(*text).expect_err(rt, "accepted");
+            let refusal = (*new)(*text).expect_err(rt, "accepted");
             assert_refusal(rt, &refusal, (texts.message, texts.name, *text), alloc)?;
         }
     }
@@ -183,31 +224,29 @@ where
 }
 
 /// Asserts that each accepted beginning of an accepted text, so that all lengths are met, is kept, shown and copied.
-pub(crate) fn assert_beginnings<'a, T, E, N, S, C>(
+fn assert_beginnings<'a, T, E, N, C>(
     rt: &impl Abort,
     texts: TextType<'a>,
     alloc: Global,
-    new: N,
-    is_text: S,
-    copy: C,
+    new: &N,
+    copy: &C,
 ) -> Result<(), AllocError>
 where
     T: Display + Drop,
     E: Drop,
     N: Fn(&'a str) -> Result<T, E>,
-    S: Fn(&T, &str) -> bool,
-    C: Fn(&T) -> Result<String, AllocError>,
-    requires new { N.IsAlwaysCallable new }
-    requires is_text { S.IsAlwaysCallable is_text }
-    requires copy { C.IsAlwaysCallable copy }
+    C: Fn(&T, &str, Global) -> Result<(bool, String), AllocError>,
+    requires new { N.IsAlwaysCallable new.now }
+    requires copy { C.IsAlwaysCallable copy.now }
 {
     for text in texts.accepted {
         for end in 0..=text.len() {
             let beginning = text.get(..end).unwrap_or("");
-            if let Ok(value) = new(beginning) {
-                assert!(rt; is_text(&value, beginning), "of {beginning}");
-                assert_eq!(rt; value.to_string(alloc)?.as_str(), beginning);
-                assert_exact(rt, copy(&value)?, beginning);
+            if let Ok(value) = (*new)(beginning) {
+                assert_same!(rt; value.to_string(alloc)?.as_str(), beginning);
+                let (is_text, copy) = (*copy)(&value, beginning, alloc)?;
+                assert_that!(rt; is_text, beginning);
+                assert_exact(rt, copy, beginning);
             }
         }
     }
@@ -215,41 +254,80 @@ where
 }
 
 /// Asserts that an owned type does the same, and that its values are keys.
-pub(crate) fn assert_owned<'a, T, E, N, S>(
+fn assert_owned<'a, T, E, N, S>(
     rt: &impl Abort,
     texts: TextType<'a>,
     alloc: Global,
-    new: N,
-    is_text: S,
+    new: &N,
+    is_text: &S,
 ) -> Result<(), AllocError>
 where
     T: Debug + Display + Ord + Hash + Drop,
     E: Debug + Display + Drop,
     N: Fn(String) -> Result<T, E>,
     S: Fn(&T, &str) -> bool,
-    requires new { N.IsAlwaysCallable new }
-    requires is_text { S.IsAlwaysCallable is_text }
+    requires new { N.IsAlwaysCallable new.now }
+    requires is_text { S.IsAlwaysCallable is_text.now }
 {
     for text in texts.accepted {
         for end in 0..=text.len() {
             let beginning = text.get(..end).unwrap_or("");
-            if let Ok(value) = new(String::from_str(alloc, beginning)?) {
-                assert!(rt; is_text(&value, beginning), "of {beginning}");
+            if let Ok(value) = (*new)(String::from_str(alloc, beginning)?) {
+                assert_that!(rt; (*is_text)(&value, beginning), beginning);
                 assert_shown(rt, &value, (texts.owned_name, beginning), alloc)?;
-                let capital = new(beginning.to_ascii_uppercase(alloc)?).expect(rt, "refused");
+                let capital = (*new)(beginning.to_ascii_uppercase(alloc)?).expect(rt, "refused");
                 assert_compared(rt, (&value, &capital), (beginning, beginning));
-                let again = new(String::from_str(alloc, beginning)?).expect(rt, "refused");
+                let again = (*new)(String::from_str(alloc, beginning)?).expect(rt, "refused");
                 assert_key(rt, (value, again), &capital, alloc)?;
             }
         }
     }
     for list in [texts.refused, HOSTILE] {
         for text in list {
-            let refusal = new(String::from_str(alloc, *text)?).expect_err(rt, "accepted");
+            let refusal = (*new)(String::from_str(alloc, *text)?).expect_err(rt, "accepted");
             assert_refusal(rt, &refusal, (texts.message, texts.name, *text), alloc)?;
         }
     }
     Ok(())
+}
+
+/// Asserts all three of a text type, by its calls, of which `copy` tells whether a value answers with a text and copies it,
+/// and `lend` tells whether an owned value does. They are asserted once more where memory was refused.
+pub(crate) fn assert_text_type<'a, T, E, U, F, N, A, C, O, L>(
+    rt: &impl Abort,
+    texts: TextType<'a>,
+    alloc: Global,
+    new: N,
+    eq_str: A,
+    copy: C,
+    new_owned: O,
+    lend: L,
+)
+where
+    T: Debug + Display + Ord + Hash + Drop,
+    E: Debug + Display + Drop,
+    U: Debug + Display + Ord + Hash + Drop,
+    F: Debug + Display + Drop,
+    N: Fn(&'a str) -> Result<T, E>,
+    A: Fn(&T, &str) -> bool,
+    C: Fn(&T, &str, Global) -> Result<(bool, String), AllocError>,
+    O: Fn(String) -> Result<U, F>,
+    L: Fn(&U, &str) -> bool,
+    requires new { N.IsAlwaysCallable new }
+    requires eq_str { A.IsAlwaysCallable eq_str }
+    requires copy { C.IsAlwaysCallable copy }
+    requires new_owned { O.IsAlwaysCallable new_owned }
+    requires lend { L.IsAlwaysCallable lend }
+{
+    if assert_borrowed(rt, texts, alloc, &new, &eq_str).is_err() {
+        assert_that!(rt; assert_borrowed(rt, texts, alloc, &new, &eq_str).is_ok());
+    }
+    if assert_beginnings(rt, texts, alloc, &new, &copy).is_err() {
+        assert_that!(rt; assert_beginnings(rt, texts, alloc, &new, &copy).is_ok());
+    }
+    if assert_owned(rt, texts, alloc, &new_owned, &lend).is_err() {
+        assert_that!(rt; assert_owned(rt, texts, alloc, &new_owned, &lend).is_ok());
+    }
 }
 
 /// What the borrowed and the owned form of a text type answer alike, for texts that it accepts and for texts that it refuses:
@@ -258,42 +336,28 @@ where
 /// text_type!(rt, Region, RegionBuf, as_region, "invalid region", ["FR", "419"], ["F", "é", ""]);
 /// ```
 macro_rules! text_type {
-    ($rt:ident, $borrowed:ident, $owned:ident, $lend:ident, $message:literal, [$($accepted:literal),* $(,)?], [$($refused:literal),* $(,)?] $(,)?) => {{
-        let texts = $crate::support::TextType {
-            name: stringify!($borrowed),
-            owned_name: stringify!($owned),
-            message: $message,
-            accepted: &[$($accepted),*],
-            refused: &[$($refused),*],
-        };
-        $crate::support::with_memory(&$rt, || {
-            $crate::support::assert_borrowed(
-                &$rt,
-                texts,
-                $rt.alloc(),
-                $borrowed::new,
-                $borrowed::eq_str,
-            )?;
-            $crate::support::assert_beginnings(
-                &$rt,
-                texts,
-                $rt.alloc(),
-                $borrowed::new,
-                |value, text| {
-                    let again = $borrowed::from_checked(value.as_str());
-                    again.as_str() == text && again.as_bytes() == text.as_bytes()
-                },
-                |value| Ok(value.try_to_owned($rt.alloc())?.into_string()),
-            )?;
-            $crate::support::assert_owned(
-                &$rt,
-                texts,
-                $rt.alloc(),
-                $owned::new,
-                |value, text| value.as_str() == text && value.$lend().as_str() == text,
-            )
-        });
-    }};
+    ($rt:ident, $borrowed:ident, $owned:ident, $lend:ident, $message:literal, [$($accepted:literal),* $(,)?], [$($refused:literal),* $(,)?] $(,)?) => {
+        $crate::support::assert_text_type(
+            &$rt,
+            $crate::support::TextType {
+                name: stringify!($borrowed),
+                owned_name: stringify!($owned),
+                message: $message,
+                accepted: &[$($accepted),*],
+                refused: &[$($refused),*],
+            },
+            $rt.alloc(),
+            $borrowed::new,
+            $borrowed::eq_str,
+            |value, text, alloc| {
+                let again = $borrowed::from_checked(value.as_str());
+                let is_text = again.as_str() == text && again.as_bytes() == text.as_bytes();
+                Ok((is_text, value.try_to_owned(alloc)?.into_string()))
+            },
+            $owned::new,
+            |value, text| value.as_str() == text && value.$lend().as_str() == text,
+        )
+    };
 }
 
 pub(crate) use text_type;
@@ -301,25 +365,25 @@ pub(crate) use text_type;
 /// Asserts that a walk over the subtags of an extension, and a clone of it, have these subtags.
 pub(crate) fn assert_subtags(rt: &impl Abort, walk: ExtensionIter<'_>, subtags: &[&str]) {
     let clone = walk.clone().ok().expect(rt, "no clone");
-    assert_eq!(rt; clone.count(), subtags.len());
+    assert_same!(rt; clone.count(), subtags.len());
     let mut walk = walk;
     for subtag in subtags {
-        assert_eq!(rt; walk.next().expect(rt, "none").as_str(), *subtag);
+        assert_same!(rt; walk.next().expect(rt, "none").as_str(), *subtag);
     }
-    assert!(rt; walk.next().is_none());
-    assert!(rt; walk.next().is_none());
+    assert_that!(rt; walk.next().is_none());
+    assert_that!(rt; walk.next().is_none());
 }
 
 /// Asserts that a walk, made anew by each evaluation, counts some texts, gives them in order and then None twice.
 macro_rules! assert_walk {
     ($rt:ident, $walk:expr, $texts:expr) => {{
-        assert_eq!($rt; $walk.count(), $texts.len());
+        $crate::support::expect_same(&$rt, &$walk.count(), &$texts.len(), &$texts);
         let mut walk = $walk;
         for text in $texts {
-            assert_eq!($rt; walk.next().expect(&$rt, "none").as_str(), *text);
+            $crate::support::expect_same(&$rt, &walk.next().expect(&$rt, "none").as_str(), text, &$texts);
         }
-        assert!($rt; walk.next().is_none());
-        assert!($rt; walk.next().is_none());
+        $crate::support::expect_true(&$rt, walk.next().is_none(), &$texts);
+        $crate::support::expect_true(&$rt, walk.next().is_none(), &$texts);
     }};
 }
 

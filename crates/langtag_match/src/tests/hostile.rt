@@ -36,22 +36,23 @@ fn headers_of_each_length(rt: HostRuntime) -> Result<(), Fail> {
     Ok(())
 }
 
-/// A piece of a header, how often it stands there, and how many ranges that makes: white space, empty elements, elements that
-/// are not acceptable, ranges of rising weight, and 10,000 and more ranges of one weight.
-const READ: [(&str, usize, usize); 7] = [
-    (" ", 3_000_000, 0),
-    (",", 65_536, 0),
-    (",", 1_000_000, 0),
-    ("a;q=0.000,", 6_554, 0),
-    ("a;q=0.1,b;q=0.9,", 62_500, 125_000),
-    ("de,", 10_000, 10_000),
-    ("de,", 333_334, 333_334),
+/// A piece of a header, how often it stands there, what follows it, and how many ranges that makes: white space, empty
+/// elements, elements that are not acceptable, one range, ranges of rising weight, and 10,000 and more ranges of one weight.
+const READ: [(&str, usize, &str, usize); 8] = [
+    (" ", 3_000_000, "", 0),
+    (",", 65_536, "", 0),
+    (",", 1_000_000, "", 0),
+    ("a;q=0.000,", 6_554, "", 0),
+    ("aa-", 21_845, "aa", 1),
+    ("a;q=0.1,b;q=0.9,", 62_500, "", 125_000),
+    ("de,", 9_999, "de", 10_000),
+    ("de,", 333_334, "", 333_334),
 ];
 
 #[test]
 fn long_headers_are_read(rt: HostRuntime) -> Result<(), Fail> {
-    for (piece, times, ranges) in READ {
-        let header = once_more!(repeated(rt.alloc(), piece, times, ""))?;
+    for (piece, times, end, ranges) in READ {
+        let header = once_more!(repeated(rt.alloc(), piece, times, end))?;
         let counted = once_more!(count(rt.alloc(), header.as_str()));
         assert_eq!(rt; counted.ok(), Some(ranges), "of {piece}");
     }
@@ -68,8 +69,9 @@ fn offset(alloc: Global, header: &str) -> Option<usize> {
 
 /// A bad element at the end of a long header, and one that is long itself: a piece, how often it stands there, what follows
 /// it, and where the bad element begins.
-const REFUSED: [(&str, usize, &str, usize); 7] = [
+const REFUSED: [(&str, usize, &str, usize); 8] = [
     (",", 1_000_000, "?", 1_000_000),
+    (";q=0.000", 8_192, "", 0),
     ("aa;q=0.5,", 7_282, "?", 65_538),
     ("a", 1_000_000, "é", 0),
     ("a-", 1_000_000, "é", 0),

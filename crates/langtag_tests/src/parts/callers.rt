@@ -1,5 +1,5 @@
 //! The types as a caller uses them: refusals handed on by `?`, `.ok()?`, and closures over slices of values.
-use crate::support::with_memory;
+use crate::support::{assert_same, assert_that, with_memory};
 use langtag_language::{ExtendedLangTag, InvalidLanguage, Language, LanguageBuf};
 use langtag_place::{InvalidVariants, Region, Variants, VariantsBuf};
 use langtag_private::{InvalidPrivateUse, PrivateUse, PrivateUseBuf};
@@ -41,17 +41,14 @@ fn owned_private(text: String) -> Result<PrivateUseBuf, InvalidPrivateUse<String
 
 #[test]
 fn refusals_are_handed_on(rt: HostRuntime) {
-    assert_eq!(rt; counted("zh-min-nan").expect(&rt, "refused").1, 2);
-    assert_eq!(rt; counted("zh-").expect_err(&rt, "accepted").0, "zh-");
-    assert_eq!(rt; first("zh-min-nan").expect(&rt, "none").as_str(), "min");
-    assert!(rt; first("zh").is_none() && first("zh-").is_none());
-    assert_eq!(rt;
-        variants_of("rozaj-1994").expect(&rt, "refused").as_str(),
-        "rozaj-1994"
-    );
-    assert_eq!(rt; variants_of("1994-").expect_err(&rt, "accepted").0, "1994-");
-    assert_eq!(rt; region_text("419"), Some("419"));
-    assert_eq!(rt; region_text("4a9"), None);
+    assert_same!(rt; counted("zh-min-nan").expect(&rt, "refused").1, 2);
+    assert_same!(rt; counted("zh-").expect_err(&rt, "accepted").0, "zh-");
+    assert_same!(rt; first("zh-min-nan").expect(&rt, "none").as_str(), "min");
+    assert_that!(rt; first("zh").is_none() && first("zh-").is_none());
+    assert_same!(rt; variants_of("rozaj-1994").expect(&rt, "refused").as_str(), "rozaj-1994");
+    assert_same!(rt; variants_of("1994-").expect_err(&rt, "accepted").0, "1994-");
+    assert_same!(rt; region_text("419"), Some("419"));
+    assert_same!(rt; region_text("4a9"), None);
 }
 
 #[test]
@@ -59,11 +56,11 @@ fn owned_texts_are_handed_on(rt: HostRuntime) {
     with_memory(&rt, || {
         let owned = LanguageBuf::new(String::from_str(rt.alloc(), "zh-min")?);
         let again = owned_again(owned.expect(&rt, "refused")).expect(&rt, "refused");
-        assert_eq!(rt; again.as_str(), "zh-min");
+        assert_same!(rt; again.as_str(), "zh-min");
         let again = variants_again(String::from_str(rt.alloc(), "rozaj-1994")?);
-        assert_eq!(rt; again.expect(&rt, "refused").as_str(), "rozaj-1994");
+        assert_same!(rt; again.expect(&rt, "refused").as_str(), "rozaj-1994");
         let refused = owned_private(String::from_str(rt.alloc(), "x-")?);
-        assert_eq!(rt; refused.expect_err(&rt, "accepted").0.as_str(), "x-");
+        assert_same!(rt; refused.expect_err(&rt, "accepted").0.as_str(), "x-");
         Ok(())
     });
 }
@@ -76,17 +73,14 @@ fn values_are_chosen_by_a_closure(rt: HostRuntime) {
     let mut extended = languages
         .iter()
         .filter(|language| language.extension().is_some());
-    assert!(rt; extended.next().copied() == Some(long));
+    assert_that!(rt; extended.next().copied() == Some(long));
     let most = languages
         .iter()
         .map(|language| language.extension_subtags().count())
         .max();
-    assert_eq!(rt; most, Some(2));
-    assert!(rt; long.extension_subtags().any(|subtag| subtag.eq_str("NAN")));
-    assert_eq!(rt;
-        languages.iter().position(|language| *language == long),
-        Some(1)
-    );
+    assert_same!(rt; most, Some(2));
+    assert_that!(rt; long.extension_subtags().any(|subtag| subtag.eq_str("NAN")));
+    assert_same!(rt; languages.iter().position(|language| *language == long), Some(1));
     let part = PrivateUse::new("x-twain-a").expect(&rt, "refused");
-    assert!(rt; part.iter().any(|subtag| subtag.eq_str("TWAIN")));
+    assert_that!(rt; part.iter().any(|subtag| subtag.eq_str("TWAIN")));
 }

@@ -1,5 +1,5 @@
 //! The extensions of a tag and the subtags of each (RFC 5646 section 2.2.6).
-use crate::support::{assert_subtags, assert_walk};
+use crate::support::{assert_same, assert_subtags, assert_that, assert_walk};
 use langtag_extension::{Extension, ExtensionIter, Extensions, Singleton};
 use std::process::Abort;
 
@@ -48,16 +48,16 @@ fn extensions_and_their_subtags_come_in_order(rt: HostRuntime) {
 fn assert_extensions(rt: &impl Abort, extensions: Extensions<'_>, list: &[(&str, &[&str])]) {
     let mut walk = extensions.iter();
     let clone = walk.clone().ok().expect(rt, "no clone");
-    assert_eq!(rt; clone.count(), list.len());
+    assert_same!(rt; clone.count(), list.len());
     for (member, subtags) in list {
         let extension = walk.next().expect(rt, "none");
-        assert_eq!(rt; extension.as_str(), *member);
+        assert_same!(rt; extension.as_str(), *member);
         let singleton = extension.singleton().unwrap();
-        assert_eq!(rt; member.as_bytes().first().copied(), Some(singleton));
+        assert_same!(rt; member.as_bytes().first().copied(), Some(singleton));
         assert_subtags(rt, extension.iter(), *subtags);
     }
-    assert!(rt; walk.next().is_none());
-    assert!(rt; walk.next().is_none());
+    assert_that!(rt; walk.next().is_none());
+    assert_that!(rt; walk.next().is_none());
 }
 
 /// Extensions, a singleton, and the first extension of it with its subtags, without regard to case.
@@ -97,8 +97,8 @@ fn the_first_match_is_found(rt: HostRuntime) {
         let extensions = Extensions::new(text).expect(&rt, "refused");
         let singleton = Singleton::new(byte).expect(&rt, "refused");
         match extensions.get(singleton) {
-            Some(extension) => assert_eq!(rt; Some(extension.as_str()), found),
-            None => assert_eq!(rt; None, found, "of {text}"),
+            Some(extension) => assert_same!(rt; Some(extension.as_str()), found),
+            None => assert_same!(rt; None, found, text),
         }
         assert_subtags(&rt, extensions.iter_extension(singleton), subtags);
     }
@@ -107,11 +107,11 @@ fn the_first_match_is_found(rt: HostRuntime) {
 #[test]
 fn no_extensions(rt: HostRuntime) {
     let read = Extensions::new("").expect(&rt, "refused");
-    assert!(rt; read == Extensions::EMPTY);
-    assert_eq!(rt; Extensions::EMPTY.as_str(), "");
-    assert!(rt; Extensions::EMPTY.iter().next().is_none());
+    assert_that!(rt; read == Extensions::EMPTY);
+    assert_same!(rt; Extensions::EMPTY.as_str(), "");
+    assert_that!(rt; Extensions::EMPTY.iter().next().is_none());
     let a = Singleton::new(b'A').expect(&rt, "refused");
-    assert!(rt; Extensions::EMPTY.get(a).is_none());
+    assert_that!(rt; Extensions::EMPTY.get(a).is_none());
     assert_walk!(rt, ExtensionIter::empty(), [""; 0].as_slice());
     assert_walk!(rt, ExtensionIter::default(), [""; 0].as_slice());
     let alone = Extension::new("u-co").expect(&rt, "refused");

@@ -1,5 +1,5 @@
 //! The parts of a language (RFC 5646 sections 2.2.1 and 2.2.2).
-use crate::support::assert_walk;
+use crate::support::{assert_same, assert_walk};
 use langtag_language::{Language, LanguageExtension, LanguageExtensionIter};
 
 /// Languages, the primary subtag of each, and its extended subtags as one text and one by one.
@@ -35,9 +35,9 @@ const LANGUAGES: [(&str, &str, Option<&str>, &[&str]); 15] = [
 fn the_parts_of_languages(rt: HostRuntime) {
     for (text, primary, extension, members) in LANGUAGES {
         let language = Language::new(text).expect(&rt, "refused");
-        assert_eq!(rt; language.primary().as_str(), primary);
+        assert_same!(rt; language.primary().as_str(), primary);
         let found = language.extension().map(|extension| extension.as_str());
-        assert_eq!(rt; found, extension, "of {text}");
+        assert_same!(rt; found, extension, text);
         assert_walk!(rt, language.extension_subtags(), members);
         if let Some(extension) = extension {
             let extension = LanguageExtension::new(extension).expect(&rt, "refused");

@@ -1,5 +1,5 @@
 //! Texts of two million bytes: what reads them uses one loop and no stack that grows with the text.
-use crate::support::{assert_exact, with_memory};
+use crate::support::{assert_exact, assert_same, assert_that, with_memory};
 use langtag_extension::{Extension, Extensions};
 use langtag_language::{Language, LanguageExtension};
 use langtag_place::Variants;
@@ -11,11 +11,11 @@ const MANY: usize = 1_000_000;
 fn long_variants(rt: HostRuntime) {
     with_memory(&rt, || {
         let mut text = "1996-".repeat(rt.alloc(), MANY / 2)?;
-        assert!(rt; Variants::new(text.as_str()).is_err());
+        assert_that!(rt; Variants::new(text.as_str()).is_err());
         text.push_str("rozaj")?;
         let variants = Variants::new(text.as_str()).expect(&rt, "refused");
-        assert_eq!(rt; variants.iter().count(), MANY / 2 + 1);
-        assert_eq!(rt; variants.last().expect(&rt, "none").as_str(), "rozaj");
+        assert_same!(rt; variants.iter().count(), MANY / 2 + 1);
+        assert_same!(rt; variants.last().expect(&rt, "none").as_str(), "rozaj");
         assert_exact(
             &rt,
             variants.try_to_owned(rt.alloc())?.into_string(),
@@ -29,12 +29,12 @@ fn long_variants(rt: HostRuntime) {
 fn long_extensions(rt: HostRuntime) {
     with_memory(&rt, || {
         let mut text = "a-bb-".repeat(rt.alloc(), MANY / 2)?;
-        assert!(rt; Extensions::new(text.as_str()).is_err());
+        assert_that!(rt; Extensions::new(text.as_str()).is_err());
         text.push_str("u-co")?;
         let extensions = Extensions::new(text.as_str()).expect(&rt, "refused");
-        assert_eq!(rt; extensions.iter().count(), MANY / 2 + 1);
+        assert_same!(rt; extensions.iter().count(), MANY / 2 + 1);
         let last = extensions.iter().last().expect(&rt, "none");
-        assert!(rt; extensions.get(last.singleton()) == Some(last));
+        assert_that!(rt; extensions.get(last.singleton()) == Some(last));
         assert_exact(
             &rt,
             extensions.try_to_owned(rt.alloc())?.into_string(),
@@ -50,11 +50,11 @@ fn a_long_extension(rt: HostRuntime) {
         let mut text = String::from_str(rt.alloc(), "u")?;
         text.push_str("-co".repeat(rt.alloc(), MANY)?.as_str())?;
         let extension = Extension::new(text.as_str()).expect(&rt, "refused");
-        assert_eq!(rt; extension.iter().count(), MANY);
+        assert_same!(rt; extension.iter().count(), MANY);
         let copy = extension.try_to_owned(rt.alloc())?.into_string();
         assert_exact(&rt, copy, text.as_str());
         text.push_str("-a")?;
-        assert!(rt; Extension::new(text.as_str()).is_err());
+        assert_that!(rt; Extension::new(text.as_str()).is_err());
         Ok(())
     });
 }
@@ -65,14 +65,14 @@ fn a_long_private_use_part(rt: HostRuntime) {
         let mut text = String::from_str(rt.alloc(), "x")?;
         text.push_str("-a".repeat(rt.alloc(), MANY)?.as_str())?;
         let part = PrivateUse::new(text.as_str()).expect(&rt, "refused");
-        assert_eq!(rt; part.iter().count(), MANY);
+        assert_same!(rt; part.iter().count(), MANY);
         assert_exact(
             &rt,
             part.try_to_owned(rt.alloc())?.into_string(),
             text.as_str(),
         );
         text.push_str("-")?;
-        assert!(rt; PrivateUse::new(text.as_str()).is_err());
+        assert_that!(rt; PrivateUse::new(text.as_str()).is_err());
         Ok(())
     });
 }
@@ -87,12 +87,12 @@ fn no_hyphen(rt: HostRuntime) {
                 let mut text = String::from_str(rt.alloc(), beginning)?;
                 text.push_str(long.as_str())?;
                 let text = text.as_str();
-                assert!(rt; Language::new(text).is_err(), "after {beginning}");
-                assert!(rt; LanguageExtension::new(text).is_err(), "after {beginning}");
-                assert!(rt; Variants::new(text).is_err(), "after {beginning}");
-                assert!(rt; Extension::new(text).is_err(), "after {beginning}");
-                assert!(rt; Extensions::new(text).is_err(), "after {beginning}");
-                assert!(rt; PrivateUse::new(text).is_err(), "after {beginning}");
+                assert_that!(rt; Language::new(text).is_err(), beginning);
+                assert_that!(rt; LanguageExtension::new(text).is_err(), beginning);
+                assert_that!(rt; Variants::new(text).is_err(), beginning);
+                assert_that!(rt; Extension::new(text).is_err(), beginning);
+                assert_that!(rt; Extensions::new(text).is_err(), beginning);
+                assert_that!(rt; PrivateUse::new(text).is_err(), beginning);
             }
         }
         Ok(())

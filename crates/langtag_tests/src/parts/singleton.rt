@@ -1,5 +1,5 @@
 //! The singleton (RFC 5646 section 2.2.6).
-use crate::support::{hash_of, with_memory};
+use crate::support::{assert_same, assert_that, hash_of, with_memory};
 use langtag_extension::{ExtensionSubtag, Extensions, InvalidSingleton, Singleton};
 use std::convert::TryFrom;
 
@@ -13,17 +13,17 @@ fn letters_and_digits_but_x_are_singletons(rt: HostRuntime) {
     for byte in 0..=u8::MAX {
         match Singleton::new(byte) {
             Ok(singleton) => {
-                assert!(rt; is_singleton(byte), "of {byte}");
-                assert_eq!(rt; singleton.unwrap(), byte);
+                assert_that!(rt; is_singleton(byte), byte);
+                assert_same!(rt; singleton.unwrap(), byte);
             }
             Err(refusal) => {
-                assert!(rt; !is_singleton(byte), "of {byte}");
-                assert_eq!(rt; refusal.0, byte);
+                assert_that!(rt; !is_singleton(byte), byte);
+                assert_same!(rt; refusal.0, byte);
             }
         }
     }
     for byte in [b'x', b'X', b'-', 0, 255] {
-        assert!(rt; Singleton::new(byte).is_err(), "of {byte}");
+        assert_that!(rt; Singleton::new(byte).is_err(), byte);
     }
 }
 
@@ -31,11 +31,11 @@ fn letters_and_digits_but_x_are_singletons(rt: HostRuntime) {
 fn texts_convert(rt: HostRuntime) {
     for text in ["", "ab", "é", "x", "X", "-", "\0", "\u{ff}", "a-"] {
         let refused = Singleton::from_string(text).expect_err(&rt, "accepted");
-        assert_eq!(rt; refused.0, text);
+        assert_same!(rt; refused.0, text);
     }
     for text in ["0", "9", "A", "U", "Z", "a", "u", "w", "z"] {
         let singleton = Singleton::from_string(text).expect(&rt, "refused");
-        assert_eq!(rt; text.as_bytes().first().copied(), Some(singleton.unwrap()));
+        assert_same!(rt; text.as_bytes().first().copied(), Some(singleton.unwrap()));
     }
 }
 
@@ -44,18 +44,15 @@ fn what_is_shown(rt: HostRuntime) {
     with_memory(&rt, || {
         for text in ["0", "9", "A", "U", "Z", "a", "w", "z"] {
             let singleton = Singleton::from_string(text).expect(&rt, "refused");
-            assert_eq!(rt; singleton.to_string(rt.alloc())?.as_str(), text);
+            assert_same!(rt; singleton.to_string(rt.alloc())?.as_str(), text);
         }
         let capital = Singleton::new(b'U').expect(&rt, "refused");
         let debug = format!(in rt.alloc(); "{capital:?}")?;
-        assert_eq!(rt; debug.as_str(), "Singleton { byte: 85 }");
+        assert_same!(rt; debug.as_str(), "Singleton { byte: 85 }");
         let refused = Singleton::new(b'x').expect_err(&rt, "accepted");
         let debug = format!(in rt.alloc(); "{refused:?}")?;
-        assert_eq!(rt; debug.as_str(), "InvalidSingleton(120)");
-        assert_eq!(rt;
-            refused.to_string(rt.alloc())?.as_str(),
-            "invalid extension identifier"
-        );
+        assert_same!(rt; debug.as_str(), "InvalidSingleton(120)");
+        assert_same!(rt; refused.to_string(rt.alloc())?.as_str(), "invalid extension identifier");
         Ok(())
     });
 }
@@ -64,17 +61,14 @@ fn what_is_shown(rt: HostRuntime) {
 fn bytes_and_characters_convert(rt: HostRuntime) {
     for byte in [b'u', b'X', 0, 255] {
         let converted: Result<Singleton, InvalidSingleton<u8>> = Singleton::try_from(byte);
-        assert_eq!(rt;
-            converted.ok().map(Singleton::unwrap),
-            Some(byte).filter(|byte| is_singleton(*byte))
-        );
+        assert_same!(rt; converted.ok().map(Singleton::unwrap), Some(byte).filter(|byte| is_singleton(*byte)));
     }
     let converted: Result<Singleton, InvalidSingleton<char>> = Singleton::try_from('U');
-    assert_eq!(rt; converted.expect(&rt, "refused").unwrap(), b'U');
+    assert_same!(rt; converted.expect(&rt, "refused").unwrap(), b'U');
     // The last eight bits of U+0161 are those of `a`.
     for c in ['\u{161}', 'x', 'X', '-', 'é', '\0', '\u{ff}', '\u{10ffff}'] {
         let converted: Result<Singleton, InvalidSingleton<char>> = Singleton::try_from(c);
-        assert_eq!(rt; converted.expect_err(&rt, "accepted").0, c);
+        assert_same!(rt; converted.expect_err(&rt, "accepted").0, c);
     }
 }
 
@@ -85,16 +79,10 @@ fn comparisons_are_by_the_exact_byte(rt: HostRuntime) {
         for other in bytes {
             let singleton = Singleton::new(byte).expect(&rt, "refused");
             let other_singleton = Singleton::new(other).expect(&rt, "refused");
-            assert_eq!(rt; singleton == other_singleton, byte == other);
-            assert_eq!(rt; singleton.cmp(&other_singleton), byte.cmp(&other));
-            assert_eq!(rt;
-                singleton.partial_cmp(&other_singleton),
-                Some(byte.cmp(&other))
-            );
-            assert_eq!(rt;
-                hash_of(&singleton) == hash_of(&other_singleton),
-                byte == other
-            );
+            assert_same!(rt; singleton == other_singleton, byte == other);
+            assert_same!(rt; singleton.cmp(&other_singleton), byte.cmp(&other));
+            assert_same!(rt; singleton.partial_cmp(&other_singleton), Some(byte.cmp(&other)));
+            assert_same!(rt; hash_of(&singleton) == hash_of(&other_singleton), byte == other);
         }
     }
 }
@@ -115,10 +103,10 @@ fn first_unicode_subtag(text: &str) -> Option<ExtensionSubtag<'_>> {
 
 #[test]
 fn literals_are_singletons(rt: HostRuntime) {
-    assert_eq!(rt; unicode().unwrap(), b'u');
+    assert_same!(rt; unicode().unwrap(), b'u');
     let subtag = first_unicode_subtag("a-bb-U-co-phonebk").expect(&rt, "none");
-    assert_eq!(rt; subtag.as_str(), "co");
+    assert_same!(rt; subtag.as_str(), "co");
     for text in ["a-bb", "", "u"] {
-        assert!(rt; first_unicode_subtag(text).is_none(), "of {text}");
+        assert_that!(rt; first_unicode_subtag(text).is_none(), text);
     }
 }

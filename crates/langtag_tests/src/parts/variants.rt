@@ -1,4 +1,5 @@
 //! The variants of a tag, from either end (RFC 5646 section 2.2.5).
+use crate::support::{assert_same, assert_that};
 use langtag_place::{Variant, Variants, VariantsIter};
 
 const FOUR: &str = "azert-0foo-barbz-4242";
@@ -24,12 +25,8 @@ fn all_walks_of_six_calls(rt: HostRuntime) {
             } else {
                 (items.next(), model.next())
             };
-            assert_eq!(rt; text.is_none(), call >= 4, "at call {call} of walk {walk}");
-            assert_eq!(rt;
-                text_of(item),
-                text.copied(),
-                "at call {call} of walk {walk}"
-            );
+            assert_same!(rt; text.is_none(), call >= 4, (call, walk));
+            assert_same!(rt; text_of(item), text.copied(), (call, walk));
         }
     }
 }
@@ -37,10 +34,10 @@ fn all_walks_of_six_calls(rt: HostRuntime) {
 #[test]
 fn two_variants_from_the_back(rt: HostRuntime) {
     let mut items = Variants::new("a1b2c-1996").expect(&rt, "refused").iter();
-    assert_eq!(rt; text_of(items.next_back()), Some("1996"));
-    assert_eq!(rt; text_of(items.next()), Some("a1b2c"));
-    assert!(rt; items.next().is_none());
-    assert!(rt; items.next_back().is_none());
+    assert_same!(rt; text_of(items.next_back()), Some("1996"));
+    assert_same!(rt; text_of(items.next()), Some("a1b2c"));
+    assert_that!(rt; items.next().is_none());
+    assert_that!(rt; items.next_back().is_none());
 }
 
 /// Variants, the first and the last of them, how many they are, and how many are left after one from each end.
@@ -62,29 +59,29 @@ fn first_last_and_count(rt: HostRuntime) {
     ];
     for (text, first, last, count, within) in cases {
         let variants = Variants::new(text).expect(&rt, "refused");
-        assert_eq!(rt; text_of(variants.first()), first, "of {text}");
-        assert_eq!(rt; text_of(variants.last()), last, "of {text}");
+        assert_same!(rt; text_of(variants.first()), first, text);
+        assert_same!(rt; text_of(variants.last()), last, text);
         let mut items = variants.iter();
-        assert_eq!(rt; variants.iter().count(), count, "of {text}");
+        assert_same!(rt; variants.iter().count(), count, text);
         let _first = items.next();
         let _last = items.next_back();
-        assert_eq!(rt; items.count(), within, "of {text}");
+        assert_same!(rt; items.count(), within, text);
     }
 }
 
 #[test]
 fn empty_walks(rt: HostRuntime) {
     let read = Variants::new("").expect(&rt, "refused");
-    assert!(rt; read == Variants::EMPTY);
-    assert_eq!(rt; Variants::EMPTY.as_str(), "");
-    assert!(rt; Variants::EMPTY.first().is_none() && Variants::EMPTY.last().is_none());
+    assert_that!(rt; read == Variants::EMPTY);
+    assert_same!(rt; Variants::EMPTY.as_str(), "");
+    assert_that!(rt; Variants::EMPTY.first().is_none() && Variants::EMPTY.last().is_none());
     for mut items in [
         VariantsIter::empty(),
         VariantsIter::default(),
         Variants::EMPTY.iter(),
         read.iter(),
     ] {
-        assert!(rt; items.next().is_none());
-        assert!(rt; items.next_back().is_none());
+        assert_that!(rt; items.next().is_none());
+        assert_that!(rt; items.next_back().is_none());
     }
 }

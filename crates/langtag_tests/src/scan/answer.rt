@@ -1,4 +1,5 @@
 //! What a recogniser answers, in a form that compares.
+use crate::support::{assert_same, assert_that};
 use langtag_scan::{ByteSource, Ends, Found, Metered, MeteredBytes, recognise, recognise_normal};
 use std::process::Abort;
 
@@ -44,7 +45,7 @@ impl Answer {
 pub(crate) fn of_text(rt: &impl Abort, text: &str) -> (Answer, usize) {
     let mut source = Metered::new(text);
     let found = recognise(&mut source);
-    assert_eq!(rt; source.reads(), source.reach() as u128, "reading {text}");
+    assert_same!(rt; source.reads(), source.reach() as u128, text);
     (Answer::of(found), source.reach())
 }
 
@@ -52,7 +53,7 @@ pub(crate) fn of_text(rt: &impl Abort, text: &str) -> (Answer, usize) {
 pub(crate) fn of_bytes(rt: &impl Abort, bytes: &[u8]) -> (Answer, usize) {
     let mut source = MeteredBytes::new(bytes);
     let found = recognise(&mut source);
-    assert_eq!(rt; source.reads(), source.reach() as u128, "reading {bytes:?}");
+    assert_same!(rt; source.reads(), source.reach() as u128, bytes);
     (Answer::of(found), source.reach())
 }
 
@@ -60,7 +61,7 @@ pub(crate) fn of_bytes(rt: &impl Abort, bytes: &[u8]) -> (Answer, usize) {
 pub(crate) fn of_normal(rt: &impl Abort, text: &str) -> Answer {
     let mut source = Metered::new(text);
     let found = recognise_normal(&mut source);
-    assert!(rt; source.reads() <= text.len() as u128, "reading {text}");
+    assert_that!(rt; source.reads() <= text.len() as u128, text);
     Answer::of(found)
 }
 

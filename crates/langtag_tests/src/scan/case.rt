@@ -1,6 +1,7 @@
 //! Case (RFC 5646 section 2.1.1).
 ghost use Rattle.std.specs.Prelude.{◌≡◌, ◌+◌, ◌*◌, ◌%◌, ◌^◌, length, fold};
 
+use crate::support::{assert_same, assert_that};
 use langtag_scan::{
     case_insensitive_cmp, case_insensitive_eq, case_insensitive_hash, into_smallcase,
 };
@@ -46,17 +47,17 @@ fn folds_letters_alone(rt: HostRuntime) {
         (0xc0, 0xc0),
         (0xff, 0xff),
     ] {
-        assert_eq!(rt; into_smallcase(byte), folded, "at {byte}");
+        assert_same!(rt; into_smallcase(byte), folded, byte);
     }
 }
 
 #[test]
 fn equal_but_for_case(rt: HostRuntime) {
-    assert!(rt; case_insensitive_eq(b"zh-Hant-TW", b"ZH-hANT-tw"));
-    assert!(rt; case_insensitive_eq(b"", b""));
-    assert!(rt; !case_insensitive_eq(b"[", b"{"));
-    assert!(rt; !case_insensitive_eq(b"zh", b"zh-"));
-    assert!(rt; !case_insensitive_eq(b"zh_TW", b"zh-TW"));
+    assert_that!(rt; case_insensitive_eq(b"zh-Hant-TW", b"ZH-hANT-tw"));
+    assert_that!(rt; case_insensitive_eq(b"", b""));
+    assert_that!(rt; !case_insensitive_eq(b"[", b"{"));
+    assert_that!(rt; !case_insensitive_eq(b"zh", b"zh-"));
+    assert_that!(rt; !case_insensitive_eq(b"zh_TW", b"zh-TW"));
 }
 
 #[test]
@@ -76,7 +77,7 @@ fn ordered_but_for_case(rt: HostRuntime) {
     .iter()
     .enumerate()
     {
-        assert!(rt; case_insensitive_cmp(a, b) == *order, "at {i}");
+        assert_that!(rt; case_insensitive_cmp(a, b) == *order, i);
     }
 }
 
@@ -84,8 +85,8 @@ fn ordered_but_for_case(rt: HostRuntime) {
 fn feeds_a_folded_byte_a_call(rt: HostRuntime) {
     let mut calls = Calls(0);
     case_insensitive_hash(b"Fr", &mut calls);
-    assert_eq!(rt; calls.0, 0x166_172);
+    assert_same!(rt; calls.0, 0x166_172);
     let mut none = Calls(0);
     case_insensitive_hash(b"", &mut none);
-    assert_eq!(rt; none.0, 0);
+    assert_same!(rt; none.0, 0);
 }

@@ -1,4 +1,5 @@
 //! Texts, lent and owned, that compare without regard to case (RFC 5646 section 2.1.1).
+use crate::support::{assert_same, assert_that};
 use langtag_scan::Caseless;
 use std::cmp::Ordering;
 use std::collections::{BTreeSet, HashSet};
@@ -8,14 +9,14 @@ use std::test::Fail;
 fn lent_texts(rt: HostRuntime) -> Result<(), Fail> {
     let mixed = Caseless("zh-Latn");
     let large = Caseless("ZH-LATN");
-    assert!(rt; mixed == large);
-    assert!(rt; mixed != Caseless("zh-Hant"));
-    assert!(rt; mixed.cmp(&large) == Ordering::Equal);
-    assert!(rt; Caseless("zh") > mixed);
+    assert_that!(rt; mixed == large);
+    assert_that!(rt; mixed != Caseless("zh-Hant"));
+    assert_that!(rt; mixed.cmp(&large) == Ordering::Equal);
+    assert_that!(rt; Caseless("zh") > mixed);
     let mut seen = HashSet::new(rt.alloc());
     seen.insert(mixed)?;
-    assert!(rt; seen.contains(&large));
-    assert!(rt; !seen.contains(&Caseless("zh")));
+    assert_that!(rt; seen.contains(&large));
+    assert_that!(rt; !seen.contains(&Caseless("zh")));
     Ok(())
 }
 
@@ -25,11 +26,11 @@ fn owned_texts(rt: HostRuntime) -> Result<(), Fail> {
     for text in ["zh", "ZH-latn", "en", "zh-Latn"] {
         sorted.insert(Caseless(String::from_str(rt.alloc(), text)?))?;
     }
-    assert_eq!(rt; sorted.len(), 3);
+    assert_same!(rt; sorted.len(), 3);
     let first = sorted.first().ok_or("empty")?;
-    assert_eq!(rt; first.0.as_str(), "en");
+    assert_same!(rt; first.0.as_str(), "en");
     let last = sorted.last().ok_or("empty")?;
-    assert_eq!(rt; last.0.as_str(), "zh");
+    assert_same!(rt; last.0.as_str(), "zh");
     Ok(())
 }
 
@@ -37,6 +38,6 @@ fn owned_texts(rt: HostRuntime) -> Result<(), Fail> {
 fn debug_shows_the_text(rt: HostRuntime) -> Result<(), Fail> {
     let text = Caseless("fR");
     let shown = format!(in rt.alloc(); "{text:?}")?;
-    assert_eq!(rt; shown.as_str(), "Caseless(\"fR\")");
+    assert_same!(rt; shown.as_str(), "Caseless(\"fR\")");
     Ok(())
 }

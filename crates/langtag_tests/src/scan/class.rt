@@ -1,4 +1,5 @@
 //! The classes of subtags, on both sides of each length and of the letters and digits.
+use crate::support::assert_same;
 use langtag_scan::{
     is_extended, is_extension_subtag, is_mark, is_primary, is_private_subtag, is_region, is_script,
     is_singleton, is_variant,
@@ -68,10 +69,10 @@ fn classes(subtag: &[u8]) -> [bool; 7] {
 #[test]
 fn of_subtags(rt: HostRuntime) {
     for &(subtag, want) in SUBTAGS {
-        assert_eq!(rt; classes(subtag), want, "at {subtag:?}");
+        assert_same!(rt; classes(subtag), want, subtag);
     }
     for bytes in NO_SUBTAGS {
-        assert_eq!(rt; classes(bytes), [NO; 7], "at {bytes:?}");
+        assert_same!(rt; classes(bytes), [NO; 7], bytes);
     }
 }
 
@@ -79,9 +80,9 @@ fn of_subtags(rt: HostRuntime) {
 fn of_single_bytes(rt: HostRuntime) {
     for byte in 0..=255u8 {
         let mark = matches!(byte, b'x' | b'X');
-        assert_eq!(rt; is_mark(byte), mark, "at {byte}");
+        assert_same!(rt; is_mark(byte), mark, byte);
         let other =
             matches!(byte, b'0'..=b'9' | b'a'..=b'w' | b'y' | b'z' | b'A'..=b'W' | b'Y' | b'Z');
-        assert_eq!(rt; is_singleton(byte), other, "at {byte}");
+        assert_same!(rt; is_singleton(byte), other, byte);
     }
 }

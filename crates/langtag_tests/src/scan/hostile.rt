@@ -1,5 +1,6 @@
 //! Bytes that are made to hurt, through every call that takes bytes.
 use crate::scan::answer::{Answer, of_bytes};
+use crate::support::{assert_same, assert_that};
 use langtag_scan::{
     case_insensitive_cmp, case_insensitive_eq, case_insensitive_hash, is_extended,
     is_extension_subtag, is_primary, is_private_subtag, is_region, is_script, is_variant,
@@ -39,11 +40,7 @@ const BYTES: [(&[u8], usize); 24] = [
 #[test]
 fn no_call_takes_them_for_a_subtag(rt: HostRuntime) {
     for (bytes, reads) in BYTES {
-        assert_eq!(rt;
-            of_bytes(&rt, bytes),
-            (Answer::Refused, reads),
-            "at {bytes:?}"
-        );
+        assert_same!(rt; of_bytes(&rt, bytes), (Answer::Refused, reads), bytes);
         let is_subtag = is_primary(bytes)
             || is_extended(bytes)
             || is_script(bytes)
@@ -51,7 +48,7 @@ fn no_call_takes_them_for_a_subtag(rt: HostRuntime) {
             || is_variant(bytes)
             || is_extension_subtag(bytes)
             || is_private_subtag(bytes);
-        assert!(rt; !is_subtag, "at {bytes:?}");
+        assert_that!(rt; !is_subtag, bytes);
         let end = segment_end(bytes, 0);
         assert!(rt;
             end <= bytes.len() && !bytes[..end].contains(&b'-'),
@@ -76,14 +73,10 @@ fn each_is_alike_itself_alone(rt: HostRuntime) {
     for (i, (a, _)) in BYTES.iter().enumerate() {
         for (j, (b, _)) in BYTES.iter().enumerate() {
             let order = case_insensitive_cmp(a, b);
-            assert_eq!(rt; case_insensitive_eq(a, b), i == j, "at {a:?} and {b:?}");
-            assert_eq!(rt; order == Ordering::Equal, i == j, "at {a:?} and {b:?}");
-            assert_eq!(rt; hash_of(a) == hash_of(b), i == j, "at {a:?} and {b:?}");
-            assert_eq!(rt;
-                case_insensitive_cmp(b, a),
-                order.reverse(),
-                "at {a:?} and {b:?}"
-            );
+            assert_same!(rt; case_insensitive_eq(a, b), i == j, (a, b));
+            assert_same!(rt; order == Ordering::Equal, i == j, (a, b));
+            assert_same!(rt; hash_of(a) == hash_of(b), i == j, (a, b));
+            assert_same!(rt; case_insensitive_cmp(b, a), order.reverse(), (a, b));
         }
     }
 }

@@ -1,5 +1,6 @@
 //! The prefixes with which some tag begins: a recogniser reads on after them alone.
 use crate::scan::answer::{Answer, case_swapped, followed, of_bytes, of_text};
+use crate::support::{assert_same, assert_that};
 
 /// Prefixes, each with a tag that begins with it; empty where there is none.
 const PREFIXES: [(&str, &str); 14] = [
@@ -26,14 +27,14 @@ fn an_underscore_is_read_after_those_that_go_on(rt: HostRuntime) {
         assert!(rt; len < 160);
         let want = (Answer::Refused, len + usize::from(!tag.is_empty()));
         let answer = of_bytes(&rt, &followed(prefix, b'_')[..len + 1]);
-        assert_eq!(rt; answer, want, "at {prefix}");
+        assert_same!(rt; answer, want, prefix);
         let answer = of_bytes(&rt, &case_swapped(prefix)[..len + 1]);
-        assert_eq!(rt; answer, want, "at {prefix}");
+        assert_same!(rt; answer, want, prefix);
         if !tag.is_empty() {
-            assert!(rt; tag.starts_with(prefix), "at {prefix}");
+            assert_that!(rt; tag.starts_with(prefix), prefix);
             let (answer, reads) = of_text(&rt, tag);
-            assert!(rt; answer != Answer::Refused, "at {tag}");
-            assert_eq!(rt; reads, tag.len(), "at {tag}");
+            assert_that!(rt; answer != Answer::Refused, tag);
+            assert_same!(rt; reads, tag.len(), tag);
         }
     }
 }

@@ -2,6 +2,7 @@
 use crate::scan::answer::{Answer, case_swapped, of_bytes, of_normal, of_text};
 use crate::scan::rows::{self, Row};
 use crate::scan::source::PrivateSubtags;
+use crate::support::{assert_same, assert_that};
 use langtag_scan::{ByteSource, Ends, Metered, recognise, recognise_normal};
 use std::process::Abort;
 use std::test::Fail;
@@ -9,15 +10,11 @@ use std::test::Fail;
 fn are_decided(rt: &impl Abort, rows: &[Row]) {
     for row in rows {
         let text = row.text;
-        assert_eq!(rt; of_text(rt, text), (row.answer, row.reads), "at {text}");
-        assert_eq!(rt; of_normal(rt, text), row.answer.if_normal(), "at {text}");
+        assert_same!(rt; of_text(rt, text), (row.answer, row.reads), text);
+        assert_same!(rt; of_normal(rt, text), row.answer.if_normal(), text);
         assert!(rt; text.len() <= 160);
         let swapped = of_bytes(rt, &case_swapped(text)[..text.len()]);
-        assert_eq!(rt;
-            swapped,
-            (row.answer, row.reads),
-            "at {text} in the other case"
-        );
+        assert_same!(rt; swapped, (row.answer, row.reads), text);
     }
 }
 
@@ -53,11 +50,7 @@ fn parts_between(text: &'static str, ends: Ends) -> [&'static str; 6] {
 fn have_parts_between_the_ends(rt: &impl Abort, rows: &[Row]) {
     for row in rows {
         if let Answer::Normal(ends) = row.answer {
-            assert!(rt;
-                parts_between(row.text, ends) == row.parts,
-                "in {}",
-                row.text
-            );
+            assert_that!(rt; parts_between(row.text, ends) == row.parts, row.text);
         }
     }
 }
@@ -75,10 +68,7 @@ fn debug_shows_each_end(rt: HostRuntime) -> Result<(), Fail> {
         .and_then(|found| found.ends())
         .ok_or("refused")?;
     let shown = format!(in rt.alloc(); "{ends:?}")?;
-    assert_eq!(rt;
-        shown.as_str(),
-        "Ends { language: 6, script: 11, region: 14, variants: 14, extensions: 20, whole: 20 }"
-    );
+    assert_same!(rt; shown.as_str(), "Ends { language: 6, script: 11, region: 14, variants: 14, extensions: 20, whole: 20 }");
     Ok(())
 }
 
@@ -94,11 +84,11 @@ fn a_source_that_was_read_before(rt: HostRuntime) {
             assert!(rt; last < source.len() && source.reads() < 5, "at {text}");
             source.byte(last);
         }
-        assert_eq!(rt; source.reads(), 5, "at {text}");
+        assert_same!(rt; source.reads(), 5, text);
         let found = recognise(&mut source);
-        assert_eq!(rt; found.is_some(), text == "fr-FR", "at {text}");
-        assert_eq!(rt; source.reads(), reads, "at {text}");
-        assert_eq!(rt; source.reach(), reach, "at {text}");
+        assert_same!(rt; found.is_some(), text == "fr-FR", text);
+        assert_same!(rt; source.reads(), reads, text);
+        assert_same!(rt; source.reach(), reach, text);
     }
 }
 
@@ -113,10 +103,10 @@ fn ten_thousand_private_subtags(rt: HostRuntime) {
         whole: 20_004,
     });
     let mut source = PrivateSubtags::new(10_000);
-    assert_eq!(rt; Answer::of(recognise(&mut source)), want);
-    assert_eq!(rt; source.reads(), 20_004);
-    assert_eq!(rt; source.reach(), 20_004);
+    assert_same!(rt; Answer::of(recognise(&mut source)), want);
+    assert_same!(rt; source.reads(), 20_004);
+    assert_same!(rt; source.reach(), 20_004);
     let mut source = PrivateSubtags::new(10_000);
-    assert_eq!(rt; Answer::of(recognise_normal(&mut source)), want);
-    assert!(rt; source.reads() <= 20_004);
+    assert_same!(rt; Answer::of(recognise_normal(&mut source)), want);
+    assert_that!(rt; source.reads() <= 20_004);
 }

@@ -2,6 +2,7 @@
 ghost use Rattle.std.specs.Prelude.{◌≡◌, ◌≤◌, ◌^◌, ◌%◌, ◌==◌, nat_lt, map, slice_index, codes, if◌then◌else◌};
 ghost use Rattle.std.specs.List.{range_with_len};
 
+use crate::support::assert_same;
 use langtag_scan::{ByteSource, Metered};
 
 /// `en-x` followed by so many times `-a`, of which no byte is stored.
@@ -60,11 +61,11 @@ impl ByteSource for PrivateSubtags {
 #[test]
 fn metered_counts_each_read(rt: HostRuntime) {
     let mut source = Metered::new("fr-é");
-    assert_eq!(rt; (source.len(), source.reads(), source.reach()), (5, 0, 0));
-    assert_eq!(rt; source.byte(2), b'-');
-    assert_eq!(rt; (source.reads(), source.reach()), (1, 3));
-    assert_eq!(rt; source.byte(0), b'f');
-    assert_eq!(rt; (source.reads(), source.reach()), (2, 3));
-    assert_eq!(rt; source.byte(4), 0xa9);
-    assert_eq!(rt; (source.len(), source.reads(), source.reach()), (5, 3, 5));
+    assert_same!(rt; (source.len(), source.reads(), source.reach()), (5, 0, 0));
+    assert_same!(rt; source.byte(2), b'-');
+    assert_same!(rt; (source.reads(), source.reach()), (1, 3));
+    assert_same!(rt; source.byte(0), b'f');
+    assert_same!(rt; (source.reads(), source.reach()), (2, 3));
+    assert_same!(rt; source.byte(4), 0xa9);
+    assert_same!(rt; (source.len(), source.reads(), source.reach()), (5, 3, 5));
 }

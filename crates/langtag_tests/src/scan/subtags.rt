@@ -1,4 +1,5 @@
 //! The walk over subtags (RFC 5646 section 2.1).
+use crate::support::{assert_same, assert_that};
 use langtag_scan::Subtags;
 use std::alloc::Global;
 use std::test::Fail;
@@ -37,11 +38,7 @@ fn walks_from_both_ends(rt: HostRuntime) -> Result<(), Fail> {
         ("-a", 1, "><a"),
     ] {
         let found = walked(rt.alloc(), text, first)?;
-        assert_eq!(rt;
-            found.as_str(),
-            want,
-            "walking {text} with {first} from the front"
-        );
+        assert_same!(rt; found.as_str(), want, (text, first));
     }
     Ok(())
 }
@@ -49,11 +46,11 @@ fn walks_from_both_ends(rt: HostRuntime) -> Result<(), Fail> {
 #[test]
 fn ends_for_good(rt: HostRuntime) {
     let mut walk = Subtags::new("x-a");
-    assert_eq!(rt; walk.next_back(), Some("a"));
-    assert_eq!(rt; walk.next(), Some("x"));
-    assert!(rt; walk.next_back().is_none());
-    assert!(rt; walk.next().is_none());
+    assert_same!(rt; walk.next_back(), Some("a"));
+    assert_same!(rt; walk.next(), Some("x"));
+    assert_that!(rt; walk.next_back().is_none());
+    assert_that!(rt; walk.next().is_none());
     let mut none = Subtags::empty();
-    assert!(rt; none.next().is_none());
-    assert!(rt; none.next_back().is_none());
+    assert_that!(rt; none.next().is_none());
+    assert_that!(rt; none.next_back().is_none());
 }

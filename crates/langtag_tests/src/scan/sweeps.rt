@@ -1,6 +1,7 @@
 //! What is read of tags, cut short and drawn out.
 use crate::scan::answer::{Answer, followed, of_bytes};
 use crate::scan::rows::{self, Row};
+use crate::support::assert_same;
 use langtag::LangTag;
 use std::process::Abort;
 
@@ -10,9 +11,9 @@ fn prefixes_that_are_tags(rt: &impl Abort, text: &str) -> u32 {
     for len in 0..=text.len() {
         let prefix = text.get(..len).expect(rt, "not between two characters");
         let (answer, reads) = of_bytes(rt, prefix.as_bytes());
-        assert_eq!(rt; reads, len, "of {prefix}");
+        assert_same!(rt; reads, len, prefix);
         let is_tag = answer != Answer::Refused;
-        assert_eq!(rt; LangTag::new(prefix).is_ok(), is_tag, "of {prefix}");
+        assert_same!(rt; LangTag::new(prefix).is_ok(), is_tag, prefix);
         tags = tags.saturating_add(u32::from(is_tag));
     }
     tags
@@ -23,9 +24,9 @@ fn drawn_out(rt: &impl Abort, text: &str, hyphens: usize) {
     let len = text.len();
     assert!(rt; len <= 158 && hyphens <= 2);
     let refused = of_bytes(rt, &followed(text, b'_')[..len + 1]);
-    assert_eq!(rt; refused, (Answer::Refused, len + 1), "after {text}");
+    assert_same!(rt; refused, (Answer::Refused, len + 1), text);
     let refused = of_bytes(rt, &followed(text, b'-')[..len + 2]);
-    assert_eq!(rt; refused, (Answer::Refused, len + hyphens), "after {text}");
+    assert_same!(rt; refused, (Answer::Refused, len + hyphens), text);
 }
 
 /// Cuts tags short and draws them out, and answers how many of their prefixes are tags.
@@ -43,6 +44,6 @@ fn sweep(rt: &impl Abort, rows: &[Row]) -> u32 {
 #[test]
 fn tags_are_cut_short_and_drawn_out(rt: HostRuntime) {
     for (rows, want) in rows::tags() {
-        assert_eq!(rt; sweep(&rt, rows), want);
+        assert_same!(rt; sweep(&rt, rows), want);
     }
 }

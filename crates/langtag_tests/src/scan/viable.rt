@@ -1,4 +1,5 @@
 //! How far bytes are the beginning of a tag.
+use crate::support::assert_same;
 use langtag_scan::viable_len;
 
 #[test]
@@ -18,6 +19,6 @@ fn bytes_begin_a_tag_up_to_here(rt: HostRuntime) {
         (b"en-\xff", 3),
     ];
     for (bytes, length) in cases {
-        assert_eq!(rt; viable_len(bytes), length);
+        assert_same!(rt; viable_len(bytes), length);
     }
 }

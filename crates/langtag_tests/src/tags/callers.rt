@@ -1,5 +1,5 @@
 //! The types of tags as their callers use them.
-use crate::support::with_memory;
+use crate::support::{assert_same, assert_that, with_memory};
 use langtag::{
     GrandfatheredLangTag, InvalidGrandfatheredTag, InvalidLangTag, InvalidNormalLangTag, Kind,
     LangTag, LangTagBuf, NormalLangTag, NormalLangTagBuf, Region, TypedLangTag,
@@ -68,20 +68,17 @@ fn tag<'a>(rt: &impl Abort, text: &'a str) -> LangTag<'a> {
 
 #[test]
 fn refusals_are_handed_on(rt: HostRuntime) {
-    assert_eq!(rt; kind_of("x-a").ok(), Some(Kind::PrivateUse));
-    assert_eq!(rt;
-        kind_of("ab--ab").err().map(|refused| refused.0),
-        Some("ab--ab")
-    );
-    assert_eq!(rt; measured("fr-FR").ok().map(|(_, len)| len), Some(5));
-    assert_eq!(rt; measured("x-a").err().map(|refused| refused.0), Some("x-a"));
-    assert_eq!(rt; region("fr-FR").map(|region| region.as_str()), Some("FR"));
-    assert!(rt; region("fr").is_none() && region("x-FR").is_none());
-    assert_eq!(rt; region_text("fr-FR"), Some("FR"));
-    assert!(rt; region_text("x-FR").is_none());
+    assert_same!(rt; kind_of("x-a").ok(), Some(Kind::PrivateUse));
+    assert_same!(rt; kind_of("ab--ab").err().map(|refused| refused.0), Some("ab--ab"));
+    assert_same!(rt; measured("fr-FR").ok().map(|(_, len)| len), Some(5));
+    assert_same!(rt; measured("x-a").err().map(|refused| refused.0), Some("x-a"));
+    assert_same!(rt; region("fr-FR").map(|region| region.as_str()), Some("FR"));
+    assert_that!(rt; region("fr").is_none() && region("x-FR").is_none());
+    assert_same!(rt; region_text("fr-FR"), Some("FR"));
+    assert_that!(rt; region_text("x-FR").is_none());
     let found = registered(b"I-AMI".as_slice()).ok();
-    assert_eq!(rt; found.map(|tag| tag.as_str().len()), Some(5));
-    assert!(rt; registered(b"fr".as_slice()).is_err());
+    assert_same!(rt; found.map(|tag| tag.as_str().len()), Some(5));
+    assert_that!(rt; registered(b"fr".as_slice()).is_err());
 }
 
 #[test]
@@ -89,11 +86,11 @@ fn owned_tags_are_handed_on(rt: HostRuntime) {
     with_memory(&rt, || {
         let owned = tag(&rt, "i-ami").try_to_owned(rt.alloc())?;
         let again = owned_again(owned).ok().expect(&rt, "refused");
-        assert_eq!(rt; again.as_str(), "i-ami");
+        assert_same!(rt; again.as_str(), "i-ami");
         let normal = tag(&rt, "fr-FR").as_normal().expect(&rt, "not normal");
         let owned = normal.try_to_owned(rt.alloc())?;
         let again = owned_normal_again(owned).ok().expect(&rt, "refused");
-        assert_eq!(rt; again.as_str(), "fr-FR");
+        assert_same!(rt; again.as_str(), "fr-FR");
         Ok(())
     });
 }
@@ -105,19 +102,19 @@ fn tags_are_chosen_by_a_closure(rt: HostRuntime) {
         let private_use = tag(&rt, "x-a-b");
         let klingon = tag(&rt, "i-klingon");
         let tags = [chinese, private_use, klingon];
-        assert_eq!(rt; tags.iter().filter(|tag| tag.is_grandfathered()).count(), 2);
+        assert_same!(rt; tags.iter().filter(|tag| tag.is_grandfathered()).count(), 2);
         let place = tags.iter().position(|tag| tag.kind().is_private_use());
-        assert_eq!(rt; place, Some(1));
-        assert!(rt; tags.iter().all(|tag| tag.private_use().is_none()));
+        assert_same!(rt; place, Some(1));
+        assert_that!(rt; tags.iter().all(|tag| tag.private_use().is_none()));
         let owned = [
             chinese.try_to_owned(rt.alloc())?,
             klingon.try_to_owned(rt.alloc())?,
         ];
         let place = owned.iter().position(|tag| tag.as_lang_tag() == klingon);
-        assert_eq!(rt; place, Some(1));
-        assert_eq!(rt; first_private(&private_use.as_typed()), Some("a"));
-        assert!(rt; first_private(&chinese.as_typed()).is_none());
-        assert!(rt; first_private(&klingon.as_typed()).is_none());
+        assert_same!(rt; place, Some(1));
+        assert_same!(rt; first_private(&private_use.as_typed()), Some("a"));
+        assert_that!(rt; first_private(&chinese.as_typed()).is_none());
+        assert_that!(rt; first_private(&klingon.as_typed()).is_none());
         Ok(())
     });
 }
@@ -128,8 +125,8 @@ fn normal_tags_are_chosen_by_a_closure(rt: HostRuntime) {
         let french = tag(&rt, "fr-FR").as_normal().expect(&rt, "not normal");
         let german = tag(&rt, "de-1996").as_normal().expect(&rt, "not normal");
         let tags = [french, german];
-        assert_eq!(rt; tags.iter().filter(|tag| tag.region().is_some()).count(), 1);
-        assert!(rt; tags.iter().any(|tag| tag.language().eq_str("DE")));
+        assert_same!(rt; tags.iter().filter(|tag| tag.region().is_some()).count(), 1);
+        assert_that!(rt; tags.iter().any(|tag| tag.language().eq_str("DE")));
         let owned = [
             french.try_to_owned(rt.alloc())?,
             german.try_to_owned(rt.alloc())?,
@@ -137,7 +134,7 @@ fn normal_tags_are_chosen_by_a_closure(rt: HostRuntime) {
         let place = owned
             .iter()
             .position(|tag| tag.as_normal_lang_tag() == german);
-        assert_eq!(rt; place, Some(1));
+        assert_same!(rt; place, Some(1));
         Ok(())
     });
 }
@@ -148,12 +145,12 @@ fn owned_tags_are_keys(rt: HostRuntime) {
         let mut tags = HashMap::new(rt.alloc());
         tags.insert(tag(&rt, "zh-Latn").try_to_owned(rt.alloc())?, 7)?;
         let capital = tag(&rt, "ZH-LATN").try_to_owned(rt.alloc())?;
-        assert_eq!(rt; tags.get(&capital).copied(), Some(7));
+        assert_same!(rt; tags.get(&capital).copied(), Some(7));
         let mut ordered = BTreeMap::new(rt.alloc());
         ordered.insert(capital, 8)?;
         for text in ["zh", "x-Latn"] {
             let other = tag(&rt, text).try_to_owned(rt.alloc())?;
-            assert!(rt; ordered.get(&other).is_none() && tags.get(&other).is_none());
+            assert_that!(rt; ordered.get(&other).is_none() && tags.get(&other).is_none());
         }
         Ok(())
     });
@@ -171,13 +168,10 @@ fn kinds_and_grandfathered_tags_are_keys(rt: HostRuntime) {
                 tags.insert(tag, text)?;
             }
         }
-        assert_eq!(rt; kinds.get(&Kind::Normal).copied(), Some("zh-min"));
-        assert!(rt; kinds.get(&Kind::PrivateUse).is_none());
-        assert_eq!(rt;
-            tags.get(&GrandfatheredLangTag::ZhMin).copied(),
-            Some("zh-min")
-        );
-        assert_eq!(rt; tags.len(), 2);
+        assert_same!(rt; kinds.get(&Kind::Normal).copied(), Some("zh-min"));
+        assert_that!(rt; kinds.get(&Kind::PrivateUse).is_none());
+        assert_same!(rt; tags.get(&GrandfatheredLangTag::ZhMin).copied(), Some("zh-min"));
+        assert_same!(rt; tags.len(), 2);
         Ok(())
     });
 }

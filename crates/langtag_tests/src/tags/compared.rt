@@ -1,6 +1,6 @@
 //! How tags of every kind and normal ones are shown, kept and compared (RFC 5646 section 2.1.1).
 use crate::scan::case::Calls;
-use crate::support::{assert_compared, text_type, with_memory};
+use crate::support::{assert_compared, assert_same, assert_that, text_type, with_memory};
 use langtag::{Kind, LangTag, LangTagBuf, NormalLangTag, NormalLangTagBuf};
 use std::alloc::AllocError;
 use std::cmp::Ordering;
@@ -68,11 +68,11 @@ fn tags_are_ordered_without_regard_to_case(rt: HostRuntime) {
     for (text, other, order) in PAIRS {
         let tag = LangTag::new(text).ok().expect(&rt, "refused");
         let others = LangTag::new(other).ok().expect(&rt, "refused");
-        assert_eq!(rt; tag.cmp(&others), order, "of {text}");
-        assert_eq!(rt; tag.eq_str(other), order == Ordering::Equal, "of {text}");
+        assert_same!(rt; tag.cmp(&others), order, text);
+        assert_same!(rt; tag.eq_str(other), order == Ordering::Equal, text);
         assert_compared(&rt, (&tag, &others), (text, other));
         if let (Some(tag), Some(others)) = (tag.as_normal(), others.as_normal()) {
-            assert_eq!(rt; tag.cmp(&others), order, "of {text}");
+            assert_same!(rt; tag.cmp(&others), order, text);
             assert_compared(&rt, (&tag, &others), (text, other));
         }
     }
@@ -82,7 +82,7 @@ fn tags_are_ordered_without_regard_to_case(rt: HostRuntime) {
 fn feeds_small_letters(rt: &impl Abort, value: &impl Hash) {
     let mut calls = Calls(0);
     value.hash(&mut calls);
-    assert_eq!(rt; calls.0, 0x164_165_12d_161_172_161_162_12d_16c_179);
+    assert_same!(rt; calls.0, 0x164_165_12d_161_172_161_162_12d_16c_179);
 }
 
 #[test]
@@ -107,8 +107,8 @@ fn kinds_are_shown_and_ordered(rt: HostRuntime) {
             "{:?}",
             [Kind::Normal, Kind::PrivateUse, Kind::Grandfathered]
         )?;
-        assert_eq!(rt; shown.as_str(), "[Normal, PrivateUse, Grandfathered]");
-        assert!(rt; Kind::Normal < Kind::PrivateUse && Kind::PrivateUse < Kind::Grandfathered);
+        assert_same!(rt; shown.as_str(), "[Normal, PrivateUse, Grandfathered]");
+        assert_that!(rt; Kind::Normal < Kind::PrivateUse && Kind::PrivateUse < Kind::Grandfathered);
         Ok(())
     });
 }

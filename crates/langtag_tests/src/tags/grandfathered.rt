@@ -1,5 +1,5 @@
 //! The grandfathered tags (RFC 5646 section 2.2.8).
-use crate::support::{HOSTILE, with_memory};
+use crate::support::{HOSTILE, assert_same, assert_that, with_memory};
 use langtag::{GRANDFATHERED, GrandfatheredLangTag, Kind, LangTag, TypedLangTag};
 use std::alloc::AllocError;
 use std::convert::TryFrom;
@@ -38,38 +38,35 @@ const TABLE: [(GrandfatheredLangTag, &str, Option<&str>); 26] = [
 /// A text that is alike a registered spelling is the same tag.
 fn is_found(rt: &impl Abort, text: &str, tag: GrandfatheredLangTag, is_regular: bool) {
     let found = GrandfatheredLangTag::new(text.as_bytes()).ok();
-    assert!(rt; found == Some(tag), "of {text}");
+    assert_that!(rt; found == Some(tag), text);
     let converted = GrandfatheredLangTag::try_from(text.as_bytes()).ok();
-    assert!(rt; converted == Some(tag), "of {text}");
+    assert_that!(rt; converted == Some(tag), text);
     let accepted = LangTag::new(text).ok().expect(rt, "refused");
-    assert!(rt; accepted.as_grandfathered() == Some(tag), "of {text}");
-    assert!(rt; accepted.is_grandfathered(), "of {text}");
-    assert_eq!(rt; accepted.is_normal(), is_regular, "of {text}");
-    assert_eq!(rt; accepted.language().is_some(), is_regular, "of {text}");
+    assert_that!(rt; accepted.as_grandfathered() == Some(tag), text);
+    assert_that!(rt; accepted.is_grandfathered(), text);
+    assert_same!(rt; accepted.is_normal(), is_regular, text);
+    assert_same!(rt; accepted.language().is_some(), is_regular, text);
     let (kind, typed) = if is_regular {
         (Kind::Normal, None)
     } else {
         (Kind::Grandfathered, Some(tag))
     };
-    assert_eq!(rt; accepted.kind(), kind, "of {text}");
-    assert_eq!(rt; accepted.as_typed().kind(), kind, "of {text}");
-    assert!(rt;
-        accepted.as_typed().as_grandfathered() == typed,
-        "of {text}"
-    );
+    assert_same!(rt; accepted.kind(), kind, text);
+    assert_same!(rt; accepted.as_typed().kind(), kind, text);
+    assert_that!(rt; accepted.as_typed().as_grandfathered() == typed, text);
 }
 
 #[test]
 fn all_are_shown_as_registered(rt: HostRuntime) {
     with_memory(&rt, || {
         for (index, &(tag, text, language)) in TABLE.iter().enumerate() {
-            assert!(rt; GRANDFATHERED[index] == tag);
-            assert_eq!(rt; tag.as_str(), text);
-            assert_eq!(rt; tag.as_bytes(), text.as_bytes());
-            assert_eq!(rt; tag.to_string(rt.alloc())?.as_str(), text);
-            assert_eq!(rt; tag.language().map(|found| found.as_str()), language);
+            assert_that!(rt; GRANDFATHERED[index] == tag);
+            assert_same!(rt; tag.as_str(), text);
+            assert_same!(rt; tag.as_bytes(), text.as_bytes());
+            assert_same!(rt; tag.to_string(rt.alloc())?.as_str(), text);
+            assert_same!(rt; tag.language().map(|found| found.as_str()), language);
             let typed = TypedLangTag::Grandfathered(tag);
-            assert_eq!(rt; typed.language().map(|found| found.as_str()), language);
+            assert_same!(rt; typed.language().map(|found| found.as_str()), language);
         }
         Ok(())
     });
@@ -99,24 +96,21 @@ fn other_bytes_come_back(rt: HostRuntime) {
             let refused = GrandfatheredLangTag::new(bytes)
                 .err()
                 .expect(&rt, "accepted");
-            assert_eq!(rt; refused, bytes);
+            assert_same!(rt; refused, bytes);
             let refused = GrandfatheredLangTag::try_from(bytes)
                 .err()
                 .expect(&rt, "accepted");
-            assert_eq!(rt; refused.0, bytes);
-            assert_eq!(rt;
-                refused.to_string(rt.alloc())?.as_str(),
-                "invalid grandfathered tag"
-            );
+            assert_same!(rt; refused.0, bytes);
+            assert_same!(rt; refused.to_string(rt.alloc())?.as_str(), "invalid grandfathered tag");
         }
         for text in HOSTILE {
             let refused = GrandfatheredLangTag::try_from(text.as_bytes());
-            assert_eq!(rt; refused.err().expect(&rt, "accepted").0, text.as_bytes());
+            assert_same!(rt; refused.err().expect(&rt, "accepted").0, text.as_bytes());
         }
         let refused = GrandfatheredLangTag::try_from(b"zh".as_slice());
         let refused = refused.err().expect(&rt, "accepted");
         let shown = format!(in rt.alloc(); "{refused:?}")?;
-        assert_eq!(rt; shown.as_str(), "InvalidGrandfatheredTag([122, 104])");
+        assert_same!(rt; shown.as_str(), "InvalidGrandfatheredTag([122, 104])");
         Ok(())
     });
 }

@@ -1,7 +1,7 @@
 //! Which texts are tags, of which kind, and what the types of tags answer of them (RFC 5646 section 2.1).
 use crate::scan::answer::Answer;
 use crate::scan::rows::{self, Row};
-use crate::support::with_memory;
+use crate::support::{assert_same, assert_that, with_memory};
 use langtag::{Kind, LangTag, LangTagBuf, NormalLangTag, NormalLangTagBuf};
 use std::alloc::{AllocError, Global};
 use std::process::Abort;
@@ -40,32 +40,25 @@ fn is_of_kind(tag: &LangTag<'_>, kind: Kind) -> bool {
 fn is_tag(rt: &impl Abort, row: &Row, kind: Kind) {
     let text = row.text;
     let tag = LangTag::new(text).ok().expect(rt, "refused");
-    assert!(rt; is_of_kind(&tag, kind), "of {text}");
-    assert!(rt; part_texts(&tag) == row.parts, "of {text}");
+    assert_that!(rt; is_of_kind(&tag, kind), text);
+    assert_that!(rt; part_texts(&tag) == row.parts, text);
     let has_private_use = !row.parts[5].is_empty();
-    assert_eq!(rt;
-        tag.private_use_subtags().next().is_some(),
-        has_private_use,
-        "of {text}"
-    );
-    assert_eq!(rt; LangTag::from_checked(text).as_bytes(), text.as_bytes());
+    assert_same!(rt; tag.private_use_subtags().next().is_some(), has_private_use, text);
+    assert_same!(rt; LangTag::from_checked(text).as_bytes(), text.as_bytes());
     if kind.is_normal() {
         let tag = NormalLangTag::new(text).ok().expect(rt, "refused");
-        assert_eq!(rt;
-            NormalLangTag::from_checked(text).as_bytes(),
-            tag.as_bytes()
-        );
+        assert_same!(rt; NormalLangTag::from_checked(text).as_bytes(), tag.as_bytes());
     } else {
         let refused = NormalLangTag::new(text).err().expect(rt, "accepted");
-        assert_eq!(rt; refused.0, text);
+        assert_same!(rt; refused.0, text);
     }
 }
 
 fn is_no_tag(rt: &impl Abort, text: &str) {
     let refused = LangTag::new(text).err().expect(rt, "accepted");
-    assert_eq!(rt; refused.0, text);
+    assert_same!(rt; refused.0, text);
     let refused = NormalLangTag::new(text).err().expect(rt, "accepted");
-    assert_eq!(rt; refused.0, text);
+    assert_same!(rt; refused.0, text);
 }
 
 fn are_tags_of_one_kind(rt: &impl Abort, rows: &[Row]) {
@@ -94,17 +87,17 @@ fn become_tags_or_come_back(
     for row in rows {
         let text = row.text;
         match LangTagBuf::new(String::from_str(alloc, text)?) {
-            Ok(tag) => assert_eq!(rt; tag.as_str(), text),
+            Ok(tag) => assert_same!(rt; tag.as_str(), text),
             Err(refused) => {
-                assert!(rt; row.answer == Answer::Refused, "of {text}");
-                assert_eq!(rt; refused.0.as_str(), text);
+                assert_that!(rt; row.answer == Answer::Refused, text);
+                assert_same!(rt; refused.0.as_str(), text);
             }
         }
         match NormalLangTagBuf::new(String::from_str(alloc, text)?) {
-            Ok(tag) => assert_eq!(rt; tag.as_str(), text),
+            Ok(tag) => assert_same!(rt; tag.as_str(), text),
             Err(refused) => {
-                assert!(rt; row.answer.if_normal() == Answer::Refused, "of {text}");
-                assert_eq!(rt; refused.0.as_str(), text);
+                assert_that!(rt; row.answer.if_normal() == Answer::Refused, text);
+                assert_same!(rt; refused.0.as_str(), text);
             }
         }
     }
@@ -125,10 +118,10 @@ fn strings_become_tags_or_come_back(rt: HostRuntime) {
 fn a_private_use_tag_has_its_subtags(rt: HostRuntime) {
     let tag = LangTag::new("x-fr-CH").ok().expect(&rt, "refused");
     let private_use = tag.as_private_use().expect(&rt, "none");
-    assert_eq!(rt; private_use.as_str(), "x-fr-CH");
+    assert_same!(rt; private_use.as_str(), "x-fr-CH");
     let mut walk = private_use.iter();
-    assert_eq!(rt; walk.next().map(|subtag| subtag.as_str()), Some("fr"));
-    assert_eq!(rt; walk.next().map(|subtag| subtag.as_str()), Some("CH"));
-    assert!(rt; walk.next().is_none());
-    assert!(rt; tag.private_use().is_none() && tag.language().is_none());
+    assert_same!(rt; walk.next().map(|subtag| subtag.as_str()), Some("fr"));
+    assert_same!(rt; walk.next().map(|subtag| subtag.as_str()), Some("CH"));
+    assert_that!(rt; walk.next().is_none());
+    assert_that!(rt; tag.private_use().is_none() && tag.language().is_none());
 }

@@ -1,6 +1,6 @@
 //! Texts of two million bytes: no call may need a stack that grows with its text, or more than linear time.
 use crate::scan::answer::{Answer, of_text};
-use crate::support::with_memory;
+use crate::support::{assert_same, assert_that, with_memory};
 use crate::tags::parts::normal;
 use crate::tags::setters::{WAYS, is_set_and_set_back};
 use crate::tags::sweeps::{is_shown_and_copied, is_shown_and_copied_as_normal};
@@ -30,28 +30,17 @@ fn is_normal(
 ) -> Result<(), AllocError> {
     let long = repeated(alloc, text, piece, count)?;
     let (answer, reads) = of_text(rt, long.as_str());
-    assert!(rt; answer.if_normal() != Answer::Refused, "at {text}");
-    assert_eq!(rt; reads, long.len(), "at {text}");
+    assert_that!(rt; answer.if_normal() != Answer::Refused, text);
+    assert_same!(rt; reads, long.len(), text);
     let tag = LangTag::new(long.as_str()).ok().expect(rt, "refused");
-    assert_eq!(rt; tag.variants().iter().count(), counts[0], "at {text}");
-    assert_eq!(rt; tag.variants().iter().rev().count(), counts[0], "at {text}");
-    assert_eq!(rt; tag.extensions().iter().count(), counts[1], "at {text}");
-    assert_eq!(rt; tag.private_use_subtags().count(), counts[2], "at {text}");
+    assert_same!(rt; tag.variants().iter().count(), counts[0], text);
+    assert_same!(rt; tag.variants().iter().rev().count(), counts[0], text);
+    assert_same!(rt; tag.extensions().iter().count(), counts[1], text);
+    assert_same!(rt; tag.private_use_subtags().count(), counts[2], text);
     let tag = normal(rt, long.as_str());
-    assert!(rt;
-        tag.eq_str(long.as_str()) && tag == normal(rt, long.as_str()),
-        "at {text}"
-    );
-    assert_eq!(rt;
-        tag.repeated_variant().is_some(),
-        counts[0] > 1,
-        "at {text}"
-    );
-    assert_eq!(rt;
-        tag.repeated_singleton().is_some(),
-        counts[1] > 1,
-        "at {text}"
-    );
+    assert_that!(rt; tag.eq_str(long.as_str()) && tag == normal(rt, long.as_str()), text);
+    assert_same!(rt; tag.repeated_variant().is_some(), counts[0] > 1, text);
+    assert_same!(rt; tag.repeated_singleton().is_some(), counts[1] > 1, text);
     Ok(())
 }
 
@@ -117,12 +106,12 @@ fn a_private_use_tag(rt: HostRuntime) {
     with_memory(&rt, || {
         let long = repeated(rt.alloc(), "x", "-a", 1_000_000)?;
         let text = long.as_str();
-        assert!(rt; of_text(&rt, text) == (Answer::PrivateUse, text.len()));
+        assert_that!(rt; of_text(&rt, text) == (Answer::PrivateUse, text.len()));
         let tag = LangTag::new(text).ok().expect(&rt, "refused");
         let private_use = tag.as_private_use().expect(&rt, "none");
-        assert_eq!(rt; private_use.iter().count(), 1_000_000);
-        assert!(rt; tag.language().is_none() && tag.private_use().is_none());
-        assert!(rt; NormalLangTag::new(text).is_err());
+        assert_same!(rt; private_use.iter().count(), 1_000_000);
+        assert_that!(rt; tag.language().is_none() && tag.private_use().is_none());
+        assert_that!(rt; NormalLangTag::new(text).is_err());
         is_shown_and_copied(&rt, rt.alloc(), &tag, text)
     });
 }
@@ -145,16 +134,13 @@ fn texts_that_are_no_tags(rt: HostRuntime) {
     with_memory(&rt, || {
         for (text, piece, reads) in REFUSED {
             let long = repeated(rt.alloc(), text, piece, 1_000_000)?;
-            assert!(rt;
-                of_text(&rt, long.as_str()) == (Answer::Refused, reads),
-                "at {text}"
-            );
+            assert_that!(rt; of_text(&rt, long.as_str()) == (Answer::Refused, reads), text);
             let refused = LangTag::new(long.as_str()).err().expect(&rt, "accepted");
-            assert_eq!(rt; refused.0.len(), long.len(), "at {text}");
+            assert_same!(rt; refused.0.len(), long.len(), text);
             let refused = NormalLangTag::new(long.as_str())
                 .err()
                 .expect(&rt, "accepted");
-            assert_eq!(rt; refused.0.len(), long.len(), "at {text}");
+            assert_same!(rt; refused.0.len(), long.len(), text);
         }
         Ok(())
     });
@@ -169,10 +155,10 @@ fn bytes_without_a_hyphen(rt: HostRuntime) {
             || is_variant(bytes)
             || is_extension_subtag(bytes)
             || is_private_subtag(bytes);
-        assert!(rt; !is_subtag);
-        assert_eq!(rt; segment_end(bytes, 0), bytes.len());
-        assert_eq!(rt; segment_start(bytes, bytes.len()), 0);
-        assert!(rt; case_insensitive_eq(bytes, bytes));
+        assert_that!(rt; !is_subtag);
+        assert_same!(rt; segment_end(bytes, 0), bytes.len());
+        assert_same!(rt; segment_start(bytes, bytes.len()), 0);
+        assert_that!(rt; case_insensitive_eq(bytes, bytes));
         Ok(())
     });
 }

@@ -1,6 +1,6 @@
 //! The parts of normal tags, and their lists (RFC 5646 sections 2.1 and 2.2).
 use crate::scan::rows::{self, Row};
-use crate::support::{assert_subtags, with_memory};
+use crate::support::{assert_same, assert_subtags, assert_that, with_memory};
 use langtag::{LangTag, NormalLangTag, Singleton};
 use std::alloc::{AllocError, Global};
 use std::process::Abort;
@@ -26,21 +26,21 @@ pub(super) fn normal<'a>(rt: &impl Abort, text: &'a str) -> NormalLangTag<'a> {
 /// The lengths of the parts of a tag are those of the given ones.
 fn has_parts_as_long(rt: &impl Abort, text: &str, parts: [&str; 6]) {
     for (found, part) in part_texts(&normal(rt, text)).iter().zip(parts) {
-        assert_eq!(rt; found.len(), part.len(), "of {text}");
+        assert_same!(rt; found.len(), part.len(), text);
     }
 }
 
 fn have_parts_in_any_case(rt: &impl Abort, alloc: Global, rows: &[Row]) -> Result<(), AllocError> {
     for row in rows {
         let tag = normal(rt, row.text);
-        assert!(rt; part_texts(&tag) == row.parts, "of {}", row.text);
+        assert_that!(rt; part_texts(&tag) == row.parts, row.text);
         let mut other = String::from_str(alloc, row.text)?;
         other.make_ascii_uppercase();
         has_parts_as_long(rt, other.as_str(), row.parts);
-        assert!(rt; tag.eq_str(other.as_str()), "of {other}");
+        assert_that!(rt; tag.eq_str(other.as_str()), other);
         other.make_ascii_lowercase();
         has_parts_as_long(rt, other.as_str(), row.parts);
-        assert!(rt; tag.eq_str(other.as_str()), "of {other}");
+        assert_that!(rt; tag.eq_str(other.as_str()), other);
     }
     Ok(())
 }
@@ -66,39 +66,30 @@ fn languages_have_their_subtags(rt: HostRuntime) {
     ];
     for (text, primary, extension) in cases {
         let language = normal(&rt, text).language();
-        assert_eq!(rt; language.primary().as_str(), primary, "of {text}");
+        assert_same!(rt; language.primary().as_str(), primary, text);
         let extended = language.extension().map(|extension| extension.as_str());
-        assert_eq!(rt; extended, extension, "of {text}");
+        assert_same!(rt; extended, extension, text);
     }
 }
 
 #[test]
 fn variants_are_walked_from_both_ends(rt: HostRuntime) {
     let variants = normal(&rt, "fr-azert-0foo-barbz-4242-e-ext").variants();
-    assert_eq!(rt;
-        variants.first().map(|variant| variant.as_str()),
-        Some("azert")
-    );
-    assert_eq!(rt;
-        variants.last().map(|variant| variant.as_str()),
-        Some("4242")
-    );
+    assert_same!(rt; variants.first().map(|variant| variant.as_str()), Some("azert"));
+    assert_same!(rt; variants.last().map(|variant| variant.as_str()), Some("4242"));
     let mut walk = variants.iter();
     for want in ["azert", "0foo", "barbz", "4242"] {
-        assert_eq!(rt; walk.next().map(|variant| variant.as_str()), Some(want));
+        assert_same!(rt; walk.next().map(|variant| variant.as_str()), Some(want));
     }
-    assert!(rt; walk.next().is_none());
+    assert_that!(rt; walk.next().is_none());
     let mut walk = variants.iter();
     for (front, back) in [("azert", "4242"), ("0foo", "barbz")] {
-        assert_eq!(rt; walk.next().map(|variant| variant.as_str()), Some(front));
-        assert_eq!(rt;
-            walk.next_back().map(|variant| variant.as_str()),
-            Some(back)
-        );
+        assert_same!(rt; walk.next().map(|variant| variant.as_str()), Some(front));
+        assert_same!(rt; walk.next_back().map(|variant| variant.as_str()), Some(back));
     }
     for _ in 0..2 {
-        assert!(rt; walk.next().is_none());
-        assert!(rt; walk.next_back().is_none());
+        assert_that!(rt; walk.next().is_none());
+        assert_that!(rt; walk.next_back().is_none());
     }
 }
 
@@ -134,11 +125,7 @@ fn extensions_are_found_by_their_singleton(rt: HostRuntime) {
         let extensions = normal(&rt, text).extensions();
         let singleton = Singleton::new(byte).ok().expect(&rt, "no singleton");
         let extension = extensions.get(singleton);
-        assert_eq!(rt;
-            extension.map(|extension| extension.as_str()),
-            found,
-            "of {text}"
-        );
+        assert_same!(rt; extension.map(|extension| extension.as_str()), found, text);
         assert_subtags(&rt, extensions.iter_extension(singleton), subtags);
     }
 }
@@ -159,13 +146,9 @@ fn extensions_are_walked_in_order(rt: HostRuntime) {
     for (text, extensions) in cases {
         let mut walk = normal(&rt, text).extensions().iter();
         for extension in extensions {
-            assert_eq!(rt;
-                walk.next().map(|found| found.as_str()),
-                Some(*extension),
-                "of {text}"
-            );
+            assert_same!(rt; walk.next().map(|found| found.as_str()), Some(*extension), text);
         }
-        assert!(rt; walk.next().is_none(), "of {text}");
+        assert_that!(rt; walk.next().is_none(), text);
     }
 }
 
@@ -182,13 +165,9 @@ fn private_use_subtags_are_walked(rt: HostRuntime) {
     for (text, subtags) in cases {
         let mut walk = normal(&rt, text).private_use_subtags();
         for subtag in subtags {
-            assert_eq!(rt;
-                walk.next().map(|found| found.as_str()),
-                Some(*subtag),
-                "of {text}"
-            );
+            assert_same!(rt; walk.next().map(|found| found.as_str()), Some(*subtag), text);
         }
-        assert!(rt; walk.next().is_none(), "of {text}");
+        assert_that!(rt; walk.next().is_none(), text);
     }
 }
 
@@ -207,25 +186,25 @@ const SUBTAGS: [(&str, &[&str]); 4] = [
 fn subtags_are_walked_from_both_ends(rt: HostRuntime) {
     for (text, subtags) in SUBTAGS {
         let tag = LangTag::new(text).ok().expect(&rt, "refused");
-        assert_eq!(rt; tag.subtags().count(), subtags.len(), "of {text}");
+        assert_same!(rt; tag.subtags().count(), subtags.len(), text);
         let mut walk = tag.subtags();
         for subtag in subtags {
-            assert_eq!(rt; walk.next(), Some(*subtag), "of {text}");
+            assert_same!(rt; walk.next(), Some(*subtag), text);
         }
-        assert!(rt; walk.next().is_none(), "of {text}");
+        assert_that!(rt; walk.next().is_none(), text);
         let mut walk = tag.subtags();
         for subtag in subtags.iter().rev() {
-            assert_eq!(rt; walk.next_back(), Some(*subtag), "of {text}");
+            assert_same!(rt; walk.next_back(), Some(*subtag), text);
         }
-        assert!(rt; walk.next_back().is_none(), "of {text}");
+        assert_that!(rt; walk.next_back().is_none(), text);
     }
 }
 
 #[test]
 fn subtags_of_a_normal_tag_are_walked(rt: HostRuntime) {
     let tag = normal(&rt, "zh-min-Hant");
-    assert_eq!(rt; tag.subtags().count(), 3);
-    assert_eq!(rt; tag.subtags().last(), Some("Hant"));
-    assert_eq!(rt; tag.subtags().next_back(), Some("Hant"));
-    assert_eq!(rt; tag.subtags().next(), Some("zh"));
+    assert_same!(rt; tag.subtags().count(), 3);
+    assert_same!(rt; tag.subtags().last(), Some("Hant"));
+    assert_same!(rt; tag.subtags().next_back(), Some("Hant"));
+    assert_same!(rt; tag.subtags().next(), Some("zh"));
 }

@@ -1,6 +1,6 @@
 //! Variants and singletons that stand in a tag twice (RFC 5646 sections 2.2.5, 2.2.6 and 2.2.9).
 use crate::scan::rows::{self, Row};
-use crate::support::with_memory;
+use crate::support::{assert_same, assert_that, with_memory};
 use crate::tags::parts::normal;
 use langtag::NormalLangTag;
 use std::alloc::{AllocError, Global};
@@ -16,14 +16,9 @@ fn tell_the_later_one(rt: &impl Abort, rows: &[Row]) {
     for row in rows {
         let [variant, singleton] = row.repeated;
         let tag = normal(rt, row.text);
-        assert_eq!(rt; repeated_variant(&tag), variant, "of {}", row.text);
+        assert_same!(rt; repeated_variant(&tag), variant, row.text);
         let repeated = tag.repeated_singleton().map(|singleton| singleton.unwrap());
-        assert_eq!(rt;
-            repeated,
-            singleton.as_bytes().first().copied(),
-            "of {}",
-            row.text
-        );
+        assert_same!(rt; repeated, singleton.as_bytes().first().copied(), row.text);
     }
 }
 
@@ -73,8 +68,8 @@ fn are_repeated(rt: &impl Abort, alloc: Global, cases: &[Variants]) -> Result<()
     for &(count, others, repeated) in cases {
         let text = with_others(rt, alloc, variants.as_str(), (count, others))?;
         let tag = normal(rt, text.as_str());
-        assert_eq!(rt; tag.variants().iter().count(), usize::from(count));
-        assert_eq!(rt; repeated_variant(&tag), repeated, "of {count}");
+        assert_same!(rt; tag.variants().iter().count(), usize::from(count));
+        assert_same!(rt; repeated_variant(&tag), repeated, count);
     }
     Ok(())
 }
@@ -129,10 +124,10 @@ fn a_repeat_after_all_singletons(rt: HostRuntime) {
         for letter in "0123456789abcdefghijklmnopqrstuvwyz".chars() {
             text.push_str(format!(in rt.alloc(); "-{letter}-aa")?.as_str())?;
         }
-        assert!(rt; normal(&rt, text.as_str()).repeated_singleton().is_none());
+        assert_that!(rt; normal(&rt, text.as_str()).repeated_singleton().is_none());
         text.push_str("-Z-aa")?;
         let repeated = normal(&rt, text.as_str()).repeated_singleton();
-        assert_eq!(rt; repeated.map(|singleton| singleton.unwrap()), Some(b'Z'));
+        assert_same!(rt; repeated.map(|singleton| singleton.unwrap()), Some(b'Z'));
         Ok(())
     });
 }

@@ -1,6 +1,6 @@
 //! The parts of an owned tag put in and taken out (RFC 5646 sections 2.2.1 to 2.2.7).
 use crate::scan::rows::{self, Row};
-use crate::support::{assert_exact, with_memory};
+use crate::support::{assert_exact, assert_same, assert_that, with_memory};
 use crate::tags::parts::{normal, part_texts};
 use langtag::{
     Extensions, Language, NormalLangTag, NormalLangTagBuf, PrivateUse, Region, Script, Variants,
@@ -183,15 +183,11 @@ fn set<'a>(
     (parts, part): ([&'a str; 6], Part<'a>),
 ) -> Result<([&'a str; 6], Part<'a>), AllocError> {
     if part.set(rt, alloc, tag).is_err() {
-        assert!(rt;
-            !part.is_absent() && has_parts(rt, tag, parts),
-            "of {}",
-            tag.as_str()
-        );
+        assert_that!(rt; !part.is_absent() && has_parts(rt, tag, parts), tag.as_str());
         part.set(rt, alloc, tag)?;
     }
     let (parts, old) = part.put_among(parts);
-    assert!(rt; has_parts(rt, tag, parts), "of {}", tag.as_str());
+    assert_that!(rt; has_parts(rt, tag, parts), tag.as_str());
     Ok((parts, old))
 }
 
@@ -207,11 +203,11 @@ pub(super) fn is_set_and_set_back(
         let mut owned = tag.try_to_owned(alloc)?;
         let (parts, old) = set(rt, alloc, &mut owned, (part_texts(&tag), part))?;
         let (parts, part) = set(rt, alloc, &mut owned, (parts, old))?;
-        assert_eq!(rt; owned.as_str(), text);
+        assert_same!(rt; owned.as_str(), text);
         set(rt, alloc, &mut owned, (parts, part))?;
         let len = owned.as_str().len();
         if !part.is_absent() {
-            assert_eq!(rt; owned.into_string().capacity(), len, "of {text}");
+            assert_same!(rt; owned.into_string().capacity(), len, text);
         }
     }
     Ok(())
@@ -224,9 +220,9 @@ fn parts_are_put_in_and_taken_out_again(rt: HostRuntime) {
             let tag = normal(&rt, text);
             let mut owned = tag.try_to_owned(rt.alloc())?;
             let set_back = set(&rt, rt.alloc(), &mut owned, (part_texts(&tag), part))?;
-            assert_eq!(rt; owned.as_str(), after);
+            assert_same!(rt; owned.as_str(), after);
             set(&rt, rt.alloc(), &mut owned, set_back)?;
-            assert_eq!(rt; owned.as_str(), text);
+            assert_same!(rt; owned.as_str(), text);
         }
         Ok(())
     });
@@ -282,7 +278,7 @@ fn is_set_back_after_another(rt: &impl Abort, alloc: Global, text: &str) -> Resu
         let (parts, old_second) = set(rt, alloc, &mut owned, (parts, second))?;
         let (parts, _) = set(rt, alloc, &mut owned, (parts, old_first))?;
         set(rt, alloc, &mut owned, (parts, old_second))?;
-        assert_eq!(rt; owned.as_str(), text);
+        assert_same!(rt; owned.as_str(), text);
     }
     Ok(())
 }
@@ -306,7 +302,7 @@ fn a_tag_is_made_of_its_parts(rt: HostRuntime) {
                 Script::new(script).ok(),
                 Region::new(region).ok(),
             )?;
-            assert!(rt; has_parts(&rt, &tag, [language, script, region, "", "", ""]));
+            assert_that!(rt; has_parts(&rt, &tag, [language, script, region, "", "", ""]));
             assert_exact(&rt, tag.into_string(), text);
         }
         Ok(())

@@ -1,6 +1,6 @@
 //! Each prefix of a tag that is one: shown, kept and copied.
 use crate::scan::rows::{self, Row};
-use crate::support::{assert_exact, with_memory};
+use crate::support::{assert_exact, assert_same, assert_that, with_memory};
 use langtag::{LangTag, NormalLangTag};
 use std::alloc::{AllocError, Global};
 use std::process::Abort;
@@ -13,16 +13,16 @@ pub(super) fn is_shown_and_copied(
     tag: &LangTag<'_>,
     text: &str,
 ) -> Result<(), AllocError> {
-    assert_eq!(rt; tag.to_string(alloc)?.as_str(), text);
+    assert_same!(rt; tag.to_string(alloc)?.as_str(), text);
     let copy = tag.try_to_owned(alloc);
-    assert_eq!(rt; tag.as_str(), text);
+    assert_same!(rt; tag.as_str(), text);
     let copy = match copy {
         Ok(copy) => copy,
         Err(AllocError) => tag.try_to_owned(alloc)?,
     };
-    assert_eq!(rt; copy.as_lang_tag().kind(), tag.kind(), "of {text}");
-    assert_eq!(rt; copy.as_str(), text);
-    assert_eq!(rt; copy.to_string(alloc)?.as_str(), text);
+    assert_same!(rt; copy.as_lang_tag().kind(), tag.kind(), text);
+    assert_same!(rt; copy.as_str(), text);
+    assert_same!(rt; copy.to_string(alloc)?.as_str(), text);
     assert_exact(rt, copy.into_string(), text);
     Ok(())
 }
@@ -34,16 +34,16 @@ pub(super) fn is_shown_and_copied_as_normal(
     tag: &NormalLangTag<'_>,
     text: &str,
 ) -> Result<(), AllocError> {
-    assert_eq!(rt; tag.to_string(alloc)?.as_str(), text);
+    assert_same!(rt; tag.to_string(alloc)?.as_str(), text);
     let copy = tag.try_to_owned(alloc);
-    assert_eq!(rt; tag.as_str(), text);
+    assert_same!(rt; tag.as_str(), text);
     let copy = match copy {
         Ok(copy) => copy,
         Err(AllocError) => tag.try_to_owned(alloc)?,
     };
-    assert!(rt; copy.as_normal_lang_tag() == *tag, "of {text}");
-    assert_eq!(rt; copy.as_str(), text);
-    assert_eq!(rt; copy.to_string(alloc)?.as_str(), text);
+    assert_that!(rt; copy.as_normal_lang_tag() == *tag, text);
+    assert_same!(rt; copy.as_str(), text);
+    assert_same!(rt; copy.to_string(alloc)?.as_str(), text);
     assert_exact(rt, copy.into_string(), text);
     Ok(())
 }
@@ -54,11 +54,11 @@ fn come_back_drawn_out(rt: &impl Abort, alloc: Global, rows: &[Row]) -> Result<(
             let mut text = String::from_str(alloc, row.text)?;
             text.push_str(more)?;
             let refused = LangTag::new(text.as_str()).err().expect(rt, "accepted");
-            assert_eq!(rt; refused.0, text.as_str());
+            assert_same!(rt; refused.0, text.as_str());
             let refused = NormalLangTag::new(text.as_str())
                 .err()
                 .expect(rt, "accepted");
-            assert_eq!(rt; refused.0, text.as_str());
+            assert_same!(rt; refused.0, text.as_str());
         }
     }
     Ok(())
