@@ -7,3 +7,4 @@ mod private_use;
 mod singleton;
 mod text_types;
 mod variants;
+mod walks;
