@@ -199,5 +199,8 @@ fn the_tag_for_a_header(rt: HostRuntime) -> Result<(), Fail> {
         assert_eq!(rt; chosen.as_str(), tag, "of {header}");
     }
     assert!(rt; tag_for_header(rt.alloc(), "de;q", &tags, english).is_err());
+    let header = once_more!(repeated(rt.alloc(), "nl,", 10_000, "fr"))?;
+    let chosen = once_more!(tag_for_header(rt.alloc(), header.as_str(), &tags, english));
+    assert_eq!(rt; chosen.ok().map(|tag| tag.as_str()), Some("fr"));
     Ok(())
 }

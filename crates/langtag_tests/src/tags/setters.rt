@@ -1,8 +1,9 @@
 //! The script and the region of an owned tag put in and taken out (RFC 5646 sections 2.2.3 and 2.2.4).
 use crate::scan::rows::{self, Row};
 use crate::support::with_memory;
+use crate::tags::family::edited;
 use crate::tags::parts::{normal, part_texts};
-use langtag::{NormalLangTag, NormalLangTagBuf, Region, Script};
+use langtag::{EditError, LangTagBuf, NormalLangTag, NormalLangTagBuf, Region, Script};
 use std::alloc::{AllocError, Global};
 use std::process::Abort;
 
@@ -22,6 +23,14 @@ impl<'a> Part<'a> {
 
     /// Sets it of a tag.
     fn set(self, tag: &mut NormalLangTagBuf, alloc: Global) -> Result<(), AllocError> {
+        match self {
+            Part::Script(text) => tag.set_script(alloc, Script::new(text).ok()),
+            Part::Region(text) => tag.set_region(alloc, Region::new(text).ok()),
+        }
+    }
+
+    /// Sets it of a tag of any kind.
+    fn set_of_any(self, tag: &mut LangTagBuf, alloc: Global) -> Result<(), EditError> {
         match self {
             Part::Script(text) => tag.set_script(alloc, Script::new(text).ok()),
             Part::Region(text) => tag.set_region(alloc, Region::new(text).ok()),
@@ -151,6 +160,25 @@ fn parts_are_put_in_and_taken_out_again(rt: HostRuntime) {
     });
 }
 
+/// Sets a tag as one of any kind in ten ways: it is what the normal one is then, and has as much room.
+pub(super) fn is_set_as_one_of_any_kind(
+    rt: &impl Abort,
+    alloc: Global,
+    text: &str,
+) -> Result<(), AllocError> {
+    let tag = normal(rt, text);
+    for part in WAYS {
+        let mut owned = tag.try_to_owned(alloc)?;
+        part.set(&mut owned, alloc)?;
+        let mut other = tag.try_to_owned(alloc)?.into_lang_tag();
+        edited(rt, part.set_of_any(&mut other, alloc))?;
+        assert_eq!(rt; other.as_str(), owned.as_str());
+        let room = owned.into_string().capacity();
+        assert_eq!(rt; other.into_string().capacity(), room, "of {text}");
+    }
+    Ok(())
+}
+
 /// Each prefix of a tag that is one is set in ten ways.
 fn prefixes_are_set(rt: &impl Abort, alloc: Global, text: &str) -> Result<(), AllocError> {
     for end in 0..=text.len() {
@@ -165,6 +193,7 @@ fn prefixes_are_set(rt: &impl Abort, alloc: Global, text: &str) -> Result<(), Al
 fn are_set_and_set_back(rt: &impl Abort, alloc: Global, rows: &[Row]) -> Result<(), AllocError> {
     for row in rows {
         prefixes_are_set(rt, alloc, row.text)?;
+        is_set_as_one_of_any_kind(rt, alloc, row.text)?;
         is_set_back_after_another(rt, alloc, row.text)?;
     }
     Ok(())
