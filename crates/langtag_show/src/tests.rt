@@ -36,18 +36,21 @@ const FR_FR: &str =
 const DE_CH_1996: &str =
     "normal language=de script= region=CH variants=1996 extensions= private= repeats=no";
 
-/// `run`, made again from the start where it fails.
+/// `run`, made again from the start where a growth was refused.
 fn run_again<R: Read + Copy, W: Write + Copy>(
     alloc: Global,
     input: &mut R,
     output: &mut W,
 ) -> Result<(), ShowError> {
     let (unread, unwritten) = (*input, *output);
-    once_more!({
-        *input = unread;
-        *output = unwritten;
-        run(alloc, input, output)
-    })
+    match run(alloc, input, output) {
+        Err(ShowError::Memory) => {
+            *input = unread;
+            *output = unwritten;
+            run(alloc, input, output)
+        }
+        outcome => outcome,
+    }
 }
 
 /// Whether a text is these lines, each followed by LF.

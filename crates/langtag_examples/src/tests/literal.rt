@@ -3,7 +3,14 @@ use crate::Literal;
 use langtag::LangTag;
 use std::alloc::{AllocError, Global};
 use std::collections::HashSet;
+use std::hash::{DefaultHasher, Hash, Hasher};
 use std::test::Fail;
+
+fn hash_of(literal: Literal<'_>) -> u64 {
+    let mut hasher = DefaultHasher::new();
+    literal.hash(&mut hasher);
+    hasher.finish()
+}
 
 /// How many literals of one text a set keeps.
 fn count(alloc: Global, languages: &[LangTag<'_>]) -> Result<usize, AllocError> {
@@ -43,6 +50,20 @@ fn tags_are_compared_without_case_and_texts_with_it(rt: HostRuntime) -> Result<(
             text: "color",
             language: british
         })
+    );
+    assert!(rt;
+        hash_of(color)
+            != hash_of(Literal {
+                text: "Color",
+                language: small
+            })
+    );
+    assert!(rt;
+        hash_of(color)
+            != hash_of(Literal {
+                text: "color",
+                language: british
+            })
     );
     let literals = once_more!(count(rt.alloc(), &[small, capital, british]));
     assert_eq!(rt; literals, Ok(2));

@@ -58,3 +58,19 @@ fn a_read_is_answered_in_one_write(rt: HostRuntime) {
         assert_eq!(rt; output.flushes, 1);
     }
 }
+
+#[test]
+fn a_piece_of_each_length_is_put(rt: HostRuntime) -> Result<(), Fail> {
+    let bytes = [b'a'; 600];
+    let text = std::str::from_utf8(&bytes)?;
+    for len in 0..=600 {
+        let piece = text.get(..len).ok_or("a piece is longer than the text")?;
+        let mut output = Sheet::new();
+        let mut page = Page::new();
+        assert_eq!(rt; page.put(piece, &mut output), Ok(()), "of {len}");
+        assert_eq!(rt; page.put(piece, &mut output), Ok(()), "of {len}");
+        assert_eq!(rt; page.write_out(&mut output), Ok(()), "of {len}");
+        assert_eq!(rt; output.text().len(), 2 * len);
+    }
+    Ok(())
+}

@@ -79,6 +79,16 @@ fn answers_each_line(rt: HostRuntime) {
     }
 }
 
+// 4,096 bytes a read: 10,000 take three, and one more meets the end.
+#[test]
+fn a_read_asks_for_many_bytes(rt: HostRuntime) {
+    let mut input = Feed::new(&[b'-'; 10_000], 10_000);
+    let mut output = Sheet::new();
+    assert_eq!(rt; run_again(rt.alloc(), &mut input, &mut output), Ok(()));
+    assert!(rt; is_report(output.text(), &[REFUSED]));
+    assert_eq!(rt; input.reads, 4);
+}
+
 // What a caller over memory knows of `run`: its premise, that reader and writer tell their bytes, can be met.
 fn report_of(alloc: Global, text: &[u8]) -> Result<Vec<u8>, ShowError>
     ensures { IfOk result (λ report. Answers (Some []) (Some report.items) (lines_of text.now)) }

@@ -1,43 +1,49 @@
 //! Texts, lent and owned, that compare without regard to case (RFC 5646 section 2.1.1).
-use crate::support::{assert_same, assert_that};
+use crate::support::{assert_same, assert_that, with_memory};
 use langtag_scan::Caseless;
+use std::alloc::AllocError;
 use std::cmp::Ordering;
 use std::collections::{BTreeSet, HashSet};
-use std::test::Fail;
 
 #[test]
-fn lent_texts(rt: HostRuntime) -> Result<(), Fail> {
+fn lent_texts(rt: HostRuntime) {
     let mixed = Caseless("zh-Latn");
     let large = Caseless("ZH-LATN");
     assert_that!(rt; mixed == large);
     assert_that!(rt; mixed != Caseless("zh-Hant"));
     assert_that!(rt; mixed.cmp(&large) == Ordering::Equal);
     assert_that!(rt; Caseless("zh") > mixed);
-    let mut seen = HashSet::new(rt.alloc());
-    seen.insert(mixed)?;
-    assert_that!(rt; seen.contains(&large));
-    assert_that!(rt; !seen.contains(&Caseless("zh")));
-    Ok(())
+    with_memory(&rt, || {
+        let mut seen = HashSet::new(rt.alloc());
+        seen.insert(mixed)?;
+        assert_that!(rt; seen.contains(&large));
+        assert_that!(rt; !seen.contains(&Caseless("zh")));
+        Ok(())
+    });
 }
 
 #[test]
-fn owned_texts(rt: HostRuntime) -> Result<(), Fail> {
-    let mut sorted = BTreeSet::new(rt.alloc());
-    for text in ["zh", "ZH-latn", "en", "zh-Latn"] {
-        sorted.insert(Caseless(String::from_str(rt.alloc(), text)?))?;
-    }
-    assert_same!(rt; sorted.len(), 3);
-    let first = sorted.first().ok_or("empty")?;
-    assert_same!(rt; first.0.as_str(), "en");
-    let last = sorted.last().ok_or("empty")?;
-    assert_same!(rt; last.0.as_str(), "zh");
-    Ok(())
+fn owned_texts(rt: HostRuntime) {
+    with_memory(&rt, || {
+        let mut sorted = BTreeSet::new(rt.alloc());
+        for text in ["zh", "ZH-latn", "en", "zh-Latn"] {
+            sorted.insert(Caseless(String::from_str(rt.alloc(), text)?))?;
+        }
+        assert_same!(rt; sorted.len(), 3);
+        let first = sorted.first().expect(&rt, "empty");
+        assert_same!(rt; first.0.as_str(), "en");
+        let last = sorted.last().expect(&rt, "empty");
+        assert_same!(rt; last.0.as_str(), "zh");
+        Ok(())
+    });
 }
 
 #[test]
-fn debug_shows_the_text(rt: HostRuntime) -> Result<(), Fail> {
-    let text = Caseless("fR");
-    let shown = format!(in rt.alloc(); "{text:?}")?;
-    assert_same!(rt; shown.as_str(), "Caseless(\"fR\")");
-    Ok(())
+fn debug_shows_the_text(rt: HostRuntime) {
+    with_memory(&rt, || {
+        let text = Caseless("fR");
+        let shown = format!(in rt.alloc(); "{text:?}")?;
+        assert_same!(rt; shown.as_str(), "Caseless(\"fR\")");
+        Ok(())
+    });
 }

@@ -2,10 +2,10 @@
 use crate::scan::answer::{Answer, case_swapped, of_bytes, of_normal, of_text};
 use crate::scan::rows::{self, Row};
 use crate::scan::source::PrivateSubtags;
-use crate::support::{assert_same, assert_that};
+use crate::support::{assert_same, assert_that, with_memory};
 use langtag_scan::{ByteSource, Ends, Metered, recognise, recognise_normal};
+use std::alloc::AllocError;
 use std::process::Abort;
-use std::test::Fail;
 
 fn are_decided(rt: &impl Abort, rows: &[Row]) {
     for row in rows {
@@ -63,13 +63,47 @@ fn parts_stand_between_the_ends(rt: HostRuntime) {
 }
 
 #[test]
-fn debug_shows_each_end(rt: HostRuntime) -> Result<(), Fail> {
+fn debug_shows_each_end(rt: HostRuntime) {
     let ends = recognise(&mut Metered::new("fr-abc-nice-bz-e-foo"))
         .and_then(|found| found.ends())
-        .ok_or("refused")?;
-    let shown = format!(in rt.alloc(); "{ends:?}")?;
-    assert_same!(rt; shown.as_str(), "Ends { language: 6, script: 11, region: 14, variants: 14, extensions: 20, whole: 20 }");
-    Ok(())
+        .expect(&rt, "refused");
+    with_memory(&rt, || {
+        let shown = format!(in rt.alloc(); "{ends:?}")?;
+        assert_same!(rt; shown.as_str(), "Ends { language: 6, script: 11, region: 14, variants: 14, extensions: 20, whole: 20 }");
+        Ok(())
+    });
+}
+
+#[test]
+fn ends_differ_where_one_of_them_does(rt: HostRuntime) {
+    let ends = Ends {
+        language: 2,
+        script: 7,
+        region: 10,
+        variants: 16,
+        extensions: 21,
+        whole: 25,
+    };
+    assert_that!(rt; ends == ends);
+    for other in [
+        Ends {
+            language: 3,
+            ..ends
+        },
+        Ends { script: 6, ..ends },
+        Ends { region: 7, ..ends },
+        Ends {
+            variants: 10,
+            ..ends
+        },
+        Ends {
+            extensions: 16,
+            ..ends
+        },
+        Ends { whole: 21, ..ends },
+    ] {
+        assert_that!(rt; ends != other);
+    }
 }
 
 #[test]

@@ -1,12 +1,12 @@
 //! The walk over subtags (RFC 5646 section 2.1).
-use crate::support::{assert_same, assert_that};
+use crate::support::{assert_same, assert_that, with_memory};
 use langtag_scan::Subtags;
-use std::alloc::Global;
-use std::test::Fail;
+use std::alloc::{AllocError, Global};
+use std::process::Abort;
 
 /// What a walk gives: at most `first` subtags from the front, a `>` after each, and then all others from the back, a
 /// `<` before each.
-fn walked(alloc: Global, text: &str, first: u8) -> Result<String, Fail> {
+fn walked(alloc: Global, text: &str, first: u8) -> Result<String, AllocError> {
     let mut walk = Subtags::new(text);
     let mut out = String::new(alloc);
     for _ in 0..first {
@@ -22,25 +22,29 @@ fn walked(alloc: Global, text: &str, first: u8) -> Result<String, Fail> {
     Ok(out)
 }
 
+const WALKS: [(&str, u8, &str); 11] = [
+    ("zh-cmn-Hans-CN", 0, "<CN<Hans<cmn<zh"),
+    ("zh-cmn-Hans-CN", 2, "zh>cmn><CN<Hans"),
+    ("zh-cmn-Hans-CN", 9, "zh>cmn>Hans>CN>"),
+    ("zh", 0, "<zh"),
+    ("zh", 1, "zh>"),
+    ("", 1, ""),
+    ("-", 1, "><"),
+    ("-", 0, "<<"),
+    ("a--b-", 9, "a>>b>>"),
+    ("a--b-", 0, "<<b<<a"),
+    ("-a", 1, "><a"),
+];
+
 #[test]
-fn walks_from_both_ends(rt: HostRuntime) -> Result<(), Fail> {
-    for (text, first, want) in [
-        ("zh-cmn-Hans-CN", 0, "<CN<Hans<cmn<zh"),
-        ("zh-cmn-Hans-CN", 2, "zh>cmn><CN<Hans"),
-        ("zh-cmn-Hans-CN", 9, "zh>cmn>Hans>CN>"),
-        ("zh", 0, "<zh"),
-        ("zh", 1, "zh>"),
-        ("", 1, ""),
-        ("-", 1, "><"),
-        ("-", 0, "<<"),
-        ("a--b-", 9, "a>>b>>"),
-        ("a--b-", 0, "<<b<<a"),
-        ("-a", 1, "><a"),
-    ] {
-        let found = walked(rt.alloc(), text, first)?;
-        assert_same!(rt; found.as_str(), want, (text, first));
-    }
-    Ok(())
+fn walks_from_both_ends(rt: HostRuntime) {
+    with_memory(&rt, || {
+        for (text, first, want) in WALKS {
+            let found = walked(rt.alloc(), text, first)?;
+            assert_same!(rt; found.as_str(), want, (text, first));
+        }
+        Ok(())
+    });
 }
 
 #[test]

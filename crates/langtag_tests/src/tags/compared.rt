@@ -1,7 +1,7 @@
 //! How tags of every kind and normal ones are shown, kept and compared (RFC 5646 section 2.1.1).
 use crate::scan::case::Calls;
 use crate::support::{assert_compared, assert_same, assert_that, text_type, with_memory};
-use langtag::{Kind, LangTag, LangTagBuf, NormalLangTag, NormalLangTagBuf};
+use langtag::{EditError, Kind, LangTag, LangTagBuf, NormalLangTag, NormalLangTagBuf};
 use std::alloc::AllocError;
 use std::cmp::Ordering;
 use std::hash::Hash;
@@ -109,6 +109,44 @@ fn kinds_are_shown_and_ordered(rt: HostRuntime) {
         )?;
         assert_same!(rt; shown.as_str(), "[Normal, PrivateUse, Grandfathered]");
         assert_that!(rt; Kind::Normal < Kind::PrivateUse && Kind::PrivateUse < Kind::Grandfathered);
+        Ok(())
+    });
+}
+
+#[test]
+fn typed_tags_are_shown(rt: HostRuntime) {
+    with_memory(&rt, || {
+        for (text, shown) in [
+            ("fr", "Normal(NormalLangTag { text: Caseless(\"fr\")"),
+            ("X-a", "PrivateUse(PrivateUse { text: Caseless(\"X-a\")"),
+            ("I-ami", "Grandfathered(IAmi)"),
+        ] {
+            let typed = LangTag::new(text).ok().expect(&rt, "refused").as_typed();
+            let debug = format!(in rt.alloc(); "{typed:?}")?;
+            assert!(rt; debug.as_str().starts_with(shown), "of {debug}");
+        }
+        Ok(())
+    });
+}
+
+#[test]
+fn refused_edits_are_shown(rt: HostRuntime) {
+    with_memory(&rt, || {
+        for (error, words, debug) in [
+            (
+                EditError::NotNormal,
+                "not a normal language tag",
+                "NotNormal",
+            ),
+            (
+                EditError::Memory(AllocError),
+                "out of memory",
+                "Memory(AllocError)",
+            ),
+        ] {
+            assert_eq!(rt; error.to_string(rt.alloc())?.as_str(), words);
+            assert_eq!(rt; format!(in rt.alloc(); "{error:?}")?.as_str(), debug);
+        }
         Ok(())
     });
 }

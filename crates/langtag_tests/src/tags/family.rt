@@ -23,7 +23,7 @@ fn owned(rt: &impl Abort, alloc: Global, text: &str) -> Result<LangTagBuf, Alloc
 }
 
 /// Asserts that an edit was not refused for the tag's kind.
-fn edited(rt: &impl Abort, answer: Result<(), EditError>) -> Result<(), AllocError> {
+pub(super) fn edited(rt: &impl Abort, answer: Result<(), EditError>) -> Result<(), AllocError> {
     match answer {
         Ok(()) => Ok(()),
         Err(EditError::Memory(error)) => Err(error),

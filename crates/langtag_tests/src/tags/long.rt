@@ -1,13 +1,14 @@
 //! Texts of two million bytes: no call may need a stack that grows with its text, or more than linear time.
 use crate::scan::answer::{Answer, of_text};
-use crate::support::{assert_same, assert_that, with_memory};
+use crate::support::{assert_same, assert_that, hash_of, with_memory};
 use crate::tags::parts::normal;
-use crate::tags::setters::{WAYS, is_set_and_set_back};
+use crate::tags::setters::{WAYS, is_set_and_set_back, is_set_as_one_of_any_kind};
 use crate::tags::sweeps::{is_shown_and_copied, is_shown_and_copied_as_normal};
 use langtag::{
-    LangTag, NormalLangTag, case_insensitive_eq, is_extension_subtag, is_primary,
-    is_private_subtag, is_variant, segment_end, segment_start,
+    LangTag, NormalLangTag, case_insensitive_cmp, case_insensitive_eq, is_extension_subtag,
+    is_primary, is_private_subtag, is_variant, segment_end, segment_start, viable_len,
 };
+use langtag_scan::Caseless;
 use std::alloc::{AllocError, Global};
 use std::process::Abort;
 
@@ -96,6 +97,7 @@ fn copies_and_setters(rt: HostRuntime) {
             let tag = normal(&rt, long.as_str());
             is_shown_and_copied_as_normal(&rt, rt.alloc(), &tag, long.as_str())?;
             is_set_and_set_back(&rt, rt.alloc(), long.as_str(), &WAYS)?;
+            is_set_as_one_of_any_kind(&rt, rt.alloc(), long.as_str())?;
         }
         Ok(())
     });
@@ -113,6 +115,15 @@ fn a_private_use_tag(rt: HostRuntime) {
         assert_that!(rt; tag.language().is_none() && tag.private_use().is_none());
         assert_that!(rt; NormalLangTag::new(text).is_err());
         is_shown_and_copied(&rt, rt.alloc(), &tag, text)
+    });
+}
+
+#[test]
+fn the_beginning_of_a_tag(rt: HostRuntime) {
+    with_memory(&rt, || {
+        let long = repeated(rt.alloc(), "en-x", "-a", 1_000_000)?;
+        assert_eq!(rt; viable_len(long.as_bytes()), long.len());
+        Ok(())
     });
 }
 
@@ -159,6 +170,9 @@ fn bytes_without_a_hyphen(rt: HostRuntime) {
         assert_same!(rt; segment_end(bytes, 0), bytes.len());
         assert_same!(rt; segment_start(bytes, bytes.len()), 0);
         assert_that!(rt; case_insensitive_eq(bytes, bytes));
+        assert_that!(rt; case_insensitive_cmp(bytes, bytes).is_eq());
+        let other = long.as_str();
+        assert_same!(rt; hash_of(&Caseless(other)), hash_of(&Caseless(other)));
         Ok(())
     });
 }

@@ -1,9 +1,11 @@
 //! The parts of an owned tag put in and taken out (RFC 5646 sections 2.2.1 to 2.2.7).
 use crate::scan::rows::{self, Row};
 use crate::support::{assert_exact, assert_same, assert_that, with_memory};
+use crate::tags::family::edited;
 use crate::tags::parts::{normal, part_texts};
 use langtag::{
-    Extensions, Language, NormalLangTag, NormalLangTagBuf, PrivateUse, Region, Script, Variants,
+    EditError, Extensions, LangTagBuf, Language, NormalLangTag, NormalLangTagBuf, PrivateUse,
+    Region, Script, Variants,
 };
 use std::alloc::{AllocError, Global};
 use std::process::Abort;
@@ -38,6 +40,32 @@ impl<'a> Part<'a> {
         alloc: Global,
         tag: &mut NormalLangTagBuf,
     ) -> Result<(), AllocError> {
+        match self {
+            Part::Language(text) => {
+                let language = Language::new(text).ok().expect(rt, "refused");
+                tag.set_language(alloc, language)
+            }
+            Part::Script(text) => tag.set_script(alloc, Script::new(text).ok()),
+            Part::Region(text) => tag.set_region(alloc, Region::new(text).ok()),
+            Part::Variants(text) => {
+                let variants = Variants::new(text).ok().expect(rt, "refused");
+                tag.set_variants(alloc, variants)
+            }
+            Part::Extensions(text) => {
+                let extensions = Extensions::new(text).ok().expect(rt, "refused");
+                tag.set_extensions(alloc, extensions)
+            }
+            Part::PrivateUse(text) => tag.set_private_use(alloc, PrivateUse::new(text).ok()),
+        }
+    }
+
+    /// Sets it of a tag of any kind.
+    fn set_of_any(
+        self,
+        rt: &impl Abort,
+        alloc: Global,
+        tag: &mut LangTagBuf,
+    ) -> Result<(), EditError> {
         match self {
             Part::Language(text) => {
                 let language = Language::new(text).ok().expect(rt, "refused");
@@ -228,6 +256,25 @@ fn parts_are_put_in_and_taken_out_again(rt: HostRuntime) {
     });
 }
 
+/// Sets a tag as one of any kind in each way: it is what the normal one is then, and has as much room.
+pub(super) fn is_set_as_one_of_any_kind(
+    rt: &impl Abort,
+    alloc: Global,
+    text: &str,
+) -> Result<(), AllocError> {
+    let tag = normal(rt, text);
+    for part in WAYS {
+        let mut owned = tag.try_to_owned(alloc)?;
+        part.set(rt, alloc, &mut owned)?;
+        let mut other = tag.try_to_owned(alloc)?.into_lang_tag();
+        edited(rt, part.set_of_any(rt, alloc, &mut other))?;
+        assert_same!(rt; other.as_str(), owned.as_str());
+        let room = owned.into_string().capacity();
+        assert_same!(rt; other.into_string().capacity(), room, text);
+    }
+    Ok(())
+}
+
 /// Each prefix of a tag that is one is set in each way.
 fn prefixes_are_set(rt: &impl Abort, alloc: Global, text: &str) -> Result<(), AllocError> {
     for end in 0..=text.len() {
@@ -242,6 +289,7 @@ fn prefixes_are_set(rt: &impl Abort, alloc: Global, text: &str) -> Result<(), Al
 fn are_set_and_set_back(rt: &impl Abort, alloc: Global, rows: &[Row]) -> Result<(), AllocError> {
     for row in rows {
         prefixes_are_set(rt, alloc, row.text)?;
+        is_set_as_one_of_any_kind(rt, alloc, row.text)?;
         is_set_back_after_another(rt, alloc, row.text)?;
     }
     Ok(())
