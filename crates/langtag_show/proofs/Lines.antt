@@ -1,8 +1,11 @@
 -- How the lines of an input grow as bytes are added at its end.
-use Rattle.std.proofs.Common.{◌≡◌, ◌∙◌, ℕ, Bool, true, false, eqb-true, List, [], ◌∷◌, ◌++◌, refl, sym, ap, append_assoc, length-append, arith}
-use Rattle.std.specs.List.{onto_first, flat_map, AllByRecursion}
-use Rattle.std.proofs.lemmas.List.{take_at, get_or_at}
-use Rattle.std.proofs.lemmas.List.Elements.{All-nil, All-cons, All-push}
+use Rattle.std.proofs.Common.{◌≡◌, ◌∙◌, ℕ, ◌+◌, ◌<◌, ◌≤◌, Bool, true, false, eqb-true, None, Some, List, [], ◌∷◌, ◌++◌, length, take, drop, get_or, refl, sym, ap, append_assoc, length-append, take-append-drop, get_or-take, arith}
+use Rattle.std.specs.List.{onto_first, flat_map, AllByRecursion, position, position_or_len}
+use Rattle.std.proofs.lemmas.Grind.{common_steps}
+use Rattle.std.proofs.lemmas.List.{take_at, get_or_at, take_more}
+use Rattle.std.proofs.lemmas.List.Elements.{All-nil, All-cons}
+use Rattle.std.proofs.lemmas.List.Quantifiers.{position-Some}
+use Rattle.std.proofs.lemmas.List.Sums.{fails_before_first}
 use Rattle.std.proofs.lemmas.List.Splits.{slice_split-cons_yes, slice_split-cons_no, slice_split_none, slice_split_at}
 use Rattle.langtag_show.specs.Lines.{IsCutInto, is_line_feed, ended, pieces, complete_lines, rest_of, NoLineFeed}
 
@@ -149,5 +152,27 @@ complete_lines-ended text b free feed = complete_lines-pieces (text ++ b ∷ [])
 pub rest_of-ended : (text : List ℕ) (b : ℕ) → NoLineFeed text → is_line_feed b ≡ true → rest_of (text ++ b ∷ []) ≡ []
 rest_of-ended text b free feed = rest_of-pieces (text ++ b ∷ []) (text ∷ []) [] (slice_split_at is_line_feed text b [] free feed)
 
-pub free_push : (text : List ℕ) (b : ℕ) → NoLineFeed text → is_line_feed b ≡ false → NoLineFeed (text ++ b ∷ [])
-free_push text b free plain = All-push (λ x. is_line_feed x ≡ false) text b free plain
+-- what stands before the first LF has none, and is a line with it
+pub record IsFirstLine (bytes : List ℕ) (len : ℕ) : Type 0 where
+  pub free : NoLineFeed (take len bytes)
+  pub joined : ended (take len bytes) ++ drop (len + 1) bytes ≡ bytes
+
+pub first_line : (bytes : List ℕ) (len : ℕ) → position is_line_feed bytes ≡ Some len → IsFirstLine bytes len
+first_line bytes len at =
+    let (within, feed, others) = position-Some is_line_feed bytes len 0 at in
+    let is : get_or bytes len 0 ≡ 10 = eqb-true _ 10 feed in
+    record {
+      free = λ k d lt.
+          let below : k < len = grind (arith, common_steps) in
+          let (_, _, others) = position-Some is_line_feed bytes len d at in
+          ap is_line_feed (get_or-take len bytes k d below) ∙ others k below;
+      joined = ap (λ b. (take len bytes ++ b ∷ []) ++ drop (len + 1) bytes) (sym is)
+          ∙ ap (λ l. l ++ drop (len + 1) bytes) (sym (take_more bytes len 0 within))
+          ∙ take-append-drop (len + 1) bytes;
+    }
+
+-- bytes without one are no line
+pub no_line : (bytes : List ℕ) → position is_line_feed bytes ≡ None → NoLineFeed bytes
+no_line bytes none = λ k d lt.
+    let past : length bytes ≤ position_or_len is_line_feed bytes = grind (arith, common_steps) in
+    fails_before_first is_line_feed bytes k d (omega arith)

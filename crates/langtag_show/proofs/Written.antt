@@ -1,11 +1,12 @@
 -- How the answers that a writer holds grow as bytes are taken.
-use Rattle.std.proofs.Common.{◌≡◌, ◌∙◌, ℕ, ◌+◌, Option, None, Some, ◌<◌, arith, List, [], ◌∷◌, ◌++◌, length, take, refl, sym, ap, append_assoc, append-nil, subst}
+use Rattle.std.proofs.Common.{◌≡◌, ◌∙◌, ℕ, ◌+◌, false, Option, None, Some, ◌<◌, arith, List, [], ◌∷◌, ◌++◌, length, take, refl, sym, ap, append_assoc, append-nil, subst}
 use Rattle.std.specs.Io.KnownBytes.{Appends, Keeps, append_known}
 use Rattle.std.proofs.KnownBytes.{Appends-nil, Appends-trans, Appends-kept}
 use Rattle.std.proofs.Math.Seq.{take-append_seam, take-append-add}
-use Rattle.langtag_show.specs.Lines.{complete_lines, rest_of, last_line, lines_of, ended, NoLineFeed}
+use Rattle.langtag_show.specs.Lines.{is_line_feed, complete_lines, rest_of, last_line, lines_of, ended, NoLineFeed}
 use Rattle.langtag_show.specs.Report.{IsAnswer, AreAnswers, none, one_more, Answers}
-use Rattle.langtag_show.proofs.Lines.{complete_lines-append, rest_of-append, lines_cut}
+use Rattle.std.proofs.lemmas.List.Elements.{All-append}
+use Rattle.langtag_show.proofs.Lines.{complete_lines-append, rest_of-append, lines_cut, complete_lines-ended, rest_of-ended, complete_lines-free, rest_of-free_text}
 
 AreAnswers-append : (xs ys : List (List ℕ)) (a b : List ℕ) → AreAnswers xs a → AreAnswers ys b → AreAnswers (xs ++ ys) (a ++ b)
 AreAnswers-append _ ys _ b none q = q
@@ -53,6 +54,10 @@ Answers-kept a b c xs (s, p, q) kept = (s, p, Appends-kept a b c s q kept)
 
 pub Answers-same : (a b : Option (List ℕ)) (xs ys : List (List ℕ)) → xs ≡ ys → Answers a b xs → Answers a b ys
 Answers-same a b xs ys same p = subst (Answers a b) same p
+
+-- a writer that holds the same holds the same answers
+pub Answers-held : (a b c : Option (List ℕ)) (xs : List (List ℕ)) → b ≡ c → Answers a c xs → Answers a b xs
+Answers-held a b c xs same = subst (λ held. Answers a held xs) (sym same)
 
 pub rest_more : (input rest more : List ℕ) → rest ≡ rest_of input → rest_of (rest ++ more) ≡ rest_of (input ++ more)
 rest_more input rest more is = ap (λ r. rest_of (r ++ more)) is ∙ sym (rest_of-append input more)
@@ -104,3 +109,27 @@ last_line-none (b ∷ bs) empty = absurd (omega arith)
 pub last_line-some : (rest : List ℕ) → 0 < length rest → last_line rest ≡ rest ∷ []
 last_line-some [] full = absurd (omega arith)
 last_line-some (b ∷ bs) full = refl
+
+-- a text that ends the line in hand, and its LF
+pub record EndsLine (line end : List ℕ) : Type 0 where
+  pub lines : complete_lines (line ++ ended end) ≡ (line ++ end) ∷ []
+  pub rest : rest_of (line ++ ended end) ≡ []
+
+pub ends_line : (line end : List ℕ) → NoLineFeed line → NoLineFeed end → EndsLine line end
+ends_line line end line_free end_free =
+    let free = All-append (λ x. is_line_feed x ≡ false) line end line_free end_free in
+    let same : (line ++ end) ++ 10 ∷ [] ≡ line ++ ended end = append_assoc line end (10 ∷ []) in
+    record {
+      lines = ap complete_lines (sym same) ∙ complete_lines-ended (line ++ end) 10 free refl;
+      rest = ap rest_of (sym same) ∙ rest_of-ended (line ++ end) 10 free refl;
+    }
+
+-- and one that does not
+pub record LeavesLine (line more : List ℕ) : Type 0 where
+  pub lines : complete_lines (line ++ more) ≡ []
+  pub rest : rest_of (line ++ more) ≡ line ++ more
+
+pub leaves_line : (line more : List ℕ) → NoLineFeed line → NoLineFeed more → LeavesLine line more
+leaves_line line more line_free more_free =
+    let free = All-append (λ x. is_line_feed x ≡ false) line more line_free more_free in
+    record { lines = complete_lines-free (line ++ more) free; rest = rest_of-free_text (line ++ more) free }

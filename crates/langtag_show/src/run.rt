@@ -1,7 +1,8 @@
 //! From what is read to what is written.
 ghost use Rattle.std.specs.Prelude.{◌≡◌, ◌≢◌, ℕ, List, [], ◌∷◌, ◌++◌, take, OnOk, IfErr, IfSome, IsErrOf, IsOkUnless};
 ghost use Rattle.std.specs.Io.KnownBytes.{Appends, IsAtEnd, append_known};
-ghost use Rattle.langtag_show.specs.Lines.{IsCutInto, NoLineFeed, complete_lines, rest_of, last_line, lines_of};
+ghost use Rattle.std.specs.List.{position};
+ghost use Rattle.langtag_show.specs.Lines.{IsCutInto, NoLineFeed, is_line_feed, complete_lines, rest_of, last_line, lines_of};
 ghost use Rattle.langtag_show.specs.Report.{IsAnswer, AreAnswers, Answers, HavingRead};
 
 use crate::answer::put_answer;
@@ -18,8 +19,8 @@ const LINE_FEED: u8 = b'\n';
 /// Writes the answer to each line of the input, each followed by LF, and flushes once at the end.
 ///
 /// The answers of the lines that a read completed are gathered on a page, which is written out before the next read and
-/// where it is full. The page and the buffer of the reads have fixed sizes, and only the line that is being gathered
-/// takes memory.
+/// where it is full. The page and the buffer of the reads have fixed sizes. Memory is taken for a line that one read
+/// does not hold whole.
 ///
 /// # Errors
 ///
@@ -93,34 +94,60 @@ fn take_bytes<A: Allocator, W: Write>(
         Answers (W.contents output.old) (W.contents output.new) (take k (complete_lines (line.old.items ++ bytes.now))) }
     ensures other { IfErr result (λ e. e ≢ ShowError.Read) }
 {
-    for b in bytes {
-        take_byte(line, *b, page, output)?;
+    let mut left = bytes;
+    while let Some(len) = line_len(left) {
+        end_line(line, &left[..len], page, output)?;
+        left = &left[len + 1..];
     }
+    gather(line, left, page, output)?;
     page.write_out(output)
 }
 
-/// Takes a byte into the line that is gathered, or at LF puts the answer to it on the page.
-///
-/// Where the line can't grow, the page is written out: the answers to the lines before it stand.
-fn take_byte<A: Allocator, W: Write>(
+/// How many bytes stand before the first LF, if there is one.
+fn line_len(bytes: &[u8]) -> Option<usize>
+    ensures { result ≡ position is_line_feed bytes.now }
+{
+    bytes.iter().position(|byte| *byte == LINE_FEED)
+}
+
+/// Ends the line that is gathered with these bytes, and puts the answer to it on the page. A line that is whole in
+/// them is not copied.
+fn end_line<A: Allocator, W: Write>(
     line: &mut Vec<u8, A>,
-    byte: u8,
+    end: &[u8],
     page: &mut Page,
     output: &mut W,
 ) -> Result<(), ShowError>
-    requires { NoLineFeed line.old.items }
     ensures ok { OnOk result (Answers (append_known (W.contents output.old) page.old) (append_known (W.contents output.new) page.new)
-        (complete_lines (line.old.items ++ byte ∷ []))) }
-    ensures rest { OnOk result (line.new.items ≡ rest_of (line.old.items ++ byte ∷ [])) }
+        ((line.old.items ++ end.now) ∷ [])) }
+    ensures cleared { OnOk result (line.new.items ≡ []) }
     ensures memory { IsErrOf result ShowError.Memory → Appends (W.contents output.old) (W.contents output.new) page.old }
     ensures other { IfErr result (λ e. e ≢ ShowError.Read) }
 {
-    if byte == LINE_FEED {
-        put_answer(line, page, output)?;
-        line.clear();
-        return Ok(());
+    if line.is_empty() {
+        return put_answer(end, page, output);
     }
-    if line.push(byte).is_err() {
+    gather(line, end, page, output)?;
+    put_answer(line, page, output)?;
+    line.clear();
+    Ok(())
+}
+
+/// Takes bytes into the line that is gathered.
+///
+/// Where the line can't grow, the page is written out: the answers to the lines before it stand.
+fn gather<A: Allocator, W: Write>(
+    line: &mut Vec<u8, A>,
+    bytes: &[u8],
+    page: &mut Page,
+    output: &mut W,
+) -> Result<(), ShowError>
+    ensures gathered { OnOk result (line.new.items ≡ line.old.items ++ bytes.now) }
+    ensures kept { OnOk result (append_known (W.contents output.new) page.new ≡ append_known (W.contents output.old) page.old) }
+    ensures memory { IsErrOf result ShowError.Memory → Appends (W.contents output.old) (W.contents output.new) page.old }
+    ensures other { IfErr result (λ e. e ≢ ShowError.Read) }
+{
+    if line.extend_from_slice(bytes).is_err() {
         page.write_out(output)?;
         return Err(ShowError::Memory);
     }

@@ -85,8 +85,9 @@ fn run_on(
     (run_in(heap, &mut input, &mut output), output)
 }
 
-// The line that is gathered first has room for 8 bytes, and then for 16: each of the two growths of the worked input is
-// refused in turn, and then none. What needs no growth has no memory at all, and so no room is taken beforehand.
+// The line that is gathered in small pieces first has room for 8 bytes, and then for 16: each of the two growths of the
+// worked input is refused in turn, and then none. What needs no growth has no memory at all, and so no room is taken
+// beforehand.
 #[test]
 fn each_growth_is_refused_in_turn(rt: HostRuntime) {
     let rows: [(&[u8], usize, Result<(), ShowError>, &[&str]); 8] = [
@@ -100,13 +101,31 @@ fn each_growth_is_refused_in_turn(rt: HostRuntime) {
         (b"\n\n", 0, Ok(()), &[REFUSED, REFUSED]),
     ];
     for (text, largest, want, answers) in rows {
-        for step in [1, 3, 100] {
+        for step in [1, 3] {
             let heap = Small {
                 inner: rt.alloc(),
                 largest,
             };
             ends_so(&rt, heap, Feed::new(text, step), want, answers);
         }
+    }
+}
+
+// A line that one read holds whole takes no memory, and of the worked input only the last line, of 10 bytes, does.
+#[test]
+fn a_line_within_a_read_takes_no_memory(rt: HostRuntime) {
+    let rows: [(&[u8], usize, Result<(), ShowError>, &[&str]); 4] = [
+        (b"fr-FR\nx-a\n", 0, Ok(()), &[FR_FR, "private x-a"]),
+        (WORKED, 0, Err(ShowError::Memory), &ANSWERS[..4]),
+        (WORKED, 9, Err(ShowError::Memory), &ANSWERS[..4]),
+        (WORKED, 10, Ok(()), &ANSWERS),
+    ];
+    for (text, largest, want, answers) in rows {
+        let heap = Small {
+            inner: rt.alloc(),
+            largest,
+        };
+        ends_so(&rt, heap, Feed::new(text, 100), want, answers);
     }
 }
 

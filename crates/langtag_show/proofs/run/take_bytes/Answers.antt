@@ -1,43 +1,78 @@
-use Rattle.std.proofs.Common.{◌≡◌, ◌∙◌, ◌+◌, ◌<◌, [], ◌∷◌, ◌++◌, length, take, drop, get_or, ap, sym, append-nil, append_assoc, take-append-drop, arith, Err}
-use Rattle.std.proofs.lemmas.Result.{err_from_is_err_and}
+use Rattle.std.proofs.Common.{arith, ◌≡◌, ◌∙◌, ◌+◌, None, [], ◌++◌, take, drop, ap, sym, refl, append-nil, append_assoc, Err, rules}
+use Rattle.std.proofs.lemmas.Result.{err_from_is_err_and, on_ok_weaker}
+use Rattle.std.specs.List.{position}
+use Rattle.std.proofs.lemmas.Grind.{common_steps}
+use Rattle.langtag_show.proofs.Outcomes.{OnOk-by}
 use Rattle.langtag_show.specs.declared.show_error.ShowError.TheVariants.{Memory}
-use Rattle.std.proofs.lemmas.List.{take_more}
-use Rattle.langtag_show.proofs.Lines.{complete_lines-free, rest_of-free_text}
-use Rattle.langtag_show.proofs.Written.{free_rest, rest_more, written_more, written_before, Answers-empty, Answers-written}
+use Rattle.langtag_show.specs.Lines.{is_line_feed, complete_lines, rest_of, ended}
+use Rattle.langtag_show.proofs.Lines.{complete_lines-free, rest_of-free_text, first_line, no_line}
+use Rattle.langtag_show.proofs.Written.{free_rest, rest_more, written_more, written_before, Answers-nil, Answers-same, Answers-held, Answers-empty, Answers-written, ends_line, leaves_line}
 use Rattle.langtag_show.proofs.run.take_bytes.Goals as goal
 
-pub loop-b-init : goal.loop-b-init
-loop-b-init g c =
-    let line = c.args.line.now.items in
-    record {
-      rest = rw append-nil (sym (rest_of-free_text line c.requires.free));
-      written = rw (append-nil line, complete_lines-free line c.requires.free) (Answers-empty _ _ c.requires.written);
-    }
+pub loop-len-init : goal.loop-len-init
+loop-len-init g c =
+    let line = c.args.line.now.items in (
+      [],
+      refl,
+      rw append-nil (sym (rest_of-free_text line c.requires.free)),
+      rw (append-nil line, complete_lines-free line c.requires.free) (Answers-empty _ _ c.requires.written),
+    )
 
-pub take_byte-requires : goal.take_byte-requires
-take_byte-requires g c = free_rest _ _ c.loop-b.invariant.rest
-
-pub returns-in_err-take_byte-clause-memory : goal.returns-in_err-take_byte-clause-memory
-returns-in_err-take_byte-clause-memory g c = λ memory.
+pub returns-in_err-end_line-clause-memory : goal.returns-in_err-end_line-clause-memory
+returns-in_err-end_line-clause-memory g c = λ memory.
+    let (taken, are, rest, written) = c.loop-len.invariant in
     let line = c.args.line.now.items in
-    let bytes = c.args.bytes.now in
-    let i = c.loop-b.b-index in
-    let taken = line ++ take i bytes in
     let p = err_from_is_err_and c.from_residual.result c.from_residual.ensures.1 in
-    let same : Err c.in_err-take_byte.field-0.0 ≡ Err Memory = cc in
-    let stand = Answers-written _ _ _ _ _ c.loop-b.invariant.written (c.in_err-take_byte.ensures.memory same) in
-    let whole : taken ++ drop i bytes ≡ line ++ bytes = append_assoc line (take i bytes) (drop i bytes) ∙ ap (λ l. line ++ l) (take-append-drop i bytes) in
-    rw (← whole) (written_before _ _ taken (drop i bytes) stand)
+    let same : Err c.in_err-end_line.field-0.0 ≡ Err Memory = cc in
+    let stand = Answers-written _ _ _ _ _ written (c.in_err-end_line.ensures.memory same) in
+    let whole = append_assoc line taken c.loop-len.left.now ∙ ap (λ l. line ++ l) are in
+    rw (← whole) (written_before _ _ (line ++ taken) c.loop-len.left.now stand)
 
-pub loop-b-preserved : goal.loop-b-preserved
-loop-b-preserved g c =
-    let bytes = c.args.bytes.now in
-    let i = c.loop-b.b-index in
-    let taken = c.args.line.now.items ++ take i bytes in
-    let within : i < length bytes = omega arith in
-    let next : taken ++ get_or bytes i 0 ∷ [] ≡ c.args.line.now.items ++ take (i + 1) bytes =
-    append_assoc c.args.line.now.items (take i bytes) _ ∙ ap (λ l. c.args.line.now.items ++ l) (sym (take_more bytes i 0 within)) in
-    record {
-      rest = rw (← next) (c.in_ok-take_byte.ensures.rest ∙ rest_more taken _ _ c.loop-b.invariant.rest);
-      written = rw (← next) (written_more _ _ _ taken _ _ c.loop-b.invariant.rest c.loop-b.invariant.written c.in_ok-take_byte.ensures.ok);
-    }
+pub loop-len-preserved : goal.loop-len-preserved
+loop-len-preserved g c =
+    let (taken, are, rest, written) = c.loop-len.invariant in
+    let left = c.loop-len.left.now in
+    let len = c.in-Some.len in
+    let first = first_line left len (sym c.in-Some.ensures) in
+    let ends = ends_line c.loop-len.line.items (take len left) (free_rest _ _ rest) first.free in
+    let more = ended (take len left) in
+    let line = c.args.line.now.items in
+    let joined = append_assoc taken more (drop (len + 1) left) ∙ ap (λ l. taken ++ l) first.joined ∙ are in
+    let whole = append_assoc line taken more in (
+      taken ++ more,
+      grind (arith, common_steps, joined),
+      c.in_ok-end_line.ensures.cleared ∙ sym ends.rest ∙ rest_more _ _ more rest ∙ ap rest_of whole,
+      Answers-same _ _ _ _ (ap complete_lines whole) (written_more _ _ _ (line ++ taken) _ more rest written (Answers-same _ _ _ _ (sym ends.lines) c.in_ok-end_line.ensures.ok)),
+    )
+
+pub returns-in_err-gather-clause-memory : goal.returns-in_err-gather-clause-memory
+returns-in_err-gather-clause-memory g c = λ memory.
+    let (taken, are, rest, written) = c.loop-len.invariant in
+    let line = c.args.line.now.items in
+    let p = err_from_is_err_and c.from_residual-in_err-gather.result c.from_residual-in_err-gather.ensures.1 in
+    let same : Err c.in_err-gather.field-0.0 ≡ Err Memory = cc in
+    let stand = Answers-written _ _ _ _ _ written (c.in_err-gather.ensures.memory same) in
+    let whole = append_assoc line taken c.loop-len.left.now ∙ ap (λ l. line ++ l) are in
+    rw (← whole) (written_before _ _ (line ++ taken) c.loop-len.left.now stand)
+
+pub returns-clause-ok : goal.returns-clause-ok
+returns-clause-ok g c =
+    let (taken, are, rest, written) = c.loop-len.invariant in
+    let line = c.args.line.now.items in
+    let left = c.loop-len.left.now in
+    let none : position is_line_feed left ≡ None = search rules in
+    let leaves = leaves_line c.loop-len.line.items left (free_rest _ _ rest) (no_line left none) in
+    let stand = written_more _ _ _ (line ++ taken) _ left rest written (Answers-same _ _ _ _ (sym leaves.lines) (Answers-nil _)) in
+    let whole = append_assoc line taken left ∙ ap (λ l. line ++ l) are in
+    let page = Answers-held _ _ _ _ c.in_ok-gather.ensures.kept stand in
+    on_ok_weaker c.write_out.result (λ gained. Answers-same _ _ _ _ (ap complete_lines whole) (Answers-written _ _ _ _ _ page gained)) c.write_out.ensures.ok
+
+pub returns-clause-rest : goal.returns-clause-rest
+returns-clause-rest g c =
+    let (taken, are, rest, written) = c.loop-len.invariant in
+    let line = c.args.line.now.items in
+    let left = c.loop-len.left.now in
+    let none : position is_line_feed left ≡ None = search rules in
+    let leaves = leaves_line c.loop-len.line.items left (free_rest _ _ rest) (no_line left none) in
+    let whole = append_assoc line taken left ∙ ap (λ l. line ++ l) are in
+    OnOk-by _ c.write_out.result (λ ok. c.in_ok-gather.ensures.gathered ∙ sym leaves.rest ∙ rest_more _ _ left rest ∙ ap rest_of whole)
