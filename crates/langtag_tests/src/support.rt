@@ -362,29 +362,25 @@ macro_rules! text_type {
 
 pub(crate) use text_type;
 
-/// Asserts that a walk over the subtags of an extension, and a clone of it, have these subtags.
-pub(crate) fn assert_subtags(rt: &impl Abort, walk: ExtensionIter<'_>, subtags: &[&str]) {
-    let clone = walk.clone().ok().expect(rt, "no clone");
-    assert_same!(rt; clone.count(), subtags.len());
-    let mut walk = walk;
-    for subtag in subtags {
-        assert_same!(rt; walk.next().expect(rt, "none").as_str(), *subtag);
-    }
-    assert_that!(rt; walk.next().is_none());
-    assert_that!(rt; walk.next().is_none());
-}
-
-/// Asserts that a walk, made anew by each evaluation, counts some texts, gives them in order and then None twice.
+/// Asserts that a walk, and a clone of it, count some texts, and that the walk gives them in order and then None twice:
+/// the body of a function for each type of walk.
 macro_rules! assert_walk {
-    ($rt:ident, $walk:expr, $texts:expr) => {{
-        $crate::support::expect_same(&$rt, &$walk.count(), &$texts.len(), &$texts);
+    ($rt:ident, $walk:ident, $texts:ident) => {{
+        let clone = $walk.clone().ok().expect($rt, "no clone");
+        $crate::support::expect_same($rt, &clone.count(), &$texts.len(), &$texts);
         let mut walk = $walk;
         for text in $texts {
-            $crate::support::expect_same(&$rt, &walk.next().expect(&$rt, "none").as_str(), text, &$texts);
+            let found = walk.next().expect($rt, "none");
+            $crate::support::expect_same($rt, &found.as_str(), text, &$texts);
         }
-        $crate::support::expect_true(&$rt, walk.next().is_none(), &$texts);
-        $crate::support::expect_true(&$rt, walk.next().is_none(), &$texts);
+        $crate::support::expect_true($rt, walk.next().is_none(), &$texts);
+        $crate::support::expect_true($rt, walk.next().is_none(), &$texts);
     }};
 }
 
 pub(crate) use assert_walk;
+
+/// Asserts that a walk over the subtags of an extension has these.
+pub(crate) fn assert_subtags(rt: &impl Abort, walk: ExtensionIter<'_>, subtags: &[&str]) {
+    assert_walk!(rt, walk, subtags)
+}

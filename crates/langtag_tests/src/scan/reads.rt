@@ -69,7 +69,9 @@ fn debug_shows_each_end(rt: HostRuntime) {
         .expect(&rt, "refused");
     with_memory(&rt, || {
         let shown = format!(in rt.alloc(); "{ends:?}")?;
-        assert_same!(rt; shown.as_str(), "Ends { language: 6, script: 11, region: 14, variants: 14, extensions: 20, whole: 20 }");
+        let wanted =
+            "Ends { language: 6, script: 11, region: 14, variants: 14, extensions: 20, whole: 20 }";
+        assert_same!(rt; shown.as_str(), wanted);
         Ok(())
     });
 }
@@ -118,7 +120,7 @@ fn a_source_that_was_read_before(rt: HostRuntime) {
             assert!(rt; last < source.len() && source.reads() < 5, "at {text}");
             source.byte(last);
         }
-        assert_same!(rt; source.reads(), 5, text);
+        assert_eq!(rt; source.reads(), 5, "at {text}");
         let found = recognise(&mut source);
         assert_same!(rt; found.is_some(), text == "fr-FR", text);
         assert_same!(rt; source.reads(), reads, text);
