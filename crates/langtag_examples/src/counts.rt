@@ -1,4 +1,4 @@
-//! Counts by language tag, in the order of the tags.
+//! Counts by language tag, in a map that is in the order of its keys.
 ghost use Rattle.std.specs.Prelude.{◌≡◌, ℕ, List, Some, None, OnOk, OnErr, IsTrue, false};
 ghost use Rattle.langtag.specs.Case.{are_alike};
 ghost use Rattle.langtag.specs.Text.{lang_tag_buf_text};

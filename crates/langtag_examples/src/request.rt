@@ -1,5 +1,5 @@
 //! The language to answer a request in, by its Accept-Language header (RFC 9110 section 12.5.4).
-ghost use Rattle.std.specs.Prelude.{IfOk};
+ghost use Rattle.std.specs.Prelude.{IfOk, IsNone, IsOk};
 ghost use Rattle.langtag_examples.specs.Request.{IsTagFor};
 
 use langtag::LangTag;
@@ -18,7 +18,8 @@ pub fn tag_for_request<'t>(
     tags: &[LangTag<'t>],
     default: LangTag<'t>,
 ) -> Result<LangTag<'t>, AllocError>
-    ensures { IfOk result (IsTagFor tags.now default.entry header.entry) }
+    ensures chosen { IfOk result (IsTagFor tags.now default.entry header.entry) }
+    ensures without_header { IsNone header.entry → IsOk result }
 {
     let Some(header) = header else {
         return Ok(default);

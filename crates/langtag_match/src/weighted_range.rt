@@ -13,7 +13,7 @@ use crate::weight::weight_of;
 const SPACES: [char; 2] = [' ', '\t'];
 
 /// A language range, and how much it is wanted: `fr;q=0.25` in a header is the range `fr` with the weight 250.
-#[derive(Clone, Copy, Debug, PartialEq, Eq)]
+#[derive(Clone, Copy, Debug)]
 pub struct WeightedRange<'a> {
     /// The range, a slice of the header.
     pub range: LanguageRange<'a>,

@@ -7,4 +7,3 @@ mod private_use;
 mod singleton;
 mod text_types;
 mod variants;
-mod walks;

@@ -362,7 +362,7 @@ macro_rules! text_type {
 
 pub(crate) use text_type;
 
-/// Asserts that a walk, and a clone of it, count some texts, and that the walk gives them in order and then None twice:
+/// Asserts that a clone of a walk counts some texts, and that the walk gives them in order and then None twice:
 /// the body of a function for each type of walk.
 macro_rules! assert_walk {
     ($rt:ident, $walk:ident, $texts:ident) => {{

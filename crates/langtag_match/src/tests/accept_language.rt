@@ -98,11 +98,12 @@ fn a_refusal_tells_the_element(rt: HostRuntime) -> Result<(), Fail> {
 }
 
 /// A header, and the tag that is chosen for it from `en`, `de-CH` and `fr`.
-const CHOSEN: [(&str, &str); 6] = [
+const CHOSEN: [(&str, &str); 7] = [
     ("fr;q=0.3, DE-ch-1996;q=0.9", "de-CH"),
     ("de, fr;q=0.1", "fr"),
     ("nl,nl,nl,nl,nl,nl,nl,nl,nl,nl,nl,nl,nl,nl,nl,nl,fr", "fr"),
     ("fr;q=0, nl", "en"),
+    ("de-CH-1996, de-CH;q=0", "de-CH"),
     ("*", "en"),
     ("", "en"),
 ];

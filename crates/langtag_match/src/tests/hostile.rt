@@ -90,7 +90,7 @@ fn long_headers_are_refused(rt: HostRuntime) -> Result<(), Fail> {
     Ok(())
 }
 
-/// One range of many subtags: of singletons, which fall back to nothing, and of others.
+/// One range of many subtags: of singletons, which all go at once, and of others.
 #[test]
 fn long_ranges(rt: HostRuntime) -> Result<(), Fail> {
     let default = LangTag::new("en").ok().ok_or("refused")?;

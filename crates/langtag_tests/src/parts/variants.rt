@@ -85,3 +85,12 @@ fn empty_walks(rt: HostRuntime) {
         assert_that!(rt; items.next_back().is_none());
     }
 }
+
+#[test]
+fn a_clone_of_a_walk_has_what_is_left(rt: HostRuntime) {
+    let variants = Variants::new("rozaj-1994").ok().expect(&rt, "refused");
+    let mut walk = variants.iter();
+    let _first = walk.next();
+    let clone = walk.clone().ok().expect(&rt, "no clone");
+    assert_same!(rt; clone.count(), 1);
+}

@@ -1,7 +1,6 @@
 //! Texts, lent and owned, that compare without regard to case (RFC 5646 section 2.1.1).
 use crate::support::{assert_same, assert_that, with_memory};
 use langtag_scan::Caseless;
-use std::alloc::AllocError;
 use std::cmp::Ordering;
 use std::collections::{BTreeSet, HashSet};
 

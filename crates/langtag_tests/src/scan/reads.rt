@@ -4,7 +4,6 @@ use crate::scan::rows::{self, Row};
 use crate::scan::source::PrivateSubtags;
 use crate::support::{assert_same, assert_that, with_memory};
 use langtag_scan::{ByteSource, Ends, Metered, recognise, recognise_normal};
-use std::alloc::AllocError;
 use std::process::Abort;
 
 fn are_decided(rt: &impl Abort, rows: &[Row]) {

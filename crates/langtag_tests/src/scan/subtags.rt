@@ -2,7 +2,6 @@
 use crate::support::{assert_same, assert_that, with_memory};
 use langtag_scan::Subtags;
 use std::alloc::{AllocError, Global};
-use std::process::Abort;
 
 /// What a walk gives: at most `first` subtags from the front, a `>` after each, and then all others from the back, a
 /// `<` before each.
@@ -57,4 +56,13 @@ fn ends_for_good(rt: HostRuntime) {
     let mut none = Subtags::empty();
     assert_that!(rt; none.next().is_none());
     assert_that!(rt; none.next_back().is_none());
+}
+
+#[test]
+fn a_clone_has_what_is_left(rt: HostRuntime) {
+    let mut walk = Subtags::new("sl-IT-nedis");
+    let _first = walk.next();
+    let mut clone = walk.clone().ok().expect(&rt, "no clone");
+    assert_same!(rt; clone.next(), Some("IT"));
+    assert_same!(rt; walk.next(), Some("IT"));
 }

@@ -4,7 +4,6 @@ use langtag::{
     GrandfatheredLangTag, InvalidGrandfatheredTag, InvalidLangTag, InvalidNormalLangTag, Kind,
     LangTag, LangTagBuf, NormalLangTag, NormalLangTagBuf, Region, TypedLangTag,
 };
-use std::alloc::{AllocError, Global};
 use std::collections::{BTreeMap, HashMap};
 use std::convert::TryFrom;
 use std::process::Abort;

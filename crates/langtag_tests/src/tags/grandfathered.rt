@@ -1,7 +1,6 @@
 //! The grandfathered tags (RFC 5646 section 2.2.8).
 use crate::support::{HOSTILE, assert_same, assert_that, with_memory};
 use langtag::{GRANDFATHERED, GrandfatheredLangTag, Kind, LangTag, TypedLangTag};
-use std::alloc::AllocError;
 use std::convert::TryFrom;
 use std::process::Abort;
 
