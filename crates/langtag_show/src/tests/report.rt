@@ -79,10 +79,10 @@ fn answers_each_line(rt: HostRuntime) {
     }
 }
 
-// 4,096 bytes a read: 10,000 take three, and one more meets the end.
+// 16,384 bytes a read: 40,000 take three, and one more meets the end.
 #[test]
 fn a_read_asks_for_many_bytes(rt: HostRuntime) {
-    let mut input = Feed::new(&[b'-'; 10_000], 10_000);
+    let mut input = Feed::new(&[b'-'; 40_000], 40_000);
     let mut output = Sheet::new();
     assert_eq!(rt; run_again(rt.alloc(), &mut input, &mut output), Ok(()));
     assert!(rt; is_report(output.text(), &[REFUSED]));
