@@ -46,6 +46,7 @@ mod normal_lang_tag_buf;
 mod private_use_lang_tag;
 mod recognise_text;
 mod repeats;
+mod text_of_parts;
 mod typed_lang_tag;
 mod variant_blocks;
 

@@ -15,12 +15,13 @@ ghost use Rattle.langtag.specs.Edit.{of_parts, with_language, with_script, with_
 ghost use Rattle.langtag.specs.Edit.{SetsLanguage, SetsScript, SetsRegion, SetsVariants, SetsExtensions, SetsPrivateUse};
 
 use crate::edit::{
-    join_parts, put_extensions, put_language, put_private_use, put_region, put_script, put_variants,
+    put_extensions, put_language, put_private_use, put_region, put_script, put_variants,
 };
 use crate::lang_tag_buf::LangTagBuf;
 use crate::lengths::{Lengths, length_with_hyphen};
 use crate::normal_lang_tag::{InvalidNormalLangTag, NormalLangTag};
 use crate::recognise_text::normal_ends;
+use crate::text_of_parts::join_parts;
 use langtag_extension::Extensions;
 use langtag_language::Language;
 use langtag_place::{Region, Script, Variants};

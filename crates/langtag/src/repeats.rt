@@ -7,7 +7,7 @@ ghost use Rattle.langtag_scan.specs.Case.{are_alike};
 ghost use Rattle.langtag_scan.specs.Subtags.{subtags};
 ghost use Rattle.langtag_place.specs.Text.{variant_text, variants_text};
 ghost use Rattle.langtag_extension.specs.Text.{singleton_byte, extensions_left};
-ghost use Rattle.langtag.specs.Repeat.{repeat, IsFirstRepeat, are_alike_bytes, opening_bytes};
+ghost use Rattle.langtag.specs.Repeat.{repeat, are_alike_bytes, opening_bytes};
 
 use crate::variant_blocks::first_repeated_of_many;
 use langtag_extension::{ExtensionsIter, Singleton};
