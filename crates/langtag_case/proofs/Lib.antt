@@ -1,0 +1,2 @@
+pub mod RecommendedLaws
+mod RecommendedWalk
