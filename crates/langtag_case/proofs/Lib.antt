@@ -1,2 +1,3 @@
 pub mod RecommendedLaws
 mod RecommendedWalk
+mod CasingLaws

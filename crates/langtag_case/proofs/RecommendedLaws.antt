@@ -17,6 +17,7 @@ use Rattle.langtag_scan.proofs.CaseLaw.{length-fold, segments-fold, join-fold}
 use Rattle.langtag_scan.proofs.SubtagLists.{segments-join, segments-hyphen_free}
 use Rattle.std.specs.List.{slice_get}
 use Rattle.std.proofs.lemmas.List.Elements.{All-nil, All-cons, All-head, All-tail}
+use Rattle.langtag_case.specs.Casing.{later}
 use Rattle.langtag_case.specs.RecommendedCase.{title_text, is_single, by_length, recommended_subtag, recommended_after, recommended_text}
 
 -- ---- bytes
@@ -110,11 +111,6 @@ recommended_twice t = alike_recommended (recommended_text t) t (recommended_alik
 
 -- ---- from subtag to subtag
 
--- subtags none of which is the first, and before which no singleton stands
-abbrev pub later : List (List ℕ) → List (List ℕ)
-later [] = []
-later (s ∷ ss) = cond (is_single s) (map fold_text (s ∷ ss)) (by_length s ∷ later ss)
-
 any_push : (before : List (List ℕ)) (s : List ℕ) (v : Bool) → list_any is_single before ≡ v → list_any is_single (before ++ s ∷ []) ≡ (v || is_single s)
 any_push before s v h = list_any-append is_single before (s ∷ []) ∙ rw (h, or-false (is_single s)) refl
 
@@ -159,15 +155,15 @@ rest_of single (hyphen ∷ rest) = hyphen ∷ join (cond single (map fold_text (
 abbrev pub IsRest : List ℕ → Type 0
 IsRest rest = (rest ≡ []) ⊎ ((others : List ℕ) × (rest ≡ 45 ∷ others))
 
-cond-some : (v : Bool) (a b : List (List ℕ)) → 0 < length a → 0 < length b → 0 < length (cond v a b)
+pub cond-some : (v : Bool) (a b : List (List ℕ)) → 0 < length a → 0 < length b → 0 < length (cond v a b)
 cond-some true a b h k = h
 cond-some false a b h k = k
 
-later-some : (ss : List (List ℕ)) → 0 < length ss → 0 < length (later ss)
+pub later-some : (ss : List (List ℕ)) → 0 < length ss → 0 < length (later ss)
 later-some [] some = absurd (omega (arith, some))
 later-some (s ∷ ss) some = cond-some (is_single s) (map fold_text (s ∷ ss)) (by_length s ∷ later ss) (omega arith) (omega arith)
 
-join-cons : (x : List ℕ) (ss : List (List ℕ)) → 0 < length ss → join (x ∷ ss) ≡ x ++ 45 ∷ join ss
+pub join-cons : (x : List ℕ) (ss : List (List ℕ)) → 0 < length ss → join (x ∷ ss) ≡ x ++ 45 ∷ join ss
 join-cons x [] some = absurd (omega (arith, some))
 join-cons x (s ∷ ss) some = refl
 
@@ -178,7 +174,7 @@ join-rest v x q =
     join-cons x (cond v (map fold_text (segments q)) (later (segments q)))
     (cond-some v _ _ (omega (arith, some, length-map (segments q) fold_text)) (later-some (segments q) some))
 
-later-cut : (s : List ℕ) (ss : List (List ℕ)) (v : Bool) → is_single s ≡ v → later (s ∷ ss) ≡ by_length s ∷ cond v (map fold_text ss) (later ss)
+pub later-cut : (s : List ℕ) (ss : List (List ℕ)) (v : Bool) → is_single s ≡ v → later (s ∷ ss) ≡ by_length s ∷ cond v (map fold_text ss) (later ss)
 later-cut s ss true single =
     ap (λ v. cond v (map fold_text (s ∷ ss)) (by_length s ∷ later ss)) single ∙ ap (λ t. t ∷ map fold_text ss) (sym (by_length-single s single))
 later-cut s ss false many = ap (λ v. cond v (map fold_text (s ∷ ss)) (by_length s ∷ later ss)) many
@@ -200,7 +196,7 @@ later-text s r free (inr (q, cut)) =
     ∙ ap join (later-cut s (segments q) (is_single s) refl) ∙ join-rest (is_single s) (by_length s) q
     ∙ sym (ap (λ t. by_length s ++ rest_of (is_single s) t) cut)
 
-after_first : (s : List ℕ) (ss : List (List ℕ)) (v : Bool) → is_single s ≡ v → recommended_after (s ∷ []) ss ≡ cond v (map fold_text ss) (later ss)
+pub after_first : (s : List ℕ) (ss : List (List ℕ)) (v : Bool) → is_single s ≡ v → recommended_after (s ∷ []) ss ≡ cond v (map fold_text ss) (later ss)
 after_first s ss true single = after_single (s ∷ []) ss (any_push [] s false refl ∙ single)
 after_first s ss false many = after_none (s ∷ []) ss (any_push [] s false refl ∙ many) refl
 

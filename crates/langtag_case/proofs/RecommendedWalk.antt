@@ -11,7 +11,7 @@ use Rattle.langtag_case.specs.RecommendedCase.{is_single, by_length, recommended
 use Rattle.langtag_case.proofs.RecommendedLaws.{IsRest, rest_of, first-text, rest-turn, rest-small, length-by_length}
 
 -- what stands at the end of a subtag
-rest_at : (text : List ℕ) (e : ℕ) → (e < length text → get_or text e 0 ≡ 45) → IsRest (drop e text)
+pub rest_at : (text : List ℕ) (e : ℕ) → (e < length text → get_or text e 0 ≡ 45) → IsRest (drop e text)
 rest_at text e hyphen = by (drop e text) refl
   where
     by : (r : List ℕ) → drop e text ≡ r → IsRest (drop e text)
@@ -20,7 +20,7 @@ rest_at text e hyphen = by (drop e text) refl
         let longer : e < length text = omega (arith, ap length at, length-drop e text) in
         inr (drop (e + 1) text, at_drop_more (λ ys. ys) text e 0 longer ∙ ap (λ c. c ∷ drop (e + 1) text) (hyphen longer))
 
-free_between : (text : List ℕ) (a e : ℕ) → a ≤ e → e ≤ length text → NoHyphenWithin text a e → IsHyphenFree (take (e - a) (drop a text))
+pub free_between : (text : List ℕ) (a e : ℕ) → a ≤ e → e ≤ length text → NoHyphenWithin text a e → IsHyphenFree (take (e - a) (drop a text))
 free_between text a e order within free =
     All-from_get_or (λ b. is_hyphen b ≡ false) (take (e - a) (drop a text)) 0
     (λ i below.
