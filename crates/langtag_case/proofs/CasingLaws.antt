@@ -7,11 +7,7 @@ use Rattle.std.specs.Option.{option_eq}
 use lib.Dec.{eqb}
 use Rattle.langtag_scan.proofs.CaseLaw.{length-fold}
 use Rattle.std.proofs.lemmas.List.Splits.{slice_split_none, slice_split_at, slice_split-cons_yes, slice_split-cons_no, length-slice_split}
-use Rattle.std.proofs.Math.ListN.{get_or-map}
-use Rattle.std.proofs.lemmas.Bool.Decides.{nat_tests}
-use Rattle.std.proofs.lemmas.Str.Ascii.{IsAscii-map, lowercase_ascii}
-use Rattle.std.specs.Str.{IsAscii}
-use Rattle.langtag_scan.specs.Case.{fold_byte, fold_text}
+use Rattle.langtag_scan.specs.Case.{fold_text}
 use Rattle.langtag_scan.specs.Subtags.{is_hyphen, IsHyphenFree, NoHyphenWithin, join, segments}
 use Rattle.langtag_case.specs.Casing.{cased, casing_of, is_all_small, later, following, rest_cased, left}
 use Rattle.langtag_case.specs.RecommendedCase.{capital_text, title_text, is_single, by_length, recommended_after, recommended_text}
@@ -94,9 +90,9 @@ module _ (text : List ℕ) (end : ℕ) (within : end ≤ length text) (free : No
   first-cased : (casing : Casing) → cased casing (take end text) ≡ fold_text (take end text) → is_all_small casing ≡ is_single (take end text) → left casing text ≡ recommended_text text
   first-cased casing put all =
       ap join (
-          begun casing (fold_text (take end text)) put all
-          ∙ ap (λ ss. fold_text (take end text) ∷ ss) (sym (after_first (take end text) first.others (is_single (take end text)) refl))
-          ∙ sym (ap (recommended_after []) first.are))
+      begun casing (fold_text (take end text)) put all
+      ∙ ap (λ ss. fold_text (take end text) ∷ ss) (sym (after_first (take end text) first.others (is_single (take end text)) refl))
+      ∙ sym (ap (recommended_after []) first.are))
 
   -- a first subtag of one byte
   pub first-single : end ≡ 1 → left AllSmall text ≡ recommended_text text
@@ -165,19 +161,6 @@ hyphen-left casing after text next =
     ∙ ap (λ x. join (x ∷ following (is_all_small casing) (segments text))) (cased-nil casing)
     ∙ join-cons [] (following (is_all_small casing) (segments text)) (following-some (is_all_small casing) (segments text) (some-segments text))
     ∙ ap (λ ss. 45 ∷ join ss) (sym next)
-
--- ---- what is displayed
-
-fold-ascii : (b : ℕ) → fold_byte b < 128 → b < 128
-unfolding fold_byte
-fold-ascii b small = grind (arith, nat_tests)
-
--- a text of ASCII is one in its recommended case
-pub recommended-ascii : (text : List ℕ) → IsAscii text → IsAscii (recommended_text text)
-unfolding fold_byte
-recommended-ascii text ascii = λ i.
-    let folded : IsAscii (fold_text (recommended_text text)) = subst IsAscii (sym (recommended_alike text)) (IsAscii-map fold_byte text lowercase_ascii ascii) in
-    fold-ascii (get_or (recommended_text text) i 0) (subst (λ b. b < 128) (get_or-map fold_byte (recommended_text text) i 0) (folded i))
 
 -- ---- whether a text is in its recommended case
 

@@ -1,3 +1,4 @@
 pub mod RecommendedLaws
 mod RecommendedWalk
 mod CasingLaws
+pub mod RecordLaw

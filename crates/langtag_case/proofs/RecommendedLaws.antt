@@ -1,9 +1,9 @@
 -- The recommended case of a text: it is alike the text, alike texts have the same one, and how it is had from subtag to
 -- subtag.
-use Rattle.std.proofs.Common.{◌≡◌, ℕ, ◌<◌, ◌==◌, Bool, true, false, cond, ◌||◌, ◌⊎◌, inl, inr, Some, All, subst, List, [], ◌∷◌, ◌++◌, length, map, take, refl, sym, ap, ◌∙◌, arith, append_assoc, append-nil}
+use Rattle.std.proofs.Common.{◌≡◌, ℕ, ◌<◌, ◌==◌, Bool, true, false, cond, ◌||◌, ◌⊎◌, inl, inr, Some, All, subst, List, [], ◌∷◌, ◌++◌, length, map, take, get_or, refl, sym, ap, ◌∙◌, arith, append_assoc, append-nil}
 use Prim.Native.Nat.{zero, suc}
 use Rattle.std.specs.Char.{to_ascii_uppercase}
-use Rattle.std.specs.List.{list_any}
+use Rattle.std.specs.List.{list_any, slice_get}
 use Rattle.std.proofs.Math.Bool.{or-true, or-false}
 use Rattle.std.proofs.lemmas.Bool.{eqb-true, ne_eqb}
 use Rattle.std.proofs.lemmas.List.{length-map, length-append, map-append}
@@ -11,11 +11,13 @@ use Rattle.std.proofs.lemmas.Bool.Decides.{nat_tests}
 use Rattle.std.proofs.lemmas.List.Folds.{list_any-append}
 use Rattle.std.proofs.lemmas.List.Splits.{slice_split_none, slice_split_at, length-slice_split, join_with_byte-slice_split}
 use Rattle.std.proofs.lemmas.Str.Ascii.{lowercase-uppercase, lowercase-lowercase}
+use Rattle.std.proofs.Math.ListN.{get_or-map}
+use Rattle.std.proofs.lemmas.Str.Ascii.{IsAscii-map, lowercase_ascii}
+use Rattle.std.specs.Str.{IsAscii}
 use Rattle.langtag_scan.specs.Case.{fold_byte, fold_text, Alike}
 use Rattle.langtag_scan.specs.Subtags.{is_hyphen, IsHyphenFree, join, segments}
 use Rattle.langtag_scan.proofs.CaseLaw.{length-fold, segments-fold, join-fold}
 use Rattle.langtag_scan.proofs.SubtagLists.{segments-join, segments-hyphen_free}
-use Rattle.std.specs.List.{slice_get}
 use Rattle.std.proofs.lemmas.List.Elements.{All-nil, All-cons, All-head, All-tail}
 use Rattle.langtag_case.specs.Casing.{later}
 use Rattle.langtag_case.specs.RecommendedCase.{title_text, is_single, by_length, recommended_subtag, recommended_after, recommended_text}
@@ -108,6 +110,18 @@ alike_recommended t u alike = sym (recommended-fold t) ∙ ap recommended_text a
 -- a text in its recommended case stays as it is
 pub recommended_twice : (t : List ℕ) → recommended_text (recommended_text t) ≡ recommended_text t
 recommended_twice t = alike_recommended (recommended_text t) t (recommended_alike t)
+
+-- a letter is ASCII where its small one is
+fold-ascii : (b : ℕ) → fold_byte b < 128 → b < 128
+unfolding fold_byte
+fold-ascii b small = grind (arith, nat_tests)
+
+-- a text of ASCII is one in its recommended case
+pub recommended-ascii : (text : List ℕ) → IsAscii text → IsAscii (recommended_text text)
+unfolding fold_byte
+recommended-ascii text ascii = λ i.
+    let folded : IsAscii (fold_text (recommended_text text)) = subst IsAscii (sym (recommended_alike text)) (IsAscii-map fold_byte text lowercase_ascii ascii) in
+    fold-ascii (get_or (recommended_text text) i 0) (subst (λ b. b < 128) (get_or-map fold_byte (recommended_text text) i 0) (folded i))
 
 -- ---- from subtag to subtag
 

@@ -2,7 +2,10 @@
 use Rattle.std.specs.Prelude.{◌==◌, ℕ, Bool, ◌||◌, List, [], ◌∷◌, ◌++◌, if◌then◌else◌, length, map}
 use Rattle.std.specs.Char.{to_ascii_uppercase}
 use Rattle.std.specs.List.{list_any}
+use Rattle.std.specs.Option.{option_map}
 use Rattle.langtag_scan.specs.Case.{fold_text}
+use Rattle.langtag_scan.specs.AlikeRecords.{fold_extension, fold_private_use}
+use Rattle.langtag_scan.specs.Record.{Record}
 use Rattle.langtag_scan.specs.Subtags.{join, segments}
 
 -- all letters are capitals
@@ -34,3 +37,15 @@ recommended_after before (subtag ∷ subtags) = recommended_subtag before subtag
 -- a text with each subtag in its recommended case
 abbrev pub recommended_text : List ℕ → List ℕ
 recommended_text text = join (recommended_after [] (segments text))
+
+-- the record of a tag: its script is titlecase, its region in capitals, and all else small
+abbrev pub recommended_record : Record → Record
+recommended_record r = record {
+  primary = fold_text r.primary;
+  extended = map fold_text r.extended;
+  script = option_map title_text r.script;
+  region = option_map capital_text r.region;
+  variants = map fold_text r.variants;
+  extensions = map fold_extension r.extensions;
+  private_use = option_map fold_private_use r.private_use;
+}

@@ -3,7 +3,7 @@ ghost use Rattle.std.specs.Prelude.{◌≡◌, ℕ, List, Some, length, slice_ge
 ghost use Rattle.langtag_scan.specs.Case.{Alike, fold_text};
 ghost use Rattle.langtag_scan.specs.Record.{Record, IsWellFormed, spell};
 ghost use Rattle.langtag_scan.specs.Subtags.{segments};
-ghost use Rattle.langtag_case.specs.RecommendedCase.{by_length, recommended_subtag, recommended_text};
+ghost use Rattle.langtag_case.specs.RecommendedCase.{by_length, recommended_record, recommended_subtag, recommended_text};
 
 use langtag_scan::segment_end;
 
@@ -19,6 +19,7 @@ pub fn make_recommended_case(text: &mut [u8])
     ensures each_subtag { (t subtag : List ℕ) (k : ℕ) → slice_get (segments t) k ≡ Some subtag →
         slice_get (segments (recommended_text t)) k ≡ Some (recommended_subtag (take k (segments t)) subtag) }
     ensures alike { (t : List ℕ) → Alike (recommended_text t) t }
+    ensures of_record { (r : Record) → IsWellFormed r → recommended_text (spell r) ≡ spell (recommended_record r) }
     ensures twice { (t : List ℕ) → recommended_text (recommended_text t) ≡ recommended_text t }
     ensures one_key { (t u : List ℕ) → Alike t u → recommended_text t ≡ recommended_text u }
 {
