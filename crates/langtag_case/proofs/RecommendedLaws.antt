@@ -103,6 +103,10 @@ pub recommended_alike : (t : List ℕ) → Alike (recommended_text t) t
 recommended_alike t =
     sym (join-fold (recommended_after [] (segments t))) ∙ ap join (fold-recommended_after [] (segments t)) ∙ join-fold (segments t) ∙ ap fold_text (join_with_byte-slice_split 45 t)
 
+-- so a text that is another in its recommended case is alike that
+pub alike_of_recommended : (old new : List ℕ) → new ≡ recommended_text old → Alike old new
+alike_of_recommended old new case = sym (ap fold_text case ∙ recommended_alike old)
+
 -- texts that are alike have the same one
 pub alike_recommended : (t u : List ℕ) → Alike t u → recommended_text t ≡ recommended_text u
 alike_recommended t u alike = sym (recommended-fold t) ∙ ap recommended_text alike ∙ recommended-fold u

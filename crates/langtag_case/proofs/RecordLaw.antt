@@ -10,7 +10,7 @@ use Rattle.std.proofs.lemmas.List.{map-append}
 use Rattle.langtag_scan.specs.AlikeRecords.{fold_extension, fold_private_use}
 use Rattle.langtag_scan.specs.Case.{fold_byte, fold_text}
 use Rattle.langtag_scan.specs.Class.{is_digit, are_letters, are_digits, are_alphanumeric, has_length, starts_with_digit, is_primary, is_extended, is_script, is_region, is_variant}
-use Rattle.langtag_scan.specs.Record.{Extension, PrivateUse, Record, IsWellFormed, extension_flat, one_flat, private_part_flat, flat, spell}
+use Rattle.langtag_scan.specs.Record.{EachRecord, Extension, PrivateUse, Record, IsWellFormed, extension_flat, one_flat, private_part_flat, flat, spell}
 use Rattle.langtag_scan.specs.Subtags.{join, segments, subtags}
 use Rattle.langtag_scan.proofs.BoolFacts.{between_true}
 use Rattle.langtag_scan.proofs.SpelledTexts.{subtags-spelled}
@@ -150,3 +150,7 @@ recommended_spelled r fits =
         ∙ ap (λ ss. one_flat (option_map capital_text r.region) ++ ss) (
         part-cased is_variant fold_text variant-cased r.variants _ fits.variants
         ∙ ap (λ ss. map fold_text r.variants ++ ss) (tail-cased r.extensions r.private_use))))
+
+-- and so does the text of a tag in its recommended case
+pub spelled_in_case : (old new : List ℕ) → new ≡ recommended_text old → EachRecord old (λ r. new ≡ spell (recommended_record r))
+spelled_in_case old new case r spells = case ∙ ap recommended_text (sym spells.1) ∙ recommended_spelled r spells.0
