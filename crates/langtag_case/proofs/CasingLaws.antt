@@ -1,8 +1,8 @@
 -- The walk that hands a text out in its recommended case, byte by byte.
-use Rattle.std.proofs.Common.{◌≡◌, ℕ, ◌+◌, ◌-◌, ◌<◌, ◌≤◌, ◌==◌, Bool, true, false, cond, List, [], ◌∷◌, ◌++◌, length, map, take, drop, get_or, refl, sym, ap, ◌∙◌, subst, arith, length-take, take-append-drop, append-nil, append_assoc, length-append, inl, inr, not, Option, None, Some, MatchOption}
+use Rattle.std.proofs.Common.{◌≡◌, ℕ, ◌+◌, ◌-◌, ◌<◌, ◌≤◌, ◌==◌, Bool, true, false, cond, List, [], ◌∷◌, ◌++◌, length, take, drop, get_or, refl, sym, ap, ◌∙◌, subst, arith, length-take, take-append-drop, append-nil, append_assoc, length-append, inl, inr, not, Option, None, Some, MatchOption}
 use Rattle.std.proofs.lemmas.Bool.{eqb-true, ne_eqb, eq-eqb, not-false, not-true}
 use Rattle.std.specs.List.{onto_first}
-use Rattle.std.proofs.lemmas.List.{length-map, take_more, take_all, at_drop_more, append_cancel_left}
+use Rattle.std.proofs.lemmas.List.{take_more, take_all, at_drop_more, append_cancel_left}
 use Rattle.std.specs.Option.{option_eq}
 use lib.Dec.{eqb}
 use Rattle.langtag_scan.proofs.CaseLaw.{length-fold}
@@ -14,7 +14,7 @@ use Rattle.langtag_case.specs.RecommendedCase.{capital_text, title_text, is_sing
 use Rattle.langtag_case.specs.declared.casing.Casing.{Casing}
 use Rattle.langtag_case.specs.declared.casing.Casing.TheVariants.{AllSmall, Small, Capitals, Title}
 use Rattle.langtag_case.proofs.RecommendedWalk.{rest_at, free_between}
-use Rattle.langtag_case.proofs.RecommendedLaws.{recommended_alike, IsRest, after_first, join-cons, cond-some, later-some, later-cut}
+use Rattle.langtag_case.proofs.RecommendedLaws.{recommended_alike, IsRest, after_first, join-cons, following-some, later-cut}
 
 -- ---- the first subtag of a text
 
@@ -65,6 +65,7 @@ by_length-cased s = by (length s == 1) refl
         ap (λ v. cased (cond v AllSmall (cond (length s == 2) Capitals (cond (length s == 4) Title Small))) s) more
         ∙ choose (length s == 2) (length s == 4)
 
+-- which is small to the end of the text for a singleton alone
 casing-single : (s : List ℕ) → is_all_small (casing_of (length s)) ≡ is_single s
 casing-single s = by (length s == 1) (length s == 2) (length s == 4)
   where
@@ -75,18 +76,22 @@ casing-single s = by (length s == 1) (length s == 2) (length s == 4)
     by false false false = refl
 
 module _ (text : List ℕ) (end : ℕ) (within : end ≤ length text) (free : NoHyphenWithin text 0 end) (hyphen : end < length text → get_or text end 0 ≡ 45) where
+  -- the first subtag, and the others
   first : BeginsWith text (take end text)
   first = first_segment text end within free hyphen
 
+  -- its length
   size : length (take end text) ≡ end
   size = omega (arith, within, length-take end text)
 
+  -- its case, and that of those that follow
   begun : (casing : Casing) (t : List ℕ) → cased casing (take end text) ≡ t → is_all_small casing ≡ is_single (take end text) →
       rest_cased casing (segments text) ≡ t ∷ following (is_single (take end text)) first.others
   begun casing t put all =
       ap (rest_cased casing) first.are ∙ ap (λ s. s ∷ following (is_all_small casing) first.others) put
       ∙ ap (λ v. t ∷ following v first.others) all
 
+  -- of a subtag that is the first of a text
   first-cased : (casing : Casing) → cased casing (take end text) ≡ fold_text (take end text) → is_all_small casing ≡ is_single (take end text) → left casing text ≡ recommended_text text
   first-cased casing put all =
       ap join (
@@ -143,14 +148,12 @@ letter-left casing after b out text letter same all =
 
 -- ---- hyphens
 
+-- nothing is left of a subtag
 cased-nil : (casing : Casing) → cased casing [] ≡ []
 cased-nil AllSmall = refl
 cased-nil Small = refl
 cased-nil Capitals = refl
 cased-nil Title = refl
-
-following-some : (v : Bool) (ss : List (List ℕ)) → 0 < length ss → 0 < length (following v ss)
-following-some v ss some = cond-some v (map fold_text ss) (later ss) (omega (arith, some, length-map ss fold_text)) (later-some ss some)
 
 -- the hyphen after a subtag
 pub hyphen-left :
@@ -164,6 +167,7 @@ hyphen-left casing after text next =
 
 -- ---- whether a text is in its recommended case
 
+-- the recommended text is as long
 length-recommended : (text : List ℕ) → length (recommended_text text) ≡ length text
 length-recommended text = sym (length-fold (recommended_text text)) ∙ ap length (recommended_alike text) ∙ length-fold text
 

@@ -19,36 +19,43 @@ use Rattle.langtag_scan.specs.Subtags.{is_hyphen, IsHyphenFree, join, segments}
 use Rattle.langtag_scan.proofs.CaseLaw.{length-fold, segments-fold, join-fold}
 use Rattle.langtag_scan.proofs.SubtagLists.{segments-join, segments-hyphen_free}
 use Rattle.std.proofs.lemmas.List.Elements.{All-nil, All-cons, All-head, All-tail}
-use Rattle.langtag_case.specs.Casing.{later}
+use Rattle.langtag_case.specs.Casing.{later, following}
 use Rattle.langtag_case.specs.RecommendedCase.{title_text, is_single, by_length, recommended_subtag, recommended_after, recommended_text}
 
 -- ---- bytes
 
+-- a capital folds as its letter does
 fold-upper : (b : ℕ) → fold_byte (to_ascii_uppercase b) ≡ fold_byte b
 unfolding fold_byte
 fold-upper b = lowercase-uppercase b
 
+-- what is folded stays
 fold-fold : (b : ℕ) → fold_byte (fold_byte b) ≡ fold_byte b
 unfolding fold_byte
 fold-fold b = lowercase-lowercase b
 
+-- and has the capital of the letter
 upper-fold : (b : ℕ) → to_ascii_uppercase (fold_byte b) ≡ to_ascii_uppercase b
 unfolding fold_byte
 upper-fold b = grind (arith, nat_tests)
 
 -- ---- subtags
 
+-- bytes that are put through two functions, one after the other
 map-same : (f g h : ℕ → ℕ) → ((b : ℕ) → f (g b) ≡ h b) → (s : List ℕ) → map f (map g s) ≡ map h s
 map-same f g h same [] = refl
 map-same f g h same (b ∷ s) = rw (same b, map-same f g h same s) refl
 
+-- a folded text stays
 pub fold_text-fold : (s : List ℕ) → fold_text (fold_text s) ≡ fold_text s
 fold_text-fold s = map-same fold_byte fold_byte fold_byte fold-fold s
 
+-- titlecase is that of the fold
 title-fold : (s : List ℕ) → title_text (fold_text s) ≡ title_text s
 title-fold [] = refl
 title-fold (b ∷ s) = rw (upper-fold b, fold_text-fold s) refl
 
+-- and folds as the subtag does
 fold-title : (s : List ℕ) → fold_text (title_text s) ≡ fold_text s
 fold-title [] = refl
 fold-title (b ∷ s) = rw (fold-upper b, fold_text-fold s) refl
@@ -57,44 +64,53 @@ fold-title (b ∷ s) = rw (fold-upper b, fold_text-fold s) refl
 pub by_length-fold : (s : List ℕ) → by_length (fold_text s) ≡ by_length s
 by_length-fold s = rw (length-fold s, map-same to_ascii_uppercase fold_byte to_ascii_uppercase upper-fold s, title-fold s, fold_text-fold s) refl
 
+-- so does a choice of two that do
 fold-cond : (v : Bool) (a b s : List ℕ) → fold_text a ≡ fold_text s → fold_text b ≡ fold_text s → fold_text (cond v a b) ≡ fold_text s
 fold-cond true a b s h k = h
 fold-cond false a b s h k = k
 
+-- so does the case by length
 fold-by_length : (s : List ℕ) → fold_text (by_length s) ≡ fold_text s
 fold-by_length s =
     fold-cond (length s == 2) _ _ s (map-same fold_byte to_ascii_uppercase fold_byte fold-upper s)
     (fold-cond (length s == 4) _ _ s (fold-title s) (fold_text-fold s))
 
+-- the fold is as long
 single-fold : (s : List ℕ) → is_single (fold_text s) ≡ is_single s
 single-fold s = ap (λ n. n == 1) (length-fold s)
 
+-- and so are those of a list
 any_single-fold : (ss : List (List ℕ)) → list_any is_single (map fold_text ss) ≡ list_any is_single ss
 any_single-fold [] = refl
 any_single-fold (s ∷ ss) = rw (single-fold s, any_single-fold ss) refl
 
+-- a subtag has the case of its fold, among folded ones
 recommended_subtag-fold : (before : List (List ℕ)) (s : List ℕ) → recommended_subtag (map fold_text before) (fold_text s) ≡ recommended_subtag before s
 recommended_subtag-fold before s =
     ap (λ (v : Bool). cond v (fold_text (fold_text s)) (by_length (fold_text s))) (rw (length-map before fold_text, any_single-fold before) refl)
     ∙ ap (λ t. cond ((length before == 0) || list_any is_single before) t (by_length (fold_text s))) (fold_text-fold s)
     ∙ ap (λ t. cond ((length before == 0) || list_any is_single before) (fold_text s) t) (by_length-fold s)
 
+-- and folds as it did
 fold-recommended_subtag : (before : List (List ℕ)) (s : List ℕ) → fold_text (recommended_subtag before s) ≡ fold_text s
 fold-recommended_subtag before s = fold-cond ((length before == 0) || list_any is_single before) _ _ s (fold_text-fold s) (fold-by_length s)
 
 -- ---- lists of subtags
 
+-- folded subtags come out as those they fold
 recommended_after-fold : (before ss : List (List ℕ)) → recommended_after (map fold_text before) (map fold_text ss) ≡ recommended_after before ss
 recommended_after-fold before [] = refl
 recommended_after-fold before (s ∷ ss) =
     rw (recommended_subtag-fold before s, ← map-append fold_text before (s ∷ []), recommended_after-fold (before ++ s ∷ []) ss) refl
 
+-- and fold as they did
 fold-recommended_after : (before ss : List (List ℕ)) → map fold_text (recommended_after before ss) ≡ map fold_text ss
 fold-recommended_after before [] = refl
 fold-recommended_after before (s ∷ ss) = rw (fold-recommended_subtag before s, fold-recommended_after (before ++ s ∷ []) ss) refl
 
 -- ---- the laws
 
+-- a text comes out as its fold
 pub recommended-fold : (t : List ℕ) → recommended_text (fold_text t) ≡ recommended_text t
 recommended-fold t = ap (λ ss. join (recommended_after [] ss)) (segments-fold t) ∙ ap join (recommended_after-fold [] (segments t))
 
@@ -129,19 +145,23 @@ recommended-ascii text ascii = λ i.
 
 -- ---- from subtag to subtag
 
+-- whether there is a singleton among one more subtag
 any_push : (before : List (List ℕ)) (s : List ℕ) (v : Bool) → list_any is_single before ≡ v → list_any is_single (before ++ s ∷ []) ≡ (v || is_single s)
 any_push before s v h = list_any-append is_single before (s ∷ []) ∙ rw (h, or-false (is_single s)) refl
 
+-- after a singleton all subtags are small
 after_single : (before ss : List (List ℕ)) → list_any is_single before ≡ true → recommended_after before ss ≡ map fold_text ss
 after_single before [] some = refl
 after_single before (s ∷ ss) some =
     rw (some, or-true (length before == 0), after_single (before ++ s ∷ []) ss (any_push before s true some)) refl
 
+-- a singleton is small
 by_length-single : (s : List ℕ) → is_single s ≡ true → by_length s ≡ fold_text s
 by_length-single s single =
     let one : length s ≡ 1 = eqb-true (length s) 1 single in
     rw one refl
 
+-- where none stood before, those that are not first have the case of later ones
 after_none : (before ss : List (List ℕ)) → list_any is_single before ≡ false → (length before == 0) ≡ false → recommended_after before ss ≡ later ss
 after_none before [] none some = refl
 after_none before (s ∷ ss) none some =
@@ -167,37 +187,39 @@ after_none before (s ∷ ss) none some =
 -- what stands after the last byte of a subtag
 abbrev pub rest_of : Bool → List ℕ → List ℕ
 rest_of single [] = []
-rest_of single (hyphen ∷ rest) = hyphen ∷ join (cond single (map fold_text (segments rest)) (later (segments rest)))
+rest_of single (hyphen ∷ rest) = hyphen ∷ join (following single (segments rest))
 
 -- it is nothing, or begins with a hyphen
 abbrev pub IsRest : List ℕ → Type 0
 IsRest rest = (rest ≡ []) ⊎ ((others : List ℕ) × (rest ≡ 45 ∷ others))
 
-pub cond-some : (v : Bool) (a b : List (List ℕ)) → 0 < length a → 0 < length b → 0 < length (cond v a b)
-cond-some true a b h k = h
-cond-some false a b h k = k
+-- what follows is as many
+pub following-some : (v : Bool) (ss : List (List ℕ)) → 0 < length ss → 0 < length (following v ss)
+following-some true ss some = omega (arith, some, length-map ss fold_text)
+following-some false [] some = absurd (omega (arith, some))
+following-some false (s ∷ ss) some = by (is_single s)
+  where
+    by : (v : Bool) → 0 < length (cond v (map fold_text (s ∷ ss)) (by_length s ∷ later ss))
+    by true = omega arith
+    by false = omega arith
 
-pub later-some : (ss : List (List ℕ)) → 0 < length ss → 0 < length (later ss)
-later-some [] some = absurd (omega (arith, some))
-later-some (s ∷ ss) some = cond-some (is_single s) (map fold_text (s ∷ ss)) (by_length s ∷ later ss) (omega arith) (omega arith)
-
+-- a subtag and some others are joined by a hyphen
 pub join-cons : (x : List ℕ) (ss : List (List ℕ)) → 0 < length ss → join (x ∷ ss) ≡ x ++ 45 ∷ join ss
 join-cons x [] some = absurd (omega (arith, some))
 join-cons x (s ∷ ss) some = refl
 
 -- a subtag and those after its hyphen
-join-rest : (v : Bool) (x q : List ℕ) → join (x ∷ cond v (map fold_text (segments q)) (later (segments q))) ≡ x ++ rest_of v (45 ∷ q)
-join-rest v x q =
-    let some : 0 < length (segments q) = omega (arith, length-slice_split is_hyphen q) in
-    join-cons x (cond v (map fold_text (segments q)) (later (segments q)))
-    (cond-some v _ _ (omega (arith, some, length-map (segments q) fold_text)) (later-some (segments q) some))
+join-rest : (v : Bool) (x q : List ℕ) → join (x ∷ following v (segments q)) ≡ x ++ rest_of v (45 ∷ q)
+join-rest v x q = join-cons x (following v (segments q)) (following-some v (segments q) (omega (arith, length-slice_split is_hyphen q)))
 
-pub later-cut : (s : List ℕ) (ss : List (List ℕ)) (v : Bool) → is_single s ≡ v → later (s ∷ ss) ≡ by_length s ∷ cond v (map fold_text ss) (later ss)
+-- the first of later subtags, and those that follow it
+pub later-cut : (s : List ℕ) (ss : List (List ℕ)) (v : Bool) → is_single s ≡ v → later (s ∷ ss) ≡ by_length s ∷ following v ss
 later-cut s ss true single =
     ap (λ v. cond v (map fold_text (s ∷ ss)) (by_length s ∷ later ss)) single ∙ ap (λ t. t ∷ map fold_text ss) (sym (by_length-single s single))
 later-cut s ss false many = ap (λ v. cond v (map fold_text (s ∷ ss)) (by_length s ∷ later ss)) many
 
-nil-rest : (v : Bool) → cond v (map fold_text []) (later []) ≡ []
+-- nothing follows nothing
+nil-rest : (v : Bool) → following v [] ≡ []
 nil-rest true = refl
 nil-rest false = refl
 
@@ -214,7 +236,8 @@ later-text s r free (inr (q, cut)) =
     ∙ ap join (later-cut s (segments q) (is_single s) refl) ∙ join-rest (is_single s) (by_length s) q
     ∙ sym (ap (λ t. by_length s ++ rest_of (is_single s) t) cut)
 
-pub after_first : (s : List ℕ) (ss : List (List ℕ)) (v : Bool) → is_single s ≡ v → recommended_after (s ∷ []) ss ≡ cond v (map fold_text ss) (later ss)
+-- what follows the first subtag
+pub after_first : (s : List ℕ) (ss : List (List ℕ)) (v : Bool) → is_single s ≡ v → recommended_after (s ∷ []) ss ≡ following v ss
 after_first s ss true single = after_single (s ∷ []) ss (any_push [] s false refl ∙ single)
 after_first s ss false many = after_none (s ∷ []) ss (any_push [] s false refl ∙ many) refl
 
@@ -242,27 +265,32 @@ pub rest-turn :
     (s r : List ℕ) → IsHyphenFree s → IsRest r → rest_of false (45 ∷ (s ++ r)) ≡ 45 ∷ (by_length s ++ rest_of (is_single s) r)
 rest-turn s r free rest = ap (λ t. 45 ∷ t) (later-text s r free rest)
 
+-- the case by length changes no length
 pub length-by_length : (s : List ℕ) → length (by_length s) ≡ length s
 length-by_length s = sym (length-fold (by_length s)) ∙ ap length (fold-by_length s) ∙ length-fold s
 
 -- ---- each subtag
 
+-- the fold of a hyphen, and of nothing else, is one
 hyphen-fold : (b : ℕ) → is_hyphen (fold_byte b) ≡ is_hyphen b
 unfolding fold_byte
 hyphen-fold b = grind (arith, nat_tests)
 
+-- a fold has no hyphen where its text has none
 hyphen_free-folded : (s : List ℕ) → IsHyphenFree s → IsHyphenFree (fold_text s)
 hyphen_free-folded [] free = All-nil (λ b. is_hyphen b ≡ false)
 hyphen_free-folded (b ∷ s) free =
     All-cons (λ b. is_hyphen b ≡ false) (fold_byte b) (fold_text s) (hyphen-fold b ∙ All-head (λ b. is_hyphen b ≡ false) b s free)
     (hyphen_free-folded s (All-tail (λ b. is_hyphen b ≡ false) b s free))
 
+-- and the other way round
 hyphen_free-fold : (s : List ℕ) → IsHyphenFree (fold_text s) → IsHyphenFree s
 hyphen_free-fold [] free = All-nil (λ b. is_hyphen b ≡ false)
 hyphen_free-fold (b ∷ s) free =
     All-cons (λ b. is_hyphen b ≡ false) b s (sym (hyphen-fold b) ∙ All-head (λ b. is_hyphen b ≡ false) (fold_byte b) (fold_text s) free)
     (hyphen_free-fold s (All-tail (λ b. is_hyphen b ≡ false) (fold_byte b) (fold_text s) free))
 
+-- nor have subtags in their case
 hyphen_free-recommended : (before ss : List (List ℕ)) → All IsHyphenFree ss → All IsHyphenFree (recommended_after before ss)
 hyphen_free-recommended before [] free = All-nil IsHyphenFree
 hyphen_free-recommended before (s ∷ ss) free =
@@ -270,10 +298,12 @@ hyphen_free-recommended before (s ∷ ss) free =
     (hyphen_free-fold (recommended_subtag before s) (subst IsHyphenFree (sym (fold-recommended_subtag before s)) (hyphen_free-folded s (All-head IsHyphenFree s ss free))))
     (hyphen_free-recommended (before ++ s ∷ []) ss (All-tail IsHyphenFree s ss free))
 
+-- so they are found again in their join
 segments-cased : (ss : List (List ℕ)) → 0 < length ss → All IsHyphenFree ss → segments (join (recommended_after [] ss)) ≡ recommended_after [] ss
 segments-cased [] some free = absurd (omega (arith, some))
 segments-cased (s ∷ ss) some free = segments-join (fold_text s) (recommended_after (s ∷ []) ss) (hyphen_free-recommended [] (s ∷ ss) free)
 
+-- the one at an index
 recommended-at :
     (before ss : List (List ℕ)) (k : ℕ) (s : List ℕ) → slice_get ss k ≡ Some s →
     slice_get (recommended_after before ss) k ≡ Some (recommended_subtag (before ++ take k ss) s)

@@ -20,6 +20,7 @@ rest_at text e hyphen = by (drop e text) refl
         let longer : e < length text = omega (arith, ap length at, length-drop e text) in
         inr (drop (e + 1) text, at_drop_more (λ ys. ys) text e 0 longer ∙ ap (λ c. c ∷ drop (e + 1) text) (hyphen longer))
 
+-- what stands between two hyphens
 pub free_between : (text : List ℕ) (a e : ℕ) → a ≤ e → e ≤ length text → NoHyphenWithin text a e → IsHyphenFree (take (e - a) (drop a text))
 free_between text a e order within free =
     All-from_get_or (λ b. is_hyphen b ≡ false) (take (e - a) (drop a text)) 0
@@ -27,9 +28,11 @@ free_between text a e order within free =
     let lower : i < e - a = omega (arith, below, length-take (e - a) (drop a text)) in
     ap is_hyphen (get_or-take (e - a) (drop a text) i 0 lower ∙ get_or-drop a text i 0) ∙ free (a + i) 0 (omega arith) (omega (arith, lower)))
 
+-- the rest of a small text
 small_drop : (n : ℕ) (text : List ℕ) → fold_text text ≡ text → fold_text (drop n text) ≡ drop n text
 small_drop n text small = sym (drop-map fold_byte n text) ∙ ap (drop n) small
 
+-- and its beginning
 small_take : (n : ℕ) (text : List ℕ) → fold_text text ≡ text → fold_text (take n text) ≡ take n text
 small_take n text small = sym (take-map fold_byte n text) ∙ ap (take n) small
 
@@ -41,6 +44,7 @@ pub record IsAtEnd (old text : List ℕ) (start end : ℕ) : Type 0 where
   pub small : fold_text (drop end text) ≡ drop end text
   pub same : take end text ++ rest_of ((end - start) == 1) (drop end text) ≡ recommended_text old
 
+-- at the end of the first subtag
 pub walk_begins :
     (text : List ℕ) (end : ℕ) → fold_text text ≡ text → end ≤ length text → NoHyphenWithin text 0 end →
     (end < length text → get_or text end 0 ≡ 45) → IsAtEnd text text 0 end
@@ -65,53 +69,67 @@ module _ (old text : List ℕ) (start end next : ℕ) (at : IsAtEnd old text sta
   abbrev subtag : List ℕ
   subtag = take (next - (end + 1)) (drop (end + 1) text)
 
+  -- the text with its capitals set
   abbrev changed : List ℕ
   changed = put_mid (end + 1) (next - (end + 1)) text (by_length subtag)
 
+  -- before it a hyphen stands
   here : drop end text ≡ 45 ∷ drop (end + 1) text
   here = at_drop_more (λ ys. ys) text end 0 longer ∙ ap (λ c. c ∷ drop (end + 1) text) (at.hyphen longer)
 
+  -- from there on all is small
   small_later : fold_text (drop (end + 1) text) ≡ drop (end + 1) text
   small_later = subst (λ t. fold_text t ≡ t) (drop-drop 1 end text) (small_drop 1 (drop end text) at.small)
 
+  -- so is the subtag
   pub walk_small : fold_text subtag ≡ subtag
   walk_small = small_take (next - (end + 1)) (drop (end + 1) text) small_later
 
+  -- and what stands after it
   small_next : fold_text (drop next text) ≡ drop next text
   small_next =
       let there : (end + 1) + (next - (end + 1)) ≡ next = omega (arith, order) in
       subst (λ t. fold_text t ≡ t) (drop-drop (next - (end + 1)) (end + 1) text ∙ ap (λ n. drop n text) there) (small_drop (next - (end + 1)) (drop (end + 1) text) small_later)
 
+  -- its length
   size : length subtag ≡ next - (end + 1)
   size = omega (arith, length-take (next - (end + 1)) (drop (end + 1) text), length-drop (end + 1) text)
 
+  -- what stands before its end now
   before : take next changed ≡ take (end + 1) text ++ by_length subtag
   before = take-put_mid (end + 1) (next - (end + 1)) text (by_length subtag) next (omega (arith, size, length-by_length subtag)) (omega (arith, longer))
 
+  -- what stands after it is as it was
   after : drop next changed ≡ drop next text
   after = drop-put_mid (end + 1) (next - (end + 1)) text (by_length subtag) next (omega (arith, order)) (omega (arith, longer)) (omega (arith, size, length-by_length subtag))
 
+  -- the subtag, and what stands after it
   rest : drop (end + 1) text ≡ subtag ++ drop next text
   rest =
       let there : (end + 1) + (next - (end + 1)) ≡ next = omega (arith, order) in
       sym (take-append-drop (next - (end + 1)) (drop (end + 1) text)) ∙ ap (λ t. subtag ++ t) (drop-drop (next - (end + 1)) (end + 1) text ∙ ap (λ n. drop n text) there)
 
+  -- the text is as long as it was
   as_long : length changed ≡ length text
   as_long =
       omega (arith, ap length (sym (take-append-drop next changed)), length-append (take next changed) (drop next changed), ap length before, length-append (take (end + 1) text) (by_length subtag), ap length after, size, length-by_length subtag, length-take (end + 1) text, length-drop next text)
 
+  -- up to the hyphen, and with it
   one_more : take (end + 1) text ≡ take end text ++ 45 ∷ []
   one_more = take_more text end 0 longer ∙ ap (λ c. take end text ++ c ∷ []) (at.hyphen longer)
 
+  -- the subtag before is no singleton
   not_single : ((end - start) == 1) ≡ false
   not_single = ne_eqb (end - start) 1 many
 
+  -- so its case goes by its length
   turned : rest_of ((end - start) == 1) (drop end text) ≡ 45 ∷ (by_length subtag ++ rest_of ((next - (end + 1)) == 1) (drop next text))
   turned =
       ap (λ v. rest_of v (drop end text)) not_single ∙ ap (λ t. rest_of false t) (here ∙ ap (λ t. 45 ∷ t) rest)
       ∙ rest-turn subtag (drop next text) (free_between text (end + 1) next order within free) (rest_at text next hyphen)
       ∙ ap (λ n. 45 ∷ (by_length subtag ++ rest_of (n == 1) (drop next text))) size
 
+  -- at the end of the next one the same is known
   pub walk_on : IsAtEnd old changed (end + 1) next
   walk_on = record {
     order = order;
@@ -130,6 +148,7 @@ module _ (old text : List ℕ) (start end next : ℕ) (at : IsAtEnd old text sta
         ∙ ap (λ t. take end text ++ t) (sym turned) ∙ at.same;
   }
 
+-- and where the walk ends the text is in its recommended case
 pub walk_ends : (old text : List ℕ) (start end : ℕ) → IsAtEnd old text start end → (end - start ≡ 1) ⊎ (length text ≤ end) → text ≡ recommended_text old
 walk_ends old text start end at (inl one) =
     let single : ((end - start) == 1) ≡ true = eq-eqb (end - start) 1 one in

@@ -20,14 +20,17 @@ use Rattle.langtag_case.proofs.RecommendedLaws.{after_first}
 
 -- ---- digits have no case
 
+-- a digit
 digit-case : (b : ℕ) → is_digit b ≡ true → to_ascii_uppercase b ≡ fold_byte b
 unfolding is_digit fold_byte
 digit-case b digit = grind (arith, nat_tests)
 
+-- a subtag of digits
 digits-case : (s : List ℕ) → are_digits s ≡ true → capital_text s ≡ fold_text s
 digits-case [] digits = refl
 digits-case (b ∷ s) digits = let k = and_parts (is_digit b) (are_digits s) digits in rw (digit-case b k.0, digits-case s k.1) refl
 
+-- a subtag that begins with one
 first_digit-case : (s : List ℕ) → starts_with_digit s ≡ true → title_text s ≡ fold_text s
 first_digit-case [] digit = refl
 first_digit-case (b ∷ s) digit = ap (λ c. c ∷ fold_text s) (digit-case b digit)
@@ -38,6 +41,7 @@ first_digit-case (b ∷ s) digit = ap (λ c. c ∷ fold_text s) (digit-case b di
 abbrev IsCased : (List ℕ → List ℕ) → List ℕ → Type 0
 IsCased put s = (is_single s ≡ false) × (by_length s ≡ put s)
 
+-- of three bytes
 three : (s : List ℕ) → length s ≡ 3 → IsCased fold_text s
 three s size = (ap (λ n. n == 1) size, rw size refl)
 
@@ -47,14 +51,17 @@ long s size =
     let none : is_single s ≡ false = ne_eqb (length s) 1 (λ e. omega (arith, e, size)) in
     (none, rw (ne_eqb (length s) 2 (λ e. omega (arith, e, size)), ne_eqb (length s) 4 (λ e. omega (arith, e, size))) refl)
 
+-- an extended subtag is small
 extended-cased : (s : List ℕ) → is_extended s ≡ true → IsCased fold_text s
 unfolding is_extended
 extended-cased s is = three s (eqb-true (length s) 3 (and_parts (length s == 3) (are_letters s) is).0)
 
+-- a script in titlecase
 script-cased : (s : List ℕ) → is_script s ≡ true → IsCased title_text s
 unfolding is_script
 script-cased s is = let size : length s ≡ 4 = eqb-true (length s) 4 (and_parts (length s == 4) (are_letters s) is).0 in (ap (λ n. n == 1) size, rw size refl)
 
+-- a region in capitals, where it has letters
 region-cased : (s : List ℕ) → is_region s ≡ true → IsCased capital_text s
 unfolding is_region
 region-cased s is =
@@ -68,6 +75,7 @@ region-cased s is =
           (small.0, small.1 ∙ sym (digits-case s k.1))
     ]
 
+-- a variant small
 variant-cased : (s : List ℕ) → is_variant s ≡ true → IsCased fold_text s
 unfolding is_variant
 variant-cased s is =
@@ -79,6 +87,7 @@ variant-cased s is =
           (ap (λ n. n == 1) size, rw size (first_digit-case s k.1))
     ]
 
+-- a primary subtag is no singleton
 primary-many : (s : List ℕ) → is_primary s ≡ true → is_single s ≡ false
 unfolding is_primary
 primary-many s is =
@@ -89,6 +98,7 @@ primary-many s is =
 
 -- the subtags of a part, and those after it
 module _ (test : List ℕ → Bool) (put : List ℕ → List ℕ) (cases : (s : List ℕ) → test s ≡ true → IsCased put s) where
+  -- of several subtags
   part-cased : (ss us : List (List ℕ)) → AllByRecursion (λ s. IsTrue (test s)) ss → later (ss ++ us) ≡ map put ss ++ later us
   part-cased [] us fits = refl
   part-cased (s ∷ ss) us fits =
@@ -96,6 +106,7 @@ module _ (test : List ℕ → Bool) (put : List ℕ → List ℕ) (cases : (s : 
       ap (λ v. cond v (map fold_text (s ∷ (ss ++ us))) (by_length s ∷ later (ss ++ us))) case.0
       ∙ ap (λ t. t ∷ later (ss ++ us)) case.1 ∙ ap (λ ts. put s ∷ ts) (part-cased ss us fits.1)
 
+  -- of one that may be there
   one-cased : (o : Option (List ℕ)) (us : List (List ℕ)) → IfSome o (λ s. IsTrue (test s)) → later (one_flat o ++ us) ≡ one_flat (option_map put o) ++ later us
   one-cased None us fits = refl
   one-cased (Some s) us fits = part-cased (s ∷ []) us (fits, tt)
@@ -124,6 +135,7 @@ tail-cased (e ∷ es) p = tail-fold (e ∷ es) p
 
 -- ---- the law
 
+-- the segments of the text of a record are its subtags
 segments-spelled : (r : Record) → IsWellFormed r → segments (spell r) ≡ flat r
 segments-spelled r fits = by (spell r) (subtags-spelled (spell r) r (fits, refl))
   where

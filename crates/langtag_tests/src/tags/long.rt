@@ -6,9 +6,9 @@ use crate::tags::recommended_case::is_recommended;
 use crate::tags::setters::{WAYS, is_set_and_set_back, is_set_as_one_of_any_kind};
 use crate::tags::sweeps::{is_shown_and_copied, is_shown_and_copied_as_normal};
 use langtag::{
-    LangTag, NormalLangTag, case_insensitive_cmp, case_insensitive_eq, is_extension_subtag,
-    is_in_recommended_case, is_primary, is_private_subtag, is_variant, make_recommended_case,
-    segment_end, segment_start, viable_len,
+    LangTag, LangTagBuf, NormalLangTag, case_insensitive_cmp, case_insensitive_eq,
+    is_extension_subtag, is_in_recommended_case, is_primary, is_private_subtag, is_variant,
+    make_recommended_case, segment_end, segment_start, viable_len,
 };
 use langtag_scan::Caseless;
 use std::alloc::{AllocError, Global};
@@ -120,16 +120,34 @@ fn a_private_use_tag(rt: HostRuntime) {
     });
 }
 
+/// Pieces that make a tag of two million bytes, and the same in their recommended case.
+const CASED: [(&str, &str, &str, &str, u32); 3] = [
+    ("EN-latn-us", "-1ABC", "en-Latn-US", "-1abc", 400_000),
+    ("EN-A", "-BB", "en-a", "-bb", 700_000),
+    ("X", "-A", "x", "-a", 1_000_000),
+];
+
 #[test]
-fn the_recommended_case(rt: HostRuntime) {
+fn the_recommended_case_in_place(rt: HostRuntime) {
     with_memory(&rt, || {
-        for ((text, piece), (recommended, small), count) in [
-            (("EN-latn-us", "-1ABC"), ("en-Latn-US", "-1abc"), 400_000),
-            (("EN-A", "-BB"), ("en-a", "-bb"), 700_000),
-            (("X", "-A"), ("x", "-a"), 1_000_000),
-        ] {
+        for (text, piece, recommended, small, count) in CASED {
             let long = repeated(rt.alloc(), text, piece, count)?;
             let wanted = repeated(rt.alloc(), recommended, small, count)?;
+            let mut tag = LangTagBuf::new(long).ok().expect(&rt, "refused");
+            tag.make_recommended_case();
+            assert_that!(rt; tag.as_str() == wanted.as_str(), text);
+            assert_that!(rt; tag.as_lang_tag().is_in_recommended_case(), text);
+        }
+        Ok(())
+    });
+}
+
+#[test]
+fn the_recommended_case_of_a_copy(rt: HostRuntime) {
+    with_memory(&rt, || {
+        for (text, piece, recommended, small, _) in CASED {
+            let long = repeated(rt.alloc(), text, piece, 10_000)?;
+            let wanted = repeated(rt.alloc(), recommended, small, 10_000)?;
             is_recommended(&rt, rt.alloc(), long.as_str(), wanted.as_str())?;
         }
         Ok(())
