@@ -8,4 +8,4 @@ pub mod OrderLaws
 pub mod RepeatLaws
 pub mod VariantNumbers
 pub mod VariantBlockLaws
-mod AlikeFound
+pub mod AlikeFound

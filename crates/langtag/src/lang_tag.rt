@@ -300,6 +300,7 @@ impl<'a> LangTag<'a> {
 
     /// The tag as it reads in the case that RFC 5646 section 2.1.1 recommends, to be displayed: `{}` of
     /// `tag.in_recommended_case()` prints `mn-Cyrl-MN` of `MN-cYRL-mn`. No memory is taken.
+    #[tactic(auto, using(crate::proofs::AlikeFound::ascii_found))]
     pub fn in_recommended_case(&self) -> InRecommendedCase<'a>
         ensures { in_recommended_case_text result ≡ recommended_text (lang_tag_text self.now) }
     {

@@ -63,7 +63,7 @@ walk_begins text end small within free hyphen =
           ∙ ap (λ n. take end text ++ rest_of (n == 1) (drop end text)) size);
     }
 
-module _ (old text : List ℕ) (start end next : ℕ) (at : IsAtEnd old text start end) (many : end - start ≢ 1) (longer : end < length text)
+module _ (old text : List ℕ) (start end next : ℕ) (at : IsAtEnd old text start end) (longer : end < length text)
     (order : end + 1 ≤ next) (within : next ≤ length text) (free : NoHyphenWithin text (end + 1) next) (hyphen : next < length text → get_or text next 0 ≡ 45) where
   -- the next subtag
   abbrev subtag : List ℕ
@@ -119,19 +119,19 @@ module _ (old text : List ℕ) (start end next : ℕ) (at : IsAtEnd old text sta
   one_more = take_more text end 0 longer ∙ ap (λ c. take end text ++ c ∷ []) (at.hyphen longer)
 
   -- the subtag before is no singleton
-  not_single : ((end - start) == 1) ≡ false
-  not_single = ne_eqb (end - start) 1 many
+  not_single : end - start ≢ 1 → ((end - start) == 1) ≡ false
+  not_single many = ne_eqb (end - start) 1 many
 
   -- so its case goes by its length
-  turned : rest_of ((end - start) == 1) (drop end text) ≡ 45 ∷ (by_length subtag ++ rest_of ((next - (end + 1)) == 1) (drop next text))
-  turned =
-      ap (λ v. rest_of v (drop end text)) not_single ∙ ap (λ t. rest_of false t) (here ∙ ap (λ t. 45 ∷ t) rest)
+  turned : end - start ≢ 1 → rest_of ((end - start) == 1) (drop end text) ≡ 45 ∷ (by_length subtag ++ rest_of ((next - (end + 1)) == 1) (drop next text))
+  turned many =
+      ap (λ v. rest_of v (drop end text)) (not_single many) ∙ ap (λ t. rest_of false t) (here ∙ ap (λ t. 45 ∷ t) rest)
       ∙ rest-turn subtag (drop next text) (free_between text (end + 1) next order within free) (rest_at text next hyphen)
       ∙ ap (λ n. 45 ∷ (by_length subtag ++ rest_of (n == 1) (drop next text))) size
 
   -- at the end of the next one the same is known
-  pub walk_on : IsAtEnd old changed (end + 1) next
-  walk_on = record {
+  pub walk_on : end - start ≢ 1 → IsAtEnd old changed (end + 1) next
+  walk_on many = record {
     order = order;
     within = omega (arith, as_long, within);
     hyphen = λ more.
@@ -145,7 +145,7 @@ module _ (old text : List ℕ) (start end next : ℕ) (at : IsAtEnd old text sta
         ∙ ap (λ t. ((take end text ++ 45 ∷ []) ++ by_length subtag) ++ rest_of ((next - (end + 1)) == 1) t) after
         ∙ append_assoc (take end text ++ 45 ∷ []) (by_length subtag) (rest_of ((next - (end + 1)) == 1) (drop next text))
         ∙ append_assoc (take end text) (45 ∷ []) (by_length subtag ++ rest_of ((next - (end + 1)) == 1) (drop next text))
-        ∙ ap (λ t. take end text ++ t) (sym turned) ∙ at.same;
+        ∙ ap (λ t. take end text ++ t) (sym (turned many)) ∙ at.same;
   }
 
 -- and where the walk ends the text is in its recommended case

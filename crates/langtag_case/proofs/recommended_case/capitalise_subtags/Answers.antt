@@ -10,12 +10,12 @@ loop-end-init c =
 pub capitalise-requires : goal.capitalise-requires
 capitalise-requires c =
     let next = c.segment_end-end-in-loop-end in
-    walk_small _ _ _ _ next.result c.loop-end.invariant c.loop-end-test.true c.if-end-text.true next.ensures.at_or_after next.ensures.within next.ensures.first next.ensures.hyphen
+    walk_small _ _ _ _ next.result c.loop-end.invariant c.if-end-text.true next.ensures.at_or_after next.ensures.within next.ensures.first next.ensures.hyphen
 
 pub loop-end-preserved : goal.loop-end-preserved
 loop-end-preserved c =
     let next = c.segment_end-end-in-loop-end in
-    let on = walk_on _ _ _ _ next.result c.loop-end.invariant c.loop-end-test.true c.if-end-text.true next.ensures.at_or_after next.ensures.within next.ensures.first next.ensures.hyphen in
+    let on = walk_on _ _ _ _ next.result c.loop-end.invariant c.if-end-text.true next.ensures.at_or_after next.ensures.within next.ensures.first next.ensures.hyphen c.loop-end-test.true in
     rw c.capitalise.ensures on
 
 pub returns-after-loop-end : goal.returns-after-loop-end

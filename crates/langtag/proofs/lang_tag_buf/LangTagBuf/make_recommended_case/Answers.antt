@@ -1,14 +1,13 @@
 use Rattle.langtag_scan.specs.Found.{finding}
-use Rattle.langtag_scan.proofs.Ascii.{IsAscii-tag}
 use Rattle.langtag_scan.proofs.CaseLaw.{alike_parts}
 use Rattle.langtag_case.proofs.RecommendedLaws.{alike_of_recommended}
 use Rattle.langtag_case.proofs.RecordLaw.{spelled_in_case}
-use Rattle.langtag.proofs.AlikeFound.{found_alike}
-use Rattle.langtag.proofs.KeptFound.{found_kept, alike_kinds}
+use Rattle.langtag.proofs.AlikeFound.{ascii_found, found_alike}
+use Rattle.langtag.proofs.KeptFound.{alike_kinds}
 use Rattle.langtag.proofs.lang_tag_buf.LangTagBuf.make_recommended_case.Goals as goal
 
 pub put_recommended_case-requires : goal.put_recommended_case-requires
-put_recommended_case-requires c = IsAscii-tag _ (found_kept _ _ c.args.self.now.kept_found).tag
+put_recommended_case-requires c = ascii_found _ _ c.args.self.now.kept_found
 
 pub invariant_of-self : goal.invariant_of-self
 invariant_of-self c =
