@@ -8,3 +8,4 @@ pub mod OrderLaws
 pub mod RepeatLaws
 pub mod VariantNumbers
 pub mod VariantBlockLaws
+pub mod AlikeFound

@@ -25,6 +25,8 @@ pub use Rattle.langtag_scan.specs.Record
 pub use Rattle.langtag_scan.specs.Subtags
 pub use Rattle.langtag_scan.specs.Tag
 pub use Rattle.langtag_scan.specs.Viable
+pub use Rattle.langtag_case.specs.RecommendedCase
+pub use Rattle.langtag_case.specs.Text as CaseText
 pub use Rattle.langtag_language.specs.Compared as LanguageCompared
 pub use Rattle.langtag_language.specs.Language
 pub use Rattle.langtag_language.specs.Text as LanguageText

@@ -1,6 +1,8 @@
 //! Language tags of every kind: rule `Language-Tag` of RFC 5646 section 2.1.
 ghost use Rattle.std.specs.Prelude.{◌≡◌, ◌↔◌, ◌<◌, ◌^◌, ℕ, List, [], Some, None, IsTrue, IfOk, IfErr, IfSome, is_ok, is_some, length};
 ghost use Rattle.std.specs.Option.{option_map};
+ghost use Rattle.langtag_case.specs.RecommendedCase.{recommended_text};
+ghost use Rattle.langtag_case.specs.Text.{in_recommended_case_text};
 ghost use Rattle.langtag_scan.specs.AlikeRecords.{IsSpelledAlike};
 ghost use Rattle.langtag_scan.specs.Case.{EndsFirst, are_alike, case_cmp};
 ghost use Rattle.langtag_scan.specs.Found.{IsFoundOf, finding};
@@ -16,6 +18,7 @@ use crate::normal_lang_tag::NormalLangTag;
 use crate::private_use_lang_tag::PrivateUseLangTag;
 use crate::recognise_text::{recognise_checked, recognise_text};
 use crate::typed_lang_tag::TypedLangTag;
+use langtag_case::{InRecommendedCase, is_in_recommended_case};
 use langtag_extension::Extensions;
 use langtag_language::Language;
 use langtag_place::{Region, Script, Variants};
@@ -293,6 +296,35 @@ impl<'a> LangTag<'a> {
     {
         let text = String::from_str(alloc, self.as_str())?;
         Ok(LangTagBuf::with_found(text, self.found))
+    }
+
+    /// The tag as it reads in the case that RFC 5646 section 2.1.1 recommends, to be displayed: `{}` of
+    /// `tag.in_recommended_case()` prints `mn-Cyrl-MN` of `MN-cYRL-mn`. No memory is taken.
+    #[tactic(auto, using(crate::proofs::AlikeFound::ascii_found))]
+    pub fn in_recommended_case(&self) -> InRecommendedCase<'a>
+        ensures { in_recommended_case_text result ≡ recommended_text (lang_tag_text self.now) }
+    {
+        InRecommendedCase::from_checked(self.as_str())
+    }
+
+    /// Whether the tag is in the case that RFC 5646 section 2.1.1 recommends: true of `mn-Cyrl-MN`, false of `mn-cyrl-MN`.
+    pub fn is_in_recommended_case(&self) -> bool
+        ensures { IsTrue result ↔ (recommended_text (lang_tag_text self.now) ≡ lang_tag_text self.now) }
+    {
+        is_in_recommended_case(self.as_bytes())
+    }
+
+    /// The owned form of the tag in the case that RFC 5646 section 2.1.1 recommends: `mn-Cyrl-MN` of `MN-cYRL-mn`.
+    ///
+    /// # Errors
+    ///
+    /// No memory could be had.
+    pub fn try_to_recommended_case(&self, alloc: Global) -> Result<LangTagBuf, AllocError>
+        ensures { IfOk result (λ owned. lang_tag_buf_text owned ≡ recommended_text (lang_tag_text self.now)) }
+    {
+        let mut owned = self.try_to_owned(alloc)?;
+        owned.make_recommended_case();
+        Ok(owned)
     }
 }
 

@@ -2,7 +2,11 @@
 ghost use Rattle.std.specs.Prelude.{◌≡◌, ◌↔◌, [], Some, IsTrue, IsNone, IsOk, IsErrOf, IfOk, IfErr, OnOk, OnErr, is_ok};
 ghost use Rattle.std.specs.Option.{option_map};
 ghost use Rattle.std.specs.String.{string_bytes};
+ghost use Rattle.langtag_case.specs.RecommendedCase.{recommended_record, recommended_text};
+ghost use Rattle.langtag_scan.specs.AlikeRecords.{IsSpelledAlike};
+ghost use Rattle.langtag_scan.specs.Case.{Alike};
 ghost use Rattle.langtag_scan.specs.Found.{finding, IsFoundOf};
+ghost use Rattle.langtag_scan.specs.Record.{EachRecord, spell};
 ghost use Rattle.langtag_scan.specs.Tag.{IsNormal, IsTag};
 ghost use Rattle.langtag_language.specs.Text.{language_text};
 ghost use Rattle.langtag_place.specs.Text.{script_text, region_text, variants_text};
@@ -17,6 +21,7 @@ use crate::edit_error::EditError;
 use crate::lang_tag::{InvalidLangTag, LangTag};
 use crate::normal_lang_tag_buf::NormalLangTagBuf;
 use crate::recognise_text::{recognise_checked, recognise_text};
+use crate::recommended_case::put_recommended_case;
 use langtag_extension::Extensions;
 use langtag_language::Language;
 use langtag_place::{Region, Script, Variants};
@@ -38,6 +43,7 @@ pub struct LangTagBuf {
 #[tactic(auto, using(crate::proofs::KeptFound::found_kept))]
 impl LangTagBuf {
     ghost use Rattle.langtag.specs.Compared.{LangTagBufsCompareByCase};
+    ghost use Rattle.langtag.specs.Kinds.{AreOfOneKind};
     ghost use Rattle.langtag.specs.Text.{lang_tag_text, lang_tag_buf_string, lang_tag_buf_text, normal_lang_tag_buf_string, normal_lang_tag_buf_text};
 
     /// The tag of a text, which is neither copied nor moved in memory: Ok of `x-a`.
@@ -246,6 +252,21 @@ impl LangTagBuf {
         put_private_use(&mut self.text.0, ends, alloc, private_use)?;
         self.found = recognise_checked(self.text.0.as_str());
         Ok(())
+    }
+
+    /// Puts the letters into the case that RFC 5646 section 2.1.1 recommends: `mn-Cyrl-MN` of `MN-cYRL-mn`, and `en-CA-x-ca`.
+    ///
+    /// A script has a capital first and a region has capitals, and all else is small. The tag stays equal to what it was,
+    /// with its parts at the same offsets. No memory is taken, and the recogniser does not run. Tags that are equal come
+    /// out byte for byte the same, so that the text serves as a key where bytes are compared.
+    pub fn make_recommended_case(&mut self)
+        ensures case { lang_tag_buf_text self.new ≡ recommended_text (lang_tag_buf_text self.old) }
+        ensures record { EachRecord (lang_tag_buf_text self.old) (λ r. lang_tag_buf_text self.new ≡ spell (recommended_record r)) }
+        ensures alike { Alike (lang_tag_buf_text self.old) (lang_tag_buf_text self.new) }
+        ensures same_kind { AreOfOneKind (lang_tag_buf_text self.old) (lang_tag_buf_text self.new) }
+        ensures alike_parts { EachRecord (lang_tag_buf_text self.old) (λ r. IsSpelledAlike r (lang_tag_buf_text self.new)) }
+    {
+        put_recommended_case(&mut self.text.0);
     }
 
     /// The text itself, which is not copied: `x-a` of `x-a`.

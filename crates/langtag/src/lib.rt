@@ -45,6 +45,7 @@ mod normal_lang_tag;
 mod normal_lang_tag_buf;
 mod private_use_lang_tag;
 mod recognise_text;
+mod recommended_case;
 mod repeats;
 mod text_of_parts;
 mod typed_lang_tag;
@@ -55,6 +56,9 @@ pub use grandfathered::{GRANDFATHERED, GrandfatheredLangTag, InvalidGrandfathere
 pub use kind::Kind;
 pub use lang_tag::{InvalidLangTag, LangTag};
 pub use lang_tag_buf::LangTagBuf;
+pub use langtag_case::{
+    InRecommendedCase, RecommendedBytes, is_in_recommended_case, make_recommended_case,
+};
 pub use langtag_extension::{
     Extension, ExtensionBuf, ExtensionIter, ExtensionSubtag, ExtensionSubtagBuf, Extensions,
     ExtensionsBuf, ExtensionsIter, InvalidExtension, InvalidExtensionSubtag, InvalidExtensions,

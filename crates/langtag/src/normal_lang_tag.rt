@@ -1,6 +1,8 @@
 //! Normal tags, which are made of parts: rule `langtag` of RFC 5646 section 2.1.
 ghost use Rattle.std.specs.Prelude.{◌≡◌, ◌↔◌, ◌<◌, ◌≤◌, ◌^◌, ℕ, List, [], Some, IsTrue, IfOk, IfErr, is_ok, length, take, map, unwrap_or};
 ghost use Rattle.std.specs.Option.{option_map};
+ghost use Rattle.langtag_case.specs.RecommendedCase.{recommended_text};
+ghost use Rattle.langtag_case.specs.Text.{in_recommended_case_text};
 ghost use Rattle.langtag_scan.specs.AlikeRecords.{IsSpelledAlike};
 ghost use Rattle.langtag_scan.specs.Case.{EndsFirst, are_alike, case_cmp};
 ghost use Rattle.langtag_scan.specs.Ends.{HasEnds};
@@ -15,6 +17,7 @@ use crate::lang_tag::LangTag;
 use crate::normal_lang_tag_buf::NormalLangTagBuf;
 use crate::recognise_text::normal_ends;
 use crate::repeats::{first_repeated_singleton, first_repeated_variant};
+use langtag_case::{InRecommendedCase, is_in_recommended_case};
 use langtag_extension::{Extensions, Singleton};
 use langtag_language::Language;
 use langtag_place::{Region, Script, Variant, Variants};
@@ -239,6 +242,34 @@ impl<'a> NormalLangTag<'a> {
     {
         let text = String::from_str(alloc, self.as_str())?;
         Ok(NormalLangTagBuf::with_ends(text, self.ends))
+    }
+
+    /// The tag as it reads in the case that RFC 5646 section 2.1.1 recommends, to be displayed: `{}` of
+    /// `tag.in_recommended_case()` prints `mn-Cyrl-MN` of `MN-cYRL-mn`. No memory is taken.
+    pub fn in_recommended_case(&self) -> InRecommendedCase<'a>
+        ensures { in_recommended_case_text result ≡ recommended_text (normal_lang_tag_text self.now) }
+    {
+        InRecommendedCase::from_checked(self.as_str())
+    }
+
+    /// Whether the tag is in the case that RFC 5646 section 2.1.1 recommends: true of `mn-Cyrl-MN`, false of `mn-cyrl-MN`.
+    pub fn is_in_recommended_case(&self) -> bool
+        ensures { IsTrue result ↔ (recommended_text (normal_lang_tag_text self.now) ≡ normal_lang_tag_text self.now) }
+    {
+        is_in_recommended_case(self.as_bytes())
+    }
+
+    /// The owned form of the tag in the case that RFC 5646 section 2.1.1 recommends: `mn-Cyrl-MN` of `MN-cYRL-mn`.
+    ///
+    /// # Errors
+    ///
+    /// No memory could be had.
+    pub fn try_to_recommended_case(&self, alloc: Global) -> Result<NormalLangTagBuf, AllocError>
+        ensures { IfOk result (λ owned. normal_lang_tag_buf_text owned ≡ recommended_text (normal_lang_tag_text self.now)) }
+    {
+        let mut owned = self.try_to_owned(alloc)?;
+        owned.make_recommended_case();
+        Ok(owned)
     }
 
     /// What stands before the first end.

@@ -2,9 +2,12 @@
 ghost use Rattle.std.specs.Prelude.{◌≡◌, ◌↔◌, ℕ, List, [], Option, Some, IsTrue, IsNone, IsOk, IfOk, IfErr, OnOk, OnErr, is_ok};
 ghost use Rattle.std.specs.Option.{option_map};
 ghost use Rattle.std.specs.String.{string_bytes};
+ghost use Rattle.langtag_case.specs.RecommendedCase.{recommended_record, recommended_text};
+ghost use Rattle.langtag_scan.specs.AlikeRecords.{IsSpelledAlike};
+ghost use Rattle.langtag_scan.specs.Case.{Alike};
 ghost use Rattle.langtag_scan.specs.Ends.{HasEnds};
 ghost use Rattle.langtag_scan.specs.Record as model;
-ghost use Rattle.langtag_scan.specs.Record.{Extension, Record, Spells};
+ghost use Rattle.langtag_scan.specs.Record.{EachRecord, Extension, Record, Spells, spell};
 ghost use Rattle.langtag_scan.specs.Tag.{IsNormal};
 ghost use Rattle.langtag_language.specs.Language.{EachSpelling};
 ghost use Rattle.langtag_language.specs.Text.{language_text};
@@ -21,6 +24,7 @@ use crate::lang_tag_buf::LangTagBuf;
 use crate::lengths::{Lengths, length_with_hyphen};
 use crate::normal_lang_tag::{InvalidNormalLangTag, NormalLangTag};
 use crate::recognise_text::normal_ends;
+use crate::recommended_case::put_recommended_case;
 use crate::text_of_parts::join_parts;
 use langtag_extension::Extensions;
 use langtag_language::Language;
@@ -142,6 +146,17 @@ impl NormalLangTagBuf {
         ensures in_class { IsNormal (string_bytes result) }
     {
         self.text.0
+    }
+
+    /// Puts the letters into the case that RFC 5646 section 2.1.1 recommends, as [`LangTagBuf::make_recommended_case`] does:
+    /// `mn-Cyrl-MN` of `MN-cYRL-mn`. No memory is taken, and nothing is looked for.
+    pub fn make_recommended_case(&mut self)
+        ensures case { normal_lang_tag_buf_text self.new ≡ recommended_text (normal_lang_tag_buf_text self.old) }
+        ensures record { EachRecord (normal_lang_tag_buf_text self.old) (λ r. normal_lang_tag_buf_text self.new ≡ spell (recommended_record r)) }
+        ensures alike { Alike (normal_lang_tag_buf_text self.old) (normal_lang_tag_buf_text self.new) }
+        ensures alike_parts { EachRecord (normal_lang_tag_buf_text self.old) (λ r. IsSpelledAlike r (normal_lang_tag_buf_text self.new)) }
+    {
+        put_recommended_case(&mut self.text.0);
     }
 
     /// Puts a language in the old one's place (RFC 5646 sections 2.2.1 and 2.2.2), with its extended subtags: `zh-yue` put into

@@ -7,6 +7,7 @@ mod kinds;
 mod long;
 mod parts;
 mod readme;
+mod recommended_case;
 mod repeats;
 mod setters;
 mod sweeps;

@@ -2,11 +2,13 @@
 use crate::scan::answer::{Answer, of_text};
 use crate::support::{assert_same, assert_that, hash_of, with_memory};
 use crate::tags::parts::normal;
+use crate::tags::recommended_case::is_recommended;
 use crate::tags::setters::{WAYS, is_set_and_set_back, is_set_as_one_of_any_kind};
 use crate::tags::sweeps::{is_shown_and_copied, is_shown_and_copied_as_normal};
 use langtag::{
-    LangTag, NormalLangTag, case_insensitive_cmp, case_insensitive_eq, is_extension_subtag,
-    is_primary, is_private_subtag, is_variant, segment_end, segment_start, viable_len,
+    LangTag, LangTagBuf, NormalLangTag, case_insensitive_cmp, case_insensitive_eq,
+    is_extension_subtag, is_in_recommended_case, is_primary, is_private_subtag, is_variant,
+    make_recommended_case, segment_end, segment_start, viable_len,
 };
 use langtag_scan::Caseless;
 use std::alloc::{AllocError, Global};
@@ -115,6 +117,55 @@ fn a_private_use_tag(rt: HostRuntime) {
         assert_that!(rt; tag.language().is_none() && tag.private_use().is_none());
         assert_that!(rt; NormalLangTag::new(text).is_err());
         is_shown_and_copied(&rt, rt.alloc(), &tag, text)
+    });
+}
+
+/// Pieces that make a tag of two million bytes, and the same in their recommended case.
+const CASED: [(&str, &str, &str, &str, u32); 3] = [
+    ("EN-latn-us", "-1ABC", "en-Latn-US", "-1abc", 400_000),
+    ("EN-A", "-BB", "en-a", "-bb", 700_000),
+    ("X", "-A", "x", "-a", 1_000_000),
+];
+
+#[test]
+fn the_recommended_case_in_place(rt: HostRuntime) {
+    with_memory(&rt, || {
+        for (text, piece, recommended, small, count) in CASED {
+            let long = repeated(rt.alloc(), text, piece, count)?;
+            let wanted = repeated(rt.alloc(), recommended, small, count)?;
+            let mut tag = LangTagBuf::new(long).ok().expect(&rt, "refused");
+            tag.make_recommended_case();
+            assert_that!(rt; tag.as_str() == wanted.as_str(), text);
+            assert_that!(rt; tag.as_lang_tag().is_in_recommended_case(), text);
+        }
+        Ok(())
+    });
+}
+
+#[test]
+fn the_recommended_case_of_a_copy(rt: HostRuntime) {
+    with_memory(&rt, || {
+        for (text, piece, recommended, small, _) in CASED {
+            let long = repeated(rt.alloc(), text, piece, 10_000)?;
+            let wanted = repeated(rt.alloc(), recommended, small, 10_000)?;
+            is_recommended(&rt, rt.alloc(), long.as_str(), wanted.as_str())?;
+        }
+        Ok(())
+    });
+}
+
+#[test]
+fn the_recommended_case_of_bytes(rt: HostRuntime) {
+    with_memory(&rt, || {
+        for (text, recommended) in [("-ab", "-AB"), ("-ABCD", "-Abcd"), ("A", "a")] {
+            let long = repeated(rt.alloc(), "en", text, 500_000)?;
+            let wanted = repeated(rt.alloc(), "en", recommended, 500_000)?;
+            let mut bytes = long.into_bytes();
+            make_recommended_case(bytes.as_mut_slice());
+            assert_that!(rt; bytes.as_slice() == wanted.as_bytes(), text);
+            assert_that!(rt; is_in_recommended_case(bytes.as_slice()), text);
+        }
+        Ok(())
     });
 }
 

@@ -1,0 +1,22 @@
+use Rattle.langtag_scan.proofs.CaseLaw.{alike_parts}
+use Rattle.langtag_scan.proofs.SpelledTexts.{offsets_kept}
+use Rattle.langtag_case.proofs.RecommendedLaws.{alike_of_recommended}
+use Rattle.langtag_case.proofs.RecordLaw.{spelled_in_case}
+use Rattle.langtag.proofs.AlikeFound.{ends_alike}
+use Rattle.langtag.proofs.normal_lang_tag_buf.NormalLangTagBuf.make_recommended_case.Goals as goal
+
+pub put_recommended_case-requires : goal.put_recommended_case-requires
+put_recommended_case-requires c = (offsets_kept _ _ c.args.self.now.kept_ends).ascii
+
+pub invariant_of-self : goal.invariant_of-self
+invariant_of-self c =
+    record { kept_ends = ends_alike _ _ c.args.self.now.ends (alike_of_recommended _ _ c.put_recommended_case.ensures) c.args.self.now.kept_ends }
+
+pub returns-clause-record : goal.returns-clause-record
+returns-clause-record c = spelled_in_case _ _ c.put_recommended_case.ensures
+
+pub returns-clause-alike : goal.returns-clause-alike
+returns-clause-alike c = alike_of_recommended _ _ c.put_recommended_case.ensures
+
+pub returns-clause-alike_parts : goal.returns-clause-alike_parts
+returns-clause-alike_parts c = alike_parts _ _ (alike_of_recommended _ _ c.put_recommended_case.ensures)

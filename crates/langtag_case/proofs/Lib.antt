@@ -1,0 +1,4 @@
+pub mod RecommendedLaws
+mod RecommendedWalk
+mod CasingLaws
+pub mod RecordLaw
