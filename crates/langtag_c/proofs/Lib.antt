@@ -1,0 +1,3 @@
+mod KindLaws
+mod SpanLaws
+mod StopLaws
