@@ -1,3 +1,4 @@
 mod KindLaws
 mod SpanLaws
 mod StopLaws
+mod RangeLaws

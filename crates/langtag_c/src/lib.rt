@@ -7,6 +7,7 @@
 mod compare;
 mod grandfathered;
 mod parse;
+mod range;
 mod repeats;
 mod span;
 mod viable;
