@@ -2,3 +2,4 @@ mod KindLaws
 mod SpanLaws
 mod StopLaws
 mod RangeLaws
+mod ExtensionSpans

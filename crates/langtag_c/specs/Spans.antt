@@ -1,5 +1,5 @@
 -- Where the parts of a tag stand in its text (RFC 5646 section 2.1): so many bytes from an index on.
-use Rattle.std.specs.Prelude.{◌≡◌, ℕ, ◌+◌, ◌-◌, ◌≤◌, ◌==◌, if◌then◌else◌, List, [], length, unwrap_or}
+use Rattle.std.specs.Prelude.{◌≡◌, ℕ, ◌+◌, ◌-◌, ◌<◌, ◌≤◌, ◌==◌, if◌then◌else◌, List, [], length, unwrap_or}
 use Rattle.std.specs.List.{slice_range}
 use Rattle.langtag_scan.specs.Parts.{language_part, variants_part, extensions_part, private_use_part}
 use Rattle.langtag_scan.specs.Record.{Record}
@@ -11,8 +11,16 @@ use Rattle.langtag_c.specs.declared.parse.Parts.{Parts}
 abbrev pub span_text : List ℕ → Span → List ℕ
 span_text text span = slice_range text span.start (span.start + span.len)
 
+-- one past the last byte
+abbrev pub end_of : Span → ℕ
+end_of span = span.start + span.len
+
 abbrev pub IsWithin : List ℕ → Span → Type 0
-IsWithin text span = span.start + span.len ≤ length text
+IsWithin text span = end_of span ≤ length text
+
+-- it has bytes, which lie within the text
+abbrev pub HasBytes : List ℕ → Span → Type 0
+HasBytes text span = (0 < span.len) × IsWithin text span
 
 -- no byte from an index on
 abbrev pub empty_at : ℕ → Span
