@@ -1,0 +1,3 @@
+pub mod RecommendedLaws
+mod RecommendedWalk
+mod CasingLaws

@@ -1,0 +1,275 @@
+-- The recommended case of a text: it is alike the text, alike texts have the same one, and how it is had from subtag to
+-- subtag.
+use Rattle.std.proofs.Common.{◌≡◌, ℕ, ◌<◌, ◌==◌, Bool, true, false, cond, ◌||◌, ◌⊎◌, inl, inr, Some, All, subst, List, [], ◌∷◌, ◌++◌, length, map, take, refl, sym, ap, ◌∙◌, arith, append_assoc, append-nil}
+use Prim.Native.Nat.{zero, suc}
+use Rattle.std.specs.Char.{to_ascii_uppercase}
+use Rattle.std.specs.List.{list_any}
+use Rattle.std.proofs.Math.Bool.{or-true, or-false}
+use Rattle.std.proofs.lemmas.Bool.{eqb-true, ne_eqb}
+use Rattle.std.proofs.lemmas.List.{length-map, length-append, map-append}
+use Rattle.std.proofs.lemmas.Bool.Decides.{nat_tests}
+use Rattle.std.proofs.lemmas.List.Folds.{list_any-append}
+use Rattle.std.proofs.lemmas.List.Splits.{slice_split_none, slice_split_at, length-slice_split, join_with_byte-slice_split}
+use Rattle.std.proofs.lemmas.Str.Ascii.{lowercase-uppercase, lowercase-lowercase}
+use Rattle.langtag_scan.specs.Case.{fold_byte, fold_text, Alike}
+use Rattle.langtag_scan.specs.Subtags.{is_hyphen, IsHyphenFree, join, segments}
+use Rattle.langtag_scan.proofs.CaseLaw.{length-fold, segments-fold, join-fold}
+use Rattle.langtag_scan.proofs.SubtagLists.{segments-join, segments-hyphen_free}
+use Rattle.std.specs.List.{slice_get}
+use Rattle.std.proofs.lemmas.List.Elements.{All-nil, All-cons, All-head, All-tail}
+use Rattle.langtag_case.specs.Casing.{later}
+use Rattle.langtag_case.specs.RecommendedCase.{title_text, is_single, by_length, recommended_subtag, recommended_after, recommended_text}
+
+-- ---- bytes
+
+fold-upper : (b : ℕ) → fold_byte (to_ascii_uppercase b) ≡ fold_byte b
+unfolding fold_byte
+fold-upper b = lowercase-uppercase b
+
+fold-fold : (b : ℕ) → fold_byte (fold_byte b) ≡ fold_byte b
+unfolding fold_byte
+fold-fold b = lowercase-lowercase b
+
+upper-fold : (b : ℕ) → to_ascii_uppercase (fold_byte b) ≡ to_ascii_uppercase b
+unfolding fold_byte
+upper-fold b = grind (arith, nat_tests)
+
+-- ---- subtags
+
+map-same : (f g h : ℕ → ℕ) → ((b : ℕ) → f (g b) ≡ h b) → (s : List ℕ) → map f (map g s) ≡ map h s
+map-same f g h same [] = refl
+map-same f g h same (b ∷ s) = rw (same b, map-same f g h same s) refl
+
+pub fold_text-fold : (s : List ℕ) → fold_text (fold_text s) ≡ fold_text s
+fold_text-fold s = map-same fold_byte fold_byte fold_byte fold-fold s
+
+title-fold : (s : List ℕ) → title_text (fold_text s) ≡ title_text s
+title-fold [] = refl
+title-fold (b ∷ s) = rw (upper-fold b, fold_text-fold s) refl
+
+fold-title : (s : List ℕ) → fold_text (title_text s) ≡ fold_text s
+fold-title [] = refl
+fold-title (b ∷ s) = rw (fold-upper b, fold_text-fold s) refl
+
+-- the case of a subtag is that of its fold, and its fold is that of the subtag
+pub by_length-fold : (s : List ℕ) → by_length (fold_text s) ≡ by_length s
+by_length-fold s = rw (length-fold s, map-same to_ascii_uppercase fold_byte to_ascii_uppercase upper-fold s, title-fold s, fold_text-fold s) refl
+
+fold-cond : (v : Bool) (a b s : List ℕ) → fold_text a ≡ fold_text s → fold_text b ≡ fold_text s → fold_text (cond v a b) ≡ fold_text s
+fold-cond true a b s h k = h
+fold-cond false a b s h k = k
+
+fold-by_length : (s : List ℕ) → fold_text (by_length s) ≡ fold_text s
+fold-by_length s =
+    fold-cond (length s == 2) _ _ s (map-same fold_byte to_ascii_uppercase fold_byte fold-upper s)
+    (fold-cond (length s == 4) _ _ s (fold-title s) (fold_text-fold s))
+
+single-fold : (s : List ℕ) → is_single (fold_text s) ≡ is_single s
+single-fold s = ap (λ n. n == 1) (length-fold s)
+
+any_single-fold : (ss : List (List ℕ)) → list_any is_single (map fold_text ss) ≡ list_any is_single ss
+any_single-fold [] = refl
+any_single-fold (s ∷ ss) = rw (single-fold s, any_single-fold ss) refl
+
+recommended_subtag-fold : (before : List (List ℕ)) (s : List ℕ) → recommended_subtag (map fold_text before) (fold_text s) ≡ recommended_subtag before s
+recommended_subtag-fold before s =
+    ap (λ (v : Bool). cond v (fold_text (fold_text s)) (by_length (fold_text s))) (rw (length-map before fold_text, any_single-fold before) refl)
+    ∙ ap (λ t. cond ((length before == 0) || list_any is_single before) t (by_length (fold_text s))) (fold_text-fold s)
+    ∙ ap (λ t. cond ((length before == 0) || list_any is_single before) (fold_text s) t) (by_length-fold s)
+
+fold-recommended_subtag : (before : List (List ℕ)) (s : List ℕ) → fold_text (recommended_subtag before s) ≡ fold_text s
+fold-recommended_subtag before s = fold-cond ((length before == 0) || list_any is_single before) _ _ s (fold_text-fold s) (fold-by_length s)
+
+-- ---- lists of subtags
+
+recommended_after-fold : (before ss : List (List ℕ)) → recommended_after (map fold_text before) (map fold_text ss) ≡ recommended_after before ss
+recommended_after-fold before [] = refl
+recommended_after-fold before (s ∷ ss) =
+    rw (recommended_subtag-fold before s, ← map-append fold_text before (s ∷ []), recommended_after-fold (before ++ s ∷ []) ss) refl
+
+fold-recommended_after : (before ss : List (List ℕ)) → map fold_text (recommended_after before ss) ≡ map fold_text ss
+fold-recommended_after before [] = refl
+fold-recommended_after before (s ∷ ss) = rw (fold-recommended_subtag before s, fold-recommended_after (before ++ s ∷ []) ss) refl
+
+-- ---- the laws
+
+pub recommended-fold : (t : List ℕ) → recommended_text (fold_text t) ≡ recommended_text t
+recommended-fold t = ap (λ ss. join (recommended_after [] ss)) (segments-fold t) ∙ ap join (recommended_after-fold [] (segments t))
+
+-- it changes nothing but case
+pub recommended_alike : (t : List ℕ) → Alike (recommended_text t) t
+recommended_alike t =
+    sym (join-fold (recommended_after [] (segments t))) ∙ ap join (fold-recommended_after [] (segments t)) ∙ join-fold (segments t) ∙ ap fold_text (join_with_byte-slice_split 45 t)
+
+-- texts that are alike have the same one
+pub alike_recommended : (t u : List ℕ) → Alike t u → recommended_text t ≡ recommended_text u
+alike_recommended t u alike = sym (recommended-fold t) ∙ ap recommended_text alike ∙ recommended-fold u
+
+-- a text in its recommended case stays as it is
+pub recommended_twice : (t : List ℕ) → recommended_text (recommended_text t) ≡ recommended_text t
+recommended_twice t = alike_recommended (recommended_text t) t (recommended_alike t)
+
+-- ---- from subtag to subtag
+
+any_push : (before : List (List ℕ)) (s : List ℕ) (v : Bool) → list_any is_single before ≡ v → list_any is_single (before ++ s ∷ []) ≡ (v || is_single s)
+any_push before s v h = list_any-append is_single before (s ∷ []) ∙ rw (h, or-false (is_single s)) refl
+
+after_single : (before ss : List (List ℕ)) → list_any is_single before ≡ true → recommended_after before ss ≡ map fold_text ss
+after_single before [] some = refl
+after_single before (s ∷ ss) some =
+    rw (some, or-true (length before == 0), after_single (before ++ s ∷ []) ss (any_push before s true some)) refl
+
+by_length-single : (s : List ℕ) → is_single s ≡ true → by_length s ≡ fold_text s
+by_length-single s single =
+    let one : length s ≡ 1 = eqb-true (length s) 1 single in
+    rw one refl
+
+after_none : (before ss : List (List ℕ)) → list_any is_single before ≡ false → (length before == 0) ≡ false → recommended_after before ss ≡ later ss
+after_none before [] none some = refl
+after_none before (s ∷ ss) none some =
+    by_single (is_single s) refl (λ many. after_none (before ++ s ∷ []) ss (any_push before s false none ∙ many) pushed)
+  where
+    here : recommended_subtag before s ≡ by_length s
+    here = rw (none, some) refl
+
+    pushed : (length (before ++ s ∷ []) == 0) ≡ false
+    pushed = ne_eqb (length (before ++ s ∷ [])) 0 (λ e. omega (arith, e, length-append before (s ∷ [])))
+
+    by_single :
+        (v : Bool) → is_single s ≡ v → (is_single s ≡ false → recommended_after (before ++ s ∷ []) ss ≡ later ss) →
+        recommended_after before (s ∷ ss) ≡ later (s ∷ ss)
+    by_single true single more =
+        ap (λ t. t ∷ recommended_after (before ++ s ∷ []) ss) (here ∙ by_length-single s single)
+        ∙ ap (λ ts. fold_text s ∷ ts) (after_single (before ++ s ∷ []) ss (any_push before s false none ∙ single))
+        ∙ sym (ap (λ v. cond v (map fold_text (s ∷ ss)) (by_length s ∷ later ss)) single)
+    by_single false many more =
+        ap (λ t. t ∷ recommended_after (before ++ s ∷ []) ss) here ∙ ap (λ ts. by_length s ∷ ts) (more many)
+        ∙ sym (ap (λ v. cond v (map fold_text (s ∷ ss)) (by_length s ∷ later ss)) many)
+
+-- what stands after the last byte of a subtag
+abbrev pub rest_of : Bool → List ℕ → List ℕ
+rest_of single [] = []
+rest_of single (hyphen ∷ rest) = hyphen ∷ join (cond single (map fold_text (segments rest)) (later (segments rest)))
+
+-- it is nothing, or begins with a hyphen
+abbrev pub IsRest : List ℕ → Type 0
+IsRest rest = (rest ≡ []) ⊎ ((others : List ℕ) × (rest ≡ 45 ∷ others))
+
+pub cond-some : (v : Bool) (a b : List (List ℕ)) → 0 < length a → 0 < length b → 0 < length (cond v a b)
+cond-some true a b h k = h
+cond-some false a b h k = k
+
+pub later-some : (ss : List (List ℕ)) → 0 < length ss → 0 < length (later ss)
+later-some [] some = absurd (omega (arith, some))
+later-some (s ∷ ss) some = cond-some (is_single s) (map fold_text (s ∷ ss)) (by_length s ∷ later ss) (omega arith) (omega arith)
+
+pub join-cons : (x : List ℕ) (ss : List (List ℕ)) → 0 < length ss → join (x ∷ ss) ≡ x ++ 45 ∷ join ss
+join-cons x [] some = absurd (omega (arith, some))
+join-cons x (s ∷ ss) some = refl
+
+-- a subtag and those after its hyphen
+join-rest : (v : Bool) (x q : List ℕ) → join (x ∷ cond v (map fold_text (segments q)) (later (segments q))) ≡ x ++ rest_of v (45 ∷ q)
+join-rest v x q =
+    let some : 0 < length (segments q) = omega (arith, length-slice_split is_hyphen q) in
+    join-cons x (cond v (map fold_text (segments q)) (later (segments q)))
+    (cond-some v _ _ (omega (arith, some, length-map (segments q) fold_text)) (later-some (segments q) some))
+
+pub later-cut : (s : List ℕ) (ss : List (List ℕ)) (v : Bool) → is_single s ≡ v → later (s ∷ ss) ≡ by_length s ∷ cond v (map fold_text ss) (later ss)
+later-cut s ss true single =
+    ap (λ v. cond v (map fold_text (s ∷ ss)) (by_length s ∷ later ss)) single ∙ ap (λ t. t ∷ map fold_text ss) (sym (by_length-single s single))
+later-cut s ss false many = ap (λ v. cond v (map fold_text (s ∷ ss)) (by_length s ∷ later ss)) many
+
+nil-rest : (v : Bool) → cond v (map fold_text []) (later []) ≡ []
+nil-rest true = refl
+nil-rest false = refl
+
+-- a subtag that is not the first, and what stands after it
+later-text :
+    (s r : List ℕ) → IsHyphenFree s → IsRest r → join (later (segments (s ++ r))) ≡ by_length s ++ rest_of (is_single s) r
+later-text s r free (inl none) =
+    ap (λ t. join (later (segments (s ++ t)))) none ∙ ap (λ t. join (later (segments t))) (append-nil s)
+    ∙ ap (λ ss. join (later ss)) (slice_split_none is_hyphen s free)
+    ∙ ap join (later-cut s [] (is_single s) refl) ∙ ap (λ ss. join (by_length s ∷ ss)) (nil-rest (is_single s))
+    ∙ sym (ap (λ t. by_length s ++ rest_of (is_single s) t) none ∙ append-nil (by_length s))
+later-text s r free (inr (q, cut)) =
+    ap (λ t. join (later (segments (s ++ t)))) cut ∙ ap (λ ss. join (later ss)) (slice_split_at is_hyphen s 45 q free refl)
+    ∙ ap join (later-cut s (segments q) (is_single s) refl) ∙ join-rest (is_single s) (by_length s) q
+    ∙ sym (ap (λ t. by_length s ++ rest_of (is_single s) t) cut)
+
+pub after_first : (s : List ℕ) (ss : List (List ℕ)) (v : Bool) → is_single s ≡ v → recommended_after (s ∷ []) ss ≡ cond v (map fold_text ss) (later ss)
+after_first s ss true single = after_single (s ∷ []) ss (any_push [] s false refl ∙ single)
+after_first s ss false many = after_none (s ∷ []) ss (any_push [] s false refl ∙ many) refl
+
+-- the first subtag, and what stands after it
+pub first-text : (s r : List ℕ) → IsHyphenFree s → IsRest r → recommended_text (s ++ r) ≡ fold_text s ++ rest_of (is_single s) r
+first-text s r free (inl none) =
+    ap (λ t. recommended_text (s ++ t)) none ∙ ap recommended_text (append-nil s)
+    ∙ ap (λ ss. join (recommended_after [] ss)) (slice_split_none is_hyphen s free)
+    ∙ sym (ap (λ t. fold_text s ++ rest_of (is_single s) t) none ∙ append-nil (fold_text s))
+first-text s r free (inr (q, cut)) =
+    ap (λ t. recommended_text (s ++ t)) cut ∙ ap (λ ss. join (recommended_after [] ss)) (slice_split_at is_hyphen s 45 q free refl)
+    ∙ ap (λ ss. join (fold_text s ∷ ss)) (after_first s (segments q) (is_single s) refl) ∙ join-rest (is_single s) (fold_text s) q
+    ∙ sym (ap (λ t. fold_text s ++ rest_of (is_single s) t) cut)
+
+-- after a singleton all is small
+pub rest-small : (r : List ℕ) → IsRest r → fold_text r ≡ r → rest_of true r ≡ r
+unfolding fold_byte
+rest-small r (inl none) small = ap (rest_of true) none ∙ sym none
+rest-small r (inr (q, cut)) small =
+    ap (rest_of true) cut ∙ ap (λ t. 45 ∷ t) (join-fold (segments q) ∙ ap fold_text (join_with_byte-slice_split 45 q))
+    ∙ sym (ap fold_text cut) ∙ small
+
+-- one more subtag
+pub rest-turn :
+    (s r : List ℕ) → IsHyphenFree s → IsRest r → rest_of false (45 ∷ (s ++ r)) ≡ 45 ∷ (by_length s ++ rest_of (is_single s) r)
+rest-turn s r free rest = ap (λ t. 45 ∷ t) (later-text s r free rest)
+
+pub length-by_length : (s : List ℕ) → length (by_length s) ≡ length s
+length-by_length s = sym (length-fold (by_length s)) ∙ ap length (fold-by_length s) ∙ length-fold s
+
+-- ---- each subtag
+
+hyphen-fold : (b : ℕ) → is_hyphen (fold_byte b) ≡ is_hyphen b
+unfolding fold_byte
+hyphen-fold b = grind (arith, nat_tests)
+
+hyphen_free-folded : (s : List ℕ) → IsHyphenFree s → IsHyphenFree (fold_text s)
+hyphen_free-folded [] free = All-nil (λ b. is_hyphen b ≡ false)
+hyphen_free-folded (b ∷ s) free =
+    All-cons (λ b. is_hyphen b ≡ false) (fold_byte b) (fold_text s) (hyphen-fold b ∙ All-head (λ b. is_hyphen b ≡ false) b s free)
+    (hyphen_free-folded s (All-tail (λ b. is_hyphen b ≡ false) b s free))
+
+hyphen_free-fold : (s : List ℕ) → IsHyphenFree (fold_text s) → IsHyphenFree s
+hyphen_free-fold [] free = All-nil (λ b. is_hyphen b ≡ false)
+hyphen_free-fold (b ∷ s) free =
+    All-cons (λ b. is_hyphen b ≡ false) b s (sym (hyphen-fold b) ∙ All-head (λ b. is_hyphen b ≡ false) (fold_byte b) (fold_text s) free)
+    (hyphen_free-fold s (All-tail (λ b. is_hyphen b ≡ false) (fold_byte b) (fold_text s) free))
+
+hyphen_free-recommended : (before ss : List (List ℕ)) → All IsHyphenFree ss → All IsHyphenFree (recommended_after before ss)
+hyphen_free-recommended before [] free = All-nil IsHyphenFree
+hyphen_free-recommended before (s ∷ ss) free =
+    All-cons IsHyphenFree (recommended_subtag before s) (recommended_after (before ++ s ∷ []) ss)
+    (hyphen_free-fold (recommended_subtag before s) (subst IsHyphenFree (sym (fold-recommended_subtag before s)) (hyphen_free-folded s (All-head IsHyphenFree s ss free))))
+    (hyphen_free-recommended (before ++ s ∷ []) ss (All-tail IsHyphenFree s ss free))
+
+segments-cased : (ss : List (List ℕ)) → 0 < length ss → All IsHyphenFree ss → segments (join (recommended_after [] ss)) ≡ recommended_after [] ss
+segments-cased [] some free = absurd (omega (arith, some))
+segments-cased (s ∷ ss) some free = segments-join (fold_text s) (recommended_after (s ∷ []) ss) (hyphen_free-recommended [] (s ∷ ss) free)
+
+recommended-at :
+    (before ss : List (List ℕ)) (k : ℕ) (s : List ℕ) → slice_get ss k ≡ Some s →
+    slice_get (recommended_after before ss) k ≡ Some (recommended_subtag (before ++ take k ss) s)
+recommended-at before [] k s there = absurd cc
+recommended-at before (u ∷ ss) zero s there =
+    let same : u ≡ s = cc in
+    ap (λ t. Some (recommended_subtag before t)) same ∙ ap (λ bs. Some (recommended_subtag bs s)) (sym (append-nil before))
+recommended-at before (u ∷ ss) (suc k) s there =
+    recommended-at (before ++ u ∷ []) ss k s there ∙ ap (λ bs. Some (recommended_subtag bs s)) (append_assoc before (u ∷ []) (take k ss))
+
+-- the subtag at an index has its case by those before it
+pub recommended_each :
+    (t s : List ℕ) (k : ℕ) → slice_get (segments t) k ≡ Some s →
+    slice_get (segments (recommended_text t)) k ≡ Some (recommended_subtag (take k (segments t)) s)
+recommended_each t s k there =
+    ap (λ ss. slice_get ss k) (segments-cased (segments t) (omega (arith, length-slice_split is_hyphen t)) (segments-hyphen_free t))
+    ∙ recommended-at [] (segments t) k s there

@@ -1,0 +1,3 @@
+pub mod RecommendedCase
+pub mod Casing
+pub mod Text

@@ -1,0 +1,7 @@
+-- The text that a value shows.
+use Rattle.std.specs.Prelude.{ℕ, List}
+use Rattle.langtag_case.specs.RecommendedCase.{recommended_text}
+use Rattle.langtag_case.specs.declared.in_recommended_case.InRecommendedCase.{InRecommendedCase}
+
+abbrev pub in_recommended_case_text : InRecommendedCase → List ℕ
+in_recommended_case_text shown = recommended_text shown.text.now

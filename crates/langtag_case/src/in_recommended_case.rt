@@ -1,0 +1,40 @@
+//! A text that shows itself in its recommended case.
+ghost use Rattle.std.specs.Prelude.{◌≡◌, Some};
+ghost use Rattle.std.specs.Str.{IsAscii};
+ghost use Rattle.langtag_case.specs.RecommendedCase.{recommended_text};
+
+use crate::recommended_bytes::RecommendedBytes;
+use std::fmt;
+
+/// A text of ASCII, as each tag is, that is displayed in the case that RFC 5646 section 2.1.1 recommends: `{shown}` prints
+/// `mn-Cyrl-MN` of `MN-cYRL-mn`. No memory is taken.
+#[derive(Clone, Copy, Debug)]
+pub struct InRecommendedCase<'a> {
+    text: &'a str,
+    ghost ascii: { IsAscii text.now },
+}
+
+impl<'a> InRecommendedCase<'a> {
+    ghost use Rattle.langtag_case.specs.Text.{in_recommended_case_text};
+
+    /// The value that shows a text of ASCII.
+    pub fn from_checked(text: &'a str) -> Self
+        requires { IsAscii text.now }
+        ensures { in_recommended_case_text result ≡ recommended_text text.now }
+    {
+        InRecommendedCase { text }
+    }
+}
+
+impl fmt::Display for InRecommendedCase<'_> {
+    ghost use Rattle.langtag_case.specs.Text.{in_recommended_case_text};
+
+    ghost output = { λ shown. Some (in_recommended_case_text shown) };
+
+    fn fmt<W: fmt::Write>(&self, f: &mut fmt::Formatter<W>) -> fmt::Result {
+        for byte in RecommendedBytes::new(self.text.as_bytes()) {
+            f.write_char(char::from(byte))?;
+        }
+        Ok(())
+    }
+}
