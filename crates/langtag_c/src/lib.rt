@@ -8,6 +8,7 @@ mod compare;
 mod grandfathered;
 mod parse;
 mod range;
+mod recommend;
 mod repeats;
 mod span;
 mod viable;
