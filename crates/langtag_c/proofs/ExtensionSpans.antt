@@ -1,14 +1,14 @@
 -- The first extension of a text that extensions spell, and what is left of it.
-use Rattle.std.proofs.Common.{◌≡◌, ℕ, ◌<◌, ◌≤◌, ◌+◌, ◌-◌, Bool, true, List, [], ◌∷◌, ◌++◌, length, take, drop, Option, None, Some, Bor, MatchOption, IsTrue, inl, inr, refl, ap, sym, subst, ◌∙◌, arith, map}
-use Rattle.std.specs.List.{list_all, flat_map, slice_range}
+use Rattle.std.proofs.Common.{◌≡◌, ℕ, ◌<◌, ◌≤◌, ◌+◌, ◌-◌, true, List, [], ◌∷◌, ◌++◌, length, take, drop, Option, None, Some, Bor, MatchOption, inl, inr, refl, ap, sym, subst, ◌∙◌, arith, map}
+use Rattle.std.specs.List.{list_all}
 use Rattle.std.proofs.lemmas.Bool.{cases_lt}
 use Rattle.std.proofs.lemmas.Bool.Decides.{eqb_tells}
 use Rattle.std.proofs.lemmas.List.{at_drop_more, drop-drop, drop-take, take-append-drop, take-take, length-take, length-drop, drop_all}
 use Rattle.std.proofs.lemmas.List.Splits.{join_with_byte-slice_split}
 use Rattle.std.proofs.Math.Seq.{take-length}
-use Rattle.langtag_scan.specs.Record.{Extension, extension_flat}
+use Rattle.langtag_scan.specs.Record.{Extension}
 use Rattle.langtag_scan.specs.Subtags.{join, segments, segments_left}
-use Rattle.langtag_extension.specs.ExtensionTexts.{goes_on, opens, extension_texts, group_texts, texts_left}
+use Rattle.langtag_extension.specs.ExtensionTexts.{goes_on, opens, extension_texts, texts_left}
 use Rattle.langtag_extension.specs.Spelling.{extension_spelling, SpellsExtensions}
 use Rattle.langtag_extension.proofs.Joins.{join-group_texts, join-spellings}
 use Rattle.langtag_extension.proofs.Rules.{extension_texts_spelled}
@@ -41,7 +41,7 @@ first-cut :
     opens (segments_left rest) ≡ true → (first ≡ extension_spelling e) × SpellsExtensions es (left_text rest)
 first-cut e es text first rest spells some joined one next =
     let texts : first ∷ texts_left rest ≡ extension_spelling e ∷ map extension_spelling es =
-        sym (texts-cut text first rest some joined one next) ∙ extension_texts_spelled (e ∷ es) text spells in
+    sym (texts-cut text first rest some joined one next) ∙ extension_texts_spelled (e ∷ es) text spells in
     let others : texts_left rest ≡ map extension_spelling es = cc in
     (cc, record { members = spells.members.1; joined = sym (join-spellings es) ∙ ap join (sym others) ∙ join-group_texts (segments_left rest) ∙ join-left rest })
 
@@ -54,7 +54,7 @@ first-taken e es text len spells some is = elim (cases_lt len (length text.now))
   | inl below ↦
       let rest : Bor (List ℕ) = record text { now = drop (len + 1) text.now } in
       let cut : text.now ≡ take len text.now ++ 45 ∷ rest.now =
-          sym (take-append-drop len text.now) ∙ ap (λ t. take len text.now ++ t) (at_drop_more (λ ts. ts) text.now len 0 below ∙ ap (λ b. b ∷ drop (len + 1) text.now) (is.hyphen below)) in
+      sym (take-append-drop len text.now) ∙ ap (λ t. take len text.now ++ t) (at_drop_more (λ ts. ts) text.now len 0 below ∙ ap (λ b. b ∷ drop (len + 1) text.now) (is.hyphen below)) in
       first-cut e es text.now (take len text.now) (Some rest) spells some cut is.one (is.next below)
   | inr past ↦
       let within = is.within in

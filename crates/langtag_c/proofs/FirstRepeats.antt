@@ -1,9 +1,9 @@
 -- The first repeat of a list stands after members of which one is alike it.
-use Rattle.std.proofs.Common.{◌≡◌, ℕ, ◌+◌, ◌<◌, ◌≤◌, Bool, true, false, cond, ◌||◌, ◌&&◌, ◌==◌, List, [], ◌∷◌, ◌++◌, length, map, Option, None, Some, MatchOption, IsTrue, is_some, unwrap_or, refl, ap, sym, subst, ◌∙◌, arith, append-nil, append_assoc}
-use Rattle.std.specs.List.{AllByRecursion, count_by, sum_by, flat_map, list_any}
+use Rattle.std.proofs.Common.{◌≡◌, ℕ, ◌+◌, ◌≤◌, Bool, true, false, cond, ◌||◌, ◌&&◌, ◌==◌, List, [], ◌∷◌, ◌++◌, length, map, Some, IsTrue, refl, ap, sym, ◌∙◌, arith, append-nil, append_assoc}
+use Rattle.std.specs.List.{AllByRecursion, count_by, flat_map, list_any}
 use Rattle.std.specs.Option.{option_map}
 use Rattle.std.proofs.Math.Bool.{and-false}
-use Rattle.std.proofs.lemmas.Bool.{and_parts, or_cases}
+use Rattle.std.proofs.lemmas.Bool.{and_parts}
 use Rattle.std.proofs.lemmas.List.Sums.{sum_by-append, sum_by-cons}
 use Rattle.langtag_scan.specs.Case.{fold_byte, are_alike}
 use Rattle.langtag_scan.specs.CaseLaws.{are_alike-decides}
@@ -51,6 +51,7 @@ module _ {A : Type 0} (alike : A → A → Bool) (from_both : (a b c : A) → al
     where
       size : count_by (alike z) (seen ++ y ∷ []) ≡ count_by (alike z) seen + cond (alike z y) 1 0
       size = omega (arith, sum_by-append (one_if (alike z)) seen (y ∷ []), sum_by-cons (one_if (alike z)) y [])
+
       by_test : (b : Bool) → alike z y ≡ b → count_by (alike z) (seen ++ y ∷ []) ≤ 1
       by_test true is =
           let none = count-none (alike z) (alike y) (λ w both. from_both z y w is both) seen new in
@@ -153,6 +154,12 @@ count-flat b [] fits = refl
 count-flat b (e ∷ es) fits =
     let test = are_alike (b ∷ []) in
     let first = ap {B = ℕ} (λ t. cond t 1 0) (alike-one b e.singleton) in
-    omega (arith, first, sum_by-cons (one_if test) (e.singleton ∷ []) (e.subtags ++ flat_map extension_flat es),
-    sum_by-append (one_if test) e.subtags (flat_map extension_flat es), count-subtags b e.subtags fits.0.subtags, count-flat b es fits.1,
-    sum_by-cons (one_if (λ f. are_alike_bytes b f.singleton)) e es)
+    omega (
+      arith,
+      first,
+      sum_by-cons (one_if test) (e.singleton ∷ []) (e.subtags ++ flat_map extension_flat es),
+      sum_by-append (one_if test) e.subtags (flat_map extension_flat es),
+      count-subtags b e.subtags fits.0.subtags,
+      count-flat b es fits.1,
+      sum_by-cons (one_if (λ f. are_alike_bytes b f.singleton)) e es,
+    )

@@ -1,9 +1,8 @@
 -- Where the first repeated variant and the first repeated singleton of a record stand in its text.
-use Rattle.std.proofs.Common.{◌≡◌, ℕ, ◌+◌, ◌-◌, ◌<◌, ◌≤◌, ◌^◌, Bool, List, [], ◌∷◌, ◌++◌, length, drop, map, Option, None, Some, MatchOption, is_some, unwrap_or, inl, inr, refl, ap, sym, subst, ◌∙◌, arith, append_assoc, length-append}
+use Rattle.std.proofs.Common.{◌≡◌, ℕ, ◌+◌, ◌<◌, ◌≤◌, ◌^◌, Bool, List, [], ◌∷◌, ◌++◌, length, map, Option, None, Some, MatchOption, is_some, unwrap_or, inl, inr, refl, ap, sym, subst, ◌∙◌, arith, append_assoc, length-append}
 use Rattle.std.specs.List.{AllByRecursion, count_by, sum_by, flat_map}
 use Rattle.std.specs.Option.{option_map}
 use Rattle.std.proofs.lemmas.Bool.Decides.{eqb_tells}
-use Rattle.std.proofs.lemmas.List.{length-take}
 use Rattle.std.proofs.lemmas.List.Concat.{flat_map-append}
 use Rattle.std.proofs.lemmas.List.Sums.{sum_by-cons}
 use Rattle.langtag_scan.specs.Case.{are_alike}
@@ -18,7 +17,7 @@ use Rattle.langtag_scan.proofs.SubtagLists.{each_subtag, subtags-joined}
 use Rattle.langtag_extension.proofs.Rules.{subtags-flat_map}
 use Rattle.langtag.specs.Repeat.{repeat, are_alike_bytes}
 use Rattle.langtag_c.specs.Repeats.{IsSecond, IsFirstRepeatAt, HasFirstRepeat, have_one_singleton, singleton_place, variant_place}
-use Rattle.langtag_c.specs.Spans.{IsWithin, empty_at, span_text, spans_at}
+use Rattle.langtag_c.specs.Spans.{empty_at, spans_at}
 use Rattle.langtag_c.specs.declared.span.Span.{Span}
 use Rattle.langtag_c.proofs.FirstRepeats.{first-repeat, alike-from_both, one_singleton-from_both, repeat-singletons, count-flat}
 use Rattle.langtag_c.proofs.SecondAlike.{width, join-width}
@@ -36,7 +35,7 @@ width-flat (e ∷ es) some = omega (arith, sum_by-cons width (e.singleton ∷ []
 pub variants-start : (r : Record) → (r.variants ≡ [] → ⊥) → (spans_at (ends_of r)).variants.start ≡ length (join (to_region r)) + 1
 variants-start r some =
     let longer : length (join (to_variants r)) ≡ length (join (to_region r)) + sum_by width r.variants =
-        simp append_assoc at (join-width r.primary (r.extended ++ (one_flat r.script ++ one_flat r.region)) r.variants) in
+    simp append_assoc at (join-width r.primary (r.extended ++ (one_flat r.script ++ one_flat r.region)) r.variants) in
     elim (eqb_tells (length (join (to_region r))) (length (join (to_variants r)))) [
       | inl same ↦ absurd (omega (arith, longer, same.1, width-some r.variants some))
       | inr other ↦ rw other.0 refl
@@ -45,7 +44,7 @@ variants-start r some =
 pub extensions-start : (r : Record) → (r.extensions ≡ [] → ⊥) → (spans_at (ends_of r)).extensions.start ≡ length (join (to_variants r)) + 1
 extensions-start r some =
     let longer : length (join (to_extensions r)) ≡ length (join (to_variants r)) + sum_by width (flat_map extension_flat r.extensions) =
-        simp append_assoc at (join-width r.primary (r.extended ++ (one_flat r.script ++ (one_flat r.region ++ r.variants))) (flat_map extension_flat r.extensions)) in
+    simp append_assoc at (join-width r.primary (r.extended ++ (one_flat r.script ++ (one_flat r.region ++ r.variants))) (flat_map extension_flat r.extensions)) in
     elim (eqb_tells (length (join (to_variants r))) (length (join (to_extensions r)))) [
       | inl same ↦ absurd (omega (arith, longer, same.1, width-flat r.extensions some))
       | inr other ↦ rw other.0 refl
@@ -71,8 +70,12 @@ variant-stands r text x variants start n spells is part starts place =
     let (before, second) = first-repeat are_alike alike-from_both r.variants x (sym is) in
     let listed : subtags variants ≡ r.variants = ap subtags part ∙ subtags-joined r.variants (each_subtag is_variant of_variant r.variants spells.0.variants) in
     let at : start + n ≡ length (join (to_region r ++ before)) + 1 =
-        omega (arith, starts (not-empty before second.after x r.variants second.members), place before second.after (listed ∙ second.members) second.one,
-        join-width r.primary (r.extended ++ (one_flat r.script ++ one_flat r.region)) before) in
+    omega (
+      arith,
+      starts (not-empty before second.after x r.variants second.members),
+      place before second.after (listed ∙ second.members) second.one,
+      join-width r.primary (r.extended ++ (one_flat r.script ++ one_flat r.region)) before,
+    ) in
     subst (λ o. MatchOption o (some_span (start + n) (length x) ≡ None) (λ y. (others : List (List ℕ)) × IsSecond are_alike r.variants others y × (some_span (start + n) (length x) ≡ Some (variant_place r others y))))
     is (before, second, ap (λ s. some_span s (length x)) at)
 
@@ -99,14 +102,18 @@ singleton-stands r text extensions b start n spells is part starts place =
         let fits = spells.0.extensions in
         let rest = e.subtags ++ flat_map extension_flat second.after in
         let listed : subtags extensions ≡ flat ++ (b ∷ []) ∷ rest =
-            ap subtags part ∙ subtags-flat_map r.extensions fits ∙ ap (flat_map extension_flat) second.members ∙ flat_map-append extension_flat before (e ∷ second.after)
-            ∙ ap (λ c. flat ++ (c ∷ []) ∷ rest) byte in
+        ap subtags part ∙ subtags-flat_map r.extensions fits ∙ ap (flat_map extension_flat) second.members ∙ flat_map-append extension_flat before (e ∷ second.after)
+        ∙ ap (λ c. flat ++ (c ∷ []) ∷ rest) byte in
         let counted : count_by (are_alike (b ∷ [])) flat ≡ 1 =
-            ap (λ c. count_by (are_alike (c ∷ [])) flat) (sym byte)
-            ∙ count-flat e.singleton before (each-first before (e ∷ second.after) (subst (AllByRecursion IsWellFormedExtension) second.members fits)) ∙ second.one in
+        ap (λ c. count_by (are_alike (c ∷ [])) flat) (sym byte)
+        ∙ count-flat e.singleton before (each-first before (e ∷ second.after) (subst (AllByRecursion IsWellFormedExtension) second.members fits)) ∙ second.one in
         let at : start + n ≡ length (join (to_variants r ++ flat)) + 1 =
-            omega (arith, starts (not-empty before second.after e r.extensions second.members), place flat rest listed counted,
-            join-width r.primary (r.extended ++ (one_flat r.script ++ (one_flat r.region ++ r.variants))) flat) in
+        omega (
+          arith,
+          starts (not-empty before second.after e r.extensions second.members),
+          place flat rest listed counted,
+          join-width r.primary (r.extended ++ (one_flat r.script ++ (one_flat r.region ++ r.variants))) flat,
+        ) in
         (before, second, ap (λ s. some_span s 1) at)
 
 -- no singleton is repeated

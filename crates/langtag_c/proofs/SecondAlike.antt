@@ -1,16 +1,12 @@
 -- The second of the members of a list that are alike one, and where it stands among subtags.
-use Rattle.std.proofs.Common.{◌≡◌, ℕ, ◌+◌, ◌<◌, ◌≤◌, ◌^◌, Bool, true, false, cond, ◌||◌, List, [], ◌∷◌, ◌++◌, length, get_or, take, drop, map, Option, None, Some, MatchOption, IsTrue, inl, inr, ◌⊎◌, refl, ap, sym, subst, ◌∙◌, arith, append-nil, append_assoc, length-append}
-use Rattle.std.specs.List.{AllByRecursion, count_by, sum_by, flat_map, list_any}
-use Rattle.std.specs.Option.{option_map}
-use Rattle.std.proofs.Math.Seq.{take-length}
-use Rattle.std.proofs.lemmas.Bool.{and_parts}
-use Rattle.std.proofs.lemmas.List.{drop_all, length_push, take-append-drop, take_all}
+use Rattle.std.proofs.Common.{◌≡◌, ℕ, ◌+◌, ◌≤◌, Bool, true, false, cond, ◌||◌, List, [], ◌∷◌, ◌++◌, length, take, drop, inl, inr, ◌⊎◌, refl, ap, sym, ◌∙◌, arith, append-nil, length-append}
+use Rattle.std.specs.List.{count_by, sum_by}
+use Rattle.std.proofs.lemmas.List.{take-append-drop}
 use Rattle.std.proofs.lemmas.List.Sums.{sum_by-append, sum_by-cons, sum_by-take-drop, sum_by-take-le, sum_by_more}
 use Rattle.langtag_scan.specs.Case.{are_alike}
 use Rattle.langtag_scan.specs.CaseLaws.{are_alike-decides}
 use Rattle.langtag_scan.specs.Subtags.{is_hyphen, join, subtags}
 use Rattle.langtag_scan.proofs.Joins.{hyphenated, length-join-append}
-use Rattle.langtag.specs.Repeat.{repeat, repeat_after}
 use Rattle.langtag.proofs.RepeatLaws.{IsAt-drop}
 use Rattle.langtag_match.proofs.Offsets.{sum_by-slice_split}
 

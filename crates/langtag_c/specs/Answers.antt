@@ -1,5 +1,5 @@
 -- What the functions answer, in numbers.
-use Rattle.std.specs.Prelude.{◌≡◌, ◌↔◌, ℕ, ℤ, pos, negsuc, ◌<◌, ◌≤◌, ◌*◌, ◌%◌, ◌^◌, List, length, take, fold, ◌+◌, Bool, false, IsTrue, if◌then◌else◌}
+use Rattle.std.specs.Prelude.{◌≡◌, ◌↔◌, ℕ, ℤ, pos, negsuc, ◌≤◌, ◌*◌, ◌%◌, ◌^◌, List, fold, ◌+◌, Bool, false, IsTrue, if◌then◌else◌}
 use Rattle.std.specs.Int.Bits.{bit_xor}
 use Rattle.std.specs.declared.cmp.Ordering.{Ordering}
 use Rattle.std.specs.declared.cmp.Ordering.TheVariants.{Less, Equal, Greater}

@@ -24,7 +24,7 @@ pub returns-then-met-clause-place : goal.returns-then-met-clause-place
 returns-then-met-clause-place c before after split one =
     let all = subtags c.args.text.now in
     let alike : are_alike c.args.subtag.now c.in-Some.other.now ≡ true =
-        ap (are_alike c.args.subtag.now) (sym c.as_bytes.ensures.value) ∙ sym c.case_insensitive_eq-alike.ensures.test ∙ c.if-alike.true in
+    ap (are_alike c.args.subtag.now) (sym c.as_bytes.ensures.value) ∙ sym c.case_insensitive_eq-alike.ensures.test ∙ c.if-alike.true in
     let just_one = c.loop-other.invariant.met ∙ ap (λ b. cond b 1 0) c.if-met.true in
     let same = second-found all (length c.loop-other.yielded) _ _ _ before after (c.loop-other.invariant.left ∙ c.in-Some.ensures.steps) alike just_one split one in
     c.loop-other.invariant.bytes ∙ ap (sum_by width) same
@@ -34,7 +34,7 @@ loop-other-preserved c =
     let next = next-subtag (subtags c.args.text.now) (length c.loop-other.yielded) _ _ (c.loop-other.invariant.left ∙ c.in-Some.ensures.steps) in
     let more = length_push c.loop-other.yielded c.in-Some.other in
     let alike : are_alike c.args.subtag.now c.in-Some.other.now ≡ c.case_insensitive_eq-alike.result =
-        ap (are_alike c.args.subtag.now) (sym c.as_bytes.ensures.value) ∙ sym c.case_insensitive_eq-alike.ensures.test in
+    ap (are_alike c.args.subtag.now) (sym c.as_bytes.ensures.value) ∙ sym c.case_insensitive_eq-alike.ensures.test in
     let few : (c.case_insensitive_eq-alike.result ≡ false) ⊎ (c.loop-other.met ≡ false) = elim c.else-alike.either [ inl w ↦ inr w.1 | inr w ↦ inl w ] in
     record {
       can_next = tt;

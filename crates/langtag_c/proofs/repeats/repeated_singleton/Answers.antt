@@ -6,8 +6,11 @@ use Rattle.langtag_c.proofs.repeats.repeated_singleton.Goals as goal
 
 pub overflow_add-result : goal.overflow_add-result
 overflow_add-result c =
-    omega (arith, room _ extensions_part c.as_str.result.now c.args.start c.bytes_before_second-before.result c.requires.normal c.requires.room
-    (λ r spells. c.as_str.ensures.same_text ∙ c.extensions.ensures r spells) c.bytes_before_second-before.ensures.few)
+    omega (
+      arith,
+      room _ extensions_part c.as_str.result.now c.args.start c.bytes_before_second-before.result c.requires.normal c.requires.room
+          (λ r spells. c.as_str.ensures.same_text ∙ c.extensions.ensures r spells) c.bytes_before_second-before.ensures.few,
+    )
 
 pub returns-in_err-repeated_singleton : goal.returns-in_err-repeated_singleton
 returns-in_err-repeated_singleton c starts r spells = rw c.from_residual.ensures (singleton-none r (singleton_place r) (c.in_err-repeated_singleton.ensures.repeated r spells))

@@ -5,8 +5,11 @@ use Rattle.langtag_c.proofs.repeats.repeated_variant.Goals as goal
 
 pub overflow_add-result : goal.overflow_add-result
 overflow_add-result c =
-    omega (arith, room _ variants_part c.as_str.result.now c.args.start c.bytes_before_second-before.result c.requires.normal c.requires.room
-    (λ r spells. c.as_str.ensures.same_text ∙ c.variants.ensures r spells) c.bytes_before_second-before.ensures.few)
+    omega (
+      arith,
+      room _ variants_part c.as_str.result.now c.args.start c.bytes_before_second-before.result c.requires.normal c.requires.room
+          (λ r spells. c.as_str.ensures.same_text ∙ c.variants.ensures r spells) c.bytes_before_second-before.ensures.few,
+    )
 
 pub returns : goal.returns
 returns c starts r spells =
