@@ -16,12 +16,10 @@ impl Span {
         requires { before ≤ end }
         ensures { result ≡ span_between before end }
     {
-        if before == end {
-            return Span { start: end, len: 0 };
-        }
+        let start = if before == end { end } else { before + 1 };
         Span {
-            start: before + 1,
-            len: end - before - 1,
+            start,
+            len: end - start,
         }
     }
 
