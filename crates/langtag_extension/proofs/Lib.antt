@@ -1,7 +1,7 @@
 mod Numbers
 mod SingletonLemmas
-mod WalkLemmas
-mod Joins
-mod Rules
+pub mod WalkLemmas
+pub mod Joins
+pub mod Rules
 mod LookUp
 mod Counts

@@ -120,7 +120,8 @@ all_subtags-flat : (es : List Extension) → AllByRecursion IsWellFormedExtensio
 all_subtags-flat [] fits = tt
 all_subtags-flat (e ∷ es) fits = all_subtags-append (extension_flat e) (flat_map extension_flat es) (subtags-flat e fits.0) (all_subtags-flat es fits.1)
 
-subtags-flat_map : (es : List Extension) → AllByRecursion IsWellFormedExtension es → subtags (join (flat_map extension_flat es)) ≡ flat_map extension_flat es
+-- they are the subtags of their join
+pub subtags-flat_map : (es : List Extension) → AllByRecursion IsWellFormedExtension es → subtags (join (flat_map extension_flat es)) ≡ flat_map extension_flat es
 subtags-flat_map [] fits = refl
 subtags-flat_map (e ∷ es) fits = subtags-joined ((e.singleton ∷ []) ∷ (e.subtags ++ flat_map extension_flat es)) (all_subtags-flat (e ∷ es) fits)
 

@@ -1,0 +1,8 @@
+mod KindLaws
+mod SpanLaws
+mod StopLaws
+mod RangeLaws
+mod SecondAlike
+mod ExtensionSpans
+mod FirstRepeats
+mod RepeatSpans

@@ -1,0 +1,4 @@
+pub mod Answers
+pub mod Repeats
+pub mod Spans
+pub mod Walks

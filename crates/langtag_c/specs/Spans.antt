@@ -1,0 +1,71 @@
+-- Where the parts of a tag stand in its text (RFC 5646 section 2.1): so many bytes from an index on.
+use Rattle.std.specs.Prelude.{◌≡◌, ℕ, ◌+◌, ◌-◌, ◌<◌, ◌≤◌, ◌==◌, if◌then◌else◌, List, [], length, unwrap_or}
+use Rattle.std.specs.List.{slice_range}
+use Rattle.langtag_scan.specs.Parts.{language_part, variants_part, extensions_part, private_use_part}
+use Rattle.langtag_scan.specs.Record.{Record}
+use Rattle.langtag_scan.specs.declared.ends.Ends.{Ends}
+use Rattle.langtag_c.specs.declared.span.Span.{Span}
+use Rattle.langtag_c.specs.declared.parse.Parts.{Parts}
+
+-- the bytes of a span
+abbrev pub span_text : List ℕ → Span → List ℕ
+span_text text span = slice_range text span.start (span.start + span.len)
+
+-- one past the last byte
+abbrev pub end_of : Span → ℕ
+end_of span = span.start + span.len
+
+abbrev pub IsWithin : List ℕ → Span → Type 0
+IsWithin text span = end_of span ≤ length text
+
+-- it has bytes, which lie within the text
+abbrev pub HasBytes : List ℕ → Span → Type 0
+HasBytes text span = (0 < span.len) × IsWithin text span
+
+-- no byte from an index on
+abbrev pub empty_at : ℕ → Span
+empty_at index = record { start = index; len = 0 }
+
+-- what stands between the end of one part and the end of the next, after the hyphen: nothing, at that end, where the next
+-- one is absent
+abbrev pub span_between : ℕ → ℕ → Span
+span_between before end = if before == end then empty_at end else record { start = before + 1; len = end - before - 1 }
+
+-- the parts of a normal tag, by where they end
+abbrev pub spans_at : Ends → Parts
+spans_at ends = record {
+  language = record { start = 0; len = ends.language };
+  script = span_between ends.language ends.script;
+  region = span_between ends.script ends.region;
+  variants = span_between ends.region ends.variants;
+  extensions = span_between ends.variants ends.extensions;
+  private_use = span_between ends.extensions ends.whole;
+}
+
+-- no part but a private use part of this length, which begins at 0
+abbrev pub private_alone : ℕ → Parts
+private_alone len = record {
+  language = empty_at 0;
+  script = empty_at 0;
+  region = empty_at 0;
+  variants = empty_at 0;
+  extensions = empty_at 0;
+  private_use = record { start = 0; len = len };
+}
+
+-- the spans have the parts of a record; one that is absent has no byte
+pub record ArePartsOf (text : List ℕ) (r : Record) (parts : Parts) : Type 0 where
+  pub language : span_text text parts.language ≡ language_part r
+  pub script : span_text text parts.script ≡ unwrap_or r.script []
+  pub region : span_text text parts.region ≡ unwrap_or r.region []
+  pub variants : span_text text parts.variants ≡ variants_part r
+  pub extensions : span_text text parts.extensions ≡ extensions_part r
+  pub private_use : span_text text parts.private_use ≡ unwrap_or (private_use_part r) []
+
+pub record AreWithin (text : List ℕ) (parts : Parts) : Type 0 where
+  pub language : IsWithin text parts.language
+  pub script : IsWithin text parts.script
+  pub region : IsWithin text parts.region
+  pub variants : IsWithin text parts.variants
+  pub extensions : IsWithin text parts.extensions
+  pub private_use : IsWithin text parts.private_use

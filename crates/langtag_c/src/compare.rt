@@ -1,0 +1,49 @@
+//! Equality, order and hash of bytes, without regard to the case of ASCII letters (RFC 5646 section 2.1.1).
+ghost use Rattle.std.specs.Prelude.{◌≡◌};
+ghost use Rattle.langtag_scan.specs.Case.{are_alike, case_cmp, fold_text};
+ghost use Rattle.langtag_c.specs.Answers.{sign, fnv};
+
+use langtag_scan::{case_insensitive_cmp, case_insensitive_eq, into_smallcase};
+use std::cmp::Ordering;
+
+/// Whether two texts are equal but for the case of ASCII letters.
+#[unsafe(no_mangle)]
+pub extern "C" fn langtag_eq(a: &[u8], b: &[u8]) -> bool
+    ensures { result ≡ are_alike a.now b.now }
+{
+    case_insensitive_eq(a, b)
+}
+
+/// The order of two texts by their folded bytes: -1, 0 or 1. Of two texts of which one begins the other the shorter is the
+/// greater.
+#[unsafe(no_mangle)]
+pub extern "C" fn langtag_cmp(a: &[u8], b: &[u8]) -> i32
+    ensures { result ≡ sign (case_cmp a.now b.now) }
+{
+    match case_insensitive_cmp(a, b) {
+        Ordering::Less => -1,
+        Ordering::Equal => 0,
+        Ordering::Greater => 1,
+    }
+}
+
+/// FNV-1a of 64 bits over the folded bytes, from a state on.
+#[unsafe(no_mangle)]
+pub extern "C" fn langtag_hash(state: u64, bytes: &[u8]) -> u64
+    ensures { result ≡ fnv state bytes.now }
+{
+    let mut hash = state;
+    for byte in bytes {
+        hash = (hash ^ into_smallcase(*byte) as u64).wrapping_mul(0x100_0000_01B3);
+    }
+    hash
+}
+
+/// Makes each capital ASCII letter small, in place: what a text is to be hashed by in another way.
+#[tactic(auto, unfolding(langtag_scan::specs::Case::fold_byte))]
+#[unsafe(no_mangle)]
+pub extern "C" fn langtag_fold(bytes: &mut [u8])
+    ensures { bytes.new ≡ fold_text bytes.old }
+{
+    bytes.make_ascii_lowercase();
+}

@@ -1,0 +1,15 @@
+//! Language tags for programs in C, and in what calls C: a static library over plain bytes, which takes no memory, keeps no state
+//! and calls nothing of the program's. `bindings/include/langtag.h` declares it.
+//!
+//! A slice crosses as a pointer and a length. Bytes need not be UTF-8. No function asks more than its types say.
+#![tactic(auto)]
+
+mod compare;
+mod grandfathered;
+mod parse;
+mod range;
+mod recommend;
+mod repeats;
+mod span;
+mod viable;
+mod walk;

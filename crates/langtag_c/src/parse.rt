@@ -1,0 +1,111 @@
+//! Whether bytes are a tag, of which kind, and where its parts stand.
+ghost use Rattle.std.specs.Prelude.{◌≡◌, length, MatchOption};
+ghost use Rattle.langtag_scan.specs.Ends.{ends_of};
+ghost use Rattle.langtag_scan.specs.Found.{IsFoundOf, finding};
+ghost use Rattle.langtag_scan.specs.Parts.{AreInOrder};
+ghost use Rattle.langtag_scan.specs.Record.{EachRecord};
+ghost use Rattle.langtag_scan.specs.Tag.{IsTag, IsNormal, IsPrivate};
+ghost use Rattle.langtag_c.specs.Answers.{IsKind};
+ghost use Rattle.langtag_c.specs.Spans.{AreWithin, ArePartsOf, spans_at, private_alone};
+
+use crate::span::Span;
+use langtag_scan::{Ends, Found, MeteredBytes, recognise};
+
+/// Where the parts of a tag stand in its text.
+#[repr(C)]
+#[derive(Clone, Copy)]
+pub struct Parts {
+    pub language: Span,
+    pub script: Span,
+    pub region: Span,
+    pub variants: Span,
+    pub extensions: Span,
+    pub private_use: Span,
+}
+
+impl Parts {
+    /// The parts of a normal tag, by where they end.
+    fn at(ends: &Ends) -> Parts
+        requires { AreInOrder ends.now }
+        ensures { result ≡ spans_at ends.now }
+    {
+        Parts {
+            language: Span {
+                start: 0,
+                len: ends.language,
+            },
+            script: Span::between(ends.language, ends.script),
+            region: Span::between(ends.script, ends.region),
+            variants: Span::between(ends.region, ends.variants),
+            extensions: Span::between(ends.variants, ends.extensions),
+            private_use: Span::between(ends.extensions, ends.whole),
+        }
+    }
+
+    /// No part but one for private use, of this length.
+    pub(crate) fn private_alone(len: usize) -> Parts
+        ensures { result ≡ private_alone len }
+    {
+        Parts {
+            language: Span { start: 0, len: 0 },
+            script: Span { start: 0, len: 0 },
+            region: Span { start: 0, len: 0 },
+            variants: Span { start: 0, len: 0 },
+            extensions: Span { start: 0, len: 0 },
+            private_use: Span { start: 0, len },
+        }
+    }
+}
+
+/// What the recogniser finds of the bytes; None where they are no tag.
+#[inline(always)]
+fn found_of(bytes: &[u8]) -> Option<Found>
+    ensures { MatchOption result (IsTag bytes.now → ⊥) (λ found. IsFoundOf bytes.now (finding found)) }
+{
+    recognise(&mut MeteredBytes::new(bytes))
+}
+
+/// The kind of the tag that the bytes are: 1 for a normal one, 2 for private use, 3 for an irregular one, and 0 where they
+/// are no tag.
+#[unsafe(no_mangle)]
+pub extern "C" fn langtag_kind(bytes: &[u8]) -> u32
+    ensures { IsKind bytes.now result }
+{
+    let Some(found) = found_of(bytes) else {
+        return 0;
+    };
+    if found.is_normal() {
+        1
+    } else if found.is_private_use() {
+        2
+    } else {
+        3
+    }
+}
+
+/// The kind, as [`langtag_kind`] answers it, and where the parts stand. A tag for private use is its own private use part;
+/// an irregular one has no parts. All of `parts` is written, also where the answer is 0.
+#[unsafe(no_mangle)]
+pub extern "C" fn langtag_parse(bytes: &[u8], parts: &mut Parts) -> u32
+    ensures kind { IsKind bytes.now result }
+    ensures parts { EachRecord bytes.now (λ r. ArePartsOf bytes.now r parts.new) }
+    ensures spans { EachRecord bytes.now (λ r. parts.new ≡ spans_at (ends_of r)) }
+    ensures private_use { IsPrivate bytes.now → parts.new ≡ private_alone (length bytes.now) }
+    ensures other { (IsNormal bytes.now → ⊥) → (IsPrivate bytes.now → ⊥) → parts.new ≡ private_alone 0 }
+    ensures within { AreWithin bytes.now parts.new }
+{
+    let Some(found) = found_of(bytes) else {
+        *parts = Parts::private_alone(0);
+        return 0;
+    };
+    if let Some(ends) = found.ends() {
+        *parts = Parts::at(&ends);
+        1
+    } else if found.is_private_use() {
+        *parts = Parts::private_alone(bytes.len());
+        2
+    } else {
+        *parts = Parts::private_alone(0);
+        3
+    }
+}

@@ -1,0 +1,69 @@
+//! Language ranges, and the tags that they match (RFC 4647).
+ghost use Rattle.std.specs.Prelude.{◌≡◌, ◌↔◌, IsTrue, MatchOption, false};
+ghost use Rattle.langtag.specs.Tag.{IsTag};
+ghost use Rattle.langtag.specs.Text.{lang_tag_text};
+ghost use Rattle.langtag_match.specs.Basic.{MatchesBasic};
+ghost use Rattle.langtag_match.specs.Extended.{MatchesExtended};
+ghost use Rattle.langtag_match.specs.Range.{is_language_range};
+ghost use Rattle.langtag_match.specs.Text.{language_range_text};
+ghost use Rattle.langtag_c.specs.Answers.{IsRangeKind, IsMatch};
+
+use langtag::LangTag;
+use langtag_match::LanguageRange;
+
+/// 1 where the bytes are a basic language range (RFC 4647 section 2.1), as `de-CH` and `*`, 2 where they are an extended one
+/// that is not basic (section 2.2), as `de-*-DE`, and 0 where they are no range.
+#[tactic(auto, using(crate::proofs::RangeLaws::range_kinds))]
+#[unsafe(no_mangle)]
+pub extern "C" fn langtag_range_kind(bytes: &[u8]) -> u32
+    ensures { IsRangeKind bytes.now result }
+{
+    match range_of(bytes) {
+        None => 0,
+        Some(range) if range.is_basic() => 1,
+        Some(_) => 2,
+    }
+}
+
+/// Whether a range matches a tag by basic filtering (RFC 4647 section 3.3.1): `de-DE` matches `de-DE-1996`, and not
+/// `de-Latn-DE`. False where the first bytes are no range, or the second no tag.
+#[unsafe(no_mangle)]
+pub extern "C" fn langtag_matches_basic(range: &[u8], tag: &[u8]) -> bool
+    ensures { IsTrue result ↔ IsMatch MatchesBasic range.now tag.now }
+{
+    match (range_of(range), tag_of(tag)) {
+        (Some(range), Some(tag)) => range.matches_basic(&tag),
+        _ => false,
+    }
+}
+
+/// Whether a range matches a tag by extended filtering (RFC 4647 section 3.3.2): `de-DE` and `de-*-DE` match `de-Latn-DE`.
+/// False where the first bytes are no range, or the second no tag.
+#[unsafe(no_mangle)]
+pub extern "C" fn langtag_matches_extended(range: &[u8], tag: &[u8]) -> bool
+    ensures { IsTrue result ↔ IsMatch MatchesExtended range.now tag.now }
+{
+    match (range_of(range), tag_of(tag)) {
+        (Some(range), Some(tag)) => range.matches_extended(&tag),
+        _ => false,
+    }
+}
+
+/// The range that the bytes are.
+#[tactic(auto, using(crate::proofs::RangeLaws::utf8))]
+fn range_of<'a>(bytes: &'a [u8]) -> Option<LanguageRange<'a>>
+    ensures { MatchOption result (is_language_range bytes.now ≡ false)
+        (λ range. (language_range_text range ≡ bytes.now) × IsTrue (is_language_range bytes.now)) }
+{
+    let text = str::from_utf8(bytes).ok()?;
+    LanguageRange::new(text).ok()
+}
+
+/// The tag that the bytes are.
+#[tactic(auto, using(crate::proofs::RangeLaws::utf8))]
+fn tag_of<'a>(bytes: &'a [u8]) -> Option<LangTag<'a>>
+    ensures { MatchOption result (IsTag bytes.now → ⊥) (λ tag. (lang_tag_text tag ≡ bytes.now) × IsTag bytes.now) }
+{
+    let text = str::from_utf8(bytes).ok()?;
+    LangTag::new(text).ok()
+}

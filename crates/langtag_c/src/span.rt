@@ -1,0 +1,51 @@
+//! Where a part of a text stands in it.
+ghost use Rattle.std.specs.Prelude.{◌≡◌, ◌≤◌, ◌+◌, ◌<◌, ◌^◌, MatchOption, length};
+ghost use Rattle.langtag_c.specs.Spans.{HasBytes, end_of, span_between, span_text};
+
+/// So many bytes of a text from an index on. A part that is absent has none.
+#[repr(C)]
+#[derive(Clone, Copy)]
+pub struct Span {
+    pub start: usize,
+    pub len: usize,
+}
+
+impl Span {
+    /// What stands between the end of one part and the end of the next, after the hyphen.
+    pub(crate) fn between(before: usize, end: usize) -> Span
+        requires { before ≤ end }
+        ensures { result ≡ span_between before end }
+    {
+        let start = if before == end { end } else { before + 1 };
+        Span {
+            start,
+            len: end - start,
+        }
+    }
+
+    /// The bytes, where there are any and they lie within the text.
+    pub(crate) fn of<'a>(&self, text: &'a [u8]) -> Option<&'a [u8]>
+        ensures { MatchOption result (HasBytes text.now self.now → ⊥) (λ bytes. HasBytes text.now self.now × (bytes.now ≡ span_text text.now self.now)) }
+    {
+        if self.len == 0 {
+            return None;
+        }
+        let end = self.start.checked_add(self.len)?;
+        text.get(self.start..end)
+    }
+
+    /// Takes so many bytes off the start, and the hyphen after them.
+    pub(crate) fn take_first(&mut self, len: usize) -> Span
+        requires few { len ≤ self.old.len }
+        requires within { end_of self.old < 2 ^ 64 }
+        ensures first { result ≡ record { start = self.old.start; len = len } }
+        ensures rest { self.new ≡ span_between (self.old.start + len) (end_of self.old) }
+    {
+        let first = Span {
+            start: self.start,
+            len,
+        };
+        *self = Span::between(self.start + len, self.start + self.len);
+        first
+    }
+}
