@@ -1,12 +1,12 @@
 -- The first extension of a text that extensions spell, and what is left of it.
 use Rattle.std.proofs.Common.{◌≡◌, ℕ, ◌<◌, ◌≤◌, ◌+◌, ◌-◌, true, List, [], ◌∷◌, ◌++◌, length, take, drop, Option, None, Some, Bor, MatchOption, inl, inr, refl, ap, sym, subst, ◌∙◌, arith, map}
-use Rattle.std.specs.List.{list_all}
+use Rattle.std.specs.List.{flat_map, list_all}
 use Rattle.std.proofs.lemmas.Bool.{cases_lt}
 use Rattle.std.proofs.lemmas.Bool.Decides.{eqb_tells}
 use Rattle.std.proofs.lemmas.List.{at_drop_more, drop-drop, drop-take, take-append-drop, take-take, length-take, length-drop, drop_all}
 use Rattle.std.proofs.lemmas.List.Splits.{join_with_byte-slice_split}
 use Rattle.std.proofs.Math.Seq.{take-length}
-use Rattle.langtag_scan.specs.Record.{Extension}
+use Rattle.langtag_scan.specs.Record.{Extension, extension_flat}
 use Rattle.langtag_scan.specs.Subtags.{join, segments, segments_left}
 use Rattle.langtag_extension.specs.ExtensionTexts.{goes_on, opens, extension_texts, texts_left}
 use Rattle.langtag_extension.specs.Spelling.{extension_spelling, SpellsExtensions}
@@ -43,11 +43,14 @@ first-cut e es text first rest spells some joined one next =
     let texts : first ∷ texts_left rest ≡ extension_spelling e ∷ map extension_spelling es =
     sym (texts-cut text first rest some joined one next) ∙ extension_texts_spelled (e ∷ es) text spells in
     let others : texts_left rest ≡ map extension_spelling es = cc in
-    (cc, record { members = spells.members.1; joined = sym (join-spellings es) ∙ ap join (sym others) ∙ join-group_texts (segments_left rest) ∙ join-left rest })
+    let joined : join (flat_map extension_flat es) ≡ left_text rest =
+    sym (join-spellings es) ∙ ap join (sym others) ∙ join-group_texts (segments_left rest) ∙ join-left rest in
+    (cc, record { members = spells.members.1; joined = joined })
 
 -- the same at an index
 pub first-taken :
-    (e : Extension) (es : List Extension) (text : Bor (List ℕ)) (len : ℕ) → SpellsExtensions (e ∷ es) text.now → 0 < length text.now → IsFirstExtension text.now len →
+    (e : Extension) (es : List Extension) (text : Bor (List ℕ)) (len : ℕ) → SpellsExtensions (e ∷ es) text.now → 0 < length text.now →
+    IsFirstExtension text.now len →
     (take len text.now ≡ extension_spelling e) × SpellsExtensions es (drop (len + 1) text.now)
 unfolding left_text
 first-taken e es text len spells some is = elim (cases_lt len (length text.now)) [
@@ -69,7 +72,9 @@ pub length-span : (text : List ℕ) (span : Span) → HasBytes text span → len
 length-span text span has = omega (arith, length-take (end_of span - span.start) (drop span.start text), length-drop span.start text, has.1)
 
 -- some first bytes of a span
-pub span-first : (text : List ℕ) (span : Span) (len : ℕ) → HasBytes text span → len ≤ span.len → span_text text (record { start = span.start; len = len }) ≡ take len (span_text text span)
+pub span-first :
+    (text : List ℕ) (span : Span) (len : ℕ) → HasBytes text span → len ≤ span.len →
+    span_text text (record { start = span.start; len = len }) ≡ take len (span_text text span)
 span-first text span len has few =
     let size : span.start + len - span.start ≡ len = omega arith in
     ap (λ n. take n (drop span.start text)) size ∙ sym (take-take len (end_of span - span.start) (drop span.start text) (omega (arith, few)))

@@ -63,7 +63,8 @@ module _ {A : Type 0} (alike : A → A → Bool) (from_both : (a b c : A) → al
       (before after : List A) × (xs ≡ before ++ x ∷ after) × (count_by (alike x) (seen ++ before) ≡ 1)
   unfolding AreApart
   second-after seen [] x apart is = absurd cc
-  second-after seen (y ∷ ys) x apart is = by_test (list_any (alike y) seen) refl is (λ new. second-after (seen ++ y ∷ []) ys x (AreApart-push seen y apart new))
+  second-after seen (y ∷ ys) x apart is =
+      by_test (list_any (alike y) seen) refl is (λ new. second-after (seen ++ y ∷ []) ys x (AreApart-push seen y apart new))
     where
       by_test :
           (b : Bool) → list_any (alike y) seen ≡ b → cond b (Some y) (repeat_after alike (seen ++ y ∷ []) ys) ≡ Some x →
@@ -118,16 +119,20 @@ repeat_after-map :
     option_map f (repeat_after (λ a b. alike (f a) (f b)) seen xs) ≡ repeat_after alike (map f seen) (map f xs)
 repeat_after-map alike f seen [] = refl
 repeat_after-map alike f seen (x ∷ xs) =
-    by_test (list_any (λ b. alike (f x) (f b)) seen) (repeat_after-map alike f (seen ++ x ∷ []) xs) ∙ ap (λ b. cond b (Some (f x)) (repeat_after alike (map f seen ++ f x ∷ []) (map f xs))) (sym (any-map (alike (f x)) f seen))
+    by_test (list_any (λ b. alike (f x) (f b)) seen) (repeat_after-map alike f (seen ++ x ∷ []) xs)
+    ∙ ap (λ b. cond b (Some (f x)) (repeat_after alike (map f seen ++ f x ∷ []) (map f xs))) (sym (any-map (alike (f x)) f seen))
   where
     by_test :
-        (b : Bool) → option_map f (repeat_after (λ a c. alike (f a) (f c)) (seen ++ x ∷ []) xs) ≡ repeat_after alike (map f (seen ++ x ∷ [])) (map f xs) →
+        (b : Bool) →
+        option_map f (repeat_after (λ a c. alike (f a) (f c)) (seen ++ x ∷ []) xs) ≡ repeat_after alike (map f (seen ++ x ∷ [])) (map f xs) →
         option_map f (cond b (Some x) (repeat_after (λ a c. alike (f a) (f c)) (seen ++ x ∷ []) xs))
         ≡ cond b (Some (f x)) (repeat_after alike (map f seen ++ f x ∷ []) (map f xs))
     by_test true others = refl
     by_test false others = others ∙ ap (λ ys. repeat_after alike ys (map f xs)) (map-push f seen x)
 
-pub repeat-singletons : (es : List Extension) → option_map (λ e. e.singleton) (repeat have_one_singleton es) ≡ repeat are_alike_bytes (map (λ e. e.singleton) es)
+pub repeat-singletons :
+    (es : List Extension) →
+    option_map (λ e. e.singleton) (repeat have_one_singleton es) ≡ repeat are_alike_bytes (map (λ e. e.singleton) es)
 repeat-singletons es = repeat_after-map are_alike_bytes (λ e. e.singleton) [] es
 
 -- no subtag of an extension is alike one byte

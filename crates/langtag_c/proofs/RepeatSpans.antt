@@ -1,5 +1,5 @@
 -- Where the first repeated variant and the first repeated singleton of a record stand in its text.
-use Rattle.std.proofs.Common.{◌≡◌, ℕ, ◌+◌, ◌<◌, ◌≤◌, ◌^◌, Bool, List, [], ◌∷◌, ◌++◌, length, map, Option, None, Some, MatchOption, is_some, unwrap_or, inl, inr, refl, ap, sym, subst, ◌∙◌, arith, append_assoc, length-append}
+use Rattle.std.proofs.Common.{◌≡◌, ℕ, ◌+◌, ◌<◌, ◌≤◌, ◌^◌, Bool, List, [], ◌∷◌, ◌++◌, length, map, Option, None, Some, is_some, unwrap_or, inl, inr, refl, ap, sym, subst, ◌∙◌, arith, append_assoc, length-append}
 use Rattle.std.specs.List.{AllByRecursion, count_by, sum_by, flat_map}
 use Rattle.std.specs.Option.{option_map}
 use Rattle.std.proofs.lemmas.Bool.Decides.{eqb_tells}
@@ -16,7 +16,7 @@ use Rattle.langtag_scan.proofs.SubtagFacts.{of_variant}
 use Rattle.langtag_scan.proofs.SubtagLists.{each_subtag, subtags-joined}
 use Rattle.langtag_extension.proofs.Rules.{subtags-flat_map}
 use Rattle.langtag.specs.Repeat.{repeat, are_alike_bytes}
-use Rattle.langtag_c.specs.Repeats.{IsSecond, IsFirstRepeatAt, HasFirstRepeat, have_one_singleton, singleton_place, variant_place}
+use Rattle.langtag_c.specs.Repeats.{AnswersRepeat, IsFirstRepeatAt, HasFirstRepeat, have_one_singleton, singleton_place, variant_place}
 use Rattle.langtag_c.specs.Spans.{empty_at, spans_at}
 use Rattle.langtag_c.specs.declared.span.Span.{Span}
 use Rattle.langtag_c.proofs.FirstRepeats.{first-repeat, alike-from_both, one_singleton-from_both, repeat-singletons, count-flat}
@@ -76,7 +76,7 @@ variant-stands r text x variants start n spells is part starts place =
       place before second.after (listed ∙ second.members) second.one,
       join-width r.primary (r.extended ++ (one_flat r.script ++ one_flat r.region)) before,
     ) in
-    subst (λ o. MatchOption o (some_span (start + n) (length x) ≡ None) (λ y. (others : List (List ℕ)) × IsSecond are_alike r.variants others y × (some_span (start + n) (length x) ≡ Some (variant_place r others y))))
+    subst (AnswersRepeat are_alike r.variants None (λ others y. Some (variant_place r others y)) (some_span (start + n) (length x)))
     is (before, second, ap (λ s. some_span s (length x)) at)
 
 each-first : (before rest : List Extension) → AllByRecursion IsWellFormedExtension (before ++ rest) → AllByRecursion IsWellFormedExtension before
@@ -86,14 +86,15 @@ each-first (e ∷ before) rest fits = (fits.0, each-first before rest fits.1)
 pub singleton-stands :
     (r : Record) (text extensions : List ℕ) (b start n : ℕ) → Spells r text → Some b ≡ repeat are_alike_bytes (map (λ e. e.singleton) r.extensions) →
     extensions ≡ extensions_part r → ((r.extensions ≡ [] → ⊥) → start ≡ length (join (to_variants r)) + 1) →
-    ((before after : List (List ℕ)) → subtags extensions ≡ before ++ (b ∷ []) ∷ after → count_by (are_alike (b ∷ [])) before ≡ 1 → n ≡ sum_by width before) →
+    ((before after : List (List ℕ)) → subtags extensions ≡ before ++ (b ∷ []) ∷ after → count_by (are_alike (b ∷ [])) before ≡ 1 →
+    n ≡ sum_by width before) →
     IsFirstRepeatAt have_one_singleton (singleton_place r) r.extensions (some_span (start + n) 1)
 singleton-stands r text extensions b start n spells is part starts place =
     by_repeat (repeat have_one_singleton r.extensions) refl (repeat-singletons r.extensions ∙ sym is)
   where
     by_repeat :
         (o : Option Extension) → repeat have_one_singleton r.extensions ≡ o → option_map (λ e. e.singleton) o ≡ Some b →
-        MatchOption o (some_span (start + n) 1 ≡ None) (λ e. (others : List Extension) × IsSecond have_one_singleton r.extensions others e × (some_span (start + n) 1 ≡ Some (singleton_place r others e)))
+        AnswersRepeat have_one_singleton r.extensions None (λ others e. Some (singleton_place r others e)) (some_span (start + n) 1) o
     by_repeat None found none = absurd cc
     by_repeat (Some e) found one =
         let byte : e.singleton ≡ b = cc in
@@ -102,7 +103,8 @@ singleton-stands r text extensions b start n spells is part starts place =
         let fits = spells.0.extensions in
         let rest = e.subtags ++ flat_map extension_flat second.after in
         let listed : subtags extensions ≡ flat ++ (b ∷ []) ∷ rest =
-        ap subtags part ∙ subtags-flat_map r.extensions fits ∙ ap (flat_map extension_flat) second.members ∙ flat_map-append extension_flat before (e ∷ second.after)
+        ap subtags part ∙ subtags-flat_map r.extensions fits ∙ ap (flat_map extension_flat) second.members
+        ∙ flat_map-append extension_flat before (e ∷ second.after)
         ∙ ap (λ c. flat ++ (c ∷ []) ∷ rest) byte in
         let counted : count_by (are_alike (b ∷ [])) flat ≡ 1 =
         ap (λ c. count_by (are_alike (c ∷ [])) flat) (sym byte)
@@ -124,7 +126,7 @@ singleton-none r place is = by_repeat (repeat have_one_singleton r.extensions) (
   where
     by_repeat :
         (o : Option Extension) → option_map (λ e. e.singleton) o ≡ None →
-        MatchOption o (none_span ≡ None) (λ e. (others : List Extension) × IsSecond have_one_singleton r.extensions others e × (none_span ≡ Some (place others e)))
+        AnswersRepeat have_one_singleton r.extensions None (λ others e. Some (place others e)) none_span o
     by_repeat None none = refl
     by_repeat (Some e) none = absurd cc
 
@@ -135,7 +137,7 @@ module _ {A : Type 0} (alike : A → A → Bool) (place : List A → A → Span)
   is_some-first first = by_repeat (repeat alike xs) first
     where
       by_repeat :
-          (o : Option A) → MatchOption o (span ≡ None) (λ x. (before : List A) × IsSecond alike xs before x × (span ≡ Some (place before x))) → is_some span ≡ is_some o
+          (o : Option A) → AnswersRepeat alike xs None (λ before x. Some (place before x)) span o → is_some span ≡ is_some o
       by_repeat None is = ap is_some is
       by_repeat (Some x) is = ap is_some is.2
 
@@ -143,15 +145,17 @@ module _ {A : Type 0} (alike : A → A → Bool) (place : List A → A → Span)
   first-there first = by_repeat (repeat alike xs) first
     where
       by_repeat :
-          (o : Option A) → MatchOption o (span ≡ None) (λ x. (before : List A) × IsSecond alike xs before x × (span ≡ Some (place before x))) →
-          MatchOption o (unwrap_or span (empty_at 0) ≡ empty_at 0) (λ x. (before : List A) × IsSecond alike xs before x × (unwrap_or span (empty_at 0) ≡ place before x))
+          (o : Option A) → AnswersRepeat alike xs None (λ before x. Some (place before x)) span o →
+          AnswersRepeat alike xs (empty_at 0) place (unwrap_or span (empty_at 0)) o
       by_repeat None is = ap (λ o. unwrap_or o (empty_at 0)) is
       by_repeat (Some x) is = (is.0, is.1, ap (λ o. unwrap_or o (empty_at 0)) is.2)
 
 -- ---- there is room for the sum
 
 -- a normal text has a record, of which something is known
-pub room : (text : List ℕ) (part_of : Record → List ℕ) (part : List ℕ) (start n : ℕ) → IsNormal text → EachRecord text (λ r. start + length (part_of r) + 1 < 2 ^ 64) →
+pub room :
+    (text : List ℕ) (part_of : Record → List ℕ) (part : List ℕ) (start n : ℕ) → IsNormal text →
+    EachRecord text (λ r. start + length (part_of r) + 1 < 2 ^ 64) →
     EachRecord text (λ r. part ≡ part_of r) → n ≤ length part + 1 → start + n < 2 ^ 64
 unfolding IsNormal
 room text part_of part start n (r, spells) few is le = omega (arith, few r spells, ap length (is r spells), le)

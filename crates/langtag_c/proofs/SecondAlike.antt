@@ -68,7 +68,9 @@ width-subtags [] = omega arith
 width-subtags (b ∷ text) = omega (arith, sum_by-slice_split is_hyphen (b ∷ text))
 
 -- so many of them, and one more
-pub width-more : (text : List ℕ) (n : ℕ) (y : List ℕ) (rest : List (List ℕ)) → drop n (subtags text) ≡ y ∷ rest → sum_by width (take n (subtags text)) + width y ≤ length text + 1
+pub width-more :
+    (text : List ℕ) (n : ℕ) (y : List ℕ) (rest : List (List ℕ)) → drop n (subtags text) ≡ y ∷ rest →
+    sum_by width (take n (subtags text)) + width y ≤ length text + 1
 width-more text n y rest left =
     omega (arith, width-subtags text, sum_by-take-drop width (subtags text) n, ap (sum_by width) left, sum_by-cons width y rest)
 
@@ -80,7 +82,8 @@ pub second-found :
     (xs : List (List ℕ)) (n : ℕ) (y s : List ℕ) (rest before after : List (List ℕ)) → drop n xs ≡ y ∷ rest → are_alike s y ≡ true →
     count_by (are_alike s) (take n xs) ≡ 1 → xs ≡ before ++ s ∷ after → count_by (are_alike s) before ≡ 1 → take n xs ≡ before
 second-found xs n y s rest before after left alike one split same =
-    same_place (are_alike s) (take n xs) rest before after y s (ap (λ ys. take n xs ++ ys) (sym left) ∙ take-append-drop n xs ∙ split) alike (alike-self s) (one ∙ sym same)
+    let cut : take n xs ++ y ∷ rest ≡ before ++ s ∷ after = ap (λ ys. take n xs ++ ys) (sym left) ∙ take-append-drop n xs ∙ split in
+    same_place (are_alike s) (take n xs) rest before after y s cut alike (alike-self s) (one ∙ sym same)
 
 -- no second one was found in all of them
 pub second-missed :
@@ -102,7 +105,8 @@ next-subtag xs n y rest left =
     record {
       later = at.later;
       widths = sum_by_more width xs n y at.below ∙ ap (λ z. sum_by width (take n xs) + width z) (sym at.member);
-      counts = λ s. sum_by_more (one_if (are_alike s)) xs n y at.below ∙ ap (λ z. count_by (are_alike s) (take n xs) + cond (are_alike s z) 1 0) (sym at.member);
+      counts = λ s. sum_by_more (one_if (are_alike s)) xs n y at.below
+          ∙ ap (λ z. count_by (are_alike s) (take n xs) + cond (are_alike s z) 1 0) (sym at.member);
     }
 
 -- ---- where it stands after other subtags

@@ -1,5 +1,5 @@
 -- Where variants and singletons stand that are in a tag twice (RFC 5646 section 2.2.9).
-use Rattle.std.specs.Prelude.{◌≡◌, ℕ, ◌+◌, Bool, List, ◌∷◌, ◌++◌, length, Option, None, Some, MatchOption}
+use Rattle.std.specs.Prelude.{◌≡◌, ℕ, ◌+◌, Bool, List, ◌∷◌, ◌++◌, length, Option, None, Some}
 use Rattle.std.specs.List.{count_by, flat_map}
 use Rattle.langtag_scan.specs.Ends.{to_region, to_variants}
 use Rattle.langtag_scan.specs.Record.{Record, Extension, extension_flat}
@@ -20,13 +20,18 @@ module _ {A : Type 0} (alike : A → A → Bool) where
     pub members : xs ≡ before ++ x ∷ after
     pub one : count_by (alike x) before ≡ 1
 
+  -- the answer for a repeated member of a list, by the members before it and itself, and where there is none
+  abbrev pub AnswersRepeat : {B : Type 0} → List A → B → (List A → A → B) → B → Option A → Type 0
+  AnswersRepeat xs none place answer None = answer ≡ none
+  AnswersRepeat xs none place answer (Some x) = (before : List A) × IsSecond xs before x × (answer ≡ place before x)
+
   -- where the first member stands that is alike an earlier one, by where a member stands after others; None where none is
   abbrev pub IsFirstRepeatAt : (List A → A → Span) → List A → Option Span → Type 0
-  IsFirstRepeatAt place xs span = MatchOption (repeat alike xs) (span ≡ None) (λ x. (before : List A) × IsSecond xs before x × (span ≡ Some (place before x)))
+  IsFirstRepeatAt place xs span = AnswersRepeat xs None (λ before x. Some (place before x)) span (repeat alike xs)
 
   -- the same, where no byte says that none is
   abbrev pub HasFirstRepeat : (List A → A → Span) → List A → Span → Type 0
-  HasFirstRepeat place xs span = MatchOption (repeat alike xs) (span ≡ empty_at 0) (λ x. (before : List A) × IsSecond xs before x × (span ≡ place before x))
+  HasFirstRepeat place xs span = AnswersRepeat xs (empty_at 0) place span (repeat alike xs)
 
 -- so many bytes after some subtags and a hyphen
 abbrev pub span_after : List (List ℕ) → ℕ → Span

@@ -30,7 +30,8 @@ pub struct Repeated {
 /// normal tag. All of `repeated` is written.
 #[unsafe(no_mangle)]
 pub extern "C" fn langtag_repeats(bytes: &[u8], repeated: &mut Repeated) -> u32
-    ensures flags { EachRecord bytes.now (λ r. result ≡ repeat_flags (is_some (repeat are_alike r.variants)) (is_some (repeat have_one_singleton r.extensions))) }
+    ensures flags { EachRecord bytes.now (λ r.
+        result ≡ repeat_flags (is_some (repeat are_alike r.variants)) (is_some (repeat have_one_singleton r.extensions))) }
     ensures variant { EachRecord bytes.now (λ r. HasFirstRepeat are_alike (variant_place r) r.variants repeated.new.variant) }
     ensures singleton { EachRecord bytes.now (λ r. HasFirstRepeat have_one_singleton (singleton_place r) r.extensions repeated.new.singleton) }
     ensures other { (IsNormal bytes.now → ⊥) → (result ≡ 0) × (repeated.new ≡ none_repeated) }

@@ -25,7 +25,8 @@ impl Span {
 
     /// The bytes, where there are any and they lie within the text.
     pub(crate) fn of<'a>(&self, text: &'a [u8]) -> Option<&'a [u8]>
-        ensures { MatchOption result (HasBytes text.now self.now → ⊥) (λ bytes. HasBytes text.now self.now × (bytes.now ≡ span_text text.now self.now)) }
+        ensures { MatchOption result (HasBytes text.now self.now → ⊥)
+            (λ bytes. HasBytes text.now self.now × (bytes.now ≡ span_text text.now self.now)) }
     {
         if self.len == 0 {
             return None;

@@ -36,7 +36,8 @@ pub extern "C" fn langtag_next_extension(
 ) -> bool
     ensures some { IsTrue result ↔ HasBytes bytes.now rest.old }
     ensures taken { IsTrue result → TakesExtension bytes.now rest.old rest.new extension.new }
-    ensures extension { IsTrue result → (first : Extension) (others : List Extension) → SpellsExtensions (first ∷ others) (span_text bytes.now rest.old) →
+    ensures extension { IsTrue result → (first : Extension) (others : List Extension) →
+        SpellsExtensions (first ∷ others) (span_text bytes.now rest.old) →
         (span_text bytes.now extension.new ≡ extension_spelling first) × SpellsExtensions others (span_text bytes.now rest.new) }
     ensures nothing { result ≡ false → (rest.new ≡ rest.old) × (extension.new ≡ extension.old) }
 {
