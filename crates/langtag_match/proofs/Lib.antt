@@ -5,4 +5,6 @@ pub mod Elements
 pub mod Offsets
 pub mod Plain
 pub mod Prefixes
+pub mod Readings
 pub mod Spaces
+pub mod Thousandths
