@@ -2,6 +2,7 @@ pub mod Among
 pub mod BasicRanges
 pub mod Chains
 pub mod Elements
+pub mod Found
 pub mod Offsets
 pub mod Plain
 pub mod Prefixes
