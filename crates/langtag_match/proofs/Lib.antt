@@ -1,4 +1,5 @@
 pub mod Among
+pub mod BasicForms
 pub mod BasicRanges
 pub mod Chains
 pub mod Elements

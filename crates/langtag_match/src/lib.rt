@@ -21,6 +21,7 @@
 mod accept_language;
 mod accept_language_error;
 mod basic;
+mod basic_form;
 mod choice;
 mod extended;
 mod fallbacks;
