@@ -1,5 +1,4 @@
 pub mod Among
-pub mod BasicForms
 pub mod BasicRanges
 pub mod Chains
 pub mod Elements

@@ -1,6 +1,5 @@
 pub mod AcceptLanguage
 pub mod Basic
-pub mod BasicForm
 pub mod Compared
 pub mod Extended
 pub mod Filter

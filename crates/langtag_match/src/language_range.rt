@@ -3,14 +3,12 @@ ghost use Rattle.std.specs.Prelude.{◌≡◌, ◌↔◌, Some, IsTrue, IfOk, If
 ghost use Rattle.std.specs.String.{string_bytes};
 ghost use Rattle.langtag.specs.Case.{are_alike};
 ghost use Rattle.langtag.specs.Text.{lang_tag_text};
-ghost use Rattle.langtag_match.specs.BasicForm as BasicForm;
 ghost use Rattle.langtag_match.specs.Basic.{MatchesBasic, test_basic};
 ghost use Rattle.langtag_match.specs.Extended.{MatchesExtended, test_extended};
 ghost use Rattle.langtag_match.specs.Fallback.{fallbacks};
 ghost use Rattle.langtag_match.specs.Range as spec;
 
 use crate::basic::matches_basic;
-use crate::basic_form::basic_form;
 use crate::extended::matches_extended;
 use crate::fallbacks::Fallbacks;
 use crate::range_text::{is_basic_range, is_language_range};
@@ -121,22 +119,6 @@ impl<'a> LanguageRange<'a> {
         ensures { fallbacks_left result ≡ fallbacks (language_range_text self.now) }
     {
         Fallbacks::new(*self)
-    }
-
-    /// The basic range that the range is mapped to (RFC 4647 section 3.2): `*` where its first subtag is that, and else the
-    /// range without each `*`. It is `en-US` for `en-*-US`, and `*` for `*-CH`.
-    ///
-    /// # Errors
-    ///
-    /// No memory could be had.
-    pub fn try_to_basic(&self, alloc: Global) -> Result<LanguageRangeBuf, AllocError>
-        ensures text { IfOk result (λ basic. language_range_buf_text basic ≡ BasicForm.basic_form (language_range_text self.now)) }
-        ensures is_basic { IfOk result (λ basic. IsTrue (spec.is_basic_range (language_range_buf_text basic))) }
-    {
-        let text = basic_form(alloc, self.as_str())?;
-        Ok(LanguageRangeBuf {
-            text: Caseless(text),
-        })
     }
 
     /// The owned form of the same text: `LanguageRange::new("de-*")?.try_to_owned(alloc)?.as_str()` is `"de-*"`.

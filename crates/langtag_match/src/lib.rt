@@ -21,7 +21,6 @@
 mod accept_language;
 mod accept_language_error;
 mod basic;
-mod basic_form;
 mod choice;
 mod extended;
 mod fallbacks;
