@@ -3,5 +3,6 @@
 
 mod lang_tag;
 mod loops;
+mod matching;
 mod recognise;
 mod repeats;

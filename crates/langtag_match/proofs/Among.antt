@@ -1,11 +1,12 @@
 -- What one subtag of a tag says of the subtags of a range that stand among it and those after it: the steps of
 -- RFC 4647 section 3.3.2.
-use Rattle.std.proofs.Common.{◌≡◌, ◌↔◌, ℕ, true, false, not, ◌==◌, subst, IsTrue, List, [], ◌∷◌, ◌++◌, length, refl, sym, ap, ◌∙◌, append_assoc}
+use Rattle.std.proofs.Common.{◌≡◌, ◌↔◌, ℕ, Bool, true, false, not, ◌==◌, subst, IsTrue, List, [], ◌∷◌, ◌++◌, length, refl, sym, ap, ◌∙◌, append_assoc}
 use Rattle.std.proofs.lemmas.Bool.{and_parts, both_ways, not-true}
 use Rattle.std.proofs.lemmas.List.{length-map}
 use Rattle.langtag_scan.specs.Case.{fold_byte, Alike, are_alike}
 use Rattle.langtag_scan.specs.CaseLaws.{are_alike-decides}
-use Rattle.langtag_match.specs.Extended.{have_no_single, StandAmong, without_stars}
+use Rattle.langtag_scan.specs.Subtags.{subtags}
+use Rattle.langtag_match.specs.Extended.{matches_subtag, have_no_single, StandAmong, without_stars, MatchSubtags, MatchesExtended, stand_among, match_subtags, test_extended}
 use Rattle.langtag_match.specs.Range.{is_star, is_single}
 
 -- texts that are alike are as long
@@ -96,3 +97,41 @@ pub walk_missed :
 walk_missed w left ws left_tag Whole cut plain missed same whole =
     let kept : without_stars left ≡ w ∷ without_stars ws = ap without_stars cut ∙ rw plain refl in
     missed (without_stars ws) (subst (λ ss. StandAmong ss left_tag) kept (same.1 whole))
+
+-- ---- the same as a test
+
+stand_among-decides : (wanted subtags : List (List ℕ)) → IsTrue (stand_among wanted subtags) ↔ StandAmong wanted subtags
+stand_among-decides [] subtags = (λ yes. tt, λ stands. refl)
+stand_among-decides (w ∷ more) [] = (λ no. absurd cc, λ stands. absurd (among_none w more stands))
+stand_among-decides (w ∷ more) (t ∷ ts) =
+    by_subtag (are_alike w t) (is_single t) refl refl (stand_among-decides more ts) (stand_among-decides (w ∷ more) ts)
+  where
+    by_subtag :
+        (alike single : Bool) → are_alike w t ≡ alike → is_single t ≡ single →
+        (IsTrue (stand_among more ts) ↔ StandAmong more ts) → (IsTrue (stand_among (w ∷ more) ts) ↔ StandAmong (w ∷ more) ts) →
+        IsTrue (stand_among (w ∷ more) (t ∷ ts)) ↔ StandAmong (w ∷ more) (t ∷ ts)
+    by_subtag true single is one here later =
+        let step = among_found w t more ts is in
+        rw is (λ yes. step.0 (here.0 yes), λ stands. here.1 (step.1 stands))
+    by_subtag false true is one here later = rw (is, one) (λ no. absurd cc, λ stands. absurd (among_blocked w t more ts is one stands))
+    by_subtag false false is one here later =
+        let step = among_left w t more ts is one in
+        rw (is, one) (λ yes. step.0 (later.0 yes), λ stands. later.1 (step.1 stands))
+
+match_subtags-decides : (range tag : List (List ℕ)) → IsTrue (match_subtags range tag) ↔ MatchSubtags range tag
+match_subtags-decides [] tag = (λ no. absurd cc, λ no. absurd no)
+match_subtags-decides (first ∷ others) [] = (λ no. absurd cc, λ no. absurd no)
+match_subtags-decides (first ∷ others) (subtag ∷ subtags) =
+    let rest = stand_among-decides (without_stars others) subtags in (
+      λ yes. let k = and_parts (matches_subtag first subtag) (stand_among (without_stars others) subtags) yes in (k.0, rest.0 k.1),
+      λ both. rw (both.0, rest.1 both.1) refl,
+    )
+
+pub test_extended-decides : (range tag : List ℕ) → IsTrue (test_extended range tag) ↔ MatchesExtended range tag
+test_extended-decides range tag = match_subtags-decides (subtags range) (subtags tag)
+
+-- two tests of one statement are equal
+pub same_test : (a b : Bool) (P : Type 0) → IsTrue a ↔ P → IsTrue b ↔ P → a ≡ b
+same_test true b P first second = sym (second.1 (first.0 refl))
+same_test false true P first second = first.1 (second.0 refl)
+same_test false false P first second = refl

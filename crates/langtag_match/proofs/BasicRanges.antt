@@ -11,7 +11,7 @@ pub list_all-weaker : {X : Type 0} (p q : X → Bool) → ((x : X) → p x ≡ t
 list_all-weaker p q weaker [] each = refl
 list_all-weaker p q weaker (x ∷ xs) each = let k = and_parts (p x) (list_all p xs) each in rw (weaker x k.0, list_all-weaker p q weaker xs k.1) refl
 
-or_second : (a b : Bool) → b ≡ true → (a || b) ≡ true
+pub or_second : (a b : Bool) → b ≡ true → (a || b) ≡ true
 or_second true b is = refl
 or_second false b is = is
 

@@ -2,7 +2,10 @@ pub mod Among
 pub mod BasicRanges
 pub mod Chains
 pub mod Elements
+pub mod Found
 pub mod Offsets
 pub mod Plain
 pub mod Prefixes
+pub mod Readings
 pub mod Spaces
+pub mod Thousandths

@@ -1,8 +1,12 @@
 -- A tag that begins with a range.
-use Rattle.std.proofs.Common.{◌≡◌, ℕ, ◌+◌, ◌-◌, ◌<◌, ◌≤◌, List, ◌∷◌, ◌++◌, length, take, drop, get_or, inl, inr, sym, ap, ◌∙◌, arith}
-use Rattle.std.proofs.lemmas.List.{take_at, length-map, length-append, at_drop_more, take-append-drop, get_or-append_right, take_all}
-use Rattle.langtag_scan.specs.Case.{fold_byte, fold_text, Alike}
-use Rattle.langtag_match.specs.Basic.{BeginsWith}
+use Rattle.std.proofs.Common.{◌≡◌, ◌↔◌, ℕ, ◌+◌, ◌-◌, ◌<◌, ◌≤◌, ◌&&◌, true, IsTrue, List, [], ◌∷◌, ◌++◌, length, length-drop, take, drop, get_or, inl, inr, refl, sym, ap, ◌∙◌, arith}
+use Rattle.std.proofs.lemmas.Bool.{and_parts, or_cases, cases_lt, eqb-true, eq-eqb}
+use Rattle.std.proofs.lemmas.List.{take_at, length-map, length-append, at_drop_more, take-append-drop, get_or-append_right, get_or-drop, take_all}
+use Rattle.langtag_scan.specs.Case.{fold_byte, fold_text, Alike, are_alike}
+use Rattle.langtag_scan.specs.CaseLaws.{are_alike-decides}
+use Rattle.langtag_match.specs.Basic.{BeginsWith, MatchesBasic, ends_subtag, test_basic}
+use Rattle.langtag_match.specs.Range.{is_star}
+use Rattle.langtag_match.proofs.BasicRanges.{or_second}
 
 -- texts that are alike are as long
 length-alike : (a b : List ℕ) → Alike a b → length a ≡ length b
@@ -39,3 +43,45 @@ begins_shown range tag (inr (prefix, rest, cut, alike)) =
       alike = alike ∙ ap fold_text (sym (ap (take (length range)) cut ∙ take_at prefix (45 ∷ rest) (length range) (sym same)));
       hyphen = λ longer. ap (λ t. get_or t (length range) 0) cut ∙ get_or-append_right prefix (45 ∷ rest) (length range) (length range) 0 (sym same) (omega arith) ∙ ap (λ n. get_or (45 ∷ rest) n 0) none;
     }
+
+-- ---- the same as a test
+
+ends_subtag-hyphen : (rest : List ℕ) → ends_subtag rest ≡ true → 0 < length rest → get_or rest 0 0 ≡ 45
+ends_subtag-hyphen [] ends some = absurd (omega (arith, some))
+ends_subtag-hyphen (b ∷ rest) ends some = eqb-true b 45 ends
+
+ends_subtag-from_hyphen : (rest : List ℕ) → (0 < length rest → get_or rest 0 0 ≡ 45) → ends_subtag rest ≡ true
+ends_subtag-from_hyphen [] hyphen = refl
+ends_subtag-from_hyphen (b ∷ rest) hyphen = eq-eqb b 45 (hyphen (omega arith))
+
+first-drop : (n : ℕ) (text : List ℕ) → get_or (drop n text) 0 0 ≡ get_or text n 0
+first-drop n text = let none : n + 0 ≡ n = omega arith in get_or-drop n text 0 0 ∙ ap (λ m. get_or text m 0) none
+
+begins_from_test : (range tag : List ℕ) → are_alike range (take (length range) tag) ≡ true → ends_subtag (drop (length range) tag) ≡ true → BeginsWith range tag
+begins_from_test range tag alike ends =
+    let same : Alike range (take (length range) tag) = (are_alike-decides range (take (length range) tag)).0 alike in
+    elim (cases_lt (length range) (length tag)) [
+      | inl longer ↦
+          let hyphen = ends_subtag-hyphen (drop (length range) tag) ends (omega (arith, longer, length-drop (length range) tag)) in
+          begins_before range tag longer same (sym (first-drop (length range) tag) ∙ hyphen)
+      | inr short ↦ inl (same ∙ ap fold_text (take_all (length range) tag short))
+    ]
+
+test_from_begins : (range tag : List ℕ) → BeginsWith range tag → (are_alike range (take (length range) tag) && ends_subtag (drop (length range) tag)) ≡ true
+test_from_begins range tag begins =
+    let shown = begins_shown range tag begins in
+    let alike : are_alike range (take (length range) tag) ≡ true = (are_alike-decides range (take (length range) tag)).1 shown.alike in
+    let ends : ends_subtag (drop (length range) tag) ≡ true = ends_subtag-from_hyphen (drop (length range) tag) (λ some. first-drop (length range) tag ∙ shown.hyphen (omega (arith, some, length-drop (length range) tag))) in
+    rw (alike, ends) refl
+
+pub test_basic-decides : (range tag : List ℕ) → IsTrue (test_basic range tag) ↔ MatchesBasic range tag
+test_basic-decides range tag = (
+  λ yes. elim (or_cases (is_star range) (are_alike range (take (length range) tag) && ends_subtag (drop (length range) tag)) yes) [
+    | inl star ↦ inl star
+    | inr rest ↦ let k = and_parts (are_alike range (take (length range) tag)) (ends_subtag (drop (length range) tag)) rest in inr (begins_from_test range tag k.0 k.1)
+  ],
+  λ matches. elim matches [
+    | inl star ↦ rw star refl
+    | inr begins ↦ or_second (is_star range) _ (test_from_begins range tag begins)
+  ],
+)

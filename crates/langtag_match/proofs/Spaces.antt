@@ -131,3 +131,13 @@ trimmed_once text mid left inner ((ns, cuts), full) ((ms, ends), done) (before, 
     let same = start_once before ws (inner ++ after) mid spaces cut (IsBare-text inner after some each) (start_left mid full) (sym padded ∙ first) in
     let bare : IsBare (reverse inner ++ []) = IsBare-text (reverse inner) [] (omega (arith, some, length-reverse inner)) (list_all-reverse (λ b. not (is_space b)) inner each) in
     end_once after vs inner left more rest (subst IsBare (append-nil (reverse inner)) bare) (end_left left done) (same ∙ last)
+
+-- a text that begins and ends without white space is padded in one way
+pub padded_once :
+    (padded text other : List ℕ) → IsPadded padded text → IsPadded padded other → 0 < length text → 0 < length other →
+    list_all (λ b. not (is_space b)) text ≡ true → list_all (λ b. not (is_space b)) other ≡ true → text ≡ other
+padded_once padded text other (before, after, spaces, more, written) (ws, vs, cut, rest, same) some any each all =
+    let front = start_once before ws (text ++ after) (other ++ vs) spaces cut (IsBare-text text after some each) (IsBare-text other vs any all) (sym written ∙ same) in
+    let bare : IsBare (reverse text ++ []) = IsBare-text (reverse text) [] (omega (arith, some, length-reverse text)) (list_all-reverse (λ b. not (is_space b)) text each) in
+    let bare_other : IsBare (reverse other ++ []) = IsBare-text (reverse other) [] (omega (arith, any, length-reverse other)) (list_all-reverse (λ b. not (is_space b)) other all) in
+    end_once after vs text other more rest (subst IsBare (append-nil (reverse text)) bare) (subst IsBare (append-nil (reverse other)) bare_other) front

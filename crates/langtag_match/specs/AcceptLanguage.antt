@@ -1,5 +1,5 @@
 -- The Accept-Language header (RFC 9110 section 12.5.4): #( language-range [ weight ] ).
-use Rattle.std.specs.Prelude.{◌≡◌, ℕ, ◌+◌, ◌==◌, ◌⊎◌, Bool, false, ◌||◌, IsTrue, List, [], ◌∷◌, ◌++◌, Some, filter, map, nat_lt, length, sum_by, take, slice_get}
+use Rattle.std.specs.Prelude.{◌≡◌, ℕ, ◌==◌, ◌⊎◌, Bool, false, ◌||◌, IsTrue, List, [], ◌∷◌, ◌++◌, Some, filter, map, nat_lt, length, count_by, take, slice_get}
 use Rattle.std.specs.List.{list_all, slice_split}
 use Rattle.std.specs.List.Sorted.{IsPermutation, IsSorted, IsStable}
 use Rattle.std.specs.Ordering.{nat_cmp}
@@ -36,9 +36,13 @@ abbrev pub IsItem : List ℕ → WeightedRange → Type 0
 IsItem item weighted = IsTrue (is_basic_range (weighted_range_text weighted))
     × ((IsPadded item (weighted_range_text weighted) × (weighted.weight ≡ 1000)) ⊎ IsWeighted item (weighted_range_text weighted) weighted.weight)
 
+-- ","
+abbrev pub is_comma : ℕ → Bool
+is_comma b = b == 44
+
 -- what stands between the commas of a list
 abbrev pub items : List ℕ → List (List ℕ)
-items header = slice_split (λ b. b == 44) header
+items header = slice_split is_comma header
 
 -- the elements of some items, in order; an empty item has none (section 5.6.1.2)
 abbrev pub AreElements : List (List ℕ) → List WeightedRange → Type 0
@@ -67,19 +71,32 @@ AreAccepted header ordered = (elements : List WeightedRange) × AreElements (ite
 abbrev pub range_texts : List WeightedRange → List (List ℕ)
 range_texts ordered = map weighted_range_text ordered
 
--- how many bytes stand before an item: those of the items before it, and their commas
-abbrev pub offset_of : List ℕ → ℕ → ℕ
-offset_of header index = sum_by (λ item. length item + 1) (take index (items header))
+-- what a weighted range says: the text of the range, and the weight
+abbrev pub reading : WeightedRange → List ℕ × ℕ
+reading weighted = (weighted_range_text weighted, weighted.weight)
 
--- the item at an index is neither empty nor an element, and all before it are
-pub record IsFirstBad (header : List ℕ) (index : ℕ) : Type 0 where
+-- however a header is read, its ranges and weights are the same, in the same order
+abbrev pub HasOneReading : List ℕ → Type 0
+HasOneReading header =
+    (first second : List WeightedRange) → AreAccepted header first → AreAccepted header second →
+    map reading first ≡ map reading second
+
+-- so many commas stand before an item, and so many bytes
+abbrev pub StandsAt : List ℕ → List ℕ → ℕ → ℕ → Type 0
+StandsAt header item commas bytes =
+    (before : List ℕ) × (after : List ℕ) × (header ≡ before ++ (item ++ after)) ×
+    (count_by is_comma before ≡ commas) × (length before ≡ bytes)
+
+-- the item at an index, which begins at an offset, is neither empty nor an element, and all before it are
+pub record IsFirstBad (header : List ℕ) (index offset : ℕ) : Type 0 where
   pub item : List ℕ
   pub there : slice_get (items header) index ≡ Some item
+  pub place : StandsAt header item index offset
   pub not_empty : is_ows item ≡ false
   pub no_element : (weighted : WeightedRange) → IsItem item weighted → ⊥
   pub before : (elements : List WeightedRange) × AreElements (take index (items header)) elements
 
 -- a refusal has the header itself, and where its first bad element stands
 abbrev pub Refuses : Bor (List ℕ) → AcceptLanguageError → Type 0
-Refuses header (BadElement given index offset) = (given ≡ header) × IsFirstBad header.now index × (offset ≡ offset_of header.now index)
+Refuses header (BadElement given index offset) = (given ≡ header) × IsFirstBad header.now index offset
 Refuses header (Memory error) = Unit {0}

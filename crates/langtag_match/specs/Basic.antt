@@ -1,6 +1,6 @@
 -- Basic filtering (RFC 4647 section 3.3.1).
-use Rattle.std.specs.Prelude.{◌≡◌, ◌⊎◌, ℕ, IsTrue, List, ◌∷◌, ◌++◌}
-use Rattle.langtag.specs.Case.{Alike}
+use Rattle.std.specs.Prelude.{◌≡◌, ◌⊎◌, ℕ, Bool, true, ◌==◌, ◌&&◌, ◌||◌, IsTrue, List, [], ◌∷◌, ◌++◌, length, take, drop}
+use Rattle.langtag.specs.Case.{Alike, are_alike}
 use Rattle.langtag_match.specs.Range.{is_star}
 
 -- the tag equals the range, or a prefix of it does and the character after that is a hyphen
@@ -10,3 +10,13 @@ BeginsWith range tag = Alike range tag ⊎ ((prefix : List ℕ) × (rest : List 
 -- the range "*" matches any tag
 abbrev pub MatchesBasic : List ℕ → List ℕ → Type 0
 MatchesBasic range tag = IsTrue (is_star range) ⊎ BeginsWith range tag
+
+-- nothing follows, or a hyphen
+abbrev pub ends_subtag : List ℕ → Bool
+ends_subtag [] = true
+ends_subtag (b ∷ rest) = b == 45
+
+-- the same as a test
+abbrev pub test_basic : List ℕ → List ℕ → Bool
+test_basic range tag =
+    is_star range || (are_alike range (take (length range) tag) && ends_subtag (drop (length range) tag))

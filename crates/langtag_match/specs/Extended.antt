@@ -1,5 +1,5 @@
 -- Extended filtering (RFC 4647 section 3.3.2).
-use Rattle.std.specs.Prelude.{◌≡◌, ℕ, Bool, not, ◌||◌, IsTrue, List, [], ◌∷◌, ◌++◌, filter}
+use Rattle.std.specs.Prelude.{◌≡◌, ℕ, Bool, true, false, not, ◌&&◌, ◌||◌, if◌then◌else◌, IsTrue, List, [], ◌∷◌, ◌++◌, filter}
 use Rattle.std.specs.List.{list_all}
 use Rattle.langtag.specs.Case.{are_alike}
 use Rattle.langtag.specs.Subtags.{subtags}
@@ -31,3 +31,20 @@ MatchSubtags (first ∷ others) (subtag ∷ subtags) = IsTrue (matches_subtag fi
 
 abbrev pub MatchesExtended : List ℕ → List ℕ → Type 0
 MatchesExtended range tag = MatchSubtags (subtags range) (subtags tag)
+
+-- the same as a test, subtag by subtag of the tag
+abbrev pub stand_among : List (List ℕ) → List (List ℕ) → Bool
+stand_among [] subtags = true
+stand_among (wanted ∷ more) [] = false
+stand_among (wanted ∷ more) (subtag ∷ subtags) =
+    if are_alike wanted subtag
+    then stand_among more subtags
+    else (not (is_single subtag) && stand_among (wanted ∷ more) subtags)
+
+abbrev pub match_subtags : List (List ℕ) → List (List ℕ) → Bool
+match_subtags [] tag = false
+match_subtags (first ∷ others) [] = false
+match_subtags (first ∷ others) (subtag ∷ subtags) = matches_subtag first subtag && stand_among (without_stars others) subtags
+
+abbrev pub test_extended : List ℕ → List ℕ → Bool
+test_extended range tag = match_subtags (subtags range) (subtags tag)

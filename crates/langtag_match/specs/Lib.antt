@@ -2,6 +2,8 @@ pub mod AcceptLanguage
 pub mod Basic
 pub mod Compared
 pub mod Extended
+pub mod Filter
+pub mod FilterRule
 pub mod Fallback
 pub mod LookUp
 pub mod Range

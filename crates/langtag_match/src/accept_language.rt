@@ -1,5 +1,5 @@
 //! The language ranges that an Accept-Language header asks for (RFC 9110 section 12.5.4).
-ghost use Rattle.std.specs.Prelude.{◌≡◌, List, IfOk, IfErr};
+ghost use Rattle.std.specs.Prelude.{◌≡◌, ℕ, List, Some, IfOk, IfErr, slice_get};
 ghost use Rattle.langtag_match.specs.AcceptLanguage as spec;
 ghost use Rattle.langtag_match.specs.LookUp.{choice};
 ghost use Rattle.langtag_match.specs.declared.weighted_range.WeightedRange.{WeightedRange};
@@ -34,6 +34,8 @@ impl<'a> AcceptLanguage<'a> {
     ) -> Result<AcceptLanguage<'a>, AcceptLanguageError<'a>>
         ensures accepted { IfOk result (λ accepted. spec.AreAccepted header.now (accept_language_ranges accepted)) }
         ensures refused { IfErr result (spec.Refuses header.entry) }
+
+        ensures one_reading { spec.HasOneReading header.now }
     {
         let mut ranges = elements(alloc, header)?;
         ranges.retain(|weighted| weighted.weight > 0);
@@ -115,7 +117,8 @@ fn is_ows(text: &str) -> bool
 
 /// How many bytes stand before the item at an index.
 fn offset_of(header: &str, index: usize) -> usize
-    ensures { result ≡ spec.offset_of header.now index }
+    ensures { (item : List ℕ) → slice_get (spec.items header.now) index ≡ Some item
+        → spec.StandsAt header.now item index result }
 {
     header
         .split(',')

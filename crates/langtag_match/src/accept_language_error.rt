@@ -10,7 +10,7 @@ use thiserror::Error;
 pub enum AcceptLanguageError<'a> {
     /// The header, how many commas stand before its first bad element, and how many bytes stand up to and with the last of
     /// these.
-    #[error("element {index} is no language range")]
+    #[error("element {index} is no language range with or without a weight")]
     BadElement {
         header: &'a str,
         index: usize,

@@ -3,8 +3,8 @@ ghost use Rattle.std.specs.Prelude.{◌≡◌, ◌↔◌, Some, IsTrue, IfOk, If
 ghost use Rattle.std.specs.String.{string_bytes};
 ghost use Rattle.langtag.specs.Case.{are_alike};
 ghost use Rattle.langtag.specs.Text.{lang_tag_text};
-ghost use Rattle.langtag_match.specs.Basic.{MatchesBasic};
-ghost use Rattle.langtag_match.specs.Extended.{MatchesExtended};
+ghost use Rattle.langtag_match.specs.Basic.{MatchesBasic, test_basic};
+ghost use Rattle.langtag_match.specs.Extended.{MatchesExtended, test_extended};
 ghost use Rattle.langtag_match.specs.Fallback.{fallbacks};
 ghost use Rattle.langtag_match.specs.Range as spec;
 
@@ -98,7 +98,8 @@ impl<'a> LanguageRange<'a> {
     ///
     /// It is meant for basic ranges. A `*` beside other subtags equals the subtag of no tag, so `de-*` matches none.
     pub fn matches_basic(&self, tag: &LangTag<'_>) -> bool
-        ensures { IsTrue result ↔ MatchesBasic (language_range_text self.now) (lang_tag_text tag.now) }
+        ensures matches { IsTrue result ↔ MatchesBasic (language_range_text self.now) (lang_tag_text tag.now) }
+        ensures test { result ≡ test_basic (language_range_text self.now) (lang_tag_text tag.now) }
     {
         matches_basic(self.as_str(), tag.as_str())
     }
@@ -106,7 +107,8 @@ impl<'a> LanguageRange<'a> {
     /// Whether the range matches a tag by extended filtering (RFC 4647 section 3.3.2): `de-DE` and `de-*-DE` match
     /// `de-Latn-DE-1996`, and not `de-x-DE`, where a singleton would be left out.
     pub fn matches_extended(&self, tag: &LangTag<'_>) -> bool
-        ensures { IsTrue result ↔ MatchesExtended (language_range_text self.now) (lang_tag_text tag.now) }
+        ensures matches { IsTrue result ↔ MatchesExtended (language_range_text self.now) (lang_tag_text tag.now) }
+        ensures test { result ≡ test_extended (language_range_text self.now) (lang_tag_text tag.now) }
     {
         matches_extended(self.as_str(), tag.as_str())
     }

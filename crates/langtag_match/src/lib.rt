@@ -24,6 +24,8 @@ mod basic;
 mod choice;
 mod extended;
 mod fallbacks;
+mod filter_rule;
+mod filtered;
 mod language_range;
 mod range_text;
 #[cfg(test)]
@@ -35,5 +37,6 @@ pub use accept_language::{AcceptLanguage, tag_for_header};
 pub use accept_language_error::AcceptLanguageError;
 pub use choice::look_up;
 pub use fallbacks::Fallbacks;
+pub use filtered::{Filtered, filter_basic, filter_extended};
 pub use language_range::{InvalidLanguageRange, LanguageRange, LanguageRangeBuf};
 pub use weighted_range::WeightedRange;

@@ -13,6 +13,7 @@ macro_rules! once_more {
 
 mod accept_language;
 mod fallbacks;
+mod filtered;
 mod filtering;
 mod hostile;
 mod language_range;

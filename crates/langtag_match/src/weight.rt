@@ -1,5 +1,5 @@
 //! The weight of a language range in a header (RFC 9110 section 12.4.2).
-ghost use Rattle.std.specs.Prelude.{◌≡◌, ◌<◌, ℕ, None, IfSome};
+ghost use Rattle.std.specs.Prelude.{◌≡◌, ◌<◌, ◌-◌, ℕ, None, IsTrue, IfSome, slice_index_or};
 ghost use Rattle.std.specs.Int.{is_in_range};
 ghost use Rattle.std.specs.List.{list_all};
 ghost use Rattle.langtag_match.specs.Weight as spec;
@@ -53,7 +53,8 @@ fn are_digits(bytes: &[u8], greatest: u8) -> bool
 
 /// A number from 0 to 1 in thousandths.
 fn thousandths(qvalue: &[u8]) -> u32
-    ensures { result ≡ spec.thousandths qvalue.now }
+    requires { IsTrue (spec.is_qvalue qvalue.now) }
+    ensures { spec.IsInThousandths qvalue.now result }
 {
     1000 * digit_at(qvalue, 0)
         + 100 * digit_at(qvalue, 2)
@@ -63,7 +64,7 @@ fn thousandths(qvalue: &[u8]) -> u32
 
 /// The digit at an index, 0 past the end.
 fn digit_at(text: &[u8], index: usize) -> u32
-    ensures value { result ≡ spec.digit_at text.now index }
+    ensures value { result ≡ slice_index_or text.now index 48 - 48 }
     ensures small { result < 256 }
 {
     let digit = text.get(index).copied().unwrap_or(b'0');

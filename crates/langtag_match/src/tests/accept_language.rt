@@ -93,7 +93,10 @@ fn words(alloc: Global) -> Result<String, AllocError> {
 #[test]
 fn a_refusal_tells_the_element(rt: HostRuntime) -> Result<(), Fail> {
     let words = once_more!(words(rt.alloc()))?;
-    assert_eq!(rt; words.as_str(), "element 1 is no language range");
+    assert_eq!(rt;
+        words.as_str(),
+        "element 1 is no language range with or without a weight"
+    );
     Ok(())
 }
 

@@ -60,6 +60,7 @@ const EXTENDED: [Case; 6] = [
         ],
         missed: &["de", "de-x-DE", "de-Deva"],
     },
+    // The `*` matches any first subtag, the `x` of a private use tag too. Only a singleton after the first stops the walk.
     Case {
         range: "*-CH",
         matched: &["de-CH", "fr-Latn-CH", "x-CH"],

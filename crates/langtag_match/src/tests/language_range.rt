@@ -3,47 +3,57 @@ use crate::{LanguageRange, LanguageRangeBuf};
 use std::alloc::Global;
 use std::test::Fail;
 
+const BASIC: [&str; 8] = [
+    "*",
+    "de",
+    "de-DE",
+    "DE-de-1996-x-a",
+    "x-a",
+    "i-klingon",
+    "a-1",
+    "abcdefgh-12345678",
+];
+
+const EXTENDED: [&str; 5] = ["*-CH", "de-*", "de-*-DE", "*-*", "de-*-*-x-*"];
+
 #[test]
-fn ranges_are_told_apart(rt: HostRuntime) -> Result<(), Fail> {
-    for text in [
-        "*",
-        "de",
-        "de-DE",
-        "DE-de-1996-x-a",
-        "x-a",
-        "i-klingon",
-        "a-1",
-        "abcdefgh-12345678",
-    ] {
+fn ranges_are_basic_or_extended(rt: HostRuntime) -> Result<(), Fail> {
+    for text in BASIC {
         let range = LanguageRange::new(text).ok().ok_or("refused")?;
         assert!(rt; range.is_basic(), "{text}");
         assert_eq!(rt; range.as_str(), text);
     }
-    for text in ["*-CH", "de-*", "de-*-DE", "*-*", "de-*-*-x-*"] {
+    for text in EXTENDED {
         let range = LanguageRange::new(text).ok().ok_or("refused")?;
         assert!(rt; !range.is_basic(), "{text}");
         assert!(rt; range.eq_str(text));
     }
-    for text in [
-        "",
-        "-",
-        "de-",
-        "-de",
-        "de--DE",
-        "de_DE",
-        "1",
-        "1a-b",
-        "abcdefghi",
-        "de-123456789",
-        "**",
-        "de-**",
-        "d*",
-        "é",
-    ] {
+    Ok(())
+}
+
+const REFUSED: [&str; 14] = [
+    "",
+    "-",
+    "de-",
+    "-de",
+    "de--DE",
+    "de_DE",
+    "1",
+    "1a-b",
+    "abcdefghi",
+    "de-123456789",
+    "**",
+    "de-**",
+    "d*",
+    "é",
+];
+
+#[test]
+fn other_texts_are_handed_back(rt: HostRuntime) {
+    for text in REFUSED {
         let refused = LanguageRange::new(text).err();
         assert_eq!(rt; refused.map(|error| error.0), Some(text));
     }
-    Ok(())
 }
 
 /// The owned form of a range, made of a text of its own.

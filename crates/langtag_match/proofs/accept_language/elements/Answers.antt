@@ -1,4 +1,4 @@
-use Rattle.std.proofs.Common.{◌≡◌, ◌++◌, ◌∷◌, [], refl, sym, ap, ◌∙◌, subst, lit<, length, take, arith}
+use Rattle.std.proofs.Common.{◌≡◌, ◌++◌, ◌∷◌, [], Some, refl, sym, ap, ◌∙◌, subst, lit<, length, take, arith}
 use Rattle.std.proofs.lemmas.Grind.{common_steps}
 use Rattle.std.specs.List.{slice_get}
 use Rattle.std.proofs.lemmas.Option.{slice_get_read}
@@ -23,16 +23,18 @@ returns-in_default-clause-refused c =
     let pieces = YieldsList-from_str_split {s = c.split.result} 44 c.args.header.now (lit< tt) c.split.ensures.text c.split.ensures.has_more c.split.ensures.pattern in
     let road = YieldsList-from_enumerate {s = c.into_iter-index-iterator.result} (YieldsList-at (cc) pieces) cc in
     let turn = YieldsList-turn road c.loop-index.yielded _ c.loop-index.yielded_by _ _ (c.in-Some.index, c.in-Some.item) c.in-Some.is c.next.ensures.steps in
-    let (below, nth, here) = turn_at (items c.args.header.now) _ _ _ turn in (
+    let (below, nth, here) = turn_at (items c.args.header.now) _ _ _ turn in
+    let there : slice_get (items c.args.header.now) c.in-Some.index ≡ Some c.in-Some.item.now =
+    ap (slice_get (items c.args.header.now)) nth ∙ slice_get_read (items c.args.header.now) _ _ c.in-Some.item.now refl below here in (
       refl,
       record {
         item = c.in-Some.item.now;
-        there = ap (slice_get (items c.args.header.now)) nth ∙ slice_get_read (items c.args.header.now) _ _ c.in-Some.item.now refl below here;
+        there = there;
+        place = c.offset_of-offset.ensures c.in-Some.item.now there;
         not_empty = sym c.is_ows.ensures ∙ c.if-is_ows.false;
         no_element = c.in_default.ensures.none refl;
         before = (c.loop-index.elements.items, subst (λ n. AreElements (take n (items c.args.header.now)) c.loop-index.elements.items) (sym nth) c.loop-index.invariant);
       },
-      c.offset_of-offset.ensures,
     )
 
 pub loop-index-preserved : goal.loop-index-preserved

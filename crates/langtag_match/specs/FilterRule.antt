@@ -1,0 +1,20 @@
+-- The two rules of filtering (RFC 4647 sections 3.3.1 and 3.3.2), and what a walk over the tags found has left.
+use Rattle.std.specs.Prelude.{ℕ, Bool, List, take, drop}
+use Rattle.langtag.specs.declared.lang_tag.LangTag.{LangTag}
+use Rattle.langtag_match.specs.Basic.{test_basic}
+use Rattle.langtag_match.specs.Extended.{test_extended}
+use Rattle.langtag_match.specs.Filter.{found_from}
+use Rattle.langtag_match.specs.declared.filter_rule.FilterRule.{FilterRule}
+use Rattle.langtag_match.specs.declared.filter_rule.FilterRule.TheVariants.{Basic, Extended}
+use Rattle.langtag_match.specs.declared.filtered.Filtered.{Filtered}
+
+-- whether a range matches a tag by a rule
+abbrev pub matches_by : FilterRule → List ℕ → List ℕ → Bool
+matches_by Basic range tag = test_basic range tag
+matches_by Extended range tag = test_extended range tag
+
+-- the tags that a walk has still to hand out
+abbrev pub filtered_left : Filtered → List LangTag
+filtered_left walk =
+    found_from (matches_by walk.rule) (take walk.range walk.ranges.now) (drop walk.range walk.ranges.now)
+    (drop walk.tag walk.tags.now) walk.tags.now

@@ -1,0 +1,146 @@
+//! Filtering of a list of tags by a language priority list (RFC 4647 section 3.3).
+ghost use Rattle.std.specs.Prelude.{◌≡◌, ◌<◌, ◌≤◌, ◌+◌, ◌∷◌, [], ℕ, length, take, drop, not, ◌&&◌, slice_get, Some, MatchOption};
+ghost use Rattle.std.specs.Iterator.{YieldsFirst, item_count};
+ghost use Rattle.std.specs.List.{list_any};
+ghost use Rattle.langtag.specs.declared.lang_tag.LangTag.{LangTag};
+ghost use Rattle.langtag_match.specs.Basic.{test_basic};
+ghost use Rattle.langtag_match.specs.Extended.{test_extended};
+ghost use Rattle.langtag_match.specs.Filter as spec;
+ghost use Rattle.langtag_match.specs.FilterRule.{matches_by, filtered_left};
+
+use crate::filter_rule::FilterRule;
+use crate::language_range::LanguageRange;
+use langtag::LangTag;
+
+/// The tags that basic filtering finds for a language priority list (RFC 4647 sections 3.3 and 3.3.1): those of the first
+/// range in their order, and then, for each later range, those that no range before it matches.
+///
+/// For the ranges `de-CH` and `de` and the tags `en`, `de-AT` and `de-CH-1996` these are `de-CH-1996` and `de-AT`.
+pub fn filter_basic<'a, 't>(
+    ranges: &'a [LanguageRange<'a>],
+    tags: &'a [LangTag<'t>],
+) -> Filtered<'a, 't>
+    ensures { filtered_left result ≡ spec.filtered test_basic ranges.now tags.now }
+{
+    Filtered::new(FilterRule::Basic, ranges, tags)
+}
+
+/// The same by extended filtering (section 3.3.2): for `*-CH` and the tags `de-AT` and `de-Latn-CH` it is `de-Latn-CH`.
+pub fn filter_extended<'a, 't>(
+    ranges: &'a [LanguageRange<'a>],
+    tags: &'a [LangTag<'t>],
+) -> Filtered<'a, 't>
+    ensures { filtered_left result ≡ spec.filtered test_extended ranges.now tags.now }
+{
+    Filtered::new(FilterRule::Extended, ranges, tags)
+}
+
+/// The tags that [`filter_basic`] or [`filter_extended`] finds and that are still to come. It takes no memory.
+#[derive(Debug, Drop)]
+pub struct Filtered<'a, 't> {
+    rule: FilterRule,
+    ranges: &'a [LanguageRange<'a>],
+    tags: &'a [LangTag<'t>],
+    range: usize,
+    tag: usize,
+}
+
+impl<'a, 't> Filtered<'a, 't> {
+    /// All tags that the ranges find.
+    fn new(
+        rule: FilterRule,
+        ranges: &'a [LanguageRange<'a>],
+        tags: &'a [LangTag<'t>],
+    ) -> Filtered<'a, 't>
+        ensures { filtered_left result ≡ spec.filtered (matches_by rule) ranges.now tags.now }
+    {
+        Filtered {
+            rule,
+            ranges,
+            tags,
+            range: 0,
+            tag: 0,
+        }
+    }
+}
+
+impl<'a, 't> Iterator for Filtered<'a, 't> {
+    type Item = LangTag<'t>;
+
+    ghost next_gives = { YieldsFirst filtered_left };
+
+    ghost remaining = { item_count filtered_left };
+
+    fn next(&mut self) -> Option<LangTag<'t>> {
+        let (range, tag) = next_place(self.rule, self.ranges, self.tags, self.range, self.tag)?;
+        self.range = range;
+        self.tag = tag + 1;
+        Some(self.tags[tag])
+    }
+}
+
+/// The index of the next range that finds a tag, and that of the tag, from a range on and a tag of it on.
+fn next_place(
+    rule: FilterRule,
+    ranges: &[LanguageRange<'_>],
+    tags: &[LangTag<'_>],
+    range: usize,
+    tag: usize,
+) -> Option<(usize, usize)>
+    ensures { MatchOption result
+        (spec.found_from (matches_by rule) (take range ranges.now) (drop range ranges.now) (drop tag tags.now) tags.now ≡ [])
+        (λ place. (place.0 < length ranges.now) × (place.1 < length tags.now) × ((next : LangTag) → slice_get tags.now place.1 ≡ Some next →
+        spec.found_from (matches_by rule) (take range ranges.now) (drop range ranges.now) (drop tag tags.now) tags.now
+        ≡ next ∷ spec.found_from (matches_by rule) (take place.0 ranges.now) (drop place.0 ranges.now) (drop (place.1 + 1) tags.now) tags.now)) }
+{
+    let mut from = tag;
+    for index in range..ranges.len() {
+        if let Some(found) = next_found(rule, &ranges[..index], ranges[index], tags, from) {
+            return Some((index, found));
+        }
+        from = 0;
+    }
+    None
+}
+
+/// The index of the first tag, from an index on, that a range matches and none of the ranges before it.
+fn next_found(
+    rule: FilterRule,
+    before: &[LanguageRange<'_>],
+    range: LanguageRange<'_>,
+    tags: &[LangTag<'_>],
+    from: usize,
+) -> Option<usize>
+    ensures { MatchOption result
+        (spec.newly_found (matches_by rule) before.now range.entry (drop from tags.now) ≡ [])
+        (λ found. (found < length tags.now) × ((next : LangTag) → slice_get tags.now found ≡ Some next →
+        spec.newly_found (matches_by rule) before.now range.entry (drop from tags.now)
+        ≡ next ∷ spec.newly_found (matches_by rule) before.now range.entry (drop (found + 1) tags.now))) }
+{
+    for index in from..tags.len() {
+        if is_newly_found(rule, before, range, tags[index]) {
+            return Some(index);
+        }
+    }
+    None
+}
+
+/// Whether a range matches a tag, and none of the ranges before it does.
+fn is_newly_found(
+    rule: FilterRule,
+    before: &[LanguageRange<'_>],
+    range: LanguageRange<'_>,
+    tag: LangTag<'_>,
+) -> bool
+    ensures { result ≡ spec.finds (matches_by rule) range.entry tag.entry
+        && not (list_any (λ earlier. spec.finds (matches_by rule) earlier tag.entry) before.now) }
+{
+    rule.matches(range, tag) && !is_found(rule, before, tag)
+}
+
+/// Whether one of some ranges matches a tag.
+fn is_found(rule: FilterRule, ranges: &[LanguageRange<'_>], tag: LangTag<'_>) -> bool
+    ensures { result ≡ list_any (λ range. spec.finds (matches_by rule) range tag.entry) ranges.now }
+{
+    ranges.iter().any(|range| rule.matches(*range, tag))
+}

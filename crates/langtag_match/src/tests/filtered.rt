@@ -1,0 +1,73 @@
+//! Filtering of a list by a priority list (RFC 4647 section 3.3).
+use crate::{Filtered, LanguageRange, filter_basic, filter_extended};
+use langtag::LangTag;
+use std::alloc::{AllocError, Global};
+use std::test::Fail;
+
+/// The tags at hand.
+const TAGS: [&str; 7] = [
+    "de",
+    "fr-CH",
+    "de-Latn-CH",
+    "de-CH-1996",
+    "en",
+    "de-CH",
+    "DE-ch",
+];
+
+/// Two ranges, and the tags that they find by basic and by extended filtering: those of the first range before those of the
+/// second, each once.
+const CASES: [([&str; 2], &str, &str); 5] = [
+    (
+        ["de-CH", "de"],
+        "de-CH-1996 de-CH DE-ch de de-Latn-CH ",
+        "de-Latn-CH de-CH-1996 de-CH DE-ch de ",
+    ),
+    (
+        ["de", "de-CH"],
+        "de de-Latn-CH de-CH-1996 de-CH DE-ch ",
+        "de de-Latn-CH de-CH-1996 de-CH DE-ch ",
+    ),
+    (
+        ["*-CH", "en"],
+        "en ",
+        "fr-CH de-Latn-CH de-CH-1996 de-CH DE-ch en ",
+    ),
+    (
+        ["en", "*"],
+        "en de fr-CH de-Latn-CH de-CH-1996 de-CH DE-ch ",
+        "en de fr-CH de-Latn-CH de-CH-1996 de-CH DE-ch ",
+    ),
+    (["nl", "zh"], "", ""),
+];
+
+/// The texts of some tags, with a space after each.
+fn shown(alloc: Global, found: Filtered<'_, '_>) -> Result<String, AllocError> {
+    let mut text = String::new(alloc);
+    for tag in found {
+        text.push_str(tag.as_str())?;
+        text.push_str(" ")?;
+    }
+    Ok(text)
+}
+
+#[test]
+fn tags_are_found_range_by_range(rt: HostRuntime) -> Result<(), Fail> {
+    let mut tags = [LangTag::new("en").ok().ok_or("no tag")?; 7];
+    for (tag, text) in tags.iter_mut().zip(TAGS) {
+        *tag = LangTag::new(text).ok().ok_or("no tag")?;
+    }
+    for (texts, basic, extended) in CASES {
+        let ranges = [
+            LanguageRange::new(texts[0]).ok().ok_or("no range")?,
+            LanguageRange::new(texts[1]).ok().ok_or("no range")?,
+        ];
+        let found = once_more!(shown(rt.alloc(), filter_basic(&ranges, &tags)))?;
+        assert_eq!(rt; found.as_str(), basic);
+        let found = once_more!(shown(rt.alloc(), filter_extended(&ranges, &tags)))?;
+        assert_eq!(rt; found.as_str(), extended);
+        assert!(rt; filter_basic(&[], &tags).next().is_none());
+        assert!(rt; filter_extended(&ranges, &[]).next().is_none());
+    }
+    Ok(())
+}
