@@ -1,0 +1,48 @@
+# The Rust crate, a program of a user, and the tests of two peers.
+LANGTAG_LIB_DIR=$work/lib
+CARGO_TARGET_DIR=$work/target
+CARGO_TERM_COLOR=never
+
+if ! has cargo; then
+    not_run "Rust: everything" "there is no cargo"
+    return 0
+fi
+
+# serde comes of a folder of sources, or of crates.io; else the feature is taken out of the copy.
+if ls "$registry"/serde-1.* >/dev/null 2>&1; then
+    mkdir .cargo
+    printf '[source.crates-io]\nreplace-with = "folder"\n[source.folder]\ndirectory = "%s"\n[net]\noffline = true\n' "$registry" \
+        >.cargo/config.toml
+elif ! (cd rust && timeout 60 cargo fetch -q) >/dev/null 2>&1; then
+    not_run "Rust: the feature serde" "its source is not in $registry, and crates.io cannot be reached"
+    sed -i -e 's|"serde?/alloc"||' -e '/serde/d' rust/Cargo.toml
+    sed -i '/"serde"/,+1d' rust/src/lib.rs
+    rm rust/tests/serde.rs
+    CARGO_NET_OFFLINE=true
+fi
+
+rust() { cd rust && cargo "$@"; }
+check "Rust: tests and the examples of its documents" rust test --all-features
+check "Rust: without alloc" rust build --no-default-features
+if cargo clippy --version >/dev/null 2>&1; then
+    check "Rust: clippy" rust clippy --all-targets --all-features -- -D warnings
+else
+    not_run "Rust: clippy" "it is not there"
+fi
+check "Rust: documents" env RUSTDOCFLAGS=-Dwarnings cargo doc --manifest-path rust/Cargo.toml --no-deps --all-features
+
+says_what_is_missing() { (LANGTAG_LIB_DIR=$work/empty rust build 2>&1 || true) | grep 'there is no liblangtag_c.a in'; }
+check "Rust: clear words where there is no archive" says_what_is_missing
+
+program() {
+    cargo new -q --vcs none app && cd app && cargo add -q --path ../rust || return 1
+    printf 'fn main() {\n    println!("{:?}", langtag_verified::LangTag::new("zh-Hant").unwrap().script());\n}\n' >src/main.rs
+    [ "$(cargo run -q)" = 'Some("Hant")' ]
+}
+check "Rust: a program of a user" program
+
+if [ -d "$registry/oxilangtag-0.1.3" ] && [ -d "$registry/language-tags-0.3.2" ]; then
+    check "Rust: the tests of oxilangtag and language-tags, but for those that are named" rust/peers/run
+else
+    not_run "Rust: the tests of oxilangtag and language-tags" "their sources are not in $registry"
+fi
