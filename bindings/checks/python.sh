@@ -13,7 +13,7 @@ fi
 wheel() {
     "$1" -m pip wheel -q --no-build-isolation --no-deps --no-index -w "$work/wheel" ./python && python3 -m venv "$work/venv" &&
         "$work/venv/bin/pip" install -q --no-index "$work"/wheel/*.whl && cd "$work/empty" && cp "$here/examples/parts.py" . &&
-        env -u LANGTAG_LIBRARY "$work/venv/bin/python" parts.py zh-Hant | diff - <(printf 'language zh\nscript Hant\n')
+        env -u LANGTAG_LIBRARY "$work/venv/bin/python" parts.py zh-Hant-TW | diff - <(wanted)
 }
 builder=
 for python in python3 /usr/bin/python3; do

@@ -24,6 +24,14 @@ fi
 rust() { cd rust && cargo "$@"; }
 check "Rust: tests and the examples of its documents" rust test --all-features
 check "Rust: without alloc" rust build --no-default-features
+under_valgrind() {
+    CARGO_TARGET_X86_64_UNKNOWN_LINUX_GNU_RUNNER="valgrind -q --error-exitcode=9" rust test --all-features --tests
+}
+if has valgrind; then
+    check "Rust: tests under valgrind" under_valgrind
+else
+    not_run "Rust: tests under valgrind" "it is not there"
+fi
 if cargo clippy --version >/dev/null 2>&1; then
     check "Rust: clippy" rust clippy --all-targets --all-features -- -D warnings
 else
@@ -35,9 +43,8 @@ says_what_is_missing() { (LANGTAG_LIB_DIR=$work/empty rust build 2>&1 || true) |
 check "Rust: clear words where there is no archive" says_what_is_missing
 
 program() {
-    cargo new -q --vcs none app && cd app && cargo add -q --path ../rust || return 1
-    printf 'fn main() {\n    println!("{:?}", langtag_verified::LangTag::new("zh-Hant").unwrap().script());\n}\n' >src/main.rs
-    [ "$(cargo run -q)" = 'Some("Hant")' ]
+    cargo new -q --vcs none tags && cd tags && cargo add -q --path ../rust && cp ../rust/examples/parts.rs src/main.rs || return 1
+    cargo run -q zh-Hant-TW | diff - <(wanted)
 }
 check "Rust: a program of a user" program
 

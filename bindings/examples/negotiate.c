@@ -3,7 +3,8 @@
  *
  *     curl -H 'Accept-Language: fr;q=0.3, DE-ch-1996;q=0.9' localhost:8080
  *
- * It serves one request at a time, and reads no more than 8 kB of it: an example, and no web server.
+ * It serves one request at a time, waits for it as long as that takes, and reads no more than 8 kB of it: an example of the
+ * choice of a language, and no web server.
  */
 #define _POSIX_C_SOURCE 200809L
 #include "accept_language.h"
@@ -50,7 +51,7 @@ static void answer(int connection) {
         "HTTP/1.1 200 OK\r\nContent-Type: text/plain; charset=utf-8\r\nContent-Language: %s\r\nVary: Accept-Language\r\n"
         "Content-Length: %zu\r\nConnection: close\r\n\r\n%s\n",
         tags[chosen], strlen(greetings[chosen]) + 1, greetings[chosen]);
-    if (write(connection, reply, (size_t)size) != size) perror("write");
+    if (send(connection, reply, (size_t)size, MSG_NOSIGNAL) != size) perror("send");
 }
 
 int main(int argc, char **argv) {

@@ -134,7 +134,10 @@ void langtag_recommend(char *bytes, size_t len);
  */
 bool langtag_next_subtag(const char *bytes, size_t len, langtag_span *rest, langtag_span *subtag);
 
-/* The same for the extensions, given `parts.extensions`: takes a singleton with the subtags after it, as u-co-pinyin. */
+/*
+ * The same for extensions: given `parts.extensions`, takes the first one, its singleton with the subtags after it, as
+ * u-co-pinyin. Of any other span it takes what stands before the first hyphen that a subtag of one byte follows.
+ */
 bool langtag_next_extension(const char *bytes, size_t len, langtag_span *rest, langtag_span *extension);
 
 /* Where the subtags stand that a tag has a second time; the length is 0 where it has none. */

@@ -24,7 +24,7 @@ import functools
 import os
 import pathlib
 from ctypes import POINTER, c_bool, c_char, c_char_p, c_int32, c_size_t, c_uint32, c_uint64
-from typing import Iterator, Union
+from typing import Any, Callable, Iterator, Union
 
 __all__ = ["GRANDFATHERED", "InvalidRange", "InvalidTag", "Kind", "Range", "Tag", "kind", "parse", "stop", "viable"]
 __version__ = "0.1.0"
@@ -59,7 +59,7 @@ class _Repeated(ctypes.Structure):
 
 
 # The result of each function of langtag.h, and then its parameters.
-_FUNCTIONS: dict[str, tuple] = {
+_FUNCTIONS: dict[str, tuple[Any, ...]] = {
     "langtag_parse": (c_uint32, c_char_p, c_size_t, POINTER(_Parts)),
     "langtag_kind": (c_uint32, c_char_p, c_size_t),
     "langtag_viable": (c_size_t, c_char_p, c_size_t),
@@ -99,8 +99,11 @@ _c = _open()
 
 
 def _bytes(text: Text) -> bytes:
-    # What is no UTF-8 (a lone surrogate) becomes bytes that no tag has.
-    return text.encode("utf-8", "surrogatepass") if isinstance(text, str) else bytes(text)
+    if isinstance(text, str):
+        return text.encode("utf-8", "surrogatepass")  # a lone surrogate becomes bytes that no tag has
+    if isinstance(text, bytes):
+        return text
+    raise TypeError(f"a text is str or bytes, and not {type(text).__name__}")
 
 
 class Kind(enum.Enum):
@@ -209,13 +212,13 @@ class Tag(_Caseless):
     def _part(self, span: _Span) -> str | None:
         return self._data[span.start : span.start + span.len].decode("ascii") if span.len else None
 
-    def _walk(self, span: _Span, step=_c.langtag_next_subtag) -> Iterator[_Span]:
+    def _walk(self, span: _Span, take: Callable[..., bool]) -> Iterator[_Span]:
         rest, found = _Span(span.start, span.len), _Span()
-        while step(self._data, len(self._data), rest, found):
+        while take(self._data, len(self._data), rest, found):
             yield _Span(found.start, found.len)
 
     def _subtags(self, span: _Span) -> tuple[str, ...]:
-        return tuple(self._part(subtag) or "" for subtag in self._walk(span))
+        return tuple(self._part(subtag) or "" for subtag in self._walk(span, _c.langtag_next_subtag))
 
     @property
     def kind(self) -> Kind:
@@ -306,7 +309,7 @@ class Tag(_Caseless):
         return _c.langtag_hash(0xCBF29CE484222325, self._data, len(self._data))
 
 
-def _changed(change, data: bytes) -> bytes:
+def _changed(change: Callable[..., None], data: bytes) -> bytes:
     """A copy of some bytes that was changed in its place."""
     buffer = ctypes.create_string_buffer(data, len(data))
     change(buffer, len(data))

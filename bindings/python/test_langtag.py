@@ -48,6 +48,11 @@ class Kinds(unittest.TestCase):
             self.assertEqual(caught.exception.text, text)
             self.assertIn(repr(text), str(caught.exception))
 
+    def test_other_types(self):
+        for value in (None, 5, ["en"], bytearray(b"en"), parse("en")):
+            with self.assertRaises(TypeError):
+                parse(value)
+
     def test_where_a_text_goes_wrong(self):
         self.assertEqual((viable("i-no"), stop("i-no"), viable("en-"), stop("en-")), (3, 4, 3, 3))
         self.assertEqual(str(InvalidTag("en-")), "'en-' is no language tag: it ends too soon")
