@@ -8,7 +8,7 @@
 #include <string.h>
 #include <ucontext.h>
 
-enum { SIZE = 256 * 1024, PAINT = 0x5a, MANY = 3000 };
+enum { SIZE = 256 * 1024, PAINT = 0x5a, MANY = 20000 };
 
 static _Alignas(64) unsigned char stack[SIZE];
 static ucontext_t caller;
