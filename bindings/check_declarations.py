@@ -1,6 +1,6 @@
 #!/usr/bin/env python3
-"""Whether all who declare the C interface declare the same: crates/langtag_c, which defines it, the header, and the Rust and
-Python bindings. It compares names, types and order of parameters, and the members of the structs.
+"""Whether all who declare the C interface declare the same: crates/langtag_c, which defines it, the header, and the Rust
+and Python bindings. It compares names, types and order of parameters, and the members of the structs.
 
     check_declarations.py [ROOT]    the root of the repository; else that in which this file stands
 """
@@ -41,7 +41,8 @@ def pairs(text: str) -> list[tuple[str, str]]:
 
 def of_crate(root: pathlib.Path) -> Interface:
     """A slice crosses as a pointer and a length, of which the length takes the slice's name but for `bytes`."""
-    source = without_comments("\n".join(path.read_text() for path in sorted((root / "crates/langtag_c/src").rglob("*.rt"))))
+    files = sorted((root / "crates/langtag_c/src").rglob("*.rt"))
+    source = without_comments("\n".join(path.read_text() for path in files))
     functions = {}
     for name, parameters, result in re.findall(r'pub extern "C" fn (\w+)\(([^)]*)\)(?:\s*->\s*(\w+))?', source):
         found: list[Member] = []
@@ -58,14 +59,16 @@ def of_crate(root: pathlib.Path) -> Interface:
 
 
 def rust_structs(source: str) -> dict[str, list[Member]]:
+    types = INTEGERS | STRUCTS
     found = re.findall(r"#\[repr\(C\)\][^{]*struct (\w+) \{(.*?)\}", source, flags=re.S)
-    return {STRUCTS[name]: [(STRUCTS.get(kind) or INTEGERS[kind], field) for field, kind in pairs(body)] for name, body in found}
+    return {STRUCTS[name]: [(types[kind], field) for field, kind in pairs(body)] for name, body in found}
 
 
 def of_header(root: pathlib.Path) -> Interface:
     source = without_comments((root / "bindings/include/langtag.h").read_text())
     functions, structs = {}, {}
-    for result, name, parameters in re.findall(r"^(?:LANGTAG_PURE )?(\w+) (langtag_\w+)\(([^)]*)\);", source, flags=re.M):
+    declaration = r"^(?:LANGTAG_PURE )?(\w+) (langtag_\w+)\(([^)]*)\);"
+    for result, name, parameters in re.findall(declaration, source, flags=re.M):
         split = [re.fullmatch(r"\s*(.*?)(\w+)\s*", parameter, flags=re.S) for parameter in parameters.split(",")]
         functions[name] = Function(result, [(found[1].strip(), found[2]) for found in split if found])
     for body, name in re.findall(r"typedef struct \w+ \{(.*?)\} (\w+);", source, flags=re.S):
@@ -108,25 +111,32 @@ def like(ours: list[Member], theirs: list[Member]) -> bool:
         a[0] == b[0] and (a[1] == b[1] or a[1] is None or b[1] is None) for a, b in zip(ours, theirs))
 
 
+def lacking(where: str, ours: dict, theirs: dict) -> list[str]:
+    return [f"{where} {'lacks' if name in ours else 'adds'} {name}" for name in ours.keys() ^ theirs.keys()]
+
+
 def differences(where: str, crate: Interface, other: Interface) -> list[str]:
-    found = [f"{where} {'lacks' if name in crate.functions else 'adds'} {name}" for name in crate.functions.keys() ^ other.functions.keys()]
-    found += [f"{where} {'lacks' if name in crate.structs else 'adds'} struct {name}" for name in crate.structs.keys() ^ other.structs.keys()]
+    found = lacking(where, crate.functions, other.functions) + lacking(where, crate.structs, other.structs)
     for name in crate.functions.keys() & other.functions.keys():
         ours, theirs = crate.functions[name], other.functions[name]
         if ours.result != theirs.result or not like(ours.parameters, theirs.parameters):
             found.append(f"{name}: {where} has {theirs}, and the crate {ours}")
     for name in crate.structs.keys() & other.structs.keys():
         if not like(crate.structs[name], other.structs[name]):
-            found.append(f"struct {name}: {where} has {other.structs[name]}, and the crate {crate.structs[name]}")
+            found.append(f"{name}: {where} has {other.structs[name]}, and the crate {crate.structs[name]}")
     return sorted(found)
 
 
 def main(root: pathlib.Path) -> int:
     crate = of_crate(root)
-    found = [line for where, read in (("the header", of_header), ("ffi.rs", of_rust), ("langtag.py", of_python))
-             for line in differences(where, crate, read(root))]
-    print("\n".join(found) or f"{len(crate.functions)} functions and {len(crate.structs)} structs: crate, header, ffi.rs and langtag.py agree")
-    return 1 if found or not crate.functions or not crate.structs else 0
+    if not crate.functions or not crate.structs:
+        print("no functions, or no structs, were found in the crate")
+        return 1
+    others = (("the header", of_header), ("ffi.rs", of_rust), ("langtag.py", of_python))
+    found = [line for where, read in others for line in differences(where, crate, read(root))]
+    count = f"{len(crate.functions)} functions and {len(crate.structs)} structs"
+    print("\n".join(found) or f"{count}: crate, header, ffi.rs and langtag.py agree")
+    return 1 if found else 0
 
 
 if __name__ == "__main__":

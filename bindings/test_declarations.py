@@ -20,7 +20,7 @@ CRATE = "crates/langtag_c/src"
 # A file, a text that stands in it, what is put in its place, and what the message has to name.
 PLANTED = [
     (HEADER, "size_t langtag_viable(", "uint32_t langtag_viable(", "langtag_viable"),
-    (HEADER, "_basic(const char *range, size_t range_len, const", "_basic(size_t range_len, const char *range, const", "langtag_matches_basic"),
+    (HEADER, "_basic(const char *range, size_t range_len,", "_basic(size_t range_len, const char *range,", "langtag_matches_basic"),
     (HEADER, "void langtag_fold(char *bytes", "void langtag_fold(const char *bytes", "langtag_fold"),
     (HEADER, "langtag_span script; ", "langtag_span region; ", "langtag_parts"),
     (HEADER, "    size_t start;\n    size_t len;", "    size_t len;\n    size_t start;", "langtag_span"),

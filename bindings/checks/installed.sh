@@ -1,4 +1,5 @@
-# The library used from an empty folder by the lines of docs/BINDINGS.md: the archive and the header alone, and installed.
+# The library used from an empty folder by the lines of docs/BINDINGS.md: the archive and the header alone, and
+# installed.
 wanted() { printf 'language zh\nscript Hant\nregion TW\n'; }
 
 archive_alone() {
@@ -16,12 +17,16 @@ module_alone() {
 }
 check "Python: the archive and the module alone" module_alone
 
-check "C: make install" $with_make install PREFIX="$work/usr" BUILD="$work/c"
+check "C: make install" with_make install PREFIX="$work/usr" BUILD="$work/c"
 PKG_CONFIG_PATH=$work/usr/lib/pkgconfig
 LANGTAG_LIBRARY=$work/usr/lib/liblangtag.so.1
 
 flags() {
-    if has pkg-config; then pkg-config --cflags --libs langtag; else echo "-I$work/usr/include -L$work/usr/lib -llangtag"; fi
+    if has pkg-config; then
+        pkg-config --cflags --libs langtag
+    else
+        echo "-I$work/usr/include -L$work/usr/lib -llangtag"
+    fi
 }
 has pkg-config || not_run "C: langtag.pc" "there is no pkg-config"
 

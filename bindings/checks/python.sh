@@ -11,16 +11,17 @@ fi
 
 # wheel PYTHON: built by it, and used in an empty environment and folder.
 wheel() {
-    "$1" -m pip wheel -q --no-build-isolation --no-deps --no-index -w "$work/wheel" ./python && python3 -m venv "$work/venv" &&
-        "$work/venv/bin/pip" install -q --no-index "$work"/wheel/*.whl && cd "$work/empty" && cp "$here/examples/parts.py" . &&
+    "$1" -m pip wheel -q --no-build-isolation --no-deps --no-index -w "$work/wheel" ./python || return 1
+    python3 -m venv "$work/venv" && "$work/venv/bin/pip" install -q --no-index "$work"/wheel/*.whl || return 1
+    cd "$work/empty" && cp "$here/examples/parts.py" . &&
         env -u LANGTAG_LIBRARY "$work/venv/bin/python" parts.py zh-Hant-TW | diff - <(wanted)
 }
 builder=
 for python in python3 /usr/bin/python3; do
     "$python" -c 'import setuptools, wheel, pip' >/dev/null 2>&1 && builder=$python && break
 done
-if [ -n "$builder" ]; then
+if [ -n "$builder" ] && python3 -c 'import venv, ensurepip' >/dev/null 2>&1; then
     check "Python: a wheel, in an empty environment" wheel "$builder"
 else
-    not_run "Python: a wheel" "no python3 here has pip, setuptools and wheel"
+    not_run "Python: a wheel" "no python3 here has pip, setuptools, wheel and venv"
 fi

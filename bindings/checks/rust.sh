@@ -11,8 +11,14 @@ fi
 # serde comes of a folder of sources, or of crates.io; else the feature is taken out of the copy.
 if ls "$registry"/serde-1.* >/dev/null 2>&1; then
     mkdir .cargo
-    printf '[source.crates-io]\nreplace-with = "folder"\n[source.folder]\ndirectory = "%s"\n[net]\noffline = true\n' "$registry" \
-        >.cargo/config.toml
+    cat >.cargo/config.toml <<END
+[source.crates-io]
+replace-with = "folder"
+[source.folder]
+directory = "$registry"
+[net]
+offline = true
+END
 elif ! (cd rust && timeout 60 cargo fetch -q) >/dev/null 2>&1; then
     not_run "Rust: the feature serde" "its source is not in $registry, and crates.io cannot be reached"
     sed -i -e 's|"serde?/alloc"||' -e '/serde/d' rust/Cargo.toml
@@ -43,7 +49,8 @@ says_what_is_missing() { (LANGTAG_LIB_DIR=$work/empty rust build 2>&1 || true) |
 check "Rust: clear words where there is no archive" says_what_is_missing
 
 program() {
-    cargo new -q --vcs none tags && cd tags && cargo add -q --path ../rust && cp ../rust/examples/parts.rs src/main.rs || return 1
+    cargo new -q --vcs none tags && cd tags && cargo add -q --path ../rust || return 1
+    cp ../rust/examples/parts.rs src/main.rs
     cargo run -q zh-Hant-TW | diff - <(wanted)
 }
 check "Rust: a program of a user" program

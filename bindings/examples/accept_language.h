@@ -4,8 +4,8 @@
 
 #include <stddef.h>
 
-/* The index of the tag that a header asks for, or `count` where it asks for none of them. It takes no memory. A malformed
- * element of the header, or one of weight 0, is passed over. */
+/* The index of the tag that a header asks for, or `count` where it asks for none of them. It takes no memory. A
+ * malformed element of the header, or one of weight 0, is passed over. */
 size_t choose_tag(const char *header, size_t len, const char *const *tags, size_t count);
 
 #endif

@@ -3,8 +3,8 @@
  *
  *     curl -H 'Accept-Language: fr;q=0.3, DE-ch-1996;q=0.9' localhost:8080
  *
- * It serves one request at a time, waits for it as long as that takes, and reads no more than 8 kB of it: an example of the
- * choice of a language, and no web server.
+ * It serves one request at a time, waits for it as long as that takes, and reads no more than 8 kB of it: an example of
+ * the choice of a language, and no web server.
  */
 #define _POSIX_C_SOURCE 200809L
 #include "accept_language.h"
@@ -48,14 +48,16 @@ static void answer(int connection) {
     if (accept) chosen = choose_tag(accept, len, tags, COUNT);
     if (chosen == COUNT) chosen = DEFAULT;
     int size = snprintf(reply, sizeof reply,
-        "HTTP/1.1 200 OK\r\nContent-Type: text/plain; charset=utf-8\r\nContent-Language: %s\r\nVary: Accept-Language\r\n"
-        "Content-Length: %zu\r\nConnection: close\r\n\r\n%s\n",
-        tags[chosen], strlen(greetings[chosen]) + 1, greetings[chosen]);
+                        "HTTP/1.1 200 OK\r\nContent-Type: text/plain; charset=utf-8\r\nContent-Language: %s\r\nVary: "
+                        "Accept-Language\r\n"
+                        "Content-Length: %zu\r\nConnection: close\r\n\r\n%s\n",
+                        tags[chosen], strlen(greetings[chosen]) + 1, greetings[chosen]);
     if (send(connection, reply, (size_t)size, MSG_NOSIGNAL) != size) perror("send");
 }
 
 int main(int argc, char **argv) {
-    struct sockaddr_in address = {.sin_family = AF_INET, .sin_port = htons((unsigned short)atoi(argc > 1 ? argv[1] : "8080"))};
+    struct sockaddr_in address = {.sin_family = AF_INET,
+                                  .sin_port = htons((unsigned short)atoi(argc > 1 ? argv[1] : "8080"))};
     socklen_t size = sizeof address;
     int server = socket(AF_INET, SOCK_STREAM, 0), connection;
     address.sin_addr.s_addr = htonl(INADDR_LOOPBACK);

@@ -6,8 +6,8 @@
  *     sqlite> SELECT langtag_part('zh-Hant-TW', 'script');          -- Hant
  *     sqlite> SELECT * FROM texts WHERE tag = 'ZH-hant' COLLATE langtag;
  *
- * langtag_part(tag, part) is NULL where the text is no tag, where the part is absent, and of NULL. The parts are language,
- * script, region, variants, extensions and private_use.
+ * langtag_part(tag, part) is NULL where the text is no tag, where the part is absent, and of NULL. The parts are
+ * language, script, region, variants, extensions and private_use.
  */
 #include <langtag.h>
 #include <sqlite3ext.h>
@@ -35,8 +35,7 @@ static void part(sqlite3_context *context, int count, sqlite3_value **values) {
     if (!tag || !name) return; /* NULL */
     uint32_t kind = langtag_parse(tag, (size_t)sqlite3_value_bytes(values[0]), &parts);
     const langtag_span *span = part_named(&parts, name);
-    if (!span)
-        sqlite3_result_error(context, "langtag_part: no part has that name", -1);
+    if (!span) sqlite3_result_error(context, "langtag_part: no part has that name", -1);
     else if (kind != LANGTAG_NONE && span->len > 0)
         sqlite3_result_text(context, tag + span->start, (int)span->len, SQLITE_TRANSIENT);
 }
@@ -49,6 +48,7 @@ static int compare(void *unused, int a_len, const void *a, int b_len, const void
 int sqlite3_sqlitelangtag_init(sqlite3 *db, char **message, const sqlite3_api_routines *api) {
     (void)message;
     SQLITE_EXTENSION_INIT2(api);
-    int status = sqlite3_create_function(db, "langtag_part", 2, SQLITE_UTF8 | SQLITE_DETERMINISTIC, NULL, part, NULL, NULL);
+    int status =
+        sqlite3_create_function(db, "langtag_part", 2, SQLITE_UTF8 | SQLITE_DETERMINISTIC, NULL, part, NULL, NULL);
     return status == SQLITE_OK ? sqlite3_create_collation(db, "langtag", SQLITE_UTF8, NULL, compare) : status;
 }

@@ -15,11 +15,32 @@ import negotiate
 # A header, and the Content-Language of the answer.
 HEADERS = [
     (None, "en"), ("", "en"), ("de", "de"), ("DE-ch-1996", "de-CH"), ("fr;q=0.3, DE-ch-1996;q=0.9", "de-CH"),
-    ("de;q=0.5,fr;q=0.5", "de"), ("fr;q=0, de;q=0.1", "de"), ("ja, *;q=0.1", "en"), ("zh-Hant-TW", "zh-Hant"), ("zh", "en"),
-    ("zh-hant-x-a-b", "zh-Hant"), ("zh-hant-a-x-b", "zh-Hant"), ("fr;q=1.001, de;q=0.2", "de"), ("fr;q=2, de", "de"),
-    ("fr;, de", "de"), ("fr;q=, de;q=0.001", "de"), ("fr ; Q=0.9\t, de", "de"), ("*-CH, fr;q=0.1", "fr"), ("fr_FR", "en"),
-    ("fr;q=1.000, de;q=0.999", "fr"), (",,, ,de,", "de"), ("fr;q=0.3;q=0.4, de;q=0.1", "de"), ("a-b, de", "de"), ("fr;q=1.", "fr"),
+    ("de;q=0.5,fr;q=0.5", "de"), ("fr;q=0, de;q=0.1", "de"), ("ja, *;q=0.1", "en"), ("zh-Hant-TW", "zh-Hant"),
+    ("zh", "en"), ("zh-hant-x-a-b", "zh-Hant"), ("zh-hant-a-x-b", "zh-Hant"), ("fr;q=1.001, de;q=0.2", "de"),
+    ("fr;q=2, de", "de"), ("fr;, de", "de"), ("fr;q=, de;q=0.001", "de"), ("fr ; Q=0.9\t, de", "de"),
+    ("*-CH, fr;q=0.1", "fr"), ("fr_FR", "en"), ("fr;q=1.000, de;q=0.999", "fr"), (",,, ,de,", "de"),
+    ("fr;q=0.3;q=0.4, de;q=0.1", "de"), ("a-b, de", "de"), ("fr;q=1.", "fr"),
 ]
+
+
+# Statements for SQLite, and what it says to them.
+TABLE = "CREATE TABLE texts (tag TEXT PRIMARY KEY COLLATE langtag); INSERT INTO texts VALUES ('zh-Hant'), ('de'), ('zh'), ('');"
+STATEMENTS = [
+    ("SELECT langtag_part('zh-Hant-TW', 'script'), langtag_part('de-1996-x-a', 'variants');", "Hant|1996"),
+    ("SELECT langtag_part('x-a', 'private_use'), langtag_part('zh-yue-u-co', 'language');", "x-a|zh-yue"),
+    ("SELECT langtag_part('zh_Hant', 'script') IS NULL, langtag_part(NULL, 'script') IS NULL;", "1|1"),
+    ("SELECT langtag_part('de', 'region') IS NULL, langtag_part('', 'language') IS NULL;", "1|1"),
+    (TABLE + "SELECT tag FROM texts WHERE tag = 'ZH-hant';", "zh-Hant"),
+    (TABLE + "SELECT group_concat(tag) FROM (SELECT tag FROM texts ORDER BY tag);", "de,zh-Hant,zh,"),
+    (TABLE + "INSERT OR IGNORE INTO texts VALUES ('DE'); SELECT count(*) FROM texts;", "4"),
+]
+
+
+def sqlite(statements):
+    """What SQLite says, and what it complains of, with the extension loaded."""
+    command = ["sqlite3", ":memory:", "-cmd", f".load {EXTENSION}"]
+    run = subprocess.run(command, input=statements, capture_output=True, text=True)
+    return run.stdout, run.stderr
 
 
 def answers(command):
@@ -50,16 +71,9 @@ class Examples(unittest.TestCase):
     def test_sqlite(self):
         if not EXTENSION:
             self.skipTest("no extension is built")
-        program = f"""
-            SELECT langtag_part('zh-Hant-TW', 'script'), langtag_part('de-1996-x-a', 'variants'), langtag_part('x-a', 'private_use');
-            SELECT langtag_part('zh_Hant', 'script') IS NULL, langtag_part(NULL, 'script') IS NULL, langtag_part('de', 'region') IS NULL;
-            CREATE TABLE texts (tag TEXT PRIMARY KEY COLLATE langtag); INSERT INTO texts VALUES ('zh-Hant'), ('de'), ('zh'), ('');
-            SELECT tag FROM texts WHERE tag = 'ZH-hant'; SELECT group_concat(tag) FROM (SELECT tag FROM texts ORDER BY tag);
-            INSERT OR IGNORE INTO texts VALUES ('DE'); SELECT count(*) FROM texts;"""
-        run = subprocess.run(["sqlite3", ":memory:", "-cmd", f".load {EXTENSION}"], input=program, capture_output=True, text=True)
-        self.assertEqual((run.stdout.split("\n"), run.stderr), (["Hant|1996|x-a", "1|1|1", "zh-Hant", "de,zh-Hant,zh,", "4", ""], ""))
-        wrong = subprocess.run(["sqlite3", ":memory:", "-cmd", f".load {EXTENSION}"], input="SELECT langtag_part('de', 'skript');", capture_output=True, text=True)
-        self.assertIn("no part has that name", wrong.stderr)
+        for statements, said in STATEMENTS:
+            self.assertEqual(sqlite(statements), (said + "\n", ""))
+        self.assertIn("no part has that name", sqlite("SELECT langtag_part('de', 'skript');")[1])
 
 
 def load_tests(loader, tests, ignore):

@@ -29,7 +29,8 @@ fn main() {
     let folders = folders();
     let Some(folder) = folders.iter().find(|folder| folder.join(ARCHIVE).is_file()) else {
         fail(&format!(
-            "there is no {ARCHIVE} in {folders:?}. Set LANGTAG_LIB_DIR to the folder that has it, or build it: `rt lib` in crates/langtag_c"
+            "there is no {ARCHIVE} in {folders:?}. Set LANGTAG_LIB_DIR to the folder that has it, \
+             or build it by `rt lib` in crates/langtag_c"
         ));
     };
     println!("cargo:rerun-if-changed={}", folder.join(ARCHIVE).display());

@@ -1,7 +1,7 @@
 //! Times this library beside oxilangtag on a file of tags, one a line, in one run.
 //!
-//! `against-oxilangtag FILE` times, and `against-oxilangtag once ENTRY FILE` calls one entry once for each tag, for a tool that
-//! counts instructions.
+//! `against-oxilangtag FILE` times, and `against-oxilangtag once ENTRY FILE` calls one entry once for each tag, for a
+//! tool that counts instructions.
 use std::hint::black_box;
 use std::mem::MaybeUninit;
 use std::time::Instant;

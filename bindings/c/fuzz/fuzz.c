@@ -1,6 +1,7 @@
 /*
- * fuzz SECONDS SEED: random texts through each function of langtag.h, beside the second reading of the two RFCs (reading.h).
- * Each text stands at the edge of a page that nobody may touch. It stops at the first difference, with status 1.
+ * fuzz SECONDS SEED: random texts through each function of langtag.h, beside the second reading of the two RFCs
+ * (reading.h). Each text stands at the edge of a page that nobody may touch. It stops at the first difference, with
+ * status 1.
  */
 #include "generate.h"
 #include "pages.h"
@@ -33,7 +34,8 @@ static langtag_parts check_parse(slice text) {
     SAME(langtag_parse(text.at, text.len, &parts) == read.kind);
     SAME(langtag_kind(text.at, text.len) == read.kind);
     SAME(langtag_grandfathered(text.at, text.len) == which_grandfathered(text));
-    const langtag_span spans[6] = {parts.language, parts.script, parts.region, parts.variants, parts.extensions, parts.private_use};
+    const langtag_span spans[6] = {parts.language, parts.script,     parts.region,
+                                   parts.variants, parts.extensions, parts.private_use};
     for (int k = 0; k < 6; k++) SAME(is_same(at(text, spans[k]), read.parts[k]));
     return parts;
 }
@@ -57,7 +59,8 @@ static void check_comparisons(slice text, slice other) {
     if (order == 0) order = (text.len < other.len) - (text.len > other.len);
     SAME(langtag_cmp(text.at, text.len, other.at, other.len) == order);
     SAME(langtag_eq(text.at, text.len, other.at, other.len) == (order == 0));
-    for (size_t k = 0; k < text.len; k++) hash = (hash ^ (uint64_t)fold((unsigned char)text.at[k])) * UINT64_C(0x100000001b3);
+    for (size_t k = 0; k < text.len; k++)
+        hash = (hash ^ (uint64_t)fold((unsigned char)text.at[k])) * UINT64_C(0x100000001b3);
     SAME(langtag_hash(LANGTAG_HASH, text.at, text.len) == hash);
     size_t cut = text.len / 2;
     SAME(langtag_hash(langtag_hash(LANGTAG_HASH, text.at, cut), text.at + cut, text.len - cut) == hash);
@@ -89,7 +92,8 @@ static langtag_span check_extensions(slice text, langtag_span extensions) {
         if (seen[singleton] && repeated.len == 0) repeated = (langtag_span){extension.start, 1};
         seen[singleton] = true;
         for (end = k + 1; end < wanted.count && wanted.of[end].len > 1;) end++;
-        SAME(end > k + 1 && wanted.of[end - 1].at + wanted.of[end - 1].len == text.at + extension.start + extension.len);
+        SAME(end > k + 1 &&
+             wanted.of[end - 1].at + wanted.of[end - 1].len == text.at + extension.start + extension.len);
         k = end;
     }
     SAME(k == (extensions.len == 0 ? 0 : wanted.count));
@@ -103,7 +107,8 @@ static void check_lists(slice text, const langtag_parts *parts) {
     langtag_span variant = check_variants(text, parts->variants), singleton = check_extensions(text, parts->extensions);
     SAME(langtag_repeats(text.at, text.len, &repeated) == (variant.len > 0 ? 1u : 0u) + (singleton.len > 0 ? 2u : 0u));
     SAME(repeated.variant.len == variant.len && (variant.len == 0 || repeated.variant.start == variant.start));
-    SAME(repeated.singleton.len == singleton.len && (singleton.len == 0 || repeated.singleton.start == singleton.start));
+    SAME(repeated.singleton.len == singleton.len &&
+         (singleton.len == 0 || repeated.singleton.start == singleton.start));
 }
 
 static bool is_span(langtag_span a, langtag_span b) { return a.start == b.start && a.len == b.len; }
@@ -175,6 +180,7 @@ int main(int argc, char **argv) {
     seed(argc > 2 ? strtoull(argv[2], NULL, 10) : 1);
     if (!open_pages(&here) || !open_pages(&there)) return puts("no pages to be had"), 2;
     for (; texts % 256 != 0 || now() < end; texts++) kinds[check_one(here, there) & 3]++;
-    printf("%llu texts: %llu none, %llu normal, %llu private use, %llu irregular; no difference\n", texts, kinds[0], kinds[1], kinds[2], kinds[3]);
+    printf("%llu texts: %llu none, %llu normal, %llu private use, %llu irregular; no difference\n", texts, kinds[0],
+           kinds[1], kinds[2], kinds[3]);
     return 0;
 }

@@ -14,9 +14,10 @@ uint32_t below(uint32_t bound) {
     return (uint32_t)((state >> 33) % bound);
 }
 
-static const char *const pieces[] = {"en",  "zh",   "yue",   "sgn",  "BE",      "FR",   "NL",       "i",         "klingon", "Hant",
-                                     "419", "1996", "rozaj", "u",    "co",      "x",    "X",        "t",         "a",       "abcdefgh",
-                                     "GB",  "oed",  "1",     "12",   "1abc",    "min",  "abcdefghi", "nan",      "",        "default"};
+static const char *const pieces[] = {"en",      "zh",   "yue",       "sgn",      "BE",    "FR",     "NL", "i",
+                                     "klingon", "Hant", "419",       "1996",     "rozaj", "u",      "co", "x",
+                                     "X",       "t",    "a",         "abcdefgh", "GB",    "oed",    "1",  "12",
+                                     "1abc",    "min",  "abcdefghi", "nan",      "",      "default"};
 
 static void change_case(char *text, size_t len, uint32_t one_in) {
     for (size_t k = 0; k < len; k++)
@@ -46,7 +47,8 @@ static size_t subtags_in_a_row(char *into, uint32_t most) {
         len += size;
         if (left > 0) into[len++] = '-';
     }
-    if (below(4) == 0 && len > 0) into[below((uint32_t)len)] = (char)(below(2) ? below(256) : (uint32_t)"-x1aZ"[below(5)]);
+    if (below(4) == 0 && len > 0)
+        into[below((uint32_t)len)] = (char)(below(2) ? below(256) : (uint32_t) "-x1aZ"[below(5)]);
     change_case(into, len, 4);
     return len;
 }
@@ -59,8 +61,9 @@ static size_t put(char *into, size_t len, const char *const *of, uint32_t count)
     memcpy(into + len, subtag, strlen(subtag));
     return len + strlen(subtag);
 }
-#define PUT(one_in, ...) \
-    if (below(one_in) == 0) len = put(into, len, (const char *const[]){__VA_ARGS__}, sizeof((const char *[]){__VA_ARGS__}) / sizeof(char *))
+#define PUT(one_in, ...)                                                                                               \
+    if (below(one_in) == 0)                                                                                            \
+    len = put(into, len, (const char *const[]){__VA_ARGS__}, sizeof((const char *[]){__VA_ARGS__}) / sizeof(char *))
 
 /* A normal tag, at times with one byte changed. */
 static size_t normal_tag(char *into) {
@@ -69,7 +72,8 @@ static size_t normal_tag(char *into) {
     if (len <= 3) PUT(4, "yue", "min", "nan", "abc");
     PUT(3, "Latn", "Hant", "Cyrl");
     PUT(2, "DE", "TW", "419", "005");
-    for (uint32_t left = below(4) * below(4); left > 0; left--) PUT(1, "1996", "rozaj", "1abc", "nedis", "abcdefgh", "12345");
+    for (uint32_t left = below(4) * below(4); left > 0; left--)
+        PUT(1, "1996", "rozaj", "1abc", "nedis", "abcdefgh", "12345");
     for (uint32_t left = below(3) * below(3); left > 0; left--) {
         PUT(1, "u", "t", "a", "1", "0");
         PUT(1, "co", "phonebk", "12", "abcdefgh");

@@ -17,7 +17,8 @@ unsigned range_kind(slice text) {
     return star ? 2 : 1;
 }
 
-/* "exactly equals the tag, or if it exactly equals a prefix of the tag such that the first character following the prefix is
+/* "exactly equals the tag, or if it exactly equals a prefix of the tag such that the first character following the
+ * prefix is
  * '-'"; "*" matches any tag (section 3.3.1). */
 bool matches_basic(slice range, slice tag) {
     if (range_kind(range) == 0 || read_tag(tag).kind == 0) return false;

@@ -1,6 +1,6 @@
 /*
- * A second reading of RFC 5646 and RFC 4647, written for the fuzzer alone and apart from the library: plain, slow, and close
- * to the words of the two RFCs. It splits a text at its hyphens, and goes over the subtags by the ABNF.
+ * A second reading of RFC 5646 and RFC 4647, written for the fuzzer alone and apart from the library: plain, slow, and
+ * close to the words of the two RFCs. It splits a text at its hyphens, and goes over the subtags by the ABNF.
  */
 #ifndef READING_H
 #define READING_H
@@ -25,8 +25,8 @@ typedef struct subtags {
     size_t count;
 } subtags;
 
-/* The parts of a tag, in the order of the grammar, as slices of its text. An absent part is empty, and stands where the part
- * before it ends. */
+/* The parts of a tag, in the order of the grammar, as slices of its text. An absent part is empty, and stands where the
+ * part before it ends. */
 typedef struct tag {
     unsigned kind; /* 0 none, 1 normal, 2 private use, 3 irregular */
     slice parts[6];

@@ -4,9 +4,9 @@
 #include <string.h>
 
 const char *const grandfathered[GRANDFATHERED] = {
-    "en-GB-oed",  "i-ami",     "i-bnn",     "i-default",  "i-enochian", "i-hak",      "i-klingon", "i-lux",       "i-mingo",
-    "i-navajo",   "i-pwn",     "i-tao",     "i-tay",      "i-tsu",      "sgn-BE-FR",  "sgn-BE-NL", "sgn-CH-DE",   "art-lojban",
-    "cel-gaulish", "no-bok",   "no-nyn",    "zh-guoyu",   "zh-hakka",   "zh-min",     "zh-min-nan", "zh-xiang"};
+    "en-GB-oed",   "i-ami",  "i-bnn",  "i-default", "i-enochian", "i-hak",     "i-klingon",  "i-lux",     "i-mingo",
+    "i-navajo",    "i-pwn",  "i-tao",  "i-tay",     "i-tsu",      "sgn-BE-FR", "sgn-BE-NL",  "sgn-CH-DE", "art-lojban",
+    "cel-gaulish", "no-bok", "no-nyn", "zh-guoyu",  "zh-hakka",   "zh-min",    "zh-min-nan", "zh-xiang"};
 
 /* ALPHA{low,high} */
 static bool letters(slice s, size_t low, size_t high) { return s.len >= low && s.len <= high && all_of(s, is_letter); }
@@ -87,8 +87,9 @@ tag read_tag(slice text) {
     return found;
 }
 
-/* Some tag begins with a text where an irregular tag does, or where the text is one once its last subtag has five bytes:
- * whatever may stand there may be as long, but for the subtags that have to be shorter, and after these one may follow. */
+/* Some tag begins with a text where an irregular tag does, or where the text is one once its last subtag has five
+ * bytes: whatever may stand there may be as long, but for the subtags that have to be shorter, and after these one may
+ * follow. */
 bool begins_a_tag(slice text) {
     char filled[MAX_SUBTAGS + 8];
     size_t last = 0, len = text.len;

@@ -9,7 +9,8 @@
 
 extern int checks, failures;
 
-#define CHECK(test) (checks++, (test) ? (void)0 : (failures++, (void)printf("%s:%d: failed: %s\n", __FILE__, __LINE__, #test)))
+#define CHECK(test)                                                                                                    \
+    (checks++, (test) ? (void)0 : (failures++, (void)printf("%s:%d: failed: %s\n", __FILE__, __LINE__, #test)))
 
 /* A literal as a pointer and a length. */
 #define TEXT(literal) (literal), (sizeof(literal) - 1)

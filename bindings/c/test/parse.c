@@ -41,10 +41,11 @@ static void edges(void) {
 }
 
 static void grandfathered_tags(void) {
-    static const char *const tags[] = {
-        "en-GB-oed", "i-ami", "i-bnn", "i-default", "i-enochian", "i-hak", "i-klingon", "i-lux", "i-mingo", "i-navajo", "i-pwn",
-        "i-tao", "i-tay", "i-tsu", "sgn-BE-FR", "sgn-BE-NL", "sgn-CH-DE", "art-lojban", "cel-gaulish", "no-bok", "no-nyn",
-        "zh-guoyu", "zh-hakka", "zh-min", "zh-min-nan", "zh-xiang"};
+    static const char *const tags[] = {"en-GB-oed",   "i-ami",   "i-bnn",     "i-default", "i-enochian", "i-hak",
+                                       "i-klingon",   "i-lux",   "i-mingo",   "i-navajo",  "i-pwn",      "i-tao",
+                                       "i-tay",       "i-tsu",   "sgn-BE-FR", "sgn-BE-NL", "sgn-CH-DE",  "art-lojban",
+                                       "cel-gaulish", "no-bok",  "no-nyn",    "zh-guoyu",  "zh-hakka",   "zh-min",
+                                       "zh-min-nan",  "zh-xiang"};
     CHECK(sizeof tags / sizeof *tags == LANGTAG_GRANDFATHERED_COUNT);
     for (uint32_t k = 0; k < LANGTAG_GRANDFATHERED_COUNT; k++) {
         CHECK(langtag_grandfathered(tags[k], strlen(tags[k])) == k);

@@ -17,7 +17,8 @@ void test_repeats(void) {
     CHECK(repeats(TEXT("fr-a-bb-A-cc")) == LANGTAG_REPEATED_SINGLETON);
     CHECK(found.singleton.start == 8 && found.singleton.len == 1 && found.variant.len == 0);
     CHECK(repeats(TEXT("sl-rozaj-1994-ROZAJ-rozaj-a-bb-b-cc-B-dd-A-ee")) == 3);
-    CHECK(found.variant.start == 14 && found.variant.len == 5 && found.singleton.start == 36 && found.singleton.len == 1);
+    CHECK(found.variant.start == 14 && found.variant.len == 5 && found.singleton.start == 36 &&
+          found.singleton.len == 1);
     /* a variant is not compared with the subtags of other parts, nor a singleton with private ones */
     CHECK(none(TEXT("de-1996-a-1996")) && none(TEXT("en-x-a-a")) && none(TEXT("x-a-a")) && none(TEXT("en-a-bb-b-bb")));
     CHECK(none(TEXT("\xff")) && none(TEXT("")) && none(TEXT("i-klingon")) && none(TEXT("de-1996-1996-")));

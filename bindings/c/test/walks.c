@@ -19,7 +19,8 @@ static void whole_walks(void) {
 }
 
 static void spans_from_elsewhere(void) {
-    static const langtag_span odd[] = {{0, 0}, {99, 1}, {0, 99}, {(size_t)-1, 2}, {2, (size_t)-1}, {3, (size_t)-2}, {35, 1}};
+    static const langtag_span odd[] = {{0, 0},          {99, 1},         {0, 99}, {(size_t)-1, 2},
+                                       {2, (size_t)-1}, {3, (size_t)-2}, {35, 1}};
     for (size_t k = 0; k < sizeof odd / sizeof *odd; k++) {
         langtag_span rest = odd[k], got = {1, 2};
         CHECK(!langtag_next_subtag(text, len, &rest, &got) && !langtag_next_extension(text, len, &rest, &got));
