@@ -32,14 +32,14 @@ fn entry_langtag_verified(text: &str) -> usize {
     let Ok(tag) = langtag_verified::LangTag::new(text) else {
         return 0;
     };
-    black_box([
-        tag.language().map_or("", |part| part.as_str()),
-        tag.script().unwrap_or(""),
-        tag.region().unwrap_or(""),
-        tag.variants().as_str(),
-        tag.extensions().as_str(),
-        tag.private_use().map_or("", |part| part.as_str()),
-    ]);
+    black_box((
+        tag.language(),
+        tag.script(),
+        tag.region(),
+        tag.variants(),
+        tag.extensions(),
+        tag.private_use(),
+    ));
     1
 }
 
@@ -50,14 +50,14 @@ fn entry_oxilangtag(text: &str) -> usize {
     let Ok(tag) = oxilangtag::LanguageTag::parse(text) else {
         return 0;
     };
-    black_box([
+    black_box((
         tag.full_language(),
-        tag.script().unwrap_or(""),
-        tag.region().unwrap_or(""),
-        tag.variant().unwrap_or(""),
-        tag.extension().unwrap_or(""),
-        tag.private_use().unwrap_or(""),
-    ]);
+        tag.script(),
+        tag.region(),
+        tag.variant(),
+        tag.extension(),
+        tag.private_use(),
+    ));
     1
 }
 
