@@ -1,0 +1,118 @@
+//! Times this library beside oxilangtag on a file of tags, one a line, in one run.
+//!
+//! `against-oxilangtag FILE` times, and `against-oxilangtag once ENTRY FILE` calls one entry once for each tag, for a
+//! tool that counts instructions.
+use std::hint::black_box;
+use std::mem::MaybeUninit;
+use std::time::Instant;
+
+/// What `langtag_parse` writes: where six parts stand.
+#[repr(C)]
+struct Parts([usize; 12]);
+
+extern "C" {
+    fn langtag_parse(bytes: *const u8, len: usize, parts: *mut Parts) -> u32;
+}
+
+/// The C function alone.
+#[no_mangle]
+#[inline(never)]
+fn entry_langtag_parse(text: &str) -> usize {
+    let mut parts = MaybeUninit::<Parts>::uninit();
+    // SAFETY: the pointer and the length are those of a live slice, and `parts` is laid out as the header says.
+    let kind = unsafe { langtag_parse(text.as_ptr(), text.len(), parts.as_mut_ptr()) };
+    black_box(&parts);
+    kind as usize
+}
+
+/// The Rust crate: a tag, and its six parts.
+#[no_mangle]
+#[inline(never)]
+fn entry_langtag_verified(text: &str) -> usize {
+    let Ok(tag) = langtag_verified::LangTag::new(text) else {
+        return 0;
+    };
+    black_box((
+        tag.language(),
+        tag.script(),
+        tag.region(),
+        tag.variants(),
+        tag.extensions(),
+        tag.private_use(),
+    ));
+    1
+}
+
+/// The same by oxilangtag.
+#[no_mangle]
+#[inline(never)]
+fn entry_oxilangtag(text: &str) -> usize {
+    let Ok(tag) = oxilangtag::LanguageTag::parse(text) else {
+        return 0;
+    };
+    black_box((
+        tag.full_language(),
+        tag.script(),
+        tag.region(),
+        tag.variant(),
+        tag.extension(),
+        tag.private_use(),
+    ));
+    1
+}
+
+const ENTRIES: [(&str, fn(&str) -> usize); 3] = [
+    ("langtag_parse", entry_langtag_parse),
+    ("langtag_verified", entry_langtag_verified),
+    ("oxilangtag", entry_oxilangtag),
+];
+
+/// Goes once over all tags, and gives the nanoseconds that it took.
+fn pass(entry: fn(&str) -> usize, tags: &[&str]) -> u128 {
+    let start = Instant::now();
+    for tag in tags {
+        black_box(entry(black_box(tag)));
+    }
+    start.elapsed().as_nanos()
+}
+
+/// The median of some passes, which the entries make in turns, so that a slow moment of the machine meets each of them.
+fn time(tags: &[&str]) {
+    const PASSES: usize = 51;
+    let mut times = [const { Vec::new() }; ENTRIES.len()];
+    for _ in 0..PASSES {
+        for ((_, entry), times) in ENTRIES.iter().zip(&mut times) {
+            times.push(pass(*entry, tags));
+        }
+    }
+    let medians = times.map(|mut times| {
+        times.sort_unstable();
+        times[PASSES / 2] as f64
+    });
+    for ((name, _), median) in ENTRIES.iter().zip(medians) {
+        println!(
+            "{name:<18} {:>8.1} ns a tag {:>6.2} of oxilangtag",
+            median / tags.len() as f64,
+            median / medians[2]
+        );
+    }
+}
+
+fn main() {
+    let arguments: Vec<String> = std::env::args().skip(1).collect();
+    let path = arguments
+        .last()
+        .expect("usage: against-oxilangtag FILE | against-oxilangtag once ENTRY FILE");
+    let file = std::fs::read_to_string(path).expect("the file can be read");
+    let tags: Vec<&str> = file.lines().collect();
+    match &arguments[..] {
+        [once, entry, _] if once == "once" => {
+            let found = ENTRIES
+                .iter()
+                .find(|(name, _)| name == entry)
+                .expect("no such entry");
+            pass(found.1, &tags);
+        }
+        _ => time(&tags),
+    }
+}

@@ -1,0 +1,186 @@
+/*
+ * fuzz SECONDS SEED: random texts through each function of langtag.h, beside the second reading of the two RFCs
+ * (reading.h). Each text stands at the edge of a page that nobody may touch. It stops at the first difference, with
+ * status 1.
+ */
+#include "generate.h"
+#include "pages.h"
+#include "reading.h"
+
+#include <langtag.h>
+#include <stdio.h>
+#include <stdlib.h>
+#include <string.h>
+#include <time.h>
+
+static slice looked_at; /* for the message where something differs */
+
+static void differs(const char *what, int line) {
+    printf("fuzz.c:%d: differs: %s, on \"", line, what);
+    for (size_t k = 0; k < looked_at.len; k++) printf("\\x%02x", (unsigned char)looked_at.at[k]);
+    puts("\"");
+    exit(1);
+}
+#define SAME(test) ((test) ? (void)0 : differs(#test, __LINE__))
+
+static slice at(slice text, langtag_span span) { return (slice){text.at + span.start, span.len}; }
+static bool is_same(slice a, slice b) { return a.at == b.at && a.len == b.len; }
+
+/* langtag_parse, langtag_kind and langtag_grandfathered */
+static langtag_parts check_parse(slice text) {
+    langtag_parts parts;
+    tag read = read_tag(text);
+    memset(&parts, 0xaa, sizeof parts);
+    SAME(langtag_parse(text.at, text.len, &parts) == read.kind);
+    SAME(langtag_kind(text.at, text.len) == read.kind);
+    SAME(langtag_grandfathered(text.at, text.len) == which_grandfathered(text));
+    const langtag_span spans[6] = {parts.language, parts.script,     parts.region,
+                                   parts.variants, parts.extensions, parts.private_use};
+    for (int k = 0; k < 6; k++) SAME(is_same(at(text, spans[k]), read.parts[k]));
+    return parts;
+}
+
+/* langtag_viable and langtag_stop. Where a prefix begins a tag, so does each shorter one: two have to be looked at. */
+static void check_viable(slice text) {
+    size_t viable = langtag_viable(text.at, text.len);
+    SAME(viable <= text.len && (viable == 0 || begins_a_tag((slice){text.at, viable})));
+    SAME(viable == text.len || !begins_a_tag((slice){text.at, viable + 1}));
+    SAME(langtag_stop(text.at, text.len) == (viable < text.len ? viable + 1 : text.len));
+}
+
+/* langtag_eq, langtag_cmp and langtag_hash */
+static void check_comparisons(slice text, slice other) {
+    int order = 0;
+    uint64_t hash = LANGTAG_HASH;
+    for (size_t k = 0; order == 0 && k < text.len && k < other.len; k++) {
+        int a = fold((unsigned char)text.at[k]), b = fold((unsigned char)other.at[k]);
+        order = (a > b) - (a < b);
+    }
+    if (order == 0) order = (text.len < other.len) - (text.len > other.len);
+    SAME(langtag_cmp(text.at, text.len, other.at, other.len) == order);
+    SAME(langtag_eq(text.at, text.len, other.at, other.len) == (order == 0));
+    for (size_t k = 0; k < text.len; k++)
+        hash = (hash ^ (uint64_t)fold((unsigned char)text.at[k])) * UINT64_C(0x100000001b3);
+    SAME(langtag_hash(LANGTAG_HASH, text.at, text.len) == hash);
+    size_t cut = text.len / 2;
+    SAME(langtag_hash(langtag_hash(LANGTAG_HASH, text.at, cut), text.at + cut, text.len - cut) == hash);
+}
+
+/* langtag_next_subtag on the variants, which langtag_repeats then has to agree with */
+static langtag_span check_variants(slice text, langtag_span variants) {
+    subtags wanted = split(at(text, variants));
+    langtag_span rest = variants, variant, repeated = {0, 0};
+    size_t k = 0;
+    for (; langtag_next_subtag(text.at, text.len, &rest, &variant); k++) {
+        SAME(k < wanted.count && is_same(at(text, variant), wanted.of[k]));
+        for (size_t j = 0; j < k && repeated.len == 0; j++)
+            if (are_alike(wanted.of[j], wanted.of[k])) repeated = variant;
+    }
+    SAME(k == (variants.len == 0 ? 0 : wanted.count));
+    return repeated;
+}
+
+/* langtag_next_extension, which has to cut where a subtag of one byte stands */
+static langtag_span check_extensions(slice text, langtag_span extensions) {
+    subtags wanted = split(at(text, extensions));
+    langtag_span rest = extensions, extension, repeated = {0, 0};
+    bool seen[256] = {false};
+    size_t k = 0, end;
+    while (langtag_next_extension(text.at, text.len, &rest, &extension)) {
+        SAME(k < wanted.count && wanted.of[k].len == 1 && wanted.of[k].at == text.at + extension.start);
+        int singleton = fold((unsigned char)text.at[extension.start]);
+        if (seen[singleton] && repeated.len == 0) repeated = (langtag_span){extension.start, 1};
+        seen[singleton] = true;
+        for (end = k + 1; end < wanted.count && wanted.of[end].len > 1;) end++;
+        SAME(end > k + 1 &&
+             wanted.of[end - 1].at + wanted.of[end - 1].len == text.at + extension.start + extension.len);
+        k = end;
+    }
+    SAME(k == (extensions.len == 0 ? 0 : wanted.count));
+    return repeated;
+}
+
+/* The walks over the lists of a tag, and langtag_repeats. */
+static void check_lists(slice text, const langtag_parts *parts) {
+    langtag_repeated repeated;
+    memset(&repeated, 0xaa, sizeof repeated);
+    langtag_span variant = check_variants(text, parts->variants), singleton = check_extensions(text, parts->extensions);
+    SAME(langtag_repeats(text.at, text.len, &repeated) == (variant.len > 0 ? 1u : 0u) + (singleton.len > 0 ? 2u : 0u));
+    SAME(repeated.variant.len == variant.len && (variant.len == 0 || repeated.variant.start == variant.start));
+    SAME(repeated.singleton.len == singleton.len &&
+         (singleton.len == 0 || repeated.singleton.start == singleton.start));
+}
+
+static bool is_span(langtag_span a, langtag_span b) { return a.start == b.start && a.len == b.len; }
+
+/* Both walks, on spans of which many do not lie within the text. */
+static void check_odd_spans(slice text) {
+    langtag_span odd = {below(2) ? below(40) : (size_t)0 - below(40), below(2) ? below(40) : (size_t)0 - below(40)};
+    langtag_span rest = odd, got = {77, 77}, untouched = got;
+    bool inside = odd.len > 0 && odd.start <= text.len && odd.len <= text.len - odd.start;
+    SAME(langtag_next_subtag(text.at, text.len, &rest, &got) == inside);
+    SAME(inside || (is_span(rest, odd) && is_span(got, untouched)));
+    SAME(!inside || is_same(at(text, got), split(at(text, odd)).of[0]));
+    rest = odd, got = untouched;
+    SAME(langtag_next_extension(text.at, text.len, &rest, &got) == inside);
+    SAME(inside || (is_span(rest, odd) && is_span(got, untouched)));
+    SAME(!inside || (got.start == odd.start && got.len <= odd.len));
+}
+
+/* langtag_range_kind and both ways to match */
+static void check_ranges(slice range, slice text) {
+    SAME(langtag_range_kind(range.at, range.len) == range_kind(range));
+    SAME(langtag_matches_basic(range.at, range.len, text.at, text.len) == matches_basic(range, text));
+    SAME(langtag_matches_extended(range.at, range.len, text.at, text.len) == matches_extended(range, text));
+}
+
+/* langtag_fold and langtag_recommend, which write */
+static void check_case(char *bytes, size_t len) {
+    char wanted[ROOM], folded[ROOM];
+    memcpy(wanted, bytes, len);
+    recommend(wanted, len);
+    for (size_t k = 0; k < len; k++) folded[k] = (char)fold((unsigned char)bytes[k]);
+    langtag_recommend(bytes, len);
+    SAME(memcmp(bytes, wanted, len) == 0);
+    langtag_fold(bytes, len);
+    SAME(memcmp(bytes, folded, len) == 0);
+}
+
+/* One text through all functions; answers its kind. */
+static unsigned check_one(pages here, pages there) {
+    char text[ROOM], other[ROOM], range[ROOM];
+    size_t len = make_text(text), other_len = make_neighbour(text, len, other), range_len = make_range(range);
+    bool at_the_end = below(2);
+    char *bytes = place(here, text, len, at_the_end);
+    looked_at = (slice){text, len};
+    slice placed = {bytes, len}, neighbour = {place(there, other, other_len, at_the_end), other_len};
+    langtag_parts parts = check_parse(placed);
+    check_viable(placed);
+    check_comparisons(placed, neighbour);
+    check_lists(placed, &parts);
+    check_odd_spans(placed);
+    check_ranges(neighbour, placed);
+    check_ranges((slice){place(there, range, range_len, at_the_end), range_len}, placed);
+    unsigned kind = langtag_kind(bytes, len);
+    check_case(bytes, len);
+    SAME(langtag_kind(bytes, len) == kind);
+    return kind;
+}
+
+static double now(void) {
+    struct timespec time;
+    clock_gettime(CLOCK_MONOTONIC, &time);
+    return (double)time.tv_sec + 1e-9 * (double)time.tv_nsec;
+}
+
+int main(int argc, char **argv) {
+    pages here, there;
+    double end = now() + (argc > 1 ? atof(argv[1]) : 10);
+    unsigned long long texts = 0, kinds[4] = {0};
+    seed(argc > 2 ? strtoull(argv[2], NULL, 10) : 1);
+    if (!open_pages(&here) || !open_pages(&there)) return puts("no pages to be had"), 2;
+    for (; texts % 256 != 0 || now() < end; texts++) kinds[check_one(here, there) & 3]++;
+    printf("%llu texts: %llu none, %llu normal, %llu private use, %llu irregular; no difference\n", texts, kinds[0],
+           kinds[1], kinds[2], kinds[3]);
+    return 0;
+}

@@ -1,0 +1,58 @@
+/*
+ * A second reading of RFC 5646 and RFC 4647, written for the fuzzer alone and apart from the library: plain, slow, and
+ * close to the words of the two RFCs. It splits a text at its hyphens, and goes over the subtags by the ABNF.
+ */
+#ifndef READING_H
+#define READING_H
+
+#include <stdbool.h>
+#include <stddef.h>
+#include <stdint.h>
+
+#define MAX_SUBTAGS 600
+#define GRANDFATHERED 26
+#define IRREGULAR 17
+
+/* A slice of a text. */
+typedef struct slice {
+    const char *at;
+    size_t len;
+} slice;
+
+/* The subtags of a text; a text without hyphens has one. */
+typedef struct subtags {
+    slice of[MAX_SUBTAGS];
+    size_t count;
+} subtags;
+
+/* The parts of a tag, in the order of the grammar, as slices of its text. An absent part is empty, and stands where the
+ * part before it ends. */
+typedef struct tag {
+    unsigned kind; /* 0 none, 1 normal, 2 private use, 3 irregular */
+    slice parts[6];
+} tag;
+
+/* Text, in text.c. */
+int fold(int byte);
+bool is_letter(int byte);
+bool is_digit(int byte);
+bool is_alphanum(int byte);
+bool all_of(slice text, bool (*test)(int));
+bool are_alike(slice a, slice b);
+subtags split(slice text);
+
+/* Tags (RFC 5646 section 2.1), in tag.c. */
+extern const char *const grandfathered[GRANDFATHERED];
+tag read_tag(slice text);
+bool begins_a_tag(slice text);
+unsigned which_grandfathered(slice text);
+
+/* The recommended case (RFC 5646 section 2.1.1), in case.c. */
+void recommend(char *bytes, size_t len);
+
+/* Ranges (RFC 4647), in range.c. */
+unsigned range_kind(slice text);
+bool matches_basic(slice range, slice tag);
+bool matches_extended(slice range, slice tag);
+
+#endif

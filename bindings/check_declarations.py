@@ -1,0 +1,143 @@
+#!/usr/bin/env python3
+"""Whether all who declare the C interface declare the same: crates/langtag_c, which defines it, the header, and the Rust
+and Python bindings. It compares names, types and order of parameters, and the members of the structs.
+
+    check_declarations.py [ROOT]    the root of the repository; else that in which this file stands
+"""
+from __future__ import annotations
+
+import ast
+import pathlib
+import re
+import sys
+from typing import NamedTuple
+
+# A parameter or member is its type, as the header spells it, and its name; None where the language names no parameters.
+Member = tuple[str, "str | None"]
+
+
+class Function(NamedTuple):
+    result: str
+    parameters: list[Member]
+
+
+class Interface(NamedTuple):
+    functions: dict[str, Function]
+    structs: dict[str, list[Member]]
+
+
+STRUCTS = {"Span": "langtag_span", "Parts": "langtag_parts", "Repeated": "langtag_repeated"}
+INTEGERS = {"usize": "size_t", "u64": "uint64_t", "u32": "uint32_t", "i32": "int32_t", "bool": "bool", "": "void"}
+
+
+def without_comments(text: str) -> str:
+    return re.sub(r"/\*.*?\*/|//[^\n]*", "", text, flags=re.S)
+
+
+def pairs(text: str) -> list[tuple[str, str]]:
+    """`name: type` of a list of parameters or fields in Rust and Rattle."""
+    return [(name, kind.strip()) for name, kind in re.findall(r"(?:pub )?(\w+)\s*:\s*([^,]+)", text)]
+
+
+def of_crate(root: pathlib.Path) -> Interface:
+    """A slice crosses as a pointer and a length, of which the length takes the slice's name but for `bytes`."""
+    files = sorted((root / "crates/langtag_c/src").rglob("*.rt"))
+    source = without_comments("\n".join(path.read_text() for path in files))
+    functions = {}
+    for name, parameters, result in re.findall(r'pub extern "C" fn (\w+)\(([^)]*)\)(?:\s*->\s*(\w+))?', source):
+        found: list[Member] = []
+        for parameter, kind in pairs(parameters):
+            if kind in ("&[u8]", "&mut [u8]"):
+                length = "len" if parameter == "bytes" else parameter + "_len"
+                found += [("const char *" if kind == "&[u8]" else "char *", parameter), ("size_t", length)]
+            elif kind.startswith("&mut "):
+                found.append((STRUCTS[kind[5:]] + " *", parameter))
+            else:
+                found.append((INTEGERS[kind], parameter))
+        functions[name] = Function(INTEGERS[result], found)
+    return Interface(functions, rust_structs(source))
+
+
+def rust_structs(source: str) -> dict[str, list[Member]]:
+    types = INTEGERS | STRUCTS
+    found = re.findall(r"#\[repr\(C\)\][^{]*struct (\w+) \{(.*?)\}", source, flags=re.S)
+    return {STRUCTS[name]: [(types[kind], field) for field, kind in pairs(body)] for name, body in found}
+
+
+def of_header(root: pathlib.Path) -> Interface:
+    source = without_comments((root / "bindings/include/langtag.h").read_text())
+    functions, structs = {}, {}
+    declaration = r"^(?:LANGTAG_PURE )?(\w+) (langtag_\w+)\(([^)]*)\);"
+    for result, name, parameters in re.findall(declaration, source, flags=re.M):
+        split = [re.fullmatch(r"\s*(.*?)(\w+)\s*", parameter, flags=re.S) for parameter in parameters.split(",")]
+        functions[name] = Function(result, [(found[1].strip(), found[2]) for found in split if found])
+    for body, name in re.findall(r"typedef struct \w+ \{(.*?)\} (\w+);", source, flags=re.S):
+        structs[name] = re.findall(r"(\w+) (\w+);", body)
+    return Interface(functions, structs)
+
+
+def of_rust(root: pathlib.Path) -> Interface:
+    source = without_comments((root / "bindings/rust/src/ffi.rs").read_text())
+    types = INTEGERS | {"*const u8": "const char *", "*mut u8": "char *"}
+    types |= {f"*mut {name}": f"{in_c} *" for name, in_c in STRUCTS.items()}
+    functions = {}
+    for name, parameters, result in re.findall(r"fn (langtag_\w+)\(([^)]*)\)(?: -> (\w+))?;", source):
+        functions[name] = Function(types[result], [(types[kind], parameter) for parameter, kind in pairs(parameters)])
+    return Interface(functions, rust_structs(source))
+
+
+def of_python(root: pathlib.Path) -> Interface:
+    """Reads the table _FUNCTIONS, of results and parameters, and the classes of structs."""
+    types = {f"c_{name.removesuffix('_t')}": name for name in ("size_t", "uint64_t", "uint32_t", "int32_t", "bool")}
+    types |= {"c_size_t": "size_t", "None": "void", "c_char_p": "const char *", "POINTER(c_char)": "char *"}
+    types |= {"_" + name: in_c for name, in_c in STRUCTS.items()}
+    types |= {f"POINTER(_{name})": f"{in_c} *" for name, in_c in STRUCTS.items()}
+    functions, structs = {}, {}
+    for node in ast.parse((root / "bindings/python/langtag.py").read_text()).body:
+        if isinstance(node, ast.AnnAssign) and ast.unparse(node.target) == "_FUNCTIONS":
+            for name, row in zip(node.value.keys, node.value.values):
+                result, *parameters = [types[ast.unparse(kind)] for kind in row.elts]
+                functions[name.value] = Function(result, [(kind, None) for kind in parameters])
+        elif isinstance(node, ast.ClassDef) and node.name[1:] in STRUCTS:
+            fields = next(item.value for item in node.body if isinstance(item, ast.Assign))
+            members = [(types[ast.unparse(field.elts[1])], field.elts[0].value) for field in fields.elts]
+            structs[STRUCTS[node.name[1:]]] = members
+    return Interface(functions, structs)
+
+
+def like(ours: list[Member], theirs: list[Member]) -> bool:
+    """Equal members in equal order; a name that one of them lacks is equal to any."""
+    return len(ours) == len(theirs) and all(
+        a[0] == b[0] and (a[1] == b[1] or a[1] is None or b[1] is None) for a, b in zip(ours, theirs))
+
+
+def lacking(where: str, ours: dict, theirs: dict) -> list[str]:
+    return [f"{where} {'lacks' if name in ours else 'adds'} {name}" for name in ours.keys() ^ theirs.keys()]
+
+
+def differences(where: str, crate: Interface, other: Interface) -> list[str]:
+    found = lacking(where, crate.functions, other.functions) + lacking(where, crate.structs, other.structs)
+    for name in crate.functions.keys() & other.functions.keys():
+        ours, theirs = crate.functions[name], other.functions[name]
+        if ours.result != theirs.result or not like(ours.parameters, theirs.parameters):
+            found.append(f"{name}: {where} has {theirs}, and the crate {ours}")
+    for name in crate.structs.keys() & other.structs.keys():
+        if not like(crate.structs[name], other.structs[name]):
+            found.append(f"{name}: {where} has {other.structs[name]}, and the crate {crate.structs[name]}")
+    return sorted(found)
+
+
+def main(root: pathlib.Path) -> int:
+    crate = of_crate(root)
+    if not crate.functions or not crate.structs:
+        print("no functions, or no structs, were found in the crate")
+        return 1
+    others = (("the header", of_header), ("ffi.rs", of_rust), ("langtag.py", of_python))
+    found = [line for where, read in others for line in differences(where, crate, read(root))]
+    count = f"{len(crate.functions)} functions and {len(crate.structs)} structs"
+    print("\n".join(found) or f"{count}: crate, header, ffi.rs and langtag.py agree")
+    return 1 if found else 0
+
+
+if __name__ == "__main__":
+    sys.exit(main(pathlib.Path(sys.argv[1]) if len(sys.argv) > 1 else pathlib.Path(__file__).resolve().parent.parent))

@@ -1,0 +1,76 @@
+/*
+ * Answers each request in the language that its Accept-Language header asks for: negotiate [PORT]
+ *
+ *     curl -H 'Accept-Language: fr;q=0.3, DE-ch-1996;q=0.9' localhost:8080
+ *
+ * It serves one request at a time, waits for it as long as that takes, and reads no more than 8 kB of it: an example of
+ * the choice of a language, and no web server.
+ */
+#define _POSIX_C_SOURCE 200809L
+#include "accept_language.h"
+
+#include <arpa/inet.h>
+#include <stdio.h>
+#include <stdlib.h>
+#include <string.h>
+#include <strings.h>
+#include <sys/socket.h>
+#include <unistd.h>
+
+static const char *const tags[] = {"en", "de", "de-CH", "fr", "zh-Hant"};
+static const char *const greetings[] = {"Hello", "Guten Tag", "Gr\u00fcezi", "Bonjour", "\u4f60\u597d"};
+enum { COUNT = sizeof tags / sizeof *tags, DEFAULT = 0 };
+
+/* The value of a header of a request, up to the end of its line; NULL where there is none. */
+static const char *header(const char *request, const char *name, size_t *len) {
+    for (const char *line = strstr(request, "\r\n"); line; line = strstr(line, "\r\n")) {
+        line += 2;
+        if (strncasecmp(line, name, strlen(name)) == 0 && line[strlen(name)] == ':') {
+            line += strlen(name) + 1;
+            *len = strcspn(line, "\r\n");
+            return line;
+        }
+    }
+    return NULL;
+}
+
+static void answer(int connection) {
+    char request[8192], reply[512];
+    size_t got = 0, len, chosen = COUNT;
+    ssize_t more;
+    while (got < sizeof request - 1 && (more = read(connection, request + got, sizeof request - 1 - got)) > 0) {
+        got += (size_t)more;
+        request[got] = '\0';
+        if (strstr(request, "\r\n\r\n")) break;
+    }
+    request[got] = '\0';
+    const char *accept = header(request, "Accept-Language", &len);
+    if (accept) chosen = choose_tag(accept, len, tags, COUNT);
+    if (chosen == COUNT) chosen = DEFAULT;
+    int size = snprintf(reply, sizeof reply,
+                        "HTTP/1.1 200 OK\r\nContent-Type: text/plain; charset=utf-8\r\nContent-Language: %s\r\nVary: "
+                        "Accept-Language\r\n"
+                        "Content-Length: %zu\r\nConnection: close\r\n\r\n%s\n",
+                        tags[chosen], strlen(greetings[chosen]) + 1, greetings[chosen]);
+    if (send(connection, reply, (size_t)size, MSG_NOSIGNAL) != size) perror("send");
+}
+
+int main(int argc, char **argv) {
+    struct sockaddr_in address = {.sin_family = AF_INET,
+                                  .sin_port = htons((unsigned short)atoi(argc > 1 ? argv[1] : "8080"))};
+    socklen_t size = sizeof address;
+    int server = socket(AF_INET, SOCK_STREAM, 0), connection;
+    address.sin_addr.s_addr = htonl(INADDR_LOOPBACK);
+    if (server < 0 || bind(server, (struct sockaddr *)&address, size) != 0 || listen(server, 16) != 0 ||
+        getsockname(server, (struct sockaddr *)&address, &size) != 0) {
+        perror("negotiate");
+        return 1;
+    }
+    printf("http://127.0.0.1:%d\n", ntohs(address.sin_port));
+    fflush(stdout);
+    while ((connection = accept(server, NULL, NULL)) >= 0) {
+        answer(connection);
+        close(connection);
+    }
+    return 1;
+}

@@ -1,0 +1,54 @@
+/*
+ * A loadable extension for SQLite: the parts of language tags, and their order.
+ *
+ *     cc -O2 -fPIC -shared sqlite_langtag.c -o sqlite_langtag.so $(pkg-config --cflags --libs langtag)
+ *     sqlite> .load ./sqlite_langtag
+ *     sqlite> SELECT langtag_part('zh-Hant-TW', 'script');          -- Hant
+ *     sqlite> SELECT * FROM texts WHERE tag = 'ZH-hant' COLLATE langtag;
+ *
+ * langtag_part(tag, part) is NULL where the text is no tag, where the part is absent, and of NULL. The parts are
+ * language, script, region, variants, extensions and private_use.
+ */
+#include <langtag.h>
+#include <sqlite3ext.h>
+#include <string.h>
+SQLITE_EXTENSION_INIT1
+
+/* The span of a part by its name; NULL where no part has that name. */
+static const langtag_span *part_named(const langtag_parts *parts, const char *name) {
+    const struct {
+        const char *name;
+        const langtag_span *span;
+    } named[] = {
+        {"language", &parts->language}, {"script", &parts->script},         {"region", &parts->region},
+        {"variants", &parts->variants}, {"extensions", &parts->extensions}, {"private_use", &parts->private_use},
+    };
+    for (size_t k = 0; k < sizeof named / sizeof *named; k++)
+        if (strcmp(named[k].name, name) == 0) return named[k].span;
+    return NULL;
+}
+
+static void part(sqlite3_context *context, int count, sqlite3_value **values) {
+    (void)count;
+    const char *tag = (const char *)sqlite3_value_text(values[0]), *name = (const char *)sqlite3_value_text(values[1]);
+    langtag_parts parts;
+    if (!tag || !name) return; /* NULL */
+    uint32_t kind = langtag_parse(tag, (size_t)sqlite3_value_bytes(values[0]), &parts);
+    const langtag_span *span = part_named(&parts, name);
+    if (!span) sqlite3_result_error(context, "langtag_part: no part has that name", -1);
+    else if (kind != LANGTAG_NONE && span->len > 0)
+        sqlite3_result_text(context, tag + span->start, (int)span->len, SQLITE_TRANSIENT);
+}
+
+static int compare(void *unused, int a_len, const void *a, int b_len, const void *b) {
+    (void)unused;
+    return langtag_cmp(LANGTAG_BYTES(a), (size_t)a_len, LANGTAG_BYTES(b), (size_t)b_len);
+}
+
+int sqlite3_sqlitelangtag_init(sqlite3 *db, char **message, const sqlite3_api_routines *api) {
+    (void)message;
+    SQLITE_EXTENSION_INIT2(api);
+    int status =
+        sqlite3_create_function(db, "langtag_part", 2, SQLITE_UTF8 | SQLITE_DETERMINISTIC, NULL, part, NULL, NULL);
+    return status == SQLITE_OK ? sqlite3_create_collation(db, "langtag", SQLITE_UTF8, NULL, compare) : status;
+}

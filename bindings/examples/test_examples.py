@@ -1,0 +1,86 @@
+#!/usr/bin/env python3
+"""The examples beside each other: test_examples.py NEGOTIATE SQLITE_EXTENSION, of which the latter may be left out.
+
+NEGOTIATE is the C program, built. Both servers get the same headers, and have to give the same answers.
+"""
+import doctest
+import http.client
+import sqlite3
+import subprocess
+import sys
+import unittest
+
+import negotiate
+
+# A header, and the Content-Language of the answer.
+HEADERS = [
+    (None, "en"), ("", "en"), ("de", "de"), ("DE-ch-1996", "de-CH"), ("fr;q=0.3, DE-ch-1996;q=0.9", "de-CH"),
+    ("de;q=0.5,fr;q=0.5", "de"), ("fr;q=0, de;q=0.1", "de"), ("ja, *;q=0.1", "en"), ("zh-Hant-TW", "zh-Hant"),
+    ("zh", "en"), ("zh-hant-x-a-b", "zh-Hant"), ("zh-hant-a-x-b", "zh-Hant"), ("fr;q=1.001, de;q=0.2", "de"),
+    ("fr;q=2, de", "de"), ("fr;, de", "de"), ("fr;q=, de;q=0.001", "de"), ("fr ; Q=0.9\t, de", "de"),
+    ("*-CH, fr;q=0.1", "fr"), ("fr_FR", "en"), ("fr;q=1.000, de;q=0.999", "fr"), (",,, ,de,", "de"),
+    ("fr;q=0.3;q=0.4, de;q=0.1", "de"), ("a-b, de", "de"), ("fr;q=1.", "fr"),
+]
+
+
+# Statements for SQLite, and what it says to them.
+TABLE = "CREATE TABLE texts (tag TEXT PRIMARY KEY COLLATE langtag); INSERT INTO texts VALUES ('zh-Hant'), ('de'), ('zh'), ('');"
+STATEMENTS = [
+    ("SELECT langtag_part('zh-Hant-TW', 'script'), langtag_part('de-1996-x-a', 'variants');", "Hant|1996"),
+    ("SELECT langtag_part('x-a', 'private_use'), langtag_part('zh-yue-u-co', 'language');", "x-a|zh-yue"),
+    ("SELECT langtag_part('zh_Hant', 'script') IS NULL, langtag_part(NULL, 'script') IS NULL;", "1|1"),
+    ("SELECT langtag_part('de', 'region') IS NULL, langtag_part('', 'language') IS NULL;", "1|1"),
+    (TABLE + "SELECT tag FROM texts WHERE tag = 'ZH-hant';", "zh-Hant"),
+    (TABLE + "SELECT group_concat(tag) FROM (SELECT tag FROM texts ORDER BY tag);", "de,zh-Hant,zh,"),
+    (TABLE + "INSERT OR IGNORE INTO texts VALUES ('DE'); SELECT count(*) FROM texts;", "4"),
+]
+
+
+def sqlite(statements):
+    """What SQLite says, and what it complains of, with the extension loaded."""
+    command = ["sqlite3", ":memory:", "-cmd", f".load {EXTENSION}"]
+    run = subprocess.run(command, input=statements, capture_output=True, text=True)
+    return run.stdout, run.stderr
+
+
+def answers(command):
+    """What a server says to each header."""
+    server = subprocess.Popen(command, stdout=subprocess.PIPE, stderr=subprocess.DEVNULL, text=True)
+    try:
+        port = int(server.stdout.readline().rsplit(":", 1)[1])
+        found = []
+        for header, _ in HEADERS:
+            connection = http.client.HTTPConnection("127.0.0.1", port, timeout=20)
+            connection.request("GET", "/", headers={} if header is None else {"Accept-Language": header})
+            response = connection.getresponse()
+            found.append((response.status, response.headers["Content-Language"], response.read().decode()))
+            connection.close()
+        return found
+    finally:
+        server.kill()
+        server.wait()
+        server.stdout.close()
+
+
+class Examples(unittest.TestCase):
+    def test_servers(self):
+        wanted = [(200, tag, negotiate.GREETINGS[negotiate.Tag(tag)] + "\n") for _, tag in HEADERS]
+        self.assertEqual(answers([sys.executable, negotiate.__file__, "0"]), wanted)
+        self.assertEqual(answers([NEGOTIATE, "0"]), wanted)
+
+    def test_sqlite(self):
+        if not EXTENSION:
+            self.skipTest("no extension is built")
+        for statements, said in STATEMENTS:
+            self.assertEqual(sqlite(statements), (said + "\n", ""))
+        self.assertIn("no part has that name", sqlite("SELECT langtag_part('de', 'skript');")[1])
+
+
+def load_tests(loader, tests, ignore):
+    tests.addTests(doctest.DocTestSuite(negotiate))
+    return tests
+
+
+if __name__ == "__main__":
+    NEGOTIATE, EXTENSION = (sys.argv[1:3] + [None])[:2]
+    unittest.main(argv=sys.argv[:1])

@@ -1,0 +1,352 @@
+"""Language tags and language ranges by BCP 47 (RFC 5646, RFC 4647), over a C library whose code is proved against the grammar.
+
+It looks at what is well formed, and not at the registry of subtags. Texts are str, or bytes.
+
+>>> tag = parse("zh-yue-Hant-HK-u-co-pinyin-x-mine")
+>>> tag.primary_language, tag.extended_language, tag.script, tag.region
+('zh', ('yue',), 'Hant', 'HK')
+>>> tag.extensions, tag.private_use
+({'u': ('co', 'pinyin')}, 'x-mine')
+>>> tag == parse("ZH-YUE-hant-hk-U-CO-pinyin-x-MINE")
+True
+>>> Range("zh-*-HK").matches(tag)
+True
+>>> parse("zh_Hant")
+Traceback (most recent call last):
+...
+langtag.InvalidTag: 'zh_Hant' is no language tag: none begins with 'zh_'
+"""
+from __future__ import annotations
+
+import ctypes
+import enum
+import functools
+import os
+import pathlib
+from ctypes import POINTER, c_bool, c_char, c_char_p, c_int32, c_size_t, c_uint32, c_uint64
+from typing import Any, Callable, Iterator, Union
+
+__all__ = ["GRANDFATHERED", "InvalidRange", "InvalidTag", "Kind", "Range", "Tag", "kind", "parse", "stop", "viable"]
+__version__ = "0.1.0"
+
+Text = Union[str, bytes]
+
+#: The 26 grandfathered tags as they are registered (RFC 5646 section 2.1): first the seventeen irregular ones.
+GRANDFATHERED = (
+    "en-GB-oed", "i-ami", "i-bnn", "i-default", "i-enochian", "i-hak", "i-klingon", "i-lux", "i-mingo", "i-navajo", "i-pwn",
+    "i-tao", "i-tay", "i-tsu", "sgn-BE-FR", "sgn-BE-NL", "sgn-CH-DE", "art-lojban", "cel-gaulish", "no-bok", "no-nyn",
+    "zh-guoyu", "zh-hakka", "zh-min", "zh-min-nan", "zh-xiang",
+)
+
+
+class _Span(ctypes.Structure):
+    _fields_ = [("start", c_size_t), ("len", c_size_t)]
+
+
+class _Parts(ctypes.Structure):
+    _fields_ = [
+        ("language", _Span),
+        ("script", _Span),
+        ("region", _Span),
+        ("variants", _Span),
+        ("extensions", _Span),
+        ("private_use", _Span),
+    ]
+
+
+class _Repeated(ctypes.Structure):
+    _fields_ = [("variant", _Span), ("singleton", _Span)]
+
+
+# The result of each function of langtag.h, and then its parameters.
+_FUNCTIONS: dict[str, tuple[Any, ...]] = {
+    "langtag_parse": (c_uint32, c_char_p, c_size_t, POINTER(_Parts)),
+    "langtag_kind": (c_uint32, c_char_p, c_size_t),
+    "langtag_viable": (c_size_t, c_char_p, c_size_t),
+    "langtag_stop": (c_size_t, c_char_p, c_size_t),
+    "langtag_eq": (c_bool, c_char_p, c_size_t, c_char_p, c_size_t),
+    "langtag_cmp": (c_int32, c_char_p, c_size_t, c_char_p, c_size_t),
+    "langtag_hash": (c_uint64, c_uint64, c_char_p, c_size_t),
+    "langtag_fold": (None, POINTER(c_char), c_size_t),
+    "langtag_recommend": (None, POINTER(c_char), c_size_t),
+    "langtag_next_subtag": (c_bool, c_char_p, c_size_t, POINTER(_Span), POINTER(_Span)),
+    "langtag_next_extension": (c_bool, c_char_p, c_size_t, POINTER(_Span), POINTER(_Span)),
+    "langtag_repeats": (c_uint32, c_char_p, c_size_t, POINTER(_Repeated)),
+    "langtag_grandfathered": (c_uint32, c_char_p, c_size_t),
+    "langtag_range_kind": (c_uint32, c_char_p, c_size_t),
+    "langtag_matches_basic": (c_bool, c_char_p, c_size_t, c_char_p, c_size_t),
+    "langtag_matches_extended": (c_bool, c_char_p, c_size_t, c_char_p, c_size_t),
+}
+
+
+def _open() -> ctypes.CDLL:
+    """LANGTAG_LIBRARY names the library; else it stands where a wheel puts it, beside this file, or where the system looks."""
+    name = "liblangtag.so.1"
+    here = pathlib.Path(__file__).resolve().parent
+    beside = [path for path in (here / "langtag.libs" / name, here / name) if path.is_file()]
+    path = os.environ.get("LANGTAG_LIBRARY") or str(beside[0] if beside else name)
+    try:
+        library = ctypes.CDLL(path)
+    except OSError as error:
+        raise ImportError(f"{error}: install {name}, put it beside {__file__}, or name it by LANGTAG_LIBRARY") from error
+    for function, (result, *parameters) in _FUNCTIONS.items():
+        found = getattr(library, function)
+        found.restype, found.argtypes = result, parameters
+    return library
+
+
+_c = _open()
+
+
+def _bytes(text: Text) -> bytes:
+    if isinstance(text, str):
+        return text.encode("utf-8", "surrogatepass")  # a lone surrogate becomes bytes that no tag has
+    if isinstance(text, bytes):
+        return text
+    raise TypeError(f"a text is str or bytes, and not {type(text).__name__}")
+
+
+class Kind(enum.Enum):
+    """What a text is, as a tag (RFC 5646 section 2.1). The regular grandfathered tags, as zh-min-nan, are normal."""
+
+    NORMAL = 1
+    PRIVATE_USE = 2
+    IRREGULAR = 3
+
+
+class InvalidTag(ValueError):
+    """A text that is no language tag: `text`. Some tag begins with its first `viable` bytes, and none with one more."""
+
+    def __init__(self, text: Text):
+        self.text = text
+        self.viable = viable(text)
+        data = _bytes(text)
+        if self.viable < len(data):
+            begins = data[: self.viable + 1].decode("utf-8", "backslashreplace")
+            super().__init__(f"{text!r} is no language tag: none begins with {begins!r}")
+        else:
+            super().__init__(f"{text!r} is no language tag: it ends too soon")
+
+    def __reduce__(self) -> tuple[type[InvalidTag], tuple[Text]]:
+        return type(self), (self.text,)
+
+
+class InvalidRange(ValueError):
+    """A text that is no language range: `text`."""
+
+    def __init__(self, text: Text):
+        self.text = text
+        super().__init__(f"{text!r} is no language range")
+
+    def __reduce__(self) -> tuple[type[InvalidRange], tuple[Text]]:
+        return type(self), (self.text,)
+
+
+def kind(text: Text) -> Kind | None:
+    """What a text is, as a tag; None where it is none."""
+    data = _bytes(text)
+    found = _c.langtag_kind(data, len(data))
+    return Kind(found) if found else None
+
+
+def viable(text: Text) -> int:
+    """The length of the longest prefix that some tag begins with, in bytes."""
+    data = _bytes(text)
+    return _c.langtag_viable(data, len(data))
+
+
+def stop(text: Text) -> int:
+    """The length of the shortest prefix that no tag begins with, or of the whole text where there is none, in bytes."""
+    data = _bytes(text)
+    return _c.langtag_stop(data, len(data))
+
+
+class _Caseless:
+    """A text that is compared and hashed without regard to the case of ASCII letters. Of two texts of which one begins the
+    other, the shorter is the greater."""
+
+    __slots__ = ("_data",)
+    _data: bytes
+
+    def __eq__(self, other: object) -> bool:
+        if not isinstance(other, type(self)):
+            return NotImplemented
+        return _c.langtag_eq(self._data, len(self._data), other._data, len(other._data))
+
+    def __lt__(self, other: object) -> bool:
+        if not isinstance(other, type(self)):
+            return NotImplemented
+        return _c.langtag_cmp(self._data, len(self._data), other._data, len(other._data)) < 0
+
+    def __hash__(self) -> int:
+        return hash(self._data.lower())  # of bytes, lower() is that of ASCII; the hash is keyed, as all of Python are
+
+    def __str__(self) -> str:
+        return self._data.decode("ascii")
+
+    def __repr__(self) -> str:
+        return f"{type(self).__name__}({str(self)!r})"
+
+    def __reduce__(self) -> tuple[type[_Caseless], tuple[str]]:
+        return type(self), (str(self),)
+
+
+@functools.total_ordering
+class Tag(_Caseless):
+    """A language tag. It does not change, keeps its case, and ignores it in comparisons.
+
+    >>> sorted({Tag("de-CH"), Tag("DE-ch"), Tag("de-AT")})
+    [Tag('de-AT'), Tag('de-CH')]
+    """
+
+    __slots__ = ("_kind", "_parts")
+
+    def __init__(self, text: Text):
+        data = _bytes(text)
+        parts = _Parts()
+        found = _c.langtag_parse(data, len(data), parts)
+        if not found:
+            raise InvalidTag(text)
+        self._data, self._kind, self._parts = data, Kind(found), parts
+
+    def _part(self, span: _Span) -> str | None:
+        return self._data[span.start : span.start + span.len].decode("ascii") if span.len else None
+
+    def _walk(self, span: _Span, take: Callable[..., bool]) -> Iterator[_Span]:
+        rest, found = _Span(span.start, span.len), _Span()
+        while take(self._data, len(self._data), rest, found):
+            yield _Span(found.start, found.len)
+
+    def _subtags(self, span: _Span) -> tuple[str, ...]:
+        return tuple(self._part(subtag) or "" for subtag in self._walk(span, _c.langtag_next_subtag))
+
+    @property
+    def kind(self) -> Kind:
+        """Which kind of tag it is."""
+        return self._kind
+
+    @property
+    def language(self) -> str | None:
+        """The language of a normal tag, with its extended subtags: zh-yue."""
+        return self._part(self._parts.language)
+
+    @property
+    def primary_language(self) -> str | None:
+        """The primary language subtag of a normal tag: zh."""
+        return next(iter(self._subtags(self._parts.language)), None)
+
+    @property
+    def extended_language(self) -> tuple[str, ...]:
+        """The extended language subtags: ('yue',)."""
+        return self._subtags(self._parts.language)[1:]
+
+    @property
+    def script(self) -> str | None:
+        """The script: Hant."""
+        return self._part(self._parts.script)
+
+    @property
+    def region(self) -> str | None:
+        """The region: HK, 419."""
+        return self._part(self._parts.region)
+
+    @property
+    def variants(self) -> tuple[str, ...]:
+        """The variants: ('rozaj', '1994')."""
+        return self._subtags(self._parts.variants)
+
+    @property
+    def extensions(self) -> dict[str, tuple[str, ...]]:
+        """The subtags of each extension by its singleton in small letters, and of a singleton that is repeated the first:
+        {'u': ('co', 'pinyin')}."""
+        found: dict[str, tuple[str, ...]] = {}
+        for span in self._walk(self._parts.extensions, _c.langtag_next_extension):
+            singleton, *subtags = self._subtags(span)
+            found.setdefault(singleton.lower(), tuple(subtags))
+        return found
+
+    @property
+    def private_use(self) -> str | None:
+        """The private use part with its mark: x-mine. A tag for private use is all of it."""
+        return self._part(self._parts.private_use)
+
+    @property
+    def grandfathered(self) -> str | None:
+        """Which of GRANDFATHERED it is, in any case."""
+        index = _c.langtag_grandfathered(self._data, len(self._data))
+        return GRANDFATHERED[index] if index < len(GRANDFATHERED) else None
+
+    def _repeated(self) -> _Repeated:
+        found = _Repeated()
+        _c.langtag_repeats(self._data, len(self._data), found)
+        return found
+
+    @property
+    def repeated_variant(self) -> str | None:
+        """The first variant that equals an earlier one but for case. A tag with one is well formed, and not valid."""
+        return self._part(self._repeated().variant)
+
+    @property
+    def repeated_singleton(self) -> str | None:
+        """The first singleton that equals an earlier one but for case. A tag with one is well formed, and not valid."""
+        return self._part(self._repeated().singleton)
+
+    def recommended(self) -> Tag:
+        """The equal tag in the case that RFC 5646 section 2.1.1 recommends.
+
+        >>> Tag("ZH-hant-tw").recommended()
+        Tag('zh-Hant-TW')
+        """
+        return Tag(_changed(_c.langtag_recommend, self._data))
+
+    def folded(self) -> str:
+        """The text in small letters: the same for all tags that are equal, to keep where texts are compared byte by byte."""
+        return _changed(_c.langtag_fold, self._data).decode("ascii")
+
+    def fnv1a(self) -> int:
+        """FNV-1a of 64 bits over the folded text: the same number in every program and at every time. It does not withstand
+        whoever picks the tags; hash() does."""
+        return _c.langtag_hash(0xCBF29CE484222325, self._data, len(self._data))
+
+
+def _changed(change: Callable[..., None], data: bytes) -> bytes:
+    """A copy of some bytes that was changed in its place."""
+    buffer = ctypes.create_string_buffer(data, len(data))
+    change(buffer, len(data))
+    return buffer.raw
+
+
+def parse(text: Text) -> Tag:
+    """The tag of a text; InvalidTag where it is none."""
+    return Tag(text)
+
+
+@functools.total_ordering
+class Range(_Caseless):
+    """A language range, basic or extended (RFC 4647 section 2): de-CH, *, *-CH, de-*-DE.
+
+    >>> [Range("de-DE").matches_basic(Tag(text)) for text in ("de-DE-1996", "de-Latn-DE")]
+    [True, False]
+    """
+
+    __slots__ = ("_is_basic",)
+
+    def __init__(self, text: Text):
+        data = _bytes(text)
+        found = _c.langtag_range_kind(data, len(data))
+        if not found:
+            raise InvalidRange(text)
+        self._data, self._is_basic = data, found == 1
+
+    @property
+    def is_basic(self) -> bool:
+        """Whether it is a basic range (section 2.1): de-CH, or * alone."""
+        return self._is_basic
+
+    def matches(self, tag: Tag) -> bool:
+        """Whether it matches a tag by extended filtering (section 3.3.2): de-DE matches de-Latn-DE."""
+        return _c.langtag_matches_extended(self._data, len(self._data), tag._data, len(tag._data))
+
+    def matches_basic(self, tag: Tag) -> bool:
+        """Whether it matches a tag by basic filtering (section 3.3.1): de-DE matches de-DE-1996, and not de-Latn-DE."""
+        return _c.langtag_matches_basic(self._data, len(self._data), tag._data, len(tag._data))

@@ -1,0 +1,121 @@
+"""python3 -m unittest, in this folder."""
+import copy
+import doctest
+import pickle
+import random
+import unittest
+
+import langtag
+from langtag import GRANDFATHERED, InvalidRange, InvalidTag, Kind, Range, Tag, kind, parse, stop, viable
+
+
+class Parts(unittest.TestCase):
+    def test_of_a_normal_tag(self):
+        tag = parse("sl-rbz-Latn-IT-rozaj-1994-u-co-phonebk-A-bb-x-mine-1")
+        self.assertEqual((tag.kind, tag.language, tag.script, tag.region), (Kind.NORMAL, "sl-rbz", "Latn", "IT"))
+        self.assertEqual((tag.primary_language, tag.extended_language), ("sl", ("rbz",)))
+        self.assertEqual(tag.variants, ("rozaj", "1994"))
+        self.assertEqual(tag.extensions, {"u": ("co", "phonebk"), "a": ("bb",)})
+        self.assertEqual(tag.private_use, "x-mine-1")
+
+    def test_absent(self):
+        tag = parse(b"de")
+        self.assertEqual((tag.script, tag.region, tag.variants, tag.extensions, tag.private_use), (None, None, (), {}, None))
+        self.assertEqual((tag.grandfathered, tag.repeated_variant, tag.repeated_singleton), (None, None, None))
+
+    def test_repeated(self):
+        tag = parse("sl-rozaj-ROZAJ-a-bb-A-cc")
+        self.assertEqual((tag.repeated_variant, tag.repeated_singleton), ("ROZAJ", "A"))
+        self.assertEqual(tag.extensions, {"a": ("bb",)})
+
+
+class Kinds(unittest.TestCase):
+    def test_private_use(self):
+        tag = parse("X-a")
+        self.assertEqual((tag.kind, tag.private_use, tag.language, tag.primary_language), (Kind.PRIVATE_USE, "X-a", None, None))
+
+    def test_grandfathered(self):
+        for index, text in enumerate(GRANDFATHERED):
+            tag = parse(text.upper())
+            self.assertEqual(tag.grandfathered, text)
+            self.assertIs(tag.kind, Kind.IRREGULAR if index < 17 else Kind.NORMAL)
+
+    def test_none(self):
+        for text in ("", "f", "en_US", "zh-x-é", "en\0", b"en\xff", "\ud800", "i-notexist", "K-ab", "\u212a"):
+            self.assertIsNone(kind(text))
+            with self.assertRaises(InvalidTag) as caught:
+                parse(text)
+            self.assertEqual(caught.exception.text, text)
+            self.assertIn(repr(text), str(caught.exception))
+
+    def test_other_types(self):
+        for value in (None, 5, ["en"], bytearray(b"en"), parse("en")):
+            with self.assertRaises(TypeError):
+                parse(value)
+
+    def test_where_a_text_goes_wrong(self):
+        self.assertEqual((viable("i-no"), stop("i-no"), viable("en-"), stop("en-")), (3, 4, 3, 3))
+        self.assertEqual(str(InvalidTag("en-")), "'en-' is no language tag: it ends too soon")
+
+    def test_any_bytes(self):
+        numbers = random.Random(1)
+        for _ in range(5000):
+            text = bytes(numbers.choice(b"abixX-1\x00\xff") for _ in range(numbers.randrange(12)))
+            reach = viable(text)
+            self.assertTrue(0 <= reach <= len(text) and stop(text) == min(reach + 1, len(text)))
+
+
+class Values(unittest.TestCase):
+    def test_equality(self):
+        self.assertEqual(parse("zh-Hant"), parse("ZH-HANT"))
+        self.assertEqual({parse("zh-Hant"): 1}[parse("zh-hant")], 1)
+        self.assertEqual(parse("zh-Hant").fnv1a(), parse("zh-hant").fnv1a())
+        self.assertNotEqual(parse("zh"), "zh")
+        self.assertNotEqual(parse("zh"), Range("zh"))
+        self.assertEqual(Range("DE-*"), Range("de-*"))
+
+    def test_order(self):
+        texts = [str(tag) for tag in sorted(map(parse, ("zh", "ZH-Latn", "en", "EN-us")))]
+        self.assertEqual(texts, ["EN-us", "en", "ZH-Latn", "zh"])
+        self.assertTrue(parse("en") >= parse("EN") and parse("de") < parse("EN"))
+        with self.assertRaises(TypeError):
+            parse("en") < Range("en")
+
+    def test_texts(self):
+        self.assertEqual((str(parse("ZH-hant")), repr(parse("ZH-hant"))), ("ZH-hant", "Tag('ZH-hant')"))
+        self.assertEqual((str(parse("EN-ca-X-CA").recommended()), parse("EN-ca-X-CA").folded()), ("en-CA-x-ca", "en-ca-x-ca"))
+
+    def test_copies(self):
+        for value in (parse("zh-Hant"), Range("*-CH")):
+            for made in (copy.copy(value), copy.deepcopy(value), pickle.loads(pickle.dumps(value))):
+                self.assertEqual(repr(made), repr(value))
+        error = pickle.loads(pickle.dumps(InvalidTag("en_US")))
+        self.assertEqual((error.text, error.viable), ("en_US", 2))
+
+
+class Ranges(unittest.TestCase):
+    def test_kinds(self):
+        for text, is_basic in (("de-CH", True), ("*", True), ("*-CH", False), ("de-*", False), (b"a-1", True)):
+            self.assertIs(Range(text).is_basic, is_basic)
+        for text in ("", "de_CH", "1-de", "de-", "de-**", "abcdefghi", "é", "\ud800"):
+            with self.assertRaises(InvalidRange) as caught:
+                Range(text)
+            self.assertEqual((caught.exception.text, str(caught.exception)), (text, f"{text!r} is no language range"))
+
+    def test_matching(self):
+        def matches(range, tag):
+            return Range(range).matches_basic(parse(tag)), Range(range).matches(parse(tag))
+
+        self.assertEqual(matches("de-de", "de-DE-1996"), (True, True))
+        self.assertEqual(matches("de-*-DE", "de-Latn-DE"), (False, True))
+        self.assertEqual(matches("de-DE", "de-x-DE"), (False, False))
+        self.assertEqual(matches("*", "x-mine"), (True, True))
+
+
+def load_tests(loader, tests, ignore):
+    tests.addTests(doctest.DocTestSuite(langtag))
+    return tests
+
+
+if __name__ == "__main__":
+    unittest.main()

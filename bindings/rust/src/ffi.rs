@@ -1,0 +1,301 @@
+//! The C interface as `langtag.h` declares it, behind safe functions. All unsafe code of the crate stands in this file.
+//!
+//! What the C functions ask of a caller holds of every call here, and is not said again at each: a pointer and the length
+//! behind it are those of one live slice, so that the pointer is not null, not even for an empty one, and the bytes are
+//! readable; a pointer to a struct comes of a live value of its type; and what a call writes is borrowed by `&mut` or a new
+//! local, so that it overlaps nothing else.
+#[cfg(feature = "alloc")]
+use alloc::string::String;
+use core::mem::MaybeUninit;
+
+use crate::Kind;
+
+#[repr(C)]
+#[derive(Clone, Copy)]
+struct Span {
+    start: usize,
+    len: usize,
+}
+
+#[repr(C)]
+#[derive(Clone, Copy)]
+struct Parts {
+    language: Span,
+    script: Span,
+    region: Span,
+    variants: Span,
+    extensions: Span,
+    private_use: Span,
+}
+
+#[repr(C)]
+#[derive(Clone, Copy)]
+struct Repeated {
+    variant: Span,
+    singleton: Span,
+}
+
+mod c {
+    use super::{Parts, Repeated, Span};
+
+    extern "C" {
+        pub fn langtag_parse(bytes: *const u8, len: usize, parts: *mut Parts) -> u32;
+        pub fn langtag_kind(bytes: *const u8, len: usize) -> u32;
+        pub fn langtag_viable(bytes: *const u8, len: usize) -> usize;
+        pub fn langtag_stop(bytes: *const u8, len: usize) -> usize;
+        pub fn langtag_eq(a: *const u8, a_len: usize, b: *const u8, b_len: usize) -> bool;
+        pub fn langtag_cmp(a: *const u8, a_len: usize, b: *const u8, b_len: usize) -> i32;
+        pub fn langtag_hash(state: u64, bytes: *const u8, len: usize) -> u64;
+        pub fn langtag_fold(bytes: *mut u8, len: usize);
+        pub fn langtag_recommend(bytes: *mut u8, len: usize);
+        pub fn langtag_next_subtag(
+            bytes: *const u8,
+            len: usize,
+            rest: *mut Span,
+            subtag: *mut Span,
+        ) -> bool;
+        pub fn langtag_next_extension(
+            bytes: *const u8,
+            len: usize,
+            rest: *mut Span,
+            extension: *mut Span,
+        ) -> bool;
+        pub fn langtag_repeats(bytes: *const u8, len: usize, repeated: *mut Repeated) -> u32;
+        pub fn langtag_grandfathered(bytes: *const u8, len: usize) -> u32;
+        pub fn langtag_range_kind(bytes: *const u8, len: usize) -> u32;
+        pub fn langtag_matches_basic(
+            range: *const u8,
+            range_len: usize,
+            tag: *const u8,
+            tag_len: usize,
+        ) -> bool;
+        pub fn langtag_matches_extended(
+            range: *const u8,
+            range_len: usize,
+            tag: *const u8,
+            tag_len: usize,
+        ) -> bool;
+    }
+}
+
+/// A part of a tag.
+#[derive(Clone, Copy)]
+pub(crate) enum Part {
+    Language,
+    Script,
+    Region,
+    Variants,
+    Extensions,
+    PrivateUse,
+}
+
+/// A text that is a tag, with where its parts stand in it. No other file can make one or change its fields: the text of each
+/// is one that `langtag_parse` took for a tag, and the spans are those that it wrote for that text.
+#[derive(Clone, Copy)]
+pub(crate) struct Parsed<T> {
+    text: T,
+    kind: Kind,
+    parts: Parts,
+}
+
+#[inline]
+fn parse(text: &str) -> Option<(Kind, Parts)> {
+    let mut parts = MaybeUninit::uninit();
+    // SAFETY: as above; `parts` may be uninitialised, and all of it is written.
+    unsafe {
+        let kind = c::langtag_parse(text.as_ptr(), text.len(), parts.as_mut_ptr());
+        Some((Kind::from_c(kind)?, parts.assume_init()))
+    }
+}
+
+impl<T> Parsed<T> {
+    #[inline]
+    pub(crate) fn kind(&self) -> Kind {
+        self.kind
+    }
+
+    #[inline]
+    fn span(&self, part: Part) -> Span {
+        match part {
+            Part::Language => self.parts.language,
+            Part::Script => self.parts.script,
+            Part::Region => self.parts.region,
+            Part::Variants => self.parts.variants,
+            Part::Extensions => self.parts.extensions,
+            Part::PrivateUse => self.parts.private_use,
+        }
+    }
+}
+
+impl<'a> Parsed<&'a str> {
+    #[inline]
+    pub(crate) fn new(text: &'a str) -> Option<Self> {
+        let (kind, parts) = parse(text)?;
+        Some(Parsed { text, kind, parts })
+    }
+
+    #[inline]
+    pub(crate) fn text(&self) -> &'a str {
+        self.text
+    }
+
+    /// The text of a part, empty where it is absent.
+    #[inline]
+    pub(crate) fn part(&self, part: Part) -> &'a str {
+        let Span { start, len } = self.span(part);
+        // SAFETY: each span lies within the text that it was written for, and all bytes of a tag are ASCII, so that each
+        // place in it is a boundary of characters.
+        unsafe { self.text.get_unchecked(start..start + len) }
+    }
+}
+
+#[cfg(feature = "alloc")]
+impl Parsed<String> {
+    /// Hands a text back that is no tag.
+    #[inline]
+    pub(crate) fn from_string(text: String) -> Result<Self, String> {
+        match parse(&text) {
+            Some((kind, parts)) => Ok(Parsed { text, kind, parts }),
+            None => Err(text),
+        }
+    }
+
+    pub(crate) fn from_lent(lent: Parsed<&str>) -> Self {
+        Parsed {
+            text: lent.text.into(),
+            kind: lent.kind,
+            parts: lent.parts,
+        }
+    }
+
+    #[inline]
+    pub(crate) fn lend(&self) -> Parsed<&str> {
+        Parsed {
+            text: &self.text,
+            kind: self.kind,
+            parts: self.parts,
+        }
+    }
+
+    #[inline]
+    pub(crate) fn into_text(self) -> String {
+        self.text
+    }
+
+    pub(crate) fn make_recommended_case(&mut self) {
+        // SAFETY: as above. The call changes the case of ASCII letters and nothing else: the text stays UTF-8, and a tag of
+        // its kind with its parts in their places.
+        unsafe {
+            let bytes = self.text.as_mut_vec();
+            c::langtag_recommend(bytes.as_mut_ptr(), bytes.len());
+        }
+    }
+}
+
+pub(crate) fn viable_len(bytes: &[u8]) -> usize {
+    // SAFETY: as above.
+    unsafe { c::langtag_viable(bytes.as_ptr(), bytes.len()) }
+}
+
+pub(crate) fn stop_len(bytes: &[u8]) -> usize {
+    // SAFETY: as above.
+    unsafe { c::langtag_stop(bytes.as_ptr(), bytes.len()) }
+}
+
+pub(crate) fn kind(bytes: &[u8]) -> Option<Kind> {
+    // SAFETY: as above.
+    Kind::from_c(unsafe { c::langtag_kind(bytes.as_ptr(), bytes.len()) })
+}
+
+#[inline]
+pub(crate) fn eq(a: &str, b: &str) -> bool {
+    // SAFETY: as above.
+    unsafe { c::langtag_eq(a.as_ptr(), a.len(), b.as_ptr(), b.len()) }
+}
+
+/// The sign of the order.
+#[inline]
+pub(crate) fn cmp(a: &str, b: &str) -> i32 {
+    // SAFETY: as above.
+    unsafe { c::langtag_cmp(a.as_ptr(), a.len(), b.as_ptr(), b.len()) }
+}
+
+pub(crate) fn hash(state: u64, bytes: &[u8]) -> u64 {
+    // SAFETY: as above.
+    unsafe { c::langtag_hash(state, bytes.as_ptr(), bytes.len()) }
+}
+
+#[inline]
+pub(crate) fn fold(bytes: &mut [u8]) {
+    // SAFETY: as above.
+    unsafe { c::langtag_fold(bytes.as_mut_ptr(), bytes.len()) }
+}
+
+/// The first subtag, and what stands behind the hyphen after it.
+#[inline]
+pub(crate) fn split_subtag(text: &str) -> Option<(&str, &str)> {
+    let (mut rest, mut subtag) = (
+        Span {
+            start: 0,
+            len: text.len(),
+        },
+        Span { start: 0, len: 0 },
+    );
+    // SAFETY: as above.
+    let found =
+        unsafe { c::langtag_next_subtag(text.as_ptr(), text.len(), &mut rest, &mut subtag) };
+    found.then(|| (&text[..subtag.len], &text[rest.start..]))
+}
+
+/// The first extension, and what stands behind the hyphen after it.
+#[inline]
+pub(crate) fn split_extension(text: &str) -> Option<(&str, &str)> {
+    let (mut rest, mut extension) = (
+        Span {
+            start: 0,
+            len: text.len(),
+        },
+        Span { start: 0, len: 0 },
+    );
+    // SAFETY: as above.
+    let found =
+        unsafe { c::langtag_next_extension(text.as_ptr(), text.len(), &mut rest, &mut extension) };
+    found.then(|| (&text[..extension.len], &text[rest.start..]))
+}
+
+/// The variant and the singleton that a tag has twice, at their second place.
+pub(crate) fn repeats(text: &str) -> (Option<&str>, Option<&str>) {
+    let mut repeated = MaybeUninit::uninit();
+    // SAFETY: as above; `repeated` may be uninitialised, and all of it is written.
+    let (flags, repeated) = unsafe {
+        let flags = c::langtag_repeats(text.as_ptr(), text.len(), repeated.as_mut_ptr());
+        (flags, repeated.assume_init())
+    };
+    let cut = |span: Span| &text[span.start..span.start + span.len];
+    (
+        (flags & 1 != 0).then(|| cut(repeated.variant)),
+        (flags & 2 != 0).then(|| cut(repeated.singleton)),
+    )
+}
+
+/// The index of a grandfathered tag, or 26.
+pub(crate) fn grandfathered(text: &str) -> usize {
+    // SAFETY: as above.
+    unsafe { c::langtag_grandfathered(text.as_ptr(), text.len()) as usize }
+}
+
+/// 0 for no range, 1 for a basic one and 2 for another extended one.
+pub(crate) fn range_kind(text: &str) -> u32 {
+    // SAFETY: as above.
+    unsafe { c::langtag_range_kind(text.as_ptr(), text.len()) }
+}
+
+pub(crate) fn matches_basic(range: &str, tag: &str) -> bool {
+    // SAFETY: as above.
+    unsafe { c::langtag_matches_basic(range.as_ptr(), range.len(), tag.as_ptr(), tag.len()) }
+}
+
+pub(crate) fn matches_extended(range: &str, tag: &str) -> bool {
+    // SAFETY: as above.
+    unsafe { c::langtag_matches_extended(range.as_ptr(), range.len(), tag.as_ptr(), tag.len()) }
+}

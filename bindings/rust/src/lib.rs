@@ -1,0 +1,61 @@
+//! Language tags and language ranges by BCP 47 (RFC 5646, RFC 4647): a safe wrapper over a static library whose code is
+//! proved against the grammar. It looks at what is well formed, and not at the registry of subtags.
+//!
+//! ```
+//! use langtag_verified::{LangTag, LanguageRange};
+//!
+//! let tag = LangTag::new("zh-yue-Hant-HK-u-co-pinyin-x-mine")?;
+//! assert_eq!(tag.language().unwrap().primary(), "zh");
+//! assert_eq!((tag.script(), tag.region()), (Some("Hant"), Some("HK")));
+//! assert!(tag.extensions().iter_extension('u').eq(["co", "pinyin"]));
+//! assert_eq!(tag, "ZH-YUE-hant-hk-U-CO-PINYIN-X-MINE"); // case is ignored
+//! assert!(LanguageRange::new("zh-*-HK")?.matches_extended(&tag));
+//!
+//! let error = LangTag::new("zh_Hant").unwrap_err();
+//! assert_eq!((error.0, error.viable_len()), ("zh_Hant", 2)); // some tag begins with `zh`, and none with `zh_`
+//! # Ok::<(), Box<dyn std::error::Error>>(())
+//! ```
+//!
+//! The tags hold a text and where its parts stand in it: [`LangTag`] borrows its text, and [`LangTagBuf`] (feature `alloc`)
+//! owns it. All comparisons ignore the case of ASCII letters, and so does every hash; that is why nothing here implements
+//! `Borrow<str>`. Of two texts of which one begins the other, the shorter is the greater.
+//!
+//! The crate needs neither std nor, without the feature `alloc`, memory. The feature `serde` reads and writes tags as
+//! strings. It links the static library `liblangtag_c.a`, for x86-64 alone, which the build script looks for in the folder
+//! that `LANGTAG_LIB_DIR` names.
+#![no_std]
+#![deny(unsafe_code, missing_docs)]
+
+#[cfg(feature = "alloc")]
+extern crate alloc;
+
+mod caseless;
+mod error;
+mod extension;
+#[allow(unsafe_code)]
+mod ffi;
+mod kind;
+mod lang_tag;
+#[cfg(feature = "alloc")]
+mod lang_tag_buf;
+mod language;
+mod language_range;
+mod prefix;
+mod private_use;
+#[cfg(feature = "serde")]
+mod serde;
+mod subtags;
+mod variants;
+
+pub use error::{InvalidLangTag, InvalidLanguageRange};
+pub use extension::{Extension, Extensions, ExtensionsIter};
+pub use kind::Kind;
+pub use lang_tag::{LangTag, GRANDFATHERED};
+#[cfg(feature = "alloc")]
+pub use lang_tag_buf::LangTagBuf;
+pub use language::Language;
+pub use language_range::LanguageRange;
+pub use prefix::{stop_len, viable_len};
+pub use private_use::PrivateUse;
+pub use subtags::Subtags;
+pub use variants::Variants;

@@ -1,0 +1,34 @@
+use core::iter::FusedIterator;
+
+use crate::ffi;
+
+/// The subtags of a text, in order.
+#[derive(Clone, Debug, Default)]
+pub struct Subtags<'a> {
+    rest: &'a str,
+}
+
+impl<'a> Subtags<'a> {
+    pub(crate) fn of(text: &'a str) -> Self {
+        Subtags { rest: text }
+    }
+
+    /// Those of a text without its first.
+    pub(crate) fn after_the_first(text: &'a str) -> Self {
+        Subtags {
+            rest: ffi::split_subtag(text).map_or("", |(_, rest)| rest),
+        }
+    }
+}
+
+impl<'a> Iterator for Subtags<'a> {
+    type Item = &'a str;
+
+    fn next(&mut self) -> Option<&'a str> {
+        let (subtag, rest) = ffi::split_subtag(self.rest)?;
+        self.rest = rest;
+        Some(subtag)
+    }
+}
+
+impl FusedIterator for Subtags<'_> {}

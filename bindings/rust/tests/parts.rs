@@ -1,0 +1,85 @@
+//! The parts of a tag.
+use langtag_verified::{Kind, LangTag};
+
+#[test]
+fn of_a_normal_tag() {
+    let tag = LangTag::new("zh-yue-Hant-HK-rozaj-1994-u-co-pinyin-A-bb-x-mine-1").unwrap();
+    assert_eq!(tag.kind(), Kind::Normal);
+    assert_eq!((tag.script(), tag.region()), (Some("Hant"), Some("HK")));
+    assert_eq!(tag.variants().as_str(), "rozaj-1994");
+    assert_eq!(tag.extensions().as_str(), "u-co-pinyin-A-bb");
+    assert_eq!(tag.private_use().unwrap().as_str(), "x-mine-1");
+    assert!(tag.private_use_subtags().eq(["mine", "1"]));
+    assert_eq!(tag.subtags().count(), 14);
+}
+
+#[test]
+fn that_are_absent() {
+    let tag = LangTag::new("de").unwrap();
+    assert_eq!((tag.script(), tag.region()), (None, None));
+    assert!(
+        tag.variants().is_empty() && tag.extensions().is_empty() && tag.private_use().is_none()
+    );
+    assert_eq!(
+        (tag.variants().first(), tag.variants().last()),
+        (None, None)
+    );
+    assert_eq!(tag.private_use_subtags().next(), None);
+    assert!(tag.extensions().get('u').is_none());
+}
+
+#[test]
+fn of_a_language() {
+    let language = LangTag::new("zh-yue-min-TW").unwrap().language().unwrap();
+    assert_eq!(
+        (language.as_str(), language.primary(), language.extension()),
+        ("zh-yue-min", "zh", Some("yue-min"))
+    );
+    assert!(language.extension_subtags().eq(["yue", "min"]));
+    let bare = LangTag::new("zh-TW").unwrap().language().unwrap();
+    assert_eq!(
+        (
+            bare.primary(),
+            bare.extension(),
+            bare.extension_subtags().next()
+        ),
+        ("zh", None, None)
+    );
+}
+
+#[test]
+fn that_are_lists() {
+    let tag = LangTag::new("de-1996-ab1cd-u-co-phonebk-A-bb-x-a").unwrap();
+    assert!(tag.variants().into_iter().eq(["1996", "ab1cd"]));
+    assert_eq!(
+        (tag.variants().first(), tag.variants().last()),
+        (Some("1996"), Some("ab1cd"))
+    );
+    assert!(tag
+        .extensions()
+        .iter()
+        .map(|e| (e.singleton(), e.as_str()))
+        .eq([('u', "u-co-phonebk"), ('A', "A-bb")]));
+    assert!(tag.extensions().get('a').unwrap().iter().eq(["bb"]));
+    assert!(tag.extensions().iter_extension('U').eq(["co", "phonebk"]));
+    assert!(
+        tag.extensions().get('b').is_none()
+            && tag.extensions().get('é').is_none()
+            && tag.extensions().get('x').is_none()
+    );
+}
+
+#[test]
+fn that_are_repeated() {
+    let tag = LangTag::new("sl-rozaj-ROZAJ-a-bb-A-cc").unwrap();
+    assert_eq!(
+        (tag.repeated_variant(), tag.repeated_singleton()),
+        (Some("ROZAJ"), Some('A'))
+    );
+    let tag = LangTag::new("de-1996-u-co").unwrap();
+    assert_eq!(
+        (tag.repeated_variant(), tag.repeated_singleton()),
+        (None, None)
+    );
+    assert_eq!(LangTag::new("x-a-a").unwrap().repeated_singleton(), None);
+}

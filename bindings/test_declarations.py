@@ -1,0 +1,78 @@
+#!/usr/bin/env python3
+"""That check_declarations.py sees a difference: each of some is planted in a copy of the declarations.
+
+    test_declarations.py [ROOT]    the root of the repository; else that in which this file stands
+"""
+import contextlib
+import io
+import pathlib
+import shutil
+import sys
+import tempfile
+import unittest
+
+import check_declarations
+
+ROOT = pathlib.Path(__file__).resolve().parent.parent
+HEADER, RUST, PYTHON = "bindings/include/langtag.h", "bindings/rust/src/ffi.rs", "bindings/python/langtag.py"
+CRATE = "crates/langtag_c/src"
+
+# A file, a text that stands in it, what is put in its place, and what the message has to name.
+PLANTED = [
+    (HEADER, "size_t langtag_viable(", "uint32_t langtag_viable(", "langtag_viable"),
+    (HEADER, "_basic(const char *range, size_t range_len,", "_basic(size_t range_len, const char *range,", "langtag_matches_basic"),
+    (HEADER, "void langtag_fold(char *bytes", "void langtag_fold(const char *bytes", "langtag_fold"),
+    (HEADER, "langtag_span script; ", "langtag_span region; ", "langtag_parts"),
+    (HEADER, "    size_t start;\n    size_t len;", "    size_t len;\n    size_t start;", "langtag_span"),
+    (HEADER, "langtag_grandfathered(const", "langtag_grandfatherd(const", "langtag_grandfatherd"),
+    (RUST, "langtag_hash(state: u64", "langtag_hash(state: u32", "langtag_hash"),
+    (RUST, "extension: *mut Span", "extension: *mut Parts", "langtag_next_extension"),
+    (RUST, "    extensions: Span,\n    private_use: Span,", "    private_use: Span,\n    extensions: Span,", "langtag_parts"),
+    (RUST, "pub fn langtag_stop(bytes: *const u8, len: usize) -> usize;", "", "langtag_stop"),
+    (RUST, "    variant: Span,\n", "", "langtag_repeated"),
+    (PYTHON, '"langtag_cmp": (c_int32,', '"langtag_cmp": (c_uint32,', "langtag_cmp"),
+    (PYTHON, "c_size_t, POINTER(_Repeated))", "c_size_t)", "langtag_repeats"),
+    (PYTHON, '[("start", c_size_t), ("len", c_size_t)]', '[("start", c_size_t), ("len", c_uint32)]', "langtag_span"),
+    (PYTHON, '    "langtag_fold": (None,', '    "langtag_folds": (None,', "langtag_folds"),
+    (CRATE, "fn langtag_eq(a: &[u8], b: &[u8])", "fn langtag_eq(b: &[u8], a: &[u8])", "langtag_eq"),
+    (CRATE, "pub singleton: Span", "pub singletons: Span", "langtag_repeated"),
+]
+
+
+def plant(path: pathlib.Path, old: str, new: str) -> None:
+    files = sorted(path.rglob("*.rt")) if path.is_dir() else [path]
+    holders = [file for file in files if old in file.read_text()]
+    if len(holders) != 1:
+        raise ValueError(f"{old!r} stands in {len(holders)} files of {path}")
+    holders[0].write_text(holders[0].read_text().replace(old, new, 1))
+
+
+def outcome(root: pathlib.Path) -> "tuple[int, str]":
+    said = io.StringIO()
+    with contextlib.redirect_stdout(said):
+        return check_declarations.main(root), said.getvalue()
+
+
+class Planted(unittest.TestCase):
+    def test_each_is_seen(self):
+        for where, old, new, named in PLANTED:
+            with self.subTest(where=where, new=new), tempfile.TemporaryDirectory() as folder:
+                copy = pathlib.Path(folder)
+                for name in (HEADER, RUST, PYTHON):
+                    (copy / name).parent.mkdir(parents=True, exist_ok=True)
+                    shutil.copy(ROOT / name, copy / name)
+                shutil.copytree(ROOT / CRATE, copy / CRATE)
+                plant(copy / where, old, new)
+                status, said = outcome(copy)
+                self.assertEqual(status, 1)
+                self.assertIn(named, said)
+
+    def test_none_is_there(self):
+        status, said = outcome(ROOT)
+        self.assertEqual(status, 0, said)
+
+
+if __name__ == "__main__":
+    if len(sys.argv) > 1:
+        ROOT = pathlib.Path(sys.argv.pop(1)).resolve()
+    unittest.main()
