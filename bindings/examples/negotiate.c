@@ -1,6 +1,7 @@
 /*
  * Answers each request in the language that its Accept-Language header asks for: negotiate [PORT]
  *
+ *     cc negotiate.c accept_language.c $(pkg-config --cflags --libs langtag) -o negotiate && ./negotiate 8080
  *     curl -H 'Accept-Language: fr;q=0.3, DE-ch-1996;q=0.9' localhost:8080
  *
  * It serves one request at a time, waits for it as long as that takes, and reads no more than 8 kB of it: an example of
