@@ -6,7 +6,7 @@ use Rattle.std.proofs.lemmas.Bool.Decides.{nat_tests}
 use Rattle.std.proofs.lemmas.List.{length-append, length_push}
 use Rattle.std.proofs.lemmas.List.Folds.{list_all-append}
 use Rattle.langtag_scan.specs.Class.{is_letter, is_digit, is_alphanumeric, are_letters, are_digits, are_alphanumeric, starts_with_digit, has_length, is_primary, is_extended, is_script, is_region, is_variant, is_extension_subtag, is_private_subtag, is_mark, is_singleton}
-use Rattle.langtag_scan.specs.Stage.{is_one, classes_of, next_stage, next_by}
+use Rattle.langtag_scan.specs.Stage.{is_one, classes_of, after_stage, after_by}
 use Rattle.langtag_scan.specs.declared.stage.Stage.{Stage}
 use Rattle.langtag_scan.specs.Shape.{leading_digits, shape_of, classes_of_shape}
 use Rattle.langtag_scan.proofs.Disjoint.{letter_no_digit}
@@ -184,7 +184,7 @@ private_subtag-shape s h = long_shape 1 s h
 not_one : (n : ℕ) (v : Bool) → (eqb (suc (suc n)) 1 && v) ≡ false
 not_one n v = rw (ne_eqb (suc (suc n)) 1 (λ e. omega arith)) refl
 
-pub mark-shape : (s : List ℕ) → is_one is_mark s ≡ (eqb (length s) 1 && is_mark (get_or s (length s - 1) 0))
+mark-shape : (s : List ℕ) → is_one is_mark s ≡ (eqb (length s) 1 && is_mark (get_or s (length s - 1) 0))
 mark-shape [] = refl
 mark-shape (b ∷ []) = refl
 mark-shape (b ∷ c ∷ s) = sym (not_one (length s) _)
@@ -200,5 +200,5 @@ pub classes_of-shape : (s : List ℕ) → IsShort s → classes_of s ≡ classes
 classes_of-shape s h =
     rw (primary-shape s h, extended-shape s, script-shape s, region-shape s, variant-shape s h, extension_subtag-shape s h, private_subtag-shape s h, mark-shape s, singleton-shape s h) refl
 
-pub next_stage-shape : (stage : Stage) (s : List ℕ) → IsShort s → next_stage stage s ≡ next_by stage (classes_of_shape (shape_of s))
-next_stage-shape stage s h = ap (next_by stage) (classes_of-shape s h)
+pub after_stage-shape : (stage : Stage) (s : List ℕ) → IsShort s → after_stage stage s ≡ after_by stage (classes_of_shape (shape_of s))
+after_stage-shape stage s h = ap (after_by stage) (classes_of-shape s h)

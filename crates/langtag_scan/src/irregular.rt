@@ -1,5 +1,5 @@
 //! The irregular tags (RFC 5646 section 2.2.8) that a text may still become.
-ghost use Rattle.std.specs.Prelude.{◌≡◌, ℕ, ◌-◌, ◌<◌, ◌≤◌, List, [], ◌∷◌, ◌++◌, length, ◌&&◌, nat_le, nat_lt, IsTrue, true, false, MatchOption};
+ghost use Rattle.std.specs.Prelude.{◌≡◌, ℕ, ◌-◌, ◌<◌, ◌≤◌, List, [], ◌∷◌, ◌++◌, length, ◌&&◌, ◌==◌, nat_le, nat_lt, IsTrue, true, false, MatchOption};
 ghost use Rattle.langtag_scan.specs.Irregular.{folded_at, has_at, matters, is_possible, is_followed};
 ghost use Rattle.langtag_scan.specs.Tag.{IsIrregular};
 ghost use Rattle.langtag_scan.specs.Found.{finding, IsFoundOf};
@@ -30,7 +30,7 @@ const FOLDED: [&[u8]; 17] = [
 ];
 
 /// The length of the irregular texts that do not begin with `i`.
-const NINE: usize = 9;
+pub(crate) const NINE: usize = 9;
 
 /// The indices of the irregular texts that a text of a length may still become. Since these texts are neighbours, the
 /// indices make a range, which is empty after the first byte of nearly every text.
@@ -91,6 +91,13 @@ impl Names {
         ensures left { (p : List ℕ) → Follows p self.now → result ≡ false → (k : ℕ) × (k < 17) × (is_possible p k ≡ true) }
     {
         self.low == self.high
+    }
+
+    /// Whether the text has nine bytes.
+    pub(crate) fn is_nine(&self) -> bool
+        ensures { result ≡ (self.now.len == 9) }
+    {
+        self.len == NINE
     }
 
     /// What was found, where the bytes that were read are the whole text.

@@ -1,22 +1,21 @@
 //! What is known of a subtag that has begun, in a few bytes: each class of subtags can be told from it.
-ghost use Rattle.std.specs.Prelude.{◌≡◌, ◌<◌, ◌≤◌, ◌∷◌, [], ◌++◌, List, ℕ, IsTrue, false};
-ghost use Rattle.langtag_scan.specs.Class.{is_alphanumeric as alphanumeric};
+ghost use Rattle.std.specs.Prelude.{◌≡◌, []};
 
-use crate::class::{is_letter, is_mark};
+use crate::class::is_mark;
 
 /// How many bytes a subtag has at most.
-const LONGEST: u8 = 8;
+pub(crate) const LONGEST: usize = 8;
 
 /// A subtag of at most eight letters and digits, by what the classes of subtags ask of it.
 #[derive(Clone, Copy)]
 pub(crate) struct Shape {
-    len: u8,
+    pub(crate) len: usize,
     /// The last byte, which is all of a subtag that has one byte.
-    last: u8,
+    pub(crate) last: u8,
     /// Whether all bytes are letters.
-    letters: bool,
+    pub(crate) letters: bool,
     /// How many digits it begins with.
-    leading_digits: u8,
+    pub(crate) leading_digits: usize,
 }
 
 impl Shape {
@@ -33,27 +32,6 @@ impl Shape {
             letters: true,
             leading_digits: 0,
         }
-    }
-
-    /// Adds a letter or a digit, if there is room for it.
-    pub(crate) fn push(&mut self, byte: u8) -> bool
-        requires class { IsTrue (alphanumeric byte) }
-        ensures room { IsTrue result → self.old.len < 8 }
-        ensures pushed { (s : List ℕ) → self.old ≡ shape_of s → IsTrue result → self.new ≡ shape_of (s ++ byte ∷ []) }
-        ensures full { result ≡ false → 8 ≤ self.old.len }
-    {
-        if self.len >= LONGEST {
-            return false;
-        }
-        if !is_letter(byte) {
-            self.letters = false;
-            if self.leading_digits == self.len {
-                self.leading_digits = self.len + 1;
-            }
-        }
-        self.last = byte;
-        self.len += 1;
-        true
     }
 
     /// Whether this is a primary language subtag.
