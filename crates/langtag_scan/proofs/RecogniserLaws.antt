@@ -1,5 +1,5 @@
 -- What the recogniser knows after each byte, and how it answers by that.
-use Rattle.std.proofs.Common.{◌≡◌, ℕ, ◌+◌, ◌<◌, ◌≤◌, Bool, true, false, ◌⊎◌, List, [], ◌∷◌, ◌++◌, length, take, drop, get_or, inl, inr, sym, ap, subst, ◌∙◌, arith, append_assoc, append-nil}
+use Rattle.std.proofs.Common.{◌≡◌, ℕ, ◌+◌, ◌<◌, ◌≤◌, Bool, true, false, ◌⊎◌, List, [], ◌∷◌, ◌++◌, length, take, drop, get_or, min, inl, inr, sym, ap, subst, ◌∙◌, arith, append_assoc, append-nil}
 use Rattle.std.specs.Prelude.{Option, Some, None, MatchOption}
 use Rattle.std.proofs.lemmas.Bool.{cases_lt}
 use Rattle.std.proofs.lemmas.List.{take_more, take_all, take-append-drop, take-take, length-take}
@@ -136,6 +136,7 @@ dead_decided t i within viable dead = record {
 -- what the machine says of the text up to there
 pub record IsEnded (p : List ℕ) (m : Machine) (goes_on : Bool) : Type 0 where
   pub goes : goes_on ≡ true → Tracks (p ++ 45 ∷ []) m
+  pub some : goes_on ≡ true → 1 ≤ length p
   pub stops : goes_on ≡ false → HasStopped (p ++ 45 ∷ [])
   pub read : goes_on ≡ true → IsReadAs p m
   pub refused : (goes_on ≡ false) ⊎ (may_end m.stage ≡ false) → IsRefused p
@@ -148,6 +149,7 @@ subtag_ended t start n end names m after goes_on subtag ended other = record {
   within = subtag.within;
   kept = subst (λ k. IsKept t k names) subtag.count subtag.kept;
   viable = viable_tracks (take end t) m subtag.tracks;
+  some = λ on. omega (arith, here, known.some on);
   tracks = λ before on. next before (λ p. Tracks p after) (known.goes on);
   dead = λ before off. next before (λ p. IsViable p → ⊥) (refused_dead (take end t) m subtag.tracks (known.stops off) (λ one. other before off (omega (arith, here, one))));
   read = λ at on. subst (λ p. IsReadAs p after) (whole at) (known.read on);
@@ -187,3 +189,12 @@ end_accepted t end names m goes_on found at known on ends is = record {
   answer = subst (IsFoundOf t) (sym is) (known.read at on ends);
   stop = stop_whole t (whole_viable t end at known.viable);
 }
+
+-- an irregular text has nine bytes there
+pub nine_found :
+    (t : List ℕ) (end : ℕ) (names : Names) (found : Option Found) → length t ≤ end → IsKept t (min (end + 1) (length t)) names →
+    names.len ≡ 9 →
+    ((p : List ℕ) → length p ≡ names.len → Follows p names → MatchOption found (IsIrregular p → ⊥) (λ f. IsFoundOf p (finding f))) →
+    MatchOption found (IsIrregular t → ⊥) (λ f. IsFoundOf t (finding f))
+nine_found t end names found whole kept nine answer =
+    answer t (sym kept.0) (subst (λ p. Follows p names) (take_all (min (end + 1) (length t)) t (omega arith)) (kept.1 (sym kept.0 ∙ nine)))

@@ -1,5 +1,5 @@
 -- The stages: what comes after a subtag, where it ends, and which bytes it may hold.
-use Rattle.std.proofs.Common.{◌≡◌, ℕ, ◌+◌, Bool, true, false, cond, leb, ltb, ◌||◌, ◌⊎◌, List, [], ◌∷◌, ◌++◌, length, Option, Some, None, inl, inr, refl, sym, ap, ◌∙◌, arith}
+use Rattle.std.proofs.Common.{◌≡◌, ℕ, ◌+◌, ◌≤◌, Bool, true, false, cond, leb, ltb, ◌||◌, ◌⊎◌, List, [], ◌∷◌, ◌++◌, length, Option, Some, None, inl, inr, refl, sym, ap, ◌∙◌, arith}
 use Rattle.std.proofs.lemmas.List.{length_push}
 use Rattle.langtag_scan.specs.Class.{is_letter, is_digit, is_alphanumeric, is_primary, is_mark, is_private_subtag}
 use Rattle.langtag_scan.specs.Stage.{Classes, classes_of, opened_by, after_region_by, after_script_by, after_language_by, next_by, next_stage, after_stage, is_one}
@@ -93,6 +93,10 @@ starting _ = inr (λ h. cc)
 pub index_after-push : (stage : Stage) (e : Ends) (s : List ℕ) (b : ℕ) → index_after stage e (s ++ b ∷ []) ≡ index_after stage e s + 1
 index_after-push Start e s b = length_push s b
 index_after-push _ e s b = omega (arith, length_push s b)
+
+pub index_after-least : (stage : Stage) (e : Ends) (s : List ℕ) → length s ≤ index_after stage e s
+index_after-least Start e s = omega arith
+index_after-least _ e s = omega arith
 
 -- after a hyphen the next subtag begins one byte on
 pub index_after-end : (after : Stage) (n : ℕ) (e : Ends) → (after ≡ Start → ⊥) → index_after after (end_at after n e) [] ≡ n + 1

@@ -16,7 +16,9 @@ use Rattle.langtag_scan.specs.declared.shape.Shape.{Shape}
 use Rattle.langtag_scan.specs.declared.stage.Stage.{Stage}
 use Rattle.langtag_scan.proofs.NamesByLength.{not_viable}
 use Rattle.langtag_scan.proofs.ReadingLaws.{reads_grown, reads_stuck, stuck_unnamed, reads_after, reads_refused, reads_filled, reads_rejected, reads_accepted, hyphen_unnamed}
+use Rattle.langtag_scan.proofs.NormalTexts.{after_subtag}
 use Rattle.langtag_scan.proofs.ShapeLaws.{after_stage-shape}
+use Rattle.langtag_scan.proofs.StageLaws.{index_after-least}
 
 -- ---- the subtag that has begun
 
@@ -74,6 +76,11 @@ module _ (p : List ℕ) (m : Machine) (tracks : Tracks p m) where
     where
       none : begun (p ++ 45 ∷ []) ≡ []
       none = begun-hyphen p
+
+  -- then the subtag has a byte
+  pub tracks_some : (after : Stage) → after_by m.stage (classes_of_shape m.begun) ≡ Some after → 1 ≤ length p
+  tracks_some after next =
+      omega (arith, (after_subtag m.stage (begun p) after (next_known ∙ next)).some, index_after-least m.stage m.ends (begun p), tracks.reads.index)
 
   -- after which nothing follows
   pub tracks_refused : after_by m.stage (classes_of_shape m.begun) ≡ None → HasStopped (p ++ 45 ∷ [])

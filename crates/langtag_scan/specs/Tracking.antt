@@ -45,6 +45,7 @@ pub record IsReadTo (t : List ℕ) (end : ℕ) (names : Names) (m : Machine) (go
   pub within : end ≤ length t
   pub kept : IsKept t (min (end + 1) (length t)) names
   pub viable : IsViable (take end t)
+  pub some : goes_on ≡ true → 1 ≤ end
   pub tracks : end < length t → goes_on ≡ true → Tracks (take (end + 1) t) m
   pub dead : end < length t → goes_on ≡ false → IsViable (take (end + 1) t) → ⊥
   pub read : end ≡ length t → goes_on ≡ true → IsReadAs t m

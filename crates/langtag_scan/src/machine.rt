@@ -58,7 +58,7 @@ impl Machine {
         requires nothing { self.old.begun ≡ shape_of [] }
         requires kept { IsKept (S.bytes source.old) start names.old }
         ensures bytes { S.bytes source.new ≡ S.bytes source.old }
-        ensures read { (n : ℕ) × (S.reads source.new + start ≡ S.reads source.old + n) × (S.reach source.new ≡ max (S.reach source.old) n) ×
+        ensures read { (n : ℕ) × (start ≤ n) × (S.reads source.new + start ≡ S.reads source.old + n) × (S.reach source.new ≡ max (S.reach source.old) n) ×
             MatchOption result (IsDecided (S.bytes source.old) None n) (λ end. IsSubtagRead (S.bytes source.old) start self.new names.new n end) }
     {
         let len = source.len();
@@ -104,6 +104,7 @@ impl Machine {
         ensures goes_on { (p : List ℕ) → length p ≡ index → Tracks p self.old → IsTrue result → Tracks (p ++ 45 ∷ []) self.new }
         ensures stops { (p : List ℕ) → length p ≡ index → Tracks p self.old → result ≡ false → HasStopped (p ++ 45 ∷ []) }
         ensures nothing { self.new.begun ≡ shape_of [] }
+        ensures some { (p : List ℕ) → length p ≡ index → Tracks p self.old → IsTrue result → 1 ≤ index }
         ensures read { (p : List ℕ) → length p ≡ index → Tracks p self.old → IsTrue result → IsReadAs p self.new }
         ensures refused { (p : List ℕ) → length p ≡ index → Tracks p self.old → (result ≡ false) ⊎ (may_end self.new.stage ≡ false) → IsRefused p }
     {

@@ -77,7 +77,7 @@ fn read_names<S: ByteSource>(source: &mut S, first: u8) -> Option<Found>
     requires stopped { HasStopped (take 2 (S.bytes source.old)) }
     requires viable { IsViable (take 1 (S.bytes source.old)) }
     ensures bytes { S.bytes source.new ≡ S.bytes source.old }
-    ensures decided { (n : ℕ) × IsDecided (S.bytes source.old) result n ×
+    ensures decided { (n : ℕ) × (2 ≤ n) × IsDecided (S.bytes source.old) result n ×
         (S.reads source.new + 2 ≡ S.reads source.old + n) × (S.reach source.new ≡ max (S.reach source.old) n) }
 {
     let len = source.len();

@@ -33,7 +33,7 @@ returns-then-index-start-eq-LONGEST-clause-read g c =
     let known = c.loop-index.invariant in
     let within : i < length t = omega arith in
     let is_next : b ≡ slice_index t i = cc in
-    (i + 1, omega arith, omega arith,
+    (i + 1, omega (arith, known.from), omega arith, omega arith,
     stuck_next t i b c.args.self.now (shape (i - c.args.start) c.loop-index.last c.loop-index.letters c.loop-index.leading_digits) within is_next c.if-byte-eq45.false (inr (omega arith)) known.tracks)
 
 pub returns-then-is_start-clause-read : goal.returns-then-is_start-clause-read
@@ -51,7 +51,7 @@ returns-then-is_start-clause-read g c =
       | then-is_start-via-then-is_start w ↦ rw (c.is_start.ensures.0 w.if-is_start.true) no_letter
       | then-is_start-via-else-is_start+then-not-is_digit w ↦ nothing_held m.stage b no_letter (sym w.is_digit.ensures ∙ w.if-not-is_digit.true)
     ] in
-    (i + 1, omega arith, omega arith,
+    (i + 1, omega (arith, known.from), omega arith, omega arith,
     stuck_next t i b m (shape (i - c.args.start) c.loop-index.last c.loop-index.letters c.loop-index.leading_digits) within is_next c.if-byte-eq45.false (inl never) known.tracks)
 
 pub loop-index-preserved : goal.loop-index-preserved
@@ -105,7 +105,7 @@ returns-clause-read g c =
     let known = c.loop-index.invariant in
     elim c.loop-index-test.branch [
       | else-loop-index-test w ↦
-          rw (w.source-is, w.names-is) (i, known.reads, known.reach, record {
+          rw (w.source-is, w.names-is) (i, known.from, known.reads, known.reach, record {
             from = known.from;
             within = omega arith;
             tracks = known.tracks;
@@ -118,7 +118,7 @@ returns-clause-read g c =
           let b = w.byte-byte.result in
           let within : i < length t = omega arith in
           let is_next : b ≡ slice_index t i = cc in
-          rw (w.source-is, w.names-is) (i + 1, omega arith, omega arith, record {
+          rw (w.source-is, w.names-is) (i + 1, omega (arith, known.from), omega arith, omega arith, record {
             from = known.from;
             within = omega arith;
             tracks = known.tracks;
