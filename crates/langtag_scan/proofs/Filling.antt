@@ -96,7 +96,9 @@ filled_found stage e s begun =
     let f : List ℕ = s ++ filling s in
     let full = filled stage s begun in
     let k = finishes stage f full (λ first. filled_letters s (begun.letters first)) in
-    let ends = end_at k.0 (index_after stage e f) e in
-    (found_by k.0 ends, ap (outcome stage e) (segments-one f full.alphanumeric) ∙ outcome-cons stage e f []
-    ∙ ap (λ o. option_map_or (λ after. outcome after (end_at after (index_after stage e f) e) []) o None) k.1
-    ∙ outcome-nil k.0 ends ∙ ap (λ v. cond v (Some (found_by k.0 ends)) None) k.2)
+    let ends = end_at k.0 (index_after stage e f) e in (
+      found_by k.0 ends,
+      ap (outcome stage e) (segments-one f full.alphanumeric) ∙ outcome-cons stage e f []
+          ∙ ap (λ o. option_map_or (λ after. outcome after (end_at after (index_after stage e f) e) []) o None) k.1
+          ∙ outcome-nil k.0 ends ∙ ap (λ v. cond v (Some (found_by k.0 ends)) None) k.2,
+    )

@@ -58,8 +58,13 @@ returns-clause-decided g c =
       | else-loop-index-test w ↦ λ before. absurd (omega arith)
     ] in
     let refused : IsRefused t = whole_refused t 2 c.requires.stopped in
-    let follows : Follows t names = whole_follows t i names within gone known.follows in
-    (i, known.from, record {
-      answer = found_irregular t c.found.result refused (c.found.ensures t (sym (known.len ∙ c.len-len.ensures)) follows);
-      stop = stop_read t i names names.within within gone known.follows (stopped_longer t 2 i known.from c.requires.stopped) known.before;
-    }, known.reads, known.reach)
+    let follows : Follows t names = whole_follows t i names within gone known.follows in (
+      i,
+      known.from,
+      record {
+        answer = found_irregular t c.found.result refused (c.found.ensures t (sym (known.len ∙ c.len-len.ensures)) follows);
+        stop = stop_read t i names names.within within gone known.follows (stopped_longer t 2 i known.from c.requires.stopped) known.before;
+      },
+      known.reads,
+      known.reach,
+    )

@@ -32,9 +32,13 @@ returns-then-index-start-eq-LONGEST-clause-read g c =
     let b = c.byte-byte.result in
     let known = c.loop-index.invariant in
     let within : i < length t = omega arith in
-    let is_next : b ≡ slice_index t i = cc in
-    (i + 1, omega (arith, known.from), omega arith, omega arith,
-    stuck_next t i b c.args.self.now (shape (i - c.args.start) c.loop-index.last c.loop-index.letters c.loop-index.leading_digits) within is_next c.if-byte-eq45.false (inr (omega arith)) known.tracks)
+    let is_next : b ≡ slice_index t i = cc in (
+      i + 1,
+      omega (arith, known.from),
+      omega arith,
+      omega arith,
+      stuck_next t i b c.args.self.now (shape (i - c.args.start) c.loop-index.last c.loop-index.letters c.loop-index.leading_digits) within is_next c.if-byte-eq45.false (inr (omega arith)) known.tracks,
+    )
 
 pub returns-then-is_start-clause-read : goal.returns-then-is_start-clause-read
 returns-then-is_start-clause-read g c =
@@ -50,9 +54,13 @@ returns-then-is_start-clause-read g c =
     elim c.then-is_start.branch [
       | then-is_start-via-then-is_start w ↦ rw (c.is_start.ensures.0 w.if-is_start.true) no_letter
       | then-is_start-via-else-is_start+then-not-is_digit w ↦ nothing_held m.stage b no_letter (sym w.is_digit.ensures ∙ w.if-not-is_digit.true)
-    ] in
-    (i + 1, omega (arith, known.from), omega arith, omega arith,
-    stuck_next t i b m (shape (i - c.args.start) c.loop-index.last c.loop-index.letters c.loop-index.leading_digits) within is_next c.if-byte-eq45.false (inl never) known.tracks)
+    ] in (
+      i + 1,
+      omega (arith, known.from),
+      omega arith,
+      omega arith,
+      stuck_next t i b m (shape (i - c.args.start) c.loop-index.last c.loop-index.letters c.loop-index.leading_digits) within is_next c.if-byte-eq45.false (inl never) known.tracks,
+    )
 
 pub loop-index-preserved : goal.loop-index-preserved
 loop-index-preserved g c =
@@ -105,30 +113,42 @@ returns-clause-read g c =
     let known = c.loop-index.invariant in
     elim c.loop-index-test.branch [
       | else-loop-index-test w ↦
-          rw (w.source-is, w.names-is) (i, known.from, known.reads, known.reach, record {
-            from = known.from;
-            within = omega arith;
-            tracks = known.tracks;
-            kept = known.kept;
-            hyphen = λ before. absurd (omega arith);
-            count = omega arith;
-            last = known.last;
-          })
+          rw (w.source-is, w.names-is) (
+            i,
+            known.from,
+            known.reads,
+            known.reach,
+            record {
+              from = known.from;
+              within = omega arith;
+              tracks = known.tracks;
+              kept = known.kept;
+              hyphen = λ before. absurd (omega arith);
+              count = omega arith;
+              last = known.last;
+            },
+          )
       | then-loop-index-test+then-byte-eq45 w ↦
           let b = w.byte-byte.result in
           let within : i < length t = omega arith in
           let is_next : b ≡ slice_index t i = cc in
-          rw (w.source-is, w.names-is) (i + 1, omega (arith, known.from), omega arith, omega arith, record {
-            from = known.from;
-            within = omega arith;
-            tracks = known.tracks;
-            kept = elim w.if-len-eq-NINE.branch [
-              | then-len-eq-NINE v ↦
-                  rw v.names-is (v.keep.ensures.len ∙ known.kept.0, λ nine. read_next t i b (λ p. Follows p c.loop-index.names) (λ p. Follows p v.keep.new.self) within is_next v.keep.ensures.follows (known.kept.1 nine))
-              | else-len-eq-NINE v ↦ rw v.names-is (known.kept.0, λ nine. absurd (v.if-len-eq-NINE.false (c.len-len.ensures ∙ nine)))
-            ];
-            hyphen = λ before. sym is_next ∙ w.if-byte-eq45.true;
-            count = omega arith;
-            last = known.last;
-          })
+          rw (w.source-is, w.names-is) (
+            i + 1,
+            omega (arith, known.from),
+            omega arith,
+            omega arith,
+            record {
+              from = known.from;
+              within = omega arith;
+              tracks = known.tracks;
+              kept = elim w.if-len-eq-NINE.branch [
+                | then-len-eq-NINE v ↦
+                    rw v.names-is (v.keep.ensures.len ∙ known.kept.0, λ nine. read_next t i b (λ p. Follows p c.loop-index.names) (λ p. Follows p v.keep.new.self) within is_next v.keep.ensures.follows (known.kept.1 nine))
+                | else-len-eq-NINE v ↦ rw v.names-is (known.kept.0, λ nine. absurd (v.if-len-eq-NINE.false (c.len-len.ensures ∙ nine)))
+              ];
+              hyphen = λ before. sym is_next ∙ w.if-byte-eq45.true;
+              count = omega arith;
+              last = known.last;
+            },
+          )
     ]
