@@ -33,7 +33,7 @@ pub record IsSubtagRead (t : List ℕ) (start : ℕ) (m : Machine) (names : Name
   pub kept : IsKept t n names
   pub hyphen : end < length t → slice_index t end ≡ 45
   pub count : n ≡ min (end + 1) (length t)
-  pub last : end ≡ start + 1 → m.begun.last ≡ slice_index t start
+  pub first : start < end → m.begun.first ≡ slice_index t start
 
 -- this was found of a text, and n is where it stops
 pub record IsDecided (t : List ℕ) (found : Option Found) (n : ℕ) : Type 0 where

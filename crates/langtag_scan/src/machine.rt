@@ -63,7 +63,7 @@ impl Machine {
     {
         let len = source.len();
         let mut index = start;
-        let mut last = 0;
+        let mut first = 0;
         let mut letters = true;
         let mut leading_digits = 0;
         while index < len {
@@ -86,12 +86,14 @@ impl Machine {
                 }
                 letters = false;
             }
-            last = byte;
+            if index == start {
+                first = byte;
+            }
             index += 1;
         }
         self.begun = Shape {
             len: index - start,
-            last,
+            first,
             letters,
             leading_digits,
         };

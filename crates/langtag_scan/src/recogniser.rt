@@ -49,7 +49,7 @@ fn read_tag<S: ByteSource>(source: &mut S) -> Option<Found>
     let mut machine = Machine::new();
     let mut names = Names::new(len);
     let mut index = machine.read_subtag(source, &mut names, 0)?;
-    let first = machine.begun.last;
+    let first = machine.begun.first;
     let mut goes_on = machine.end_subtag(index);
     // Of the irregular texts only those that begin with `i` leave what the machine follows before their end.
     if !goes_on && index == 1 && index < len {

@@ -10,8 +10,8 @@ pub(crate) const LONGEST: usize = 8;
 #[derive(Clone, Copy)]
 pub(crate) struct Shape {
     pub(crate) len: usize,
-    /// The last byte, which is all of a subtag that has one byte.
-    pub(crate) last: u8,
+    /// The first byte, which is all of a subtag that has one byte.
+    pub(crate) first: u8,
     /// Whether all bytes are letters.
     pub(crate) letters: bool,
     /// How many digits it begins with.
@@ -28,7 +28,7 @@ impl Shape {
     {
         Shape {
             len: 0,
-            last: 0,
+            first: 0,
             letters: true,
             leading_digits: 0,
         }
@@ -91,14 +91,14 @@ impl Shape {
     pub(crate) fn is_mark(&self) -> bool
         ensures { result ≡ (classes_of_shape self.now).mark }
     {
-        self.len == 1 && is_mark(self.last)
+        self.len == 1 && is_mark(self.first)
     }
 
     /// Whether this is a singleton, which opens an extension.
     pub(crate) fn is_singleton(&self) -> bool
         ensures { result ≡ (classes_of_shape self.now).singleton }
     {
-        self.len == 1 && !is_mark(self.last)
+        self.len == 1 && !is_mark(self.first)
     }
 
     /// Whether this is as short as a primary subtag before extended ones.

@@ -1,4 +1,4 @@
-use Rattle.std.proofs.Common.{◌≡◌, ◌+◌, ◌-◌, ◌≤◌, take, max, slice_index}
+use Rattle.std.proofs.Common.{◌≡◌, ◌+◌, ◌-◌, ◌<◌, ◌≤◌, take, max, slice_index}
 use Rattle.langtag_scan.specs.Tracking.{Tracks, IsKept}
 use Rattle.langtag_scan.proofs.machine.Machine.read_subtag.Given as goal
 
@@ -11,8 +11,8 @@ invariant-loop-index g l = record {
   within : l.index ≤ l.len;
   short : l.index ≤ l.start + 8;
   kept : IsKept (g.S.ByteSource.bytes l.fn.source) l.index l.names;
-  last : l.index ≡ l.start + 1 → l.last ≡ slice_index (g.S.ByteSource.bytes l.fn.source) l.start;
-  tracks : Tracks (take l.index (g.S.ByteSource.bytes l.fn.source)) (record { stage = l.self.stage; begun = record { len = l.index - l.start; last = l.last; letters = l.letters; leading_digits = l.leading_digits }; ends = l.self.ends });
+  first : l.start < l.index → l.first ≡ slice_index (g.S.ByteSource.bytes l.fn.source) l.start;
+  tracks : Tracks (take l.index (g.S.ByteSource.bytes l.fn.source)) (record { stage = l.self.stage; begun = record { len = l.index - l.start; first = l.first; letters = l.letters; leading_digits = l.leading_digits }; ends = l.self.ends });
 }
 
 abbrev pub decreases-loop-index : goal.decreases-loop-index
