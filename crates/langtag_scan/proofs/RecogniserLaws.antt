@@ -1,5 +1,5 @@
 -- What the recogniser knows after each byte, and how it answers by that.
-use Rattle.std.proofs.Common.{◌≡◌, ℕ, ◌+◌, ◌<◌, ◌≤◌, Bool, true, false, ◌⊎◌, List, [], ◌∷◌, ◌++◌, length, take, drop, get_or, min, inl, inr, sym, ap, subst, ◌∙◌, arith, append_assoc, append-nil}
+use Rattle.std.proofs.Common.{◌≡◌, ℕ, ◌+◌, ◌<◌, ◌≤◌, Bool, true, false, ◌⊎◌, List, [], ◌∷◌, ◌++◌, length, take, drop, get_or, inl, inr, sym, ap, subst, ◌∙◌, arith, append_assoc, append-nil}
 use Rattle.std.specs.Prelude.{Option, Some, None, MatchOption}
 use Rattle.std.proofs.lemmas.Bool.{cases_lt}
 use Rattle.std.proofs.lemmas.List.{take_more, take_all, take-append-drop, take-take, length-take}
@@ -9,7 +9,7 @@ use Rattle.langtag_scan.specs.Machine.{begun, found_by, HasStopped, IsRefused}
 use Rattle.langtag_scan.specs.Stage.{may_end}
 use Rattle.langtag_scan.specs.Names.{Follows, IsGone}
 use Rattle.langtag_scan.specs.Tag.{IsNormal, IsPrivate, IsIrregular, IsTag}
-use Rattle.langtag_scan.specs.Tracking.{Tracks, IsDecided, IsSubtagRead, IsReadTo, IsReadAs, IsKept}
+use Rattle.langtag_scan.specs.Tracking.{Tracks, IsDecided, IsEnded, IsSubtagRead, IsReadTo, IsReadAs, IsKept}
 use Rattle.langtag_scan.specs.Viable.{IsViable, IsStop, filling}
 use Rattle.langtag_scan.specs.declared.found.Found.{Found}
 use Rattle.langtag_scan.specs.declared.irregular.Names.{Names}
@@ -133,14 +133,6 @@ dead_decided t i within viable dead = record {
 
 -- ---- a text that was read to the end of a subtag
 
--- what the machine says of the text up to there
-pub record IsEnded (p : List ℕ) (m : Machine) (goes_on : Bool) : Type 0 where
-  pub goes : goes_on ≡ true → Tracks (p ++ 45 ∷ []) m
-  pub some : goes_on ≡ true → 1 ≤ length p
-  pub stops : goes_on ≡ false → HasStopped (p ++ 45 ∷ [])
-  pub read : goes_on ≡ true → IsReadAs p m
-  pub refused : (goes_on ≡ false) ⊎ (may_end m.stage ≡ false) → IsRefused p
-
 pub subtag_ended :
     (t : List ℕ) (start n end : ℕ) (names : Names) (m after : Machine) (goes_on : Bool) → IsSubtagRead t start m names n end →
     (length (take end t) ≡ end → Tracks (take end t) m → IsEnded (take end t) after goes_on) →
@@ -175,9 +167,10 @@ subtag_ended t start n end names m after goes_on subtag ended other = record {
 pub end_refused :
     (t : List ℕ) (end : ℕ) (names : Names) (m : Machine) (goes_on : Bool) (found : Option Found) → end ≡ length t →
     IsReadTo t end names m goes_on → (goes_on ≡ false) ⊎ (may_end m.stage ≡ false) →
-    MatchOption found (IsIrregular t → ⊥) (λ f. IsFoundOf t (finding f)) → IsDecided t found (length t)
+    (IsKept t (length t) names → (IsIrregular t → length t ≡ 9) → MatchOption found (IsIrregular t → ⊥) (λ f. IsFoundOf t (finding f))) →
+    IsDecided t found (length t)
 end_refused t end names m goes_on found at known why answer = record {
-  answer = found_irregular t found (known.refused at why) answer;
+  answer = found_irregular t found (known.refused at why) (answer (subst (λ n. IsKept t n names) (omega (arith, at)) known.kept) (known.nine at));
   stop = stop_whole t (whole_viable t end at known.viable);
 }
 
@@ -189,12 +182,3 @@ end_accepted t end names m goes_on found at known on ends is = record {
   answer = subst (IsFoundOf t) (sym is) (known.read at on ends);
   stop = stop_whole t (whole_viable t end at known.viable);
 }
-
--- an irregular text has nine bytes there
-pub nine_found :
-    (t : List ℕ) (end : ℕ) (names : Names) (found : Option Found) → length t ≤ end → IsKept t (min (end + 1) (length t)) names →
-    names.len ≡ 9 →
-    ((p : List ℕ) → length p ≡ names.len → Follows p names → MatchOption found (IsIrregular p → ⊥) (λ f. IsFoundOf p (finding f))) →
-    MatchOption found (IsIrregular t → ⊥) (λ f. IsFoundOf t (finding f))
-nine_found t end names found whole kept nine answer =
-    answer t (sym kept.0) (subst (λ p. Follows p names) (take_all (min (end + 1) (length t)) t (omega arith)) (kept.1 (sym kept.0 ∙ nine)))

@@ -1,10 +1,10 @@
 -- What the machine knows of the bytes that it has read, and the recogniser of the text.
 -- Only contracts of private functions cite this page.
-use Rattle.std.specs.Prelude.{◌≡◌, ℕ, ◌+◌, ◌<◌, ◌≤◌, ◌⊎◌, min, Bool, true, false, List, length, take, slice_index, Option, MatchOption}
+use Rattle.std.specs.Prelude.{◌≡◌, ℕ, ◌+◌, ◌<◌, ◌≤◌, ◌⊎◌, min, Bool, true, false, List, [], ◌∷◌, ◌++◌, length, take, slice_index, Option, MatchOption}
 use Rattle.langtag_scan.specs.Found.{finding, IsFoundOf}
 use Rattle.langtag_scan.specs.Stage.{may_end}
 use Rattle.langtag_scan.specs.Shape.{shape_of}
-use Rattle.langtag_scan.specs.Machine.{begun, Reads, IsRefused, found_by}
+use Rattle.langtag_scan.specs.Machine.{begun, Reads, HasStopped, IsRefused, found_by}
 use Rattle.langtag_scan.specs.Names.{Follows}
 use Rattle.langtag_scan.specs.Tag.{IsIrregular, IsTag}
 use Rattle.langtag_scan.specs.Viable.{IsViable, IsStop}
@@ -34,6 +34,14 @@ pub record IsSubtagRead (t : List ℕ) (start : ℕ) (m : Machine) (names : Name
   pub hyphen : end < length t → slice_index t end ≡ 45
   pub count : n ≡ min (end + 1) (length t)
   pub first : start < end → m.begun.first ≡ slice_index t start
+
+-- the last subtag of a prefix has ended, at a hyphen or at the end of the text: whether a tag goes on, and what it is so far
+pub record IsEnded (p : List ℕ) (m : Machine) (goes_on : Bool) : Type 0 where
+  pub goes : goes_on ≡ true → Tracks (p ++ 45 ∷ []) m
+  pub some : goes_on ≡ true → 1 ≤ length p
+  pub stops : goes_on ≡ false → HasStopped (p ++ 45 ∷ [])
+  pub read : goes_on ≡ true → IsReadAs p m
+  pub refused : (goes_on ≡ false) ⊎ (may_end m.stage ≡ false) → IsRefused p
 
 -- this was found of a text, and n is where it stops
 pub record IsDecided (t : List ℕ) (found : Option Found) (n : ℕ) : Type 0 where

@@ -1,5 +1,5 @@
 //! The irregular tags (RFC 5646 section 2.2.8) that a text may still become.
-ghost use Rattle.std.specs.Prelude.{◌≡◌, ℕ, ◌-◌, ◌<◌, ◌≤◌, List, [], ◌∷◌, ◌++◌, length, ◌&&◌, ◌==◌, nat_le, nat_lt, IsTrue, true, false, MatchOption};
+ghost use Rattle.std.specs.Prelude.{◌≡◌, ℕ, ◌-◌, ◌<◌, ◌≤◌, List, [], ◌∷◌, ◌++◌, length, ◌&&◌, nat_le, nat_lt, IsTrue, true, false, MatchOption};
 ghost use Rattle.langtag_scan.specs.Irregular.{folded_at, has_at, matters, is_possible, is_followed};
 ghost use Rattle.langtag_scan.specs.Tag.{IsIrregular};
 ghost use Rattle.langtag_scan.specs.Found.{finding, IsFoundOf};
@@ -50,6 +50,7 @@ pub(crate) struct Names {
 
 impl Names {
     ghost use Rattle.langtag_scan.specs.Names.{Follows};
+    ghost use Rattle.langtag_scan.specs.Tracking.{IsKept};
 
     /// Before the first byte of a text of this length.
     pub(crate) fn new(len: usize) -> Self
@@ -93,13 +94,6 @@ impl Names {
         self.low == self.high
     }
 
-    /// Whether the text has nine bytes.
-    pub(crate) fn is_nine(&self) -> bool
-        ensures { result ≡ (self.now.len == 9) }
-    {
-        self.len == NINE
-    }
-
     /// What was found, where the bytes that were read are the whole text.
     pub(crate) fn found(&self) -> Option<Found>
         ensures { (p : List ℕ) → length p ≡ self.now.len → Follows p self.now →
@@ -113,6 +107,15 @@ impl Names {
         } else {
             None
         }
+    }
+
+    /// What was found of a text of nine bytes, where the bytes that were read are the whole text. One of another length is no
+    /// irregular text here.
+    pub(crate) fn found_nine(&self) -> Option<Found>
+        ensures { (t : List ℕ) → IsKept t (length t) self.now → (IsIrregular t → length t ≡ 9) →
+            MatchOption result (IsIrregular t → ⊥) (λ found. IsFoundOf t (finding found)) }
+    {
+        if self.len == NINE { self.found() } else { None }
     }
 }
 

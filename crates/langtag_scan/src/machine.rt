@@ -26,7 +26,7 @@ pub(crate) struct Machine {
 }
 
 impl Machine {
-    ghost use Rattle.langtag_scan.specs.Tracking.{Tracks, IsReadAs, IsKept, IsDecided, IsSubtagRead};
+    ghost use Rattle.langtag_scan.specs.Tracking.{Tracks, IsReadAs, IsKept, IsDecided, IsEnded, IsSubtagRead};
 
     /// Before the first byte.
     pub(crate) fn new() -> Self
@@ -103,12 +103,8 @@ impl Machine {
     /// The subtag that has begun ends before this index, at a hyphen or at the end of the text, if it may.
     #[inline(always)]
     pub(crate) fn end_subtag(&mut self, index: usize) -> bool
-        ensures goes_on { (p : List ℕ) → length p ≡ index → Tracks p self.old → IsTrue result → Tracks (p ++ 45 ∷ []) self.new }
-        ensures stops { (p : List ℕ) → length p ≡ index → Tracks p self.old → result ≡ false → HasStopped (p ++ 45 ∷ []) }
+        ensures ended { (p : List ℕ) → length p ≡ index → Tracks p self.old → IsEnded p self.new result }
         ensures nothing { self.new.begun ≡ shape_of [] }
-        ensures some { (p : List ℕ) → length p ≡ index → Tracks p self.old → IsTrue result → 1 ≤ index }
-        ensures read { (p : List ℕ) → length p ≡ index → Tracks p self.old → IsTrue result → IsReadAs p self.new }
-        ensures refused { (p : List ℕ) → length p ≡ index → Tracks p self.old → (result ≡ false) ⊎ (may_end self.new.stage ≡ false) → IsRefused p }
     {
         let subtag = self.begun;
         self.begun = Shape::empty();

@@ -65,7 +65,7 @@ fn read_tag<S: ByteSource>(source: &mut S) -> Option<Found>
     if goes_on && machine.may_end() {
         return Some(machine.found());
     }
-    if names.is_nine() { names.found() } else { None }
+    names.found_nine()
 }
 
 /// Reads on after a first subtag of one byte, and the hyphen after it, while an irregular text is possible.

@@ -1,10 +1,9 @@
-use Rattle.std.proofs.Common.{◌≡◌, ◌<◌, ◌≤◌, ◌+◌, false, eqb, eqb-true, ◌⊎◌, length, take, None, inl, inr, sym, ap, subst, ◌∙◌, arith}
+use Rattle.std.proofs.Common.{◌≡◌, ◌<◌, ◌+◌, false, ◌⊎◌, length, take, None, inl, inr, sym, subst, ◌∙◌, arith}
 use Rattle.std.proofs.lemmas.Bool.{both_ways}
 use Rattle.langtag_scan.specs.Stage.{may_end}
-use Rattle.langtag_scan.specs.Tag.{IsIrregular}
 use Rattle.langtag_scan.specs.Tracking.{IsDecided, IsSubtagRead}
 use Rattle.langtag_scan.specs.Viable.{IsViable}
-use Rattle.langtag_scan.proofs.RecogniserLaws.{viable_tracks, dead_decided, subtag_ended, end_refused, end_accepted, nine_found}
+use Rattle.langtag_scan.proofs.RecogniserLaws.{viable_tracks, dead_decided, subtag_ended, end_refused, end_accepted}
 use Rattle.langtag_scan.proofs.recogniser.read_tag.Goals as goal
 use Rattle.langtag_scan.proofs.recogniser.read_tag.Goals.{then-loop-goes_on-test+else-index-len-2, else-loop-goes_on-test, else-goes_on-via-then-goes_on+else-may_end, else-goes_on-via-else-goes_on}
 
@@ -35,13 +34,7 @@ loop-goes_on-init g c =
       reach = omega (arith, s.3, s.4.count, c.len-len.ensures);
       nothing = end.ensures.nothing;
       read = subtag_ended t 0 s.0 i c.read_subtag.new.names c.read_subtag.new.self end.new.self end.result s.4
-          (λ at tracks. record {
-            goes = end.ensures.goes_on (take i t) at tracks;
-            some = λ on. subst (λ n. 1 ≤ n) (sym at) (end.ensures.some (take i t) at tracks on);
-            stops = end.ensures.stops (take i t) at tracks;
-            read = end.ensures.read (take i t) at tracks;
-            refused = end.ensures.refused (take i t) at tracks;
-          })
+          (end.ensures.ended (take i t))
           (λ before off one. elim c.else-not-goes_on.either [
             | inl a ↦ omega (arith, a.2, before, c.len-len.ensures)
             | inr b ↦ elim b [ inl other ↦ other.1 one | inr on ↦ both_ways end.result off on ]
@@ -73,13 +66,7 @@ loop-goes_on-preserved g c =
       reach = omega (arith, s.1, s.3, subtag.count, known.reach, c.if-index-len-2.true, c.len-len.ensures);
       nothing = end.ensures.nothing;
       read = subtag_ended t start s.0 i names m end.new.self end.result subtag
-          (λ at tracks. record {
-            goes = end.ensures.goes_on (take i t) at tracks;
-            some = λ on. subst (λ n. 1 ≤ n) (sym at) (end.ensures.some (take i t) at tracks on);
-            stops = end.ensures.stops (take i t) at tracks;
-            read = end.ensures.read (take i t) at tracks;
-            refused = end.ensures.refused (take i t) at tracks;
-          })
+          (end.ensures.ended (take i t))
           (λ before off one. omega (arith, one, subtag.from, known.read.some c.loop-goes_on-test.true));
     }
 
@@ -106,37 +93,16 @@ returns-then-may_end-clause-decided g c =
     let at : i ≡ length t = omega (arith, known.read.within, c.if-index-len-3.false, c.len-len.ensures) in
     (length t, end_accepted t i c.loop-goes_on.names c.loop-goes_on.machine c.loop-goes_on.goes_on c.found.result at known.read c.if-goes_on.true (sym c.may_end.ensures ∙ c.if-may_end.true) c.found.ensures, omega (arith, known.reads, at, c.len-len.ensures), omega (arith, known.reach, at, c.len-len.ensures))
 
-pub returns-then-is_nine-clause-decided : goal.returns-then-is_nine-clause-decided
-returns-then-is_nine-clause-decided g c =
+pub returns-clause-decided : goal.returns-clause-decided
+returns-clause-decided g c =
     let t = g.S.ByteSource.bytes c.args.source.now in
     let known = c.loop-goes_on.invariant in
     let i = c.loop-goes_on.index in
-    let names = c.loop-goes_on.names in
     let m = c.loop-goes_on.machine in
-    let goes_on = c.loop-goes_on.goes_on in
     let at : i ≡ length t = omega (arith, known.read.within, c.if-index-len-3.false, c.len-len.ensures) in
-    let why : (goes_on ≡ false) ⊎ (may_end m.stage ≡ false) =
+    let why : (c.loop-goes_on.goes_on ≡ false) ⊎ (may_end m.stage ≡ false) =
     elim c.else-goes_on.branch [
       | else-goes_on-via-then-goes_on+else-may_end w ↦ inr (sym w.may_end.ensures ∙ w.if-may_end.false)
       | else-goes_on-via-else-goes_on w ↦ inl w.if-goes_on.false
     ] in
-    let nine : names.len ≡ 9 = eqb-true _ _ (sym c.is_nine.ensures ∙ c.if-is_nine.true) in
-    let answer = nine_found t i names c.found-then-is_nine.result (omega (arith, at)) known.read.kept nine c.found-then-is_nine.ensures in
-    (length t, end_refused t i names m goes_on c.found-then-is_nine.result at known.read why answer, omega (arith, known.reads, at, c.len-len.ensures), omega (arith, known.reach, at, c.len-len.ensures))
-
-pub returns-else-is_nine-clause-decided : goal.returns-else-is_nine-clause-decided
-returns-else-is_nine-clause-decided g c =
-    let t = g.S.ByteSource.bytes c.args.source.now in
-    let known = c.loop-goes_on.invariant in
-    let i = c.loop-goes_on.index in
-    let names = c.loop-goes_on.names in
-    let m = c.loop-goes_on.machine in
-    let goes_on = c.loop-goes_on.goes_on in
-    let at : i ≡ length t = omega (arith, known.read.within, c.if-index-len-3.false, c.len-len.ensures) in
-    let why : (goes_on ≡ false) ⊎ (may_end m.stage ≡ false) =
-    elim c.else-goes_on.branch [
-      | else-goes_on-via-then-goes_on+else-may_end w ↦ inr (sym w.may_end.ensures ∙ w.if-may_end.false)
-      | else-goes_on-via-else-goes_on w ↦ inl w.if-goes_on.false
-    ] in
-    let never : IsIrregular t → ⊥ = λ irregular. both_ways (eqb names.len 9) (sym c.is_nine.ensures ∙ c.if-is_nine.false) (ap (λ n. eqb n 9) (known.read.kept.0 ∙ known.read.nine at irregular)) in
-    (length t, end_refused t i names m goes_on None at known.read why never, omega (arith, known.reads, at, c.len-len.ensures), omega (arith, known.reach, at, c.len-len.ensures))
+    (length t, end_refused t i c.loop-goes_on.names m c.loop-goes_on.goes_on c.found_nine.result at known.read why (c.found_nine.ensures t), omega (arith, known.reads, at, c.len-len.ensures), omega (arith, known.reach, at, c.len-len.ensures))
