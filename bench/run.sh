@@ -8,8 +8,18 @@ target=$here/target
 mkdir -p "$target"
 
 (cd "$here/../crates/langtag_bench" && rt lib >&2)
-rustc --edition 2024 -C opt-level=3 "$here/src/main.rs" -o "$target/bench" \
-    -L "native=$here/../crates/langtag_bench/out" -l static=langtag_bench
+entries="recognise recognise_text lang_tag is_utf8 fold_and_sum copy"
+others=()
+if [ -n "${OXILANGTAG:-}" ]; then
+    rustc --edition 2021 -C opt-level=3 --cap-lints allow --crate-type rlib --crate-name oxilangtag \
+        "$OXILANGTAG/src/lib.rs" -o "$target/liboxilangtag.rlib"
+    others=(--cfg oxilangtag --extern "oxilangtag=$target/liboxilangtag.rlib")
+    entries="$entries oxilangtag"
+else
+    echo "no comparison to oxilangtag: OXILANGTAG names no folder with its source" >&2
+fi
+rustc --edition 2024 -C opt-level=3 ${LTO:+-C lto=fat} --check-cfg 'cfg(oxilangtag)' "${others[@]}" \
+    "$here/src/main.rs" -o "$target/bench" -L "native=$here/../crates/langtag_bench/out" -l static=langtag_bench
 
 # Prints how many instructions an entry takes on a file of tags, with how many tags and bytes it has before them.
 instructions() {
@@ -25,7 +35,7 @@ measure() {
     "$target/bench" "$tags"
     command -v valgrind >/dev/null || return 0
     echo "                   instructions a tag    a byte"
-    for entry in recognise recognise_text lang_tag fold_and_sum copy; do
+    for entry in $entries; do
         read -r count bytes instructions <<<"$(instructions "$entry" "$tags")"
         awk -v name="$entry" -v n="$instructions" -v count="$count" -v bytes="$bytes" \
             'BEGIN { printf "%-18s %18.1f %9.2f\n", name, n / count, n / bytes }'

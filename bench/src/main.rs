@@ -37,10 +37,33 @@ unsafe extern "C" {
     fn langtag_bench_recognise(bytes: *const u8, len: usize, ends: *mut PartEnds) -> bool;
     fn langtag_bench_recognise_text(bytes: *const u8, len: usize, ends: *mut PartEnds) -> bool;
     fn langtag_bench_lang_tag(bytes: *const u8, len: usize, lengths: *mut PartLengths) -> bool;
+    fn langtag_bench_is_utf8(bytes: *const u8, len: usize) -> bool;
     fn langtag_bench_normal_lang_tag(bytes: *const u8, len: usize) -> bool;
     fn langtag_bench_repeated_variant(bytes: *const u8, len: usize) -> usize;
     fn langtag_bench_copy(bytes: *const u8, len: usize, into: *mut u8, into_len: usize) -> u8;
     fn langtag_bench_fold_and_sum(bytes: *const u8, len: usize) -> u8;
+}
+
+/// What `langtag_bench_lang_tag` does after the check that the bytes are UTF-8, by the Rust crate oxilangtag.
+///
+/// # Safety
+/// The pointer and the length are those of a live `str`.
+#[cfg(oxilangtag)]
+#[inline(never)]
+#[unsafe(no_mangle)]
+unsafe extern "C" fn langtag_bench_oxilangtag(text: *const u8, len: usize, lengths: &mut PartLengths) -> bool {
+    // SAFETY: see above.
+    let text = unsafe { str::from_utf8_unchecked(std::slice::from_raw_parts(text, len)) };
+    let Ok(tag) = oxilangtag::LanguageTag::parse(text) else {
+        return false;
+    };
+    lengths.language = tag.full_language().len();
+    lengths.script = tag.script().map_or(0, str::len);
+    lengths.region = tag.region().map_or(0, str::len);
+    lengths.variants = tag.variant().map_or(0, str::len);
+    lengths.extensions = tag.extension().map_or(0, str::len);
+    lengths.private_use = tag.private_use().map_or(0, str::len);
+    true
 }
 
 /// What is timed.
@@ -49,6 +72,9 @@ enum Entry {
     Recognise,
     RecogniseText,
     LangTag,
+    IsUtf8,
+    #[cfg(oxilangtag)]
+    Oxilangtag,
     FoldAndSum,
     Copy,
     NormalLangTag,
@@ -56,10 +82,13 @@ enum Entry {
 }
 
 /// What is timed on lists of tags.
-const ENTRIES: [Entry; 5] = [
+const ENTRIES: &[Entry] = &[
     Entry::Recognise,
     Entry::RecogniseText,
     Entry::LangTag,
+    Entry::IsUtf8,
+    #[cfg(oxilangtag)]
+    Entry::Oxilangtag,
     Entry::FoldAndSum,
     Entry::Copy,
 ];
@@ -71,6 +100,9 @@ impl Entry {
             Entry::Recognise => "recognise",
             Entry::RecogniseText => "recognise_text",
             Entry::LangTag => "lang_tag",
+            Entry::IsUtf8 => "is_utf8",
+            #[cfg(oxilangtag)]
+            Entry::Oxilangtag => "oxilangtag",
             Entry::FoldAndSum => "fold_and_sum",
             Entry::Copy => "copy",
             Entry::NormalLangTag => "normal_lang_tag",
@@ -95,6 +127,13 @@ impl Entry {
                 Entry::LangTag => {
                     let mut lengths = PartLengths::default();
                     let found = langtag_bench_lang_tag(tag.as_ptr(), tag.len(), &mut lengths);
+                    u64::from(found) + lengths.language as u64
+                }
+                Entry::IsUtf8 => langtag_bench_is_utf8(tag.as_ptr(), tag.len()).into(),
+                #[cfg(oxilangtag)]
+                Entry::Oxilangtag => {
+                    let mut lengths = PartLengths::default();
+                    let found = tag.is_ascii() && langtag_bench_oxilangtag(tag.as_ptr(), tag.len(), &mut lengths);
                     u64::from(found) + lengths.language as u64
                 }
                 Entry::FoldAndSum => langtag_bench_fold_and_sum(tag.as_ptr(), tag.len()).into(),

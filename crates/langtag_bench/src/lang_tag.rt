@@ -33,6 +33,17 @@ pub extern "C" fn langtag_bench_lang_tag(bytes: &[u8], lengths: &mut PartLengths
     }
 }
 
+/// Whether the bytes are UTF-8: what `langtag_bench_lang_tag` spends before it has a text.
+#[unsafe(no_mangle)]
+pub extern "C" fn langtag_bench_is_utf8(bytes: &[u8]) -> bool
+    ensures { IsTag bytes.now → IsTrue result }
+{
+    let Ok(_) = str::from_utf8(bytes) else {
+        return false;
+    };
+    true
+}
+
 /// Keeps the lengths of the parts of a tag.
 fn keep(tag: &LangTag<'_>, lengths: &mut PartLengths) {
     lengths.language = tag.language().map_or(0, |part| part.as_str().len());

@@ -27,7 +27,7 @@ unfolding fold_byte
 fold_cases b = grind (arith, nat_tests)
 
 -- the fold is a letter where the byte is one
-is_letter-fold : (b : ℕ) → is_letter (fold_byte b) ≡ is_letter b
+pub is_letter-fold : (b : ℕ) → is_letter (fold_byte b) ≡ is_letter b
 unfolding is_letter
 is_letter-fold b = elim (fold_cases b) [ inl h ↦ rw h.2 (grind (arith, nat_tests)) | inr h ↦ rw h refl ]
 
@@ -37,12 +37,12 @@ unfolding is_digit
 is_digit-fold b = elim (fold_cases b) [ inl h ↦ rw h.2 (grind (arith, nat_tests)) | inr h ↦ rw h refl ]
 
 -- a mark
-is_mark-fold : (b : ℕ) → is_mark (fold_byte b) ≡ is_mark b
+pub is_mark-fold : (b : ℕ) → is_mark (fold_byte b) ≡ is_mark b
 unfolding is_mark
 is_mark-fold b = elim (fold_cases b) [ inl h ↦ rw h.2 (grind (arith, nat_tests)) | inr h ↦ rw h refl ]
 
 -- a hyphen
-hyphen-fold : (b : ℕ) → eqb (fold_byte b) 45 ≡ eqb b 45
+pub hyphen-fold : (b : ℕ) → eqb (fold_byte b) 45 ≡ eqb b 45
 hyphen-fold b = elim (fold_cases b) [ inl h ↦ rw h.2 (grind (arith, nat_tests)) | inr h ↦ rw h refl ]
 
 -- a letter or digit

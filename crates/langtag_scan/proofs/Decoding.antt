@@ -1,12 +1,12 @@
 -- The subtags that may follow one another are those of a well-formed record, and of just one.
 use Rattle.std.proofs.Common.{◌≡◌, ℕ, ◌+◌, ◌<◌, ◌≤◌, true, cond, ltb, leb, List, [], ◌∷◌, ◌++◌, length, get_or, Option, Some, None, ◌⊎◌, inl, inr, refl, sym, ap, subst, ◌∙◌, arith, append_assoc}
-use Rattle.std.specs.Prelude.{IsTrue, IfSome}
+use Rattle.std.specs.Prelude.{IsTrue, IfSome, ⊤}
 use Rattle.std.specs.List.{AllByRecursion, flat_map}
 use Rattle.std.specs.Option.{option_map, option_and_then}
 use Rattle.std.proofs.lemmas.List.{nil_from_length}
 use Rattle.std.proofs.lemmas.Bool.{ltb-true, leb-true}
 use Rattle.langtag_scan.specs.declared.stage.Stage.{Stage}
-use Rattle.langtag_scan.specs.declared.stage.Stage.TheVariants.{Start, Language, Extended, AfterScript, AfterRegion, AfterVariant, AfterSingleton, InExtension, AfterMark, InPrivate}
+use Rattle.langtag_scan.specs.declared.stage.Stage.TheVariants.{Start, Language, Extended, AfterScript, AfterRegion, AfterVariant, AfterSingleton, InExtension, AfterMark, InPrivate, AfterFirstMark, InPrivateTag}
 use Rattle.langtag_scan.specs.Class.{is_primary, is_extended, is_script, is_region, is_variant, is_extension_subtag, is_private_subtag, is_mark, is_singleton}
 use Rattle.langtag_scan.specs.Record.{PrivateUse, Extension, Record, IsWellFormedPrivateUse, IsWellFormedExtension, IsWellFormed, extension_flat, one_flat, private_part_flat, flat}
 use Rattle.langtag_scan.specs.Stage.{opened, after_region, after_script, after_language, next_stage, may_end}
@@ -48,7 +48,6 @@ first_byte s = get_or s 0 0
 
 -- one subtag before what was read, which has brought the machine into this stage
 abbrev pub put : Stage → List ℕ → Read → Read
-put Start s b = b
 put (Language taken) s b = whole (record { primary = s; extended = b.parts.extended; script = b.parts.script; region = b.parts.region; variants = b.parts.variants; extensions = b.parts.extensions; private_use = b.parts.private_use })
 put (Extended taken) s b = whole (from_extended (s ∷ b.parts.extended) b.parts.script b.parts.region b.parts.variants b.parts.extensions b.parts.private_use)
 put AfterScript s b = whole (from_script (Some s) b.parts.region b.parts.variants b.parts.extensions b.parts.private_use)
@@ -58,6 +57,7 @@ put AfterSingleton s b = whole (from_extensions (record { singleton = first_byte
 put InExtension s b = pending (s ∷ b.after) b.parts.extensions b.parts.private_use
 put AfterMark s b = whole (from_private (Some (record { mark = first_byte s; subtags = b.after })))
 put InPrivate s b = pending (s ∷ b.after) [] None
+put _ s b = b
 
 abbrev pub nothing : Read
 nothing = whole (from_private None)
@@ -104,6 +104,8 @@ flat_from AfterSingleton b = b.after ++ flat_extensions b.parts
 flat_from InExtension b = b.after ++ flat_extensions b.parts
 flat_from AfterMark b = b.after
 flat_from InPrivate b = b.after
+flat_from AfterFirstMark b = []
+flat_from InPrivateTag b = []
 
 -- what holds of the parts from a part on (products and no records: they are to compute at `put`)
 abbrev FitExtensions : Record → Type 0
@@ -132,6 +134,8 @@ Fits AfterSingleton b = (1 ≤ length b.after) × AllByRecursion (λ s. IsTrue (
 Fits InExtension b = AllByRecursion (λ s. IsTrue (is_extension_subtag s)) b.after × FitExtensions b.parts
 Fits AfterMark b = (1 ≤ length b.after) × AllByRecursion (λ s. IsTrue (is_private_subtag s)) b.after
 Fits InPrivate b = AllByRecursion (λ s. IsTrue (is_private_subtag s)) b.after
+Fits AfterFirstMark b = ⊤
+Fits InPrivateTag b = ⊤
 
 -- What one subtag more makes of what was read, where the parts before its own are absent: it stands in
 -- front of the rest, from its own part on and from each part before.
@@ -335,6 +339,8 @@ step InPrivate s after b e =
       | inl h ↦ subst (Steps InPrivate s b) (same_stage InPrivate after h.1) (λ fits. record { fits = (h.0, fits); spells = refl })
       | inr h ↦ absurd cc
     ]
+step AfterFirstMark s after b e = absurd cc
+step InPrivateTag s after b e = absurd cc
 
 nothing_fits : (stage : Stage) → may_end stage ≡ true → Fits stage nothing × (flat_from stage nothing ≡ [])
 nothing_fits Start e = absurd cc
@@ -347,6 +353,8 @@ nothing_fits AfterSingleton e = absurd cc
 nothing_fits InExtension e = ((tt, (tt, tt)), refl)
 nothing_fits AfterMark e = absurd cc
 nothing_fits InPrivate e = (tt, refl)
+nothing_fits AfterFirstMark e = (tt, refl)
+nothing_fits InPrivateTag e = (tt, refl)
 
 abbrev At : Stage → List (List ℕ) → Read → Type 0
 At stage ss b = Fits stage b × (flat_from stage b ≡ ss)

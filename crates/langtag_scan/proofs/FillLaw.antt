@@ -6,18 +6,17 @@ use Rattle.std.proofs.Math.Seq.{take-append_seam}
 use Rattle.langtag_scan.specs.Case.{fold_byte, fold_text}
 use Rattle.langtag_scan.specs.Tag.{IsIrregular, IsIrregularAt, IsTag}
 use Rattle.langtag_scan.specs.Viable.{IsViable, IsIrregularPrefix, filling, fill}
-use Rattle.langtag_scan.specs.Stage.{next_by}
+use Rattle.langtag_scan.specs.Stage.{after_by}
 use Rattle.langtag_scan.specs.Shape.{shape_of, classes_of_shape}
 use Rattle.langtag_scan.specs.Machine.{begun, may_hold, all_at, HasStopped}
 use Rattle.langtag_scan.specs.declared.stage.Stage.{Stage}
 use Rattle.langtag_scan.specs.declared.stage.Stage.TheVariants.{Start}
 use Rattle.langtag_scan.specs.Tracking.{Tracks}
 use Rattle.langtag_scan.specs.declared.machine.Machine.{Machine}
-use Rattle.langtag_scan.specs.declared.machine.Reading.TheVariants.{Normal}
 use Rattle.langtag_scan.proofs.RecogniserLaws.{stopped-append}
-use Rattle.langtag_scan.proofs.StageLaws.{starting}
+use Rattle.langtag_scan.proofs.ReadingLaws.{reads_nothing}
 use Rattle.langtag_scan.proofs.TagLaws.{tag_irregular, viable_from_tag}
-use Rattle.langtag_scan.proofs.TracksLaws.{tracks_nothing, tracks_grown, tracks_stuck, tracks_after, tracks_marked, tracks_refused, tracks_filled}
+use Rattle.langtag_scan.proofs.TracksLaws.{tracks_grown, tracks_stuck, tracks_after, tracks_refused, tracks_filled}
 
 -- ---- what is known of any prefix
 
@@ -26,28 +25,21 @@ abbrev IsRead : List ℕ → Type 0
 IsRead p = HasStopped p ⊎ ((m : Machine) × Tracks p m)
 
 at_hyphen : (p : List ℕ) (m : Machine) → Tracks p m → IsRead (p ++ 45 ∷ [])
-at_hyphen p m tracks = by_next (next_by m.stage (classes_of_shape m.begun)) refl
+at_hyphen p m tracks = by_next (after_by m.stage (classes_of_shape m.begun)) refl
   where
-    by_mark :
-        next_by m.stage (classes_of_shape m.begun) ≡ None → ((m.stage ≡ Start) ⊎ (m.stage ≡ Start → ⊥)) → (v : Bool) →
-        (classes_of_shape m.begun).mark ≡ v → IsRead (p ++ 45 ∷ [])
-    by_mark next (inl first) true mark = inr (_, tracks_marked p m first mark tracks)
-    by_mark next (inl first) false mark = inl (tracks_refused p m next (λ x. mark) tracks)
-    by_mark next (inr later) v mark = inl (tracks_refused p m next (λ x. absurd (later x)) tracks)
-
-    by_next : (o : Option Stage) → next_by m.stage (classes_of_shape m.begun) ≡ o → IsRead (p ++ 45 ∷ [])
-    by_next (Some after) next = inr (_, tracks_after p m after next tracks)
-    by_next None next = by_mark next (starting m.stage) (classes_of_shape m.begun).mark refl
+    by_next : (o : Option Stage) → after_by m.stage (classes_of_shape m.begun) ≡ o → IsRead (p ++ 45 ∷ [])
+    by_next (Some after) next = inr (_, tracks_after p m tracks after next)
+    by_next None next = inl (tracks_refused p m tracks next)
 
 at_other : (p : List ℕ) (b : ℕ) (m : Machine) → eqb b 45 ≡ false → Tracks p m → IsRead (p ++ b ∷ [])
 at_other p b m other tracks = by_held (may_hold m.stage b) refl
   where
     by_held : (v : Bool) → may_hold m.stage b ≡ v → IsRead (p ++ b ∷ [])
-    by_held false held = inl (tracks_stuck p b m other (inl held) tracks)
+    by_held false held = inl (tracks_stuck p m tracks b other (inl held))
     by_held true held =
         elim (cases_lt m.begun.len 8) [
-          | inl short ↦ inr (_, tracks_grown p b m (shape_of (begun p ++ b ∷ [])) other held short (λ x. refl) tracks)
-          | inr long ↦ inl (tracks_stuck p b m other (inr long) tracks)
+          | inl short ↦ inr (_, tracks_grown p m tracks b (shape_of (begun p ++ b ∷ [])) other held short (λ x. refl))
+          | inr long ↦ inl (tracks_stuck p m tracks b other (inr long))
         ]
 
 read_byte : (p : List ℕ) (b : ℕ) → IsRead p → IsRead (p ++ b ∷ [])
@@ -64,8 +56,8 @@ read_all p (b ∷ u) k = subst (λ x. IsRead x) (append_assoc p (b ∷ []) u) (r
 
 read_prefix : (p : List ℕ) → IsRead p
 read_prefix p =
-    let fresh : Machine = record { reading = Normal; stage = Start; begun = shape_of []; ends = all_at 0 } in
-    let tracks : Tracks [] fresh = record { reads = tracks_nothing } in
+    let fresh : Machine = record { stage = Start; begun = shape_of []; ends = all_at 0 } in
+    let tracks : Tracks [] fresh = record { shape = refl; reads = reads_nothing } in
     read_all [] p (inr (fresh, tracks))
 
 -- ---- prefixes of irregular texts

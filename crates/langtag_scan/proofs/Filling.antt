@@ -1,5 +1,5 @@
 -- A subtag that has begun, filled to five letters, may stand wherever it has begun, and a tag may end after it.
-use Rattle.std.proofs.Common.{◌≡◌, ℕ, zero, suc, ◌-◌, ◌≤◌, true, false, cond, leb, List, [], ◌++◌, length, Some, refl, ap, ◌∙◌, arith}
+use Rattle.std.proofs.Common.{◌≡◌, ℕ, zero, suc, ◌-◌, ◌≤◌, true, cond, leb, List, [], ◌++◌, length, Some, None, refl, ap, ◌∙◌, arith}
 use Rattle.std.specs.Prelude.{replicate}
 use Rattle.std.specs.Int.{is_in_range}
 use Rattle.std.specs.Option.{option_map_or}
@@ -9,13 +9,15 @@ use Rattle.std.proofs.lemmas.List.Folds.{list_all-append}
 use Rattle.langtag_scan.specs.Class.{is_letter, is_alphanumeric, are_letters, are_alphanumeric, is_primary, is_variant, is_extension_subtag, is_private_subtag}
 use Rattle.langtag_scan.specs.Subtags.{segments}
 use Rattle.langtag_scan.specs.Viable.{filling}
-use Rattle.langtag_scan.specs.Stage.{after_region, after_script, after_language, next_stage, may_end, runs}
-use Rattle.langtag_scan.specs.Machine.{IsBegun, GoesOn}
+use Rattle.langtag_scan.specs.Stage.{after_region, after_script, after_language, after_stage, may_end}
+use Rattle.langtag_scan.specs.Machine.{IsBegun, end_at, index_after, found_by, outcome}
+use Rattle.langtag_scan.specs.declared.ends.Ends.{Ends}
+use Rattle.langtag_scan.specs.declared.finding.Finding.{Finding}
 use Rattle.langtag_scan.specs.declared.stage.Stage.{Stage}
-use Rattle.langtag_scan.specs.declared.stage.Stage.TheVariants.{Start, Language, Extended, AfterScript, AfterRegion, AfterVariant, AfterSingleton, InExtension, AfterMark, InPrivate}
+use Rattle.langtag_scan.specs.declared.stage.Stage.TheVariants.{Start, Language, Extended, AfterScript, AfterRegion, AfterVariant, AfterSingleton, InExtension, AfterMark, InPrivate, AfterFirstMark, InPrivateTag}
 use Rattle.langtag_scan.proofs.Disjoint.{variant_no_extended, variant_no_script, variant_no_region}
 use Rattle.langtag_scan.proofs.SubtagFacts.{letters_alphanumeric}
-use Rattle.langtag_scan.proofs.Running.{runs-nil, runs-cons, segments-one}
+use Rattle.langtag_scan.proofs.Running.{outcome-nil, outcome-cons, segments-one}
 
 record IsFull (f : List ℕ) : Type 0 where
   long : 5 ≤ length f
@@ -52,7 +54,7 @@ full_after_language taken f h = rw (variant_no_extended f (full_variant f h), va
 
 -- it may stand there, and a tag may end after it
 Finishes : Stage → List ℕ → Type 0
-Finishes stage f = (after : Stage) × (next_stage stage f ≡ Some after) × (may_end after ≡ true)
+Finishes stage f = (after : Stage) × (after_stage stage f ≡ Some after) × (may_end after ≡ true)
 
 finishes : (stage : Stage) (f : List ℕ) → IsFull f → (stage ≡ Start → are_letters f ≡ true) → Finishes stage f
 unfolding Finishes
@@ -66,6 +68,8 @@ finishes AfterSingleton f h l = (InExtension, rw (full_extension_subtag f h) ref
 finishes InExtension f h l = (InExtension, rw (full_extension_subtag f h) refl, refl)
 finishes AfterMark f h l = (InPrivate, rw (full_private_subtag f h) refl, refl)
 finishes InPrivate f h l = (InPrivate, rw (full_private_subtag f h) refl, refl)
+finishes AfterFirstMark f h l = (InPrivateTag, rw (full_private_subtag f h) refl, refl)
+finishes InPrivateTag f h l = (InPrivateTag, rw (full_private_subtag f h) refl, refl)
 
 letters_a : (n : ℕ) → are_letters (replicate n 97) ≡ true
 unfolding is_letter
@@ -85,12 +89,16 @@ filled stage s h =
 filled_letters : (s : List ℕ) → are_letters s ≡ true → are_letters (s ++ filling s) ≡ true
 filled_letters s h = list_all-append is_letter s (filling s) ∙ rw (h, letters_a (5 - length s)) refl
 
--- a text that goes on runs to an end where its last subtag is filled
-pub goes_filled : (first stage : Stage) (q s : List ℕ) → GoesOn first q stage s → runs first (segments (q ++ filling s)) ≡ true
+-- where the last subtag is filled, something is found
+pub filled_found : (stage : Stage) (e : Ends) (s : List ℕ) → IsBegun stage s → (f : Finding) × (outcome stage e (segments (s ++ filling s)) ≡ Some f)
 unfolding Finishes
-goes_filled first stage q s g =
+filled_found stage e s begun =
     let f : List ℕ = s ++ filling s in
-    let full = filled stage s g.begun in
-    let k = finishes stage f full (λ e. filled_letters s (g.begun.letters e)) in
-    g.same (filling s) ∙ ap (runs stage) (segments-one f full.alphanumeric) ∙ runs-cons stage f []
-    ∙ ap (λ o. option_map_or (λ after. runs after []) o false) k.1 ∙ runs-nil k.0 ∙ k.2
+    let full = filled stage s begun in
+    let k = finishes stage f full (λ first. filled_letters s (begun.letters first)) in
+    let ends = end_at k.0 (index_after stage e f) e in (
+      found_by k.0 ends,
+      ap (outcome stage e) (segments-one f full.alphanumeric) ∙ outcome-cons stage e f []
+          ∙ ap (λ o. option_map_or (λ after. outcome after (end_at after (index_after stage e f) e) []) o None) k.1
+          ∙ outcome-nil k.0 ends ∙ ap (λ v. cond v (Some (found_by k.0 ends)) None) k.2,
+    )

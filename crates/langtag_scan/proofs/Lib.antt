@@ -7,6 +7,8 @@ pub mod NormalTexts
 pub mod CaseOrder
 mod ShapeLaws
 mod Running
+mod Outcomes
+mod Unnamed
 mod Filling
 mod PrivateTexts
 mod StageLaws
@@ -18,6 +20,7 @@ mod NameRanges
 pub mod TagLaws
 mod TracksLaws
 mod RecogniserLaws
+mod SubtagReading
 mod FillLaw
 pub mod CaseLaw
 pub mod OneKind

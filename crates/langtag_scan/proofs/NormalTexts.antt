@@ -4,16 +4,16 @@ use Rattle.std.specs.List.{AllByRecursion}
 use Rattle.std.specs.Option.{option_map, option_map_or, option_and_then, is_some}
 use Rattle.std.proofs.lemmas.List.Splits.{join_with_byte-slice_split}
 use Rattle.langtag_scan.specs.declared.stage.Stage.{Stage}
-use Rattle.langtag_scan.specs.declared.stage.Stage.TheVariants.{Start, Language, Extended, AfterScript, AfterRegion, AfterVariant, AfterSingleton, InExtension, AfterMark, InPrivate}
+use Rattle.langtag_scan.specs.declared.stage.Stage.TheVariants.{Start, Language, Extended, AfterScript, AfterRegion, AfterVariant, AfterSingleton, InExtension, AfterMark, InPrivate, AfterFirstMark, InPrivateTag}
 use Rattle.langtag_scan.specs.Class.{is_primary, is_extended, is_script, is_region, is_variant, is_extension_subtag, is_private_subtag, is_mark, is_singleton}
 use Rattle.langtag_scan.specs.Record.{Record, IsWellFormed, flat, spell}
-use Rattle.langtag_scan.specs.Stage.{opened, after_region, after_script, after_language, next_stage, may_end, runs}
+use Rattle.langtag_scan.specs.Stage.{is_one, opened, after_region, after_script, after_language, next_stage, after_stage, may_end, runs}
 use Rattle.langtag_scan.specs.Subtags.{join, segments}
 use Rattle.langtag_scan.specs.Tag.{IsNormal}
 use Rattle.langtag_scan.proofs.BoolFacts.{chosen}
 use Rattle.langtag_scan.proofs.Decoding.{Read, whole, decode, nothing, decode_sound, bind_some, map_some, put}
 use Rattle.langtag_scan.proofs.Complete.{decode_complete, flat_once}
-use Rattle.langtag_scan.proofs.SubtagFacts.{IsSubtag, of_primary, of_extended, of_script, of_region, of_variant, of_extension_subtag, of_private_subtag, of_one, mark_alphanumeric, singleton_alphanumeric}
+use Rattle.langtag_scan.proofs.SubtagFacts.{IsSubtag, of_primary, of_extended, of_script, of_region, of_variant, of_extension_subtag, of_private_subtag, of_one, of_mark, mark_alphanumeric, singleton_alphanumeric}
 use Rattle.langtag_scan.proofs.SubtagLists.{segments-joined}
 
 of_opened : (s : List ℕ) (after : Stage) → opened s ≡ Some after → IsSubtag s
@@ -60,6 +60,20 @@ next_subtag AfterMark s after e =
     elim (chosen (is_private_subtag s) (Some InPrivate) None (Some after) e) [ inl h ↦ of_private_subtag s h.0 | inr h ↦ absurd cc ]
 next_subtag InPrivate s after e =
     elim (chosen (is_private_subtag s) (Some InPrivate) None (Some after) e) [ inl h ↦ of_private_subtag s h.0 | inr h ↦ absurd cc ]
+next_subtag AfterFirstMark s after e = absurd cc
+next_subtag InPrivateTag s after e = absurd cc
+
+pub after_subtag : (stage : Stage) (s : List ℕ) (after : Stage) → after_stage stage s ≡ Some after → IsSubtag s
+after_subtag Start s after e =
+    elim (chosen (is_primary s) (Some (Language (cond (leb (length s) 3) 0 3))) (cond (is_one is_mark s) (Some AfterFirstMark) None) (Some after) e) [
+      | inl h ↦ of_primary s h.0
+      | inr h ↦ elim (chosen (is_one is_mark s) (Some AfterFirstMark) None (Some after) h.1) [ inl k ↦ of_mark s k.0 | inr k ↦ absurd cc ]
+    ]
+after_subtag AfterFirstMark s after e =
+    elim (chosen (is_private_subtag s) (Some InPrivateTag) None (Some after) e) [ inl h ↦ of_private_subtag s h.0 | inr h ↦ absurd cc ]
+after_subtag InPrivateTag s after e =
+    elim (chosen (is_private_subtag s) (Some InPrivateTag) None (Some after) e) [ inl h ↦ of_private_subtag s h.0 | inr h ↦ absurd cc ]
+after_subtag stage s after e = next_subtag stage s after e
 
 pub decoded_subtags : (ss : List (List ℕ)) (stage : Stage) (b : Read) → decode stage ss ≡ Some b → AllByRecursion IsSubtag ss
 unfolding decode

@@ -1,23 +1,25 @@
 -- What the recogniser knows after each byte, and how it answers by that.
-use Rattle.std.proofs.Common.{◌≡◌, ℕ, ◌+◌, ◌<◌, ◌≤◌, true, false, List, [], ◌∷◌, ◌++◌, length, take, drop, get_or, inl, inr, sym, ap, subst, ◌∙◌, arith, append_assoc, append-nil, refl}
+use Rattle.std.proofs.Common.{◌≡◌, ℕ, ◌+◌, ◌<◌, ◌≤◌, Bool, true, false, ◌⊎◌, List, [], ◌∷◌, ◌++◌, length, take, drop, get_or, inl, inr, sym, ap, subst, ◌∙◌, arith, append_assoc, append-nil}
 use Rattle.std.specs.Prelude.{Option, Some, None, MatchOption}
 use Rattle.std.proofs.lemmas.Bool.{cases_lt}
 use Rattle.std.proofs.lemmas.List.{take_more, take_all, take-append-drop, take-take, length-take}
 use Rattle.langtag_scan.specs.Found.{finding, IsFoundOf}
 use Rattle.langtag_scan.specs.Irregular.{is_possible}
-use Rattle.langtag_scan.specs.Machine.{begun, HasStopped, IsRefused}
+use Rattle.langtag_scan.specs.Machine.{begun, found_by, HasStopped, IsRefused}
+use Rattle.langtag_scan.specs.Stage.{may_end}
 use Rattle.langtag_scan.specs.Names.{Follows, IsGone}
 use Rattle.langtag_scan.specs.Tag.{IsNormal, IsPrivate, IsIrregular, IsTag}
-use Rattle.langtag_scan.specs.Tracking.{Tracks, IsReadTo}
+use Rattle.langtag_scan.specs.Tracking.{Tracks, IsDecided, IsEnded, IsSubtagRead, IsReadTo, IsReadAs, IsKept}
 use Rattle.langtag_scan.specs.Viable.{IsViable, IsStop, filling}
 use Rattle.langtag_scan.specs.declared.found.Found.{Found}
 use Rattle.langtag_scan.specs.declared.irregular.Names.{Names}
 use Rattle.langtag_scan.specs.declared.machine.Machine.{Machine}
 use Rattle.langtag_scan.proofs.IrregularNames.{possible_viable}
-use Rattle.langtag_scan.proofs.NameRanges.{gone_empty, gone-append, follows-append}
+use Rattle.langtag_scan.proofs.NameRanges.{gone_empty, follows-append}
 use Rattle.langtag_scan.proofs.NamesByLength.{in_range, followed_possible, not_viable}
-use Rattle.langtag_scan.proofs.TracksLaws.{tracks_filled}
-use Rattle.langtag_scan.proofs.TagLaws.{tag_irregular, viable_from_tag, stop_at}
+use Rattle.langtag_scan.proofs.TracksLaws.{tracks_filled, refused_dead}
+use Rattle.langtag_scan.proofs.ReadingLaws.{reads_nine}
+use Rattle.langtag_scan.proofs.TagLaws.{tag_irregular, viable_from_tag, no_tag_dead, prefixes_viable, stop_at, stop_whole}
 
 -- ---- one byte more
 
@@ -36,6 +38,9 @@ pub tracks_whole : (t : List ℕ) (i : ℕ) (m : Machine) → length t ≤ i →
 tracks_whole t i m end tracks = subst (λ p. Tracks p m) (take_all i t end) tracks
 
 -- ---- which prefixes are viable
+
+whole_viable : (t : List ℕ) (i : ℕ) → i ≡ length t → IsViable (take i t) → IsViable t
+whole_viable t i at viable = subst IsViable (take_all i t (omega (arith, at))) viable
 
 -- a text that may still become an irregular one
 pub viable_possible : (p : List ℕ) (k : ℕ) → k < 17 → is_possible p k ≡ true → IsViable p
@@ -65,6 +70,12 @@ stopped_refused p stopped = record {
 pub whole_refused : (t : List ℕ) (i : ℕ) → HasStopped (take i t) → IsRefused t
 whole_refused t i stopped = stopped_refused t (to_whole t i HasStopped stopped-append stopped)
 
+-- what is stopped by a prefix stays so
+pub stopped_longer : (t : List ℕ) (i n : ℕ) → i ≤ n → HasStopped (take i t) → HasStopped (take n t)
+stopped_longer t i n le stopped =
+    let longer : take i t ++ drop i (take n t) ≡ take n t = ap (λ p. p ++ drop i (take n t)) (sym (take-take i n t le)) ∙ take-append-drop i (take n t) in
+    subst HasStopped longer (stopped-append (take i t) (drop i (take n t)) stopped)
+
 -- ---- the answers
 
 -- a text that is of none of the three kinds is no tag
@@ -92,24 +103,82 @@ whole_follows t i names within gone follows =
     ]
 
 -- where the machine has stopped and no irregular text is left, the text stops
-pub dead_prefix : (t : List ℕ) (i n : ℕ) (names : Names) → i ≤ n → IsGone (take i t) names → HasStopped (take n t) → IsViable (take n t) → ⊥
-dead_prefix t i n names le gone stopped =
-    let longer : take i t ++ drop i (take n t) ≡ take n t = ap (λ p. p ++ drop i (take n t)) (sym (take-take i n t le)) ∙ take-append-drop i (take n t) in
-    not_viable names.len (take n t) stopped (subst (λ p. IsGone p names) longer (gone-append (take i t) (drop i (take n t)) names gone))
+dead_prefix : (t : List ℕ) (n : ℕ) (names : Names) → IsGone (take n t) names → HasStopped (take n t) → IsViable (take n t) → ⊥
+dead_prefix t n names gone stopped = not_viable names.len (take n t) stopped gone
 
 -- the stop of a text of which so many bytes were read when the machine had stopped
 pub stop_read :
-    (t : List ℕ) (n : ℕ) (names : Names) (m : Machine) → names.high ≤ 17 → (n < length t → IsGone (take n t) names) →
-    IsReadTo t n names m false → IsStop t n
-stop_read t n names m few gone read =
+    (t : List ℕ) (n : ℕ) (names : Names) → names.high ≤ 17 → n ≤ length t → (n < length t → IsGone (take n t) names) →
+    Follows (take n t) names → HasStopped (take n t) → ((k : ℕ) → k < n → IsViable (take k t)) → IsStop t n
+stop_read t n names few within gone follows stopped earlier =
     elim (cases_lt n (length t)) [
-      | inl before ↦ stop_at t n read.within read.before (dead_prefix t n n names (omega arith) (gone before) (read.stopped refl))
+      | inl before ↦ stop_at t n within earlier (dead_prefix t n names (gone before) stopped)
       | inr end ↦ elim (cases_lt names.low names.high) [
         | inl some ↦
-            let within : names.low < 17 = omega arith in
-            let followed = read.follows.possible names.low within ∙ in_range names.low names.high names.low (omega arith) some in
-            let viable = viable_possible (take n t) names.low within (followed_possible names.len (take n t) names.low followed) in
-            record { within = read.within; before = read.before; at = inl (viable, omega (arith, read.within)) }
-        | inr none ↦ stop_at t n read.within read.before (dead_prefix t n n names (omega arith) (gone_empty (take n t) names read.follows (omega arith)) (read.stopped refl))
+            let below : names.low < 17 = omega arith in
+            let followed = follows.possible names.low below ∙ in_range names.low names.high names.low (omega arith) some in
+            let viable = viable_possible (take n t) names.low below (followed_possible names.len (take n t) names.low followed) in
+            record { within = within; before = earlier; at = inl (viable, omega arith) }
+        | inr none ↦ stop_at t n within earlier (dead_prefix t n names (gone_empty (take n t) names follows (omega arith)) stopped)
       ]
     ]
+
+-- ---- a text that was read to the first byte after which no tag can follow
+
+pub dead_decided : (t : List ℕ) (i : ℕ) → i < length t → IsViable (take i t) → (IsViable (take (i + 1) t) → ⊥) → IsDecided t None (i + 1)
+dead_decided t i within viable dead = record {
+  answer = no_tag_dead t (i + 1) dead;
+  stop = stop_at t (i + 1) (omega arith) (λ k below. prefixes_viable t i k viable (omega arith)) dead;
+}
+
+-- ---- a text that was read to the end of a subtag
+
+pub subtag_ended :
+    (t : List ℕ) (start n end : ℕ) (names : Names) (m after : Machine) (goes_on : Bool) → IsSubtagRead t start m names n end →
+    (length (take end t) ≡ end → Tracks (take end t) m → IsEnded (take end t) after goes_on) →
+    (end < length t → goes_on ≡ false → end ≡ 1 → ⊥) → IsReadTo t end names after goes_on
+subtag_ended t start n end names m after goes_on subtag ended other = record {
+  within = subtag.within;
+  kept = subst (λ k. IsKept t k names) subtag.count subtag.kept;
+  viable = viable_tracks (take end t) m subtag.tracks;
+  some = λ on. omega (arith, here, known.some on);
+  tracks = λ before on. next before (λ p. Tracks p after) (known.goes on);
+  dead = λ before off. next before (λ p. IsViable p → ⊥) (refused_dead (take end t) m subtag.tracks (known.stops off) (λ one. other before off (omega (arith, here, one))));
+  read = λ at on. subst (λ p. IsReadAs p after) (whole at) (known.read on);
+  refused = λ at why. subst IsRefused (whole at) (known.refused why);
+  nine = λ at irregular.
+      ap length (sym (whole at))
+      ∙ reads_nine (take end t) m.stage (begun (take end t)) m.ends subtag.tracks.reads (subst IsIrregular (sym (whole at)) irregular);
+}
+  where
+    here : length (take end t) ≡ end
+    here = omega (arith, length-take end t, subtag.within)
+
+    known : IsEnded (take end t) after goes_on
+    known = ended here subtag.tracks
+
+    whole : end ≡ length t → take end t ≡ t
+    whole at = take_all end t (omega (arith, at))
+
+    next : end < length t → (Q : List ℕ → Type 0) → Q (take end t ++ 45 ∷ []) → Q (take (end + 1) t)
+    next before Q q = subst Q (ap (λ x. take end t ++ x ∷ []) (sym (subtag.hyphen before)) ∙ sym (take_more t end 0 before)) q
+
+-- the machine alone says what is not found at the end of the text, but for an irregular text of nine bytes
+pub end_refused :
+    (t : List ℕ) (end : ℕ) (names : Names) (m : Machine) (goes_on : Bool) (found : Option Found) → end ≡ length t →
+    IsReadTo t end names m goes_on → (goes_on ≡ false) ⊎ (may_end m.stage ≡ false) →
+    (IsKept t (length t) names → (IsIrregular t → length t ≡ 9) → MatchOption found (IsIrregular t → ⊥) (λ f. IsFoundOf t (finding f))) →
+    IsDecided t found (length t)
+end_refused t end names m goes_on found at known why answer = record {
+  answer = found_irregular t found (known.refused at why) (answer (subst (λ n. IsKept t n names) (omega (arith, at)) known.kept) (known.nine at));
+  stop = stop_whole t (whole_viable t end at known.viable);
+}
+
+pub end_accepted :
+    (t : List ℕ) (end : ℕ) (names : Names) (m : Machine) (goes_on : Bool) (found : Found) → end ≡ length t →
+    IsReadTo t end names m goes_on → goes_on ≡ true → may_end m.stage ≡ true → finding found ≡ found_by m.stage m.ends →
+    IsDecided t (Some found) (length t)
+end_accepted t end names m goes_on found at known on ends is = record {
+  answer = subst (IsFoundOf t) (sym is) (known.read at on ends);
+  stop = stop_whole t (whole_viable t end at known.viable);
+}

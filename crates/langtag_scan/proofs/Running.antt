@@ -1,5 +1,5 @@
--- How the stages run over the segments of a text of which a prefix was read.
-use Rattle.std.proofs.Common.{◌≡◌, ℕ, ◌<◌, ◌≤◌, Bool, true, false, cond, eqb, leb, List, [], ◌∷◌, ◌++◌, length, Option, Some, None, inl, inr, refl, sym, ap, ◌∙◌, arith, append_assoc, append-nil}
+-- How the stages run over the segments of a text, and what is found where a byte or a hyphen more follows.
+use Rattle.std.proofs.Common.{◌≡◌, ℕ, ◌<◌, ◌≤◌, Bool, true, false, cond, eqb, leb, List, [], ◌∷◌, ◌++◌, length, Option, Some, None, inl, inr, refl, sym, ap, ◌∙◌, arith}
 use Rattle.std.proofs.lemmas.Bool.{and_parts}
 use Rattle.std.specs.List.{All, onto_first}
 use Rattle.std.specs.Option.{option_map_or}
@@ -7,16 +7,17 @@ use Rattle.std.proofs.lemmas.List.{length-append, length_push}
 use Rattle.std.proofs.lemmas.List.Elements.{All-from_recursion}
 use Rattle.std.proofs.lemmas.List.Folds.{list_all-append}
 use Rattle.std.proofs.lemmas.List.Splits.{slice_split_none, slice_split_at, slice_split-cons_no, slice_split-cons_yes}
-use Rattle.langtag_scan.specs.Class.{is_letter, is_alphanumeric, has_length, are_letters, are_alphanumeric, is_primary}
+use Rattle.langtag_scan.specs.Class.{is_letter, is_alphanumeric, has_length, are_letters, are_alphanumeric, is_primary, is_mark}
 use Rattle.langtag_scan.specs.Subtags.{is_hyphen, segments}
-use Rattle.langtag_scan.specs.Stage.{next_stage, may_end, runs}
-use Rattle.langtag_scan.specs.Machine.{may_hold, end_at, index_after, ends_after, IsBegun, GoesOn}
+use Rattle.langtag_scan.specs.Stage.{is_one, next_stage, after_stage, may_end, runs}
+use Rattle.langtag_scan.specs.Machine.{may_hold, end_at, index_after, ends_after, found_by, outcome, IsBegun}
 use Rattle.langtag_scan.specs.declared.ends.Ends.{Ends}
 use Rattle.langtag_scan.specs.declared.stage.Stage.{Stage}
-use Rattle.langtag_scan.specs.declared.stage.Stage.TheVariants.{Start, Language, Extended, AfterScript, AfterRegion, AfterVariant, AfterSingleton, InExtension, AfterMark, InPrivate}
+use Rattle.langtag_scan.specs.declared.stage.Stage.TheVariants.{Start, Language, AfterFirstMark}
 use Rattle.langtag_scan.proofs.BoolFacts.{chosen}
-use Rattle.langtag_scan.proofs.SubtagFacts.{IsSubtag, no_hyphen_each, alphanumeric_no_hyphen}
-use Rattle.langtag_scan.proofs.NormalTexts.{next_subtag}
+use Rattle.langtag_scan.proofs.SubtagFacts.{IsSubtag, no_hyphen_each, alphanumeric_no_hyphen, mark_letters}
+use Rattle.langtag_scan.proofs.NormalTexts.{after_subtag}
+use Rattle.langtag_scan.proofs.StageLaws.{starting, held_later}
 
 pub runs-nil : (stage : Stage) → runs stage [] ≡ may_end stage
 unfolding runs
@@ -38,6 +39,16 @@ pub ends_after-cons :
 unfolding ends_after
 ends_after-cons stage e s ss = refl
 
+pub outcome-nil : (stage : Stage) (e : Ends) → outcome stage e [] ≡ cond (may_end stage) (Some (found_by stage e)) None
+unfolding outcome
+outcome-nil stage e = refl
+
+pub outcome-cons :
+    (stage : Stage) (e : Ends) (s : List ℕ) (ss : List (List ℕ)) →
+    outcome stage e (s ∷ ss) ≡ option_map_or (λ after. outcome after (end_at after (index_after stage e s) e) ss) (after_stage stage s) None
+unfolding outcome
+outcome-cons stage e s ss = refl
+
 -- ---- segments of a text that begins without a hyphen
 
 hyphen_free : (s : List ℕ) → are_alphanumeric s ≡ true → All (λ b. eqb b 45 ≡ false) s
@@ -51,7 +62,7 @@ pub segments-hyphen : (s u : List ℕ) → are_alphanumeric s ≡ true → segme
 segments-hyphen s u h = slice_split_at (λ b. eqb b 45) s 45 u (hyphen_free s h) refl
 
 -- the first segment is what stands before a hyphen
-first_of : (u : List ℕ) → (v : List ℕ) × (ss : List (List ℕ)) × (segments u ≡ v ∷ ss)
+pub first_of : (u : List ℕ) → (v : List ℕ) × (ss : List (List ℕ)) × (segments u ≡ v ∷ ss)
 first_of [] = ([], [], refl)
 first_of (b ∷ u) = by_hyphen (eqb b 45) refl (first_of u)
   where
@@ -75,17 +86,12 @@ empty_begun stage = record { short = omega arith; alphanumeric = refl; letters =
 letter_alphanumeric : (b : ℕ) → is_letter b ≡ true → is_alphanumeric b ≡ true
 letter_alphanumeric b h = rw h refl
 
-pub held_alphanumeric : (stage : Stage) (b : ℕ) → may_hold stage b ≡ true → is_alphanumeric b ≡ true
-held_alphanumeric Start b h = letter_alphanumeric b h
-held_alphanumeric (Language taken) b h = h
-held_alphanumeric (Extended taken) b h = h
-held_alphanumeric AfterScript b h = h
-held_alphanumeric AfterRegion b h = h
-held_alphanumeric AfterVariant b h = h
-held_alphanumeric AfterSingleton b h = h
-held_alphanumeric InExtension b h = h
-held_alphanumeric AfterMark b h = h
-held_alphanumeric InPrivate b h = h
+held_alphanumeric : (stage : Stage) (b : ℕ) → may_hold stage b ≡ true → is_alphanumeric b ≡ true
+held_alphanumeric stage b h =
+    elim (starting stage) [
+      | inl first ↦ letter_alphanumeric b (ap (λ x. may_hold x b) (sym first) ∙ h)
+      | inr later ↦ sym (held_later stage b later) ∙ h
+    ]
 
 -- what it leaves is a subtag that has begun
 pub grown : (stage : Stage) (s : List ℕ) (b : ℕ) → may_hold stage b ≡ true → length s < 8 → IsBegun stage s → IsBegun stage (s ++ b ∷ [])
@@ -110,98 +116,68 @@ primary_letters : (s : List ℕ) → is_primary s ≡ true → are_letters s ≡
 unfolding is_primary
 primary_letters s h = (and_parts (has_length 2 8 s) (are_letters s) h).1
 
-start_letters : (s : List ℕ) (after : Stage) → next_stage Start s ≡ Some after → are_letters s ≡ true
+start_letters : (s : List ℕ) (after : Stage) → after_stage Start s ≡ Some after → are_letters s ≡ true
 start_letters s after e =
-    elim (chosen (is_primary s) (Some (Language (cond (leb (length s) 3) 0 3))) None (Some after) e) [ inl h ↦ primary_letters s h.0 | inr h ↦ absurd cc ]
+    elim (chosen (is_primary s) (Some (Language (cond (leb (length s) 3) 0 3))) (cond (is_one is_mark s) (Some AfterFirstMark) None) (Some after) e) [
+      | inl h ↦ primary_letters s h.0
+      | inr h ↦ elim (chosen (is_one is_mark s) (Some AfterFirstMark) None (Some after) h.1) [ inl k ↦ mark_letters s k.0 | inr k ↦ absurd cc ]
+    ]
 
-not_held :
-    (stage : Stage) (s : List ℕ) (b : ℕ) (v : List ℕ) → may_hold stage b ≡ false → (after : Stage) →
-    next_stage stage (s ++ b ∷ v) ≡ Some after → ⊥
-not_held Start s b v m after e =
+not_first : (s : List ℕ) (b : ℕ) (v : List ℕ) → is_letter b ≡ false → (after : Stage) → after_stage Start (s ++ b ∷ v) ≡ Some after → ⊥
+not_first s b v m after e =
     let l = and_parts (are_letters s) (are_letters (b ∷ v)) (sym (list_all-append is_letter s (b ∷ v)) ∙ start_letters (s ++ b ∷ v) after e) in
     let k = and_parts (is_letter b) (are_letters v) l.1 in
     let yes_letter : is_letter b ≡ true = k.0 in
-    let no_letter : is_letter b ≡ false = m in
     cc
-not_held (Language taken) s b v m after e = never s b v m (next_subtag (Language taken) (s ++ b ∷ v) after e)
-not_held (Extended taken) s b v m after e = never s b v m (next_subtag (Extended taken) (s ++ b ∷ v) after e)
-not_held AfterScript s b v m after e = never s b v m (next_subtag AfterScript (s ++ b ∷ v) after e)
-not_held AfterRegion s b v m after e = never s b v m (next_subtag AfterRegion (s ++ b ∷ v) after e)
-not_held AfterVariant s b v m after e = never s b v m (next_subtag AfterVariant (s ++ b ∷ v) after e)
-not_held AfterSingleton s b v m after e = never s b v m (next_subtag AfterSingleton (s ++ b ∷ v) after e)
-not_held InExtension s b v m after e = never s b v m (next_subtag InExtension (s ++ b ∷ v) after e)
-not_held AfterMark s b v m after e = never s b v m (next_subtag AfterMark (s ++ b ∷ v) after e)
-not_held InPrivate s b v m after e = never s b v m (next_subtag InPrivate (s ++ b ∷ v) after e)
 
-none_next : (stage : Stage) (v : List ℕ) → ((after : Stage) → next_stage stage v ≡ Some after → ⊥) → next_stage stage v ≡ None
-none_next stage v h = by_option (next_stage stage v) refl
+not_held :
+    (stage : Stage) (s : List ℕ) (b : ℕ) (v : List ℕ) → may_hold stage b ≡ false → (after : Stage) →
+    after_stage stage (s ++ b ∷ v) ≡ Some after → ⊥
+not_held stage s b v m after e =
+    elim (starting stage) [
+      | inl first ↦ not_first s b v (ap (λ x. may_hold x b) (sym first) ∙ m) after (ap (λ x. after_stage x (s ++ b ∷ v)) (sym first) ∙ e)
+      | inr later ↦ never s b v (sym (held_later stage b later) ∙ m) (after_subtag stage (s ++ b ∷ v) after e)
+    ]
+
+none_next : (stage : Stage) (v : List ℕ) → ((after : Stage) → after_stage stage v ≡ Some after → ⊥) → after_stage stage v ≡ None
+none_next stage v h = by_option (after_stage stage v) refl
   where
-    by_option : (o : Option Stage) → next_stage stage v ≡ o → o ≡ None
+    by_option : (o : Option Stage) → after_stage stage v ≡ o → o ≡ None
     by_option None e = refl
     by_option (Some after) e = absurd (h after e)
 
 -- a byte with which the subtag that has begun can't go on
 pub IsStuck : Stage → List ℕ → ℕ → Type 0
-IsStuck stage s b = (v : List ℕ) (after : Stage) → next_stage stage (s ++ b ∷ v) ≡ Some after → ⊥
+IsStuck stage s b = (v : List ℕ) (after : Stage) → after_stage stage (s ++ b ∷ v) ≡ Some after → ⊥
 
 pub stuck_full : (stage : Stage) (s : List ℕ) (b : ℕ) → 8 ≤ length s → IsStuck stage s b
 unfolding IsStuck
-stuck_full stage s b long = λ v after e. too_long s b v long (next_subtag stage (s ++ b ∷ v) after e)
+stuck_full stage s b long = λ v after e. too_long s b v long (after_subtag stage (s ++ b ∷ v) after e)
 
 pub stuck_other : (stage : Stage) (s : List ℕ) (b : ℕ) → may_hold stage b ≡ false → IsStuck stage s b
 unfolding IsStuck
 stuck_other stage s b m = λ v after e. not_held stage s b v m after e
 
-pub runs-stuck :
-    (stage : Stage) (s : List ℕ) (b : ℕ) (u : List ℕ) → are_alphanumeric s ≡ true → eqb b 45 ≡ false → IsStuck stage s b →
-    runs stage (segments (s ++ b ∷ u)) ≡ false
+-- nothing is found then
+pub outcome-stuck :
+    (stage : Stage) (e : Ends) (s : List ℕ) (b : ℕ) (u : List ℕ) → are_alphanumeric s ≡ true → eqb b 45 ≡ false → IsStuck stage s b →
+    outcome stage e (segments (s ++ b ∷ u)) ≡ None
 unfolding IsStuck
-runs-stuck stage s b u h other stuck =
+outcome-stuck stage e s b u h other stuck =
     let k = first_of u in
     let here : segments (b ∷ u) ≡ (b ∷ k.0) ∷ k.1 = slice_split-cons_no is_hyphen b u other ∙ ap (onto_first b) k.2 in
-    ap (runs stage) (segments-prefix s (b ∷ u) (b ∷ k.0) k.1 h here) ∙ runs-cons stage (s ++ b ∷ k.0) k.1
-    ∙ ap (λ o. option_map_or (λ after. runs after k.1) o false) (none_next stage (s ++ b ∷ k.0) (stuck k.0))
+    ap (outcome stage e) (segments-prefix s (b ∷ u) (b ∷ k.0) k.1 h here)
+    ∙ outcome-cons stage e (s ++ b ∷ k.0) k.1
+    ∙ ap (λ o. option_map_or (λ after. outcome after (end_at after (index_after stage e (s ++ b ∷ k.0)) e) k.1) o None) (none_next stage (s ++ b ∷ k.0) (stuck k.0))
 
--- ---- one byte more of a text that goes on
+-- ---- a hyphen, and the end of the text
 
-pub goes_grown :
-    (first stage : Stage) (q s : List ℕ) (b : ℕ) → may_hold stage b ≡ true → length s < 8 → GoesOn first q stage s →
-    GoesOn first (q ++ b ∷ []) stage (s ++ b ∷ [])
-goes_grown first stage q s b m short g = record {
-  begun = grown stage s b m short g.begun;
-  same = λ u. ap (λ t. runs first (segments t)) (append_assoc q (b ∷ []) u) ∙ g.same (b ∷ u) ∙ ap (λ t. runs stage (segments t)) (sym (append_assoc s (b ∷ []) u));
-}
+pub outcome-hyphen :
+    (stage : Stage) (e : Ends) (s u : List ℕ) → are_alphanumeric s ≡ true →
+    outcome stage e (segments (s ++ 45 ∷ u)) ≡ option_map_or (λ after. outcome after (end_at after (index_after stage e s) e) (segments u)) (after_stage stage s) None
+outcome-hyphen stage e s u h = ap (outcome stage e) (segments-hyphen s u h) ∙ outcome-cons stage e s (segments u)
 
-pub goes_after :
-    (first stage after : Stage) (q s : List ℕ) → next_stage stage s ≡ Some after → GoesOn first q stage s →
-    GoesOn first (q ++ 45 ∷ []) after []
-goes_after first stage after q s e g = record {
-  begun = empty_begun after;
-  same = λ u. ap (λ t. runs first (segments t)) (append_assoc q (45 ∷ []) u) ∙ g.same (45 ∷ u) ∙ ap (runs stage) (segments-hyphen s u g.begun.alphanumeric) ∙ runs-cons stage s (segments u)
-      ∙ ap (λ o. option_map_or (λ x. runs x (segments u)) o false) e;
-}
-
-pub goes_refused :
-    (first stage : Stage) (q s u : List ℕ) → next_stage stage s ≡ None → GoesOn first q stage s →
-    runs first (segments ((q ++ 45 ∷ []) ++ u)) ≡ false
-goes_refused first stage q s u e g =
-    ap (λ t. runs first (segments t)) (append_assoc q (45 ∷ []) u) ∙ g.same (45 ∷ u) ∙ ap (runs stage) (segments-hyphen s u g.begun.alphanumeric) ∙ runs-cons stage s (segments u)
-    ∙ ap (λ o. option_map_or (λ x. runs x (segments u)) o false) e
-
-pub goes_stuck :
-    (first stage : Stage) (q s : List ℕ) (b : ℕ) (u : List ℕ) → eqb b 45 ≡ false → IsStuck stage s b → GoesOn first q stage s →
-    runs first (segments ((q ++ b ∷ []) ++ u)) ≡ false
-goes_stuck first stage q s b u other stuck g =
-    ap (λ t. runs first (segments t)) (append_assoc q (b ∷ []) u) ∙ g.same (b ∷ u) ∙ runs-stuck stage s b u g.begun.alphanumeric other stuck
-
--- at the end of the text
-pub goes_ended :
-    (first stage : Stage) (q s : List ℕ) → GoesOn first q stage s →
-    runs first (segments q) ≡ option_map_or may_end (next_stage stage s) false
-goes_ended first stage q s g =
-    ap (λ t. runs first (segments t)) (sym (append-nil q)) ∙ g.same [] ∙ ap (λ t. runs stage (segments t)) (append-nil s) ∙ ap (runs stage) (segments-one s g.begun.alphanumeric) ∙ runs-cons stage s []
-    ∙ may_end_one (next_stage stage s)
-  where
-    may_end_one : (o : Option Stage) → option_map_or (λ after. runs after []) o false ≡ option_map_or may_end o false
-    may_end_one None = refl
-    may_end_one (Some after) = runs-nil after
+pub outcome-last :
+    (stage : Stage) (e : Ends) (s : List ℕ) → are_alphanumeric s ≡ true →
+    outcome stage e (segments s) ≡ option_map_or (λ after. outcome after (end_at after (index_after stage e s) e) []) (after_stage stage s) None
+outcome-last stage e s h = ap (outcome stage e) (segments-one s h) ∙ outcome-cons stage e s []

@@ -1,12 +1,11 @@
 -- The shape of a subtag tells its classes, and grows as the subtag does.
-use Rattle.std.proofs.Common.{◌≡◌, ℕ, suc, ◌-◌, ◌≤◌, Bool, true, false, cond, eqb, ne_eqb, not, leb, ltb, ◌+◌, ◌&&◌, ◌||◌, List, [], ◌∷◌, ◌++◌, length, refl, sym, ap, ◌∙◌, arith, get_or}
-use Rattle.std.proofs.Math.Seq.{get_or-append_seam}
+use Rattle.std.proofs.Common.{◌≡◌, ℕ, suc, ◌≤◌, Bool, true, false, cond, eqb, ne_eqb, not, leb, ltb, ◌+◌, ◌&&◌, ◌||◌, List, [], ◌∷◌, ◌++◌, length, refl, sym, ap, ◌∙◌, arith, get_or}
 use Rattle.std.proofs.lemmas.Bool.{le-leb, lt-ltb, and_right, and_parts}
 use Rattle.std.proofs.lemmas.Bool.Decides.{nat_tests}
-use Rattle.std.proofs.lemmas.List.{length-append, length_push}
+use Rattle.std.proofs.lemmas.List.{length_push}
 use Rattle.std.proofs.lemmas.List.Folds.{list_all-append}
 use Rattle.langtag_scan.specs.Class.{is_letter, is_digit, is_alphanumeric, are_letters, are_digits, are_alphanumeric, starts_with_digit, has_length, is_primary, is_extended, is_script, is_region, is_variant, is_extension_subtag, is_private_subtag, is_mark, is_singleton}
-use Rattle.langtag_scan.specs.Stage.{is_one, classes_of, next_stage, next_by}
+use Rattle.langtag_scan.specs.Stage.{is_one, classes_of, after_stage, after_by}
 use Rattle.langtag_scan.specs.declared.stage.Stage.{Stage}
 use Rattle.langtag_scan.specs.Shape.{leading_digits, shape_of, classes_of_shape}
 use Rattle.langtag_scan.proofs.Disjoint.{letter_no_digit}
@@ -82,27 +81,21 @@ leading_off (a ∷ s) b h = by_digit (is_digit a) (λ k. leading_off s b k) h
     by_digit true more k = ap (λ (n : ℕ). n + 1) (more (λ e. k (omega (arith, e))))
     by_digit false more k = refl
 
--- the byte that was pushed is the last one
-last_pushed : (s : List ℕ) (b : ℕ) → get_or (s ++ b ∷ []) (length (s ++ b ∷ []) - 1) 0 ≡ b
-last_pushed s b =
-    let at : length (s ++ b ∷ []) - 1 ≡ length s = omega (arith, length-append s (b ∷ [])) in
-    ap (λ (n : ℕ). get_or (s ++ b ∷ []) n 0) at ∙ get_or-append_seam s b [] 0
-
 -- the shape after one more byte: a letter, a digit after digits alone, or another digit
 pub shape_letter :
     (s : List ℕ) (b : ℕ) → is_letter b ≡ true →
-    shape_of (s ++ b ∷ []) ≡ record { len = length s + 1; last = b; letters = are_letters s; leading_digits = leading_digits s }
-shape_letter s b h = rw (letters_letter s b h, leading_letter s b h, last_pushed s b, length_push s b) refl
+    shape_of (s ++ b ∷ []) ≡ record { len = length s + 1; first = get_or (s ++ b ∷ []) 0 0; letters = are_letters s; leading_digits = leading_digits s }
+shape_letter s b h = rw (letters_letter s b h, leading_letter s b h, length_push s b) refl
 
 pub shape_on :
     (s : List ℕ) (b : ℕ) → is_alphanumeric b ≡ true → is_letter b ≡ false → leading_digits s ≡ length s →
-    shape_of (s ++ b ∷ []) ≡ record { len = length s + 1; last = b; letters = false; leading_digits = length s + 1 }
-shape_on s b alnum h e = rw (letters_other s b h, leading_on s b alnum h e, last_pushed s b, length_push s b) refl
+    shape_of (s ++ b ∷ []) ≡ record { len = length s + 1; first = get_or (s ++ b ∷ []) 0 0; letters = false; leading_digits = length s + 1 }
+shape_on s b alnum h e = rw (letters_other s b h, leading_on s b alnum h e, length_push s b) refl
 
 pub shape_off :
     (s : List ℕ) (b : ℕ) → is_letter b ≡ false → (leading_digits s ≡ length s → ⊥) →
-    shape_of (s ++ b ∷ []) ≡ record { len = length s + 1; last = b; letters = false; leading_digits = leading_digits s }
-shape_off s b h e = rw (letters_other s b h, leading_off s b e, last_pushed s b, length_push s b) refl
+    shape_of (s ++ b ∷ []) ≡ record { len = length s + 1; first = get_or (s ++ b ∷ []) 0 0; letters = false; leading_digits = leading_digits s }
+shape_off s b h e = rw (letters_other s b h, leading_off s b e, length_push s b) refl
 
 -- ---- the classes
 
@@ -184,12 +177,12 @@ private_subtag-shape s h = long_shape 1 s h
 not_one : (n : ℕ) (v : Bool) → (eqb (suc (suc n)) 1 && v) ≡ false
 not_one n v = rw (ne_eqb (suc (suc n)) 1 (λ e. omega arith)) refl
 
-pub mark-shape : (s : List ℕ) → is_one is_mark s ≡ (eqb (length s) 1 && is_mark (get_or s (length s - 1) 0))
+mark-shape : (s : List ℕ) → is_one is_mark s ≡ (eqb (length s) 1 && is_mark (get_or s 0 0))
 mark-shape [] = refl
 mark-shape (b ∷ []) = refl
 mark-shape (b ∷ c ∷ s) = sym (not_one (length s) _)
 
-singleton-shape : (s : List ℕ) → IsShort s → is_one is_singleton s ≡ (eqb (length s) 1 && not (is_mark (get_or s (length s - 1) 0)))
+singleton-shape : (s : List ℕ) → IsShort s → is_one is_singleton s ≡ (eqb (length s) 1 && not (is_mark (get_or s 0 0)))
 unfolding is_singleton
 singleton-shape [] h = refl
 singleton-shape (b ∷ []) h = rw ((and_parts (is_alphanumeric b) true h.alphanumeric).0) refl
@@ -200,5 +193,5 @@ pub classes_of-shape : (s : List ℕ) → IsShort s → classes_of s ≡ classes
 classes_of-shape s h =
     rw (primary-shape s h, extended-shape s, script-shape s, region-shape s, variant-shape s h, extension_subtag-shape s h, private_subtag-shape s h, mark-shape s, singleton-shape s h) refl
 
-pub next_stage-shape : (stage : Stage) (s : List ℕ) → IsShort s → next_stage stage s ≡ next_by stage (classes_of_shape (shape_of s))
-next_stage-shape stage s h = ap (next_by stage) (classes_of-shape s h)
+pub after_stage-shape : (stage : Stage) (s : List ℕ) → IsShort s → after_stage stage s ≡ after_by stage (classes_of_shape (shape_of s))
+after_stage-shape stage s h = ap (after_by stage) (classes_of-shape s h)

@@ -1,61 +1,87 @@
 -- The stages: what comes after a subtag, where it ends, and which bytes it may hold.
-use Rattle.std.proofs.Common.{◌≡◌, ℕ, ◌+◌, Bool, true, false, cond, ltb, ◌||◌, ◌⊎◌, List, [], ◌∷◌, ◌++◌, Option, Some, None, inl, inr, refl, ap, ◌∙◌, arith}
+use Rattle.std.proofs.Common.{◌≡◌, ℕ, ◌+◌, ◌≤◌, Bool, true, false, cond, leb, ltb, ◌||◌, ◌⊎◌, List, [], ◌∷◌, ◌++◌, length, Option, Some, None, inl, inr, refl, sym, ap, ◌∙◌, arith}
 use Rattle.std.proofs.lemmas.List.{length_push}
-use Rattle.langtag_scan.specs.Class.{is_letter, is_digit, is_alphanumeric}
-use Rattle.langtag_scan.specs.Stage.{Classes, classes_of, opened_by, after_region_by, after_script_by, after_language_by, next_by, next_stage}
+use Rattle.langtag_scan.specs.Class.{is_letter, is_digit, is_alphanumeric, is_primary, is_mark, is_private_subtag}
+use Rattle.langtag_scan.specs.Stage.{Classes, classes_of, opened_by, after_region_by, after_script_by, after_language_by, next_by, next_stage, after_stage, is_one}
 use Rattle.langtag_scan.specs.Machine.{may_hold, end_at, index_after}
 use Rattle.langtag_scan.specs.declared.ends.Ends.{Ends}
 use Rattle.langtag_scan.specs.declared.stage.Stage.{Stage}
-use Rattle.langtag_scan.specs.declared.stage.Stage.TheVariants.{Start, Language, Extended, AfterScript, AfterRegion, AfterVariant, AfterSingleton, InExtension, AfterMark, InPrivate}
+use Rattle.langtag_scan.specs.declared.stage.Stage.TheVariants.{Start, Language, Extended, AfterScript, AfterRegion, AfterVariant, AfterSingleton, InExtension, AfterMark, InPrivate, AfterFirstMark, InPrivateTag}
+use Rattle.langtag_scan.proofs.BoolFacts.{chosen}
 
--- ---- the stage after a subtag is not the first one
+-- ---- which stages follow
 
-is_start : Stage → Bool
-is_start Start = true
-is_start _ = false
+-- no normal tag has begun
+unfoldable pub is_outside : Stage → Bool
+is_outside Start = true
+is_outside AfterFirstMark = true
+is_outside InPrivateTag = true
+is_outside _ = false
 
-abbrev starts : Option Stage → Bool
-starts None = false
-starts (Some stage) = is_start stage
+abbrev leaves : Option Stage → Bool
+leaves None = false
+leaves (Some stage) = is_outside stage
 
-starts-cond : (b : Bool) (x y : Option Stage) → starts x ≡ false → starts y ≡ false → starts (cond b x y) ≡ false
-starts-cond true x y h k = h
-starts-cond false x y h k = k
+leaves-cond : (b : Bool) (x y : Option Stage) → leaves x ≡ false → leaves y ≡ false → leaves (cond b x y) ≡ false
+leaves-cond true x y h k = h
+leaves-cond false x y h k = k
 
-starts-opened : (c : Classes) → starts (opened_by c) ≡ false
-unfolding is_start
-starts-opened c = starts-cond c.mark _ _ refl (starts-cond c.singleton _ _ refl refl)
+leaves-opened : (c : Classes) → leaves (opened_by c) ≡ false
+unfolding is_outside
+leaves-opened c = leaves-cond c.mark _ _ refl (leaves-cond c.singleton _ _ refl refl)
 
-starts-after_region : (c : Classes) → starts (after_region_by c) ≡ false
-unfolding is_start
-starts-after_region c = starts-cond c.variant _ _ refl (starts-opened c)
+leaves-after_region : (c : Classes) → leaves (after_region_by c) ≡ false
+unfolding is_outside
+leaves-after_region c = leaves-cond c.variant _ _ refl (leaves-opened c)
 
-starts-after_script : (c : Classes) → starts (after_script_by c) ≡ false
-unfolding is_start
-starts-after_script c = starts-cond c.region _ _ refl (starts-after_region c)
+leaves-after_script : (c : Classes) → leaves (after_script_by c) ≡ false
+unfolding is_outside
+leaves-after_script c = leaves-cond c.region _ _ refl (leaves-after_region c)
 
-starts-after_language : (taken : ℕ) (c : Classes) → starts (after_language_by taken c) ≡ false
-unfolding is_start
-starts-after_language taken c = starts-cond c.extended _ _ (starts-cond (ltb taken 3) _ _ refl refl) (starts-cond c.script _ _ refl (starts-after_script c))
+leaves-after_language : (taken : ℕ) (c : Classes) → leaves (after_language_by taken c) ≡ false
+unfolding is_outside
+leaves-after_language taken c = leaves-cond c.extended _ _ (leaves-cond (ltb taken 3) _ _ refl refl) (leaves-cond c.script _ _ refl (leaves-after_script c))
 
-starts-next : (stage : Stage) (c : Classes) → starts (next_by stage c) ≡ false
-unfolding is_start
-starts-next Start c = starts-cond c.primary _ _ refl refl
-starts-next (Language taken) c = starts-after_language taken c
-starts-next (Extended taken) c = starts-after_language taken c
-starts-next AfterScript c = starts-after_script c
-starts-next AfterRegion c = starts-after_region c
-starts-next AfterVariant c = starts-after_region c
-starts-next AfterSingleton c = starts-cond c.extension_subtag _ _ refl refl
-starts-next InExtension c = starts-cond c.extension_subtag _ _ refl (starts-opened c)
-starts-next AfterMark c = starts-cond c.private_subtag _ _ refl refl
-starts-next InPrivate c = starts-cond c.private_subtag _ _ refl refl
+leaves-next : (stage : Stage) (c : Classes) → leaves (next_by stage c) ≡ false
+unfolding is_outside
+leaves-next Start c = leaves-cond c.primary _ _ refl refl
+leaves-next (Language taken) c = leaves-after_language taken c
+leaves-next (Extended taken) c = leaves-after_language taken c
+leaves-next AfterScript c = leaves-after_script c
+leaves-next AfterRegion c = leaves-after_region c
+leaves-next AfterVariant c = leaves-after_region c
+leaves-next AfterSingleton c = leaves-cond c.extension_subtag _ _ refl refl
+leaves-next InExtension c = leaves-cond c.extension_subtag _ _ refl (leaves-opened c)
+leaves-next AfterMark c = leaves-cond c.private_subtag _ _ refl refl
+leaves-next InPrivate c = leaves-cond c.private_subtag _ _ refl refl
+leaves-next AfterFirstMark c = refl
+leaves-next InPrivateTag c = refl
 
-pub next_not_start : (stage after : Stage) (s : List ℕ) → next_stage stage s ≡ Some after → after ≡ Start → ⊥
-unfolding is_start
-next_not_start stage after s e first =
-    let no_start : starts (next_stage stage s) ≡ false = starts-next stage (classes_of s) in
-    let yes_start : starts (next_stage stage s) ≡ true = ap starts e ∙ ap is_start first in
+-- after a subtag of a normal tag, one has begun
+pub next_inside : (stage after : Stage) (s : List ℕ) → next_stage stage s ≡ Some after → is_outside after ≡ false
+next_inside stage after s e = ap leaves (sym e) ∙ leaves-next stage (classes_of s)
+
+-- and it goes on as a normal tag does
+pub after-inside : (stage : Stage) (s : List ℕ) → is_outside stage ≡ false → after_stage stage s ≡ next_stage stage s
+unfolding is_outside
+after-inside Start s inside = absurd cc
+after-inside AfterFirstMark s inside = absurd cc
+after-inside InPrivateTag s inside = absurd cc
+after-inside _ s inside = refl
+
+-- no stage after a subtag is the first one
+pub after_not_start : (stage after : Stage) (s : List ℕ) → after_stage stage s ≡ Some after → after ≡ Start → ⊥
+unfolding is_outside
+after_not_start Start after s e first =
+    elim (chosen (is_primary s) (Some (Language (cond (leb (length s) 3) 0 3))) (cond (is_one is_mark s) (Some AfterFirstMark) None) (Some after) e) [
+      | inl h ↦ cc
+      | inr h ↦ elim (chosen (is_one is_mark s) (Some AfterFirstMark) None (Some after) h.1) [ inl k ↦ cc | inr k ↦ cc ]
+    ]
+after_not_start AfterFirstMark after s e first = elim (chosen (is_private_subtag s) (Some InPrivateTag) None (Some after) e) [ inl h ↦ cc | inr h ↦ cc ]
+after_not_start InPrivateTag after s e first = elim (chosen (is_private_subtag s) (Some InPrivateTag) None (Some after) e) [ inl h ↦ cc | inr h ↦ cc ]
+after_not_start stage after s e first =
+    let inside : is_outside after ≡ false = next_inside stage after s e in
+    let outside : is_outside after ≡ true = ap is_outside first in
     cc
 
 pub starting : (stage : Stage) → (stage ≡ Start) ⊎ (stage ≡ Start → ⊥)
@@ -67,6 +93,10 @@ starting _ = inr (λ h. cc)
 pub index_after-push : (stage : Stage) (e : Ends) (s : List ℕ) (b : ℕ) → index_after stage e (s ++ b ∷ []) ≡ index_after stage e s + 1
 index_after-push Start e s b = length_push s b
 index_after-push _ e s b = omega (arith, length_push s b)
+
+pub index_after-least : (stage : Stage) (e : Ends) (s : List ℕ) → length s ≤ index_after stage e s
+index_after-least Start e s = omega arith
+index_after-least _ e s = omega arith
 
 -- after a hyphen the next subtag begins one byte on
 pub index_after-end : (after : Stage) (n : ℕ) (e : Ends) → (after ≡ Start → ⊥) → index_after after (end_at after n e) [] ≡ n + 1

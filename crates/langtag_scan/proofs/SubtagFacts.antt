@@ -5,6 +5,7 @@ use Rattle.std.specs.List.{All, AllByRecursion}
 use Rattle.std.proofs.lemmas.Bool.{ne_eqb, and_parts, or_cases}
 use Rattle.std.proofs.lemmas.List.Elements.{All-from_recursion}
 use Rattle.langtag_scan.specs.Class.{is_letter, is_digit, is_alphanumeric, has_length, are_letters, are_digits, are_alphanumeric, is_primary, is_extended, is_script, is_region, is_variant, is_extension_subtag, is_private_subtag, is_mark, is_singleton}
+use Rattle.langtag_scan.specs.Stage.{is_one}
 use Rattle.langtag_scan.proofs.BoolFacts.{between_true}
 use Rattle.langtag_scan.proofs.Disjoint.{extended_three, script_four, region_two_three, variant_long}
 
@@ -63,13 +64,22 @@ of_private_subtag s h =
     let m = between_true 1 8 (length s) k.0 in
     record { some = omega arith; short = omega arith; alphanumeric = k.1 }
 
-pub mark_alphanumeric : (c : ℕ) → is_mark c ≡ true → is_alphanumeric c ≡ true
+mark_letter : (c : ℕ) → is_mark c ≡ true → is_letter c ≡ true
 unfolding is_mark is_letter
-mark_alphanumeric c h =
+mark_letter c h =
     elim (or_cases (eqb c 120) (eqb c 88) h) [
       | inl e ↦ let same : c ≡ 120 = eqb-true _ _ e in rw same refl
       | inr e ↦ let same : c ≡ 88 = eqb-true _ _ e in rw same refl
     ]
+
+pub mark_alphanumeric : (c : ℕ) → is_mark c ≡ true → is_alphanumeric c ≡ true
+mark_alphanumeric c h = rw (mark_letter c h) refl
+
+-- a mark alone has letters alone
+pub mark_letters : (s : List ℕ) → is_one is_mark s ≡ true → are_letters s ≡ true
+mark_letters [] h = refl
+mark_letters (c ∷ []) h = rw (mark_letter c h) refl
+mark_letters (c ∷ d ∷ s) h = absurd cc
 
 pub singleton_alphanumeric : (c : ℕ) → is_singleton c ≡ true → is_alphanumeric c ≡ true
 unfolding is_singleton
@@ -77,6 +87,11 @@ singleton_alphanumeric c h = (and_parts (is_alphanumeric c) (not (is_mark c)) h)
 
 pub of_one : (c : ℕ) → is_alphanumeric c ≡ true → IsSubtag (c ∷ [])
 of_one c h = record { some = omega arith; short = omega arith; alphanumeric = rw h refl }
+
+pub of_mark : (s : List ℕ) → is_one is_mark s ≡ true → IsSubtag s
+of_mark [] h = absurd cc
+of_mark (c ∷ []) h = of_one c (mark_alphanumeric c h)
+of_mark (c ∷ d ∷ s) h = absurd cc
 
 pub alphanumeric_no_hyphen : (b : ℕ) → is_alphanumeric b ≡ true → eqb b 45 ≡ false
 unfolding is_letter is_digit

@@ -11,3 +11,7 @@ pub record Follows (p : List ℕ) (names : Names) : Type 0 where
 -- none of them begins so
 abbrev pub IsGone : List ℕ → Names → Type 0
 IsGone p names = (k : ℕ) → k < 17 → is_followed names.len p k ≡ false
+
+-- none of those that begin with `i` begins so
+abbrev pub IsUnnamed : List ℕ → Type 0
+IsUnnamed p = (k : ℕ) → k < 17 → is_followed 0 p k ≡ false

@@ -4,7 +4,7 @@ use Rattle.std.specs.Prelude.{ℕ, ◌+◌, Bool, true, false, nat_lt, nat_le, L
 use Rattle.std.specs.Option.{option_map_or}
 use Rattle.langtag_scan.specs.Class.{is_primary, is_extended, is_script, is_region, is_variant, is_extension_subtag, is_private_subtag, is_mark, is_singleton}
 use Rattle.langtag_scan.specs.declared.stage.Stage.{Stage}
-use Rattle.langtag_scan.specs.declared.stage.Stage.TheVariants.{Start, Language, Extended, AfterScript, AfterRegion, AfterVariant, AfterSingleton, InExtension, AfterMark, InPrivate}
+use Rattle.langtag_scan.specs.declared.stage.Stage.TheVariants.{Start, Language, Extended, AfterScript, AfterRegion, AfterVariant, AfterSingleton, InExtension, AfterMark, InPrivate, AfterFirstMark, InPrivateTag}
 
 -- whether a subtag is one byte that passes a test
 abbrev pub is_one : (ℕ → Bool) → List ℕ → Bool
@@ -57,7 +57,7 @@ after_language_by taken c =
     else if c.script then Some AfterScript
     else after_script_by c
 
--- the stage after one more subtag, of these classes
+-- the stage after one more subtag of a normal tag, of these classes (rule langtag)
 abbrev pub next_by : Stage → Classes → Option Stage
 next_by Start c = if c.primary then Some (Language (if c.short then 0 else 3)) else None
 next_by (Language taken) c = after_language_by taken c
@@ -69,6 +69,19 @@ next_by AfterSingleton c = if c.extension_subtag then Some InExtension else None
 next_by InExtension c = if c.extension_subtag then Some InExtension else opened_by c
 next_by AfterMark c = if c.private_subtag then Some InPrivate else None
 next_by InPrivate c = if c.private_subtag then Some InPrivate else None
+next_by AfterFirstMark c = None
+next_by InPrivateTag c = None
+
+-- the stage after the first subtag of a tag: one for private use begins with its mark (rules langtag and privateuse)
+abbrev pub first_by : Classes → Option Stage
+first_by c = if c.primary then Some (Language (if c.short then 0 else 3)) else if c.mark then Some AfterFirstMark else None
+
+-- the stage after one more subtag of a tag
+abbrev pub after_by : Stage → Classes → Option Stage
+after_by Start c = first_by c
+after_by AfterFirstMark c = if c.private_subtag then Some InPrivateTag else None
+after_by InPrivateTag c = if c.private_subtag then Some InPrivateTag else None
+after_by stage c = next_by stage c
 
 -- the same for a subtag
 abbrev pub opened : List ℕ → Option Stage
@@ -86,6 +99,9 @@ after_language taken s = after_language_by taken (classes_of s)
 abbrev pub next_stage : Stage → List ℕ → Option Stage
 next_stage stage s = next_by stage (classes_of s)
 
+abbrev pub after_stage : Stage → List ℕ → Option Stage
+after_stage stage s = after_by stage (classes_of s)
+
 -- whether a tag may end here
 abbrev pub may_end : Stage → Bool
 may_end Start = false
@@ -98,8 +114,10 @@ may_end AfterSingleton = false
 may_end InExtension = true
 may_end AfterMark = false
 may_end InPrivate = true
+may_end AfterFirstMark = false
+may_end InPrivateTag = true
 
--- whether these subtags may follow
+-- whether these subtags may follow in a normal tag
 unfoldable pub runs : Stage → List (List ℕ) → Bool
 runs stage [] = may_end stage
 runs stage (s ∷ ss) = option_map_or (λ after. runs after ss) (next_stage stage s) false

@@ -69,7 +69,9 @@ impl Ends {
                 self.extensions = index;
                 self.whole = index;
             }
-            Stage::AfterMark | Stage::InPrivate => self.whole = index,
+            Stage::AfterMark | Stage::InPrivate | Stage::AfterFirstMark | Stage::InPrivateTag => {
+                self.whole = index;
+            }
         }
     }
 }

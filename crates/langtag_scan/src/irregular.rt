@@ -30,7 +30,7 @@ const FOLDED: [&[u8]; 17] = [
 ];
 
 /// The length of the irregular texts that do not begin with `i`.
-const NINE: usize = 9;
+pub(crate) const NINE: usize = 9;
 
 /// The indices of the irregular texts that a text of a length may still become. Since these texts are neighbours, the
 /// indices make a range, which is empty after the first byte of nearly every text.
@@ -50,6 +50,7 @@ pub(crate) struct Names {
 
 impl Names {
     ghost use Rattle.langtag_scan.specs.Names.{Follows};
+    ghost use Rattle.langtag_scan.specs.Tracking.{IsKept};
 
     /// Before the first byte of a text of this length.
     pub(crate) fn new(len: usize) -> Self
@@ -106,6 +107,15 @@ impl Names {
         } else {
             None
         }
+    }
+
+    /// What was found of a text of nine bytes, where the bytes that were read are the whole text. One of another length is no
+    /// irregular text here.
+    pub(crate) fn found_nine(&self) -> Option<Found>
+        ensures { (t : List ℕ) → IsKept t (length t) self.now → (IsIrregular t → length t ≡ 9) →
+            MatchOption result (IsIrregular t → ⊥) (λ found. IsFoundOf t (finding found)) }
+    {
+        if self.len == NINE { self.found() } else { None }
     }
 }
 

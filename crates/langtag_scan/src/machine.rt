@@ -1,77 +1,110 @@
-//! The machine that reads a text byte by byte and follows normal tags and private ones (RFC 5646 section 2.1).
-ghost use Rattle.std.specs.Prelude.{◌≡◌, ◌∷◌, [], ◌++◌, ◌⊎◌, List, ℕ, IsTrue, false, MatchOption, length};
-ghost use Rattle.langtag_scan.specs.Found.{finding, IsFoundOf};
+//! The machine that reads a text a subtag at a time and follows normal tags and private ones (RFC 5646 section 2.1).
+ghost use Rattle.std.specs.Prelude.{◌≡◌, ◌≤◌, ◌+◌, ◌^◌, ◌∷◌, [], ◌++◌, ◌⊎◌, max, take, List, ℕ, IsTrue, false, None, MatchOption, length};
+ghost use Rattle.langtag_scan.specs.Shape.{shape_of};
+ghost use Rattle.langtag_scan.specs.Found.{finding};
 ghost use Rattle.langtag_scan.specs.Stage.{may_end};
-ghost use Rattle.langtag_scan.specs.Machine.{HasStopped, IsRefused};
+ghost use Rattle.langtag_scan.specs.Machine.{HasStopped, IsRefused, found_by};
 
 use crate::class::{is_digit, is_letter};
 use crate::ends::Ends;
 use crate::finding::Finding;
 use crate::found::Found;
-use crate::shape::Shape;
+use crate::irregular::{NINE, Names};
+use crate::shape::{LONGEST, Shape};
+use crate::source::ByteSource;
 use crate::stage::Stage;
-
-/// Which kind of tag the bytes that were read may go on to.
-#[derive(Clone, Copy)]
-pub(crate) enum Reading {
-    /// A normal tag.
-    Normal,
-    /// A private use tag.
-    Private,
-}
 
 /// What is known of the bytes that were read.
 #[derive(Drop)]
 pub(crate) struct Machine {
-    reading: Reading,
     /// The stage after the last whole subtag.
     stage: Stage,
     /// The subtag that has begun.
-    begun: Shape,
+    pub(crate) begun: Shape,
     /// The ends of the parts so far.
     ends: Ends,
 }
 
 impl Machine {
-    ghost use Rattle.langtag_scan.specs.Tracking.{Tracks, IsReadAs};
+    ghost use Rattle.langtag_scan.specs.Tracking.{Tracks, IsReadAs, IsKept, IsDecided, IsEnded, IsSubtagRead};
 
     /// Before the first byte.
     pub(crate) fn new() -> Self
-        ensures { Tracks [] result }
+        ensures tracks { Tracks [] result }
+        ensures nothing { result.begun ≡ shape_of [] }
     {
         Machine {
-            reading: Reading::Normal,
             stage: Stage::Start,
             begun: Shape::empty(),
             ends: Ends::all_at(0),
         }
     }
 
-    /// Takes the byte at an index, the bytes before it having been taken. Where no normal tag and no private one begins
-    /// so, it answers false.
+    /// Reads the subtag that begins at an index, with the hyphen after it, and answers where it ends. Where no tag begins
+    /// so, it reads to the first byte that shows this, and answers None.
+    ///
+    /// The irregular texts are followed in a text of nine bytes alone.
     #[inline(always)]
-    pub(crate) fn step(&mut self, index: usize, byte: u8) -> bool
-        ensures goes_on { (p : List ℕ) → length p ≡ index → Tracks p self.old → IsTrue result → Tracks (p ++ byte ∷ []) self.new }
-        ensures stops { (p : List ℕ) → length p ≡ index → Tracks p self.old → result ≡ false → HasStopped (p ++ byte ∷ []) }
+    pub(crate) fn read_subtag<S: ByteSource>(
+        &mut self,
+        source: &mut S,
+        names: &mut Names,
+        start: usize,
+    ) -> Option<usize>
+        requires few { S.reads source.old ≤ 2 ^ 126 + start }
+        requires reached { start ≤ S.reach source.old }
+        requires within { start ≤ length (S.bytes source.old) }
+        requires tracks { Tracks (take start (S.bytes source.old)) self.old }
+        requires nothing { self.old.begun ≡ shape_of [] }
+        requires kept { IsKept (S.bytes source.old) start names.old }
+        ensures bytes { S.bytes source.new ≡ S.bytes source.old }
+        ensures read { (n : ℕ) × (start ≤ n) × (S.reads source.new + start ≡ S.reads source.old + n) × (S.reach source.new ≡ max (S.reach source.old) n) ×
+            MatchOption result (IsDecided (S.bytes source.old) None n) (λ end. IsSubtagRead (S.bytes source.old) start self.new names.new n end) }
     {
-        if is_letter(byte) {
-            self.begun.push(byte)
-        } else if byte == b'-' {
-            self.end_subtag(index)
-        } else if is_digit(byte) && !self.stage.is_start() {
-            self.begun.push(byte)
-        } else {
-            false
+        let len = source.len();
+        let mut index = start;
+        let mut first = 0;
+        let mut letters = true;
+        let mut leading_digits = 0;
+        while index < len {
+            let byte = source.byte(index);
+            if len == NINE {
+                names.keep(index, byte);
+            }
+            if byte == b'-' {
+                break;
+            }
+            if index - start == LONGEST {
+                return None;
+            }
+            if !is_letter(byte) {
+                if self.stage.is_start() || !is_digit(byte) {
+                    return None;
+                }
+                if leading_digits == index - start {
+                    leading_digits = index - start + 1;
+                }
+                letters = false;
+            }
+            if index == start {
+                first = byte;
+            }
+            index += 1;
         }
+        self.begun = Shape {
+            len: index - start,
+            first,
+            letters,
+            leading_digits,
+        };
+        Some(index)
     }
 
     /// The subtag that has begun ends before this index, at a hyphen or at the end of the text, if it may.
     #[inline(always)]
-    fn end_subtag(&mut self, index: usize) -> bool
-        ensures goes_on { (p : List ℕ) → length p ≡ index → Tracks p self.old → IsTrue result → Tracks (p ++ 45 ∷ []) self.new }
-        ensures stops { (p : List ℕ) → length p ≡ index → Tracks p self.old → result ≡ false → HasStopped (p ++ 45 ∷ []) }
-        ensures read { (p : List ℕ) → length p ≡ index → Tracks p self.old → IsTrue result → IsReadAs p self.new }
-        ensures refused { (p : List ℕ) → length p ≡ index → Tracks p self.old → (result ≡ false) ⊎ (may_end self.new.stage ≡ false) → IsRefused p }
+    pub(crate) fn end_subtag(&mut self, index: usize) -> bool
+        ensures ended { (p : List ℕ) → length p ≡ index → Tracks p self.old → IsEnded p self.new result }
+        ensures nothing { self.new.begun ≡ shape_of [] }
     {
         let subtag = self.begun;
         self.begun = Shape::empty();
@@ -81,28 +114,25 @@ impl Machine {
                 self.ends.end_at(stage, index);
                 true
             }
-            None if self.stage.is_start() && subtag.is_mark() => {
-                self.reading = Reading::Private;
-                self.stage = Stage::AfterMark;
-                true
-            }
             None => false,
         }
     }
 
-    /// What the bytes that were read are, as a whole text of this length.
-    #[inline(always)]
-    pub(crate) fn found(mut self, len: usize) -> Option<Found>
-        ensures { (p : List ℕ) → length p ≡ len → Tracks p self → MatchOption result (IsRefused p) (λ found. IsFoundOf p (finding found)) }
+    /// Whether a tag may end with the last subtag that has ended.
+    pub(crate) fn may_end(&self) -> bool
+        ensures { result ≡ may_end self.now.stage }
     {
-        if self.end_subtag(len) && self.stage.may_end() {
-            let finding = match self.reading {
-                Reading::Normal => Finding::Normal(self.ends),
-                Reading::Private => Finding::PrivateUse,
-            };
-            Some(Found { finding })
-        } else {
-            None
-        }
+        self.stage.may_end()
+    }
+
+    /// What the bytes that were read are, as a whole text, where a tag may end with them.
+    pub(crate) fn found(&self) -> Found
+        ensures { finding result ≡ found_by self.now.stage self.now.ends }
+    {
+        let finding = match self.stage {
+            Stage::InPrivateTag => Finding::PrivateUse,
+            _ => Finding::Normal(self.ends),
+        };
+        Found { finding }
     }
 }

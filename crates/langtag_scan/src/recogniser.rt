@@ -1,11 +1,11 @@
 //! The recognisers: one pass over a source of bytes.
-ghost use Rattle.std.specs.Prelude.{◌≡◌, ◌↔◌, ◌⊎◌, ℕ, ◌<◌, ◌≤◌, ◌+◌, ◌^◌, max, List, [], length, take, IsTrue, MatchOption};
+ghost use Rattle.std.specs.Prelude.{◌≡◌, ◌↔◌, ◌⊎◌, ℕ, ◌<◌, ◌≤◌, ◌+◌, ◌^◌, max, List, [], ◌∷◌, length, take, IsTrue, MatchOption};
 ghost use Rattle.langtag_scan.specs.Record.{Record, IsWellFormed, spell};
 ghost use Rattle.langtag_scan.specs.Tag.{IsNormal, IsPrivate, IsIrregularAt, IsIrregular, IsTag};
 ghost use Rattle.langtag_scan.specs.Viable.{IsStop, IsViable, IsIrregularPrefix, fill};
 ghost use Rattle.langtag_scan.specs.Found.{finding, IsFoundOf, is_normal};
-ghost use Rattle.langtag_scan.specs.Names.{Follows, IsGone};
-ghost use Rattle.langtag_scan.specs.Tracking.{Tracks, IsReadTo};
+ghost use Rattle.langtag_scan.specs.Machine.{HasStopped};
+ghost use Rattle.langtag_scan.specs.Tracking.{IsDecided};
 
 use crate::found::Found;
 use crate::irregular::Names;
@@ -34,53 +34,62 @@ pub fn recognise<S: ByteSource>(source: &mut S) -> Option<Found>
     ensures one_stop { (t : List ℕ) (n m : ℕ) → IsStop t n → IsStop t m → n ≡ m }
     ensures viable { (p : List ℕ) → IsViable p ↔ (IsTag (fill p) ⊎ IsIrregularPrefix p) }
 {
+    read_tag(source)
+}
+
+/// Reads a text a subtag at a time, and decides whether it is a tag.
+#[inline(always)]
+fn read_tag<S: ByteSource>(source: &mut S) -> Option<Found>
+    requires { S.reads source.old ≤ 2 ^ 126 }
+    ensures bytes { S.bytes source.new ≡ S.bytes source.old }
+    ensures decided { (n : ℕ) × IsDecided (S.bytes source.old) result n ×
+        (S.reads source.new ≡ S.reads source.old + n) × (S.reach source.new ≡ max (S.reach source.old) n) }
+{
     let len = source.len();
     let mut machine = Machine::new();
     let mut names = Names::new(len);
-    let (mut index, goes_on) = read_names(source, &mut machine, &mut names);
-    if !goes_on {
-        return names.found();
+    let mut index = machine.read_subtag(source, &mut names, 0)?;
+    let first = machine.begun.first;
+    let mut goes_on = machine.end_subtag(index);
+    // Of the irregular texts only those that begin with `i` leave what the machine follows before their end.
+    if !goes_on && index == 1 && index < len {
+        return read_names(source, first);
     }
-    while index < len {
-        if !machine.step(index, source.byte(index)) {
-            return None;
-        }
-        index += 1;
+    while goes_on && index < len {
+        index = machine.read_subtag(source, &mut names, index + 1)?;
+        goes_on = machine.end_subtag(index);
     }
-    match machine.found(len) {
-        Some(found) => Some(found),
-        None => names.found(),
+    if index < len {
+        return None;
     }
+    if goes_on && machine.may_end() {
+        return Some(machine.found());
+    }
+    names.found_nine()
 }
 
-/// Reads on while an irregular text is possible: for nearly every text, that is the first byte. It answers how many
-/// bytes it has read, and whether the machine goes on after them.
+/// Reads on after a first subtag of one byte, and the hyphen after it, while an irregular text is possible.
 #[inline(always)]
-fn read_names<S: ByteSource>(
-    source: &mut S,
-    machine: &mut Machine,
-    names: &mut Names,
-) -> (usize, bool)
-    requires few { S.reads source.old ≤ 2 ^ 126 }
-    requires machine { Tracks [] machine.old }
-    requires names { Follows [] names.old }
+fn read_names<S: ByteSource>(source: &mut S, first: u8) -> Option<Found>
+    requires few { S.reads source.old ≤ 2 ^ 126 + 2 }
+    requires reached { 2 ≤ S.reach source.old }
+    requires begun { take 2 (S.bytes source.old) ≡ first ∷ 45 ∷ [] }
+    requires stopped { HasStopped (take 2 (S.bytes source.old)) }
+    requires viable { IsViable (take 1 (S.bytes source.old)) }
     ensures bytes { S.bytes source.new ≡ S.bytes source.old }
-    ensures reads { S.reads source.new ≡ S.reads source.old + result.0 }
-    ensures reach { S.reach source.new ≡ max (S.reach source.old) result.0 }
-    ensures len { names.new.len ≡ names.old.len }
-    ensures read { IsReadTo (S.bytes source.old) result.0 names.new machine.new result.1 }
-    ensures gone { result.0 < length (S.bytes source.old) → IsGone (take result.0 (S.bytes source.old)) names.new }
+    ensures decided { (n : ℕ) × (2 ≤ n) × IsDecided (S.bytes source.old) result n ×
+        (S.reads source.new + 2 ≡ S.reads source.old + n) × (S.reach source.new ≡ max (S.reach source.old) n) }
 {
     let len = source.len();
-    let mut goes_on = true;
-    let mut index = 0;
+    let mut names = Names::new(len);
+    names.keep(0, first);
+    names.keep(1, b'-');
+    let mut index = 2;
     while index < len && !names.is_empty() {
-        let byte = source.byte(index);
-        names.keep(index, byte);
-        goes_on = goes_on && machine.step(index, byte);
+        names.keep(index, source.byte(index));
         index += 1;
     }
-    (index, goes_on)
+    names.found()
 }
 
 /// Decides whether the bytes of a source are a normal tag (rule `langtag` of RFC 5646 section 2.1), as

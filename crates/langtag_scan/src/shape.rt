@@ -1,22 +1,21 @@
 //! What is known of a subtag that has begun, in a few bytes: each class of subtags can be told from it.
-ghost use Rattle.std.specs.Prelude.{◌≡◌, ◌<◌, ◌≤◌, ◌∷◌, [], ◌++◌, List, ℕ, IsTrue, false};
-ghost use Rattle.langtag_scan.specs.Class.{is_alphanumeric as alphanumeric};
+ghost use Rattle.std.specs.Prelude.{◌≡◌, []};
 
-use crate::class::{is_letter, is_mark};
+use crate::class::is_mark;
 
 /// How many bytes a subtag has at most.
-const LONGEST: u8 = 8;
+pub(crate) const LONGEST: usize = 8;
 
 /// A subtag of at most eight letters and digits, by what the classes of subtags ask of it.
 #[derive(Clone, Copy)]
 pub(crate) struct Shape {
-    len: u8,
-    /// The last byte, which is all of a subtag that has one byte.
-    last: u8,
+    pub(crate) len: usize,
+    /// The first byte, which is all of a subtag that has one byte.
+    pub(crate) first: u8,
     /// Whether all bytes are letters.
-    letters: bool,
+    pub(crate) letters: bool,
     /// How many digits it begins with.
-    leading_digits: u8,
+    pub(crate) leading_digits: usize,
 }
 
 impl Shape {
@@ -29,31 +28,10 @@ impl Shape {
     {
         Shape {
             len: 0,
-            last: 0,
+            first: 0,
             letters: true,
             leading_digits: 0,
         }
-    }
-
-    /// Adds a letter or a digit, if there is room for it.
-    pub(crate) fn push(&mut self, byte: u8) -> bool
-        requires class { IsTrue (alphanumeric byte) }
-        ensures room { IsTrue result → self.old.len < 8 }
-        ensures pushed { (s : List ℕ) → self.old ≡ shape_of s → IsTrue result → self.new ≡ shape_of (s ++ byte ∷ []) }
-        ensures full { result ≡ false → 8 ≤ self.old.len }
-    {
-        if self.len >= LONGEST {
-            return false;
-        }
-        if !is_letter(byte) {
-            self.letters = false;
-            if self.leading_digits == self.len {
-                self.leading_digits = self.len + 1;
-            }
-        }
-        self.last = byte;
-        self.len += 1;
-        true
     }
 
     /// Whether this is a primary language subtag.
@@ -113,14 +91,14 @@ impl Shape {
     pub(crate) fn is_mark(&self) -> bool
         ensures { result ≡ (classes_of_shape self.now).mark }
     {
-        self.len == 1 && is_mark(self.last)
+        self.len == 1 && is_mark(self.first)
     }
 
     /// Whether this is a singleton, which opens an extension.
     pub(crate) fn is_singleton(&self) -> bool
         ensures { result ≡ (classes_of_shape self.now).singleton }
     {
-        self.len == 1 && !is_mark(self.last)
+        self.len == 1 && !is_mark(self.first)
     }
 
     /// Whether this is as short as a primary subtag before extended ones.

@@ -1,7 +1,7 @@
-//! How the subtags of a normal tag follow one another (RFC 5646 section 2.1).
+//! How the subtags of a normal tag, or of a private use one, follow one another (RFC 5646 section 2.1).
 ghost use Rattle.std.specs.Prelude.{◌≡◌, ◌↔◌, IsTrue};
 ghost use Rattle.langtag_scan.specs.Shape.{classes_of_shape};
-ghost use Rattle.langtag_scan.specs.Stage.{opened_by, after_region_by, after_script_by, after_language_by, next_by, may_end};
+ghost use Rattle.langtag_scan.specs.Stage.{first_by, opened_by, after_region_by, after_script_by, after_language_by, after_by, may_end};
 
 use crate::shape::Shape;
 
@@ -31,18 +31,20 @@ pub(crate) enum Stage {
     AfterMark,
     /// After a private use subtag.
     InPrivate,
+    /// After a mark that begins the text, which needs a subtag.
+    AfterFirstMark,
+    /// After a private use subtag of a private use tag.
+    InPrivateTag,
 }
 
 impl Stage {
     /// The stage after one more subtag, or None where no such subtag may follow.
     #[inline(always)]
     pub(crate) fn next(self, subtag: &Shape) -> Option<Stage>
-        ensures { result ≡ next_by self (classes_of_shape subtag.now) }
+        ensures { result ≡ after_by self (classes_of_shape subtag.now) }
     {
         match self {
-            Stage::Start if subtag.is_primary() => {
-                Some(Stage::Language(if subtag.is_short() { 0 } else { MOST_EXTENDED }))
-            }
+            Stage::Start => first(subtag),
             Stage::Language(taken) | Stage::Extended(taken) => after_language(taken, subtag),
             Stage::AfterScript => after_script(subtag),
             Stage::AfterRegion | Stage::AfterVariant => after_region(subtag),
@@ -52,6 +54,9 @@ impl Stage {
             Stage::InExtension => opened(subtag),
             Stage::AfterMark | Stage::InPrivate if subtag.is_private_subtag() => {
                 Some(Stage::InPrivate)
+            }
+            Stage::AfterFirstMark | Stage::InPrivateTag if subtag.is_private_subtag() => {
+                Some(Stage::InPrivateTag)
             }
             _ => None,
         }
@@ -70,8 +75,21 @@ impl Stage {
     {
         !matches!(
             self,
-            Stage::Start | Stage::AfterSingleton | Stage::AfterMark
+            Stage::Start | Stage::AfterSingleton | Stage::AfterMark | Stage::AfterFirstMark
         )
+    }
+}
+
+/// The first subtag of a tag is a primary language subtag, or the mark of a private use tag.
+fn first(subtag: &Shape) -> Option<Stage>
+    ensures { result ≡ first_by (classes_of_shape subtag.now) }
+{
+    if subtag.is_primary() {
+        Some(Stage::Language(if subtag.is_short() { 0 } else { MOST_EXTENDED }))
+    } else if subtag.is_mark() {
+        Some(Stage::AfterFirstMark)
+    } else {
+        None
     }
 }
 

@@ -1,54 +1,34 @@
-use Rattle.std.proofs.Common.{◌≡◌, false, true, None, inl, inr, sym, ap, ◌∙◌}
+use Rattle.std.proofs.Common.{◌≡◌, false, Some, None, inl, inr, sym, ap, ◌∙◌}
 use Rattle.std.specs.Option.{option_map_or}
 use Rattle.langtag_scan.specs.Shape.{classes_of_shape}
-use Rattle.langtag_scan.specs.Stage.{next_by, may_end}
-use Rattle.langtag_scan.proofs.TracksLaws.{tracks_after, tracks_marked, tracks_refused, tracks_accepted, tracks_rejected}
+use Rattle.langtag_scan.specs.Stage.{after_by, may_end}
+use Rattle.langtag_scan.proofs.TracksLaws.{tracks_after, tracks_some, tracks_refused, tracks_accepted, tracks_rejected}
 use Rattle.langtag_scan.proofs.machine.Machine.end_subtag.Goals as goal
 
-pub returns-in-Some-clause-goes_on : goal.returns-in-Some-clause-goes_on
-returns-in-Some-clause-goes_on c = λ p index h yes_on. record {
-  reads = rw (c.empty-self.ensures, c.end_at.ensures, ← index) (tracks_after p c.args.self.now c.in-Some.stage (sym c.next.ensures ∙ c.in-Some.is) h).reads;
-}
+pub returns-in-Some-clause-ended : goal.returns-in-Some-clause-ended
+returns-in-Some-clause-ended c = λ p index h.
+    let m = c.args.self.now in
+    let next : after_by m.stage (classes_of_shape m.begun) ≡ Some c.in-Some.stage = sym c.next.ensures ∙ c.in-Some.is in
+    let known = tracks_after p m h c.in-Some.stage next in
+    record {
+      goes = λ yes_on. record { shape = rw c.empty-self.ensures known.shape; reads = rw (c.end_at.ensures, ← index) known.reads };
+      some = λ yes_on. tracks_some p m h c.in-Some.stage next;
+      stops = λ no_on. absurd cc;
+      read = λ yes_on ends. rw (c.end_at.ensures, ← index) (tracks_accepted p m h c.in-Some.stage next ends);
+      refused = λ why. elim why [
+        | inl never ↦ absurd cc
+        | inr open_end ↦ tracks_rejected p m h (ap (λ o. option_map_or may_end o false) next ∙ open_end)
+      ];
+    }
 
-pub returns-in-Some-clause-read : goal.returns-in-Some-clause-read
-returns-in-Some-clause-read c = λ p index h yes_on ends.
-    rw (c.end_at.ensures, ← index) (tracks_accepted p c.args.self.now c.in-Some.stage (sym c.next.ensures ∙ c.in-Some.is) ends h)
-
-pub returns-in-Some-clause-refused : goal.returns-in-Some-clause-refused
-returns-in-Some-clause-refused c = λ p index h why.
-    let next : next_by c.args.self.now.stage (classes_of_shape c.args.self.now.begun) ≡ _ = sym c.next.ensures ∙ c.in-Some.is in
-    elim why [
-      | inl never ↦ absurd cc
-      | inr open_end ↦ tracks_rejected p c.args.self.now (ap (λ o. option_map_or may_end o false) next ∙ open_end) h
-    ]
-
-pub returns-in-None-clause-goes_on : goal.returns-in-None-clause-goes_on
-returns-in-None-clause-goes_on c = λ p index h yes_on.
-    let first = c.is_start.ensures.0 c.if-is_start.true in
-    let mark : (classes_of_shape c.args.self.now.begun).mark ≡ true = sym c.is_mark.ensures ∙ c.if-is_mark.true in
-    record { reads = rw c.empty-self.ensures (tracks_marked p c.args.self.now first mark h).reads }
-
-pub returns-in-None-clause-refused : goal.returns-in-None-clause-refused
-returns-in-None-clause-refused c = λ p index h why.
-    let next : next_by c.args.self.now.stage (classes_of_shape c.args.self.now.begun) ≡ None = sym c.next.ensures ∙ c.in-None.is in
-    tracks_rejected p c.args.self.now (ap (λ o. option_map_or may_end o false) next) h
-
-pub returns-in-None-2-clause-stops : goal.returns-in-None-2-clause-stops
-returns-in-None-2-clause-stops c = λ p index h no_on.
-    tracks_refused p c.args.self.now (sym c.next.ensures ∙ c.in-None.is)
-    (λ first. sym c.is_mark.ensures ∙ c.if-is_mark.false) h
-
-pub returns-in-None-2-clause-refused : goal.returns-in-None-2-clause-refused
-returns-in-None-2-clause-refused c = λ p index h why.
-    let next : next_by c.args.self.now.stage (classes_of_shape c.args.self.now.begun) ≡ None = sym c.next.ensures ∙ c.in-None.is in
-    tracks_rejected p c.args.self.now (ap (λ o. option_map_or may_end o false) next) h
-
-pub returns-in-None-2-2-clause-stops : goal.returns-in-None-2-2-clause-stops
-returns-in-None-2-2-clause-stops c = λ p index h no_on.
-    tracks_refused p c.args.self.now (sym c.next.ensures ∙ c.in-None.is)
-    (λ first. let is_first : c.is_start.result ≡ true = c.is_start.ensures.1 first in let other : c.is_start.result ≡ false = c.if-is_start.false in absurd cc) h
-
-pub returns-in-None-2-2-clause-refused : goal.returns-in-None-2-2-clause-refused
-returns-in-None-2-2-clause-refused c = λ p index h why.
-    let next : next_by c.args.self.now.stage (classes_of_shape c.args.self.now.begun) ≡ None = sym c.next.ensures ∙ c.in-None.is in
-    tracks_rejected p c.args.self.now (ap (λ o. option_map_or may_end o false) next) h
+pub returns-in-None-clause-ended : goal.returns-in-None-clause-ended
+returns-in-None-clause-ended c = λ p index h.
+    let m = c.args.self.now in
+    let next : after_by m.stage (classes_of_shape m.begun) ≡ None = sym c.next.ensures ∙ c.in-None.is in
+    record {
+      goes = λ yes_on. absurd cc;
+      some = λ yes_on. absurd cc;
+      stops = λ no_on. tracks_refused p m h next;
+      read = λ yes_on. absurd cc;
+      refused = λ why. tracks_rejected p m h (ap (λ o. option_map_or may_end o false) next);
+    }

@@ -1,0 +1,138 @@
+-- What the stages find of a text is what it is: a normal tag with the ends of its parts, a private use tag, or neither.
+use Rattle.std.proofs.Common.{◌≡◌, ℕ, ◌&&◌, Bool, true, false, cond, leb, List, [], ◌∷◌, length, Some, None, refl, sym, ap, subst, ◌∙◌}
+use Rattle.std.specs.Prelude.{Option, MatchOption}
+use Rattle.std.specs.Option.{option_map_or}
+use Rattle.std.proofs.lemmas.Bool.{both_ways}
+use Rattle.langtag_scan.specs.Class.{is_primary, is_mark, is_private_subtag}
+use Rattle.langtag_scan.specs.Ends.{HasEnds}
+use Rattle.langtag_scan.specs.Found.{IsFoundOf}
+use Rattle.langtag_scan.specs.Machine.{all_at, end_at, index_after, ends_after, found_by, outcome, outcome_of, IsRefused}
+use Rattle.langtag_scan.specs.Record.{flat}
+use Rattle.langtag_scan.specs.Stage.{is_one, next_stage, may_end, runs}
+use Rattle.langtag_scan.specs.Subtags.{segments}
+use Rattle.langtag_scan.specs.Tag.{IsNormal}
+use Rattle.langtag_scan.specs.declared.ends.Ends.{Ends}
+use Rattle.langtag_scan.specs.declared.finding.Finding.{Finding}
+use Rattle.langtag_scan.specs.declared.finding.Finding.TheVariants.{Normal, PrivateUse}
+use Rattle.langtag_scan.specs.declared.stage.Stage.{Stage}
+use Rattle.langtag_scan.specs.declared.stage.Stage.TheVariants.{Start, Language, InPrivate, AfterMark, AfterFirstMark, InPrivateTag}
+use Rattle.langtag_scan.proofs.EndsLaw.{ends_after-flat}
+use Rattle.langtag_scan.proofs.NormalTexts.{normal_from_runs, runs_from_normal, spelled_segments}
+use Rattle.langtag_scan.proofs.PrivateTexts.{runs_private, runs_from_private, private_from_runs, one_no_primary}
+use Rattle.langtag_scan.proofs.Running.{runs-cons, first_of}
+use Rattle.langtag_scan.proofs.StageLaws.{is_outside, next_inside, after-inside}
+
+-- ---- what is found, by the rule that the subtags follow
+
+-- where a rule finds this
+abbrev found_if : Bool → Finding → Option Finding
+found_if run f = cond run (Some f) None
+
+found-inside : (stage : Stage) (e : Ends) → is_outside stage ≡ false → found_by stage e ≡ Normal e
+unfolding is_outside
+found-inside InPrivateTag e inside = absurd cc
+found-inside _ e inside = refl
+
+one_more :
+    (found : Stage → Option Finding) (run : Stage → Bool) (ends : Stage → Ends) (e : Ends) (o : Option Stage) →
+    ((after : Stage) → o ≡ Some after → found after ≡ found_if (run after) (Normal (ends after))) →
+    option_map_or found o None ≡ found_if (option_map_or run o false) (Normal (option_map_or ends o e))
+one_more found run ends e None same = refl
+one_more found run ends e (Some after) same = same after refl
+
+-- a normal tag that has begun
+normal_outcome :
+    (ss : List (List ℕ)) (stage : Stage) (e : Ends) → is_outside stage ≡ false →
+    outcome stage e ss ≡ found_if (runs stage ss) (Normal (ends_after stage e ss))
+unfolding outcome runs ends_after
+normal_outcome [] stage e inside = ap (found_if (may_end stage)) (found-inside stage e inside)
+normal_outcome (s ∷ ss) stage e inside =
+    ap (λ o. option_map_or (λ after. outcome after (end_at after (index_after stage e s) e) ss) o None) (after-inside stage s inside)
+    ∙ one_more (λ after. outcome after (end_at after (index_after stage e s) e) ss) (λ after. runs after ss) (λ after. ends_after after (end_at after (index_after stage e s) e) ss) e (next_stage stage s)
+    (λ after at. normal_outcome ss after (end_at after (index_after stage e s) e) (next_inside stage after s at))
+
+-- a private use tag after its mark
+by_private :
+    (v : Bool) (found : Stage → Option Finding) (run : Stage → Bool) → found InPrivateTag ≡ found_if (run InPrivate) PrivateUse →
+    option_map_or found (cond v (Some InPrivateTag) None) None ≡ found_if (option_map_or run (cond v (Some InPrivate) None) false) PrivateUse
+by_private true found run same = same
+by_private false found run same = refl
+
+private_outcome : (ss : List (List ℕ)) (e : Ends) → outcome InPrivateTag e ss ≡ found_if (runs InPrivate ss) PrivateUse
+unfolding outcome runs
+private_outcome [] e = refl
+private_outcome (s ∷ ss) e =
+    by_private (is_private_subtag s) (λ after. outcome after (end_at after (index_after InPrivateTag e s) e) ss) (λ after. runs after ss)
+    (private_outcome ss (end_at InPrivateTag (index_after InPrivateTag e s) e))
+
+marked_outcome : (ss : List (List ℕ)) (e : Ends) → outcome AfterFirstMark e ss ≡ found_if (runs AfterMark ss) PrivateUse
+unfolding outcome runs
+marked_outcome [] e = refl
+marked_outcome (s ∷ ss) e =
+    by_private (is_private_subtag s) (λ after. outcome after (end_at after (index_after AfterFirstMark e s) e) ss) (λ after. runs after ss)
+    (private_outcome ss (end_at InPrivateTag (index_after AfterFirstMark e s) e))
+
+-- ---- the whole text: its first subtag says which rule it follows
+
+primary_outcome :
+    (s : List ℕ) (ss : List (List ℕ)) (e : Ends) → is_primary s ≡ true →
+    outcome Start e (s ∷ ss) ≡ found_if (runs Start (s ∷ ss)) (Normal (ends_after Start e (s ∷ ss)))
+unfolding outcome runs ends_after is_outside
+primary_outcome s ss e primary = rw primary (normal_outcome ss (Language (cond (leb (length s) 3) 0 3)) _ refl)
+
+other_outcome :
+    (s : List ℕ) (ss : List (List ℕ)) (e : Ends) → is_primary s ≡ false → outcome Start e (s ∷ ss) ≡ found_if (runs_private (s ∷ ss)) PrivateUse
+unfolding outcome
+other_outcome s ss e other = rw other (by_mark (is_one is_mark s))
+  where
+    by_mark :
+        (v : Bool) →
+        option_map_or (λ after. outcome after (end_at after (index_after Start e s) e) ss) (cond v (Some AfterFirstMark) None) None ≡ found_if (v && runs AfterMark ss) PrivateUse
+    by_mark true = marked_outcome ss (end_at AfterFirstMark (index_after Start e s) e)
+    by_mark false = refl
+
+-- ---- what the rules say of the text
+
+-- where a normal tag may end, the ends are those of the record
+found_with : (t : List ℕ) → IsNormal t → IsFoundOf t (Normal (ends_after Start (all_at 0) (segments t)))
+unfolding IsNormal HasEnds
+found_with t n =
+    let same : flat n.0 ≡ segments t = sym (spelled_segments n.0 n.1.0) ∙ ap segments n.1.1 in
+    (n.0, n.1, ap (ends_after Start (all_at 0)) (sym same) ∙ ends_after-flat n.0 n.1.0)
+
+primary_unmarked : (s : List ℕ) → is_primary s ≡ true → is_one is_mark s ≡ false
+primary_unmarked [] h = refl
+primary_unmarked (m ∷ []) h = let none : is_primary (m ∷ []) ≡ false = one_no_primary m in absurd cc
+primary_unmarked (m ∷ c ∷ s) h = refl
+
+-- what was found of a text is all that it is, irregular texts left aside
+abbrev pub Decides : List ℕ → Option Finding → Type 0
+Decides t found = MatchOption found (IsRefused t) (λ f. IsFoundOf t f)
+
+by_run : (t : List ℕ) (run : Bool) (f : Finding) → (run ≡ true → IsFoundOf t f) → (run ≡ false → IsRefused t) → Decides t (found_if run f)
+by_run t true f found refused = found refl
+by_run t false f found refused = refused refl
+
+neither : (t : List ℕ) → runs Start (segments t) ≡ false → runs_private (segments t) ≡ false → IsRefused t
+neither t normal private = record {
+  not_normal = λ n. both_ways (runs Start (segments t)) normal (runs_from_normal t n);
+  not_private = λ p. both_ways (runs_private (segments t)) private (runs_from_private t p);
+}
+
+of_segments : (t s : List ℕ) (ss : List (List ℕ)) → segments t ≡ s ∷ ss → Decides t (outcome_of t)
+of_segments t s ss at = by_primary (is_primary s) refl
+  where
+    by_primary : (v : Bool) → is_primary s ≡ v → Decides t (outcome_of t)
+    by_primary true primary =
+        let unmarked : runs_private (s ∷ ss) ≡ false = rw (primary_unmarked s primary) refl in
+        let found : outcome_of t ≡ found_if (runs Start (segments t)) (Normal (ends_after Start (all_at 0) (segments t))) = rw at (primary_outcome s ss (all_at 0) primary) in
+        subst (Decides t) (sym found) (by_run t _ _ (λ run. found_with t (normal_from_runs t run)) (λ none. neither t none (ap runs_private at ∙ unmarked)))
+    by_primary false other =
+        let none : runs Start (s ∷ ss) ≡ false = runs-cons Start s ss ∙ rw other refl in
+        let found : outcome_of t ≡ found_if (runs_private (segments t)) PrivateUse = rw at (other_outcome s ss (all_at 0) other) in
+        subst (Decides t) (sym found) (by_run t _ _ (λ run. private_from_runs t run) (λ no_run. neither t (ap (runs Start) at ∙ none) no_run))
+
+-- ---- the law
+
+pub decided : (t : List ℕ) → Decides t (outcome_of t)
+decided t = let k = first_of t in of_segments t k.0 k.1 k.2
