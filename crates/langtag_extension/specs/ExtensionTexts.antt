@@ -1,5 +1,5 @@
 -- The walk over a text from one extension to the next: the text is cut before each subtag of one byte.
--- Only ghost fields and contracts of private functions cite this page.
+-- Ghost fields and contracts of private functions cite this page, and the one of langtag_c on the walk over extensions.
 use Rattle.std.specs.Prelude.{ℕ, Bool, true, ◌==◌, not, List, [], ◌∷◌, length, map, cond, Option}
 use Rattle.std.specs.Borrow.{Bor}
 use Rattle.langtag_scan.specs.Subtags.{join, subtags, segments_left}
