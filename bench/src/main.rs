@@ -1,6 +1,6 @@
 //! Times `recognise` on a file of tags beside plain loops over the same bytes, in one run.
 //!
-//! `bench FILE` times, `bench shapes COUNT` and `bench plain COUNT` write lists of tags, and `bench once ENTRY FILE` calls one
+//! `bench FILE` times, `bench shapes COUNT`, `bench middle COUNT` and `bench plain COUNT` write lists of tags, and `bench once ENTRY FILE` calls one
 //! entry once for each tag, for a tool that counts instructions. `bench variants COUNT ORDER` writes one tag of so many
 //! variants, and `bench growth FILE` times `repeated_variant` on the one tag of a file.
 
@@ -268,6 +268,12 @@ const PLAIN: [&str; 32] = [
     "ja-JP", "zh-CN", "zh-Hans-CN", "zh-Hant-TW", "sr-Latn-RS", "az-Cyrl",
 ];
 
+/// Tags of about seven bytes, most of them of two subtags or more.
+const MIDDLE: [&str; 14] = [
+    "en-US", "fr", "de-DE", "es-419", "zh-Hans-CN", "zh-Hant-TW", "sr-Latn-RS", "az-Cyrl-AZ", "pt-BR", "sl-rozaj",
+    "en-GB", "uz-Latn-UZ", "ja", "de-CH-1901",
+];
+
 /// Numbers that look random, the same in every run.
 struct Numbers(u64);
 
@@ -298,12 +304,12 @@ fn write_shapes(count: usize) -> std::io::Result<()> {
     out.flush()
 }
 
-/// Writes so many plain tags.
-fn write_plain(count: usize) -> std::io::Result<()> {
+/// Writes so many tags of a list.
+fn write_some(tags: &[&str], count: usize) -> std::io::Result<()> {
     let mut numbers = Numbers(1);
     let mut out = std::io::BufWriter::new(std::io::stdout());
     for _ in 0..count {
-        writeln!(out, "{}", PLAIN[numbers.next(PLAIN.len())])?;
+        writeln!(out, "{}", tags[numbers.next(tags.len())])?;
     }
     out.flush()
 }
@@ -335,14 +341,15 @@ fn main() -> std::io::Result<()> {
     let arguments: Vec<String> = std::env::args().skip(1).collect();
     match arguments.iter().map(String::as_str).collect::<Vec<_>>()[..] {
         ["shapes", count] => write_shapes(count.parse().expect("COUNT is a number")),
-        ["plain", count] => write_plain(count.parse().expect("COUNT is a number")),
+        ["middle", count] => write_some(&MIDDLE, count.parse().expect("COUNT is a number")),
+        ["plain", count] => write_some(&PLAIN, count.parse().expect("COUNT is a number")),
         ["variants", count, order] => write_variants(count.parse().expect("COUNT is a number"), order),
         ["once", entry, path] => once(entry, path),
         ["growth", path] => growth(path),
         [path] => time(path),
         _ => {
             eprintln!(
-                "usage: bench FILE | bench shapes COUNT | bench plain COUNT | bench variants COUNT ORDER | \
+                "usage: bench FILE | bench shapes|middle|plain COUNT | bench variants COUNT ORDER | \
                  bench growth FILE | bench once ENTRY FILE"
             );
             std::process::exit(2)

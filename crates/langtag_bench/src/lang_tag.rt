@@ -1,5 +1,6 @@
 //! A tag over a text, with all its parts asked for.
-ghost use Rattle.std.specs.Prelude.{◌≡◌, IsTrue, false};
+ghost use Rattle.std.specs.Prelude.{◌≡◌, ◌↔◌, IsTrue, false};
+ghost use Rattle.std.specs.Str.{IsUtf8};
 ghost use Rattle.langtag_scan.specs.Tag.{IsTag};
 
 use langtag::LangTag;
@@ -36,12 +37,9 @@ pub extern "C" fn langtag_bench_lang_tag(bytes: &[u8], lengths: &mut PartLengths
 /// Whether the bytes are UTF-8: what `langtag_bench_lang_tag` spends before it has a text.
 #[unsafe(no_mangle)]
 pub extern "C" fn langtag_bench_is_utf8(bytes: &[u8]) -> bool
-    ensures { IsTag bytes.now → IsTrue result }
+    ensures { IsTrue result ↔ IsUtf8 bytes.now }
 {
-    let Ok(_) = str::from_utf8(bytes) else {
-        return false;
-    };
-    true
+    str::from_utf8(bytes).is_ok()
 }
 
 /// Keeps the lengths of the parts of a tag.

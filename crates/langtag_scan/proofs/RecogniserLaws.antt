@@ -34,9 +34,6 @@ read_next t i b P Q within read step known =
 pub to_whole : (t : List ℕ) (i : ℕ) (P : List ℕ → Type 0) → ((p u : List ℕ) → P p → P (p ++ u)) → P (take i t) → P t
 to_whole t i P longer known = subst P (take-append-drop i t) (longer (take i t) (drop i t) known)
 
-pub tracks_whole : (t : List ℕ) (i : ℕ) (m : Machine) → length t ≤ i → Tracks (take i t) m → Tracks t m
-tracks_whole t i m end tracks = subst (λ p. Tracks p m) (take_all i t end) tracks
-
 -- ---- which prefixes are viable
 
 whole_viable : (t : List ℕ) (i : ℕ) → i ≡ length t → IsViable (take i t) → IsViable t

@@ -19,10 +19,6 @@ use Rattle.langtag_scan.proofs.SubtagFacts.{IsSubtag, no_hyphen_each, alphanumer
 use Rattle.langtag_scan.proofs.NormalTexts.{after_subtag}
 use Rattle.langtag_scan.proofs.StageLaws.{starting, held_later}
 
-pub runs-nil : (stage : Stage) → runs stage [] ≡ may_end stage
-unfolding runs
-runs-nil stage = refl
-
 pub runs-cons :
     (stage : Stage) (s : List ℕ) (ss : List (List ℕ)) →
     runs stage (s ∷ ss) ≡ option_map_or (λ after. runs after ss) (next_stage stage s) false

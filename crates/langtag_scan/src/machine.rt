@@ -1,9 +1,9 @@
 //! The machine that reads a text a subtag at a time and follows normal tags and private ones (RFC 5646 section 2.1).
-ghost use Rattle.std.specs.Prelude.{◌≡◌, ◌≤◌, ◌+◌, ◌^◌, ◌∷◌, [], ◌++◌, ◌⊎◌, max, take, List, ℕ, IsTrue, false, None, MatchOption, length};
+ghost use Rattle.std.specs.Prelude.{◌≡◌, ◌≤◌, ◌+◌, ◌^◌, [], max, take, List, ℕ, None, MatchOption, length};
 ghost use Rattle.langtag_scan.specs.Shape.{shape_of};
 ghost use Rattle.langtag_scan.specs.Found.{finding};
 ghost use Rattle.langtag_scan.specs.Stage.{may_end};
-ghost use Rattle.langtag_scan.specs.Machine.{HasStopped, IsRefused, found_by};
+ghost use Rattle.langtag_scan.specs.Machine.{found_by};
 
 use crate::class::{is_digit, is_letter};
 use crate::ends::Ends;
@@ -26,7 +26,7 @@ pub(crate) struct Machine {
 }
 
 impl Machine {
-    ghost use Rattle.langtag_scan.specs.Tracking.{Tracks, IsReadAs, IsKept, IsDecided, IsEnded, IsSubtagRead};
+    ghost use Rattle.langtag_scan.specs.Tracking.{Tracks, IsKept, IsDecided, IsEnded, IsSubtagRead};
 
     /// Before the first byte.
     pub(crate) fn new() -> Self

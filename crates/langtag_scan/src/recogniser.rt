@@ -1,5 +1,5 @@
 //! The recognisers: one pass over a source of bytes.
-ghost use Rattle.std.specs.Prelude.{◌≡◌, ◌↔◌, ◌⊎◌, ℕ, ◌<◌, ◌≤◌, ◌+◌, ◌^◌, max, List, [], ◌∷◌, length, take, IsTrue, MatchOption};
+ghost use Rattle.std.specs.Prelude.{◌≡◌, ◌↔◌, ◌⊎◌, ℕ, ◌≤◌, ◌+◌, ◌^◌, max, List, [], ◌∷◌, length, take, IsTrue, MatchOption};
 ghost use Rattle.langtag_scan.specs.Record.{Record, IsWellFormed, spell};
 ghost use Rattle.langtag_scan.specs.Tag.{IsNormal, IsPrivate, IsIrregularAt, IsIrregular, IsTag};
 ghost use Rattle.langtag_scan.specs.Viable.{IsStop, IsViable, IsIrregularPrefix, fill};
