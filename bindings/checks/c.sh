@@ -9,4 +9,4 @@ else
     not_run "C: the same by clang" "it is not there"
 fi
 check "C: random texts against a second reading, each at the edge of a page" \
-    with_make fuzz SECONDS="${FUZZ_SECONDS:-20}" SEED="${FUZZ_SEED:-1}" BUILD="$work/c"
+    with_make fuzz SECONDS="$FUZZ_SECONDS" SEED="$FUZZ_SEED" BUILD="$work/c"

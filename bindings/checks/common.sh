@@ -1,21 +1,33 @@
 # What the parts of bindings/check share.
 passed=0 failed=0
 
+limit=$((400 + 2 * FUZZ_SECONDS)) # seconds that a check may take; one of them runs random texts twice
+
 # check NAME COMMAND..: runs a command or a function, and shows what it said where it failed.
 check() {
-    local name=$1 begun=$SECONDS
+    local name=$1 begun=$SECONDS status
     shift
-    if timeout 400 bash -o pipefail -c '"$@"' check "$@" >"$work/log" 2>&1; then
+    timeout "$limit" bash -o pipefail -c '"$@"' check "$@" >"$work/log" 2>&1
+    status=$?
+    if [ $status = 0 ]; then
         passed=$((passed + 1))
         echo "passed: $name ($((SECONDS - begun)) s)"
-    else
-        failed=$((failed + 1))
-        echo "FAILED: $name: $*"
-        tail -40 "$work/log" | sed 's/^/    /'
+        return
     fi
+    failed=$((failed + 1))
+    echo "FAILED: $name: $*"
+    tail -40 "$work/log" | sed 's/^/    /'
+    if [ $status = 124 ]; then echo "    it was ended after $limit s"; fi
 }
 
 # not_run NAME REASON
 not_run() { echo "not run: $1: $2"; }
 
 has() { command -v "$1" >/dev/null; }
+
+# give_up REASON: nothing can be checked.
+give_up() {
+    echo "FAILED: $1"
+    echo "0 passed, 1 failed"
+    exit 1
+}

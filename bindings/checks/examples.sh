@@ -4,12 +4,12 @@ extension=
 
 negotiate() {
     cc $strict -g -fsanitize=address,undefined -I"$work/usr/include" examples/negotiate.c examples/accept_language.c \
-        "$work/usr/lib/liblangtag.a" -o "$work/built/negotiate"
+        "$work/usr/lib/liblangtag_verified.a" -o "$work/built/negotiate"
 }
 check "C: the HTTP example builds" negotiate
 
 sqlite_extension() {
-    cc $strict -fPIC -shared -I"$work/usr/include" examples/sqlite_langtag.c "$work/usr/lib/liblangtag.a" \
+    cc $strict -fPIC -shared -I"$work/usr/include" examples/sqlite_langtag.c "$work/usr/lib/liblangtag_verified.a" \
         -o "$work/built/sqlite_langtag.so"
 }
 if ! has sqlite3; then

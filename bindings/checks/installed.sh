@@ -12,28 +12,45 @@ check "C: the archive and the header alone" archive_alone
 module_alone() {
     mkdir "$work/python-alone" && cd "$work/python-alone" && cp "$archive" liblangtag_c.a || return 1
     cp "$here/python/langtag.py" "$here/examples/parts.py" . || return 1
-    cc -shared -Wl,--whole-archive liblangtag_c.a -Wl,--no-whole-archive -o liblangtag.so.1 || return 1
+    cc -shared -Wl,--whole-archive liblangtag_c.a -Wl,--no-whole-archive -o liblangtag_verified.so.1 || return 1
     python3 parts.py zh-Hant-TW | diff - <(wanted)
 }
 check "Python: the archive and the module alone" module_alone
 
 check "C: make install" with_make install PREFIX="$work/usr" BUILD="$work/c"
 PKG_CONFIG_PATH=$work/usr/lib/pkgconfig
-LANGTAG_LIBRARY=$work/usr/lib/liblangtag.so.1
+LANGTAG_LIBRARY=$work/usr/lib/liblangtag_verified.so.1
 
 flags() {
     if has pkg-config; then
-        pkg-config --cflags --libs langtag
+        pkg-config --cflags --libs langtag_verified
     else
-        echo "-I$work/usr/include -L$work/usr/lib -llangtag"
+        echo "-I$work/usr/include -L$work/usr/lib -llangtag_verified"
     fi
 }
-has pkg-config || not_run "C: langtag.pc" "there is no pkg-config"
+has pkg-config || not_run "C: langtag_verified.pc" "there is no pkg-config"
 
 # installed CFLAGS..
 installed() {
     cd "$work/empty" && cp "$here/examples/parts.c" . && cc "$@" parts.c $(flags) -o parts || return 1
     LD_LIBRARY_PATH=$work/usr/lib ./parts zh-Hant-TW | diff - <(wanted)
 }
-check "C: an example over the installed shared library" installed -O2
-check "C: an example over the installed static library" installed -O2 -static
+installed_shared() { installed -O2 && readelf -d parts | grep 'NEEDED.*liblangtag_verified\.so\.1'; }
+installed_static() { installed -O2 -static && ! readelf -d parts | grep NEEDED; }
+check "C: an example over the installed shared library" installed_shared
+check "C: an example over the installed static library" installed_static
+
+# Another archive, which is older than what was built of the first.
+another_archive() {
+    echo 'int surplus;' | cc -x c -c -o "$work/surplus.o" - && cp "$archive" "$work/another.a" || return 1
+    ar r "$work/another.a" "$work/surplus.o" && touch -d 2000-01-01 "$work/another.a" || return 1
+    make -s -C c install PREFIX="$work/another" ARCHIVE="$work/another.a" BUILD="$work/c" || return 1
+    cmp "$work/another.a" "$work/another/lib/liblangtag_verified.a"
+}
+check "C: make install of another archive" another_archive
+
+uninstalled() {
+    make -s -C c uninstall PREFIX="$work/another" BUILD="$work/c" || return 1
+    [ -z "$(find "$work/another" ! -type d -print)" ]
+}
+check "C: make uninstall leaves no file" uninstalled

@@ -1,11 +1,11 @@
 /*
  * Answers each request in the language that its Accept-Language header asks for: negotiate [PORT]
  *
- *     cc negotiate.c accept_language.c $(pkg-config --cflags --libs langtag) -o negotiate && ./negotiate 8080
+ *     cc negotiate.c accept_language.c $(pkg-config --cflags --libs langtag_verified) -o negotiate && ./negotiate 8080
  *     curl -H 'Accept-Language: fr;q=0.3, DE-ch-1996;q=0.9' localhost:8080
  *
- * It serves one request at a time, waits for it as long as that takes, and reads no more than 8 kB of it: an example of
- * the choice of a language, and no web server.
+ * It serves one request at a time, waits two seconds for each piece of it, and reads no more than 8 kB of it: an example
+ * of the choice of a language, and no web server.
  */
 #define _POSIX_C_SOURCE 200809L
 #include "accept_language.h"
@@ -16,6 +16,7 @@
 #include <string.h>
 #include <strings.h>
 #include <sys/socket.h>
+#include <sys/time.h>
 #include <unistd.h>
 
 static const char *const tags[] = {"en", "de", "de-CH", "fr", "zh-Hant"};
@@ -35,16 +36,26 @@ static const char *header(const char *request, const char *name, size_t *len) {
     return NULL;
 }
 
-static void answer(int connection) {
-    char request[8192], reply[512];
-    size_t got = 0, len, chosen = COUNT;
+/* Reads up to the empty line behind the headers, or what comes of it, and puts a NUL behind it. A request with a NUL of
+ * its own is taken for an empty one. */
+static void receive(int connection, char *request, size_t room) {
+    static const struct timeval patience = {2, 0};
+    size_t got = 0;
     ssize_t more;
-    while (got < sizeof request - 1 && (more = read(connection, request + got, sizeof request - 1 - got)) > 0) {
+    request[0] = '\0';
+    if (setsockopt(connection, SOL_SOCKET, SO_RCVTIMEO, &patience, sizeof patience) != 0) return;
+    while (got < room - 1 && (more = read(connection, request + got, room - 1 - got)) > 0) {
         got += (size_t)more;
         request[got] = '\0';
-        if (strstr(request, "\r\n\r\n")) break;
+        if (strlen(request) < got) request[0] = '\0';
+        if (request[0] == '\0' || strstr(request, "\r\n\r\n")) return;
     }
-    request[got] = '\0';
+}
+
+static void answer(int connection) {
+    char request[8192], reply[512];
+    size_t len, chosen = COUNT;
+    receive(connection, request, sizeof request);
     const char *accept = header(request, "Accept-Language", &len);
     if (accept) chosen = choose_tag(accept, len, tags, COUNT);
     if (chosen == COUNT) chosen = DEFAULT;
@@ -60,7 +71,7 @@ int main(int argc, char **argv) {
     struct sockaddr_in address = {.sin_family = AF_INET,
                                   .sin_port = htons((unsigned short)atoi(argc > 1 ? argv[1] : "8080"))};
     socklen_t size = sizeof address;
-    int server = socket(AF_INET, SOCK_STREAM, 0), connection;
+    int server = socket(AF_INET, SOCK_STREAM, 0);
     address.sin_addr.s_addr = htonl(INADDR_LOOPBACK);
     if (server < 0 || bind(server, (struct sockaddr *)&address, size) != 0 || listen(server, 16) != 0 ||
         getsockname(server, (struct sockaddr *)&address, &size) != 0) {
@@ -69,9 +80,13 @@ int main(int argc, char **argv) {
     }
     printf("http://127.0.0.1:%d\n", ntohs(address.sin_port));
     fflush(stdout);
-    while ((connection = accept(server, NULL, NULL)) >= 0) {
+    for (;;) {
+        int connection = accept(server, NULL, NULL);
+        if (connection < 0) {
+            perror("accept");
+            continue;
+        }
         answer(connection);
         close(connection);
     }
-    return 1;
 }

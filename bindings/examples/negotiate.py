@@ -37,18 +37,22 @@ def accepted(header: str) -> list[Range]:
     return [range for _, range in weighted]
 
 
-def fallbacks(range: str) -> Iterator[str]:
-    """A range, and what is left of it when subtags are taken off its end (RFC 4647 section 3.4).
+def fallbacks(range: str, longest: int) -> Iterator[str]:
+    """A range, and what is left of it when subtags are taken off its end (RFC 4647 section 3.4); of these the ones of at most
+    some length, so that a long range takes no time by its square.
 
-    >>> list(fallbacks("zh-hant-cn-x-private1"))
+    >>> list(fallbacks("zh-hant-cn-x-private1", 100))
     ['zh-hant-cn-x-private1', 'zh-hant-cn', 'zh-hant', 'zh']
+    >>> list(fallbacks("zh-hant-x-a-b", 7))
+    ['zh-hant', 'zh']
     """
-    subtags = range.split("-")
-    while subtags:
-        yield "-".join(subtags)
-        subtags.pop()
-        if subtags and len(subtags[-1]) == 1:
-            subtags.pop()
+    end = len(range)
+    while end > 0:
+        if end <= longest:
+            yield range[:end]
+        end = range.rfind("-", 0, end)
+        while end > 1 and range[end - 2] == "-":
+            end -= 2
 
 
 def choose(header: str, tags: Iterable[Tag], default: Tag) -> Tag:
@@ -58,8 +62,9 @@ def choose(header: str, tags: Iterable[Tag], default: Tag) -> Tag:
     (Tag('de-CH'), Tag('en'))
     """
     folded = {tag.folded(): tag for tag in tags}
+    longest = max(map(len, folded), default=0)
     for range in accepted(header):
-        for text in fallbacks(str(range).lower()):
+        for text in fallbacks(str(range).lower(), longest):
             if text in folded:
                 return folded[text]
     return default

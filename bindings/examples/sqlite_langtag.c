@@ -1,7 +1,7 @@
 /*
  * A loadable extension for SQLite: the parts of language tags, and their order.
  *
- *     cc -O2 -fPIC -shared sqlite_langtag.c -o sqlite_langtag.so $(pkg-config --cflags --libs langtag)
+ *     cc -O2 -fPIC -shared sqlite_langtag.c -o sqlite_langtag.so $(pkg-config --cflags --libs langtag_verified)
  *     sqlite> .load ./sqlite_langtag
  *     sqlite> SELECT langtag_part('zh-Hant-TW', 'script');          -- Hant
  *     sqlite> SELECT * FROM texts WHERE tag = 'ZH-hant' COLLATE langtag;
@@ -42,7 +42,7 @@ static void part(sqlite3_context *context, int count, sqlite3_value **values) {
 
 static int compare(void *unused, int a_len, const void *a, int b_len, const void *b) {
     (void)unused;
-    return langtag_cmp(LANGTAG_BYTES(a), (size_t)a_len, LANGTAG_BYTES(b), (size_t)b_len);
+    return langtag_cmp(langtag_bytes(a), (size_t)a_len, langtag_bytes(b), (size_t)b_len);
 }
 
 int sqlite3_sqlitelangtag_init(sqlite3 *db, char **message, const sqlite3_api_routines *api) {

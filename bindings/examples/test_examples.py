@@ -3,11 +3,13 @@
 
 NEGOTIATE is the C program, built. Both servers get the same headers, and have to give the same answers.
 """
+import contextlib
 import doctest
 import http.client
-import sqlite3
+import socket
 import subprocess
 import sys
+import time
 import unittest
 
 import negotiate
@@ -43,23 +45,29 @@ def sqlite(statements):
     return run.stdout, run.stderr
 
 
-def answers(command):
-    """What a server says to each header."""
+@contextlib.contextmanager
+def serving(command):
+    """The port of a server, which runs meanwhile."""
     server = subprocess.Popen(command, stdout=subprocess.PIPE, stderr=subprocess.DEVNULL, text=True)
     try:
-        port = int(server.stdout.readline().rsplit(":", 1)[1])
-        found = []
+        yield int(server.stdout.readline().rsplit(":", 1)[1])
+    finally:
+        server.kill()
+        server.wait()
+        server.stdout.close()
+
+
+def answers(command):
+    """What a server says to each header."""
+    found = []
+    with serving(command) as port:
         for header, _ in HEADERS:
             connection = http.client.HTTPConnection("127.0.0.1", port, timeout=20)
             connection.request("GET", "/", headers={} if header is None else {"Accept-Language": header})
             response = connection.getresponse()
             found.append((response.status, response.headers["Content-Language"], response.read().decode()))
             connection.close()
-        return found
-    finally:
-        server.kill()
-        server.wait()
-        server.stdout.close()
+    return found
 
 
 class Examples(unittest.TestCase):
@@ -67,6 +75,18 @@ class Examples(unittest.TestCase):
         wanted = [(200, tag, negotiate.GREETINGS[negotiate.Tag(tag)] + "\n") for _, tag in HEADERS]
         self.assertEqual(answers([sys.executable, negotiate.__file__, "0"]), wanted)
         self.assertEqual(answers([NEGOTIATE, "0"]), wanted)
+
+    def test_a_long_header(self):
+        begun = time.monotonic()
+        for header in ("ab-" * 21_000 + "ab", "a-" * 32_000 + "b", "de-CH," * 10_000):
+            negotiate.choose(header, negotiate.GREETINGS, negotiate.DEFAULT)
+        self.assertLess(time.monotonic() - begun, 2)
+
+    def test_who_waits_and_who_sends_a_nul(self):
+        with serving([NEGOTIATE, "0"]) as port, socket.create_connection(("127.0.0.1", port)):  # which sends nothing
+            with socket.create_connection(("127.0.0.1", port), timeout=20) as client:
+                client.sendall(b"GET / HTTP/1.1\r\nAccept-Language: de\0\r\nAccept-Language: fr\r\n\r\n")
+                self.assertIn(b"Content-Language: en\r\n", client.makefile("rb").read())
 
     def test_sqlite(self):
         if not EXTENSION:

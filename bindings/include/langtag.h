@@ -11,7 +11,7 @@
  *      The length is at most PTRDIFF_MAX. Any bytes are allowed: they need not be text, UTF-8 or NUL terminated, and
  *      NUL is a byte like another.
  *   2. A pointer to bytes is never NULL, not even where the length is 0: there any other pointer will do, as "".
- *      (LANGTAG_BYTES makes one.)
+ *      (langtag_bytes makes one.)
  *   3. A pointer to a struct is not NULL, aligned for its type, and points to writable memory of its size. It may be
  *      uninitialised where the comment says "out".
  *   4. What is written by a call (an out struct, `rest`, the bytes of langtag_fold and langtag_recommend) overlaps
@@ -44,10 +44,16 @@ extern "C" {
 #endif
 
 /* A pointer that is fit to be handed over with a length, for a caller who keeps an empty text as NULL. */
-#define LANGTAG_BYTES(pointer) ((pointer) ? (const char *)(pointer) : "")
+static inline const char *langtag_bytes(const void *pointer) {
+#ifdef __cplusplus
+    return pointer ? static_cast<const char *>(pointer) : "";
+#else
+    return pointer ? (const char *)pointer : "";
+#endif
+}
 
 /* What a text is. The regular grandfathered tags, as zh-min-nan, are normal. */
-enum langtag_kind {
+enum langtag_tag_kind {
     LANGTAG_NONE = 0,        /* no language tag */
     LANGTAG_NORMAL = 1,      /* rule langtag: zh-Hant-TW */
     LANGTAG_PRIVATE_USE = 2, /* rule privateuse: x-fr-CH */
@@ -71,7 +77,7 @@ typedef struct langtag_parts {
 } langtag_parts;
 
 /*
- * Decides what the bytes are (RFC 5646 section 2.1), answers an enum langtag_kind, and writes where the parts stand
+ * Decides what the bytes are (RFC 5646 section 2.1), answers an enum langtag_tag_kind, and writes where the parts stand
  * (out), whatever the answer.
  *
  * Each span lies within the text. A part that is absent has the length 0, and of a normal tag stands where the part

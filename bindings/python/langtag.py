@@ -24,7 +24,7 @@ import functools
 import os
 import pathlib
 from ctypes import POINTER, c_bool, c_char, c_char_p, c_int32, c_size_t, c_uint32, c_uint64
-from typing import Any, Callable, Iterator, Union
+from typing import Any, Callable, ClassVar, Iterator, Union
 
 __all__ = ["GRANDFATHERED", "InvalidRange", "InvalidTag", "Kind", "Range", "Tag", "kind", "parse", "stop", "viable"]
 __version__ = "0.1.0"
@@ -81,17 +81,17 @@ _FUNCTIONS: dict[str, tuple[Any, ...]] = {
 
 def _open() -> ctypes.CDLL:
     """LANGTAG_LIBRARY names the library; else it stands where a wheel puts it, beside this file, or where the system looks."""
-    name = "liblangtag.so.1"
+    name = "liblangtag_verified.so.1"
     here = pathlib.Path(__file__).resolve().parent
     beside = [path for path in (here / "langtag.libs" / name, here / name) if path.is_file()]
     path = os.environ.get("LANGTAG_LIBRARY") or str(beside[0] if beside else name)
     try:
         library = ctypes.CDLL(path)
-    except OSError as error:
+        for function, (result, *parameters) in _FUNCTIONS.items():
+            found = getattr(library, function)
+            found.restype, found.argtypes = result, parameters
+    except (OSError, AttributeError) as error:  # the latter where it is another library
         raise ImportError(f"{error}: install {name}, put it beside {__file__}, or name it by LANGTAG_LIBRARY") from error
-    for function, (result, *parameters) in _FUNCTIONS.items():
-        found = getattr(library, function)
-        found.restype, found.argtypes = result, parameters
     return library
 
 
@@ -99,10 +99,11 @@ _c = _open()
 
 
 def _bytes(text: Text) -> bytes:
+    """Bytes of type bytes itself: a subclass of str or bytes may have an encode or a length of its own."""
     if isinstance(text, str):
-        return text.encode("utf-8", "surrogatepass")  # a lone surrogate becomes bytes that no tag has
+        return str.encode(text, "utf-8", "surrogatepass")  # a lone surrogate becomes bytes that no tag has
     if isinstance(text, bytes):
-        return text
+        return text if type(text) is bytes else bytes(memoryview(text))
     raise TypeError(f"a text is str or bytes, and not {type(text).__name__}")
 
 
@@ -152,13 +153,13 @@ def kind(text: Text) -> Kind | None:
 def viable(text: Text) -> int:
     """The length of the longest prefix that some tag begins with, in bytes."""
     data = _bytes(text)
-    return _c.langtag_viable(data, len(data))
+    return int(_c.langtag_viable(data, len(data)))
 
 
 def stop(text: Text) -> int:
     """The length of the shortest prefix that no tag begins with, or of the whole text where there is none, in bytes."""
     data = _bytes(text)
-    return _c.langtag_stop(data, len(data))
+    return int(_c.langtag_stop(data, len(data)))
 
 
 class _Caseless:
@@ -167,16 +168,17 @@ class _Caseless:
 
     __slots__ = ("_data",)
     _data: bytes
+    _base: ClassVar[type[_Caseless]]  # Tag or Range: of one, all are compared, and with nothing else
 
     def __eq__(self, other: object) -> bool:
-        if not isinstance(other, type(self)):
+        if not isinstance(other, self._base):
             return NotImplemented
-        return _c.langtag_eq(self._data, len(self._data), other._data, len(other._data))
+        return bool(_c.langtag_eq(self._data, len(self._data), other._data, len(other._data)))
 
     def __lt__(self, other: object) -> bool:
-        if not isinstance(other, type(self)):
+        if not isinstance(other, self._base):
             return NotImplemented
-        return _c.langtag_cmp(self._data, len(self._data), other._data, len(other._data)) < 0
+        return int(_c.langtag_cmp(self._data, len(self._data), other._data, len(other._data))) < 0
 
     def __hash__(self) -> int:
         return hash(self._data.lower())  # of bytes, lower() is that of ASCII; the hash is keyed, as all of Python are
@@ -273,7 +275,7 @@ class Tag(_Caseless):
     @property
     def grandfathered(self) -> str | None:
         """Which of GRANDFATHERED it is, in any case."""
-        index = _c.langtag_grandfathered(self._data, len(self._data))
+        index = int(_c.langtag_grandfathered(self._data, len(self._data)))
         return GRANDFATHERED[index] if index < len(GRANDFATHERED) else None
 
     def _repeated(self) -> _Repeated:
@@ -306,7 +308,10 @@ class Tag(_Caseless):
     def fnv1a(self) -> int:
         """FNV-1a of 64 bits over the folded text: the same number in every program and at every time. It does not withstand
         whoever picks the tags; hash() does."""
-        return _c.langtag_hash(0xCBF29CE484222325, self._data, len(self._data))
+        return int(_c.langtag_hash(0xCBF29CE484222325, self._data, len(self._data)))
+
+
+Tag._base = Tag
 
 
 def _changed(change: Callable[..., None], data: bytes) -> bytes:
@@ -319,6 +324,12 @@ def _changed(change: Callable[..., None], data: bytes) -> bytes:
 def parse(text: Text) -> Tag:
     """The tag of a text; InvalidTag where it is none."""
     return Tag(text)
+
+
+def _bytes_of_tag(tag: Tag) -> bytes:
+    if isinstance(tag, Tag):
+        return tag._data
+    raise TypeError(f"a range matches a Tag, and no {type(tag).__name__}")
 
 
 @functools.total_ordering
@@ -336,7 +347,7 @@ class Range(_Caseless):
         found = _c.langtag_range_kind(data, len(data))
         if not found:
             raise InvalidRange(text)
-        self._data, self._is_basic = data, found == 1
+        self._data, self._is_basic = data, bool(found == 1)
 
     @property
     def is_basic(self) -> bool:
@@ -345,8 +356,13 @@ class Range(_Caseless):
 
     def matches(self, tag: Tag) -> bool:
         """Whether it matches a tag by extended filtering (section 3.3.2): de-DE matches de-Latn-DE."""
-        return _c.langtag_matches_extended(self._data, len(self._data), tag._data, len(tag._data))
+        data = _bytes_of_tag(tag)
+        return bool(_c.langtag_matches_extended(self._data, len(self._data), data, len(data)))
 
     def matches_basic(self, tag: Tag) -> bool:
         """Whether it matches a tag by basic filtering (section 3.3.1): de-DE matches de-DE-1996, and not de-Latn-DE."""
-        return _c.langtag_matches_basic(self._data, len(self._data), tag._data, len(tag._data))
+        data = _bytes_of_tag(tag)
+        return bool(_c.langtag_matches_basic(self._data, len(self._data), data, len(data)))
+
+
+Range._base = Range

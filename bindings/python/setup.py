@@ -11,7 +11,7 @@ try:
 except ImportError:
     from wheel.bdist_wheel import bdist_wheel
 
-NAME = "liblangtag.so.1"
+NAME = "liblangtag_verified.so.1"
 HERE = pathlib.Path(__file__).resolve().parent
 
 

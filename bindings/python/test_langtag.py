@@ -1,8 +1,11 @@
 """python3 -m unittest, in this folder."""
 import copy
 import doctest
+import os
 import pickle
 import random
+import subprocess
+import sys
 import unittest
 
 import langtag
@@ -53,6 +56,21 @@ class Kinds(unittest.TestCase):
             with self.assertRaises(TypeError):
                 parse(value)
 
+    def test_subclasses_of_texts(self):
+        class Short(bytes):
+            __len__ = lambda self: 1
+
+        class Long(bytes):
+            __len__ = lambda self: 1000
+
+        class Odd(str):
+            def encode(self, *_):
+                return b"x-a"
+
+        for text in (Short(b"zh-Hant"), Long(b"zh-Hant"), Odd("zh-Hant")):
+            self.assertEqual((str(parse(text)), kind(text), viable(text), stop(text)), ("zh-Hant", Kind.NORMAL, 7, 7))
+            self.assertEqual(str(Range(text)), "zh-Hant")
+
     def test_where_a_text_goes_wrong(self):
         self.assertEqual((viable("i-no"), stop("i-no"), viable("en-"), stop("en-")), (3, 4, 3, 3))
         self.assertEqual(str(InvalidTag("en-")), "'en-' is no language tag: it ends too soon")
@@ -73,6 +91,17 @@ class Values(unittest.TestCase):
         self.assertNotEqual(parse("zh"), "zh")
         self.assertNotEqual(parse("zh"), Range("zh"))
         self.assertEqual(Range("DE-*"), Range("de-*"))
+
+    def test_subclasses(self):
+        class One(Tag):
+            pass
+
+        class Two(Tag):
+            pass
+
+        self.assertEqual({One("de"), Two("DE"), Tag("De")}, {Tag("de")})
+        self.assertTrue(One("de") == Two("DE") and One("de") < Two("en") and Tag("en") > One("de"))
+        self.assertNotEqual(One("de"), Range("de"))
 
     def test_order(self):
         texts = [str(tag) for tag in sorted(map(parse, ("zh", "ZH-Latn", "en", "EN-us")))]
@@ -110,6 +139,22 @@ class Ranges(unittest.TestCase):
         self.assertEqual(matches("de-*-DE", "de-Latn-DE"), (False, True))
         self.assertEqual(matches("de-DE", "de-x-DE"), (False, False))
         self.assertEqual(matches("*", "x-mine"), (True, True))
+
+    def test_matching_of_no_tag(self):
+        for value in ("de", b"de", None, Range("de")):
+            with self.assertRaises(TypeError):
+                Range("de").matches(value)
+            with self.assertRaises(TypeError):
+                Range("de").matches_basic(value)
+
+
+class Library(unittest.TestCase):
+    def test_that_is_not_there_or_another(self):
+        for path in ("/nowhere/liblangtag_verified.so.1", "libc.so.6", __file__):
+            run = subprocess.run([sys.executable, "-c", "import langtag"], capture_output=True, text=True,
+                                 env={**os.environ, "LANGTAG_LIBRARY": path})
+            self.assertIn("ImportError", run.stderr.splitlines()[-1])
+            self.assertIn("LANGTAG_LIBRARY", run.stderr)
 
 
 def load_tests(loader, tests, ignore):

@@ -111,7 +111,10 @@ int main(void) {
     for (size_t k = 0; k < sizeof functions / sizeof *functions; k++) {
         size_t bytes = deepest(functions[k].call) - own;
         printf("%-26s %7zu\n", functions[k].name, bytes);
-        if (bytes > functions[k].most) failed = printf("that is more than %zu\n", functions[k].most);
+        if (bytes > functions[k].most) {
+            printf("that is more than %zu\n", functions[k].most);
+            failed = 1;
+        }
     }
-    return failed != 0;
+    return failed;
 }

@@ -36,7 +36,7 @@ static void edges(void) {
     CHECK(parse(TEXT("")) == LANGTAG_NONE && all_are_zero());
     CHECK(parse((const char *)1, 0) == LANGTAG_NONE); /* no byte is read */
     CHECK(langtag_kind((const char *)(size_t)-1, 0) == LANGTAG_NONE);
-    CHECK(langtag_kind(LANGTAG_BYTES((const char *)NULL), 0) == LANGTAG_NONE);
+    CHECK(langtag_kind(langtag_bytes(NULL), 0) == LANGTAG_NONE);
     CHECK(langtag_kind(TEXT("en\0")) == LANGTAG_NONE && langtag_kind(TEXT("en\xff")) == LANGTAG_NONE);
 }
 
