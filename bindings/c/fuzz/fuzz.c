@@ -1,24 +1,41 @@
 /*
  * fuzz SECONDS SEED: random texts through each function of langtag.h, beside the second reading of the two RFCs
  * (reading.h). Each text stands at the edge of a page that nobody may touch. It stops at the first difference, with
- * status 1.
+ * status 1, and says, as it does where it crashes, which texts these were: the same seed makes the same texts. The
+ * status is 1 too where one of the four kinds did not come up.
  */
 #include "generate.h"
 #include "pages.h"
 #include "reading.h"
 
 #include <langtag.h>
+#include <signal.h>
 #include <stdio.h>
 #include <stdlib.h>
 #include <string.h>
 #include <time.h>
 
-static slice looked_at; /* for the message where something differs */
+/* What is looked at, for the message where something differs. */
+static unsigned long long chosen_seed, number;
+static slice looked_at, looked_at_beside, looked_at_range;
+
+static void show(const char *name, slice text) {
+    printf("%s \"", name);
+    for (size_t k = 0; k < text.len; k++) printf("\\x%02x", (unsigned char)text.at[k]);
+    puts("\"");
+}
+
+static void show_all(void) {
+    printf("seed %llu, text %llu\n", chosen_seed, number);
+    show("text", looked_at);
+    show("neighbour", looked_at_beside);
+    show("range", looked_at_range);
+    fflush(stdout);
+}
 
 static void differs(const char *what, int line) {
-    printf("fuzz.c:%d: differs: %s, on \"", line, what);
-    for (size_t k = 0; k < looked_at.len; k++) printf("\\x%02x", (unsigned char)looked_at.at[k]);
-    puts("\"");
+    printf("fuzz.c:%d: differs: %s\n", line, what);
+    show_all();
     exit(1);
 }
 #define SAME(test) ((test) ? (void)0 : differs(#test, __LINE__))
@@ -153,6 +170,8 @@ static unsigned check_one(pages here, pages there) {
     bool at_the_end = below(2);
     char *bytes = place(here, text, len, at_the_end);
     looked_at = (slice){text, len};
+    looked_at_beside = (slice){other, other_len};
+    looked_at_range = (slice){range, range_len};
     slice placed = {bytes, len}, neighbour = {place(there, other, other_len, at_the_end), other_len};
     langtag_parts parts = check_parse(placed);
     check_viable(placed);
@@ -173,14 +192,35 @@ static double now(void) {
     return (double)time.tv_sec + 1e-9 * (double)time.tv_nsec;
 }
 
+/* Signals of a crash, and who was told of each before: a sanitizer, or the system. */
+static const int crashes[] = {SIGSEGV, SIGBUS, SIGILL, SIGFPE, SIGABRT};
+enum { CRASHES = sizeof crashes / sizeof *crashes };
+static struct sigaction told_before[CRASHES];
+
+/* Shows the texts, and lets the crash happen again. */
+static void crashed(int signal) {
+    printf("crashed by signal %d\n", signal);
+    show_all();
+    for (int k = 0; k < CRASHES; k++) sigaction(crashes[k], &told_before[k], NULL);
+    if (signal == SIGABRT) raise(signal);
+}
+
+static void watch_for_crashes(void) {
+    struct sigaction action = {.sa_handler = crashed};
+    for (int k = 0; k < CRASHES; k++) sigaction(crashes[k], &action, &told_before[k]);
+}
+
 int main(int argc, char **argv) {
     pages here, there;
     double end = now() + (argc > 1 ? atof(argv[1]) : 10);
-    unsigned long long texts = 0, kinds[4] = {0};
-    seed(argc > 2 ? strtoull(argv[2], NULL, 10) : 1);
+    unsigned long long kinds[4] = {0};
+    seed(chosen_seed = argc > 2 ? strtoull(argv[2], NULL, 10) : 1);
     if (!open_pages(&here) || !open_pages(&there)) return puts("no pages to be had"), 2;
-    for (; texts % 256 != 0 || now() < end; texts++) kinds[check_one(here, there) & 3]++;
-    printf("%llu texts: %llu none, %llu normal, %llu private use, %llu irregular; no difference\n", texts, kinds[0],
+    watch_for_crashes();
+    for (; number % 256 != 0 || now() < end; number++) kinds[check_one(here, there) & 3]++;
+    printf("%llu texts: %llu none, %llu normal, %llu private use, %llu irregular; no difference\n", number, kinds[0],
            kinds[1], kinds[2], kinds[3]);
+    for (int k = 0; k < 4; k++)
+        if (kinds[k] == 0) return puts("one of the kinds did not come up"), 1;
     return 0;
 }

@@ -85,14 +85,26 @@ static size_t normal_tag(char *into) {
     return len;
 }
 
+/* A grandfathered tag, at times with one byte changed or with a subtag behind it. */
+static size_t grandfathered_tag(char into[ROOM]) {
+    const char *tag = grandfathered[below(GRANDFATHERED)];
+    size_t len = strlen(tag);
+    memcpy(into, tag, len);
+    if (below(4) == 0) into[below((uint32_t)len)] = "-x1aZ"[below(5)];
+    PUT(4, "x-a", "a", "1996", "");
+    change_case(into, len, 4);
+    return len;
+}
+
 size_t make_text(char into[ROOM]) {
-    switch (below(12)) {
+    switch (below(13)) {
     case 0: return any_bytes(into);
     case 1: return bytes_of("abixeAXZ159---", into);
     case 2: return subtags_in_a_row(into, 60);
     case 3:
     case 4:
     case 5: return normal_tag(into);
+    case 6: return grandfathered_tag(into);
     default: return subtags_in_a_row(into, 8);
     }
 }

@@ -1,4 +1,4 @@
-/* Texts for the fuzzer: random bytes, bytes of tags, and subtags in a row. */
+/* Texts for the fuzzer: random bytes, bytes of tags, subtags in a row, and grandfathered tags. */
 #ifndef GENERATE_H
 #define GENERATE_H
 
