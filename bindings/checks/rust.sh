@@ -8,6 +8,9 @@ if ! has cargo; then
     return 0
 fi
 
+# As docs/BINDINGS.md says it of the three lines with `serde`.
+take_out_serde() { sed -i -e 's|^alloc = .*|alloc = []|' -e '/^serde = /d' "$1"; }
+
 # serde comes of a folder of sources, or of crates.io; else the feature is taken out of the copy.
 if ls "$registry"/serde-1.* >/dev/null 2>&1; then
     mkdir .cargo
@@ -21,9 +24,7 @@ offline = true
 END
 elif ! (cd rust && timeout 60 cargo fetch -q) >/dev/null 2>&1; then
     not_run "Rust: the feature serde" "its source is not in $registry, and crates.io cannot be reached"
-    sed -i -e 's|"serde?/alloc"||' -e '/serde/d' rust/Cargo.toml
-    sed -i '/"serde"/,+1d' rust/src/lib.rs
-    rm rust/tests/serde.rs
+    take_out_serde rust/Cargo.toml
     CARGO_NET_OFFLINE=true
 fi
 
@@ -45,8 +46,31 @@ else
 fi
 check "Rust: documents" env RUSTDOCFLAGS=-Dwarnings cargo doc --manifest-path rust/Cargo.toml --no-deps --all-features
 
-says_what_is_missing() { (LANGTAG_LIB_DIR=$work/empty rust build 2>&1 || true) | grep 'there is no liblangtag_c.a in'; }
-check "Rust: clear words where there is no archive" says_what_is_missing
+# A crate without dependencies is built with no registry at all, and says nothing.
+without_serde() {
+    mkdir "$work/no-registry" && cp -r rust "$work/no-registry/rust" && cd "$work/no-registry/rust" || return 1
+    take_out_serde Cargo.toml && ! grep -n '^ *serde' Cargo.toml || return 1
+    CARGO_HOME=$work/no-registry/home RUSTFLAGS=-Dwarnings CARGO_TARGET_DIR=$work/no-registry/target \
+        cargo test -q --offline
+}
+check "Rust: with the three lines of serde taken out of its manifest" without_serde
+
+# refused WORDS CARGO_ARGUMENTS..: that the build script refuses it in such words.
+refused() {
+    local words=$1
+    shift
+    (rust build "$@" 2>&1 || true) | grep -- "$words"
+}
+no_archive() { LANGTAG_LIB_DIR=$work/empty refused 'there is no liblangtag_c.a in'; }
+relative_folder() { LANGTAG_LIB_DIR=lib refused 'has to be an absolute path'; }
+other_platforms() {
+    refused 'this target is aarch64' --target aarch64-unknown-linux-gnu &&
+        refused 'of 32 bits' --target x86_64-unknown-linux-gnux32 &&
+        refused '64 bits, windows' --target x86_64-pc-windows-gnu
+}
+check "Rust: clear words where there is no archive" no_archive
+check "Rust: clear words where LANGTAG_LIB_DIR is not absolute" relative_folder
+check "Rust: clear words on another platform" other_platforms
 
 program() {
     cargo new -q --vcs none tags && cd tags && cargo add -q --path ../rust || return 1

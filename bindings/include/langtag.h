@@ -124,8 +124,8 @@ void langtag_fold(char *bytes, size_t len);
 /*
  * Writes a text in the case that RFC 5646 section 2.1.1 recommends, in place: small letters, but for subtags of two
  * bytes, which get capitals (CH), and of four, which get one capital at their head (Latn), where they neither begin the
- * text nor stand after a subtag of one byte. The text may be any bytes. No tag changes in kind, in its parts or in
- * meaning by it.
+ * text nor stand after a subtag of one byte. The text may be any bytes. The new text equals the old one but for case; a
+ * tag stays one of its kind, with its parts where they were.
  */
 void langtag_recommend(char *bytes, size_t len);
 
@@ -160,6 +160,9 @@ enum langtag_repeat { LANGTAG_REPEATED_VARIANT = 1, LANGTAG_REPEATED_SINGLETON =
  * Whether a normal tag has a variant or a singleton twice: such a tag is well formed and not valid (RFC 5646
  * section 2.2.9). Answers the bits of enum langtag_repeat, 0 for what is no normal tag, and writes where the repeats
  * stand (out), whatever the answer.
+ *
+ * The time of all other calls grows with the length, and of this one with its square where there are more than 8192
+ * variants (0.1 s for a text of 1 MB, 5 s for one of 9 MB): limit the length of texts from strangers.
  */
 uint32_t langtag_repeats(const char *bytes, size_t len, langtag_repeated *repeated);
 

@@ -3,10 +3,27 @@ use std::{env, path::PathBuf, process::exit};
 
 const ARCHIVE: &str = "liblangtag_c.a";
 
+/// Systems of ELF and the System V calling convention.
+const SYSTEMS: [&str; 8] = [
+    "linux",
+    "android",
+    "freebsd",
+    "netbsd",
+    "openbsd",
+    "dragonfly",
+    "illumos",
+    "solaris",
+];
+
 /// Where to look, the first first.
 fn folders() -> Vec<PathBuf> {
-    if let Some(folder) = env::var_os("LANGTAG_LIB_DIR") {
-        return vec![folder.into()];
+    if let Some(folder) = env::var_os("LANGTAG_LIB_DIR").map(PathBuf::from) {
+        if folder.is_relative() {
+            fail(&format!(
+                "LANGTAG_LIB_DIR has to be an absolute path, and is {folder:?}"
+            ));
+        }
+        return vec![folder];
     }
     let here =
         PathBuf::from(env::var_os("CARGO_MANIFEST_DIR").expect("cargo names the crate's folder"));
@@ -18,12 +35,18 @@ fn fail(message: &str) -> ! {
     exit(1)
 }
 
+fn target(key: &str) -> String {
+    env::var(format!("CARGO_CFG_TARGET_{key}")).expect("cargo names the target")
+}
+
 fn main() {
     println!("cargo:rerun-if-env-changed=LANGTAG_LIB_DIR");
-    let arch = env::var("CARGO_CFG_TARGET_ARCH").expect("cargo names the target");
-    if arch != "x86_64" {
+    let (arch, width, system) = (target("ARCH"), target("POINTER_WIDTH"), target("OS"));
+    if arch != "x86_64" || width != "64" || !SYSTEMS.contains(&system.as_str()) {
         fail(&format!(
-            "{ARCHIVE} is built for x86-64 alone, and this target is {arch}"
+            "{ARCHIVE} is built for x86-64, pointers of 64 bits and the System V calling convention \
+             ({}), and this target is {arch}, of {width} bits, {system}",
+            SYSTEMS.join(", ")
         ));
     }
     let folders = folders();

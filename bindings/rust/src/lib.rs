@@ -21,8 +21,12 @@
 //! `Borrow<str>`. Of two texts of which one begins the other, the shorter is the greater.
 //!
 //! The crate needs neither std nor, without the feature `alloc`, memory. The feature `serde` reads and writes tags as
-//! strings. It links the static library `liblangtag_c.a`, for x86-64 alone, which the build script looks for in the folder
-//! that `LANGTAG_LIB_DIR` names.
+//! strings. It links the static library `liblangtag_c.a`, which the build script looks for in the folder that
+//! `LANGTAG_LIB_DIR` names.
+//!
+//! What a program has to see to, since neither the compiler nor the crate does: it runs on an x86-64 processor with SSE4.2
+//! (x86-64-v2), and a thread that calls [`LangTag::repeated_variant`] or [`LangTag::repeated_singleton`] has 96 KiB of free
+//! stack, and 1 KiB for all else.
 #![no_std]
 #![deny(unsafe_code, missing_docs)]
 
