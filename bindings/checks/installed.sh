@@ -40,17 +40,19 @@ installed_static() { installed -O2 -static && ! readelf -d parts | grep NEEDED; 
 check "C: an example over the installed shared library" installed_shared
 check "C: an example over the installed static library" installed_static
 
-# Another archive, which is older than what was built of the first.
+# Another archive, which is older than what was built of the first, in folders of other names.
+elsewhere() {
+    make -s -C c "$@" PREFIX="$work/another" LIBDIR="$work/another/lib64" INCLUDEDIR="$work/another/headers" \
+        ARCHIVE="$work/another.a" BUILD="$work/c"
+}
 another_archive() {
     echo 'int surplus;' | cc -x c -c -o "$work/surplus.o" - && cp "$archive" "$work/another.a" || return 1
     ar r "$work/another.a" "$work/surplus.o" && touch -d 2000-01-01 "$work/another.a" || return 1
-    make -s -C c install PREFIX="$work/another" ARCHIVE="$work/another.a" BUILD="$work/c" || return 1
-    cmp "$work/another.a" "$work/another/lib/liblangtag_verified.a"
+    elsewhere install && cmp "$work/another.a" "$work/another/lib64/liblangtag_verified.a" || return 1
+    grep "^libdir=$work/another/lib64$" "$work/another/lib64/pkgconfig/langtag_verified.pc" || return 1
+    cmp include/langtag.h "$work/another/headers/langtag.h"
 }
 check "C: make install of another archive" another_archive
 
-uninstalled() {
-    make -s -C c uninstall PREFIX="$work/another" BUILD="$work/c" || return 1
-    [ -z "$(find "$work/another" ! -type d -print)" ]
-}
+uninstalled() { elsewhere uninstall && [ -z "$(find "$work/another" ! -type d -print)" ]; }
 check "C: make uninstall leaves no file" uninstalled
