@@ -1,7 +1,7 @@
 //! Language tags of every kind that own their text.
-ghost use Rattle.std.specs.Prelude.{◌≡◌, ◌↔◌, [], Some, IsTrue, IsNone, IsOk, IsErrOf, IfOk, IfErr, OnOk, OnErr, is_ok};
+ghost use Rattle.std.specs.Prelude.{◌≡◌, ◌↔◌, ℕ, List, [], Some, IsTrue, IsNone, IsOk, IsErrOf, IfOk, IfErr, OnOk, OnErr, is_ok};
 ghost use Rattle.std.specs.Option.{option_map};
-ghost use Rattle.std.specs.String.{string_bytes};
+ghost use Rattle.std.specs.String.{string_bytes, string_capacity};
 ghost use Rattle.langtag_case.specs.RecommendedCase.{recommended_record, recommended_text};
 ghost use Rattle.langtag_scan.specs.AlikeRecords.{IsSpelledAlike};
 ghost use Rattle.langtag_scan.specs.Case.{Alike};
@@ -256,15 +256,18 @@ impl LangTagBuf {
 
     /// Puts the letters into the case that RFC 5646 section 2.1.1 recommends: `mn-Cyrl-MN` of `MN-cYRL-mn`, and `en-CA-x-ca`.
     ///
-    /// A script has a capital first and a region has capitals, and all else is small. The tag stays equal to what it was,
-    /// with its parts at the same offsets. No memory is taken, and the recogniser does not run. Tags that are equal come
-    /// out byte for byte the same, so that the text serves as a key where bytes are compared.
+    /// Of a normal tag a script has a capital first and a region has capitals, and all else is small. The tag stays equal
+    /// to what it was, with its parts at the same offsets. No memory is taken, and the recogniser does not run. Tags that
+    /// are equal come out byte for byte the same, so that the text serves as a key where bytes are compared.
     pub fn make_recommended_case(&mut self)
         ensures case { lang_tag_buf_text self.new ≡ recommended_text (lang_tag_buf_text self.old) }
+        ensures room { string_capacity (lang_tag_buf_string self.new) ≡ string_capacity (lang_tag_buf_string self.old) }
         ensures record { EachRecord (lang_tag_buf_text self.old) (λ r. lang_tag_buf_text self.new ≡ spell (recommended_record r)) }
         ensures alike { Alike (lang_tag_buf_text self.old) (lang_tag_buf_text self.new) }
         ensures same_kind { AreOfOneKind (lang_tag_buf_text self.old) (lang_tag_buf_text self.new) }
         ensures alike_parts { EachRecord (lang_tag_buf_text self.old) (λ r. IsSpelledAlike r (lang_tag_buf_text self.new)) }
+
+        ensures one_key { (t u : List ℕ) → Alike t u → recommended_text t ≡ recommended_text u }
     {
         put_recommended_case(&mut self.text.0);
     }

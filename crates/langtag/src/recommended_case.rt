@@ -1,7 +1,7 @@
 //! The text of a tag in its recommended case.
 ghost use Rattle.std.specs.Prelude.{◌≡◌};
 ghost use Rattle.std.specs.Str.{IsAscii};
-ghost use Rattle.std.specs.String.{string_bytes};
+ghost use Rattle.std.specs.String.{string_bytes, string_capacity};
 ghost use Rattle.langtag_case.specs.RecommendedCase.{recommended_text};
 
 use langtag_case::make_recommended_case;
@@ -10,12 +10,13 @@ use std::mem;
 /// Puts a text of ASCII into its recommended case, in place.
 pub(crate) fn put_recommended_case(text: &mut String)
     requires { IsAscii (string_bytes text.old) }
-    ensures { string_bytes text.new ≡ recommended_text (string_bytes text.old) }
+    ensures case { string_bytes text.new ≡ recommended_text (string_bytes text.old) }
+    ensures room { string_capacity text.new ≡ string_capacity text.old }
 {
     let empty = String::new(*text.allocator());
     let mut bytes = mem::replace(text, empty).into_bytes();
     make_recommended_case(bytes.as_mut_slice());
-    // A `String` lends no bytes to be changed, and `from_utf8` would look at all of them again. They are ASCII, which
-    // is proved here.
+    // SAFETY: the bytes are ASCII, which is proved here. A `String` lends no bytes to be changed, and `from_utf8` would
+    // look at all of them again.
     *text = unsafe { String::from_utf8_unchecked(bytes) };
 }

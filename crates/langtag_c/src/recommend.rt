@@ -1,14 +1,23 @@
 //! The recommended case (RFC 5646 section 2.1.1).
 ghost use Rattle.std.specs.Prelude.{◌≡◌};
+ghost use Rattle.langtag_scan.specs.AlikeRecords.{IsSpelledAlike};
+ghost use Rattle.langtag_scan.specs.Case.{Alike};
+ghost use Rattle.langtag_scan.specs.Record.{EachRecord};
 ghost use Rattle.langtag_case.specs.RecommendedCase.{recommended_text};
+ghost use Rattle.langtag.specs.Kinds.{AreOfOneKind};
 
 use langtag_case::make_recommended_case;
 
 /// Puts the letters into their recommended case, in place: `MN-cYRL-mn-X-LATN` becomes `mn-Cyrl-MN-x-latn`. Texts that are equal
-/// but for case come out the same. What is no ASCII letter stays, so any bytes will do.
+/// but for case come out the same. What is no ASCII letter stays, so any bytes will do. A tag stays of its kind, with its
+/// parts at the same offsets.
 #[unsafe(no_mangle)]
 pub extern "C" fn langtag_recommend(bytes: &mut [u8])
-    ensures { bytes.new ≡ recommended_text bytes.old }
+    ensures case { bytes.new ≡ recommended_text bytes.old }
+
+    ensures alike { Alike bytes.old bytes.new }
+    ensures same_kind { AreOfOneKind bytes.old bytes.new }
+    ensures alike_parts { EachRecord bytes.old (λ r. IsSpelledAlike r bytes.new) }
 {
     make_recommended_case(bytes);
 }

@@ -16,7 +16,7 @@ use Rattle.std.proofs.lemmas.Str.Ascii.{IsAscii-map, lowercase_ascii}
 use Rattle.std.specs.Str.{IsAscii}
 use Rattle.langtag_scan.specs.Case.{fold_byte, fold_text, Alike}
 use Rattle.langtag_scan.specs.Subtags.{is_hyphen, IsHyphenFree, join, segments}
-use Rattle.langtag_scan.proofs.CaseLaw.{length-fold, segments-fold, join-fold}
+use Rattle.langtag_scan.proofs.CaseLaw.{hyphen-fold, length-fold, segments-fold, join-fold}
 use Rattle.langtag_scan.proofs.SubtagLists.{segments-join, segments-hyphen_free}
 use Rattle.std.proofs.lemmas.List.Elements.{All-nil, All-cons, All-head, All-tail}
 use Rattle.langtag_case.specs.Casing.{later, following}
@@ -270,11 +270,6 @@ pub length-by_length : (s : List ℕ) → length (by_length s) ≡ length s
 length-by_length s = sym (length-fold (by_length s)) ∙ ap length (fold-by_length s) ∙ length-fold s
 
 -- ---- each subtag
-
--- the fold of a hyphen, and of nothing else, is one
-hyphen-fold : (b : ℕ) → is_hyphen (fold_byte b) ≡ is_hyphen b
-unfolding fold_byte
-hyphen-fold b = grind (arith, nat_tests)
 
 -- a fold has no hyphen where its text has none
 hyphen_free-folded : (s : List ℕ) → IsHyphenFree s → IsHyphenFree (fold_text s)

@@ -10,10 +10,10 @@ use Rattle.std.proofs.lemmas.List.{map-append}
 use Rattle.langtag_scan.specs.AlikeRecords.{fold_extension, fold_private_use}
 use Rattle.langtag_scan.specs.Case.{fold_byte, fold_text}
 use Rattle.langtag_scan.specs.Class.{is_digit, are_letters, are_digits, are_alphanumeric, has_length, starts_with_digit, is_primary, is_extended, is_script, is_region, is_variant}
-use Rattle.langtag_scan.specs.Record.{EachRecord, Extension, PrivateUse, Record, IsWellFormed, extension_flat, one_flat, private_part_flat, flat, spell}
-use Rattle.langtag_scan.specs.Subtags.{join, segments, subtags}
+use Rattle.langtag_scan.specs.Record.{EachRecord, Extension, PrivateUse, Record, IsWellFormed, extension_flat, one_flat, private_part_flat, spell}
+use Rattle.langtag_scan.specs.Subtags.{join}
 use Rattle.langtag_scan.proofs.BoolFacts.{between_true}
-use Rattle.langtag_scan.proofs.SpelledTexts.{subtags-spelled}
+use Rattle.langtag_scan.proofs.NormalTexts.{spelled_segments}
 use Rattle.langtag_case.specs.Casing.{later}
 use Rattle.langtag_case.specs.RecommendedCase.{capital_text, title_text, is_single, by_length, recommended_after, recommended_text, recommended_record}
 use Rattle.langtag_case.proofs.RecommendedLaws.{after_first}
@@ -135,18 +135,10 @@ tail-cased (e ∷ es) p = tail-fold (e ∷ es) p
 
 -- ---- the law
 
--- the segments of the text of a record are its subtags
-segments-spelled : (r : Record) → IsWellFormed r → segments (spell r) ≡ flat r
-segments-spelled r fits = by (spell r) (subtags-spelled (spell r) r (fits, refl))
-  where
-    by : (t : List ℕ) → subtags t ≡ flat r → segments t ≡ flat r
-    by [] none = absurd cc
-    by (b ∷ t) are = are
-
 -- a record spells its text in its recommended case where it is itself in its own
 pub recommended_spelled : (r : Record) → IsWellFormed r → recommended_text (spell r) ≡ spell (recommended_record r)
 recommended_spelled r fits =
-    ap (λ ss. join (recommended_after [] ss)) (segments-spelled r fits)
+    ap (λ ss. join (recommended_after [] ss)) (spelled_segments r fits)
     ∙ ap (λ ss. join (fold_text r.primary ∷ ss)) (after_first r.primary _ false (primary-many r.primary fits.primary) ∙ parts)
   where
     parts :

@@ -7,7 +7,7 @@ ghost use Rattle.langtag_case.specs.RecommendedCase.{recommended_text};
 use langtag_scan::segment_end;
 
 /// The case of what is left of a subtag, and what is known of those after it (RFC 5646 section 2.1.1).
-#[derive(Clone, Copy)]
+#[derive(Clone, Copy, Debug)]
 pub(crate) enum Casing {
     /// Small, as all subtags that follow: this one or one before it is of a single byte.
     AllSmall,

@@ -9,7 +9,7 @@ use std::marker::Model;
 
 /// The bytes of a text in the case that RFC 5646 section 2.1.1 recommends, as far as they are still to come: `m`, `n`, `-`,
 /// `M`, `N` of `MN-mn`.
-#[derive(Drop)]
+#[derive(Debug, Drop)]
 pub struct RecommendedBytes<'a> {
     rest: &'a [u8],
     casing: Casing,

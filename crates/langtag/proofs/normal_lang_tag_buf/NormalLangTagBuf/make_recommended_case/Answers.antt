@@ -10,13 +10,13 @@ put_recommended_case-requires c = (offsets_kept _ _ c.args.self.now.kept_ends).a
 
 pub invariant_of-self : goal.invariant_of-self
 invariant_of-self c =
-    record { kept_ends = ends_alike _ _ c.args.self.now.ends (alike_of_recommended _ _ c.put_recommended_case.ensures) c.args.self.now.kept_ends }
+    record { kept_ends = ends_alike _ _ c.args.self.now.ends (alike_of_recommended _ _ c.put_recommended_case.ensures.case) c.args.self.now.kept_ends }
 
 pub returns-clause-record : goal.returns-clause-record
-returns-clause-record c = spelled_in_case _ _ c.put_recommended_case.ensures
+returns-clause-record c = spelled_in_case _ _ c.put_recommended_case.ensures.case
 
 pub returns-clause-alike : goal.returns-clause-alike
-returns-clause-alike c = alike_of_recommended _ _ c.put_recommended_case.ensures
+returns-clause-alike c = alike_of_recommended _ _ c.put_recommended_case.ensures.case
 
 pub returns-clause-alike_parts : goal.returns-clause-alike_parts
-returns-clause-alike_parts c = alike_parts _ _ (alike_of_recommended _ _ c.put_recommended_case.ensures)
+returns-clause-alike_parts c = alike_parts _ _ (alike_of_recommended _ _ c.put_recommended_case.ensures.case)
