@@ -11,4 +11,4 @@ abbrev pub IsTagFor : List LangTag → LangTag → Option (Bor (List ℕ)) → L
 IsTagFor tags default None tag = tag ≡ default
 IsTagFor tags default (Some header) tag =
     ((ordered : List WeightedRange) × AreAccepted header.now ordered × (tag ≡ choice tags default (range_texts ordered)))
-    ⊎ ((index : ℕ) × IsFirstBad header.now index × (tag ≡ default))
+    ⊎ ((index offset : ℕ) × IsFirstBad header.now index offset × (tag ≡ default))

@@ -17,28 +17,32 @@ const TAGS: [&str; 7] = [
 
 /// Two ranges, and the tags that they find by basic and by extended filtering: those of the first range before those of the
 /// second, each once.
-const CASES: [([&str; 2], &str, &str); 5] = [
+const CASES: [(&str, &str, &str, &str); 5] = [
     (
-        ["de-CH", "de"],
+        "de-CH",
+        "de",
         "de-CH-1996 de-CH DE-ch de de-Latn-CH ",
         "de-Latn-CH de-CH-1996 de-CH DE-ch de ",
     ),
     (
-        ["de", "de-CH"],
+        "de",
+        "de-CH",
         "de de-Latn-CH de-CH-1996 de-CH DE-ch ",
         "de de-Latn-CH de-CH-1996 de-CH DE-ch ",
     ),
     (
-        ["*-CH", "en"],
+        "*-CH",
+        "en",
         "en ",
         "fr-CH de-Latn-CH de-CH-1996 de-CH DE-ch en ",
     ),
     (
-        ["en", "*"],
+        "en",
+        "*",
         "en de fr-CH de-Latn-CH de-CH-1996 de-CH DE-ch ",
         "en de fr-CH de-Latn-CH de-CH-1996 de-CH DE-ch ",
     ),
-    (["nl", "zh"], "", ""),
+    ("nl", "zh", "", ""),
 ];
 
 /// The texts of some tags, with a space after each.
@@ -51,23 +55,37 @@ fn shown(alloc: Global, found: Filtered<'_, '_>) -> Result<String, AllocError> {
     Ok(text)
 }
 
+/// The tags at hand.
+fn tags(alloc: Global) -> Result<Vec<LangTag<'static>>, AllocError> {
+    let mut tags = Vec::new(alloc);
+    for text in TAGS {
+        if let Ok(tag) = LangTag::new(text) {
+            tags.push(tag).map_err(AllocError::from)?;
+        }
+    }
+    Ok(tags)
+}
+
 #[test]
 fn tags_are_found_range_by_range(rt: HostRuntime) -> Result<(), Fail> {
-    let mut tags = [LangTag::new("en").ok().ok_or("no tag")?; 7];
-    for (tag, text) in tags.iter_mut().zip(TAGS) {
-        *tag = LangTag::new(text).ok().ok_or("no tag")?;
-    }
-    for (texts, basic, extended) in CASES {
-        let ranges = [
-            LanguageRange::new(texts[0]).ok().ok_or("no range")?,
-            LanguageRange::new(texts[1]).ok().ok_or("no range")?,
-        ];
-        let found = once_more!(shown(rt.alloc(), filter_basic(&ranges, &tags)))?;
+    let tags = once_more!(tags(rt.alloc()))?;
+    for (first, second, basic, extended) in CASES {
+        let first = LanguageRange::new(first).ok().ok_or("no range")?;
+        let second = LanguageRange::new(second).ok().ok_or("no range")?;
+        let ranges = [first, second];
+        let found = once_more!(shown(rt.alloc(), filter_basic(&ranges, tags.as_slice())))?;
         assert_eq!(rt; found.as_str(), basic);
-        let found = once_more!(shown(rt.alloc(), filter_extended(&ranges, &tags)))?;
+        let found = once_more!(shown(rt.alloc(), filter_extended(&ranges, tags.as_slice())))?;
         assert_eq!(rt; found.as_str(), extended);
-        assert!(rt; filter_basic(&[], &tags).next().is_none());
-        assert!(rt; filter_extended(&ranges, &[]).next().is_none());
     }
+    Ok(())
+}
+
+#[test]
+fn nothing_is_found_without_ranges_or_tags(rt: HostRuntime) -> Result<(), Fail> {
+    let range = LanguageRange::new("*").ok().ok_or("no range")?;
+    let tag = LangTag::new("en").ok().ok_or("no tag")?;
+    assert!(rt; filter_basic(&[], &[tag]).next().is_none());
+    assert!(rt; filter_extended(&[range], &[]).next().is_none());
     Ok(())
 }
