@@ -13,11 +13,12 @@ use Rattle.langtag_scan.specs.Class.{is_letter, is_digit, is_alphanumeric, are_l
 use Rattle.langtag_scan.specs.Ends.{to_language, to_script, to_region, to_variants, to_extensions, ends_of}
 use Rattle.langtag_scan.proofs.PartOffsets.{ends_equal}
 use Rattle.langtag_scan.specs.Record.{Extension, PrivateUse, Record, IsWellFormedExtension, IsWellFormedPrivateUse, IsWellFormed, extension_flat, one_flat, private_part_flat, flat, spell, EachRecord}
-use Rattle.langtag_scan.specs.Stage.{is_one, classes_of, next_by, next_stage, runs}
+use Rattle.langtag_scan.specs.Stage.{is_one, classes_of, next_by, next_stage}
 use Rattle.langtag_scan.specs.Subtags.{join, segments}
 use Rattle.langtag_scan.specs.Tag.{IsNormal, IsPrivate, IsIrregular, IsIrregularAt, IsTag}
 use Rattle.langtag_scan.proofs.NormalTexts.{normal_from_runs, runs_from_normal, spelled_once}
 use Rattle.langtag_scan.proofs.PrivateTexts.{runs_private, runs_from_private, private_from_runs}
+use Rattle.langtag_scan.proofs.Runs.{runs}
 
 -- ---- bytes
 

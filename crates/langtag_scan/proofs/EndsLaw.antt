@@ -9,7 +9,7 @@ use Rattle.langtag_scan.specs.declared.stage.Stage.{Stage}
 use Rattle.langtag_scan.specs.declared.stage.Stage.TheVariants.{Start, Language, Extended, AfterScript, AfterRegion, AfterVariant, AfterSingleton, InExtension, AfterMark, InPrivate}
 use Rattle.langtag_scan.specs.Class.{is_extended, is_script, is_region, is_extension_subtag, is_private_subtag}
 use Rattle.langtag_scan.specs.Ends.{ends_of}
-use Rattle.langtag_scan.specs.Machine.{all_at, end_at, index_after, ends_after}
+use Rattle.langtag_scan.specs.Machine.{all_at, end_at, index_after}
 use Rattle.langtag_scan.specs.Record.{PrivateUse, Extension, Record, IsWellFormedPrivateUse, IsWellFormedExtension, IsWellFormed, extension_flat, one_flat, private_part_flat, flat}
 use Rattle.langtag_scan.specs.Stage.{opened, next_stage}
 use Rattle.langtag_scan.specs.declared.ends.Ends.{Ends}
@@ -18,6 +18,7 @@ use Rattle.langtag_scan.proofs.Disjoint.{singleton_no_mark}
 use Rattle.langtag_scan.proofs.Joins.{hyphenated, length-hyphenated, length-join}
 use Rattle.langtag_scan.proofs.PartOffsets.{ends_equal}
 use Rattle.langtag_scan.proofs.Running.{ends_after-nil, ends_after-cons}
+use Rattle.langtag_scan.proofs.Runs.{ends_after}
 
 -- ---- the weight of subtags, and the ends by it
 

@@ -1,4 +1,5 @@
 pub mod BoolFacts
+mod Runs
 mod Disjoint
 mod Decoding
 mod Complete

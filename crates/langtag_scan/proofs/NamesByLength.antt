@@ -10,13 +10,13 @@ use Rattle.langtag_scan.specs.Case.{fold_byte, fold_text}
 use Rattle.langtag_scan.specs.Class.{is_letter, is_digit, is_primary, is_extended, is_script, is_region, is_variant, is_mark, is_singleton}
 use Rattle.langtag_scan.specs.Irregular.{folded_texts, folded_at, has_at, is_possible, matters, is_followed}
 use Rattle.langtag_scan.specs.Machine.{HasStopped}
-use Rattle.langtag_scan.specs.Stage.{runs}
 use Rattle.langtag_scan.specs.Subtags.{segments}
 use Rattle.langtag_scan.specs.Tag.{IsNormal, IsIrregular, IsIrregularAt, IsTag}
 use Rattle.langtag_scan.specs.Viable.{IsViable}
 use Rattle.langtag_scan.proofs.CaseLaw.{runs-fold, segments-fold}
 use Rattle.langtag_scan.proofs.IrregularNames.{irregular_here, possible_viable, possible_prefix, possible-push, possible_between}
 use Rattle.langtag_scan.proofs.NormalTexts.{normal_from_runs}
+use Rattle.langtag_scan.proofs.Runs.{runs}
 
 -- ---- ranges of indices
 

@@ -7,7 +7,7 @@ use Rattle.langtag_scan.specs.declared.stage.Stage.{Stage}
 use Rattle.langtag_scan.specs.declared.stage.Stage.TheVariants.{Start, Language, Extended, AfterScript, AfterRegion, AfterVariant, AfterSingleton, InExtension, AfterMark, InPrivate, AfterFirstMark, InPrivateTag}
 use Rattle.langtag_scan.specs.Class.{is_primary, is_extended, is_script, is_region, is_variant, is_extension_subtag, is_private_subtag, is_mark, is_singleton}
 use Rattle.langtag_scan.specs.Record.{Record, IsWellFormed, flat, spell}
-use Rattle.langtag_scan.specs.Stage.{is_one, opened, after_region, after_script, after_language, next_stage, after_stage, may_end, runs}
+use Rattle.langtag_scan.specs.Stage.{is_one, opened, after_region, after_script, after_language, next_stage, after_stage, may_end}
 use Rattle.langtag_scan.specs.Subtags.{join, segments}
 use Rattle.langtag_scan.specs.Tag.{IsNormal}
 use Rattle.langtag_scan.proofs.BoolFacts.{chosen}
@@ -15,6 +15,7 @@ use Rattle.langtag_scan.proofs.Decoding.{Read, whole, decode, nothing, decode_so
 use Rattle.langtag_scan.proofs.Complete.{decode_complete, flat_once}
 use Rattle.langtag_scan.proofs.SubtagFacts.{IsSubtag, of_primary, of_extended, of_script, of_region, of_variant, of_extension_subtag, of_private_subtag, of_one, of_mark, mark_alphanumeric, singleton_alphanumeric}
 use Rattle.langtag_scan.proofs.SubtagLists.{segments-joined}
+use Rattle.langtag_scan.proofs.Runs.{runs}
 
 of_opened : (s : List ℕ) (after : Stage) → opened s ≡ Some after → IsSubtag s
 of_opened [] after e = absurd cc

@@ -7,13 +7,13 @@ use Rattle.langtag_scan.specs.declared.stage.Stage.TheVariants.{Start}
 use Rattle.langtag_scan.specs.Case.{fold_text}
 use Rattle.langtag_scan.specs.Class.{is_letter, is_digit, is_primary, is_extended, is_script, is_region, is_variant, is_extension_subtag, is_private_subtag, is_mark, is_singleton}
 use Rattle.langtag_scan.specs.Irregular.{folded_texts, folded_at}
-use Rattle.langtag_scan.specs.Stage.{runs}
 use Rattle.langtag_scan.specs.Subtags.{segments}
 use Rattle.langtag_scan.specs.Tag.{IsNormal, IsPrivate, IsIrregular, IsIrregularAt}
 use Rattle.langtag_scan.proofs.NormalTexts.{runs_from_normal}
 use Rattle.langtag_scan.proofs.PrivateTexts.{runs_private, runs_from_private, one_no_primary}
 use Rattle.langtag_scan.proofs.CaseLaw.{runs-fold, runs_private-fold, segments-fold}
 use Rattle.langtag_scan.proofs.IrregularNames.{irregular_here}
+use Rattle.langtag_scan.proofs.Runs.{runs}
 
 -- no subtags are those of a normal text and of a private one
 runs_once : (ss : List (List ℕ)) → runs Start ss ≡ true → runs_private ss ≡ true → ⊥

@@ -6,9 +6,9 @@ use Rattle.std.proofs.lemmas.Bool.{both_ways}
 use Rattle.langtag_scan.specs.Class.{is_primary, is_mark, is_private_subtag}
 use Rattle.langtag_scan.specs.Ends.{HasEnds}
 use Rattle.langtag_scan.specs.Found.{IsFoundOf}
-use Rattle.langtag_scan.specs.Machine.{all_at, end_at, index_after, ends_after, found_by, outcome, outcome_of, IsRefused}
+use Rattle.langtag_scan.specs.Machine.{all_at, end_at, index_after, found_by, outcome, outcome_of, IsRefused}
 use Rattle.langtag_scan.specs.Record.{flat}
-use Rattle.langtag_scan.specs.Stage.{is_one, next_stage, may_end, runs}
+use Rattle.langtag_scan.specs.Stage.{is_one, next_stage, may_end}
 use Rattle.langtag_scan.specs.Subtags.{segments}
 use Rattle.langtag_scan.specs.Tag.{IsNormal}
 use Rattle.langtag_scan.specs.declared.ends.Ends.{Ends}
@@ -21,6 +21,7 @@ use Rattle.langtag_scan.proofs.NormalTexts.{normal_from_runs, runs_from_normal, 
 use Rattle.langtag_scan.proofs.PrivateTexts.{runs_private, runs_from_private, private_from_runs, one_no_primary}
 use Rattle.langtag_scan.proofs.Running.{runs-cons, first_of}
 use Rattle.langtag_scan.proofs.StageLaws.{is_outside, next_inside, after-inside}
+use Rattle.langtag_scan.proofs.Runs.{runs, ends_after}
 
 -- ---- what is found, by the rule that the subtags follow
 

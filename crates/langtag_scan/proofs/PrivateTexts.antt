@@ -9,13 +9,14 @@ use Rattle.langtag_scan.specs.declared.stage.Stage.TheVariants.{AfterMark}
 use Rattle.langtag_scan.specs.Class.{is_private_subtag, is_primary, is_mark}
 use Rattle.langtag_scan.specs.Subtags.{join, segments}
 use Rattle.langtag_scan.specs.Tag.{IsPrivate}
-use Rattle.langtag_scan.specs.Stage.{is_one, runs}
+use Rattle.langtag_scan.specs.Stage.{is_one}
 use Rattle.langtag_scan.proofs.Decoding.{decode, decode_sound, pending}
 use Rattle.langtag_scan.proofs.Complete.{after_mark}
 use Rattle.langtag_scan.proofs.NormalTexts.{runs-decode, is_there, decoded_subtags}
 use Rattle.langtag_scan.proofs.SubtagLists.{segments-joined}
 use Rattle.langtag_scan.proofs.SubtagFacts.{mark_alphanumeric}
 use Rattle.langtag_scan.proofs.Running.{segments-hyphen}
+use Rattle.langtag_scan.proofs.Runs.{runs}
 
 -- a private text, cut after its mark and hyphen
 record IsMarked (t : List ℕ) : Type 0 where

@@ -11,12 +11,12 @@ use Rattle.std.proofs.lemmas.Option.{slice_get-get_or, slice_get_within, get_or_
 use Rattle.langtag_scan.specs.Case.{fold_text}
 use Rattle.langtag_scan.specs.Class.{is_letter, is_digit, is_primary, is_extended, is_script, is_region, is_variant, is_mark, is_singleton}
 use Rattle.langtag_scan.specs.Grandfathered.{Grandfathered, grandfathered_tags, irregular_texts}
-use Rattle.langtag_scan.specs.Stage.{runs}
 use Rattle.langtag_scan.specs.Subtags.{segments}
 use Rattle.langtag_scan.specs.Tag.{IsIrregularAt, IsTag}
 use Rattle.langtag_scan.specs.declared.stage.Stage.TheVariants.{Start}
 use Rattle.langtag_scan.proofs.NormalTexts.{normal_from_runs}
 use Rattle.langtag_scan.proofs.TagLaws.{tag_normal, tag_irregular}
+use Rattle.langtag_scan.proofs.Runs.{runs}
 
 -- where the text first stands among the irregular ones
 abbrev index_of : List ℕ → Option ℕ

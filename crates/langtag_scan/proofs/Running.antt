@@ -9,8 +9,8 @@ use Rattle.std.proofs.lemmas.List.Folds.{list_all-append}
 use Rattle.std.proofs.lemmas.List.Splits.{slice_split_none, slice_split_at, slice_split-cons_no, slice_split-cons_yes}
 use Rattle.langtag_scan.specs.Class.{is_letter, is_alphanumeric, has_length, are_letters, are_alphanumeric, is_primary, is_mark}
 use Rattle.langtag_scan.specs.Subtags.{is_hyphen, segments}
-use Rattle.langtag_scan.specs.Stage.{is_one, next_stage, after_stage, may_end, runs}
-use Rattle.langtag_scan.specs.Machine.{may_hold, end_at, index_after, ends_after, found_by, outcome, IsBegun}
+use Rattle.langtag_scan.specs.Stage.{is_one, next_stage, after_stage, may_end}
+use Rattle.langtag_scan.specs.Machine.{may_hold, end_at, index_after, found_by, outcome, IsBegun}
 use Rattle.langtag_scan.specs.declared.ends.Ends.{Ends}
 use Rattle.langtag_scan.specs.declared.stage.Stage.{Stage}
 use Rattle.langtag_scan.specs.declared.stage.Stage.TheVariants.{Start, Language, AfterFirstMark}
@@ -18,6 +18,7 @@ use Rattle.langtag_scan.proofs.BoolFacts.{chosen}
 use Rattle.langtag_scan.proofs.SubtagFacts.{IsSubtag, no_hyphen_each, alphanumeric_no_hyphen, mark_letters}
 use Rattle.langtag_scan.proofs.NormalTexts.{after_subtag}
 use Rattle.langtag_scan.proofs.StageLaws.{starting, held_later}
+use Rattle.langtag_scan.proofs.Runs.{runs, ends_after}
 
 pub runs-cons :
     (stage : Stage) (s : List ℕ) (ss : List (List ℕ)) →

@@ -54,11 +54,6 @@ abbrev pub index_after : Stage → Ends → List ℕ → ℕ
 index_after Start e s = length s
 index_after _ e s = e.whole + 1 + length s
 
--- the ends after all these subtags of a normal tag
-unfoldable pub ends_after : Stage → Ends → List (List ℕ) → Ends
-ends_after stage e [] = e
-ends_after stage e (s ∷ ss) = option_map_or (λ after. ends_after after (end_at after (index_after stage e s) e) ss) (next_stage stage s) e
-
 -- ---- what is found
 
 -- what is found of a text that ends at a stage, with these ends

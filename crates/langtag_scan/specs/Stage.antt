@@ -116,8 +116,3 @@ may_end AfterMark = false
 may_end InPrivate = true
 may_end AfterFirstMark = false
 may_end InPrivateTag = true
-
--- whether these subtags may follow in a normal tag
-unfoldable pub runs : Stage → List (List ℕ) → Bool
-runs stage [] = may_end stage
-runs stage (s ∷ ss) = option_map_or (λ after. runs after ss) (next_stage stage s) false
