@@ -10,6 +10,7 @@ mod literal;
 mod other_script;
 mod prefix;
 mod request;
+mod script;
 #[cfg(test)]
 mod tests;
 
@@ -22,3 +23,4 @@ pub use literal::Literal;
 pub use other_script::{find_in_scripts, replace_script};
 pub use prefix::longest_prefix;
 pub use request::tag_for_request;
+pub use script::script_or;

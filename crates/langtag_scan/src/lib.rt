@@ -15,8 +15,8 @@
 //! viable_len(b"zh_Hant");                                // 2: no tag begins with `zh_`
 //! ```
 //!
-//! `Caseless` serves the crates of this workspace that build the text types, and `MeteredBytes` its tests and its
-//! benchmark.
+//! `Caseless` serves the crates of this workspace that build the text types, and `MeteredBytes` the
+//! library for C, the tests and the benchmark.
 #![tactic(auto)]
 
 mod case;

@@ -5,8 +5,8 @@ use crate::source::ByteSource;
 
 /// Bytes, with a count of the reads. There is no other way to them.
 ///
-/// It carries [`Metered`](crate::Metered), and serves the tests and the benchmark of this workspace, which read more than
-/// texts.
+/// It carries [`Metered`](crate::Metered), and serves the library for C, the tests and the benchmark of this workspace, which read
+/// more than texts.
 #[derive(Drop)]
 pub struct MeteredBytes<'a> {
     bytes: &'a [u8],
