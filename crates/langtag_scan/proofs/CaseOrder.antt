@@ -61,7 +61,7 @@ case_cmp-ended a b i bytes_a bytes_b ended = by_rest (drop i a) (drop i b) refl 
         rw (fold_byte-below_end x (subst (Fits w8) first (bytes_a i))) (grind (arith, common_steps))
     by_rest (x ∷ s) (y ∷ t) e f = absurd (omega (arith, ended, ap length e, ap length f, length-drop i a, length-drop i b))
 
--- a text that ends first is greater than any longer one that begins alike
+-- of two texts of which one begins the other the shorter is the greater
 pub case_cmp-ends_first : (a b : List ℕ) → ((k : ℕ) → Fits w8 (get_or b k 0)) → EndsFirst a b → case_cmp a b ≡ Greater
 case_cmp-ends_first [] [] bytes ends = absurd (omega (arith, ends.0))
 case_cmp-ends_first [] (y ∷ b) bytes ends = rw (end-above_fold_byte y (bytes 0)) refl

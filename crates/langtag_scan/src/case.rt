@@ -27,9 +27,8 @@ pub fn case_insensitive_eq(a: &[u8], b: &[u8]) -> bool
     a.eq_ignore_ascii_case(b)
 }
 
-/// The order of two texts by their folded bytes (RFC 5646 section 2.1.1), the first difference deciding.
-///
-/// A text that ends first is the greater: `case_insensitive_cmp(b"zh", b"zh-Latn")` is Greater.
+/// Compares two texts by their folded bytes (RFC 5646 section 2.1.1). Where one begins the other, the shorter is the
+/// greater: `case_insensitive_cmp(b"zh", b"zh-Latn")` is Greater.
 pub fn case_insensitive_cmp(a: &[u8], b: &[u8]) -> Ordering
     ensures order { result ≡ case_cmp a.now b.now }
     ensures ends_first { EndsFirst a.now b.now → result ≡ Ordering.Greater }
@@ -43,7 +42,8 @@ pub fn case_insensitive_cmp(a: &[u8], b: &[u8]) -> Ordering
     b.len().cmp(&a.len())
 }
 
-/// Feeds a hasher the folded bytes in order (RFC 5646 section 2.1.1), one at a time, with no length and no end mark.
+/// Feeds a hasher the folded bytes (RFC 5646 section 2.1.1), each by a write of its own, and nothing else: neither how
+/// many there are nor that they have ended.
 ///
 /// Of `b"FR"` it is fed `b'f'`, then `b'r'`.
 pub fn case_insensitive_hash<H: Hasher>(bytes: &[u8], hasher: &mut H)
