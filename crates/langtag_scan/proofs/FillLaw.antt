@@ -1,64 +1,89 @@
 -- A prefix is viable exactly where it fills to a tag or begins an irregular text.
-use Rattle.std.proofs.Common.{◌≡◌, ◌↔◌, ℕ, Bool, true, false, eqb, eqb-true, List, [], ◌∷◌, ◌++◌, length, take, drop, Option, Some, None, inl, inr, ◌⊎◌, refl, sym, ap, subst, ◌∙◌, append_assoc, append-nil}
-use Rattle.std.proofs.lemmas.Bool.{cases_lt}
-use Rattle.std.proofs.lemmas.List.{map-append, take-append-drop, length-map, take-map}
+use Rattle.std.proofs.Common.{◌≡◌, ◌↔◌, ℕ, ◌-◌, Bool, true, false, eqb, eqb-true, not, List, [], ◌∷◌, ◌++◌, length, take, drop, Option, Some, None, inl, inr, ◌⊎◌, refl, sym, ap, subst, ◌∙◌, arith, append_assoc, append-nil}
+use Rattle.std.specs.List.{after_last, suffix_len}
+use Rattle.std.proofs.lemmas.List.{map-append, take-append-drop, length-map, take-map, length_push, drop-append-le, drop_all, reverse-append}
 use Rattle.std.proofs.Math.Seq.{take-append_seam}
 use Rattle.langtag_scan.specs.Case.{fold_byte, fold_text}
 use Rattle.langtag_scan.specs.Tag.{IsIrregular, IsIrregularAt, IsTag}
 use Rattle.langtag_scan.specs.Viable.{IsViable, IsIrregularPrefix, filling, fill}
-use Rattle.langtag_scan.specs.Stage.{after_by}
-use Rattle.langtag_scan.specs.Shape.{shape_of, classes_of_shape}
-use Rattle.langtag_scan.specs.Machine.{begun, may_hold, all_at, HasStopped}
+use Rattle.langtag_scan.specs.Stage.{after_stage}
+use Rattle.langtag_scan.specs.Subtags.{is_hyphen}
+use Rattle.langtag_scan.specs.Machine.{HasStopped, all_at, end_at}
+use Rattle.langtag_scan.specs.declared.ends.Ends.{Ends}
 use Rattle.langtag_scan.specs.declared.stage.Stage.{Stage}
 use Rattle.langtag_scan.specs.declared.stage.Stage.TheVariants.{Start}
-use Rattle.langtag_scan.specs.Tracking.{Tracks}
-use Rattle.langtag_scan.specs.declared.machine.Machine.{Machine}
+use Rattle.langtag_scan.proofs.Filling.{begun_or_not}
 use Rattle.langtag_scan.proofs.RecogniserLaws.{stopped-append}
-use Rattle.langtag_scan.proofs.ReadingLaws.{reads_nothing}
+use Rattle.langtag_scan.proofs.ReadingLaws.{IsPartRead, reads_nothing, reads_filled, reads_after, refused_stops, stuck_stops}
+use Rattle.langtag_scan.proofs.Running.{empty_begun}
 use Rattle.langtag_scan.proofs.TagLaws.{tag_irregular, viable_from_tag}
-use Rattle.langtag_scan.proofs.TracksLaws.{tracks_grown, tracks_stuck, tracks_after, tracks_refused, tracks_filled}
+
+-- ---- what stands after the last hyphen
+
+abbrev begun : List ℕ → List ℕ
+begun q = after_last is_hyphen q
+
+begun-hyphen : (q : List ℕ) → begun (q ++ 45 ∷ []) ≡ []
+begun-hyphen q = rw (reverse-append q (45 ∷ [])) (drop_all (length (q ++ 45 ∷ []) - 0) (q ++ 45 ∷ []) (omega arith))
+
+begun-push : (q : List ℕ) (b : ℕ) → eqb b 45 ≡ false → begun (q ++ b ∷ []) ≡ begun q ++ b ∷ []
+begun-push q b other =
+    let n = suffix_len (λ x. not (is_hyphen x)) q in
+    rw (reverse-append q (b ∷ []), other) (ap (λ k. drop k (q ++ b ∷ [])) (omega (arith, length_push q b)) ∙ drop-append-le (length q - n) q (b ∷ []) (omega arith))
 
 -- ---- what is known of any prefix
 
--- the machine has stopped, or tracks it
+-- the subtag that stands after its last hyphen has begun
+abbrev IsBegunPrefix : List ℕ → Type 0
+IsBegunPrefix q = (p : List ℕ) × (stage : Stage) × (e : Ends) × IsPartRead p (begun q) q (length q) stage e
+
+-- the machine has stopped, or goes on
 abbrev IsRead : List ℕ → Type 0
-IsRead p = HasStopped p ⊎ ((m : Machine) × Tracks p m)
+IsRead q = HasStopped q ⊎ IsBegunPrefix q
 
-at_hyphen : (p : List ℕ) (m : Machine) → Tracks p m → IsRead (p ++ 45 ∷ [])
-at_hyphen p m tracks = by_next (after_by m.stage (classes_of_shape m.begun)) refl
+at_hyphen : (q : List ℕ) → IsBegunPrefix q → IsRead (q ++ 45 ∷ [])
+at_hyphen q (p, stage, e, k) = by_next (after_stage stage (begun q)) refl
   where
-    by_next : (o : Option Stage) → after_by m.stage (classes_of_shape m.begun) ≡ o → IsRead (p ++ 45 ∷ [])
-    by_next (Some after) next = inr (_, tracks_after p m tracks after next)
-    by_next None next = inl (tracks_refused p m tracks next)
+    by_next : (o : Option Stage) → after_stage stage (begun q) ≡ o → IsRead (q ++ 45 ∷ [])
+    by_next None next = inl (refused_stops k next)
+    by_next (Some after) next =
+        inr (
+          q ++ 45 ∷ [],
+          after,
+          end_at after (length q) e,
+          subst (λ s. IsPartRead (q ++ 45 ∷ []) s (q ++ 45 ∷ []) (length (q ++ 45 ∷ [])) after (end_at after (length q) e)) (sym (begun-hyphen q))
+              (record { split = append-nil (q ++ 45 ∷ []); long = refl; reads = reads_after k after next; begun = empty_begun after }),
+        )
 
-at_other : (p : List ℕ) (b : ℕ) (m : Machine) → eqb b 45 ≡ false → Tracks p m → IsRead (p ++ b ∷ [])
-at_other p b m other tracks = by_held (may_hold m.stage b) refl
+at_other : (q : List ℕ) (b : ℕ) → eqb b 45 ≡ false → IsBegunPrefix q → IsRead (q ++ b ∷ [])
+at_other q b other (p, stage, e, k) =
+    elim (begun_or_not stage (begun q ++ b ∷ [])) [
+      | inl more ↦
+          inr (
+            p,
+            stage,
+            e,
+            subst (λ s. IsPartRead p s (q ++ b ∷ []) (length (q ++ b ∷ [])) stage e) (sym (begun-push q b other))
+                (record { split = sym (append_assoc p (begun q) (b ∷ [])) ∙ ap (λ x. x ++ b ∷ []) k.split; long = refl; reads = k.reads; begun = more }),
+          )
+      | inr stuck ↦ inl (stuck_stops k b other stuck)
+    ]
+
+read_byte : (q : List ℕ) (b : ℕ) → IsRead q → IsRead (q ++ b ∷ [])
+read_byte q b (inl stopped) = inl (stopped-append q (b ∷ []) stopped)
+read_byte q b (inr k) = by_hyphen (eqb b 45) refl
   where
-    by_held : (v : Bool) → may_hold m.stage b ≡ v → IsRead (p ++ b ∷ [])
-    by_held false held = inl (tracks_stuck p m tracks b other (inl held))
-    by_held true held =
-        elim (cases_lt m.begun.len 8) [
-          | inl short ↦ inr (_, tracks_grown p m tracks b (shape_of (begun p ++ b ∷ [])) other held short (λ x. refl))
-          | inr long ↦ inl (tracks_stuck p m tracks b other (inr long))
-        ]
+    by_hyphen : (v : Bool) → eqb b 45 ≡ v → IsRead (q ++ b ∷ [])
+    by_hyphen true e = let same : b ≡ 45 = eqb-true b 45 e in subst (λ x. IsRead (q ++ x ∷ [])) (sym same) (at_hyphen q k)
+    by_hyphen false e = at_other q b e k
 
-read_byte : (p : List ℕ) (b : ℕ) → IsRead p → IsRead (p ++ b ∷ [])
-read_byte p b (inl stopped) = inl (stopped-append p (b ∷ []) stopped)
-read_byte p b (inr k) = by_hyphen (eqb b 45) refl
-  where
-    by_hyphen : (v : Bool) → eqb b 45 ≡ v → IsRead (p ++ b ∷ [])
-    by_hyphen true e = let same : b ≡ 45 = eqb-true b 45 e in subst (λ x. IsRead (p ++ x ∷ [])) (sym same) (at_hyphen p k.0 k.1)
-    by_hyphen false e = at_other p b k.0 e k.1
+read_all : (q u : List ℕ) → IsRead q → IsRead (q ++ u)
+read_all q [] k = subst IsRead (sym (append-nil q)) k
+read_all q (b ∷ u) k = subst IsRead (append_assoc q (b ∷ []) u) (read_all (q ++ b ∷ []) u (read_byte q b k))
 
-read_all : (p u : List ℕ) → IsRead p → IsRead (p ++ u)
-read_all p [] k = subst (λ x. IsRead x) (sym (append-nil p)) k
-read_all p (b ∷ u) k = subst (λ x. IsRead x) (append_assoc p (b ∷ []) u) (read_all (p ++ b ∷ []) u (read_byte p b k))
-
-read_prefix : (p : List ℕ) → IsRead p
-read_prefix p =
-    let fresh : Machine = record { stage = Start; begun = shape_of []; ends = all_at 0 } in
-    let tracks : Tracks [] fresh = record { shape = refl; reads = reads_nothing } in
-    read_all [] p (inr (fresh, tracks))
+read_prefix : (q : List ℕ) → IsRead q
+read_prefix q =
+    read_all [] q (inr ([], Start, all_at 0, record { split = refl; long = refl; reads = reads_nothing; begun = empty_begun Start }))
 
 -- ---- prefixes of irregular texts
 
@@ -91,7 +116,7 @@ fill_from_viable : (p : List ℕ) → IsViable p → IsTag (fill p) ⊎ IsIrregu
 fill_from_viable p v =
     elim (read_prefix p) [
       | inl stopped ↦ inr (stopped_prefix p stopped v)
-      | inr k ↦ inl (tracks_filled p k.0 k.1)
+      | inr k ↦ inl (reads_filled k.3)
     ]
 
 viable_from_fill : (p : List ℕ) → IsTag (fill p) ⊎ IsIrregularPrefix p → IsViable p

@@ -19,7 +19,6 @@ pub mod IrregularNames
 mod NamesByLength
 mod NameRanges
 pub mod TagLaws
-mod TracksLaws
 mod RecogniserLaws
 mod SubtagReading
 mod FillLaw

@@ -1,5 +1,5 @@
--- How the stages run over the segments of a text, and what is found where a byte or a hyphen more follows.
-use Rattle.std.proofs.Common.{◌≡◌, ℕ, ◌<◌, ◌≤◌, Bool, true, false, cond, eqb, leb, List, [], ◌∷◌, ◌++◌, length, Option, Some, None, inl, inr, refl, sym, ap, ◌∙◌, arith}
+-- How the stages run over the segments of a text, and what is found where a subtag goes on or ends.
+use Rattle.std.proofs.Common.{◌≡◌, ℕ, ◌<◌, ◌⊎◌, Bool, true, false, cond, eqb, leb, List, [], ◌∷◌, ◌++◌, length, Option, Some, None, inl, inr, refl, sym, ap, subst, ◌∙◌, arith, append_assoc}
 use Rattle.std.proofs.lemmas.Bool.{and_parts}
 use Rattle.std.specs.List.{All, onto_first}
 use Rattle.std.specs.Option.{option_map_or}
@@ -10,14 +10,13 @@ use Rattle.std.proofs.lemmas.List.Splits.{slice_split_none, slice_split_at, slic
 use Rattle.langtag_scan.specs.Class.{is_letter, is_alphanumeric, has_length, are_letters, are_alphanumeric, is_primary, is_mark}
 use Rattle.langtag_scan.specs.Subtags.{is_hyphen, segments}
 use Rattle.langtag_scan.specs.Stage.{is_one, next_stage, after_stage, may_end}
-use Rattle.langtag_scan.specs.Machine.{may_hold, end_at, index_after, found_by, outcome, IsBegun}
+use Rattle.langtag_scan.specs.Machine.{end_at, index_after, found_by, outcome, IsBegun}
 use Rattle.langtag_scan.specs.declared.ends.Ends.{Ends}
 use Rattle.langtag_scan.specs.declared.stage.Stage.{Stage}
 use Rattle.langtag_scan.specs.declared.stage.Stage.TheVariants.{Start, Language, AfterFirstMark}
 use Rattle.langtag_scan.proofs.BoolFacts.{chosen}
-use Rattle.langtag_scan.proofs.SubtagFacts.{IsSubtag, no_hyphen_each, alphanumeric_no_hyphen, mark_letters}
+use Rattle.langtag_scan.proofs.SubtagFacts.{no_hyphen_each, alphanumeric_no_hyphen, mark_letters}
 use Rattle.langtag_scan.proofs.NormalTexts.{after_subtag}
-use Rattle.langtag_scan.proofs.StageLaws.{starting, held_later}
 use Rattle.langtag_scan.proofs.Runs.{runs, ends_after}
 
 pub runs-cons :
@@ -75,97 +74,76 @@ segments-prefix (b ∷ s) u v ss h e =
     let k = and_parts (is_alphanumeric b) (are_alphanumeric s) h in
     slice_split-cons_no is_hyphen b (s ++ u) (alphanumeric_no_hyphen b k.0) ∙ ap (onto_first b) (segments-prefix s u v ss k.1 e)
 
--- ---- a byte that a subtag may hold
+-- ---- a subtag that has begun
 
 pub empty_begun : (stage : Stage) → IsBegun stage []
 empty_begun stage = record { short = omega arith; alphanumeric = refl; letters = λ e. refl }
 
-letter_alphanumeric : (b : ℕ) → is_letter b ≡ true → is_alphanumeric b ≡ true
-letter_alphanumeric b h = rw h refl
-
-held_alphanumeric : (stage : Stage) (b : ℕ) → may_hold stage b ≡ true → is_alphanumeric b ≡ true
-held_alphanumeric stage b h =
-    elim (starting stage) [
-      | inl first ↦ letter_alphanumeric b (ap (λ x. may_hold x b) (sym first) ∙ h)
-      | inr later ↦ sym (held_later stage b later) ∙ h
-    ]
-
--- what it leaves is a subtag that has begun
-pub grown : (stage : Stage) (s : List ℕ) (b : ℕ) → may_hold stage b ≡ true → length s < 8 → IsBegun stage s → IsBegun stage (s ++ b ∷ [])
-grown stage s b m short h = record {
+pub begun_push :
+    (stage : Stage) (s : List ℕ) (b : ℕ) → is_alphanumeric b ≡ true → (stage ≡ Start → is_letter b ≡ true) → length s < 8 → IsBegun stage s →
+    IsBegun stage (s ++ b ∷ [])
+begun_push stage s b held first less h = record {
   short = omega (arith, length_push s b);
-  alphanumeric = rw (list_all-append is_alphanumeric s (b ∷ []), h.alphanumeric, held_alphanumeric stage b m) refl;
-  letters = λ e. rw (list_all-append is_letter s (b ∷ []), h.letters e, (rw e at m)) refl;
+  alphanumeric = rw (list_all-append is_alphanumeric s (b ∷ []), h.alphanumeric, held) refl;
+  letters = λ e. rw (list_all-append is_letter s (b ∷ []), h.letters e, first e) refl;
 }
 
--- however the text goes on, a longer subtag or one with another byte may not stand there
-too_long : (s : List ℕ) (b : ℕ) (v : List ℕ) → 8 ≤ length s → IsSubtag (s ++ b ∷ v) → ⊥
-too_long s b v long h = let l = h.short in omega (arith, length-append s (b ∷ v))
+begun_parts : (stage : Stage) (s v : List ℕ) → IsBegun stage (s ++ v) → IsBegun stage s × IsBegun stage v
+begun_parts stage s v h =
+    let len = length-append s v in
+    let held = and_parts (are_alphanumeric s) (are_alphanumeric v) (sym (list_all-append is_alphanumeric s v) ∙ h.alphanumeric) in
+    let letters : stage ≡ Start → (are_letters s ≡ true) × (are_letters v ≡ true) = λ e. and_parts (are_letters s) (are_letters v) (sym (list_all-append is_letter s v) ∙ h.letters e) in (
+      record { short = omega (arith, len, h.short); alphanumeric = held.0; letters = λ e. (letters e).0 },
+      record { short = omega (arith, len, h.short); alphanumeric = held.1; letters = λ e. (letters e).1 },
+    )
 
-never : (s : List ℕ) (b : ℕ) (v : List ℕ) → is_alphanumeric b ≡ false → IsSubtag (s ++ b ∷ v) → ⊥
-never s b v m h =
-    let all = and_parts (are_alphanumeric s) (are_alphanumeric (b ∷ v)) (sym (list_all-append is_alphanumeric s (b ∷ v)) ∙ h.alphanumeric) in
-    let here = and_parts (is_alphanumeric b) (are_alphanumeric v) all.1 in
-    let yes_held : is_alphanumeric b ≡ true = here.0 in
-    cc
+pub begun_prefix : (stage : Stage) (s v : List ℕ) → IsBegun stage (s ++ v) → IsBegun stage s
+begun_prefix stage s v h = (begun_parts stage s v h).0
 
-primary_letters : (s : List ℕ) → is_primary s ≡ true → are_letters s ≡ true
-unfolding is_primary
-primary_letters s h = (and_parts (has_length 2 8 s) (are_letters s) h).1
+pub begun_last : (stage : Stage) (s : List ℕ) (b : ℕ) → IsBegun stage (s ++ b ∷ []) → (is_alphanumeric b ≡ true) × (stage ≡ Start → is_letter b ≡ true)
+begun_last stage s b h =
+    let k = (begun_parts stage s (b ∷ []) h).1 in
+    ((and_parts (is_alphanumeric b) true k.alphanumeric).0, λ e. (and_parts (is_letter b) true (k.letters e)).0)
+
+-- a first subtag is a primary one or a mark
+pub first_kind : (s : List ℕ) (after : Stage) → after_stage Start s ≡ Some after → (is_primary s ≡ true) ⊎ (is_one is_mark s ≡ true)
+first_kind s after e =
+    elim (chosen (is_primary s) (Some (Language (cond (leb (length s) 3) 0 3))) (cond (is_one is_mark s) (Some AfterFirstMark) None) (Some after) e) [
+      | inl h ↦ inl h.0
+      | inr h ↦ elim (chosen (is_one is_mark s) (Some AfterFirstMark) None (Some after) h.1) [ inl k ↦ inr k.0 | inr k ↦ absurd cc ]
+    ]
 
 start_letters : (s : List ℕ) (after : Stage) → after_stage Start s ≡ Some after → are_letters s ≡ true
-start_letters s after e =
-    elim (chosen (is_primary s) (Some (Language (cond (leb (length s) 3) 0 3))) (cond (is_one is_mark s) (Some AfterFirstMark) None) (Some after) e) [
-      | inl h ↦ primary_letters s h.0
-      | inr h ↦ elim (chosen (is_one is_mark s) (Some AfterFirstMark) None (Some after) h.1) [ inl k ↦ mark_letters s k.0 | inr k ↦ absurd cc ]
-    ]
+unfolding is_primary
+start_letters s after e = elim (first_kind s after e) [ inl h ↦ (and_parts (has_length 2 8 s) (are_letters s) h).1 | inr h ↦ mark_letters s h ]
 
-not_first : (s : List ℕ) (b : ℕ) (v : List ℕ) → is_letter b ≡ false → (after : Stage) → after_stage Start (s ++ b ∷ v) ≡ Some after → ⊥
-not_first s b v m after e =
-    let l = and_parts (are_letters s) (are_letters (b ∷ v)) (sym (list_all-append is_letter s (b ∷ v)) ∙ start_letters (s ++ b ∷ v) after e) in
-    let k = and_parts (is_letter b) (are_letters v) l.1 in
-    let yes_letter : is_letter b ≡ true = k.0 in
-    cc
+-- a subtag that a tag has
+pub after_begun : (stage after : Stage) (s : List ℕ) → after_stage stage s ≡ Some after → IsBegun stage s
+after_begun stage after s e =
+    let k = after_subtag stage s after e in
+    record { short = k.short; alphanumeric = k.alphanumeric; letters = λ first. start_letters s after (ap (λ x. after_stage x s) (sym first) ∙ e) }
 
-not_held :
-    (stage : Stage) (s : List ℕ) (b : ℕ) (v : List ℕ) → may_hold stage b ≡ false → (after : Stage) →
-    after_stage stage (s ++ b ∷ v) ≡ Some after → ⊥
-not_held stage s b v m after e =
-    elim (starting stage) [
-      | inl first ↦ not_first s b v (ap (λ x. may_hold x b) (sym first) ∙ m) after (ap (λ x. after_stage x (s ++ b ∷ v)) (sym first) ∙ e)
-      | inr later ↦ never s b v (sym (held_later stage b later) ∙ m) (after_subtag stage (s ++ b ∷ v) after e)
-    ]
+-- ---- a byte with which the subtag can't go on: nothing is found then
 
-none_next : (stage : Stage) (v : List ℕ) → ((after : Stage) → after_stage stage v ≡ Some after → ⊥) → after_stage stage v ≡ None
-none_next stage v h = by_option (after_stage stage v) refl
+outcome-refused :
+    (stage : Stage) (e : Ends) (s : List ℕ) (ss : List (List ℕ)) → (IsBegun stage s → ⊥) → outcome stage e (s ∷ ss) ≡ None
+outcome-refused stage e s ss never = outcome-cons stage e s ss ∙ by_next (after_stage stage s) refl
   where
-    by_option : (o : Option Stage) → after_stage stage v ≡ o → o ≡ None
-    by_option None e = refl
-    by_option (Some after) e = absurd (h after e)
+    by_next :
+        (o : Option Stage) → after_stage stage s ≡ o →
+        option_map_or (λ after. outcome after (end_at after (index_after stage e s) e) ss) o None ≡ None
+    by_next None next = refl
+    by_next (Some after) next = absurd (never (after_begun stage after s next))
 
--- a byte with which the subtag that has begun can't go on
-pub IsStuck : Stage → List ℕ → ℕ → Type 0
-IsStuck stage s b = (v : List ℕ) (after : Stage) → after_stage stage (s ++ b ∷ v) ≡ Some after → ⊥
-
-pub stuck_full : (stage : Stage) (s : List ℕ) (b : ℕ) → 8 ≤ length s → IsStuck stage s b
-unfolding IsStuck
-stuck_full stage s b long = λ v after e. too_long s b v long (after_subtag stage (s ++ b ∷ v) after e)
-
-pub stuck_other : (stage : Stage) (s : List ℕ) (b : ℕ) → may_hold stage b ≡ false → IsStuck stage s b
-unfolding IsStuck
-stuck_other stage s b m = λ v after e. not_held stage s b v m after e
-
--- nothing is found then
 pub outcome-stuck :
-    (stage : Stage) (e : Ends) (s : List ℕ) (b : ℕ) (u : List ℕ) → are_alphanumeric s ≡ true → eqb b 45 ≡ false → IsStuck stage s b →
-    outcome stage e (segments (s ++ b ∷ u)) ≡ None
-unfolding IsStuck
+    (stage : Stage) (e : Ends) (s : List ℕ) (b : ℕ) (u : List ℕ) → are_alphanumeric s ≡ true → eqb b 45 ≡ false →
+    (IsBegun stage (s ++ b ∷ []) → ⊥) → outcome stage e (segments (s ++ b ∷ u)) ≡ None
 outcome-stuck stage e s b u h other stuck =
     let k = first_of u in
     let here : segments (b ∷ u) ≡ (b ∷ k.0) ∷ k.1 = slice_split-cons_no is_hyphen b u other ∙ ap (onto_first b) k.2 in
     ap (outcome stage e) (segments-prefix s (b ∷ u) (b ∷ k.0) k.1 h here)
-    ∙ outcome-cons stage e (s ++ b ∷ k.0) k.1
-    ∙ ap (λ o. option_map_or (λ after. outcome after (end_at after (index_after stage e (s ++ b ∷ k.0)) e) k.1) o None) (none_next stage (s ++ b ∷ k.0) (stuck k.0))
+    ∙ outcome-refused stage e (s ++ b ∷ k.0) k.1
+    (λ begun. stuck (begun_prefix stage (s ++ b ∷ []) k.0 (subst (IsBegun stage) (sym (append_assoc s (b ∷ []) k.0)) begun)))
 
 -- ---- a hyphen, and the end of the text
 
@@ -176,5 +154,6 @@ outcome-hyphen stage e s u h = ap (outcome stage e) (segments-hyphen s u h) ∙ 
 
 pub outcome-last :
     (stage : Stage) (e : Ends) (s : List ℕ) → are_alphanumeric s ≡ true →
-    outcome stage e (segments s) ≡ option_map_or (λ after. outcome after (end_at after (index_after stage e s) e) []) (after_stage stage s) None
-outcome-last stage e s h = ap (outcome stage e) (segments-one s h) ∙ outcome-cons stage e s []
+    outcome stage e (segments s) ≡ option_map_or (λ after. cond (may_end after) (Some (found_by after (end_at after (index_after stage e s) e))) None) (after_stage stage s) None
+unfolding outcome
+outcome-last stage e s h = ap (outcome stage e) (segments-one s h)

@@ -1,9 +1,8 @@
--- The stages: what comes after a subtag, where it ends, and which bytes it may hold.
-use Rattle.std.proofs.Common.{◌≡◌, ℕ, ◌+◌, ◌≤◌, Bool, true, false, cond, leb, ltb, ◌||◌, ◌⊎◌, List, [], ◌∷◌, ◌++◌, length, Option, Some, None, inl, inr, refl, sym, ap, ◌∙◌, arith}
-use Rattle.std.proofs.lemmas.List.{length_push}
-use Rattle.langtag_scan.specs.Class.{is_letter, is_digit, is_alphanumeric, is_primary, is_mark, is_private_subtag}
+-- The stages: what comes after a subtag, and where it ends.
+use Rattle.std.proofs.Common.{◌≡◌, ℕ, ◌+◌, Bool, true, false, cond, leb, ltb, ◌⊎◌, List, [], length, Option, Some, None, inl, inr, refl, sym, ap, ◌∙◌, arith}
+use Rattle.langtag_scan.specs.Class.{is_primary, is_mark, is_private_subtag}
 use Rattle.langtag_scan.specs.Stage.{Classes, classes_of, opened_by, after_region_by, after_script_by, after_language_by, next_by, next_stage, after_stage, is_one}
-use Rattle.langtag_scan.specs.Machine.{may_hold, end_at, index_after}
+use Rattle.langtag_scan.specs.Machine.{end_at, index_after}
 use Rattle.langtag_scan.specs.declared.ends.Ends.{Ends}
 use Rattle.langtag_scan.specs.declared.stage.Stage.{Stage}
 use Rattle.langtag_scan.specs.declared.stage.Stage.TheVariants.{Start, Language, Extended, AfterScript, AfterRegion, AfterVariant, AfterSingleton, InExtension, AfterMark, InPrivate, AfterFirstMark, InPrivateTag}
@@ -90,34 +89,11 @@ starting _ = inr (λ h. cc)
 
 -- ---- where a subtag ends
 
-pub index_after-push : (stage : Stage) (e : Ends) (s : List ℕ) (b : ℕ) → index_after stage e (s ++ b ∷ []) ≡ index_after stage e s + 1
-index_after-push Start e s b = length_push s b
-index_after-push _ e s b = omega (arith, length_push s b)
-
-pub index_after-least : (stage : Stage) (e : Ends) (s : List ℕ) → length s ≤ index_after stage e s
-index_after-least Start e s = omega arith
-index_after-least _ e s = omega arith
+pub index_after-length : (stage : Stage) (e : Ends) (s : List ℕ) → index_after stage e s ≡ index_after stage e [] + length s
+index_after-length Start e s = omega arith
+index_after-length _ e s = omega arith
 
 -- after a hyphen the next subtag begins one byte on
 pub index_after-end : (after : Stage) (n : ℕ) (e : Ends) → (after ≡ Start → ⊥) → index_after after (end_at after n e) [] ≡ n + 1
 index_after-end Start n e h = absurd (h refl)
 index_after-end _ n e later = omega arith
-
--- ---- which bytes a subtag may hold
-
-pub letter_held : (stage : Stage) (b : ℕ) → is_letter b ≡ true → may_hold stage b ≡ true
-letter_held Start b h = h
-letter_held _ b h = rw h refl
-
--- after the first subtag, any letter or digit
-pub held_later : (stage : Stage) (b : ℕ) → (stage ≡ Start → ⊥) → may_hold stage b ≡ is_alphanumeric b
-held_later Start b later = absurd (later refl)
-held_later _ b later = refl
-
--- nothing but a letter or a digit
-pub nothing_held : (stage : Stage) (b : ℕ) → is_letter b ≡ false → is_digit b ≡ false → may_hold stage b ≡ false
-nothing_held stage b l d =
-    elim (starting stage) [
-      | inl first ↦ rw first l
-      | inr later ↦ held_later stage b later ∙ ap (λ v. v || is_digit b) l ∙ d
-    ]

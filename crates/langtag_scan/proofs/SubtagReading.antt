@@ -1,88 +1,120 @@
--- What is known while a subtag is read, byte by byte.
-use Rattle.std.proofs.Common.{◌≡◌, ℕ, ◌+◌, ◌-◌, ◌<◌, ◌≤◌, Bool, true, false, eqb, ne_eqb, ◌⊎◌, List, [], ◌∷◌, ◌++◌, length, take, get_or, refl, sym, ap, subst, ◌∙◌, arith, None, inl, inr}
-use Rattle.langtag_scan.specs.Class.{is_letter, is_alphanumeric}
-use Rattle.langtag_scan.specs.Machine.{begun, may_hold}
-use Rattle.langtag_scan.specs.Shape.{leading_digits, shape_of}
-use Rattle.langtag_scan.specs.Tracking.{Tracks, IsDecided}
+-- What is known of a text once one of its subtags is read.
+use Rattle.std.proofs.Common.{◌≡◌, ℕ, ◌+◌, ◌<◌, ◌≤◌, true, false, cond, List, [], ◌∷◌, ◌++◌, length, take, drop, get_or, Option, Some, None, refl, sym, ap, subst, ◌∙◌, arith}
+use Rattle.std.specs.List.{between}
+use Rattle.std.specs.Option.{option_map_or}
+use Rattle.std.proofs.lemmas.Bool.{ne_eqb}
+use Rattle.std.proofs.lemmas.List.{take_more, take_all, take-append-drop, take-take, length-take}
+use Rattle.std.proofs.lemmas.List.Edits.{length-between, get_or-between}
+use Rattle.std.proofs.lemmas.Slice.{between_is}
+use Rattle.langtag_scan.specs.Machine.{IsBegun, Reads, HasStopped, end_at, found_by, outcome_of}
+use Rattle.langtag_scan.specs.Shape.{classes_of_shape}
+use Rattle.langtag_scan.specs.Stage.{after_by, after_stage, may_end}
+use Rattle.langtag_scan.specs.Tag.{IsIrregular}
+use Rattle.langtag_scan.specs.Tracking.{Tracks, IsDecided, IsKept, IsSubtagRead, IsReadTo}
 use Rattle.langtag_scan.specs.Viable.{IsViable}
+use Rattle.langtag_scan.specs.declared.irregular.Names.{Names}
 use Rattle.langtag_scan.specs.declared.machine.Machine.{Machine}
 use Rattle.langtag_scan.specs.declared.shape.Shape.{Shape}
-use Rattle.langtag_scan.proofs.RecogniserLaws.{read_next, viable_tracks, dead_decided}
-use Rattle.langtag_scan.proofs.ShapeLaws.{shape_letter, shape_on, shape_off}
-use Rattle.langtag_scan.proofs.TracksLaws.{tracks_grown, stuck_dead}
+use Rattle.langtag_scan.specs.declared.stage.Stage.{Stage}
+use Rattle.langtag_scan.proofs.NormalTexts.{after_subtag}
+use Rattle.langtag_scan.proofs.ReadingLaws.{IsPartRead, reads_viable, stuck_dead, refused_stops, refused_dead, reads_after, reads_ended, reads_nine}
+use Rattle.langtag_scan.proofs.RecogniserLaws.{dead_decided}
+use Rattle.langtag_scan.proofs.ShapeLaws.{after_stage-shape}
 
--- the machine with another subtag
-abbrev pub with_begun : Machine → Shape → Machine
-with_begun m s = record { stage = m.stage; begun = s; ends = m.ends }
+-- the bytes before an index, and those from it up to another
+take-between : (t : List ℕ) (start end : ℕ) → start ≤ end → take start t ++ between start end t ≡ take end t
+take-between t start end le =
+    ap (λ s. take start t ++ s) (between_is t start end)
+    ∙ ap (λ p. p ++ drop start (take end t)) (sym (take-take start end t le))
+    ∙ take-append-drop start (take end t)
 
-abbrev pub shape : ℕ → ℕ → Bool → ℕ → Shape
-shape len first letters digits = record { len = len; first = first; letters = letters; leading_digits = digits }
+part_read :
+    (t : List ℕ) (start end : ℕ) (m : Machine) → start ≤ end → end ≤ length t → Tracks (take start t) m → IsBegun m.stage (between start end t) →
+    IsPartRead (take start t) (between start end t) (take end t) end m.stage m.ends
+part_read t start end m from within tracks begun = record {
+  split = take-between t start end from;
+  long = omega (arith, length-take end t, within);
+  reads = tracks;
+  begun = begun;
+}
 
-shape_nothing : shape_of [] ≡ shape 0 0 true 0
-unfolding leading_digits
-shape_nothing = refl
+-- a byte with which the subtag can't go on
+pub stuck_decided :
+    (t : List ℕ) (start i b : ℕ) (m : Machine) → start ≤ i → i < length t → b ≡ get_or t i 0 → (b ≡ 45 → ⊥) → Tracks (take start t) m →
+    IsBegun m.stage (between start i t) → (IsBegun m.stage (between start i t ++ b ∷ []) → ⊥) → IsDecided t None (i + 1)
+stuck_decided t start i b m from within is other tracks begun stuck =
+    let k = part_read t start i m from (omega arith) tracks begun in
+    let next : take i t ++ b ∷ [] ≡ take (i + 1) t = ap (λ x. take i t ++ x ∷ []) is ∙ sym (take_more t i 0 within) in
+    dead_decided t i within (reads_viable k) (subst (λ q. IsViable q → ⊥) next (stuck_dead k b (ne_eqb b 45 other) stuck))
 
-shape_parts : (n k b c : ℕ) (l j : Bool) (d e : ℕ) → n ≡ k → b ≡ c → l ≡ j → d ≡ e → shape n b l d ≡ shape k c j e
-shape_parts n k b c l j d e len first letters digits = rw (len, first, letters, digits) refl
+module _ (t : List ℕ) (start n : ℕ) (names : Names) (m : Machine) (subtag : Shape) (read : IsSubtagRead t start m names n subtag) where
+  abbrev end : ℕ
+  end = start + subtag.len
 
--- the first byte of a subtag that begins at an index, after the byte at another
-abbrev pub IsFirst : ℕ → ℕ → ℕ → ℕ → ℕ → Type 0
-IsFirst start i b first next = ((i ≡ start) × (next ≡ b)) ⊎ ((i ≡ start → ⊥) × (next ≡ first))
+  part : IsPartRead (take start t) (between start end t) (take end t) end m.stage m.ends
+  part = part_read t start end m (omega arith) read.within read.tracks read.begun
 
-first_pushed : (start i b first next : ℕ) (x : List ℕ) → start ≤ i → i - start ≡ length x → first ≡ get_or x 0 0 → IsFirst start i b first next → next ≡ get_or (x ++ b ∷ []) 0 0
-first_pushed start i b first next [] from len is (inl h) = h.1
-first_pushed start i b first next [] from len is (inr h) = absurd (h.0 (omega (arith, len)))
-first_pushed start i b first next (a ∷ x) from len is (inl h) = absurd (omega (arith, len, h.0))
-first_pushed start i b first next (a ∷ x) from len is (inr h) = h.1 ∙ is
+  whole : end ≡ length t → take end t ≡ t
+  whole at = take_all end t (omega (arith, at))
 
--- before its first byte
-pub tracks_start :
-    (p : List ℕ) (start : ℕ) (m : Machine) → m.begun ≡ shape_of [] → Tracks p m → Tracks p (with_begun m (shape (start - start) 0 true 0))
-tracks_start p start m none tracks =
-    let at : 0 ≡ start - start = omega arith in
-    subst (λ s. Tracks p (with_begun m s)) (none ∙ shape_nothing ∙ ap (λ n. shape n 0 true 0) at) tracks
+  hyphen : end < length t → take end t ++ 45 ∷ [] ≡ take (end + 1) t
+  hyphen before = ap (λ x. take end t ++ x ∷ []) (sym (read.hyphen before)) ∙ sym (take_more t end 0 before)
 
--- a byte more
-pub tracks_next :
-    (t : List ℕ) (i b : ℕ) (m : Machine) (s next : Shape) → i < length t → b ≡ get_or t i 0 → eqb b 45 ≡ false →
-    may_hold m.stage b ≡ true → s.len < 8 → ((x : List ℕ) → s ≡ shape_of x → next ≡ shape_of (x ++ b ∷ [])) →
-    Tracks (take i t) (with_begun m s) → Tracks (take (i + 1) t) (with_begun m next)
-tracks_next t i b m s next within read other held short grows known =
-    read_next t i b (λ p. Tracks p (with_begun m s)) (λ p. Tracks p (with_begun m next)) within read
-    (λ p at h. tracks_grown p (with_begun m s) h b next other held short (grows (begun p))) known
+  next : (o : Option Stage) → after_by m.stage (classes_of_shape subtag) ≡ o → after_stage m.stage (between start end t) ≡ o
+  next o is = after_stage-shape m.stage (between start end t) subtag read.begun read.shape ∙ is
 
-pub grown_letter :
-    (start i b first next : ℕ) (letters : Bool) (digits : ℕ) → start ≤ i → IsFirst start i b first next → is_letter b ≡ true → (x : List ℕ) →
-    shape (i - start) first letters digits ≡ shape_of x → shape (i + 1 - start) next letters digits ≡ shape_of (x ++ b ∷ [])
-grown_letter start i b first next letters digits from opens letter x e =
-    let len : i - start ≡ length x = ap (λ (s : Shape). s.len) e in
-    let one = first_pushed start i b first next x from len (ap (λ (s : Shape). s.first) e) opens in
-    shape_parts _ _ _ _ letters _ digits _ (omega arith) one (ap (λ (s : Shape). s.letters) e) (ap (λ (s : Shape). s.leading_digits) e) ∙ sym (shape_letter x b letter)
+  found :
+      (o : Option Stage) → after_by m.stage (classes_of_shape subtag) ≡ o → end ≡ length t →
+      outcome_of t ≡ option_map_or (λ after. cond (may_end after) (Some (found_by after (end_at after end m.ends))) None) o None
+  found o is at =
+      ap outcome_of (sym (whole at)) ∙ reads_ended part
+      ∙ ap (λ x. option_map_or (λ after. cond (may_end after) (Some (found_by after (end_at after end m.ends))) None) x None) (next o is)
 
-pub grown_on :
-    (start i b first next : ℕ) (letters : Bool) (digits : ℕ) → start ≤ i → IsFirst start i b first next → is_alphanumeric b ≡ true → is_letter b ≡ false →
-    digits ≡ i - start → (x : List ℕ) → shape (i - start) first letters digits ≡ shape_of x →
-    shape (i + 1 - start) next false (i - start + 1) ≡ shape_of (x ++ b ∷ [])
-grown_on start i b first next letters digits from opens held none same x e =
-    let len : i - start ≡ length x = ap (λ (s : Shape). s.len) e in
-    let one = first_pushed start i b first next x from len (ap (λ (s : Shape). s.first) e) opens in
-    let all : leading_digits x ≡ length x = sym (ap (λ (s : Shape). s.leading_digits) e) ∙ same ∙ len in
-    shape_parts _ _ _ _ false false (i - start + 1) _ (omega arith) one refl (omega arith) ∙ sym (shape_on x b held none all)
+  nine : end ≡ length t → IsIrregular t → length t ≡ 9
+  nine at irregular = sym at ∙ reads_nine part (subst IsIrregular (sym (whole at)) irregular)
 
-pub grown_off :
-    (start i b first next : ℕ) (letters : Bool) (digits : ℕ) → start ≤ i → IsFirst start i b first next → is_letter b ≡ false →
-    (digits ≡ i - start → ⊥) → (x : List ℕ) → shape (i - start) first letters digits ≡ shape_of x →
-    shape (i + 1 - start) next false digits ≡ shape_of (x ++ b ∷ [])
-grown_off start i b first next letters digits from opens none other x e =
-    let len : i - start ≡ length x = ap (λ (s : Shape). s.len) e in
-    let one = first_pushed start i b first next x from len (ap (λ (s : Shape). s.first) e) opens in
-    let there : digits ≡ leading_digits x = ap (λ (s : Shape). s.leading_digits) e in
-    shape_parts _ _ _ _ false false digits _ (omega arith) one refl there ∙ sym (shape_off x b none (λ all. other (there ∙ all ∙ sym len)))
+  -- the subtag may stand there
+  pub subtag_passed :
+      (after : Stage) → after_by m.stage (classes_of_shape subtag) ≡ Some after →
+      IsReadTo t end names (record { stage = after; ends = end_at after end m.ends }) true
+  subtag_passed after is = record {
+    within = read.within;
+    kept = subst (λ k. IsKept t k names) read.count read.kept;
+    viable = reads_viable part;
+    some = λ on. omega (arith, (after_subtag m.stage (between start end t) after (next (Some after) is)).some, length-between t start end read.within);
+    tracks = λ before on. subst (λ q. Reads q after (end_at after end m.ends)) (hyphen before) (reads_after part after (next (Some after) is));
+    stopped = λ before off. absurd cc;
+    dead = λ before off. absurd cc;
+    found = found (Some after) is;
+    nine = nine;
+  }
 
--- a byte that ends all
-pub stuck_next :
-    (t : List ℕ) (i b : ℕ) (m : Machine) (s : Shape) → i < length t → b ≡ get_or t i 0 → (b ≡ 45 → ⊥) →
-    ((may_hold m.stage b ≡ false) ⊎ (8 ≤ s.len)) → Tracks (take i t) (with_begun m s) → IsDecided t None (i + 1)
-stuck_next t i b m s within read other why known =
-    dead_decided t i within (viable_tracks (take i t) (with_begun m s) known)
-    (read_next t i b (λ p. Tracks p (with_begun m s)) (λ p. IsViable p → ⊥) within read (λ p at h. stuck_dead p (with_begun m s) h b (ne_eqb b 45 other) why) known)
+  -- it may not
+  pub subtag_refused : after_by m.stage (classes_of_shape subtag) ≡ None → IsReadTo t end names m false
+  subtag_refused is = record {
+    within = read.within;
+    kept = subst (λ k. IsKept t k names) read.count read.kept;
+    viable = reads_viable part;
+    some = λ on. absurd cc;
+    tracks = λ before on. absurd cc;
+    stopped = λ before off. subst HasStopped (hyphen before) (refused_stops part (next None is));
+    dead = λ before off other. subst (λ q. IsViable q → ⊥) (hyphen before) (refused_dead part (next None is) other);
+    found = found None is;
+    nine = nine;
+  }
+
+-- a text that goes on after a first subtag of one byte
+pub first_two :
+    (t : List ℕ) (n : ℕ) (names : Names) (m : Machine) (subtag : Shape) → IsSubtagRead t 0 m names n subtag → subtag.len ≡ 1 → 1 < length t →
+    take 2 t ≡ subtag.first ∷ 45 ∷ []
+first_two t n names m subtag read one more =
+    let end : 0 + subtag.len ≡ 1 = omega (arith, one) in
+    let first : get_or t 0 0 ≡ subtag.first =
+    sym (ap (λ (x : Shape). x.first) read.shape ∙ ap (λ k. get_or (between 0 k t) 0 0) end ∙ get_or-between t 0 1 0 0 (omega arith)) in
+    let hyphen : get_or t 1 0 ≡ 45 = ap (λ k. get_or t k 0) (sym end) ∙ read.hyphen (omega (arith, end, more)) in
+    two t more ∙ ap (λ x. x ∷ get_or t 1 0 ∷ []) first ∙ ap (λ x. subtag.first ∷ x ∷ []) hyphen
+  where
+    two : (t : List ℕ) → 1 < length t → take 2 t ≡ get_or t 0 0 ∷ get_or t 1 0 ∷ []
+    two [] more = absurd (omega arith)
+    two (a ∷ []) more = absurd (omega arith)
+    two (a ∷ b ∷ t) more = refl

@@ -2,32 +2,23 @@
 -- Only contracts of private functions cite this page.
 --
 -- What implies what, here and on the page Tracking:
---   IsReadTo t n names m goes_on   after the subtags of the text t that end before n; where goes_on, and p are these bytes:
---     → Tracks p m                 a tag may begin with p, and the machine m knows which
---       → Reads p stage s ends     however p goes on, what is found follows from s, the subtag that has begun, at the stage
---     → IsReadAs p m               where p ends with s: p is a tag, if one may end at the stage
-use Rattle.std.specs.Prelude.{◌≡◌, ℕ, ◌+◌, ◌≤◌, Bool, true, List, [], ◌∷◌, ◌++◌, length, Option, Some, None, if◌then◌else◌}
-use Rattle.std.specs.List.{after_last}
+--   Tracks p m                          after the hyphen that ends p, or before the first byte, the machine m knows that:
+--     = Reads p stage ends              however p goes on, what is found follows from the subtags after p, at the stage
+--   and IsBegun stage s                 where these bytes of a subtag follow:
+--     → IsSubtagRead t start m .. s     the text t has p ++ s, and then it ends or has a hyphen
+--       → IsReadTo t end .. m goes_on   s has ended: either Tracks again after the hyphen, or what is found of t
+use Rattle.std.specs.Prelude.{◌≡◌, ℕ, ◌+◌, ◌≤◌, true, List, [], ◌∷◌, ◌++◌, length, Option, Some, None, if◌then◌else◌}
 use Rattle.std.specs.Option.{option_map_or}
-use Rattle.langtag_scan.specs.Class.{is_letter, is_alphanumeric, are_letters, are_alphanumeric}
-use Rattle.langtag_scan.specs.Subtags.{is_hyphen, segments}
+use Rattle.langtag_scan.specs.Class.{are_letters, are_alphanumeric}
+use Rattle.langtag_scan.specs.Subtags.{segments}
 use Rattle.langtag_scan.specs.Tag.{IsNormal, IsPrivate}
 use Rattle.langtag_scan.specs.Names.{IsUnnamed}
-use Rattle.langtag_scan.specs.Stage.{next_stage, after_stage, may_end}
+use Rattle.langtag_scan.specs.Stage.{after_stage, may_end}
 use Rattle.langtag_scan.specs.declared.stage.Stage.{Stage}
 use Rattle.langtag_scan.specs.declared.stage.Stage.TheVariants.{Start, Language, Extended, AfterScript, AfterRegion, AfterVariant, AfterSingleton, InExtension, AfterMark, InPrivate, AfterFirstMark, InPrivateTag}
 use Rattle.langtag_scan.specs.declared.ends.Ends.{Ends}
 use Rattle.langtag_scan.specs.declared.finding.Finding.{Finding}
 use Rattle.langtag_scan.specs.declared.finding.Finding.TheVariants.{Normal, PrivateUse}
-
--- the subtag that has begun: the bytes after the last hyphen
-abbrev pub begun : List ℕ → List ℕ
-begun p = after_last is_hyphen p
-
--- whether a subtag may hold this byte
-abbrev pub may_hold : Stage → ℕ → Bool
-may_hold Start b = is_letter b
-may_hold _ b = is_alphanumeric b
 
 -- ---- ends
 
@@ -77,13 +68,12 @@ pub record IsBegun (stage : Stage) (s : List ℕ) : Type 0 where
   pub alphanumeric : are_alphanumeric s ≡ true
   pub letters : stage ≡ Start → are_letters s ≡ true
 
--- a tag may begin with the prefix p, whose last subtag, s, has begun at a stage and with these ends; after the first
--- subtag it is no beginning of an irregular text that begins with `i`
-pub record Reads (p : List ℕ) (stage : Stage) (s : List ℕ) (e : Ends) : Type 0 where
-  pub begun : IsBegun stage s
-  pub same : (u : List ℕ) → outcome_of (p ++ u) ≡ outcome stage e (segments (s ++ u))
-  pub index : index_after stage e s ≡ length p
-  pub first : stage ≡ Start → p ≡ s
+-- a tag may begin with the prefix p, which is nothing or ends with a hyphen, and has led to a stage and these ends; after
+-- the first subtag it is no beginning of an irregular text that begins with `i`
+pub record Reads (p : List ℕ) (stage : Stage) (e : Ends) : Type 0 where
+  pub same : (u : List ℕ) → outcome_of (p ++ u) ≡ outcome stage e (segments u)
+  pub index : index_after stage e [] ≡ length p
+  pub first : stage ≡ Start → p ≡ []
   pub later : (stage ≡ Start → ⊥) → IsUnnamed p
 
 -- neither a normal tag nor a private use one may begin with it

@@ -1,9 +1,9 @@
 //! The machine that reads a text a subtag at a time and follows normal tags and private ones (RFC 5646 section 2.1).
 ghost use Rattle.std.specs.Prelude.{◌≡◌, ◌≤◌, ◌+◌, ◌^◌, [], max, take, List, ℕ, None, MatchOption, length};
-ghost use Rattle.langtag_scan.specs.Shape.{shape_of};
 ghost use Rattle.langtag_scan.specs.Found.{finding};
 ghost use Rattle.langtag_scan.specs.Stage.{may_end};
 ghost use Rattle.langtag_scan.specs.Machine.{found_by};
+ghost use Rattle.langtag_scan.specs.declared.irregular.Names.{Names};
 
 use crate::class::{is_digit, is_letter};
 use crate::ends::Ends;
@@ -19,53 +19,47 @@ use crate::stage::Stage;
 pub(crate) struct Machine {
     /// The stage after the last whole subtag.
     stage: Stage,
-    /// The subtag that has begun.
-    pub(crate) begun: Shape,
     /// The ends of the parts so far.
     ends: Ends,
 }
 
 impl Machine {
-    ghost use Rattle.langtag_scan.specs.Tracking.{Tracks, IsKept, IsDecided, IsEnded, IsSubtagRead};
+    ghost use Rattle.langtag_scan.specs.Tracking.{Tracks, IsKept, IsDecided, IsSubtagRead, IsReadTo};
 
     /// Before the first byte.
     pub(crate) fn new() -> Self
-        ensures tracks { Tracks [] result }
-        ensures nothing { result.begun ≡ shape_of [] }
+        ensures { Tracks [] result }
     {
         Machine {
             stage: Stage::Start,
-            begun: Shape::empty(),
             ends: Ends::all_at(0),
         }
     }
 
-    /// Reads the subtag that begins at an index, with the hyphen after it, and answers where it ends. Where no tag begins
-    /// so, it reads to the first byte that shows this, and answers None.
+    /// Reads the subtag that begins at an index, with the hyphen after it. Where no tag begins so, it reads to the first byte
+    /// that shows this, and answers None.
     ///
     /// The irregular texts are followed in a text of nine bytes alone.
     #[inline(always)]
     pub(crate) fn read_subtag<S: ByteSource>(
-        &mut self,
+        &self,
         source: &mut S,
         names: &mut Names,
         start: usize,
-    ) -> Option<usize>
+    ) -> Option<Shape>
         requires few { S.reads source.old ≤ 2 ^ 126 + start }
         requires reached { start ≤ S.reach source.old }
         requires within { start ≤ length (S.bytes source.old) }
-        requires tracks { Tracks (take start (S.bytes source.old)) self.old }
-        requires nothing { self.old.begun ≡ shape_of [] }
+        requires tracks { Tracks (take start (S.bytes source.old)) self.now }
         requires kept { IsKept (S.bytes source.old) start names.old }
         ensures bytes { S.bytes source.new ≡ S.bytes source.old }
         ensures read { (n : ℕ) × (start ≤ n) × (S.reads source.new + start ≡ S.reads source.old + n) × (S.reach source.new ≡ max (S.reach source.old) n) ×
-            MatchOption result (IsDecided (S.bytes source.old) None n) (λ end. IsSubtagRead (S.bytes source.old) start self.new names.new n end) }
+            MatchOption result (IsDecided (S.bytes source.old) None n) (λ subtag. IsSubtagRead (S.bytes source.old) start self.now names.new n subtag) }
     {
         let len = source.len();
         let mut index = start;
         let mut first = 0;
-        let mut letters = true;
-        let mut leading_digits = 0;
+        let mut digits = 0;
         while index < len {
             let byte = source.byte(index);
             if len == NINE {
@@ -81,34 +75,27 @@ impl Machine {
                 if self.stage.is_start() || !is_digit(byte) {
                     return None;
                 }
-                if leading_digits == index - start {
-                    leading_digits = index - start + 1;
-                }
-                letters = false;
+                digits += 1;
             }
             if index == start {
                 first = byte;
             }
             index += 1;
         }
-        self.begun = Shape {
+        Some(Shape {
             len: index - start,
             first,
-            letters,
-            leading_digits,
-        };
-        Some(index)
+            digits,
+        })
     }
 
-    /// The subtag that has begun ends before this index, at a hyphen or at the end of the text, if it may.
+    /// A subtag has ended before this index, at a hyphen or at the end of the text: whether it may stand there.
     #[inline(always)]
-    pub(crate) fn end_subtag(&mut self, index: usize) -> bool
-        ensures ended { (p : List ℕ) → length p ≡ index → Tracks p self.old → IsEnded p self.new result }
-        ensures nothing { self.new.begun ≡ shape_of [] }
+    pub(crate) fn end_subtag(&mut self, subtag: &Shape, index: usize) -> bool
+        ensures { (t : List ℕ) (start n : ℕ) (names : Names) → IsSubtagRead t start self.old names n subtag.now → index ≡ start + subtag.now.len →
+            IsReadTo t index names self.new result }
     {
-        let subtag = self.begun;
-        self.begun = Shape::empty();
-        match self.stage.next(&subtag) {
+        match self.stage.next(subtag) {
             Some(stage) => {
                 self.stage = stage;
                 self.ends.end_at(stage, index);

@@ -48,16 +48,17 @@ fn read_tag<S: ByteSource>(source: &mut S) -> Option<Found>
     let len = source.len();
     let mut machine = Machine::new();
     let mut names = Names::new(len);
-    let mut index = machine.read_subtag(source, &mut names, 0)?;
-    let first = machine.begun.first;
-    let mut goes_on = machine.end_subtag(index);
+    let subtag = machine.read_subtag(source, &mut names, 0)?;
+    let mut index = subtag.len;
+    let mut goes_on = machine.end_subtag(&subtag, index);
     // Of the irregular texts only those that begin with `i` leave what the machine follows before their end.
     if !goes_on && index == 1 && index < len {
-        return read_names(source, first);
+        return read_names(source, subtag.first);
     }
     while goes_on && index < len {
-        index = machine.read_subtag(source, &mut names, index + 1)?;
-        goes_on = machine.end_subtag(index);
+        let subtag = machine.read_subtag(source, &mut names, index + 1)?;
+        index += 1 + subtag.len;
+        goes_on = machine.end_subtag(&subtag, index);
     }
     if index < len {
         return None;

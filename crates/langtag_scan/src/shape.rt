@@ -1,7 +1,7 @@
-//! What is known of a subtag that has begun, in a few bytes: each class of subtags can be told from it.
-ghost use Rattle.std.specs.Prelude.{◌≡◌, []};
+//! What is known of a subtag that was read, in a few numbers: each class of subtags can be told from it.
+ghost use Rattle.std.specs.Prelude.{◌≡◌};
 
-use crate::class::is_mark;
+use crate::class::{is_digit, is_mark};
 
 /// How many bytes a subtag has at most.
 pub(crate) const LONGEST: usize = 8;
@@ -12,47 +12,32 @@ pub(crate) struct Shape {
     pub(crate) len: usize,
     /// The first byte, which is all of a subtag that has one byte.
     pub(crate) first: u8,
-    /// Whether all bytes are letters.
-    pub(crate) letters: bool,
-    /// How many digits it begins with.
-    pub(crate) leading_digits: usize,
+    /// How many of its bytes are digits.
+    pub(crate) digits: usize,
 }
 
 impl Shape {
-    ghost use Rattle.langtag_scan.specs.Shape.{shape_of, classes_of_shape};
-
-    /// The subtag without a byte.
-    #[tactic(auto, unfolding(crate::specs::Shape::leading_digits))]
-    pub(crate) fn empty() -> Self
-        ensures { result ≡ shape_of [] }
-    {
-        Shape {
-            len: 0,
-            first: 0,
-            letters: true,
-            leading_digits: 0,
-        }
-    }
+    ghost use Rattle.langtag_scan.specs.Shape.{classes_of_shape};
 
     /// Whether this is a primary language subtag.
     pub(crate) fn is_primary(&self) -> bool
         ensures { result ≡ (classes_of_shape self.now).primary }
     {
-        self.len >= 2 && self.letters
+        self.len >= 2 && self.digits == 0
     }
 
     /// Whether this is an extended language subtag.
     pub(crate) fn is_extended(&self) -> bool
         ensures { result ≡ (classes_of_shape self.now).extended }
     {
-        self.len == 3 && self.letters
+        self.len == 3 && self.digits == 0
     }
 
     /// Whether this is a script.
     pub(crate) fn is_script(&self) -> bool
         ensures { result ≡ (classes_of_shape self.now).script }
     {
-        self.len == 4 && self.letters
+        self.len == 4 && self.digits == 0
     }
 
     /// Whether this is a region.
@@ -60,8 +45,8 @@ impl Shape {
         ensures { result ≡ (classes_of_shape self.now).region }
     {
         match self.len {
-            2 => self.letters,
-            3 => self.leading_digits == 3,
+            2 => self.digits == 0,
+            3 => self.digits == 3,
             _ => false,
         }
     }
@@ -70,7 +55,7 @@ impl Shape {
     pub(crate) fn is_variant(&self) -> bool
         ensures { result ≡ (classes_of_shape self.now).variant }
     {
-        self.len >= 5 || (self.len == 4 && self.leading_digits > 0)
+        self.len >= 5 || (self.len == 4 && is_digit(self.first))
     }
 
     /// Whether this is a subtag of an extension.

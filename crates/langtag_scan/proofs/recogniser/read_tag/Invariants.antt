@@ -1,5 +1,4 @@
-use Rattle.std.proofs.Common.{◌≡◌, ◌+◌, ◌-◌, min, max, []}
-use Rattle.langtag_scan.specs.Shape.{shape_of}
+use Rattle.std.proofs.Common.{◌≡◌, ◌+◌, ◌-◌, ◌<◌, false, min, max}
 use Rattle.langtag_scan.specs.Tracking.{IsReadTo}
 use Rattle.langtag_scan.proofs.recogniser.read_tag.Given as goal
 
@@ -8,7 +7,7 @@ invariant-loop-goes_on g l = record {
   bytes : g.S.ByteSource.bytes l.source ≡ g.S.ByteSource.bytes l.fn.source;
   reads : g.S.ByteSource.reads l.source ≡ g.S.ByteSource.reads l.fn.source + min (l.index + 1) l.len;
   reach : g.S.ByteSource.reach l.source ≡ max (g.S.ByteSource.reach l.fn.source) (min (l.index + 1) l.len);
-  nothing : l.machine.begun ≡ shape_of [];
+  other : l.index < l.len → l.goes_on ≡ false → l.index ≡ 1 → ⊥;
   read : IsReadTo (g.S.ByteSource.bytes l.fn.source) l.index l.names l.machine l.goes_on;
 }
 

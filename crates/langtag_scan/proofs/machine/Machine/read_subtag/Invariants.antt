@@ -1,5 +1,9 @@
-use Rattle.std.proofs.Common.{◌≡◌, ◌+◌, ◌-◌, ◌<◌, ◌≤◌, take, max, slice_index}
-use Rattle.langtag_scan.specs.Tracking.{Tracks, IsKept}
+use Rattle.std.proofs.Common.{◌≡◌, ◌+◌, ◌-◌, ◌≤◌, max}
+use Rattle.std.specs.List.{between}
+use Rattle.langtag_scan.specs.Machine.{IsBegun}
+use Rattle.langtag_scan.specs.Shape.{shape_of}
+use Rattle.langtag_scan.specs.Tracking.{IsKept}
+use Rattle.langtag_scan.proofs.ShapeLaws.{shape}
 use Rattle.langtag_scan.proofs.machine.Machine.read_subtag.Given as goal
 
 abbrev pub invariant-loop-index : goal.invariant-loop-index
@@ -9,10 +13,9 @@ invariant-loop-index g l = record {
   reach : g.S.ByteSource.reach l.source ≡ max (g.S.ByteSource.reach l.fn.source) l.index;
   from : l.start ≤ l.index;
   within : l.index ≤ l.len;
-  short : l.index ≤ l.start + 8;
   kept : IsKept (g.S.ByteSource.bytes l.fn.source) l.index l.names;
-  first : l.start < l.index → l.first ≡ slice_index (g.S.ByteSource.bytes l.fn.source) l.start;
-  tracks : Tracks (take l.index (g.S.ByteSource.bytes l.fn.source)) (record { stage = l.self.stage; begun = record { len = l.index - l.start; first = l.first; letters = l.letters; leading_digits = l.leading_digits }; ends = l.self.ends });
+  begun : IsBegun l.self.stage (between l.start l.index (g.S.ByteSource.bytes l.fn.source));
+  shape : shape (l.index - l.start) l.first l.digits ≡ shape_of (between l.start l.index (g.S.ByteSource.bytes l.fn.source));
 }
 
 abbrev pub decreases-loop-index : goal.decreases-loop-index
