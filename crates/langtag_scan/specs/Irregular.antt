@@ -1,29 +1,12 @@
 -- Which irregular texts (RFC 5646 section 2.2.8) a text may still become.
 -- Only contracts of private functions cite this page.
-use Rattle.std.specs.Prelude.{ℕ, ◌==◌, ◌&&◌, ◌||◌, nat_le, nat_lt, Bool, true, false, List, [], ◌∷◌, length, codes, slice_index, slice_index_or}
+use Rattle.std.specs.Prelude.{ℕ, ◌==◌, ◌&&◌, ◌||◌, nat_le, nat_lt, Bool, true, false, List, [], ◌∷◌, length, map, slice_index, slice_index_or}
 use Rattle.langtag_scan.specs.Case.{fold_text}
+use Rattle.langtag_scan.specs.Grandfathered.{irregular_texts}
 
--- the irregular texts, folded: they stand in alphabetical order
+-- the registered texts, folded: they stand in alphabetical order
 unfoldable pub folded_texts : List (List ℕ)
-folded_texts =
-    codes "en-gb-oed"
-    ∷ codes "i-ami"
-    ∷ codes "i-bnn"
-    ∷ codes "i-default"
-    ∷ codes "i-enochian"
-    ∷ codes "i-hak"
-    ∷ codes "i-klingon"
-    ∷ codes "i-lux"
-    ∷ codes "i-mingo"
-    ∷ codes "i-navajo"
-    ∷ codes "i-pwn"
-    ∷ codes "i-tao"
-    ∷ codes "i-tay"
-    ∷ codes "i-tsu"
-    ∷ codes "sgn-be-fr"
-    ∷ codes "sgn-be-nl"
-    ∷ codes "sgn-ch-de"
-    ∷ []
+folded_texts = map fold_text irregular_texts
 
 abbrev pub folded_at : ℕ → List ℕ
 folded_at k = slice_index_or folded_texts k []
