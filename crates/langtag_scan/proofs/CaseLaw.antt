@@ -57,7 +57,7 @@ length-fold s = length-map s fold_byte
 
 -- a test of bytes that the fold does not change, of each byte, and of a subtag of one
 module _ (p : ℕ → Bool) (same : (b : ℕ) → p (fold_byte b) ≡ p b) where
-  all-fold : (s : List ℕ) → list_all p (fold_text s) ≡ list_all p s
+  pub all-fold : (s : List ℕ) → list_all p (fold_text s) ≡ list_all p s
   all-fold [] = refl
   all-fold (b ∷ s) = rw (same b, all-fold s) refl
 
