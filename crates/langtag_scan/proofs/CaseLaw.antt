@@ -1,5 +1,5 @@
 -- The case of letters changes no class, no segment and no stage; so it changes no kind of tag, no part and no end.
-use Rattle.std.proofs.Common.{◌≡◌, ℕ, ◌+◌, ◌≤◌, Bool, true, false, cond, eqb, List, [], ◌∷◌, ◌++◌, length, map, Option, Some, None, ◌⊎◌, inl, inr, refl, sym, ap, ◌∙◌, arith}
+use Rattle.std.proofs.Common.{◌≡◌, ℕ, Bool, true, false, cond, eqb, List, [], ◌∷◌, ◌++◌, length, map, Option, Some, None, inl, inr, refl, sym, ap, ◌∙◌, arith}
 use Rattle.std.specs.Prelude.{IsTrue, IfSome}
 use Rattle.std.specs.List.{AllByRecursion, list_all, flat_map, onto_first}
 use Rattle.std.specs.Option.{option_map, option_map_or}
@@ -21,26 +21,22 @@ use Rattle.langtag_scan.proofs.Runs.{runs}
 
 -- ---- bytes
 
--- the fold of a capital letter, and of any other byte
-fold_cases : (b : ℕ) → ((65 ≤ b) × (b ≤ 90) × (fold_byte b ≡ b + 32)) ⊎ (fold_byte b ≡ b)
-unfolding fold_byte
-fold_cases b = grind (arith, nat_tests)
-
--- so the fold changes no class of bytes
+-- the fold changes no class of bytes
 pub is_letter-fold : (b : ℕ) → is_letter (fold_byte b) ≡ is_letter b
-unfolding is_letter
-is_letter-fold b = elim (fold_cases b) [ inl h ↦ rw h.2 (grind (arith, nat_tests)) | inr h ↦ rw h refl ]
+unfolding fold_byte is_letter
+is_letter-fold b = grind (arith, nat_tests)
 
 is_digit-fold : (b : ℕ) → is_digit (fold_byte b) ≡ is_digit b
-unfolding is_digit
-is_digit-fold b = elim (fold_cases b) [ inl h ↦ rw h.2 (grind (arith, nat_tests)) | inr h ↦ rw h refl ]
+unfolding fold_byte is_digit
+is_digit-fold b = grind (arith, nat_tests)
 
 pub is_mark-fold : (b : ℕ) → is_mark (fold_byte b) ≡ is_mark b
-unfolding is_mark
-is_mark-fold b = elim (fold_cases b) [ inl h ↦ rw h.2 (grind (arith, nat_tests)) | inr h ↦ rw h refl ]
+unfolding fold_byte is_mark
+is_mark-fold b = grind (arith, nat_tests)
 
 pub hyphen-fold : (b : ℕ) → eqb (fold_byte b) 45 ≡ eqb b 45
-hyphen-fold b = elim (fold_cases b) [ inl h ↦ rw h.2 (grind (arith, nat_tests)) | inr h ↦ rw h refl ]
+unfolding fold_byte
+hyphen-fold b = grind (arith, nat_tests)
 
 is_alphanumeric-fold : (b : ℕ) → is_alphanumeric (fold_byte b) ≡ is_alphanumeric b
 is_alphanumeric-fold b = rw (is_letter-fold b, is_digit-fold b) refl
@@ -74,24 +70,17 @@ starts_with_digit-fold (b ∷ s) = is_digit-fold b
 classes-fold : (s : List ℕ) → classes_of (fold_text s) ≡ classes_of s
 unfolding is_primary is_extended is_script is_region is_variant is_extension_subtag is_private_subtag
 classes-fold s =
-    simp (length-fold, all-fold is_letter is_letter-fold, all-fold is_digit is_digit-fold, all-fold is_alphanumeric is_alphanumeric-fold, starts_with_digit-fold, is_one-fold is_mark is_mark-fold, is_one-fold is_singleton is_singleton-fold)
+    let letters = all-fold is_letter is_letter-fold in
+    let digits = all-fold is_digit is_digit-fold in
+    let each = all-fold is_alphanumeric is_alphanumeric-fold in
+    simp (length-fold, letters, digits, each, starts_with_digit-fold, is_one-fold is_mark is_mark-fold, is_one-fold is_singleton is_singleton-fold)
 
--- so where a subtag, each of a list, or the one that may be there is of a class, the fold is
-module _ (is : Classes → Bool) where
-  class-fold : (s : List ℕ) → IsTrue (is (classes_of s)) → IsTrue (is (classes_of (fold_text s)))
-  class-fold s fits = ap is (classes-fold s) ∙ fits
+-- so the fold is of a class where the subtag is
+abbrev IsOf : (Classes → Bool) → List ℕ → Type 0
+IsOf is s = IsTrue (is (classes_of s))
 
-  each-fold :
-      (ss : List (List ℕ)) → AllByRecursion (λ s. IsTrue (is (classes_of s))) ss →
-      AllByRecursion (λ s. IsTrue (is (classes_of s))) (map fold_text ss)
-  each-fold [] fits = tt
-  each-fold (s ∷ ss) fits = (class-fold s fits.0, each-fold ss fits.1)
-
-  if_some-fold :
-      (o : Option (List ℕ)) → IfSome o (λ s. IsTrue (is (classes_of s))) →
-      IfSome (option_map fold_text o) (λ s. IsTrue (is (classes_of s)))
-  if_some-fold None fits = tt
-  if_some-fold (Some s) fits = class-fold s fits
+class-fold : (is : Classes → Bool) (s : List ℕ) → IsOf is s → IsOf is (fold_text s)
+class-fold is s fits = ap is (classes-fold s) ∙ fits
 
 -- ---- stages
 
@@ -114,20 +103,17 @@ runs_private-fold (s ∷ ss) = rw (is_one-fold is_mark is_mark-fold s, runs-fold
 
 -- ---- hyphens
 
--- a folded byte goes before the first of the folded segments
-onto-map : (b : ℕ) (ss : List (List ℕ)) → onto_first (fold_byte b) (map fold_text ss) ≡ map fold_text (onto_first b ss)
-onto-map b [] = refl
-onto-map b (s ∷ ss) = refl
-
--- a choice of segments, folded
-cond-map : (v : Bool) (ss us : List (List ℕ)) → cond v (map fold_text ss) (map fold_text us) ≡ map fold_text (cond v ss us)
-cond-map true ss us = refl
-cond-map false ss us = refl
-
 -- the segments of a folded text are those of the text, folded
 pub segments-fold : (t : List ℕ) → segments (fold_text t) ≡ map fold_text (segments t)
 segments-fold [] = refl
-segments-fold (b ∷ t) = rw (hyphen-fold b, segments-fold t, onto-map b (segments t)) (cond-map (eqb b 45) ([] ∷ segments t) (onto_first b (segments t)))
+segments-fold (b ∷ t) = rw (hyphen-fold b, segments-fold t) (one_more (eqb b 45) (segments t))
+  where
+    one_more :
+        (v : Bool) (ss : List (List ℕ)) →
+        cond v ([] ∷ map fold_text ss) (onto_first (fold_byte b) (map fold_text ss)) ≡ map fold_text (cond v ([] ∷ ss) (onto_first b ss))
+    one_more true ss = refl
+    one_more false [] = refl
+    one_more false (s ∷ ss) = refl
 
 -- and a join of folded subtags is the join, folded
 pub join-fold : (ss : List (List ℕ)) → join (map fold_text ss) ≡ fold_text (join ss)
@@ -161,21 +147,33 @@ flat-fold r = simp (one_flat-fold, extensions-fold, private_part-fold, map-appen
 pub spell-fold : (r : Record) → spell (fold_record r) ≡ fold_text (spell r)
 spell-fold r = ap join (flat-fold r) ∙ join-fold (flat r)
 
--- folded extensions are extensions
-is_extension-fold : (es : List Extension) → AllByRecursion IsWellFormedExtension es → AllByRecursion IsWellFormedExtension (map fold_extension es)
-is_extension-fold [] fits = tt
-is_extension-fold (e ∷ es) fits =
-    let first : IsWellFormedExtension (fold_extension e) = record {
-      singleton = class-fold (λ c. c.singleton) (e.singleton ∷ []) fits.0.singleton;
-      some = omega (arith, fits.0.some, length-map e.subtags fold_text);
-      subtags = each-fold (λ c. c.extension_subtag) e.subtags fits.0.subtags;
-    } in
-    (first, is_extension-fold es fits.1)
+-- what holds of the images of all members of a list, and of the one that may be there
+module _ {X Y : Type 0} (P : X → Type 0) (Q : Y → Type 0) (f : X → Y) (step : (x : X) → P x → Q (f x)) where
+  each-map : (xs : List X) → AllByRecursion P xs → AllByRecursion Q (map f xs)
+  each-map [] fits = tt
+  each-map (x ∷ xs) fits = (step x fits.0, each-map xs fits.1)
+
+  if_some-map : (o : Option X) → IfSome o P → IfSome (option_map f o) Q
+  if_some-map None fits = tt
+  if_some-map (Some x) fits = step x fits
+
+each-fold : (is : Classes → Bool) (ss : List (List ℕ)) → AllByRecursion (IsOf is) ss → AllByRecursion (IsOf is) (map fold_text ss)
+each-fold is = each-map (IsOf is) (IsOf is) fold_text (class-fold is)
+
+if_some-fold : (is : Classes → Bool) (o : Option (List ℕ)) → IfSome o (IsOf is) → IfSome (option_map fold_text o) (IsOf is)
+if_some-fold is = if_some-map (IsOf is) (IsOf is) fold_text (class-fold is)
+
+-- a folded extension is one
+extension-fold : (e : Extension) → IsWellFormedExtension e → IsWellFormedExtension (fold_extension e)
+extension-fold e fits = record {
+  singleton = class-fold (λ c. c.singleton) (e.singleton ∷ []) fits.singleton;
+  some = omega (arith, fits.some, length-map e.subtags fold_text);
+  subtags = each-fold (λ c. c.extension_subtag) e.subtags fits.subtags;
+}
 
 -- a folded private use part is one
-is_private_use-fold : (o : Option PrivateUse) → IfSome o IsWellFormedPrivateUse → IfSome (option_map fold_private_use o) IsWellFormedPrivateUse
-is_private_use-fold None fits = tt
-is_private_use-fold (Some p) fits = record {
+private_use-fold : (p : PrivateUse) → IsWellFormedPrivateUse p → IsWellFormedPrivateUse (fold_private_use p)
+private_use-fold p fits = record {
   mark = class-fold (λ c. c.mark) (p.mark ∷ []) fits.mark;
   some = omega (arith, fits.some, length-map p.subtags fold_text);
   subtags = each-fold (λ c. c.private_subtag) p.subtags fits.subtags;
@@ -191,8 +189,8 @@ well_formed-fold r fits = record {
   script = if_some-fold (λ c. c.script) r.script fits.script;
   region = if_some-fold (λ c. c.region) r.region fits.region;
   variants = each-fold (λ c. c.variant) r.variants fits.variants;
-  extensions = is_extension-fold r.extensions fits.extensions;
-  private_use = is_private_use-fold r.private_use fits.private_use;
+  extensions = each-map IsWellFormedExtension IsWellFormedExtension fold_extension extension-fold r.extensions fits.extensions;
+  private_use = if_some-map IsWellFormedPrivateUse IsWellFormedPrivateUse fold_private_use private_use-fold r.private_use fits.private_use;
 }
 
 -- a join of folded subtags is as long
@@ -214,18 +212,13 @@ alike_records r q fits fit alike =
 pub alike_ends : (r q : Record) → AlikeRecords r q → ends_of r ≡ ends_of q
 alike_ends r q alike = sym (ends-fold r) ∙ ap ends_of alike ∙ ends-fold q
 
--- what the fold does not change of lists of subtags, it does not change of the segments of a text
-pub segments_test-fold :
-    (test : List (List ℕ) → Bool) → ((ss : List (List ℕ)) → test (map fold_text ss) ≡ test ss) → (t : List ℕ) →
-    test (segments (fold_text t)) ≡ test (segments t)
-segments_test-fold test same t = ap test (segments-fold t) ∙ same (segments t)
+-- a test of lists of subtags that the fold does not change answers alike of the segments of alike texts
+module _ (test : List (List ℕ) → Bool) (same : (ss : List (List ℕ)) → test (map fold_text ss) ≡ test ss) where
+  pub segments_test-fold : (t : List ℕ) → test (segments (fold_text t)) ≡ test (segments t)
+  segments_test-fold t = ap test (segments-fold t) ∙ same (segments t)
 
--- so alike texts answer alike
-alike_test :
-    (test : List (List ℕ) → Bool) → ((ss : List (List ℕ)) → test (map fold_text ss) ≡ test ss) → (t u : List ℕ) → Alike t u →
-    test (segments u) ≡ test (segments t)
-alike_test test same t u alike =
-    sym (segments_test-fold test same u) ∙ ap (λ v. test (segments v)) (sym alike) ∙ segments_test-fold test same t
+  alike_test : (t u : List ℕ) → Alike t u → test (segments u) ≡ test (segments t)
+  alike_test t u alike = sym (segments_test-fold u) ∙ ap (λ v. test (segments v)) (sym alike) ∙ segments_test-fold t
 
 -- a text that is alike a normal one is normal
 pub alike_normal : (t u : List ℕ) → Alike t u → IsNormal t → IsNormal u

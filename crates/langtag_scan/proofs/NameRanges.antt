@@ -3,12 +3,12 @@
 use Rattle.std.proofs.Common.{◌≡◌, ℕ, ◌-◌, ◌<◌, ◌≤◌, Bool, true, false, ◌&&◌, List, ◌++◌, length, inl, inr, sym, ap, ◌∙◌, arith}
 use Rattle.std.proofs.lemmas.Bool.{and_parts, cases_lt}
 use Rattle.std.proofs.lemmas.Bool.Decides.{nat_tests}
-use Rattle.langtag_scan.specs.Irregular.{folded_at, is_possible, matters, is_followed}
+use Rattle.langtag_scan.specs.Irregular.{folded_at, is_possible, is_within, matters, is_followed}
 use Rattle.langtag_scan.specs.Names.{Follows, IsGone}
 use Rattle.langtag_scan.specs.Tag.{IsIrregular, IsIrregularAt}
 use Rattle.langtag_scan.specs.declared.irregular.Names.{Names}
 use Rattle.langtag_scan.proofs.IrregularNames.{possible_once, irregular_from_length}
-use Rattle.langtag_scan.proofs.NamesByLength.{is_within, followed_itself, followed_between, followed-append}
+use Rattle.langtag_scan.proofs.NamesByLength.{followed_itself, followed_between, followed-append}
 
 -- ---- how a range narrows
 
@@ -21,31 +21,34 @@ pub record Narrows (passes : ℕ → Bool) (low high from to : ℕ) : Type 0 whe
   pub none_after : (k : ℕ) → to ≤ k → k < high → passes k ≡ false
   pub last : from < to → passes (to - 1) ≡ true
 
--- the texts that matter and may begin so are neighbours: where they are those of the old range that pass, the new range has just them
+-- the texts that matter and may begin so are neighbours, so where they are those of the old range that pass, they are the new one
 pub followed_narrowed :
     (len : ℕ) (p : List ℕ) (passes : ℕ → Bool) (low high from to : ℕ) → high ≤ 17 →
     ((k : ℕ) → k < 17 → is_followed len p k ≡ (is_within low high k && passes k)) → Narrows passes low high from to → (k : ℕ) → k < 17 →
     is_followed len p k ≡ is_within from to k
 followed_narrowed len p passes low high from to few left narrows k within =
     elim (cases_lt k from) [
-      | inl before ↦ left k within ∙ out_before before
-      | inr after ↦ elim (cases_lt k to) [
-        | inl inside ↦ followed_between len p from k (to - 1) after (omega arith) (omega (arith, narrows.below)) (there from (omega (arith, narrows.above)) (omega (arith, narrows.below)) (narrows.first (omega (arith, narrows.below)))) (there (to - 1) (omega (arith, narrows.above)) (omega (arith, narrows.below)) (narrows.last (omega arith))) ∙ sym (in_range from to k after inside)
-        | inr past ↦ left k within ∙ out_after past
-      ]
+      | inl before ↦ left k within ∙ none_before before
+      | inr after ↦ elim (cases_lt k to) [ inl inside ↦ between after inside ∙ in_range from to k after inside | inr past ↦ left k within ∙ none_after past ]
     ]
   where
-    in_range : (low high k : ℕ) → low ≤ k → k < high → is_within low high k ≡ true
-    in_range low high k above below = grind (arith, nat_tests)
+    in_range : (low high k : ℕ) → low ≤ k → k < high → true ≡ is_within low high k
+    in_range low high k after before = grind (arith, nat_tests)
 
-    there : (j : ℕ) → low ≤ j → j < high → passes j ≡ true → is_followed len p j ≡ true
-    there j above below passed = left j (omega arith) ∙ grind (arith, nat_tests)
+    followed : (j : ℕ) → low ≤ j → j < high → passes j ≡ true → is_followed len p j ≡ true
+    followed j after before passed = left j (omega arith) ∙ grind (arith, nat_tests)
 
-    out_before : k < from → (is_within low high k && passes k) ≡ is_within from to k
-    out_before before = grind (arith, nat_tests, narrows.none_before k)
+    none_before : k < from → (is_within low high k && passes k) ≡ is_within from to k
+    none_before before = grind (arith, nat_tests, narrows.none_before k)
 
-    out_after : to ≤ k → (is_within low high k && passes k) ≡ is_within from to k
-    out_after past = grind (arith, nat_tests, narrows.none_after k)
+    none_after : to ≤ k → (is_within low high k && passes k) ≡ is_within from to k
+    none_after past = grind (arith, nat_tests, narrows.none_after k)
+
+    between : from ≤ k → k < to → is_followed len p k ≡ true
+    between after inside =
+        let first = followed from narrows.above (omega arith) (narrows.first (omega arith)) in
+        let last = followed (to - 1) (omega arith) (omega arith) (narrows.last (omega arith)) in
+        followed_between len p from k (to - 1) after (omega arith) (omega arith) first last
 
 -- ---- what a range says
 

@@ -1,6 +1,6 @@
 -- Which irregular texts a text is compared with, by its length: all where it has nine bytes, and else those that begin
 -- with `i`. The others are each as long as nine bytes, and begin like a normal tag.
-use Rattle.std.proofs.Common.{◌≡◌, ℕ, ◌<◌, ◌≤◌, Bool, true, false, cond, eqb, ltb, leb, ◌&&◌, ◌||◌, List, [], ◌∷◌, ◌++◌, length, slice_index, inl, inr, refl, sym, ap, subst, ◌∙◌, arith, append_assoc, append-nil}
+use Rattle.std.proofs.Common.{◌≡◌, ℕ, ◌<◌, ◌≤◌, true, false, cond, eqb, ltb, ◌&&◌, ◌||◌, List, [], ◌∷◌, ◌++◌, length, slice_index, inl, inr, refl, sym, ap, subst, ◌∙◌, arith, append_assoc, append-nil}
 use Rattle.std.proofs.Math.Bool.{and-true, and_assoc}
 use Rattle.std.proofs.lemmas.Bool.{and_parts, and_from, and_left, and_cases, or_parts, eqb-true, agree_below_at, both_ways}
 use Rattle.std.proofs.lemmas.Bool.Decides.{nat_tests}
@@ -9,7 +9,7 @@ use Rattle.langtag_scan.specs.declared.stage.Stage.TheVariants.{Start}
 use Rattle.langtag_scan.specs.Case.{fold_byte, fold_text}
 use Rattle.langtag_scan.specs.Class.{is_letter, is_digit, is_primary, is_extended, is_script, is_region, is_variant, is_mark, is_singleton}
 use Rattle.langtag_scan.specs.Grandfathered.{grandfathered_tags, irregular_texts}
-use Rattle.langtag_scan.specs.Irregular.{folded_texts, folded_at, has_at, is_possible, matters, is_followed}
+use Rattle.langtag_scan.specs.Irregular.{folded_texts, folded_at, has_at, is_possible, is_within, matters, is_followed}
 use Rattle.langtag_scan.specs.Machine.{HasStopped}
 use Rattle.langtag_scan.specs.Subtags.{segments}
 use Rattle.langtag_scan.specs.Tag.{IsNormal, IsIrregular, IsIrregularAt, IsTag}
@@ -18,10 +18,6 @@ use Rattle.langtag_scan.proofs.CaseLaw.{runs-fold, segments_test-fold}
 use Rattle.langtag_scan.proofs.IrregularNames.{irregular_fold, possible_prefix, possible-push, possible_between, possible_itself}
 use Rattle.langtag_scan.proofs.NormalTexts.{normal_from_runs}
 use Rattle.langtag_scan.proofs.Runs.{runs}
-
--- whether an index lies from one up to another
-abbrev pub is_within : ℕ → ℕ → ℕ → Bool
-is_within low high k = leb low k && ltb k high
 
 -- ---- the texts that matter and are possible
 

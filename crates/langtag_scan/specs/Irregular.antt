@@ -21,6 +21,10 @@ is_prefix (b ∷ p) (c ∷ text) = (b == c) && is_prefix p text
 abbrev pub has_at : List ℕ → ℕ → ℕ → Bool
 has_at text index b = nat_lt index (length text) && (slice_index text index == b)
 
+-- whether an index lies from one up to another
+abbrev pub is_within : ℕ → ℕ → ℕ → Bool
+is_within low high k = nat_le low k && nat_lt k high
+
 -- whether a text that is alike the irregular one at an index of the table may begin with a prefix
 abbrev pub is_possible : List ℕ → ℕ → Bool
 is_possible p k = is_prefix (fold_text p) (folded_at k)
@@ -28,7 +32,7 @@ is_possible p k = is_prefix (fold_text p) (folded_at k)
 -- whether a text of this length has to be compared with the irregular one at an index of the table. Those that do not
 -- begin with `i` have nine bytes, and each prefix of them begins a normal tag, too.
 abbrev pub matters : ℕ → ℕ → Bool
-matters len k = (len == 9) || (nat_le 1 k && nat_lt k 14)
+matters len k = (len == 9) || is_within 1 14 k
 
 -- whether it does, and a text with this prefix may be alike it
 abbrev pub is_followed : ℕ → List ℕ → ℕ → Bool

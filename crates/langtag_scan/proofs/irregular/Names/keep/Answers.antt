@@ -1,7 +1,7 @@
 use Rattle.std.proofs.Common.{◌≡◌, ℕ, ◌<◌, Bool, ◌&&◌, List, [], ◌∷◌, ◌++◌, refl, sym, ap, ◌∙◌, arith}
-use Rattle.langtag_scan.specs.Irregular.{folded_at, has_at, is_followed, matters}
+use Rattle.langtag_scan.specs.Irregular.{folded_at, has_at, is_within, is_followed, matters}
 use Rattle.langtag_scan.proofs.NameRanges.{Narrows, followed_narrowed}
-use Rattle.langtag_scan.proofs.NamesByLength.{is_within, followed-push, followed_first}
+use Rattle.langtag_scan.proofs.NamesByLength.{followed-push, followed_first}
 use Rattle.langtag_scan.proofs.irregular.Names.keep.Goals as goal
 
 pub returns-then-index-eq0-clause-follows : goal.returns-then-index-eq0-clause-follows
