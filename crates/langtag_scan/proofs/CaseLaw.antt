@@ -130,22 +130,20 @@ one_flat-fold None = refl
 one_flat-fold (Some s) = refl
 
 -- those of the extensions likewise
-extensions-fold : (es : List Extension) → flat_map extension_flat (map fold_extension es) ≡ map fold_text (flat_map extension_flat es)
+pub extensions-fold : (es : List Extension) → flat_map extension_flat (map fold_extension es) ≡ map fold_text (flat_map extension_flat es)
 extensions-fold [] = refl
 extensions-fold (e ∷ es) = rw (extensions-fold es) (sym (map-append fold_text (extension_flat e) (flat_map extension_flat es)))
 
 -- those of the private use part
-private_part-fold : (o : Option PrivateUse) → private_part_flat (option_map fold_private_use o) ≡ map fold_text (private_part_flat o)
+pub private_part-fold : (o : Option PrivateUse) → private_part_flat (option_map fold_private_use o) ≡ map fold_text (private_part_flat o)
 private_part-fold None = refl
 private_part-fold (Some p) = refl
 
--- the subtags of a folded record are those of the record, folded
-flat-fold : (r : Record) → flat (fold_record r) ≡ map fold_text (flat r)
-flat-fold r = simp (one_flat-fold, extensions-fold, private_part-fold, map-append)
-
--- and it spells the folded text
-pub spell-fold : (r : Record) → spell (fold_record r) ≡ fold_text (spell r)
-spell-fold r = ap join (flat-fold r) ∙ join-fold (flat r)
+-- so a folded record spells the folded text
+spell-fold : (r : Record) → spell (fold_record r) ≡ fold_text (spell r)
+spell-fold r =
+    let folded : flat (fold_record r) ≡ map fold_text (flat r) = simp (one_flat-fold, extensions-fold, private_part-fold, map-append) in
+    ap join folded ∙ join-fold (flat r)
 
 -- what holds of the images of all members of a list, and of the one that may be there
 module _ {X Y : Type 0} (P : X → Type 0) (Q : Y → Type 0) (f : X → Y) (step : (x : X) → P x → Q (f x)) where
@@ -180,7 +178,7 @@ private_use-fold p fits = record {
 }
 
 -- a folded record is well formed where the record is
-pub well_formed-fold : (r : Record) → IsWellFormed r → IsWellFormed (fold_record r)
+well_formed-fold : (r : Record) → IsWellFormed r → IsWellFormed (fold_record r)
 well_formed-fold r fits = record {
   primary = class-fold (λ c. c.primary) r.primary fits.primary;
   extended = each-fold (λ c. c.extended) r.extended fits.extended;
@@ -198,19 +196,10 @@ length-join-fold : (s : List ℕ) (ss : List (List ℕ)) → length (join (fold_
 length-join-fold s ss = ap length (join-fold (s ∷ ss)) ∙ length-fold (join (s ∷ ss))
 
 -- the parts of a folded record end where those of the record do
-pub ends-fold : (r : Record) → ends_of (fold_record r) ≡ ends_of r
+ends-fold : (r : Record) → ends_of (fold_record r) ≡ ends_of r
 ends-fold r = simp (one_flat-fold, extensions-fold, private_part-fold, ← map-append, length-join-fold)
 
 -- ---- the law
-
--- well-formed records that are spelled alike are alike
-pub alike_records : (r q : Record) → IsWellFormed r → IsWellFormed q → Alike (spell r) (spell q) → AlikeRecords r q
-alike_records r q fits fit alike =
-    spelled_once (fold_record r) (fold_record q) (well_formed-fold r fits) (well_formed-fold q fit) (spell-fold r ∙ alike ∙ sym (spell-fold q))
-
--- and alike records have the same ends
-pub alike_ends : (r q : Record) → AlikeRecords r q → ends_of r ≡ ends_of q
-alike_ends r q alike = sym (ends-fold r) ∙ ap ends_of alike ∙ ends-fold q
 
 -- a test of lists of subtags that the fold does not change answers alike of the segments of alike texts
 module _ (test : List (List ℕ) → Bool) (same : (ss : List (List ℕ)) → test (map fold_text ss) ≡ test ss) where
@@ -245,5 +234,8 @@ pub alike_parts : (t u : List ℕ) → Alike t u → EachRecord t (λ r. IsSpell
 unfolding IsNormal
 alike_parts t u alike r (fits, spells) =
     let other = alike_normal t u alike (r, (fits, spells)) in
-    let same : AlikeRecords r other.0 = alike_records r other.0 fits other.1.0 (ap fold_text spells ∙ alike ∙ ap fold_text (sym other.1.1)) in
-    (other.0, other.1, same, alike_ends r other.0 same)
+    let q : Record = other.0 in
+    let spelled : spell (fold_record r) ≡ spell (fold_record q) =
+    spell-fold r ∙ ap fold_text spells ∙ alike ∙ ap fold_text (sym other.1.1) ∙ sym (spell-fold q) in
+    let same : AlikeRecords r q = spelled_once (fold_record r) (fold_record q) (well_formed-fold r fits) (well_formed-fold q other.1.0) spelled in
+    (q, other.1, same, sym (ends-fold r) ∙ ap ends_of same ∙ ends-fold q)

@@ -48,15 +48,12 @@ found_ends text (Irregular index) ends h at = rw at (λ is. normal_no_irregular 
 
 -- ---- what is merely so is at hand
 
-pub private_had : (text : List ℕ) → ∥ IsPrivate text ∥₁ → IsPrivate text
-private_had text merely = private_from_runs text (∥∥₁_elim merely (Bool-set _ _) (runs_from_private text))
-
-pub irregular_had : (index : ℕ) (text : List ℕ) → ∥ IsIrregularAt index text ∥₁ → IsIrregularAt index text
+irregular_had : (index : ℕ) (text : List ℕ) → ∥ IsIrregularAt index text ∥₁ → IsIrregularAt index text
 irregular_had index text merely =
     let whole : (index < 17) × (folded_at index ≡ fold_text text) = ∥∥₁_elim merely (hlevel props) (irregular_fold text index) in
     irregular_from_fold text index whole.0 whole.1
 
 pub found_had : (text : List ℕ) (found : Finding) → ∥ IsFoundOf text found ∥₁ → IsFoundOf text found
 found_had text (Normal ends) merely = ends_had text ends merely
-found_had text PrivateUse merely = private_had text merely
+found_had text PrivateUse merely = private_from_runs text (∥∥₁_elim merely (Bool-set _ _) (runs_from_private text))
 found_had text (Irregular index) merely = irregular_had index text merely

@@ -49,7 +49,7 @@ prefix_rest (b ∷ p) (c ∷ text) h =
     rw (same, prefix_rest p text k.1) refl
 
 -- a prefix with one byte more
-is_prefix-push : (p text : List ℕ) (b : ℕ) → is_prefix (p ++ b ∷ []) text ≡ (is_prefix p text && has_at text (length p) b)
+pub is_prefix-push : (p text : List ℕ) (b : ℕ) → is_prefix (p ++ b ∷ []) text ≡ (is_prefix p text && has_at text (length p) b)
 is_prefix-push [] [] b = refl
 is_prefix-push [] (c ∷ text) b = first b c (length text)
   where
@@ -57,17 +57,11 @@ is_prefix-push [] (c ∷ text) b = first b c (length text)
     first b c n = grind (arith, nat_tests)
 is_prefix-push (x ∷ p) [] b = refl
 is_prefix-push (x ∷ p) (c ∷ text) b =
-    ap (λ v. eqb x c && v) (is_prefix-push p text b) ∙ further (eqb x c) (is_prefix p text) (eqb (get_or text (length p) 0) b) (length p) (length text)
+    ap (λ v. eqb x c && v) (is_prefix-push p text b)
+    ∙ further (eqb x c) (is_prefix p text) (eqb (get_or text (length p) 0) b) (length p) (length text)
   where
     further : (x y z : Bool) (m n : ℕ) → (x && (y && (ltb m n && z))) ≡ ((x && y) && (ltb (suc m) (suc n) && z))
     further x y z m n = grind (arith, nat_tests)
-
--- what is possible after one byte more: what was, and has the byte, folded
-pub possible-push : (p : List ℕ) (b k : ℕ) → is_possible (p ++ b ∷ []) k ≡ (is_possible p k && has_at (folded_at k) (length p) (fold_byte b))
-possible-push p b k =
-    ap (λ q. is_prefix q (folded_at k)) (map-append fold_byte p (b ∷ []))
-    ∙ is_prefix-push (fold_text p) (folded_at k) (fold_byte b)
-    ∙ ap (λ n. is_possible p k && has_at (folded_at k) n (fold_byte b)) (length-map p fold_byte)
 
 -- ---- alphabetical order
 
@@ -94,26 +88,25 @@ between_prefixes (b ∷ p) (c ∷ x) (d ∷ y) (e ∷ z) xy yz fx fz =
         (eqb b e && pz) ≡ true → (eqb b d && py) ≡ true
     step b c d e px py pz xy yz rest upto_y upto_z fx fz = grind (arith, nat_tests)
 
--- two tests of two numbers that answer alike of all below another
-each_pair :
-    (f g : ℕ → ℕ → Bool) (n : ℕ) → agree_below (λ i. agree_below (f i) (g i) n) (λ i. true) n ≡ true → (i j : ℕ) → i < n → j < n →
-    f i j ≡ g i j
-each_pair f g n all i j in_i in_j = agree_below_at (f i) (g i) n j (agree_below_at (λ i. agree_below (f i) (g i) n) (λ i. true) n i all in_i) in_j
+-- the table stands in this order, and none of its texts begins another: two tests of each pair
+each_pair : (f g : ℕ → ℕ → Bool) (n : ℕ) → agree_below (λ i. agree_below (f i) (g i) n) (λ i. true) n ≡ true → (i j : ℕ) → i < n → j < n → f i j ≡ g i j
+each_pair f g n all i j in_i in_j =
+    agree_below_at (f i) (g i) n j (agree_below_at (λ i. agree_below (f i) (g i) n) (λ i. true) n i all in_i) in_j
 
--- the table stands in this order
 folded_upto : (i j : ℕ) → i < 17 → j < 17 → is_upto (folded_at i) (folded_at j) ≡ leb i j
 unfolding fold_byte folded_texts irregular_texts grandfathered_tags
 folded_upto = each_pair (λ i j. is_upto (folded_at i) (folded_at j)) leb 17 refl
 
--- so the indices of the texts with one prefix are neighbours
-pub possible_between : (p : List ℕ) (i j k : ℕ) → i ≤ j → j ≤ k → k < 17 → is_possible p i ≡ true → is_possible p k ≡ true → is_possible p j ≡ true
-possible_between p i j k le el lt fi fk =
-    between_prefixes (fold_text p) (folded_at i) (folded_at j) (folded_at k) (folded_upto i j (omega arith) (omega arith) ∙ le-leb i j le) (folded_upto j k (omega arith) lt ∙ le-leb j k el) fi fk
-
--- and none begins another
 folded_once : (i j : ℕ) → i < 17 → j < 17 → is_prefix (folded_at i) (folded_at j) ≡ eqb i j
 unfolding fold_byte folded_texts irregular_texts grandfathered_tags
 folded_once = each_pair (λ i j. is_prefix (folded_at i) (folded_at j)) eqb 17 refl
+
+-- so the indices of the texts with one prefix are neighbours
+pub possible_between : (p : List ℕ) (i j k : ℕ) → i ≤ j → j ≤ k → k < 17 → is_possible p i ≡ true → is_possible p k ≡ true → is_possible p j ≡ true
+possible_between p i j k from to within first last =
+    let lower = folded_upto i j (omega arith) (omega arith) ∙ le-leb i j from in
+    let upper = folded_upto j k (omega arith) within ∙ le-leb j k to in
+    between_prefixes (fold_text p) (folded_at i) (folded_at j) (folded_at k) lower upper first last
 
 -- ---- the texts that are reached
 
@@ -135,7 +128,8 @@ possible_prefix p u k irregular =
 pub possible_itself : (p : List ℕ) (k : ℕ) → IsIrregularAt k p → (k < 17) × (is_possible p k ≡ true) × (length (folded_at k) ≡ length p)
 possible_itself p k irregular =
     let whole = irregular_fold p k irregular in
-    (whole.0, ap (λ q. is_prefix q (folded_at k)) (sym whole.1) ∙ folded_once k k whole.0 whole.0 ∙ eq-eqb k k refl, ap length whole.1 ∙ length-map p fold_byte)
+    let possible = ap (λ q. is_prefix q (folded_at k)) (sym whole.1) ∙ folded_once k k whole.0 whole.0 ∙ eq-eqb k k refl in
+    (whole.0, possible, ap length whole.1 ∙ length-map p fold_byte)
 
 -- and no other is
 pub possible_once : (p : List ℕ) (j k : ℕ) → IsIrregularAt k p → j < 17 → is_possible p j ≡ true → k ≡ j

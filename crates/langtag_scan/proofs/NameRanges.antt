@@ -77,11 +77,8 @@ module _ (p : List ℕ) (names : Names) (follows : Follows p names) where
   pub gone_empty : names.low ≡ names.high → IsGone p names
   gone_empty none k within = grind (arith, nat_tests, follows.possible k within)
 
--- nor longer ones
-pub gone-append : (p u : List ℕ) (names : Names) → IsGone p names → IsGone (p ++ u) names
-gone-append p u names gone = λ k within. followed-append names.len p u k (gone k within)
-
+-- nor begin a longer one
 pub follows-append : (p u : List ℕ) (names : Names) → IsGone p names → Follows p names → Follows (p ++ u) names
 follows-append p u names gone follows = record {
-  possible = λ k within. gone-append p u names gone k within ∙ sym (gone k within) ∙ follows.possible k within;
+  possible = λ k within. followed-append names.len p u k (gone k within) ∙ sym (gone k within) ∙ follows.possible k within;
 }

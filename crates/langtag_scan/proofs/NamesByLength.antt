@@ -4,7 +4,7 @@ use Rattle.std.proofs.Common.{◌≡◌, ℕ, ◌<◌, ◌≤◌, true, false, c
 use Rattle.std.proofs.Math.Bool.{and-true, and_assoc}
 use Rattle.std.proofs.lemmas.Bool.{and_parts, and_from, and_left, and_cases, or_parts, eqb-true, agree_below_at, both_ways}
 use Rattle.std.proofs.lemmas.Bool.Decides.{nat_tests}
-use Rattle.std.proofs.lemmas.List.{map-append}
+use Rattle.std.proofs.lemmas.List.{length-map, map-append}
 use Rattle.langtag_scan.specs.declared.stage.Stage.TheVariants.{Start}
 use Rattle.langtag_scan.specs.Case.{fold_byte, fold_text}
 use Rattle.langtag_scan.specs.Class.{is_letter, is_digit, is_primary, is_extended, is_script, is_region, is_variant, is_mark, is_singleton}
@@ -15,7 +15,7 @@ use Rattle.langtag_scan.specs.Subtags.{segments}
 use Rattle.langtag_scan.specs.Tag.{IsNormal, IsIrregular, IsIrregularAt, IsTag}
 use Rattle.langtag_scan.specs.Viable.{IsViable}
 use Rattle.langtag_scan.proofs.CaseLaw.{runs-fold, segments_test-fold}
-use Rattle.langtag_scan.proofs.IrregularNames.{irregular_fold, possible_prefix, possible-push, possible_between, possible_itself}
+use Rattle.langtag_scan.proofs.IrregularNames.{irregular_fold, possible_prefix, is_prefix-push, possible_between, possible_itself}
 use Rattle.langtag_scan.proofs.NormalTexts.{normal_from_runs}
 use Rattle.langtag_scan.proofs.Runs.{runs}
 
@@ -38,8 +38,7 @@ pub followed-push :
     (len : ℕ) (p : List ℕ) (b k : ℕ) →
     is_followed len (p ++ b ∷ []) k ≡ (is_followed len p k && has_at (folded_at k) (length p) (fold_byte b))
 followed-push len p b k =
-    ap (λ v. matters len k && v) (possible-push p b k)
-    ∙ sym (and_assoc (matters len k) (is_possible p k) (has_at (folded_at k) (length p) (fold_byte b)))
+    rw (map-append fold_byte p (b ∷ []), is_prefix-push (fold_text p) (folded_at k) (fold_byte b), length-map p fold_byte) (sym (and_assoc (matters len k) (is_possible p k) _))
 
 -- so none comes back
 pub followed-append : (len : ℕ) (p u : List ℕ) (k : ℕ) → is_followed len p k ≡ false → is_followed len (p ++ u) k ≡ false
