@@ -41,7 +41,8 @@ IsAscii-subtags (s ∷ ss) fits = (IsAscii-each is_alphanumeric alphanumeric_bel
 pub IsAscii-join : (ss : List (List ℕ)) → AllByRecursion IsAscii ss → IsAscii (join ss)
 IsAscii-join [] fits = IsAscii-nil
 IsAscii-join (s ∷ []) fits = fits.0
-IsAscii-join (s ∷ u ∷ us) fits = IsAscii-append s (45 ∷ join (u ∷ us)) fits.0 (IsAscii-cons 45 (join (u ∷ us)) (omega arith) (IsAscii-join (u ∷ us) fits.1))
+IsAscii-join (s ∷ u ∷ us) fits =
+    IsAscii-append s (45 ∷ join (u ∷ us)) fits.0 (IsAscii-cons 45 (join (u ∷ us)) (omega arith) (IsAscii-join (u ∷ us) fits.1))
 
 IsAscii-spelled : (t : List ℕ) (ss : List (List ℕ)) → join ss ≡ t → AllByRecursion IsSubtag ss → IsAscii t
 IsAscii-spelled t ss spells fits = subst IsAscii spells (IsAscii-join ss (IsAscii-subtags ss fits))
@@ -67,8 +68,9 @@ pub IsAscii-irregular : (t : List ℕ) → IsIrregular t → IsAscii t
 unfolding IsIrregular fold_byte folded_texts irregular_texts grandfathered_tags
 IsAscii-irregular t (k, irregular) =
     let whole = irregular_fold t k irregular in
-    let here : list_all is_ascii (folded_at k) ≡ true = agree_below_at (λ j. list_all is_ascii (folded_at j)) (λ j. true) 17 k refl whole.0 in
-    IsAscii-each is_ascii (λ b h. grind (arith, nat_tests)) t (sym (all-fold is_ascii is_ascii-fold t) ∙ ap (list_all is_ascii) (sym whole.1) ∙ here)
+    let here = agree_below_at (λ j. list_all is_ascii (folded_at j)) (λ j. true) 17 k refl whole.0 in
+    let text = sym (all-fold is_ascii is_ascii-fold t) ∙ ap (list_all is_ascii) (sym whole.1) ∙ here in
+    IsAscii-each is_ascii (λ b h. grind (arith, nat_tests)) t text
 
 pub IsAscii-tag : (t : List ℕ) → IsTag t → IsAscii t
 unfolding IsTag

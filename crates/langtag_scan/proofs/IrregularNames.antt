@@ -23,7 +23,8 @@ folded_at-fold k within = get_or-map fold_text irregular_texts k [] [] (omega (a
 pub irregular_from_fold : (t : List ℕ) (k : ℕ) → k < 17 → folded_at k ≡ fold_text t → IsIrregularAt k t
 unfolding IsIrregularAt
 irregular_from_fold t k within same =
-    (get_or irregular_texts k [], slice_get-get_or irregular_texts k [] (omega (arith, seventeen)), sym (folded_at-fold k within) ∙ same)
+    let there = slice_get-get_or irregular_texts k [] (omega (arith, seventeen)) in
+    (get_or irregular_texts k [], there, sym (folded_at-fold k within) ∙ same)
 
 -- and only there
 pub irregular_fold : (t : List ℕ) (k : ℕ) → IsIrregularAt k t → (k < 17) × (folded_at k ≡ fold_text t)

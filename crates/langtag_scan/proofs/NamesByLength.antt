@@ -1,21 +1,21 @@
 -- Which irregular texts a text is compared with, by its length: all where it has nine bytes, and else those that begin
 -- with `i`. The others are each as long as nine bytes, and begin like a normal tag.
-use Rattle.std.proofs.Common.{◌≡◌, ℕ, ◌<◌, ◌≤◌, true, false, cond, eqb, ltb, ◌&&◌, ◌||◌, List, [], ◌∷◌, ◌++◌, length, slice_index, inl, inr, refl, sym, ap, subst, ◌∙◌, arith, append_assoc, append-nil}
-use Rattle.std.proofs.Math.Bool.{and-true, and_assoc}
-use Rattle.std.proofs.lemmas.Bool.{and_parts, and_from, and_left, and_cases, or_parts, eqb-true, agree_below_at, both_ways}
+use Rattle.std.proofs.Common.{◌≡◌, ℕ, ◌<◌, ◌≤◌, true, false, cond, eqb, ltb, ◌&&◌, ◌||◌, List, [], ◌∷◌, ◌++◌, length, inl, inr, refl, sym, ap, subst, ◌∙◌, arith, append_assoc, append-nil}
+use Rattle.std.proofs.Math.Bool.{and_assoc}
+use Rattle.std.proofs.lemmas.Bool.{and_parts, and_from, and_left, and_cases, or_parts, agree_below_at, both_ways}
 use Rattle.std.proofs.lemmas.Bool.Decides.{nat_tests}
 use Rattle.std.proofs.lemmas.List.{length-map, map-append}
 use Rattle.langtag_scan.specs.declared.stage.Stage.TheVariants.{Start}
 use Rattle.langtag_scan.specs.Case.{fold_byte, fold_text}
 use Rattle.langtag_scan.specs.Class.{is_letter, is_digit, is_primary, is_extended, is_script, is_region, is_variant, is_mark, is_singleton}
 use Rattle.langtag_scan.specs.Grandfathered.{grandfathered_tags, irregular_texts}
-use Rattle.langtag_scan.specs.Irregular.{folded_texts, folded_at, has_at, is_possible, is_within, matters, is_followed}
+use Rattle.langtag_scan.specs.Irregular.{folded_texts, folded_at, is_prefix, has_at, is_possible, is_within, matters, is_followed}
 use Rattle.langtag_scan.specs.Machine.{HasStopped}
 use Rattle.langtag_scan.specs.Subtags.{segments}
 use Rattle.langtag_scan.specs.Tag.{IsNormal, IsIrregular, IsIrregularAt, IsTag}
 use Rattle.langtag_scan.specs.Viable.{IsViable}
 use Rattle.langtag_scan.proofs.CaseLaw.{runs-fold, segments_test-fold}
-use Rattle.langtag_scan.proofs.IrregularNames.{irregular_fold, possible_prefix, is_prefix-push, possible_between, possible_itself}
+use Rattle.langtag_scan.proofs.IrregularNames.{irregular_fold, possible_prefix, is_prefix-push, prefix_rest, possible_between, possible_itself}
 use Rattle.langtag_scan.proofs.NormalTexts.{normal_from_runs}
 use Rattle.langtag_scan.proofs.Runs.{runs}
 
@@ -38,7 +38,7 @@ pub followed-push :
     (len : ℕ) (p : List ℕ) (b k : ℕ) →
     is_followed len (p ++ b ∷ []) k ≡ (is_followed len p k && has_at (folded_at k) (length p) (fold_byte b))
 followed-push len p b k =
-    rw (map-append fold_byte p (b ∷ []), is_prefix-push (fold_text p) (folded_at k) (fold_byte b), length-map p fold_byte) (sym (and_assoc (matters len k) (is_possible p k) _))
+    rw (map-append fold_byte p (b ∷ []), is_prefix-push (fold_text p), length-map p fold_byte) (sym (and_assoc (matters len k) (is_possible p k) _))
 
 -- so none comes back
 pub followed-append : (len : ℕ) (p u : List ℕ) (k : ℕ) → is_followed len p k ≡ false → is_followed len (p ++ u) k ≡ false
@@ -52,29 +52,20 @@ pub followed_itself : (p : List ℕ) (k : ℕ) → IsIrregularAt k p → (k < 17
 unfolding fold_byte folded_texts irregular_texts grandfathered_tags
 followed_itself p k irregular =
     let is = possible_itself p k irregular in
-    let matters_here : matters (length p) k ≡ true = ap (λ n. matters n k) (sym is.2) ∙ agree_below_at (λ j. matters (length (folded_at j)) j) (λ j. true) 17 k refl is.0 in
-    (is.0, and_from (matters (length p) k) (is_possible p k) matters_here is.1, is.2)
+    let by_length = agree_below_at (λ j. matters (length (folded_at j)) j) (λ j. true) 17 k refl is.0 in
+    (is.0, and_from (matters (length p) k) (is_possible p k) (ap (λ n. matters n k) (sym is.2) ∙ by_length) is.1, is.2)
 
 -- ---- after the first byte
-
--- those that matter and begin with it are possible then
-pub followed_first :
-    (len : ℕ) (p : List ℕ) (b k : ℕ) → length p ≡ 0 →
-    is_followed len (p ++ b ∷ []) k ≡ (matters len k && has_at (folded_at k) 0 (fold_byte b))
-followed_first len [] b k none = followed-push len [] b k ∙ ap (λ v. v && has_at (folded_at k) 0 (fold_byte b)) (and-true (matters len k))
-followed_first len (a ∷ p) b k none = absurd (omega (arith, none))
 
 -- the first byte of the folded text at an index
 abbrev pub initial : ℕ → ℕ
 initial k = cond (ltb k 1) 101 (cond (ltb k 14) 105 115)
 
-pub has_initial : (k b : ℕ) → k < 17 → has_at (folded_at k) 0 b ≡ eqb (initial k) b
+pub has_initial : (k b : ℕ) → k < 17 → is_prefix (b ∷ []) (folded_at k) ≡ (eqb b (initial k) && true)
 unfolding fold_byte folded_texts irregular_texts grandfathered_tags
 has_initial k b within =
-    let begins : (ltb 0 (length (folded_at k)) && eqb (slice_index (folded_at k) 0) (initial k)) ≡ true =
-    agree_below_at (λ j. ltb 0 (length (folded_at j)) && eqb (slice_index (folded_at j) 0) (initial j)) (λ j. true) 17 k refl within in
-    let parts = and_parts (ltb 0 (length (folded_at k))) (eqb (slice_index (folded_at k) 0) (initial k)) begins in
-    rw (parts.0, eqb-true _ _ parts.1) refl
+    let first = agree_below_at (λ j. is_prefix (initial j ∷ []) (folded_at j)) (λ j. true) 17 k refl within in
+    ap (is_prefix (b ∷ [])) (sym (prefix_rest (initial k ∷ []) (folded_at k) first))
 
 -- ---- the texts that do not matter
 
@@ -94,8 +85,9 @@ unfolding fold_byte
 normal_more len k t none irregular =
     let whole = irregular_fold t k irregular in
     let folded : fold_text (t ++ more) ≡ folded_at k ++ more = map-append fold_byte t more ∙ ap (λ v. v ++ more) (sym whole.1) in
-    normal_from_runs (t ++ more)
-    (sym (segments_test-fold (runs Start) (runs-fold Start) (t ++ more)) ∙ ap (λ v. runs Start (segments v)) folded ∙ other_begins k whole.0 (or_parts (eqb len 9) (is_within 1 14 k) none).1)
+    let same : runs Start (segments (t ++ more)) ≡ runs Start (segments (folded_at k ++ more)) =
+    sym (segments_test-fold (runs Start) (runs-fold Start) (t ++ more)) ∙ ap (λ v. runs Start (segments v)) folded in
+    normal_from_runs (t ++ more) (same ∙ other_begins k whole.0 (or_parts (eqb len 9) (is_within 1 14 k) none).1)
 
 -- where the stages have stopped and no irregular text that matters is possible, no tag begins so
 pub not_viable : (len : ℕ) (p : List ℕ) → HasStopped p → ((k : ℕ) → k < 17 → is_followed len p k ≡ false) → IsViable p → ⊥

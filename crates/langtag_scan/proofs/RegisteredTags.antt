@@ -26,7 +26,8 @@ accepted_tag k text accepted =
     elim (or_cases irregular (runs Start (segments text)) accepted) [
       | inl there ↦
           let parts = and_parts (ltb k 17) (bytes_eq (folded_at k) (fold_text text)) there in
-          tag_irregular text k (irregular_from_fold text k (ltb-true k 17 parts.0) ((bytes_decides (folded_at k) (fold_text text)).0 parts.1))
+          let same = (bytes_decides (folded_at k) (fold_text text)).0 parts.1 in
+          tag_irregular text k (irregular_from_fold text k (ltb-true k 17 parts.0) same)
       | inr run ↦ tag_normal text (normal_from_runs text run)
     ]
 

@@ -19,14 +19,15 @@ unnamed-append p u none k within = followed-append 0 p u k (none k within)
 named_text : (k : ℕ) → k < 17 → matters 0 k ≡ true → 105 ∷ 45 ∷ drop 2 (folded_at k) ≡ folded_at k
 unfolding fold_byte folded_texts irregular_texts grandfathered_tags
 named_text k within named =
-    prefix_rest (105 ∷ 45 ∷ []) (folded_at k) (rw named at (agree_below_at (λ j. cond (matters 0 j) (is_prefix (105 ∷ 45 ∷ []) (folded_at j)) true) (λ j. true) 17 k refl within))
+    let first = agree_below_at (λ j. cond (matters 0 j) (is_prefix (105 ∷ 45 ∷ []) (folded_at j)) true) (λ j. true) 17 k refl within in
+    prefix_rest (105 ∷ 45 ∷ []) (folded_at k) (rw named at first)
 
 -- what does not begin so is no prefix of one
 unnamed_from : (p : List ℕ) → ((u : List ℕ) → is_prefix (fold_text p) (105 ∷ 45 ∷ u) ≡ false) → IsUnnamed p
 unnamed_from p other k within =
     false_from_ne_true (is_followed 0 p k) (λ followed.
     let parts = and_parts (matters 0 k) (is_possible p k) followed in
-    both_ways (is_possible p k) (ap (is_prefix (fold_text p)) (sym (named_text k within parts.0)) ∙ other (drop 2 (folded_at k))) parts.1)
+    both_ways (is_possible p k) (ap (is_prefix (fold_text p)) (sym (named_text k within parts.0)) ∙ other _) parts.1)
 
 -- after another first byte
 pub unnamed_first : (b : ℕ) → (fold_byte b ≡ 105 → ⊥) → IsUnnamed (b ∷ [])
@@ -50,7 +51,8 @@ pub unnamed_begun :
     (s : List ℕ) (b : ℕ) → are_letters s ≡ true → (s ≡ [] → is_letter b ≡ false) → (length s ≡ 1 → eqb b 45 ≡ false) →
     IsUnnamed (s ++ b ∷ [])
 unfolding is_letter
-unnamed_begun [] b letters first second = unnamed_first b (λ same. both_ways (is_letter b) (first refl) (sym (is_letter-fold b) ∙ ap is_letter same))
+unnamed_begun [] b letters first second =
+    unnamed_first b (λ same. both_ways (is_letter b) (first refl) (sym (is_letter-fold b) ∙ ap is_letter same))
 unnamed_begun (a ∷ []) b letters first second = unnamed_second a b [] (second refl)
 unnamed_begun (a ∷ c ∷ s) b letters first second = unnamed_two a c s letters (s ++ b ∷ [])
 

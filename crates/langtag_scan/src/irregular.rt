@@ -1,6 +1,6 @@
 //! The irregular tags (RFC 5646 section 2.2.8) that a text may still become.
 ghost use Rattle.std.specs.Prelude.{◌≡◌, ℕ, ◌-◌, ◌<◌, ◌≤◌, List, [], ◌∷◌, ◌++◌, length, ◌&&◌, IsTrue, true, false, MatchOption};
-ghost use Rattle.langtag_scan.specs.Irregular.{folded_at, has_at, is_within, matters, is_possible};
+ghost use Rattle.langtag_scan.specs.Irregular.{folded_at, is_prefix, has_at, is_within, matters, is_possible};
 ghost use Rattle.langtag_scan.specs.Tag.{IsIrregular};
 ghost use Rattle.langtag_scan.specs.Found.{finding, IsFoundOf};
 
@@ -111,7 +111,7 @@ impl Names {
 /// The texts that matter to a text of this length and begin with this folded byte.
 fn begun_by(small: u8, len: usize) -> Names
     ensures len { result.len ≡ len }
-    ensures range { (k : ℕ) → k < 17 → (matters len k && has_at (folded_at k) 0 small) ≡ is_within result.low result.high k }
+    ensures range { (k : ℕ) → k < 17 → (matters len k && is_prefix (small ∷ []) (folded_at k)) ≡ is_within result.low result.high k }
 {
     let (low, high) = match small {
         b'i' => (1, 14),

@@ -1,16 +1,16 @@
-use Rattle.std.proofs.Common.{◌≡◌, ℕ, ◌<◌, Bool, ◌&&◌, List, [], ◌∷◌, ◌++◌, refl, sym, ap, ◌∙◌, arith}
-use Rattle.langtag_scan.specs.Irregular.{folded_at, has_at, is_within, is_followed, matters}
+use Rattle.std.proofs.Common.{◌≡◌, ℕ, ◌<◌, Bool, ◌&&◌, List, [], ◌∷◌, ◌++◌, refl, arith}
+use Rattle.std.proofs.lemmas.List.{nil_from_length}
+use Rattle.langtag_scan.specs.Irregular.{folded_at, has_at, is_within, is_followed}
 use Rattle.langtag_scan.proofs.NameRanges.{Narrows, followed_narrowed}
-use Rattle.langtag_scan.proofs.NamesByLength.{followed-push, followed_first}
+use Rattle.langtag_scan.proofs.NamesByLength.{followed-push}
 use Rattle.langtag_scan.proofs.irregular.Names.keep.Goals as goal
 
 pub returns-then-index-eq0-clause-follows : goal.returns-then-index-eq0-clause-follows
-returns-then-index-eq0-clause-follows c =
-    let len = c.args.self.now.len in
-    λ p at follows. record {
-      possible = λ k within.
-          rw c.begun_by.ensures.len (followed_first len p c.args.byte k (omega (arith, at)) ∙ ap (λ b. matters len k && has_at (folded_at k) 0 b) (sym c.into_smallcase-small.ensures) ∙ c.begun_by.ensures.range k within);
-    }
+returns-then-index-eq0-clause-follows c = λ p at follows. record {
+  possible = λ k within.
+      let nothing : p ≡ [] = nil_from_length p (omega (arith, at)) in
+      rw (nothing, c.begun_by.ensures.len, ← c.into_smallcase-small.ensures) (c.begun_by.ensures.range k within);
+}
 
 pub returns-else-index-eq0-clause-follows : goal.returns-else-index-eq0-clause-follows
 returns-else-index-eq0-clause-follows c =
