@@ -7,7 +7,7 @@ use Rattle.langtag_scan.specs.declared.finding.Finding.{Finding}
 use Rattle.langtag_scan.specs.declared.finding.Finding.TheVariants as found_at
 use Rattle.langtag_scan.proofs.CaseLaw.{alike_normal, alike_private, alike_irregular}
 use Rattle.langtag_scan.proofs.FoundLaws.{tag_found, normal_found, private_found, found_had}
-use Rattle.langtag_scan.proofs.IrregularNames.{irregular_here}
+use Rattle.langtag_scan.proofs.IrregularNames.{irregular_fold}
 use Rattle.langtag_scan.proofs.SpelledTexts.{offsets_kept}
 use Rattle.langtag_private.proofs.Rules.{IsPrivate-from_test}
 use Rattle.langtag.specs.Kinds.{IsOfKind, AreOfOneKind}
@@ -35,14 +35,12 @@ pub record IsAtIndex (text : List ℕ) (index : ℕ) : Type 0 where
 pub irregular_kept :
     (text : List ℕ) (found : Finding) (index : ℕ) → ∥ IsFoundOf text found ∥₁ → Some index ≡ irregular_index found →
     IsAtIndex text index
-unfolding IsIrregularAt
 irregular_kept text (found_at.Normal ends) index merely at = absurd cc
 irregular_kept text found_at.PrivateUse index merely at = absurd cc
 irregular_kept text (found_at.Irregular k) index merely at =
     let kept = found_had text (found_at.Irregular k) merely in
     let same : index ≡ k = cc in
-    let here = irregular_here k kept.0 kept.1 in
-    rw same (record { within = omega (arith, here.0); is = kept })
+    rw same (record { within = omega (arith, (irregular_fold text k kept).0); is = kept })
 
 -- a tag that is neither normal nor irregular is private
 pub private_otherwise :

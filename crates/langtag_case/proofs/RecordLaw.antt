@@ -13,6 +13,7 @@ use Rattle.langtag_scan.specs.Class.{is_digit, are_letters, are_digits, are_alph
 use Rattle.langtag_scan.specs.Record.{EachRecord, Extension, PrivateUse, Record, IsWellFormed, extension_flat, one_flat, private_part_flat, spell}
 use Rattle.langtag_scan.specs.Subtags.{join}
 use Rattle.langtag_scan.proofs.BoolFacts.{between_true}
+use Rattle.langtag_scan.proofs.CaseLaw.{extensions-fold, private_part-fold}
 use Rattle.langtag_scan.proofs.NormalTexts.{spelled_segments}
 use Rattle.langtag_case.specs.Casing.{later}
 use Rattle.langtag_case.specs.RecommendedCase.{capital_text, title_text, is_single, by_length, recommended_after, recommended_text, recommended_record}
@@ -116,13 +117,7 @@ tail-fold :
     (es : List Extension) (p : Option PrivateUse) →
     map fold_text (flat_map extension_flat es ++ private_part_flat p)
     ≡ flat_map extension_flat (map fold_extension es) ++ private_part_flat (option_map fold_private_use p)
-tail-fold [] None = refl
-tail-fold [] (Some p) = refl
-tail-fold (e ∷ es) p =
-    ap (map fold_text) (append_assoc (extension_flat e) (flat_map extension_flat es) (private_part_flat p))
-    ∙ map-append fold_text (extension_flat e) (flat_map extension_flat es ++ private_part_flat p)
-    ∙ ap (λ ss. extension_flat (fold_extension e) ++ ss) (tail-fold es p)
-    ∙ sym (append_assoc (extension_flat (fold_extension e)) (flat_map extension_flat (map fold_extension es)) (private_part_flat (option_map fold_private_use p)))
+tail-fold es p = simp (map-append, extensions-fold, private_part-fold)
 
 -- the first of them begins with a singleton, after which all is small
 tail-cased :

@@ -1,5 +1,5 @@
 -- The case of letters changes no class, no segment and no stage; so it changes no kind of tag, no part and no end.
-use Rattle.std.proofs.Common.{◌≡◌, ℕ, ◌+◌, ◌≤◌, Bool, true, false, cond, eqb, List, [], ◌∷◌, ◌++◌, length, map, Option, Some, None, ◌⊎◌, inl, inr, refl, sym, ap, ◌∙◌, arith}
+use Rattle.std.proofs.Common.{◌≡◌, ℕ, Bool, true, false, cond, eqb, List, [], ◌∷◌, ◌++◌, length, map, Option, Some, None, inl, inr, refl, sym, ap, ◌∙◌, arith}
 use Rattle.std.specs.Prelude.{IsTrue, IfSome}
 use Rattle.std.specs.List.{AllByRecursion, list_all, flat_map, onto_first}
 use Rattle.std.specs.Option.{option_map, option_map_or}
@@ -9,11 +9,10 @@ use Rattle.langtag_scan.specs.declared.stage.Stage.{Stage}
 use Rattle.langtag_scan.specs.declared.stage.Stage.TheVariants.{Start, AfterMark}
 use Rattle.langtag_scan.specs.Case.{fold_byte, fold_text, Alike}
 use Rattle.langtag_scan.specs.AlikeRecords.{fold_extension, fold_private_use, fold_record, AlikeRecords, IsSpelledAlike}
-use Rattle.langtag_scan.specs.Class.{is_letter, is_digit, is_alphanumeric, are_letters, are_digits, are_alphanumeric, starts_with_digit, is_primary, is_extended, is_script, is_region, is_variant, is_extension_subtag, is_private_subtag, is_mark, is_singleton}
-use Rattle.langtag_scan.specs.Ends.{to_language, to_script, to_region, to_variants, to_extensions, ends_of}
-use Rattle.langtag_scan.proofs.PartOffsets.{ends_equal}
+use Rattle.langtag_scan.specs.Class.{is_letter, is_digit, is_alphanumeric, starts_with_digit, is_primary, is_extended, is_script, is_region, is_variant, is_extension_subtag, is_private_subtag, is_mark, is_singleton}
+use Rattle.langtag_scan.specs.Ends.{ends_of}
 use Rattle.langtag_scan.specs.Record.{Extension, PrivateUse, Record, IsWellFormedExtension, IsWellFormedPrivateUse, IsWellFormed, extension_flat, one_flat, private_part_flat, flat, spell, EachRecord}
-use Rattle.langtag_scan.specs.Stage.{is_one, classes_of, next_by, next_stage}
+use Rattle.langtag_scan.specs.Stage.{Classes, is_one, classes_of, next_stage}
 use Rattle.langtag_scan.specs.Subtags.{join, segments}
 use Rattle.langtag_scan.specs.Tag.{IsNormal, IsPrivate, IsIrregular, IsIrregularAt, IsTag}
 use Rattle.langtag_scan.proofs.NormalTexts.{normal_from_runs, runs_from_normal, spelled_once}
@@ -22,35 +21,26 @@ use Rattle.langtag_scan.proofs.Runs.{runs}
 
 -- ---- bytes
 
--- the fold of a capital letter, and of any other byte
-fold_cases : (b : ℕ) → ((65 ≤ b) × (b ≤ 90) × (fold_byte b ≡ b + 32)) ⊎ (fold_byte b ≡ b)
-unfolding fold_byte
-fold_cases b = grind (arith, nat_tests)
-
--- the fold is a letter where the byte is one
+-- the fold changes no class of bytes
 pub is_letter-fold : (b : ℕ) → is_letter (fold_byte b) ≡ is_letter b
-unfolding is_letter
-is_letter-fold b = elim (fold_cases b) [ inl h ↦ rw h.2 (grind (arith, nat_tests)) | inr h ↦ rw h refl ]
+unfolding fold_byte is_letter
+is_letter-fold b = grind (arith, nat_tests)
 
--- a digit likewise
 is_digit-fold : (b : ℕ) → is_digit (fold_byte b) ≡ is_digit b
-unfolding is_digit
-is_digit-fold b = elim (fold_cases b) [ inl h ↦ rw h.2 (grind (arith, nat_tests)) | inr h ↦ rw h refl ]
+unfolding fold_byte is_digit
+is_digit-fold b = grind (arith, nat_tests)
 
--- a mark
 pub is_mark-fold : (b : ℕ) → is_mark (fold_byte b) ≡ is_mark b
-unfolding is_mark
-is_mark-fold b = elim (fold_cases b) [ inl h ↦ rw h.2 (grind (arith, nat_tests)) | inr h ↦ rw h refl ]
+unfolding fold_byte is_mark
+is_mark-fold b = grind (arith, nat_tests)
 
--- a hyphen
 pub hyphen-fold : (b : ℕ) → eqb (fold_byte b) 45 ≡ eqb b 45
-hyphen-fold b = elim (fold_cases b) [ inl h ↦ rw h.2 (grind (arith, nat_tests)) | inr h ↦ rw h refl ]
+unfolding fold_byte
+hyphen-fold b = grind (arith, nat_tests)
 
--- a letter or digit
 is_alphanumeric-fold : (b : ℕ) → is_alphanumeric (fold_byte b) ≡ is_alphanumeric b
 is_alphanumeric-fold b = rw (is_letter-fold b, is_digit-fold b) refl
 
--- a singleton
 is_singleton-fold : (b : ℕ) → is_singleton (fold_byte b) ≡ is_singleton b
 unfolding is_singleton
 is_singleton-fold b = rw (is_alphanumeric-fold b, is_mark-fold b) refl
@@ -61,90 +51,50 @@ is_singleton-fold b = rw (is_alphanumeric-fold b, is_mark-fold b) refl
 pub length-fold : (s : List ℕ) → length (fold_text s) ≡ length s
 length-fold s = length-map s fold_byte
 
--- a test of each byte that the fold does not change
-all-fold : (p : ℕ → Bool) → ((b : ℕ) → p (fold_byte b) ≡ p b) → (s : List ℕ) → list_all p (fold_text s) ≡ list_all p s
-all-fold p same [] = refl
-all-fold p same (b ∷ s) = rw (same b, all-fold p same s) refl
+-- a test of bytes that the fold does not change, of each byte, and of a subtag of one
+module _ (p : ℕ → Bool) (same : (b : ℕ) → p (fold_byte b) ≡ p b) where
+  pub all-fold : (s : List ℕ) → list_all p (fold_text s) ≡ list_all p s
+  all-fold [] = refl
+  all-fold (b ∷ s) = rw (same b, all-fold s) refl
 
--- the same of a test of subtags of one byte
-is_one-fold : (p : ℕ → Bool) → ((b : ℕ) → p (fold_byte b) ≡ p b) → (s : List ℕ) → is_one p (fold_text s) ≡ is_one p s
-is_one-fold p same [] = refl
-is_one-fold p same (b ∷ []) = same b
-is_one-fold p same (b ∷ c ∷ s) = refl
+  is_one-fold : (s : List ℕ) → is_one p (fold_text s) ≡ is_one p s
+  is_one-fold [] = refl
+  is_one-fold (b ∷ []) = same b
+  is_one-fold (b ∷ c ∷ s) = refl
 
--- it has letters alone where the text has
-are_letters-fold : (s : List ℕ) → are_letters (fold_text s) ≡ are_letters s
-are_letters-fold s = all-fold is_letter is_letter-fold s
-
--- digits alone
-are_digits-fold : (s : List ℕ) → are_digits (fold_text s) ≡ are_digits s
-are_digits-fold s = all-fold is_digit is_digit-fold s
-
--- letters and digits alone
-are_alphanumeric-fold : (s : List ℕ) → are_alphanumeric (fold_text s) ≡ are_alphanumeric s
-are_alphanumeric-fold s = all-fold is_alphanumeric is_alphanumeric-fold s
-
--- a digit first
 starts_with_digit-fold : (s : List ℕ) → starts_with_digit (fold_text s) ≡ starts_with_digit s
 starts_with_digit-fold [] = refl
 starts_with_digit-fold (b ∷ s) = is_digit-fold b
 
--- so the fold is a primary subtag where the text is one
-is_primary-fold : (s : List ℕ) → is_primary (fold_text s) ≡ is_primary s
-unfolding is_primary
-is_primary-fold s = rw (length-fold s, are_letters-fold s) refl
-
--- an extended one likewise
-is_extended-fold : (s : List ℕ) → is_extended (fold_text s) ≡ is_extended s
-unfolding is_extended
-is_extended-fold s = rw (length-fold s, are_letters-fold s) refl
-
--- a script
-is_script-fold : (s : List ℕ) → is_script (fold_text s) ≡ is_script s
-unfolding is_script
-is_script-fold s = rw (length-fold s, are_letters-fold s) refl
-
--- a region
-is_region-fold : (s : List ℕ) → is_region (fold_text s) ≡ is_region s
-unfolding is_region
-is_region-fold s = rw (length-fold s, are_letters-fold s, are_digits-fold s) refl
-
--- a variant
-is_variant-fold : (s : List ℕ) → is_variant (fold_text s) ≡ is_variant s
-unfolding is_variant
-is_variant-fold s = rw (length-fold s, are_alphanumeric-fold s, starts_with_digit-fold s) refl
-
--- a subtag of an extension
-is_extension_subtag-fold : (s : List ℕ) → is_extension_subtag (fold_text s) ≡ is_extension_subtag s
-unfolding is_extension_subtag
-is_extension_subtag-fold s = rw (length-fold s, are_alphanumeric-fold s) refl
-
--- a private use subtag
-is_private_subtag-fold : (s : List ℕ) → is_private_subtag (fold_text s) ≡ is_private_subtag s
-unfolding is_private_subtag
-is_private_subtag-fold s = rw (length-fold s, are_alphanumeric-fold s) refl
-
--- ---- stages
-
 -- a subtag and its fold are of the same classes
 classes-fold : (s : List ℕ) → classes_of (fold_text s) ≡ classes_of s
+unfolding is_primary is_extended is_script is_region is_variant is_extension_subtag is_private_subtag
 classes-fold s =
-    rw (is_primary-fold s, is_extended-fold s, is_script-fold s, is_region-fold s, is_variant-fold s, is_extension_subtag-fold s, is_private_subtag-fold s, is_one-fold is_mark is_mark-fold s, is_one-fold is_singleton is_singleton-fold s, length-fold s) refl
+    let letters = all-fold is_letter is_letter-fold in
+    let digits = all-fold is_digit is_digit-fold in
+    let each = all-fold is_alphanumeric is_alphanumeric-fold in
+    simp (length-fold, letters, digits, each, starts_with_digit-fold, is_one-fold is_mark is_mark-fold, is_one-fold is_singleton is_singleton-fold)
 
--- so the same stage is after them
-pub next_stage-fold : (stage : Stage) (s : List ℕ) → next_stage stage (fold_text s) ≡ next_stage stage s
-next_stage-fold stage s = ap (next_by stage) (classes-fold s)
+-- so the fold is of a class where the subtag is
+abbrev IsOf : (Classes → Bool) → List ℕ → Type 0
+IsOf is s = IsTrue (is (classes_of s))
+
+class-fold : (is : Classes → Bool) (s : List ℕ) → IsOf is s → IsOf is (fold_text s)
+class-fold is s fits = ap is (classes-fold s) ∙ fits
+
+-- ---- stages
 
 -- two functions that agree
 agree : (f g : Stage → Bool) → ((x : Stage) → f x ≡ g x) → (o : Option Stage) → option_map_or f o false ≡ option_map_or g o false
 agree f g same None = refl
 agree f g same (Some x) = same x
 
--- and lists of them may follow where those they fold may
+-- folded subtags may follow where those that they fold may
 pub runs-fold : (stage : Stage) (ss : List (List ℕ)) → runs stage (map fold_text ss) ≡ runs stage ss
 unfolding runs
 runs-fold stage [] = refl
-runs-fold stage (s ∷ ss) = rw (next_stage-fold stage s) (agree (λ after. runs after (map fold_text ss)) (λ after. runs after ss) (λ after. runs-fold after ss) (next_stage stage s))
+runs-fold stage (s ∷ ss) =
+    rw (classes-fold s) (agree (λ after. runs after (map fold_text ss)) (λ after. runs after ss) (λ after. runs-fold after ss) (next_stage stage s))
 
 -- after a mark likewise
 pub runs_private-fold : (ss : List (List ℕ)) → runs_private (map fold_text ss) ≡ runs_private ss
@@ -153,20 +103,17 @@ runs_private-fold (s ∷ ss) = rw (is_one-fold is_mark is_mark-fold s, runs-fold
 
 -- ---- hyphens
 
--- a folded byte goes before the first of the folded segments
-onto-map : (b : ℕ) (ss : List (List ℕ)) → onto_first (fold_byte b) (map fold_text ss) ≡ map fold_text (onto_first b ss)
-onto-map b [] = refl
-onto-map b (s ∷ ss) = refl
-
--- a choice of segments, folded
-cond-map : (v : Bool) (ss us : List (List ℕ)) → cond v (map fold_text ss) (map fold_text us) ≡ map fold_text (cond v ss us)
-cond-map true ss us = refl
-cond-map false ss us = refl
-
 -- the segments of a folded text are those of the text, folded
 pub segments-fold : (t : List ℕ) → segments (fold_text t) ≡ map fold_text (segments t)
 segments-fold [] = refl
-segments-fold (b ∷ t) = rw (hyphen-fold b, segments-fold t, onto-map b (segments t)) (cond-map (eqb b 45) ([] ∷ segments t) (onto_first b (segments t)))
+segments-fold (b ∷ t) = rw (hyphen-fold b, segments-fold t) (one_more (eqb b 45) (segments t))
+  where
+    one_more :
+        (v : Bool) (ss : List (List ℕ)) →
+        cond v ([] ∷ map fold_text ss) (onto_first (fold_byte b) (map fold_text ss)) ≡ map fold_text (cond v ([] ∷ ss) (onto_first b ss))
+    one_more true ss = refl
+    one_more false [] = refl
+    one_more false (s ∷ ss) = refl
 
 -- and a join of folded subtags is the join, folded
 pub join-fold : (ss : List (List ℕ)) → join (map fold_text ss) ≡ fold_text (join ss)
@@ -183,129 +130,112 @@ one_flat-fold None = refl
 one_flat-fold (Some s) = refl
 
 -- those of the extensions likewise
-extensions-fold : (es : List Extension) → flat_map extension_flat (map fold_extension es) ≡ map fold_text (flat_map extension_flat es)
+pub extensions-fold : (es : List Extension) → flat_map extension_flat (map fold_extension es) ≡ map fold_text (flat_map extension_flat es)
 extensions-fold [] = refl
 extensions-fold (e ∷ es) = rw (extensions-fold es) (sym (map-append fold_text (extension_flat e) (flat_map extension_flat es)))
 
 -- those of the private use part
-private_part-fold : (o : Option PrivateUse) → private_part_flat (option_map fold_private_use o) ≡ map fold_text (private_part_flat o)
+pub private_part-fold : (o : Option PrivateUse) → private_part_flat (option_map fold_private_use o) ≡ map fold_text (private_part_flat o)
 private_part-fold None = refl
 private_part-fold (Some p) = refl
 
--- the subtags of a folded record are those of the record, folded
-flat-fold : (r : Record) → flat (fold_record r) ≡ map fold_text (flat r)
-flat-fold r = simp (one_flat-fold, extensions-fold, private_part-fold, map-append)
+-- so a folded record spells the folded text
+spell-fold : (r : Record) → spell (fold_record r) ≡ fold_text (spell r)
+spell-fold r =
+    let folded : flat (fold_record r) ≡ map fold_text (flat r) = simp (one_flat-fold, extensions-fold, private_part-fold, map-append) in
+    ap join folded ∙ join-fold (flat r)
 
--- and it spells the folded text
-pub spell-fold : (r : Record) → spell (fold_record r) ≡ fold_text (spell r)
-spell-fold r = ap join (flat-fold r) ∙ join-fold (flat r)
+-- what holds of the images of all members of a list, and of the one that may be there
+module _ {X Y : Type 0} (P : X → Type 0) (Q : Y → Type 0) (f : X → Y) (step : (x : X) → P x → Q (f x)) where
+  each-map : (xs : List X) → AllByRecursion P xs → AllByRecursion Q (map f xs)
+  each-map [] fits = tt
+  each-map (x ∷ xs) fits = (step x fits.0, each-map xs fits.1)
 
--- where the fold changes nothing of a test, the folds of all members of a list pass it
-each-fold :
-    (p : List ℕ → Bool) → ((s : List ℕ) → p (fold_text s) ≡ p s) → (ss : List (List ℕ)) → AllByRecursion (λ s. IsTrue (p s)) ss →
-    AllByRecursion (λ s. IsTrue (p s)) (map fold_text ss)
-each-fold p same [] fits = tt
-each-fold p same (s ∷ ss) fits = (same s ∙ fits.0, each-fold p same ss fits.1)
+  if_some-map : (o : Option X) → IfSome o P → IfSome (option_map f o) Q
+  if_some-map None fits = tt
+  if_some-map (Some x) fits = step x fits
 
--- and the fold of the one that may be there
-if_some-fold :
-    (p : List ℕ → Bool) → ((s : List ℕ) → p (fold_text s) ≡ p s) → (o : Option (List ℕ)) → IfSome o (λ s. IsTrue (p s)) →
-    IfSome (option_map fold_text o) (λ s. IsTrue (p s))
-if_some-fold p same None fits = tt
-if_some-fold p same (Some s) fits = same s ∙ fits
+each-fold : (is : Classes → Bool) (ss : List (List ℕ)) → AllByRecursion (IsOf is) ss → AllByRecursion (IsOf is) (map fold_text ss)
+each-fold is = each-map (IsOf is) (IsOf is) fold_text (class-fold is)
 
--- folded extensions are extensions
-is_extension-fold : (es : List Extension) → AllByRecursion IsWellFormedExtension es → AllByRecursion IsWellFormedExtension (map fold_extension es)
-is_extension-fold [] fits = tt
-is_extension-fold (e ∷ es) fits =
-    let first : IsWellFormedExtension (fold_extension e) = record {
-      singleton = is_singleton-fold e.singleton ∙ fits.0.singleton;
-      some = omega (arith, fits.0.some, length-map e.subtags fold_text);
-      subtags = each-fold is_extension_subtag is_extension_subtag-fold e.subtags fits.0.subtags;
-    } in
-    (first, is_extension-fold es fits.1)
+if_some-fold : (is : Classes → Bool) (o : Option (List ℕ)) → IfSome o (IsOf is) → IfSome (option_map fold_text o) (IsOf is)
+if_some-fold is = if_some-map (IsOf is) (IsOf is) fold_text (class-fold is)
+
+-- a folded extension is one
+extension-fold : (e : Extension) → IsWellFormedExtension e → IsWellFormedExtension (fold_extension e)
+extension-fold e fits = record {
+  singleton = class-fold (λ c. c.singleton) (e.singleton ∷ []) fits.singleton;
+  some = omega (arith, fits.some, length-map e.subtags fold_text);
+  subtags = each-fold (λ c. c.extension_subtag) e.subtags fits.subtags;
+}
 
 -- a folded private use part is one
-is_private_use-fold : (o : Option PrivateUse) → IfSome o IsWellFormedPrivateUse → IfSome (option_map fold_private_use o) IsWellFormedPrivateUse
-is_private_use-fold None fits = tt
-is_private_use-fold (Some p) fits = record {
-  mark = is_mark-fold p.mark ∙ fits.mark;
+private_use-fold : (p : PrivateUse) → IsWellFormedPrivateUse p → IsWellFormedPrivateUse (fold_private_use p)
+private_use-fold p fits = record {
+  mark = class-fold (λ c. c.mark) (p.mark ∷ []) fits.mark;
   some = omega (arith, fits.some, length-map p.subtags fold_text);
-  subtags = each-fold is_private_subtag is_private_subtag-fold p.subtags fits.subtags;
+  subtags = each-fold (λ c. c.private_subtag) p.subtags fits.subtags;
 }
 
 -- a folded record is well formed where the record is
-pub well_formed-fold : (r : Record) → IsWellFormed r → IsWellFormed (fold_record r)
+well_formed-fold : (r : Record) → IsWellFormed r → IsWellFormed (fold_record r)
 well_formed-fold r fits = record {
-  primary = is_primary-fold r.primary ∙ fits.primary;
-  extended = each-fold is_extended is_extended-fold r.extended fits.extended;
+  primary = class-fold (λ c. c.primary) r.primary fits.primary;
+  extended = each-fold (λ c. c.extended) r.extended fits.extended;
   few = omega (arith, fits.few, length-map r.extended fold_text);
   short = elim fits.short [ inl le ↦ inl (omega (arith, length-fold r.primary)) | inr none_left ↦ inr (ap (map fold_text) none_left) ];
-  script = if_some-fold is_script is_script-fold r.script fits.script;
-  region = if_some-fold is_region is_region-fold r.region fits.region;
-  variants = each-fold is_variant is_variant-fold r.variants fits.variants;
-  extensions = is_extension-fold r.extensions fits.extensions;
-  private_use = is_private_use-fold r.private_use fits.private_use;
+  script = if_some-fold (λ c. c.script) r.script fits.script;
+  region = if_some-fold (λ c. c.region) r.region fits.region;
+  variants = each-fold (λ c. c.variant) r.variants fits.variants;
+  extensions = each-map IsWellFormedExtension IsWellFormedExtension fold_extension extension-fold r.extensions fits.extensions;
+  private_use = if_some-map IsWellFormedPrivateUse IsWellFormedPrivateUse fold_private_use private_use-fold r.private_use fits.private_use;
 }
 
 -- a join of folded subtags is as long
-joined_length : (ss us : List (List ℕ)) → us ≡ map fold_text ss → length (join us) ≡ length (join ss)
-joined_length ss us e = ap (λ (xs : List (List ℕ)). length (join xs)) e ∙ ap length (join-fold ss) ∙ length-fold (join ss)
+length-join-fold : (s : List ℕ) (ss : List (List ℕ)) → length (join (fold_text s ∷ map fold_text ss)) ≡ length (join (s ∷ ss))
+length-join-fold s ss = ap length (join-fold (s ∷ ss)) ∙ length-fold (join (s ∷ ss))
 
 -- the parts of a folded record end where those of the record do
-pub ends-fold : (r : Record) → ends_of (fold_record r) ≡ ends_of r
-ends-fold r =
-    let q : Record = fold_record r in
-    let language : length (join (to_language q)) ≡ length (join (to_language r)) = joined_length (to_language r) (to_language q) refl in
-    let script : length (join (to_script q)) ≡ length (join (to_script r)) = joined_length (to_script r) (to_script q) (simp (one_flat-fold, map-append)) in
-    let region : length (join (to_region q)) ≡ length (join (to_region r)) = joined_length (to_region r) (to_region q) (simp (one_flat-fold, map-append)) in
-    let variants : length (join (to_variants q)) ≡ length (join (to_variants r)) = joined_length (to_variants r) (to_variants q) (simp (one_flat-fold, map-append)) in
-    let extensions : length (join (to_extensions q)) ≡ length (join (to_extensions r)) = joined_length (to_extensions r) (to_extensions q) (simp (one_flat-fold, extensions-fold, map-append)) in
-    let whole : length (join (flat q)) ≡ length (join (flat r)) = joined_length (flat r) (flat q) (flat-fold r) in
-    ends_equal (ends_of q) (ends_of r) language script region variants extensions whole
+ends-fold : (r : Record) → ends_of (fold_record r) ≡ ends_of r
+ends-fold r = simp (one_flat-fold, extensions-fold, private_part-fold, ← map-append, length-join-fold)
 
 -- ---- the law
 
--- well-formed records that are spelled alike are alike
-pub alike_records : (r q : Record) → IsWellFormed r → IsWellFormed q → Alike (spell r) (spell q) → AlikeRecords r q
-alike_records r q fits fit alike = spelled_once (fold_record r) (fold_record q) (well_formed-fold r fits) (well_formed-fold q fit) (spell-fold r ∙ alike ∙ sym (spell-fold q))
+-- a test of lists of subtags that the fold does not change answers alike of the segments of alike texts
+module _ (test : List (List ℕ) → Bool) (same : (ss : List (List ℕ)) → test (map fold_text ss) ≡ test ss) where
+  pub segments_test-fold : (t : List ℕ) → test (segments (fold_text t)) ≡ test (segments t)
+  segments_test-fold t = ap test (segments-fold t) ∙ same (segments t)
 
--- and alike records have the same ends
-pub alike_ends : (r q : Record) → AlikeRecords r q → ends_of r ≡ ends_of q
-alike_ends r q alike = sym (ends-fold r) ∙ ap ends_of alike ∙ ends-fold q
-
--- the segments of alike texts are alike
-alike_segments : (t u : List ℕ) → Alike t u → map fold_text (segments u) ≡ map fold_text (segments t)
-alike_segments t u alike = sym (segments-fold u) ∙ ap segments (sym alike) ∙ segments-fold t
+  alike_test : (t u : List ℕ) → Alike t u → test (segments u) ≡ test (segments t)
+  alike_test t u alike = sym (segments_test-fold u) ∙ ap (λ v. test (segments v)) (sym alike) ∙ segments_test-fold t
 
 -- a text that is alike a normal one is normal
 pub alike_normal : (t u : List ℕ) → Alike t u → IsNormal t → IsNormal u
-alike_normal t u alike normal =
-    normal_from_runs u (sym (runs-fold Start (segments u)) ∙ ap (runs Start) (alike_segments t u alike) ∙ runs-fold Start (segments t) ∙ runs_from_normal t normal)
+alike_normal t u alike normal = normal_from_runs u (alike_test (runs Start) (runs-fold Start) t u alike ∙ runs_from_normal t normal)
 
 -- a text that is alike an irregular one is the same irregular one
 pub alike_irregular : (k : ℕ) (t u : List ℕ) → Alike t u → IsIrregularAt k t → IsIrregularAt k u
 unfolding IsIrregularAt
-alike_irregular k t u alike irregular = (irregular.0, irregular.1, irregular.2 ∙ alike)
+alike_irregular k t u alike (name, at, same) = (name, at, same ∙ alike)
 
 -- a text that is alike a private one is private
 pub alike_private : (t u : List ℕ) → Alike t u → IsPrivate t → IsPrivate u
-alike_private t u alike private =
-    private_from_runs u (sym (runs_private-fold (segments u)) ∙ ap runs_private (alike_segments t u alike) ∙ runs_private-fold (segments t) ∙ runs_from_private t private)
+alike_private t u alike private = private_from_runs u (alike_test runs_private runs_private-fold t u alike ∙ runs_from_private t private)
 
 -- a text that is alike a tag is a tag
 pub alike_tag : (t u : List ℕ) → Alike t u → IsTag t → IsTag u
 unfolding IsTag IsIrregular
-alike_tag t u alike tag =
-    elim tag [
-      | inl normal ↦ inl (alike_normal t u alike normal)
-      | inr other ↦ inr (elim other [ inl private ↦ inl (alike_private t u alike private) | inr irregular ↦ inr (irregular.0, alike_irregular irregular.0 t u alike irregular.1) ])
-    ]
+alike_tag t u alike (inl normal) = inl (alike_normal t u alike normal)
+alike_tag t u alike (inr (inl private)) = inr (inl (alike_private t u alike private))
+alike_tag t u alike (inr (inr (k, irregular))) = inr (inr (k, alike_irregular k t u alike irregular))
 
 -- a text that is alike a normal one has an alike record, with the same ends
 pub alike_parts : (t u : List ℕ) → Alike t u → EachRecord t (λ r. IsSpelledAlike r u)
 unfolding IsNormal
 alike_parts t u alike r (fits, spells) =
     let other = alike_normal t u alike (r, (fits, spells)) in
-    let same : AlikeRecords r other.0 = alike_records r other.0 fits other.1.0 (ap fold_text spells ∙ alike ∙ ap fold_text (sym other.1.1)) in
-    (other.0, other.1, same, alike_ends r other.0 same)
+    let q : Record = other.0 in
+    let spelled : spell (fold_record r) ≡ spell (fold_record q) =
+    spell-fold r ∙ ap fold_text spells ∙ alike ∙ ap fold_text (sym other.1.1) ∙ sym (spell-fold q) in
+    let same : AlikeRecords r q = spelled_once (fold_record r) (fold_record q) (well_formed-fold r fits) (well_formed-fold q other.1.0) spelled in
+    (q, other.1, same, sym (ends-fold r) ∙ ap ends_of same ∙ ends-fold q)

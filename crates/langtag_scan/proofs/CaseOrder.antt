@@ -1,5 +1,5 @@
 -- How the order of texts without regard to case goes on from an index, and what it answers where a text has ended.
-use Rattle.std.proofs.Common.{◌≡◌, ℕ, suc, ◌+◌, ◌<◌, min, true, false, List, [], ◌∷◌, length, get_or, take, drop, refl, ap, ◌∙◌, Fits, w8, arith, add-one, subst, length-drop, Less, Equal, Greater, Ordering}
+use Rattle.std.proofs.Common.{◌≡◌, ℕ, suc, ◌+◌, ◌<◌, min, true, false, cond, List, [], ◌∷◌, length, get_or, take, drop, refl, ap, ◌∙◌, Fits, w8, arith, add-one, subst, length-drop, Less, Equal, Greater, Ordering}
 use Rattle.std.specs.Ordering.{nat_cmp, ordering_then, is_ne}
 use Rattle.std.proofs.Math.Seq.{drop-cons}
 use Rattle.std.proofs.lemmas.Grind.{common_steps}
@@ -11,24 +11,19 @@ case_cmp-drop :
     case_cmp (drop i a) (drop i b) ≡ ordering_then (nat_cmp (fold_byte (get_or a i 0)) (fold_byte (get_or b i 0))) (case_cmp (drop (i + 1) a) (drop (i + 1) b))
 case_cmp-drop a b i in_a in_b = rw (add-one, drop-cons a i 0 in_a, drop-cons b i 0 in_b) refl
 
-ordering_then-tied : (first rest : Ordering) → is_ne first ≡ false → ordering_then first rest ≡ rest
-ordering_then-tied Less rest tied = absurd cc
-ordering_then-tied Equal rest tied = refl
-ordering_then-tied Greater rest tied = absurd cc
-
-ordering_then-decided : (first rest : Ordering) → is_ne first ≡ true → ordering_then first rest ≡ first
-ordering_then-decided Less rest decided = refl
-ordering_then-decided Equal rest decided = absurd cc
-ordering_then-decided Greater rest decided = refl
+ordering_then-is_ne : (first rest : Ordering) → ordering_then first rest ≡ cond (is_ne first) first rest
+ordering_then-is_ne Less rest = refl
+ordering_then-is_ne Equal rest = refl
+ordering_then-is_ne Greater rest = refl
 
 module _ (a b : List ℕ) (i x y : ℕ) (o : Ordering) (in_a : i < length a) (in_b : i < length b) (at_a : x ≡ get_or a i 0) (at_b : y ≡ get_or b i 0) (at_index : o ≡ nat_cmp (fold_byte x) (fold_byte y)) where
   -- the bytes at an index tie
   pub case_cmp-tied : is_ne o ≡ false → case_cmp (drop i a) (drop i b) ≡ case_cmp (drop (i + 1) a) (drop (i + 1) b)
-  case_cmp-tied tied = case_cmp-drop a b i in_a in_b ∙ rw (← at_a, ← at_b, ← at_index) (ordering_then-tied o _ tied)
+  case_cmp-tied tied = case_cmp-drop a b i in_a in_b ∙ rw (← at_a, ← at_b, ← at_index, ordering_then-is_ne o, tied) refl
 
   -- the bytes at an index differ
   pub case_cmp-decided : is_ne o ≡ true → case_cmp (drop i a) (drop i b) ≡ o
-  case_cmp-decided decided = case_cmp-drop a b i in_a in_b ∙ rw (← at_a, ← at_b, ← at_index) (ordering_then-decided o _ decided)
+  case_cmp-decided decided = case_cmp-drop a b i in_a in_b ∙ rw (← at_a, ← at_b, ← at_index, ordering_then-is_ne o, decided) refl
 
 -- the end of a text is above every byte
 fold_byte-below_end : (x : ℕ) → Fits w8 x → nat_cmp (fold_byte x) 256 ≡ Less

@@ -1,16 +1,17 @@
 -- What was found of a text says of which kind it is.
-use Rattle.std.proofs.Common.{◌≡◌, ◌↔◌, ℕ, List, Option, None, Some, slice_get, IsTrue, MatchOption, refl, subst}
+use Rattle.std.proofs.Common.{◌≡◌, ◌↔◌, ℕ, ◌<◌, List, Option, IsTrue, MatchOption, refl}
 use Rattle.std.proofs.Math.Logic.{∥∥₁_elim}
 use Rattle.std.proofs.Props.{props}
 use mathlib.Core.Bool.{Bool-set}
-use Rattle.langtag_scan.specs.Case.{Alike}
+use Rattle.langtag_scan.specs.Case.{fold_text}
 use Rattle.langtag_scan.specs.Ends.{HasEnds}
 use Rattle.langtag_scan.specs.Found.{IsFoundOf, is_normal, is_private_use, normal_ends}
-use Rattle.langtag_scan.specs.Grandfathered.{irregular_texts}
+use Rattle.langtag_scan.specs.Irregular.{folded_at}
 use Rattle.langtag_scan.specs.Tag.{IsNormal, IsPrivate, IsIrregularAt, IsIrregular, IsTag}
 use Rattle.langtag_scan.specs.declared.ends.Ends.{Ends}
 use Rattle.langtag_scan.specs.declared.finding.Finding.{Finding}
 use Rattle.langtag_scan.specs.declared.finding.Finding.TheVariants.{Normal, PrivateUse, Irregular}
+use Rattle.langtag_scan.proofs.IrregularNames.{irregular_fold, irregular_from_fold}
 use Rattle.langtag_scan.proofs.OneKind.{normal_no_private, normal_no_irregular, private_no_irregular}
 use Rattle.langtag_scan.proofs.PrivateTexts.{runs_from_private, private_from_runs}
 use Rattle.langtag_scan.proofs.SpelledTexts.{ends_had, normal_from_ends}
@@ -47,20 +48,12 @@ found_ends text (Irregular index) ends h at = rw at (λ is. normal_no_irregular 
 
 -- ---- what is merely so is at hand
 
-pub private_had : (text : List ℕ) → ∥ IsPrivate text ∥₁ → IsPrivate text
-private_had text merely = private_from_runs text (∥∥₁_elim merely (Bool-set _ _) (runs_from_private text))
-
-pub irregular_had : (index : ℕ) (text : List ℕ) → ∥ IsIrregularAt index text ∥₁ → IsIrregularAt index text
-unfolding IsIrregularAt
-irregular_had index text merely = by_name (slice_get irregular_texts index) refl
-  where
-    by_name :
-        (o : Option (List ℕ)) → slice_get irregular_texts index ≡ o →
-        (name : List ℕ) × (slice_get irregular_texts index ≡ Some name) × Alike name text
-    by_name None past = absurd (∥∥₁_elim merely (λ x y. absurd x) (λ h. let at = h.1 in cc))
-    by_name (Some name) at = (name, at, ∥∥₁_elim merely (hlevel props) (λ h. let here = h.1 in let same : h.0 ≡ name = cc in subst (λ n. Alike n text) same h.2))
+irregular_had : (index : ℕ) (text : List ℕ) → ∥ IsIrregularAt index text ∥₁ → IsIrregularAt index text
+irregular_had index text merely =
+    let whole : (index < 17) × (folded_at index ≡ fold_text text) = ∥∥₁_elim merely (hlevel props) (irregular_fold text index) in
+    irregular_from_fold text index whole.0 whole.1
 
 pub found_had : (text : List ℕ) (found : Finding) → ∥ IsFoundOf text found ∥₁ → IsFoundOf text found
 found_had text (Normal ends) merely = ends_had text ends merely
-found_had text PrivateUse merely = private_had text merely
+found_had text PrivateUse merely = private_from_runs text (∥∥₁_elim merely (Bool-set _ _) (runs_from_private text))
 found_had text (Irregular index) merely = irregular_had index text merely

@@ -1,47 +1,37 @@
 -- The irregular texts: which of them a text may still become, by its prefixes, and that these are neighbours in the table.
-use Rattle.std.proofs.Common.{◌≡◌, ℕ, zero, suc, ◌<◌, ◌≤◌, ◌⊎◌, inl, inr, Bool, true, false, eqb, ltb, ◌&&◌, ◌||◌, List, [], ◌∷◌, ◌++◌, map, length, get_or, drop, Some, refl, sym, ap, ◌∙◌, arith}
-use Rattle.std.specs.Prelude.{slice_get}
-use Rattle.std.specs.List.{list_all}
-use Rattle.std.proofs.Math.Bool.{and_assoc}
-use Rattle.std.proofs.lemmas.Bool.{eqb-true, eq-eqb, ltb-true, and_parts, and_from, or_cases, cases_order, true_from_ne_false, both_ways}
+use Rattle.std.proofs.Common.{◌≡◌, ℕ, suc, ◌<◌, ◌≤◌, Bool, true, false, eqb, ltb, leb, ◌&&◌, ◌||◌, List, [], ◌∷◌, ◌++◌, length, get_or, drop, refl, sym, ap, ◌∙◌, arith, append-nil}
+use Rattle.std.proofs.lemmas.Bool.{eqb-true, eq-eqb, le-leb, and_parts, and_from, agree_below, agree_below_at}
 use Rattle.std.proofs.lemmas.Bool.Decides.{nat_tests}
-use Rattle.std.proofs.lemmas.List.{map-append, drop-map, length-map, get_or-map}
-use Rattle.std.proofs.lemmas.List.Folds.{list_all_at}
-use Rattle.std.proofs.lemmas.Option.{slice_get-get_or, slice_get_cases}
+use Rattle.std.proofs.lemmas.List.{map-append, drop-map, drop_all, length-map, get_or-map}
+use Rattle.std.proofs.lemmas.Option.{slice_get-get_or, slice_get_within, get_or_from_slice_get}
 use Rattle.langtag_scan.specs.Case.{fold_byte, fold_text}
 use Rattle.langtag_scan.specs.Grandfathered.{grandfathered_tags, irregular_texts}
 use Rattle.langtag_scan.specs.Irregular.{folded_texts, folded_at, is_prefix, has_at, is_possible}
 use Rattle.langtag_scan.specs.Tag.{IsIrregularAt}
 
--- ---- the two tables
+-- ---- the table
 
--- the table of folded texts is the table of the irregular ones, folded
-pub folded_texts-fold : map fold_text irregular_texts ≡ folded_texts
-unfolding fold_byte folded_texts irregular_texts grandfathered_tags
-folded_texts-fold = refl
-
--- there are seventeen
 seventeen : length irregular_texts ≡ 17
 unfolding irregular_texts grandfathered_tags
 seventeen = refl
 
--- the irregular text at an index of the table, and its fold
-pub irregular_there : (k : ℕ) → k < 17 → (name : List ℕ) × (slice_get irregular_texts k ≡ Some name) × (fold_text name ≡ folded_at k)
-irregular_there k lt =
-    let within : k < length irregular_texts = omega (arith, seventeen) in
-    (get_or irregular_texts k [], slice_get-get_or irregular_texts k [] within, sym (get_or-map fold_text irregular_texts k [] [] within) ∙ ap (λ (names : List (List ℕ)). get_or names k []) folded_texts-fold)
+folded_at-fold : (k : ℕ) → k < 17 → folded_at k ≡ fold_text (get_or irregular_texts k [])
+unfolding folded_texts
+folded_at-fold k within = get_or-map fold_text irregular_texts k [] [] (omega (arith, seventeen))
 
--- an irregular text stands at one of seventeen indices
-pub irregular_here : (k : ℕ) (name : List ℕ) → slice_get irregular_texts k ≡ Some name → (k < 17) × (fold_text name ≡ folded_at k)
-irregular_here k name e =
-    elim (slice_get_cases irregular_texts k).1 [
-      | inl found ↦ let lt : k < 17 = omega (arith, seventeen, found.1) in
-          let there = irregular_there k lt in
-          let same : Some name ≡ Some there.0 = sym e ∙ there.1 in
-          let is : name ≡ there.0 = cc in
-          (lt, ap fold_text is ∙ there.2)
-      | inr past ↦ absurd (cc (past.1, e))
-    ]
+-- a text is irregular where its fold stands in the table
+pub irregular_from_fold : (t : List ℕ) (k : ℕ) → k < 17 → folded_at k ≡ fold_text t → IsIrregularAt k t
+unfolding IsIrregularAt
+irregular_from_fold t k within same =
+    let there = slice_get-get_or irregular_texts k [] (omega (arith, seventeen)) in
+    (get_or irregular_texts k [], there, sym (folded_at-fold k within) ∙ same)
+
+-- and only there
+pub irregular_fold : (t : List ℕ) (k : ℕ) → IsIrregularAt k t → (k < 17) × (folded_at k ≡ fold_text t)
+unfolding IsIrregularAt
+irregular_fold t k (name, at, same) =
+    let within : k < 17 = omega (arith, seventeen, slice_get_within irregular_texts k name at) in
+    (within, folded_at-fold k within ∙ ap fold_text (get_or_from_slice_get irregular_texts k name [] at) ∙ same)
 
 -- ---- prefixes
 
@@ -50,13 +40,8 @@ is_prefix-append : (p u : List ℕ) → is_prefix p (p ++ u) ≡ true
 is_prefix-append [] u = refl
 is_prefix-append (b ∷ p) u = and_from (eqb b b) (is_prefix p (p ++ u)) (eq-eqb b b refl) (is_prefix-append p u)
 
--- a text begins with itself
-is_prefix-self : (p : List ℕ) → is_prefix p p ≡ true
-is_prefix-self [] = refl
-is_prefix-self (b ∷ p) = and_from (eqb b b) (is_prefix p p) (eq-eqb b b refl) (is_prefix-self p)
-
--- a text is a prefix and what stands after it
-prefix_rest : (p text : List ℕ) → is_prefix p text ≡ true → p ++ drop (length p) text ≡ text
+-- and is the prefix and what stands after it
+pub prefix_rest : (p text : List ℕ) → is_prefix p text ≡ true → p ++ drop (length p) text ≡ text
 prefix_rest [] text h = refl
 prefix_rest (b ∷ p) [] h = absurd cc
 prefix_rest (b ∷ p) (c ∷ text) h =
@@ -64,23 +49,8 @@ prefix_rest (b ∷ p) (c ∷ text) h =
     let same : b ≡ c = eqb-true _ _ k.0 in
     rw (same, prefix_rest p text k.1) refl
 
--- a prefix of the same length is the whole text
-prefix_whole : (p text : List ℕ) → is_prefix p text ≡ true → length p ≡ length text → p ≡ text
-prefix_whole [] [] h e = refl
-prefix_whole [] (c ∷ text) h e = absurd (omega arith)
-prefix_whole (b ∷ p) [] h e = absurd cc
-prefix_whole (b ∷ p) (c ∷ text) h e =
-    let k = and_parts (eqb b c) (is_prefix p text) h in
-    let same : b ≡ c = eqb-true _ _ k.0 in
-    let rest : p ≡ text = prefix_whole p text k.1 (omega arith) in
-    cc
-
--- one less on both sides
-ltb-suc : (a b : ℕ) → ltb (suc a) (suc b) ≡ ltb a b
-ltb-suc a b = grind (arith, nat_tests)
-
 -- a prefix with one byte more
-is_prefix-push : (p text : List ℕ) (b : ℕ) → is_prefix (p ++ b ∷ []) text ≡ (is_prefix p text && has_at text (length p) b)
+pub is_prefix-push : (p text : List ℕ) (b : ℕ) → is_prefix (p ++ b ∷ []) text ≡ (is_prefix p text && has_at text (length p) b)
 is_prefix-push [] [] b = refl
 is_prefix-push [] (c ∷ text) b = first b c (length text)
   where
@@ -88,148 +58,92 @@ is_prefix-push [] (c ∷ text) b = first b c (length text)
     first b c n = grind (arith, nat_tests)
 is_prefix-push (x ∷ p) [] b = refl
 is_prefix-push (x ∷ p) (c ∷ text) b =
-    ap (λ (v : Bool). eqb x c && v) (is_prefix-push p text b)
-    ∙ sym (and_assoc (eqb x c) (is_prefix p text) (has_at text (length p) b))
-    ∙ ap (λ (v : Bool). (eqb x c && is_prefix p text) && (v && eqb (get_or text (length p) 0) b)) (sym (ltb-suc (length p) (length text)))
-
--- what is possible after one byte more: what was, and has the byte, folded
-pub possible-push : (p : List ℕ) (b k : ℕ) → is_possible (p ++ b ∷ []) k ≡ (is_possible p k && has_at (folded_at k) (length p) (fold_byte b))
-possible-push p b k =
-    ap (λ (q : List ℕ). is_prefix q (folded_at k)) (map-append fold_byte p (b ∷ []))
-    ∙ is_prefix-push (fold_text p) (folded_at k) (fold_byte b)
-    ∙ ap (λ (n : ℕ). is_prefix (fold_text p) (folded_at k) && has_at (folded_at k) n (fold_byte b)) (length-map p fold_byte)
+    ap (λ v. eqb x c && v) (is_prefix-push p text b)
+    ∙ further (eqb x c) (is_prefix p text) (eqb (get_or text (length p) 0) b) (length p) (length text)
+  where
+    further : (x y z : Bool) (m n : ℕ) → (x && (y && (ltb m n && z))) ≡ ((x && y) && (ltb (suc m) (suc n) && z))
+    further x y z m n = grind (arith, nat_tests)
 
 -- ---- alphabetical order
 
--- whether a text stands before another
-abbrev is_before : List ℕ → List ℕ → Bool
-is_before [] [] = false
-is_before [] (c ∷ y) = true
-is_before (b ∷ x) [] = false
-is_before (b ∷ x) (c ∷ y) = ltb b c || (eqb b c && is_before x y)
-
--- whether each text stands before all after it
-abbrev are_sorted : List (List ℕ) → Bool
-are_sorted [] = true
-are_sorted (x ∷ xs) = list_all (is_before x) xs && are_sorted xs
-
--- what the first bytes tell
-first_tells : (b c : ℕ) (x y : List ℕ) → is_before (b ∷ x) (c ∷ y) ≡ true → (b < c) ⊎ ((b ≡ c) × (is_before x y ≡ true))
-first_tells b c x y h =
-    elim (or_cases (ltb b c) (eqb b c && is_before x y) h) [
-      | inl less ↦ inl (ltb-true b c less)
-      | inr rest ↦ let k = and_parts (eqb b c) (is_before x y) rest in inr (eqb-true b c k.0, k.1)
-    ]
+-- whether a text is another, or stands before it
+abbrev is_upto : List ℕ → List ℕ → Bool
+is_upto [] y = true
+is_upto (b ∷ x) [] = false
+is_upto (b ∷ x) (c ∷ y) = ltb b c || (eqb b c && is_upto x y)
 
 -- what stands between two texts with one prefix has it too
 between_prefixes :
-    (p x y z : List ℕ) → is_before x y ≡ true → is_before y z ≡ true → is_prefix p x ≡ true → is_prefix p z ≡ true →
+    (p x y z : List ℕ) → is_upto x y ≡ true → is_upto y z ≡ true → is_prefix p x ≡ true → is_prefix p z ≡ true →
     is_prefix p y ≡ true
 between_prefixes [] x y z xy yz fx fz = refl
 between_prefixes (b ∷ p) [] y z xy yz fx fz = absurd cc
 between_prefixes (b ∷ p) (c ∷ x) y [] xy yz fx fz = absurd cc
 between_prefixes (b ∷ p) (c ∷ x) [] (e ∷ z) xy yz fx fz = absurd cc
 between_prefixes (b ∷ p) (c ∷ x) (d ∷ y) (e ∷ z) xy yz fx fz =
-    let f = and_parts (eqb b c) (is_prefix p x) fx in
-    let g = and_parts (eqb b e) (is_prefix p z) fz in
-    let bc : b ≡ c = eqb-true b c f.0 in
-    let be : b ≡ e = eqb-true b e g.0 in
-    elim (first_tells c d x y xy) [
-      | inl less ↦ elim (first_tells d e y z yz) [ inl more ↦ absurd (omega arith) | inr same ↦ absurd (omega (arith, same.0)) ]
-      | inr same ↦ elim (first_tells d e y z yz) [
-        | inl more ↦ absurd (omega (arith, same.0))
-        | inr also ↦ and_from (eqb b d) (is_prefix p y) (eq-eqb b d (bc ∙ same.0)) (between_prefixes p x y z same.1 also.1 f.1 g.1)
-      ]
-    ]
+    step b c d e (is_prefix p x) (is_prefix p y) (is_prefix p z) (is_upto x y) (is_upto y z) (between_prefixes p x y z) xy yz fx fz
+  where
+    step :
+        (b c d e : ℕ) (px py pz xy yz : Bool) → (xy ≡ true → yz ≡ true → px ≡ true → pz ≡ true → py ≡ true) →
+        (ltb c d || (eqb c d && xy)) ≡ true → (ltb d e || (eqb d e && yz)) ≡ true → (eqb b c && px) ≡ true →
+        (eqb b e && pz) ≡ true → (eqb b d && py) ≡ true
+    step b c d e px py pz xy yz rest upto_y upto_z fx fz = grind (arith, nat_tests)
 
--- no text begins one that stands before it
-prefix_before : (p x : List ℕ) → is_before x p ≡ true → is_prefix p x ≡ true → ⊥
-prefix_before [] [] h f = cc
-prefix_before [] (c ∷ x) h f = cc
-prefix_before (b ∷ p) [] h f = cc
-prefix_before (b ∷ p) (c ∷ x) h f =
-    let k = and_parts (eqb b c) (is_prefix p x) f in
-    let same : b ≡ c = eqb-true b c k.0 in
-    elim (first_tells c b x p h) [ inl less ↦ omega arith | inr rest ↦ prefix_before p x rest.1 k.1 ]
+-- the table stands in this order, and none of its texts begins another: two tests of each pair
+each_pair : (f g : ℕ → ℕ → Bool) (n : ℕ) → agree_below (λ i. agree_below (f i) (g i) n) (λ i. true) n ≡ true → (i j : ℕ) → i < n → j < n → f i j ≡ g i j
+each_pair f g n all i j in_i in_j =
+    agree_below_at (f i) (g i) n j (agree_below_at (λ i. agree_below (f i) (g i) n) (λ i. true) n i all in_i) in_j
 
--- in a sorted list the text at a lower index stands before the text at a higher one
-sorted_indices : (xs : List (List ℕ)) → are_sorted xs ≡ true → (i j : ℕ) → i < j → j < length xs → is_before (get_or xs i []) (get_or xs j []) ≡ true
-sorted_indices [] h i j lt within = absurd (omega arith)
-sorted_indices (x ∷ xs) h i zero lt within = absurd (omega arith)
-sorted_indices (x ∷ xs) h zero (suc j) lt within =
-    let k = and_parts (list_all (is_before x) xs) (are_sorted xs) h in
-    true_from_ne_false (is_before x (get_or xs j [])) (λ e. both_ways (list_all (is_before x) xs) (list_all_at (is_before x) xs j [] (omega arith) e) k.0)
-sorted_indices (x ∷ xs) h (suc i) (suc j) lt within =
-    sorted_indices xs (and_parts (list_all (is_before x) xs) (are_sorted xs) h).1 i j (omega arith) (omega arith)
+folded_upto : (i j : ℕ) → i < 17 → j < 17 → is_upto (folded_at i) (folded_at j) ≡ leb i j
+unfolding fold_byte folded_texts irregular_texts grandfathered_tags
+folded_upto = each_pair (λ i j. is_upto (folded_at i) (folded_at j)) leb 17 refl
 
--- the table of folded texts is sorted
-folded_before : (i j : ℕ) → i < j → j < 17 → is_before (folded_at i) (folded_at j) ≡ true
-unfolding folded_texts
-folded_before i j lt within = sorted_indices folded_texts refl i j lt within
+folded_once : (i j : ℕ) → i < 17 → j < 17 → is_prefix (folded_at i) (folded_at j) ≡ eqb i j
+unfolding fold_byte folded_texts irregular_texts grandfathered_tags
+folded_once = each_pair (λ i j. is_prefix (folded_at i) (folded_at j)) eqb 17 refl
 
 -- so the indices of the texts with one prefix are neighbours
 pub possible_between : (p : List ℕ) (i j k : ℕ) → i ≤ j → j ≤ k → k < 17 → is_possible p i ≡ true → is_possible p k ≡ true → is_possible p j ≡ true
-possible_between p i j k le el lt fi fk =
-    elim (cases_order i j) [
-      | inl e ↦ ap (is_possible p) (sym e) ∙ fi
-      | inr a ↦ elim (cases_order j k) [
-        | inl e ↦ ap (is_possible p) e ∙ fk
-        | inr b ↦ between_prefixes (fold_text p) (folded_at i) (folded_at j) (folded_at k) (folded_before i j (elim a [ inl h ↦ h | inr h ↦ omega arith ]) (omega arith)) (folded_before j k (elim b [ inl h ↦ h | inr h ↦ omega arith ]) lt) fi fk
-      ]
-    ]
+possible_between p i j k from to within first last =
+    let lower = folded_upto i j (omega arith) (omega arith) ∙ le-leb i j from in
+    let upper = folded_upto j k (omega arith) within ∙ le-leb j k to in
+    between_prefixes (fold_text p) (folded_at i) (folded_at j) (folded_at k) lower upper first last
 
 -- ---- the texts that are reached
 
 -- a possible text is reached
 pub possible_viable : (p : List ℕ) (k : ℕ) → k < 17 → is_possible p k ≡ true → (u : List ℕ) × IsIrregularAt k (p ++ u)
-unfolding IsIrregularAt
-possible_viable p k lt h =
-    let there = irregular_there k lt in
-    let text : List ℕ = folded_at k in
-    let rest : List ℕ = drop (length p) there.0 in
-    let folded : fold_text (p ++ rest) ≡ fold_text p ++ drop (length (fold_text p)) text =
-    map-append fold_byte p rest
-    ∙ ap (λ (u : List ℕ). fold_text p ++ u) (sym (drop-map fold_byte (length p) there.0) ∙ ap (drop (length p)) there.2 ∙ ap (λ (n : ℕ). drop n text) (sym (length-map p fold_byte))) in
-    (rest, (there.0, there.1, there.2 ∙ sym (folded ∙ prefix_rest (fold_text p) text h)))
+possible_viable p k within h =
+    let rest : List ℕ = drop (length p) (get_or irregular_texts k []) in
+    let folded : fold_text p ++ drop (length (fold_text p)) (folded_at k) ≡ fold_text (p ++ rest) =
+    rw (folded_at-fold k within, length-map p fold_byte, drop-map fold_byte (length p), map-append fold_byte p rest) refl in
+    (rest, irregular_from_fold (p ++ rest) k within (sym (prefix_rest (fold_text p) (folded_at k) h) ∙ folded))
 
 -- and each prefix of an irregular text keeps it possible
 pub possible_prefix : (p u : List ℕ) (k : ℕ) → IsIrregularAt k (p ++ u) → (k < 17) × (is_possible p k ≡ true)
-unfolding IsIrregularAt
-possible_prefix p u k (name, at, same) =
-    let here = irregular_here k name at in
-    let text : folded_at k ≡ fold_text p ++ fold_text u = sym here.1 ∙ same ∙ map-append fold_byte p u in
-    (here.0, ap (is_prefix (fold_text p)) text ∙ is_prefix-append (fold_text p) (fold_text u))
+possible_prefix p u k irregular =
+    let whole = irregular_fold (p ++ u) k irregular in
+    (whole.0, ap (is_prefix (fold_text p)) (whole.1 ∙ map-append fold_byte p u) ∙ is_prefix-append (fold_text p) (fold_text u))
 
--- an irregular text folds to the text of the table
-folded_whole : (p : List ℕ) (k : ℕ) → IsIrregularAt k p → (k < 17) × (folded_at k ≡ fold_text p)
-unfolding IsIrregularAt
-folded_whole p k (name, at, same) = let here = irregular_here k name at in (here.0, sym here.1 ∙ same)
-
--- so it is possible, and as long
+-- an irregular text is possible itself, and as long as that of the table
 pub possible_itself : (p : List ℕ) (k : ℕ) → IsIrregularAt k p → (k < 17) × (is_possible p k ≡ true) × (length (folded_at k) ≡ length p)
 possible_itself p k irregular =
-    let whole = folded_whole p k irregular in
-    (whole.0, ap (is_prefix (fold_text p)) whole.1 ∙ is_prefix-self (fold_text p), ap length whole.1 ∙ length-map p fold_byte)
+    let whole = irregular_fold p k irregular in
+    let possible = ap (λ q. is_prefix q (folded_at k)) (sym whole.1) ∙ folded_once k k whole.0 whole.0 ∙ eq-eqb k k refl in
+    (whole.0, possible, ap length whole.1 ∙ length-map p fold_byte)
 
--- and no text before it in the table is possible
-pub possible_from : (p : List ℕ) (j k : ℕ) → IsIrregularAt k p → j < k → is_possible p j ≡ true → ⊥
-possible_from p j k irregular before possible =
-    let whole = folded_whole p k irregular in
-    let stands : is_before (folded_at j) (fold_text p) ≡ true = ap (is_before (folded_at j)) (sym whole.1) ∙ folded_before j k before whole.0 in
-    prefix_before (fold_text p) (folded_at j) stands possible
+-- and no other is
+pub possible_once : (p : List ℕ) (j k : ℕ) → IsIrregularAt k p → j < 17 → is_possible p j ≡ true → k ≡ j
+possible_once p j k irregular within possible =
+    let whole = irregular_fold p k irregular in
+    eqb-true k j (sym (folded_once k j whole.0 within) ∙ ap (λ q. is_prefix q (folded_at j)) whole.1 ∙ possible)
+
+-- so no text is irregular at two indices
+pub irregular_once : (j k : ℕ) (t : List ℕ) → IsIrregularAt j t → IsIrregularAt k t → j ≡ k
+irregular_once j k t first other = let is = possible_itself t k other in possible_once t k j first is.0 is.1
 
 -- a possible text of the same length is the text
 pub irregular_from_length : (p : List ℕ) (k : ℕ) → k < 17 → is_possible p k ≡ true → length (folded_at k) ≡ length p → IsIrregularAt k p
-unfolding IsIrregularAt
-irregular_from_length p k lt h e =
-    let there = irregular_there k lt in
-    (there.0, there.1, there.2 ∙ sym (prefix_whole (fold_text p) (folded_at k) h (length-map p fold_byte ∙ sym e)))
-
--- no text is irregular at two indices: at the higher one, the lower would be possible
-pub irregular_once : (j k : ℕ) (t : List ℕ) → IsIrregularAt j t → IsIrregularAt k t → j ≡ k
-irregular_once j k t first other =
-    elim (cases_order j k) [
-      | inl same ↦ same
-      | inr (inl before) ↦ absurd (possible_from t j k other before (possible_itself t j first).1)
-      | inr (inr before) ↦ absurd (possible_from t k j first before (possible_itself t k other).1)
-    ]
+irregular_from_length p k within h e =
+    let past : drop (length (fold_text p)) (folded_at k) ≡ [] = drop_all _ (folded_at k) (omega (arith, e, length-map p fold_byte)) in
+    irregular_from_fold p k within (sym (prefix_rest (fold_text p) (folded_at k) h) ∙ ap (λ u. fold_text p ++ u) past ∙ append-nil (fold_text p))

@@ -4,15 +4,16 @@ use Rattle.std.specs.List.{list_all}
 use Rattle.std.proofs.lemmas.Bool.{not-true, true_from_ne_false, both_ways}
 use Rattle.std.proofs.lemmas.List.Folds.{list_all_at}
 use Rattle.langtag_scan.specs.declared.stage.Stage.TheVariants.{Start}
-use Rattle.langtag_scan.specs.Case.{fold_text}
+use Rattle.langtag_scan.specs.Case.{fold_byte, fold_text}
 use Rattle.langtag_scan.specs.Class.{is_letter, is_digit, is_primary, is_extended, is_script, is_region, is_variant, is_extension_subtag, is_private_subtag, is_mark, is_singleton}
+use Rattle.langtag_scan.specs.Grandfathered.{grandfathered_tags, irregular_texts}
 use Rattle.langtag_scan.specs.Irregular.{folded_texts, folded_at}
 use Rattle.langtag_scan.specs.Subtags.{segments}
-use Rattle.langtag_scan.specs.Tag.{IsNormal, IsPrivate, IsIrregular, IsIrregularAt}
+use Rattle.langtag_scan.specs.Tag.{IsNormal, IsPrivate, IsIrregular}
 use Rattle.langtag_scan.proofs.NormalTexts.{runs_from_normal}
 use Rattle.langtag_scan.proofs.PrivateTexts.{runs_private, runs_from_private, one_no_primary}
-use Rattle.langtag_scan.proofs.CaseLaw.{runs-fold, runs_private-fold, segments-fold}
-use Rattle.langtag_scan.proofs.IrregularNames.{irregular_here}
+use Rattle.langtag_scan.proofs.CaseLaw.{runs-fold, runs_private-fold, segments_test-fold}
+use Rattle.langtag_scan.proofs.IrregularNames.{irregular_fold}
 use Rattle.langtag_scan.proofs.Runs.{runs}
 
 -- no subtags are those of a normal text and of a private one
@@ -39,27 +40,26 @@ fails_at test none k lt =
 
 -- there are seventeen
 seventeen : length folded_texts ≡ 17
-unfolding folded_texts
+unfolding folded_texts irregular_texts grandfathered_tags
 seventeen = refl
 
 -- where the fold changes nothing of the test, no irregular text passes it
 irregular_fails :
     (test : List (List ℕ) → Bool) → ((ss : List (List ℕ)) → test (map fold_text ss) ≡ test ss) → none_passes test ≡ true →
     (t : List ℕ) → IsIrregular t → test (segments t) ≡ false
-unfolding IsIrregular IsIrregularAt
-irregular_fails test same none t h =
-    let here = irregular_here h.0 h.1.0 h.1.1 in
-    let text : fold_text t ≡ folded_at h.0 = sym h.1.2 ∙ here.1 in
-    sym (same (segments t)) ∙ ap test (sym (segments-fold t) ∙ ap segments text) ∙ fails_at test none h.0 (omega (arith, seventeen, here.0))
+unfolding IsIrregular
+irregular_fails test same none t (k, irregular) =
+    let whole = irregular_fold t k irregular in
+    sym (segments_test-fold test same t) ∙ ap (λ v. test (segments v)) (sym whole.1) ∙ fails_at test none k (omega (arith, seventeen, whole.0))
 
 -- no irregular text begins with a primary subtag that the rest may follow
 none_normal : none_passes (runs Start) ≡ true
-unfolding runs folded_texts is_letter is_digit is_primary is_extended is_script is_region is_variant is_extension_subtag is_private_subtag is_mark is_singleton
+unfolding runs fold_byte folded_texts irregular_texts grandfathered_tags is_letter is_digit is_primary is_extended is_script is_region is_variant is_extension_subtag is_private_subtag is_mark is_singleton
 none_normal = refl
 
 -- and none with a mark
 none_private : none_passes runs_private ≡ true
-unfolding runs folded_texts is_mark
+unfolding runs fold_byte folded_texts irregular_texts grandfathered_tags is_mark
 none_private = refl
 
 -- no normal text is irregular

@@ -16,8 +16,8 @@ use Rattle.langtag_scan.specs.declared.found.Found.{Found}
 use Rattle.langtag_scan.specs.declared.irregular.Names.{Names}
 use Rattle.langtag_scan.specs.declared.machine.Machine.{Machine}
 use Rattle.langtag_scan.proofs.IrregularNames.{possible_viable}
-use Rattle.langtag_scan.proofs.NameRanges.{gone_empty, follows-append}
-use Rattle.langtag_scan.proofs.NamesByLength.{in_range, followed_possible, not_viable}
+use Rattle.langtag_scan.proofs.NameRanges.{first_possible, gone_empty, follows-append}
+use Rattle.langtag_scan.proofs.NamesByLength.{not_viable}
 use Rattle.langtag_scan.proofs.Outcomes.{Decides, decided}
 use Rattle.langtag_scan.proofs.TagLaws.{tag_irregular, viable_from_tag, no_tag_dead, prefixes_viable, stop_at, stop_whole}
 
@@ -98,9 +98,7 @@ stop_read t n names few within gone follows stopped earlier =
       | inl before ↦ stop_at t n within earlier (dead_prefix t n names (gone before) stopped)
       | inr end ↦ elim (cases_lt names.low names.high) [
         | inl some ↦
-            let below : names.low < 17 = omega arith in
-            let followed = follows.possible names.low below ∙ in_range names.low names.high names.low (omega arith) some in
-            let viable = viable_possible (take n t) names.low below (followed_possible names.len (take n t) names.low followed) in
+            let viable = viable_possible (take n t) names.low (omega arith) (first_possible (take n t) names follows some few) in
             record { within = within; before = earlier; at = inl (viable, omega arith) }
         | inr none ↦ stop_at t n within earlier (dead_prefix t n names (gone_empty (take n t) names follows (omega arith)) stopped)
       ]

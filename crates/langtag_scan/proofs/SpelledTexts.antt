@@ -66,9 +66,6 @@ pub ends_ordered : (text : List ℕ) (ends : Ends) → HasEnds text ends → Are
 unfolding HasEnds
 ends_ordered text ends (r, spells, at) = rw at (ends_in_order r)
 
-pub IsAscii-ends : (text : List ℕ) (ends : Ends) → HasEnds text ends → IsAscii text
-IsAscii-ends text ends h = IsAscii-normal text (normal_from_ends text ends h)
-
 -- what a value that keeps the ends of its text knows of both
 pub record AreOffsetsIn (text : List ℕ) (ends : Ends) : Type 0 where
   pub normal : IsNormal text
@@ -79,4 +76,5 @@ pub record AreOffsetsIn (text : List ℕ) (ends : Ends) : Type 0 where
 pub offsets_kept : (text : List ℕ) (ends : Ends) → ∥ HasEnds text ends ∥₁ → AreOffsetsIn text ends
 offsets_kept text ends merely =
     let kept = ends_had text ends merely in
-    record { normal = normal_from_ends text ends kept; order = ends_ordered text ends kept; whole = ends_whole text ends kept; ascii = IsAscii-ends text ends kept }
+    let is = normal_from_ends text ends kept in
+    record { normal = is; order = ends_ordered text ends kept; whole = ends_whole text ends kept; ascii = IsAscii-normal text is }

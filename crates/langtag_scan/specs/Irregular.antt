@@ -1,29 +1,12 @@
 -- Which irregular texts (RFC 5646 section 2.2.8) a text may still become.
 -- Only contracts of private functions cite this page.
-use Rattle.std.specs.Prelude.{ℕ, ◌==◌, ◌&&◌, ◌||◌, nat_le, nat_lt, Bool, true, false, List, [], ◌∷◌, length, codes, slice_index, slice_index_or}
+use Rattle.std.specs.Prelude.{ℕ, ◌==◌, ◌&&◌, ◌||◌, nat_le, nat_lt, Bool, true, false, List, [], ◌∷◌, length, map, slice_index, slice_index_or}
 use Rattle.langtag_scan.specs.Case.{fold_text}
+use Rattle.langtag_scan.specs.Grandfathered.{irregular_texts}
 
--- the irregular texts, folded: they stand in alphabetical order
+-- the registered texts, folded: they stand in alphabetical order
 unfoldable pub folded_texts : List (List ℕ)
-folded_texts =
-    codes "en-gb-oed"
-    ∷ codes "i-ami"
-    ∷ codes "i-bnn"
-    ∷ codes "i-default"
-    ∷ codes "i-enochian"
-    ∷ codes "i-hak"
-    ∷ codes "i-klingon"
-    ∷ codes "i-lux"
-    ∷ codes "i-mingo"
-    ∷ codes "i-navajo"
-    ∷ codes "i-pwn"
-    ∷ codes "i-tao"
-    ∷ codes "i-tay"
-    ∷ codes "i-tsu"
-    ∷ codes "sgn-be-fr"
-    ∷ codes "sgn-be-nl"
-    ∷ codes "sgn-ch-de"
-    ∷ []
+folded_texts = map fold_text irregular_texts
 
 abbrev pub folded_at : ℕ → List ℕ
 folded_at k = slice_index_or folded_texts k []
@@ -38,6 +21,10 @@ is_prefix (b ∷ p) (c ∷ text) = (b == c) && is_prefix p text
 abbrev pub has_at : List ℕ → ℕ → ℕ → Bool
 has_at text index b = nat_lt index (length text) && (slice_index text index == b)
 
+-- whether an index lies from one up to another
+abbrev pub is_within : ℕ → ℕ → ℕ → Bool
+is_within low high k = nat_le low k && nat_lt k high
+
 -- whether a text that is alike the irregular one at an index of the table may begin with a prefix
 abbrev pub is_possible : List ℕ → ℕ → Bool
 is_possible p k = is_prefix (fold_text p) (folded_at k)
@@ -45,7 +32,7 @@ is_possible p k = is_prefix (fold_text p) (folded_at k)
 -- whether a text of this length has to be compared with the irregular one at an index of the table. Those that do not
 -- begin with `i` have nine bytes, and each prefix of them begins a normal tag, too.
 abbrev pub matters : ℕ → ℕ → Bool
-matters len k = (len == 9) || (nat_le 1 k && nat_lt k 14)
+matters len k = (len == 9) || is_within 1 14 k
 
 -- whether it does, and a text with this prefix may be alike it
 abbrev pub is_followed : ℕ → List ℕ → ℕ → Bool

@@ -1,6 +1,6 @@
 //! The irregular tags (RFC 5646 section 2.2.8) that a text may still become.
-ghost use Rattle.std.specs.Prelude.{◌≡◌, ℕ, ◌-◌, ◌<◌, ◌≤◌, List, [], ◌∷◌, ◌++◌, length, ◌&&◌, nat_le, nat_lt, IsTrue, true, false, MatchOption};
-ghost use Rattle.langtag_scan.specs.Irregular.{folded_at, has_at, matters, is_possible, is_followed};
+ghost use Rattle.std.specs.Prelude.{◌≡◌, ℕ, ◌-◌, ◌<◌, ◌≤◌, List, [], ◌∷◌, ◌++◌, length, ◌&&◌, IsTrue, true, false, MatchOption};
+ghost use Rattle.langtag_scan.specs.Irregular.{folded_at, is_prefix, has_at, is_within, matters, is_possible};
 ghost use Rattle.langtag_scan.specs.Tag.{IsIrregular};
 ghost use Rattle.langtag_scan.specs.Found.{finding, IsFoundOf};
 
@@ -33,7 +33,7 @@ const FOLDED: [&[u8]; 17] = [
 pub(crate) const NINE: usize = 9;
 
 /// The indices of the irregular texts that a text of a length may still become. Since these texts are neighbours, the
-/// indices make a range, which is empty after the first byte of nearly every text.
+/// indices make a range. It is empty as soon as the bytes that were read begin none of them.
 ///
 /// The irregular texts that do not begin with `i` matter to a text of nine bytes alone: what begins like one of them
 /// begins a normal tag, too.
@@ -49,7 +49,7 @@ pub(crate) struct Names {
 }
 
 impl Names {
-    ghost use Rattle.langtag_scan.specs.Names.{Follows};
+    ghost use Rattle.langtag_scan.specs.Names.{Follows, IsGone};
     ghost use Rattle.langtag_scan.specs.Tracking.{IsKept};
 
     /// Before the first byte of a text of this length.
@@ -57,19 +57,8 @@ impl Names {
         ensures len { result.len ≡ len }
         ensures follows { Follows [] result }
     {
-        if len == NINE {
-            Names {
-                low: 0,
-                high: 17,
-                len,
-            }
-        } else {
-            Names {
-                low: 1,
-                high: 14,
-                len,
-            }
-        }
+        let (low, high) = if len == NINE { (0, 17) } else { (1, 14) };
+        Names { low, high, len }
     }
 
     /// Keeps the texts that have this byte at this index, in either case.
@@ -88,7 +77,7 @@ impl Names {
 
     /// Whether no irregular text is possible.
     pub(crate) fn is_empty(&self) -> bool
-        ensures gone { (p : List ℕ) → Follows p self.now → IsTrue result → (k : ℕ) → k < 17 → is_followed self.now.len p k ≡ false }
+        ensures gone { (p : List ℕ) → Follows p self.now → IsTrue result → IsGone p self.now }
         ensures left { (p : List ℕ) → Follows p self.now → result ≡ false → (k : ℕ) × (k < 17) × (is_possible p k ≡ true) }
     {
         self.low == self.high
@@ -122,43 +111,18 @@ impl Names {
 /// The texts that matter to a text of this length and begin with this folded byte.
 fn begun_by(small: u8, len: usize) -> Names
     ensures len { result.len ≡ len }
-    ensures range { (k : ℕ) → k < 17 → (matters len k && has_at (folded_at k) 0 small) ≡ (nat_le result.low k && nat_lt k result.high) }
+    ensures range { (k : ℕ) → k < 17 → (matters len k && is_prefix (small ∷ []) (folded_at k)) ≡ is_within result.low result.high k }
 {
-    if small == b'i' {
-        return Names {
-            low: 1,
-            high: 14,
-            len,
-        };
-    }
-    if len != NINE {
-        return Names {
-            low: 0,
-            high: 0,
-            len,
-        };
-    }
-    match small {
-        b'e' => Names {
-            low: 0,
-            high: 1,
-            len,
-        },
-        b's' => Names {
-            low: 14,
-            high: 17,
-            len,
-        },
-        _ => Names {
-            low: 0,
-            high: 0,
-            len,
-        },
-    }
+    let (low, high) = match small {
+        b'i' => (1, 14),
+        b'e' if len == NINE => (0, 1),
+        b's' if len == NINE => (14, 17),
+        _ => (0, 0),
+    };
+    Names { low, high, len }
 }
 
 /// The folded irregular text at an index of the table.
-#[tactic(auto, unfolding(crate::specs::Irregular::folded_texts))]
 fn folded(k: usize) -> &'static [u8]
     requires { k < 17 }
     ensures { result.now ≡ folded_at k }

@@ -1,13 +1,15 @@
-use Rattle.std.proofs.Common.{◌≡◌, ℕ, ◌<◌, Bool, ◌&&◌, List, [], ◌∷◌, ◌++◌, sym, ap, ◌∙◌, arith}
-use Rattle.langtag_scan.specs.Case.{fold_byte}
-use Rattle.langtag_scan.specs.Irregular.{folded_at, has_at, is_followed, matters}
-use Rattle.langtag_scan.proofs.NameRanges.{Narrows, is_left, followed_narrowed}
-use Rattle.langtag_scan.proofs.NamesByLength.{followed-push, followed_first}
+use Rattle.std.proofs.Common.{◌≡◌, ℕ, ◌<◌, Bool, ◌&&◌, List, [], ◌∷◌, ◌++◌, refl, arith}
+use Rattle.std.proofs.lemmas.List.{nil_from_length}
+use Rattle.langtag_scan.specs.Irregular.{folded_at, has_at, is_within, is_followed}
+use Rattle.langtag_scan.proofs.NameRanges.{Narrows, followed_narrowed}
+use Rattle.langtag_scan.proofs.NamesByLength.{followed-push}
 use Rattle.langtag_scan.proofs.irregular.Names.keep.Goals as goal
 
 pub returns-then-index-eq0-clause-follows : goal.returns-then-index-eq0-clause-follows
 returns-then-index-eq0-clause-follows c = λ p at follows. record {
-  possible = λ k within. rw c.begun_by.ensures.len (followed_first c.args.self.now.len p c.args.byte k (omega (arith, at)) ∙ ap (λ n. matters c.args.self.now.len k && has_at (folded_at k) 0 n) (sym c.into_smallcase-small.ensures) ∙ c.begun_by.ensures.range k within);
+  possible = λ k within.
+      let nothing : p ≡ [] = nil_from_length p (omega (arith, at)) in
+      rw (nothing, c.begun_by.ensures.len, ← c.into_smallcase-small.ensures) (c.begun_by.ensures.range k within);
 }
 
 pub returns-else-index-eq0-clause-follows : goal.returns-else-index-eq0-clause-follows
@@ -26,9 +28,6 @@ returns-else-index-eq0-clause-follows c =
     } in
     λ p at follows.
     let grown : List ℕ = p ++ c.args.byte ∷ [] in
-    let left : (k : ℕ) → k < 17 → is_followed names.len grown k ≡ is_left has names.low names.high k = λ k within.
-    followed-push names.len p c.args.byte k
-    ∙ ap (λ n. is_followed names.len p k && has_at (folded_at k) n (fold_byte c.args.byte)) at
-    ∙ ap (λ b. is_followed names.len p k && has_at (folded_at k) c.args.index b) (sym c.into_smallcase-small.ensures)
-    ∙ ap (λ v. v && has k) (follows.possible k within) in
+    let left : (k : ℕ) → k < 17 → is_followed names.len grown k ≡ (is_within names.low names.high k && has k) = λ k within.
+    rw (followed-push names.len p c.args.byte k, at, ← c.into_smallcase-small.ensures, follows.possible k within) refl in
     record { possible = followed_narrowed names.len grown has names.low names.high from.result to.result names.within left narrows }
