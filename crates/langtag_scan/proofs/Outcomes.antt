@@ -19,7 +19,7 @@ use Rattle.langtag_scan.specs.declared.stage.Stage.TheVariants.{Start, Language,
 use Rattle.langtag_scan.proofs.EndsLaw.{ends_after-flat}
 use Rattle.langtag_scan.proofs.NormalTexts.{normal_from_runs, runs_from_normal, spelled_segments}
 use Rattle.langtag_scan.proofs.PrivateTexts.{runs_private, runs_from_private, private_from_runs, one_no_primary}
-use Rattle.langtag_scan.proofs.Running.{runs-cons, first_of}
+use Rattle.langtag_scan.proofs.Running.{first_of}
 use Rattle.langtag_scan.proofs.StageLaws.{is_outside, next_inside, after-inside}
 use Rattle.langtag_scan.proofs.Runs.{runs, ends_after}
 
@@ -69,9 +69,7 @@ private_outcome (s ∷ ss) e =
 marked_outcome : (ss : List (List ℕ)) (e : Ends) → outcome AfterFirstMark e ss ≡ found_if (runs AfterMark ss) PrivateUse
 unfolding outcome runs
 marked_outcome [] e = refl
-marked_outcome (s ∷ ss) e =
-    by_private (is_private_subtag s) (λ after. outcome after (end_at after (index_after AfterFirstMark e s) e) ss) (λ after. runs after ss)
-    (private_outcome ss (end_at InPrivateTag (index_after AfterFirstMark e s) e))
+marked_outcome (s ∷ ss) e = private_outcome (s ∷ ss) e
 
 -- ---- the whole text: its first subtag says which rule it follows
 
@@ -121,6 +119,7 @@ neither t normal private = record {
 }
 
 of_segments : (t s : List ℕ) (ss : List (List ℕ)) → segments t ≡ s ∷ ss → Decides t (outcome_of t)
+unfolding runs
 of_segments t s ss at = by_primary (is_primary s) refl
   where
     by_primary : (v : Bool) → is_primary s ≡ v → Decides t (outcome_of t)
@@ -129,7 +128,7 @@ of_segments t s ss at = by_primary (is_primary s) refl
         let found : outcome_of t ≡ found_if (runs Start (segments t)) (Normal (ends_after Start (all_at 0) (segments t))) = rw at (primary_outcome s ss (all_at 0) primary) in
         subst (Decides t) (sym found) (by_run t _ _ (λ run. found_with t (normal_from_runs t run)) (λ none. neither t none (ap runs_private at ∙ unmarked)))
     by_primary false other =
-        let none : runs Start (s ∷ ss) ≡ false = runs-cons Start s ss ∙ rw other refl in
+        let none : runs Start (s ∷ ss) ≡ false = rw other refl in
         let found : outcome_of t ≡ found_if (runs_private (segments t)) PrivateUse = rw at (other_outcome s ss (all_at 0) other) in
         subst (Decides t) (sym found) (by_run t _ _ (λ run. private_from_runs t run) (λ no_run. neither t (ap (runs Start) at ∙ none) no_run))
 

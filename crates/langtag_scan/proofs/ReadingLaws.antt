@@ -1,13 +1,12 @@
 -- What is known of a prefix with which a tag may begin, once the bytes of another subtag follow.
-use Rattle.std.proofs.Common.{◌≡◌, ℕ, ◌≤◌, true, false, cond, eqb, ◌⊎◌, List, [], ◌∷◌, ◌++◌, length, Some, None, inl, inr, refl, sym, ap, subst, ◌∙◌, arith, append_assoc, append-nil}
-use Rattle.std.specs.Option.{option_map_or}
+use Rattle.std.proofs.Common.{◌≡◌, ℕ, ◌≤◌, true, false, eqb, ◌⊎◌, List, [], ◌∷◌, ◌++◌, length, Some, None, inl, inr, refl, sym, ap, subst, ◌∙◌, arith, append_assoc, append-nil}
 use Rattle.std.proofs.lemmas.Bool.{both_ways, false_from_ne_true}
 use Rattle.std.proofs.lemmas.List.{length-append, length_push}
 use Rattle.langtag_scan.specs.Case.{fold_byte}
 use Rattle.langtag_scan.specs.Class.{is_letter, are_letters, is_primary, is_mark}
-use Rattle.langtag_scan.specs.Machine.{IsBegun, all_at, end_at, index_after, found_by, outcome, outcome_of, Reads, HasStopped, IsRefused}
+use Rattle.langtag_scan.specs.Machine.{IsBegun, all_at, end_at, index_after, outcome, outcome_of, Reads, HasStopped, IsRefused}
 use Rattle.langtag_scan.specs.Names.{IsUnnamed}
-use Rattle.langtag_scan.specs.Stage.{is_one, after_stage, may_end}
+use Rattle.langtag_scan.specs.Stage.{after_stage}
 use Rattle.langtag_scan.specs.Subtags.{segments}
 use Rattle.langtag_scan.specs.Tag.{IsIrregular, IsTag}
 use Rattle.langtag_scan.specs.Viable.{IsViable, filling}
@@ -20,7 +19,7 @@ use Rattle.langtag_scan.proofs.FoundLaws.{tag_found}
 use Rattle.langtag_scan.proofs.NamesByLength.{not_viable}
 use Rattle.langtag_scan.proofs.Outcomes.{Decides, decided}
 use Rattle.langtag_scan.proofs.PrivateTexts.{one_no_primary}
-use Rattle.langtag_scan.proofs.Running.{begun_push, first_kind, outcome-stuck, outcome-hyphen, outcome-last}
+use Rattle.langtag_scan.proofs.Running.{begun_push, first_kind, found_after, segments-one, segments-hyphen, outcome-stuck, outcome-ended}
 use Rattle.langtag_scan.proofs.StageLaws.{starting, after_not_start, index_after-length, index_after-end}
 use Rattle.langtag_scan.proofs.TagLaws.{viable_from_tag}
 use Rattle.langtag_scan.proofs.Unnamed.{unnamed-append, unnamed_first, unnamed_begun, unnamed_letters, irregular_nine}
@@ -39,29 +38,21 @@ stopped_from q none = record { not_normal = λ u. (refused u).not_normal; not_pr
 -- ---- a first subtag that a tag has, and the hyphen after it: no irregular text that begins with `i` begins so
 
 -- a mark is not `i`
-marked_unnamed : (s : List ℕ) → is_one is_mark s ≡ true → IsUnnamed (s ++ 45 ∷ [])
+no_i : (m : ℕ) → is_mark m ≡ true → fold_byte m ≡ 105 → ⊥
 unfolding is_mark
-marked_unnamed [] marked = absurd cc
-marked_unnamed (m ∷ []) marked = unnamed-append (m ∷ []) (45 ∷ []) (unnamed_first m (no_i m marked))
-  where
-    no_i : (m : ℕ) → is_mark m ≡ true → fold_byte m ≡ 105 → ⊥
-    no_i m marked same =
-        let no_mark : is_mark (fold_byte m) ≡ false = ap is_mark same in
-        both_ways (is_mark (fold_byte m)) no_mark (is_mark-fold m ∙ marked)
-marked_unnamed (m ∷ c ∷ s) marked = absurd cc
+no_i m marked same =
+    let no_mark : is_mark (fold_byte m) ≡ false = ap is_mark same in
+    both_ways (is_mark (fold_byte m)) no_mark (is_mark-fold m ∙ marked)
 
 first_unnamed : (s : List ℕ) (after : Stage) → are_letters s ≡ true → after_stage Start s ≡ Some after → IsUnnamed (s ++ 45 ∷ [])
 unfolding is_letter
-first_unnamed s after letters next =
-    elim (first_kind s after next) [
-      | inl primary ↦ unnamed_begun s 45 letters (λ none. refl) (λ one. absurd (primary_two s primary one))
-      | inr marked ↦ marked_unnamed s marked
+first_unnamed (m ∷ []) after letters next =
+    elim (first_kind (m ∷ []) after next) [
+      | inl primary ↦ let none : is_primary (m ∷ []) ≡ false = one_no_primary m in absurd cc
+      | inr marked ↦ unnamed-append (m ∷ []) (45 ∷ []) (unnamed_first m (no_i m marked))
     ]
-  where
-    primary_two : (s : List ℕ) → is_primary s ≡ true → length s ≡ 1 → ⊥
-    primary_two [] h one = omega (arith, one)
-    primary_two (m ∷ []) h one = let none : is_primary (m ∷ []) ≡ false = one_no_primary m in cc
-    primary_two (m ∷ c ∷ s) h one = omega (arith, one)
+first_unnamed [] after letters next = unnamed_begun [] 45 letters (λ none. refl) (λ one. absurd (omega (arith, one)))
+first_unnamed (m ∷ c ∷ s) after letters next = unnamed_begun (m ∷ c ∷ s) 45 letters (λ none. refl) (λ one. absurd (omega (arith, one)))
 
 -- ---- the bytes of another subtag
 
@@ -75,9 +66,6 @@ pub record IsPartRead (p s q : List ℕ) (n : ℕ) (stage : Stage) (e : Ends) : 
 module _ {p s q : List ℕ} {n : ℕ} {stage : Stage} {e : Ends} (k : IsPartRead p s q n stage e) where
   onward : (u : List ℕ) → outcome_of (q ++ u) ≡ outcome stage e (segments (s ++ u))
   onward u = ap (λ x. outcome_of (x ++ u)) (sym k.split) ∙ ap outcome_of (append_assoc p s u) ∙ k.reads.same (s ++ u)
-
-  onward_byte : (b : ℕ) (u : List ℕ) → outcome_of ((q ++ b ∷ []) ++ u) ≡ outcome stage e (segments (s ++ b ∷ u))
-  onward_byte b u = ap outcome_of (append_assoc q (b ∷ []) u) ∙ onward (b ∷ u)
 
   whole : index_after stage e s ≡ n
   whole = index_after-length stage e s ∙ omega (arith, k.reads.index, length-append p s, ap length k.split, k.long)
@@ -113,7 +101,7 @@ module _ {p s q : List ℕ} {n : ℕ} {stage : Stage} {e : Ends} (k : IsPartRead
 
   pub stuck_stops : (b : ℕ) → eqb b 45 ≡ false → (IsBegun stage (s ++ b ∷ []) → ⊥) → HasStopped (q ++ b ∷ [])
   stuck_stops b other stuck =
-      stopped_from (q ++ b ∷ []) (λ u. onward_byte b u ∙ outcome-stuck stage e s b u k.begun.alphanumeric other stuck)
+      stopped_from (q ++ b ∷ []) (λ u. ap outcome_of (append_assoc q (b ∷ []) u) ∙ onward (b ∷ u) ∙ outcome-stuck stage e s b u k.begun.alphanumeric other stuck)
 
   pub stuck_dead : (b : ℕ) → eqb b 45 ≡ false → (IsBegun stage (s ++ b ∷ []) → ⊥) → IsViable (q ++ b ∷ []) → ⊥
   stuck_dead b other stuck =
@@ -122,20 +110,23 @@ module _ {p s q : List ℕ} {n : ℕ} {stage : Stage} {e : Ends} (k : IsPartRead
       opens : s ≡ [] → is_letter b ≡ true → ⊥
       opens none letter = stuck (begun_push stage s b (rw letter refl) (λ x. letter) (omega (arith, ap length none)) k.begun)
 
-  -- ---- a hyphen
+  -- ---- the subtag ends
 
-  after_hyphen :
-      (u : List ℕ) →
-      outcome_of ((q ++ 45 ∷ []) ++ u) ≡ option_map_or (λ after. outcome after (end_at after n e) (segments u)) (after_stage stage s) None
-  after_hyphen u =
-      onward_byte 45 u
-      ∙ outcome-hyphen stage e s u k.begun.alphanumeric
-      ∙ ap (λ i. option_map_or (λ after. outcome after (end_at after i e) (segments u)) (after_stage stage s) None) whole
+  ended : (u : List ℕ) (ss : List (List ℕ)) → segments (s ++ u) ≡ s ∷ ss → outcome_of (q ++ u) ≡ found_after e n ss (after_stage stage s)
+  ended u ss at = onward u ∙ outcome-ended stage e s u ss at ∙ ap (λ i. found_after e i ss (after_stage stage s)) whole
+
+  -- at the end of the text
+  pub reads_ended : outcome_of q ≡ found_after e n [] (after_stage stage s)
+  reads_ended = ap outcome_of (sym (append-nil q)) ∙ ended [] [] (ap segments (append-nil s) ∙ segments-one s k.begun.alphanumeric)
+
+  -- at a hyphen
+  after_hyphen : (u : List ℕ) → outcome_of ((q ++ 45 ∷ []) ++ u) ≡ found_after e n (segments u) (after_stage stage s)
+  after_hyphen u = ap outcome_of (append_assoc q (45 ∷ []) u) ∙ ended (45 ∷ u) (segments u) (segments-hyphen s u k.begun.alphanumeric)
 
   -- after which nothing follows
   pub refused_stops : after_stage stage s ≡ None → HasStopped (q ++ 45 ∷ [])
   refused_stops next =
-      stopped_from (q ++ 45 ∷ []) (λ u. after_hyphen u ∙ ap (λ o. option_map_or (λ after. outcome after (end_at after n e) (segments u)) o None) next)
+      stopped_from (q ++ 45 ∷ []) (λ u. after_hyphen u ∙ ap (found_after e n (segments u)) next)
 
   -- then no tag begins so, but for an irregular text after its first byte
   pub refused_dead : after_stage stage s ≡ None → (n ≡ 1 → ⊥) → IsViable (q ++ 45 ∷ []) → ⊥
@@ -145,7 +136,7 @@ module _ {p s q : List ℕ} {n : ℕ} {stage : Stage} {e : Ends} (k : IsPartRead
   -- after which a stage follows
   pub reads_after : (after : Stage) → after_stage stage s ≡ Some after → Reads (q ++ 45 ∷ []) after (end_at after n e)
   reads_after after next = record {
-    same = λ u. after_hyphen u ∙ ap (λ o. option_map_or (λ x. outcome x (end_at x n e) (segments u)) o None) next;
+    same = λ u. after_hyphen u ∙ ap (found_after e n (segments u)) next;
     index = index_after-end after n e past ∙ omega (arith, length_push q 45, k.long);
     first = λ first. absurd (past first);
     later = λ h. elim (starting stage) [
@@ -158,17 +149,6 @@ module _ {p s q : List ℕ} {n : ℕ} {stage : Stage} {e : Ends} (k : IsPartRead
     where
       past : after ≡ Start → ⊥
       past = after_not_start stage after s next
-
-  -- ---- the end of the text
-
-  pub reads_ended :
-      outcome_of q ≡ option_map_or (λ after. cond (may_end after) (Some (found_by after (end_at after n e))) None) (after_stage stage s) None
-  reads_ended =
-      ap outcome_of (sym (append-nil q))
-      ∙ onward []
-      ∙ ap (λ t. outcome stage e (segments t)) (append-nil s)
-      ∙ outcome-last stage e s k.begun.alphanumeric
-      ∙ ap (λ i. option_map_or (λ after. cond (may_end after) (Some (found_by after (end_at after i e))) None) (after_stage stage s) None) whole
 
   -- one that is irregular has nine bytes
   pub reads_nine : IsIrregular q → n ≡ 9

@@ -1,17 +1,17 @@
 -- What the recogniser knows after each byte, and how it answers by that.
-use Rattle.std.proofs.Common.{◌≡◌, ℕ, ◌+◌, ◌<◌, ◌≤◌, ◌&&◌, Bool, true, false, cond, ◌⊎◌, List, [], ◌∷◌, ◌++◌, length, take, drop, get_or, inl, inr, refl, sym, ap, subst, ◌∙◌, arith, append_assoc}
+use Rattle.std.proofs.Common.{◌≡◌, ℕ, ◌+◌, ◌<◌, ◌≤◌, Bool, true, false, cond, ◌⊎◌, List, [], ◌∷◌, ◌++◌, length, take, drop, get_or, inl, inr, refl, sym, ap, subst, ◌∙◌, arith, append_assoc}
 use Rattle.std.specs.Prelude.{Option, Some, None, MatchOption}
-use Rattle.std.proofs.Math.Bool.{and-false}
 use Rattle.std.proofs.lemmas.Bool.{cases_lt}
 use Rattle.std.proofs.lemmas.List.{take_more, take_all, take-append-drop, take-take, length-take}
 use Rattle.langtag_scan.specs.Found.{finding, IsFoundOf}
 use Rattle.langtag_scan.specs.Irregular.{is_possible}
-use Rattle.langtag_scan.specs.Machine.{found_by, HasStopped, IsRefused}
+use Rattle.langtag_scan.specs.Machine.{found_by, outcome, HasStopped, IsRefused}
 use Rattle.langtag_scan.specs.Stage.{may_end}
 use Rattle.langtag_scan.specs.Names.{Follows, IsGone}
 use Rattle.langtag_scan.specs.Tag.{IsNormal, IsPrivate, IsIrregular, IsTag}
 use Rattle.langtag_scan.specs.Tracking.{IsDecided, IsReadTo, IsKept}
 use Rattle.langtag_scan.specs.Viable.{IsViable, IsStop}
+use Rattle.langtag_scan.specs.declared.finding.Finding.{Finding}
 use Rattle.langtag_scan.specs.declared.found.Found.{Found}
 use Rattle.langtag_scan.specs.declared.irregular.Names.{Names}
 use Rattle.langtag_scan.specs.declared.machine.Machine.{Machine}
@@ -123,16 +123,22 @@ module _ (t : List ℕ) (end : ℕ) (names : Names) (m : Machine) (goes_on : Boo
       (found : Option Found) → (goes_on ≡ false) ⊎ (may_end m.stage ≡ false) →
       (IsKept t (length t) names → (IsIrregular t → length t ≡ 9) → MatchOption found (IsIrregular t → ⊥) (λ f. IsFoundOf t (finding f))) →
       IsDecided t found (length t)
+  unfolding outcome
   end_refused found why answer = record {
     answer = found_irregular t found (subst (Decides t) (known.found at ∙ none) (decided t)) (answer (subst (λ n. IsKept t n names) (omega (arith, at)) known.kept) (known.nine at));
     stop = stop;
   }
     where
-      none : cond (goes_on && may_end m.stage) (Some (found_by m.stage m.ends)) None ≡ None
-      none = elim why [ inl off ↦ rw off refl | inr open_end ↦ rw (open_end, and-false goes_on) refl ]
+      either : (v : Bool) (o : Option Finding) → o ≡ None → cond v o None ≡ None
+      either true o is = is
+      either false o is = refl
+
+      none : cond goes_on (outcome m.stage m.ends []) None ≡ None
+      none = elim why [ inl off ↦ rw off refl | inr open_end ↦ either goes_on _ (rw open_end refl) ]
 
   pub end_accepted : (found : Found) → goes_on ≡ true → may_end m.stage ≡ true → finding found ≡ found_by m.stage m.ends → IsDecided t (Some found) (length t)
+  unfolding outcome
   end_accepted found on ends is = record { answer = subst (IsFoundOf t) (sym is) (subst (Decides t) (known.found at ∙ some) (decided t)); stop = stop }
     where
-      some : cond (goes_on && may_end m.stage) (Some (found_by m.stage m.ends)) None ≡ Some (found_by m.stage m.ends)
+      some : cond goes_on (outcome m.stage m.ends []) None ≡ Some (found_by m.stage m.ends)
       some = rw (on, ends) refl

@@ -9,21 +9,16 @@ use Rattle.std.proofs.lemmas.List.Folds.{list_all-append}
 use Rattle.std.proofs.lemmas.List.Splits.{slice_split_none, slice_split_at, slice_split-cons_no, slice_split-cons_yes}
 use Rattle.langtag_scan.specs.Class.{is_letter, is_alphanumeric, has_length, are_letters, are_alphanumeric, is_primary, is_mark}
 use Rattle.langtag_scan.specs.Subtags.{is_hyphen, segments}
-use Rattle.langtag_scan.specs.Stage.{is_one, next_stage, after_stage, may_end}
-use Rattle.langtag_scan.specs.Machine.{end_at, index_after, found_by, outcome, IsBegun}
+use Rattle.langtag_scan.specs.Stage.{is_one, next_stage, after_stage}
+use Rattle.langtag_scan.specs.Machine.{end_at, index_after, outcome, IsBegun}
 use Rattle.langtag_scan.specs.declared.ends.Ends.{Ends}
+use Rattle.langtag_scan.specs.declared.finding.Finding.{Finding}
 use Rattle.langtag_scan.specs.declared.stage.Stage.{Stage}
 use Rattle.langtag_scan.specs.declared.stage.Stage.TheVariants.{Start, Language, AfterFirstMark}
 use Rattle.langtag_scan.proofs.BoolFacts.{chosen}
 use Rattle.langtag_scan.proofs.SubtagFacts.{no_hyphen_each, alphanumeric_no_hyphen, mark_letters}
 use Rattle.langtag_scan.proofs.NormalTexts.{after_subtag}
-use Rattle.langtag_scan.proofs.Runs.{runs, ends_after}
-
-pub runs-cons :
-    (stage : Stage) (s : List ℕ) (ss : List (List ℕ)) →
-    runs stage (s ∷ ss) ≡ option_map_or (λ after. runs after ss) (next_stage stage s) false
-unfolding runs
-runs-cons stage s ss = refl
+use Rattle.langtag_scan.proofs.Runs.{ends_after}
 
 pub ends_after-nil : (stage : Stage) (e : Ends) → ends_after stage e [] ≡ e
 unfolding ends_after
@@ -35,21 +30,14 @@ pub ends_after-cons :
 unfolding ends_after
 ends_after-cons stage e s ss = refl
 
-pub outcome-nil : (stage : Stage) (e : Ends) → outcome stage e [] ≡ cond (may_end stage) (Some (found_by stage e)) None
-unfolding outcome
-outcome-nil stage e = refl
-
-pub outcome-cons :
-    (stage : Stage) (e : Ends) (s : List ℕ) (ss : List (List ℕ)) →
-    outcome stage e (s ∷ ss) ≡ option_map_or (λ after. outcome after (end_at after (index_after stage e s) e) ss) (after_stage stage s) None
-unfolding outcome
-outcome-cons stage e s ss = refl
+-- what is found of the subtags after one that ends at an index and has led to a stage, if it may stand there
+abbrev pub found_after : Ends → ℕ → List (List ℕ) → Option Stage → Option Finding
+found_after e n ss o = option_map_or (λ after. outcome after (end_at after n e) ss) o None
 
 -- ---- segments of a text that begins without a hyphen
 
 hyphen_free : (s : List ℕ) → are_alphanumeric s ≡ true → All (λ b. eqb b 45 ≡ false) s
-hyphen_free [] h = All-from_recursion (λ b. eqb b 45 ≡ false) [] tt
-hyphen_free (b ∷ s) h = All-from_recursion (λ b. eqb b 45 ≡ false) (b ∷ s) (no_hyphen_each (b ∷ s) h)
+hyphen_free s h = All-from_recursion (λ b. eqb b 45 ≡ false) s (no_hyphen_each s h)
 
 pub segments-one : (s : List ℕ) → are_alphanumeric s ≡ true → segments s ≡ s ∷ []
 segments-one s h = slice_split_none (λ b. eqb b 45) s (hyphen_free s h)
@@ -125,13 +113,11 @@ after_begun stage after s e =
 
 -- ---- a byte with which the subtag can't go on: nothing is found then
 
-outcome-refused :
-    (stage : Stage) (e : Ends) (s : List ℕ) (ss : List (List ℕ)) → (IsBegun stage s → ⊥) → outcome stage e (s ∷ ss) ≡ None
-outcome-refused stage e s ss never = outcome-cons stage e s ss ∙ by_next (after_stage stage s) refl
+outcome-refused : (stage : Stage) (e : Ends) (s : List ℕ) (ss : List (List ℕ)) → (IsBegun stage s → ⊥) → outcome stage e (s ∷ ss) ≡ None
+unfolding outcome
+outcome-refused stage e s ss never = by_next (after_stage stage s) refl
   where
-    by_next :
-        (o : Option Stage) → after_stage stage s ≡ o →
-        option_map_or (λ after. outcome after (end_at after (index_after stage e s) e) ss) o None ≡ None
+    by_next : (o : Option Stage) → after_stage stage s ≡ o → found_after e (index_after stage e s) ss o ≡ None
     by_next None next = refl
     by_next (Some after) next = absurd (never (after_begun stage after s next))
 
@@ -145,15 +131,10 @@ outcome-stuck stage e s b u h other stuck =
     ∙ outcome-refused stage e (s ++ b ∷ k.0) k.1
     (λ begun. stuck (begun_prefix stage (s ++ b ∷ []) k.0 (subst (IsBegun stage) (sym (append_assoc s (b ∷ []) k.0)) begun)))
 
--- ---- a hyphen, and the end of the text
+-- ---- the end of a subtag, at a hyphen or at the end of the text
 
-pub outcome-hyphen :
-    (stage : Stage) (e : Ends) (s u : List ℕ) → are_alphanumeric s ≡ true →
-    outcome stage e (segments (s ++ 45 ∷ u)) ≡ option_map_or (λ after. outcome after (end_at after (index_after stage e s) e) (segments u)) (after_stage stage s) None
-outcome-hyphen stage e s u h = ap (outcome stage e) (segments-hyphen s u h) ∙ outcome-cons stage e s (segments u)
-
-pub outcome-last :
-    (stage : Stage) (e : Ends) (s : List ℕ) → are_alphanumeric s ≡ true →
-    outcome stage e (segments s) ≡ option_map_or (λ after. cond (may_end after) (Some (found_by after (end_at after (index_after stage e s) e))) None) (after_stage stage s) None
+pub outcome-ended :
+    (stage : Stage) (e : Ends) (s u : List ℕ) (ss : List (List ℕ)) → segments (s ++ u) ≡ s ∷ ss →
+    outcome stage e (segments (s ++ u)) ≡ found_after e (index_after stage e s) ss (after_stage stage s)
 unfolding outcome
-outcome-last stage e s h = ap (outcome stage e) (segments-one s h)
+outcome-ended stage e s u ss at = ap (outcome stage e) at

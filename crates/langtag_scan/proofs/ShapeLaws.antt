@@ -12,6 +12,7 @@ use Rattle.langtag_scan.specs.Shape.{shape_of, classes_of_shape}
 use Rattle.langtag_scan.specs.Stage.{is_one, classes_of, after_stage, after_by}
 use Rattle.langtag_scan.specs.declared.shape.Shape.{Shape}
 use Rattle.langtag_scan.specs.declared.stage.Stage.{Stage}
+use Rattle.langtag_scan.specs.declared.stage.Stage.TheVariants.{Start}
 use Rattle.langtag_scan.proofs.Disjoint.{letter_no_digit}
 
 -- ---- letters and digits, by the number of digits
@@ -27,7 +28,7 @@ digit-letter b h = by_letter (is_letter b) refl h
     by_letter true e o = letter_other b e
     by_letter false e o = o
 
-letters-digits : (s : List ℕ) → are_alphanumeric s ≡ true → are_letters s ≡ eqb (count_by is_digit s) 0
+pub letters-digits : (s : List ℕ) → are_alphanumeric s ≡ true → are_letters s ≡ eqb (count_by is_digit s) 0
 letters-digits [] h = refl
 letters-digits (b ∷ s) h =
     let k = and_parts (is_alphanumeric b) (are_alphanumeric s) h in
@@ -71,7 +72,7 @@ singleton-shape [] h = refl
 singleton-shape (b ∷ []) h = rw ((and_parts (is_alphanumeric b) true h).0) refl
 singleton-shape (b ∷ c ∷ s) h = sym (not_one (length s) _)
 
-classes_of-shape : (s : List ℕ) → length s ≤ 8 → are_alphanumeric s ≡ true → classes_of s ≡ classes_of_shape (shape_of s)
+pub classes_of-shape : (s : List ℕ) → length s ≤ 8 → are_alphanumeric s ≡ true → classes_of s ≡ classes_of_shape (shape_of s)
 unfolding is_primary is_extended is_script is_region is_variant is_extension_subtag is_private_subtag
 classes_of-shape s short h =
     rw (letters-digits s h, all-digits s, starts-first s, mark-shape s, singleton-shape s h, h, le-leb (length s) 8 short) (simp and-true refl)
@@ -94,6 +95,10 @@ shape_nothing start = let none : start - start ≡ 0 = omega arith in rw none re
 -- the first byte of a subtag that begins at an index, after the byte at another
 abbrev pub IsFirst : ℕ → ℕ → ℕ → ℕ → ℕ → Type 0
 IsFirst start i b first next = ((i ≡ start) × (next ≡ b)) ⊎ ((i ≡ start → ⊥) × (next ≡ first))
+
+-- a byte that a subtag may hold, and the number of digits with it
+abbrev pub IsHeld : Stage → ℕ → ℕ → ℕ → Type 0
+IsHeld stage b digits more = (is_alphanumeric b ≡ true) × (stage ≡ Start → is_letter b ≡ true) × (more ≡ digits + cond (is_digit b) 1 0)
 
 first_pushed :
     (start i b first next : ℕ) (s : List ℕ) → start ≤ i → i - start ≡ length s → first ≡ get_or s 0 0 →

@@ -1,11 +1,10 @@
 -- What the machine knows of the bytes that it has read, and the recogniser of the text.
 -- Only contracts of private functions cite this page.
-use Rattle.std.specs.Prelude.{◌≡◌, ℕ, ◌+◌, ◌<◌, ◌≤◌, ◌&&◌, min, Bool, true, false, List, length, take, slice_index, Option, Some, None, if◌then◌else◌, MatchOption}
+use Rattle.std.specs.Prelude.{◌≡◌, ℕ, ◌+◌, ◌<◌, ◌≤◌, min, Bool, true, false, List, [], length, take, slice_index, Option, None, if◌then◌else◌, MatchOption}
 use Rattle.std.specs.List.{between}
 use Rattle.langtag_scan.specs.Found.{finding, IsFoundOf}
-use Rattle.langtag_scan.specs.Stage.{may_end}
 use Rattle.langtag_scan.specs.Shape.{shape_of}
-use Rattle.langtag_scan.specs.Machine.{IsBegun, Reads, HasStopped, found_by, outcome_of}
+use Rattle.langtag_scan.specs.Machine.{IsBegun, Reads, HasStopped, outcome, outcome_of}
 use Rattle.langtag_scan.specs.Names.{Follows}
 use Rattle.langtag_scan.specs.Tag.{IsIrregular, IsTag}
 use Rattle.langtag_scan.specs.Viable.{IsViable, IsStop}
@@ -22,12 +21,17 @@ Tracks p m = Reads p m.stage m.ends
 abbrev pub IsKept : List ℕ → ℕ → Names → Type 0
 IsKept t n names = (names.len ≡ length t) × (length t ≡ 9 → Follows (take n t) names)
 
+-- a subtag has begun at an index, and has these bytes up to another one
+pub record IsReading (t : List ℕ) (start : ℕ) (i : ℕ) (m : Machine) (subtag : Shape) : Type 0 where
+  pub from : start ≤ i
+  pub within : i ≤ length t
+  pub tracks : Tracks (take start t) m
+  pub begun : IsBegun m.stage (between start i t)
+  pub shape : subtag ≡ shape_of (between start i t)
+
 -- the subtag that begins at an index was read with the hyphen after it, by n bytes in all
 pub record IsSubtagRead (t : List ℕ) (start : ℕ) (m : Machine) (names : Names) (n : ℕ) (subtag : Shape) : Type 0 where
-  pub within : start + subtag.len ≤ length t
-  pub shape : subtag ≡ shape_of (between start (start + subtag.len) t)
-  pub begun : IsBegun m.stage (between start (start + subtag.len) t)
-  pub tracks : Tracks (take start t) m
+  pub reading : IsReading t start (start + subtag.len) m subtag
   pub kept : IsKept t n names
   pub hyphen : start + subtag.len < length t → slice_index t (start + subtag.len) ≡ 45
   pub count : n ≡ min (start + subtag.len + 1) (length t)
@@ -41,7 +45,7 @@ pub record IsReadTo (t : List ℕ) (end : ℕ) (names : Names) (m : Machine) (go
   pub tracks : end < length t → goes_on ≡ true → Tracks (take (end + 1) t) m
   pub stopped : end < length t → goes_on ≡ false → HasStopped (take (end + 1) t)
   pub dead : end < length t → goes_on ≡ false → (end ≡ 1 → ⊥) → IsViable (take (end + 1) t) → ⊥
-  pub found : end ≡ length t → outcome_of t ≡ (if goes_on && may_end m.stage then Some (found_by m.stage m.ends) else None)
+  pub found : end ≡ length t → outcome_of t ≡ (if goes_on then outcome m.stage m.ends [] else None)
   pub nine : end ≡ length t → IsIrregular t → length t ≡ 9
 
 -- this was found of a text, and n is where it stops

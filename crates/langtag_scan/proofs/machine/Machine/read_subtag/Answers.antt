@@ -1,95 +1,71 @@
-use Rattle.std.proofs.Common.{◌≡◌, ◌+◌, ◌-◌, ◌<◌, false, true, cond, [], ◌∷◌, ◌++◌, length, inl, inr, refl, sym, ap, subst, ◌∙◌, arith, slice_index}
+use Rattle.std.proofs.Common.{◌≡◌, ◌+◌, ◌-◌, ◌<◌, ◌≤◌, false, true, [], ◌∷◌, ◌++◌, length, inl, inr, refl, sym, ap, subst, ◌∙◌, arith, slice_index}
 use Rattle.std.specs.List.{between}
 use Rattle.std.proofs.lemmas.Bool.{or_right, both_ways}
 use Rattle.std.proofs.lemmas.List.{length_push}
-use Rattle.std.proofs.lemmas.List.Edits.{between_none, between_more, length-between}
+use Rattle.std.proofs.lemmas.List.Edits.{length-between}
 use Rattle.langtag_scan.specs.Class.{is_letter, is_digit, is_alphanumeric}
 use Rattle.langtag_scan.specs.Machine.{IsBegun}
 use Rattle.langtag_scan.specs.Names.{Follows}
-use Rattle.langtag_scan.specs.Shape.{shape_of}
-use Rattle.langtag_scan.specs.declared.stage.Stage.TheVariants.{Start}
+use Rattle.langtag_scan.specs.Tracking.{IsReading}
 use Rattle.langtag_scan.proofs.RecogniserLaws.{read_next}
-use Rattle.langtag_scan.proofs.Running.{empty_begun, begun_push, begun_last}
-use Rattle.langtag_scan.proofs.ShapeLaws.{IsFirst, letter_other, shape_nothing, shape_pushed}
-use Rattle.langtag_scan.proofs.SubtagReading.{stuck_decided}
+use Rattle.langtag_scan.proofs.Running.{begun_last}
+use Rattle.langtag_scan.proofs.ShapeLaws.{shape, IsFirst, IsHeld, letter_other}
+use Rattle.langtag_scan.proofs.SubtagReading.{reading_nothing, reading_more, stuck_decided}
 use Rattle.langtag_scan.proofs.machine.Machine.read_subtag.Goals as goal
 use Rattle.langtag_scan.proofs.machine.Machine.read_subtag.Goals.{else-loop-index-test, then-loop-index-test+then-byte-eq45, then-len-eq-NINE, else-len-eq-NINE, then-is_start-via-then-is_start, then-is_start-via-else-is_start+then-not-is_digit, then-not-is_letter+else-is_start+else-not-is_digit, else-not-is_letter, then-index-start, else-index-start}
 
 pub loop-index-init : goal.loop-index-init
-loop-index-init g c =
-    let t = g.S.ByteSource.bytes c.args.source.now in
-    let nothing = sym (between_none t c.args.start) in
-    record {
-      bytes = refl;
-      reads = refl;
-      reach = omega (arith, c.requires.reached);
-      from = omega arith;
-      within = omega (arith, c.requires.within);
-      kept = c.requires.kept;
-      begun = subst (IsBegun c.args.self.now.stage) nothing (empty_begun c.args.self.now.stage);
-      shape = shape_nothing c.args.start ∙ ap shape_of nothing;
-    }
+loop-index-init g c = record {
+  bytes = refl;
+  reads = refl;
+  reach = omega (arith, c.requires.reached);
+  kept = c.requires.kept;
+  reading = reading_nothing (g.S.ByteSource.bytes c.args.source.now) c.args.start c.args.self.now c.requires.within c.requires.tracks;
+}
 
 pub returns-then-index-start-eq-LONGEST-clause-read : goal.returns-then-index-start-eq-LONGEST-clause-read
 returns-then-index-start-eq-LONGEST-clause-read g c =
     let t = g.S.ByteSource.bytes c.args.source.now in
     let i = c.loop-index.index in
-    let start = c.args.start in
+    let s = between c.args.start i t in
     let b = c.byte-byte.result in
     let known = c.loop-index.invariant in
     let within : i < length t = omega arith in
     let is_next : b ≡ slice_index t i = cc in
-    let full : IsBegun c.args.self.now.stage (between start i t ++ b ∷ []) → ⊥ =
-    λ begun. omega (arith, begun.short, length_push (between start i t) b, length-between t start i (omega arith)) in (
-      i + 1,
-      omega (arith, known.from),
-      omega arith,
-      omega arith,
-      stuck_decided t start i b c.args.self.now known.from within is_next c.if-byte-eq45.false c.requires.tracks known.begun full,
-    )
+    let full : IsBegun c.args.self.now.stage (s ++ b ∷ []) → ⊥ = λ begun. omega (arith, begun.short, length_push s b, length-between t c.args.start i known.reading.within) in
+    (i + 1, omega (arith, known.reading.from), omega arith, omega arith, stuck_decided t c.args.start i b c.args.self.now _ within is_next c.if-byte-eq45.false known.reading full)
 
 pub returns-then-is_start-clause-read : goal.returns-then-is_start-clause-read
 returns-then-is_start-clause-read g c =
     let t = g.S.ByteSource.bytes c.args.source.now in
     let i = c.loop-index.index in
-    let start = c.args.start in
+    let s = between c.args.start i t in
     let b = c.byte-byte.result in
     let known = c.loop-index.invariant in
     let within : i < length t = omega arith in
     let is_next : b ≡ slice_index t i = cc in
     let no_letter : is_letter b ≡ false = sym c.is_letter.ensures ∙ c.if-not-is_letter.true in
-    let never : IsBegun c.args.self.now.stage (between start i t ++ b ∷ []) → ⊥ =
-    λ begun.
-    let last = begun_last c.args.self.now.stage (between start i t) b begun in
-    elim c.then-is_start.branch [
-      | then-is_start-via-then-is_start w ↦ both_ways (is_letter b) no_letter (last.1 (c.is_start.ensures.0 w.if-is_start.true))
+    let never : IsBegun c.args.self.now.stage (s ++ b ∷ []) → ⊥ =
+    λ begun. elim c.then-is_start.branch [
+      | then-is_start-via-then-is_start w ↦ both_ways (is_letter b) no_letter ((begun_last c.args.self.now.stage s b begun).1 (c.is_start.ensures.0 w.if-is_start.true))
       | then-is_start-via-else-is_start+then-not-is_digit w ↦
           let no_digit : is_digit b ≡ false = sym w.is_digit.ensures ∙ w.if-not-is_digit.true in
-          both_ways (is_alphanumeric b) (rw (no_letter, no_digit) refl) last.0
-    ] in (
-      i + 1,
-      omega (arith, known.from),
-      omega arith,
-      omega arith,
-      stuck_decided t start i b c.args.self.now known.from within is_next c.if-byte-eq45.false c.requires.tracks known.begun never,
-    )
+          both_ways (is_alphanumeric b) (rw (no_letter, no_digit) refl) (begun_last c.args.self.now.stage s b begun).0
+    ] in
+    (i + 1, omega (arith, known.reading.from), omega arith, omega arith, stuck_decided t c.args.start i b c.args.self.now _ within is_next c.if-byte-eq45.false known.reading never)
 
 pub loop-index-preserved : goal.loop-index-preserved
 loop-index-preserved g c =
     let t = g.S.ByteSource.bytes c.args.source.now in
     let i = c.loop-index.index in
-    let start = c.args.start in
     let b = c.byte-byte.result in
     let known = c.loop-index.invariant in
-    let stage = c.args.self.now.stage in
+    let m = c.args.self.now in
     let within : i < length t = omega arith in
     let is_next : b ≡ slice_index t i = cc in
-    let s = between start i t in
-    let pushed : s ++ b ∷ [] ≡ between start (i + 1) t = ap (λ x. s ++ x ∷ []) is_next ∙ sym (between_more t start i 0 known.from within) in
-    let less : length s < 8 = omega (arith, known.begun.short, length-between t start i (omega arith)) in
-    let opens : IsFirst start i b c.loop-index.first c.if-index-start.first =
+    let opens : IsFirst c.args.start i b c.loop-index.first c.if-index-start.first =
     elim c.if-index-start.branch [ then-index-start w ↦ inl (w.if-index-start.true, w.first-is) | else-index-start w ↦ inr (w.if-index-start.false, w.first-is) ] in
-    let held : (is_alphanumeric b ≡ true) × (stage ≡ Start → is_letter b ≡ true) × (c.if-not-is_letter.digits ≡ c.loop-index.digits + cond (is_digit b) 1 0) =
+    let held : IsHeld m.stage b c.loop-index.digits c.if-not-is_letter.digits =
     elim c.if-not-is_letter.branch [
       | then-not-is_letter+else-is_start+else-not-is_digit w ↦
           let digit : is_digit b ≡ true = sym w.is_digit.ensures ∙ w.if-not-is_digit.false in
@@ -102,55 +78,36 @@ loop-index-preserved g c =
       bytes = cc;
       reads = omega arith;
       reach = omega arith;
-      from = omega arith;
-      within = omega arith;
       kept = elim c.if-len-eq-NINE.branch [
         | then-len-eq-NINE w ↦ rw w.names-is (w.keep.ensures.len ∙ known.kept.0, λ nine. read_next t i b (λ p. Follows p c.loop-index.names) (λ p. Follows p w.keep.new.self) within is_next w.keep.ensures.follows (known.kept.1 nine))
         | else-len-eq-NINE w ↦ rw w.names-is (known.kept.0, λ nine. absurd (w.if-len-eq-NINE.false (c.len-len.ensures ∙ nine)))
       ];
-      begun = subst (IsBegun stage) pushed (begun_push stage s b held.0 held.1 less known.begun);
-      shape = shape_pushed start i b c.loop-index.first c.if-index-start.first c.loop-index.digits c.if-not-is_letter.digits s known.from opens held.2 known.shape ∙ ap shape_of pushed;
+      reading = reading_more t c.args.start i b c.loop-index.first c.if-index-start.first c.loop-index.digits c.if-not-is_letter.digits m within is_next c.if-index-start-eq-LONGEST.false opens held known.reading;
     }
 
 pub returns-clause-read : goal.returns-clause-read
 returns-clause-read g c =
     let t = g.S.ByteSource.bytes c.args.source.now in
     let i = c.loop-index.index in
-    let start = c.args.start in
     let known = c.loop-index.invariant in
-    let end : start + (i - start) ≡ i = omega (arith, known.from) in
-    let s : between start (start + (i - start)) t ≡ between start i t = ap (λ n. between start n t) end in
+    let from : c.args.start ≤ i = known.reading.from in
+    let end : c.args.start + (i - c.args.start) ≡ i = omega (arith, from) in
+    let read = subst (λ k. IsReading t c.args.start k c.args.self.now (shape (i - c.args.start) c.loop-index.first c.loop-index.digits)) (sym end) known.reading in
     elim c.loop-index-test.branch [
       | else-loop-index-test w ↦
-          rw (w.source-is, w.names-is) (
-            i,
-            known.from,
-            known.reads,
-            known.reach,
-            record {
-              within = omega arith;
-              shape = known.shape ∙ ap shape_of (sym s);
-              begun = subst (IsBegun c.args.self.now.stage) (sym s) known.begun;
-              tracks = c.requires.tracks;
-              kept = known.kept;
-              hyphen = λ before. absurd (omega arith);
-              count = omega arith;
-            },
-          )
+          let last : i ≡ length t = omega (arith, known.reading.within, w.loop-index-test.false, c.len-len.ensures) in
+          rw (w.source-is, w.names-is) (i, from, known.reads, known.reach, record { reading = read; kept = known.kept; hyphen = λ before. absurd (omega arith); count = omega arith })
       | then-loop-index-test+then-byte-eq45 w ↦
           let b = w.byte-byte.result in
           let within : i < length t = omega arith in
           let is_next : b ≡ slice_index t i = cc in
           rw (w.source-is, w.names-is) (
             i + 1,
-            omega (arith, known.from),
+            omega (arith, from),
             omega arith,
             omega arith,
             record {
-              within = omega arith;
-              shape = known.shape ∙ ap shape_of (sym s);
-              begun = subst (IsBegun c.args.self.now.stage) (sym s) known.begun;
-              tracks = c.requires.tracks;
+              reading = read;
               kept = elim w.if-len-eq-NINE.branch [
                 | then-len-eq-NINE v ↦
                     rw v.names-is (v.keep.ensures.len ∙ known.kept.0, λ nine. read_next t i b (λ p. Follows p c.loop-index.names) (λ p. Follows p v.keep.new.self) within is_next v.keep.ensures.follows (known.kept.1 nine))
