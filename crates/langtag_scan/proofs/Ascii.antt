@@ -8,17 +8,18 @@ use Rattle.std.proofs.lemmas.Bool.Decides.{nat_tests}
 use Rattle.std.proofs.lemmas.Str.{IsUtf8-from_ascii, IsAscii-append}
 use Rattle.std.proofs.lemmas.Str.Ascii.{IsAscii-nil, IsAscii-cons}
 use Rattle.langtag_scan.specs.Case.{fold_byte}
-use Rattle.langtag_scan.specs.Class.{is_letter, is_digit, is_alphanumeric}
+use Rattle.langtag_scan.specs.Class.{is_letter, is_digit, is_alphanumeric, is_private_subtag}
 use Rattle.langtag_scan.specs.Grandfathered.{grandfathered_tags, irregular_texts}
 use Rattle.langtag_scan.specs.Irregular.{folded_texts, folded_at}
 use Rattle.langtag_scan.specs.Record.{flat, private_use_flat}
 use Rattle.langtag_scan.specs.Subtags.{join}
 use Rattle.langtag_scan.specs.Tag.{IsNormal, IsPrivate, IsIrregular, IsTag}
 use Rattle.langtag_scan.proofs.CaseLaw.{all-fold}
-use Rattle.langtag_scan.proofs.Complete.{decode_complete, after_mark}
+use Rattle.langtag_scan.proofs.Complete.{decode_complete}
 use Rattle.langtag_scan.proofs.IrregularNames.{irregular_fold}
 use Rattle.langtag_scan.proofs.NormalTexts.{decoded_subtags}
-use Rattle.langtag_scan.proofs.SubtagFacts.{IsSubtag, of_one, mark_alphanumeric}
+use Rattle.langtag_scan.proofs.SubtagFacts.{IsSubtag, of_private_subtag, of_one, mark_alphanumeric}
+use Rattle.langtag_scan.proofs.SubtagLists.{each_subtag}
 
 -- ---- subtags and the hyphens between them
 
@@ -56,7 +57,7 @@ IsAscii-normal t (r, (fits, spells)) = IsAscii-spelled t (flat r) spells (decode
 pub IsAscii-private : (t : List ℕ) → IsPrivate t → IsAscii t
 unfolding IsPrivate
 IsAscii-private t (p, fits, spells) =
-    let subtags = decoded_subtags p.subtags _ _ (after_mark p.subtags fits.some fits.subtags) in
+    let subtags = each_subtag is_private_subtag of_private_subtag p.subtags fits.subtags in
     IsAscii-spelled t (private_use_flat p) spells (of_one p.mark (mark_alphanumeric p.mark fits.mark), subtags)
 
 is_ascii-fold : (b : ℕ) → is_ascii (fold_byte b) ≡ is_ascii b

@@ -1,7 +1,8 @@
 -- How the order of texts without regard to case goes on from an index, and what it answers where a text has ended.
-use Rattle.std.proofs.Common.{◌≡◌, ℕ, suc, ◌+◌, ◌<◌, min, true, false, cond, List, [], ◌∷◌, length, get_or, take, drop, refl, ap, ◌∙◌, Fits, w8, arith, add-one, subst, length-drop, Less, Equal, Greater, Ordering}
+use Rattle.std.proofs.Common.{◌≡◌, ℕ, suc, ◌+◌, ◌-◌, ◌<◌, min, true, false, cond, List, [], ◌∷◌, length, get_or, take, drop, refl, ◌∙◌, Fits, w8, arith, add-one, length-drop, Less, Equal, Greater, Ordering}
 use Rattle.std.specs.Ordering.{nat_cmp, ordering_then, is_ne}
 use Rattle.std.proofs.Math.Seq.{drop-cons}
+use Rattle.std.proofs.lemmas.List.{get_or-drop}
 use Rattle.std.proofs.lemmas.Grind.{common_steps}
 use Rattle.langtag_scan.specs.Case.{fold_byte, Alike, case_cmp, EndsFirst}
 
@@ -38,23 +39,20 @@ end-above_fold_byte x byte = grind (arith, common_steps)
 pub case_cmp-ended :
     (a b : List ℕ) (i : ℕ) → ((k : ℕ) → Fits w8 (get_or a k 0)) → ((k : ℕ) → Fits w8 (get_or b k 0)) →
     i ≡ min (length a) (length b) → case_cmp (drop i a) (drop i b) ≡ nat_cmp (length b) (length a)
-case_cmp-ended a b i bytes_a bytes_b ended = by_rest (drop i a) (drop i b) refl refl
+case_cmp-ended a b i bytes_a bytes_b ended =
+    by_rest (drop i a) (drop i b) (λ k. rw get_or-drop (bytes_a (i + k))) (λ k. rw get_or-drop (bytes_b (i + k))) (length-drop i a) (length-drop i b)
   where
-    by_rest : (s t : List ℕ) → drop i a ≡ s → drop i b ≡ t → case_cmp s t ≡ nat_cmp (length b) (length a)
-    by_rest [] [] e f =
-        let same : length b ≡ length a = omega (arith, ended, ap length e, ap length f, length-drop i a, length-drop i b) in
-        grind (arith, common_steps, same)
-    by_rest [] (y ∷ t) e f =
-        let longer : length a < length b = omega (arith, ended, ap length e, ap length f, length-drop i a, length-drop i b) in
-        let at_end : drop i b ≡ get_or b i 0 ∷ drop (suc i) b = drop-cons b i 0 (omega (arith, ended)) in
-        let first : get_or b i 0 ≡ y = cc in
-        rw (end-above_fold_byte y (subst (Fits w8) first (bytes_b i))) (grind (arith, common_steps))
-    by_rest (x ∷ s) [] e f =
-        let longer : length b < length a = omega (arith, ended, ap length e, ap length f, length-drop i a, length-drop i b) in
-        let at_end : drop i a ≡ get_or a i 0 ∷ drop (suc i) a = drop-cons a i 0 (omega (arith, ended)) in
-        let first : get_or a i 0 ≡ x = cc in
-        rw (fold_byte-below_end x (subst (Fits w8) first (bytes_a i))) (grind (arith, common_steps))
-    by_rest (x ∷ s) (y ∷ t) e f = absurd (omega (arith, ended, ap length e, ap length f, length-drop i a, length-drop i b))
+    by_rest :
+        (s t : List ℕ) → ((k : ℕ) → Fits w8 (get_or s k 0)) → ((k : ℕ) → Fits w8 (get_or t k 0)) → length s ≡ length a - i →
+        length t ≡ length b - i → case_cmp s t ≡ nat_cmp (length b) (length a)
+    by_rest [] [] bytes_s bytes_t e f = let same : length b ≡ length a = omega (arith, ended) in grind (arith, common_steps, same)
+    by_rest [] (y ∷ t) bytes_s bytes_t e f =
+        let longer : length a < length b = omega (arith, ended) in
+        rw (end-above_fold_byte y (bytes_t 0)) (grind (arith, common_steps))
+    by_rest (x ∷ s) [] bytes_s bytes_t e f =
+        let longer : length b < length a = omega (arith, ended) in
+        rw (fold_byte-below_end x (bytes_s 0)) (grind (arith, common_steps))
+    by_rest (x ∷ s) (y ∷ t) bytes_s bytes_t e f = absurd (omega (arith, ended))
 
 -- of two texts of which one begins the other the shorter is the greater
 pub case_cmp-ends_first : (a b : List ℕ) → ((k : ℕ) → Fits w8 (get_or b k 0)) → EndsFirst a b → case_cmp a b ≡ Greater
