@@ -13,7 +13,7 @@ use Rattle.langtag_scan.specs.Class.{is_letter, is_alphanumeric, are_letters, ar
 use Rattle.langtag_scan.specs.Subtags.{is_hyphen, segments}
 use Rattle.langtag_scan.specs.Tag.{IsNormal, IsPrivate}
 use Rattle.langtag_scan.specs.Names.{IsUnnamed}
-use Rattle.langtag_scan.specs.Stage.{next_stage, after_stage, may_end}
+use Rattle.langtag_scan.specs.Stage.{after_stage, may_end}
 use Rattle.langtag_scan.specs.declared.stage.Stage.{Stage}
 use Rattle.langtag_scan.specs.declared.stage.Stage.TheVariants.{Start, Language, Extended, AfterScript, AfterRegion, AfterVariant, AfterSingleton, InExtension, AfterMark, InPrivate, AfterFirstMark, InPrivateTag}
 use Rattle.langtag_scan.specs.declared.ends.Ends.{Ends}
