@@ -10,14 +10,14 @@ use Rattle.std.proofs.lemmas.Option.{slice_get_within, get_or_from_slice_get}
 use Rattle.std.proofs.lemmas.Str.{IsUtf8-from_ascii, IsAscii-append}
 use Rattle.std.proofs.lemmas.Str.Ascii.{IsAscii-nil, IsAscii-cons, IsAscii-map, lowercase_ascii}
 use Rattle.langtag_scan.specs.Case.{fold_byte, fold_text}
-use Rattle.langtag_scan.specs.Class.{is_letter, is_digit, is_alphanumeric, are_alphanumeric, is_mark}
+use Rattle.langtag_scan.specs.Class.{is_letter, is_digit, is_alphanumeric, are_alphanumeric, is_private_subtag, is_mark}
 use Rattle.langtag_scan.specs.Grandfathered.{grandfathered_tags, irregular_texts}
 use Rattle.langtag_scan.specs.Record.{flat, private_use_flat}
 use Rattle.langtag_scan.specs.Subtags.{join}
 use Rattle.langtag_scan.specs.Tag.{IsNormal, IsPrivate, IsIrregularAt, IsIrregular, IsTag}
-use Rattle.langtag_scan.proofs.Complete.{decode_complete, after_mark}
-use Rattle.langtag_scan.proofs.SubtagFacts.{IsSubtag}
-use Rattle.langtag_scan.proofs.NormalTexts.{decoded_subtags}
+use Rattle.langtag_scan.proofs.SubtagFacts.{IsSubtag, of_private_subtag}
+use Rattle.langtag_scan.proofs.SubtagLists.{each_subtag}
+use Rattle.langtag_scan.proofs.NormalTexts.{flat_subtags}
 
 -- ---- subtags and the hyphens between them
 
@@ -45,7 +45,7 @@ IsAscii-join (s ∷ u ∷ us) fits = IsAscii-append s (45 ∷ join (u ∷ us)) f
 
 pub IsAscii-normal : (t : List ℕ) → IsNormal t → IsAscii t
 unfolding IsNormal
-IsAscii-normal t (r, (fits, spells)) = subst IsAscii spells (IsAscii-join (flat r) (IsAscii-subtags (flat r) (decoded_subtags (flat r) _ _ (decode_complete r fits))))
+IsAscii-normal t (r, (fits, spells)) = subst IsAscii spells (IsAscii-join (flat r) (IsAscii-subtags (flat r) (flat_subtags r fits)))
 
 mark_below : (b : ℕ) → is_mark b ≡ true → b < 128
 unfolding is_mark
@@ -55,7 +55,7 @@ pub IsAscii-private : (t : List ℕ) → IsPrivate t → IsAscii t
 unfolding IsPrivate
 IsAscii-private t (p, fits, spells) =
     let mark : IsAscii (p.mark ∷ []) = IsAscii-cons p.mark [] (mark_below p.mark fits.mark) IsAscii-nil in
-    let subtags = IsAscii-subtags p.subtags (decoded_subtags p.subtags _ _ (after_mark p.subtags fits.some fits.subtags)) in
+    let subtags = IsAscii-subtags p.subtags (each_subtag is_private_subtag of_private_subtag p.subtags fits.subtags) in
     subst IsAscii spells (IsAscii-join (private_use_flat p) (mark, subtags))
 
 IsAscii-test : (t : List ℕ) → list_all is_ascii t ≡ true → IsAscii t

@@ -13,6 +13,7 @@ mod Unnamed
 mod Filling
 mod PrivateTexts
 mod Steps
+mod Reach
 mod StageLaws
 mod ReadingLaws
 mod EndsLaw

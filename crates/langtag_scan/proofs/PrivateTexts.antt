@@ -1,8 +1,7 @@
 -- A private text is a mark, a hyphen, and subtags over which the stages run from after a mark; no other text is.
-use Rattle.std.proofs.Common.{Bool, ◌≡◌, ℕ, ◌≤◌, true, false, ◌&&◌, List, [], ◌∷◌, length, None, refl, sym, ap, ◌∙◌, arith}
+use Rattle.std.proofs.Common.{Bool, append-nil, ◌≡◌, ℕ, ◌≤◌, true, false, ◌&&◌, List, [], ◌∷◌, length, refl, sym, ap, ◌∙◌, arith}
 use Rattle.std.specs.Prelude.{IsTrue}
 use Rattle.std.specs.List.{AllByRecursion}
-use Rattle.std.specs.Option.{is_some}
 use Rattle.std.proofs.lemmas.Bool.{and_parts, and_from}
 use Rattle.std.proofs.lemmas.List.Splits.{join_with_byte-slice_split}
 use Rattle.langtag_scan.specs.declared.stage.Stage.TheVariants.{AfterMark}
@@ -10,11 +9,10 @@ use Rattle.langtag_scan.specs.Class.{is_private_subtag, is_primary, is_mark}
 use Rattle.langtag_scan.specs.Subtags.{join, segments}
 use Rattle.langtag_scan.specs.Tag.{IsPrivate}
 use Rattle.langtag_scan.specs.Stage.{is_one}
-use Rattle.langtag_scan.proofs.Decoding.{decode, decode_sound, pending}
+use Rattle.langtag_scan.proofs.Decoding.{decode, decode_sound}
 use Rattle.langtag_scan.proofs.Complete.{after_mark}
-use Rattle.langtag_scan.proofs.NormalTexts.{runs-decode, is_there, decoded_subtags}
-use Rattle.langtag_scan.proofs.SubtagLists.{segments-joined}
-use Rattle.langtag_scan.proofs.SubtagFacts.{mark_alphanumeric}
+use Rattle.langtag_scan.proofs.SubtagLists.{segments-joined, each_subtag}
+use Rattle.langtag_scan.proofs.SubtagFacts.{mark_alphanumeric, of_private_subtag}
 use Rattle.langtag_scan.proofs.Running.{segments-hyphen}
 use Rattle.langtag_scan.proofs.Runs.{runs}
 
@@ -35,9 +33,8 @@ marked_from_private t h = by_subtags h.0.mark h.0.subtags h.1.mark h.1.some h.1.
         join ((m ∷ []) ∷ ss) ≡ t → IsMarked t
     by_subtags m [] mark some each e = absurd (omega arith)
     by_subtags m (s ∷ ss) mark some each e =
-        let d = after_mark (s ∷ ss) some each in
-        let split : segments (join (s ∷ ss)) ≡ s ∷ ss = segments-joined s ss (decoded_subtags (s ∷ ss) AfterMark (pending (s ∷ ss) [] None) d) in
-        record { mark = m; rest = join (s ∷ ss); split = sym e; marked = mark; run = ap (runs AfterMark) split ∙ runs-decode (s ∷ ss) AfterMark ∙ ap is_some d }
+        let split : segments (join (s ∷ ss)) ≡ s ∷ ss = segments-joined s ss (each_subtag is_private_subtag of_private_subtag (s ∷ ss) each) in
+        record { mark = m; rest = join (s ∷ ss); split = sym e; marked = mark; run = ap (runs AfterMark) split ∙ (after_mark (s ∷ ss) some each).run }
 
 -- whether the subtags are a mark and what may follow it
 abbrev pub runs_private : List (List ℕ) → Bool
@@ -62,9 +59,12 @@ private_from_subtags t ([] ∷ ss) e h = absurd cc
 private_from_subtags t ((m ∷ c ∷ s) ∷ ss) e h = absurd cc
 private_from_subtags t ((m ∷ []) ∷ ss) e h =
     let k = and_parts (is_mark m) (runs AfterMark ss) h in
-    let d = is_there (decode AfterMark ss) (sym (runs-decode ss AfterMark) ∙ k.1) in
-    let a = decode_sound ss AfterMark d.0 d.1 in
-    (record { mark = m; subtags = d.0.after }, record { mark = k.0; some = a.0.0; subtags = a.0.1 }, ap (λ (us : List (List ℕ)). join ((m ∷ []) ∷ us)) a.1 ∙ e)
+    let sound = decode_sound ss AfterMark k.1 in
+    let after : (decode AfterMark ss).after ≡ ss = simp append-nil at sound.spells in (
+      record { mark = m; subtags = (decode AfterMark ss).after },
+      record { mark = k.0; some = sound.ready.1; subtags = sound.ready.0 },
+      ap (λ (us : List (List ℕ)). join ((m ∷ []) ∷ us)) after ∙ e,
+    )
 
 -- and only a private text has such segments
 pub private_from_runs : (t : List ℕ) → runs_private (segments t) ≡ true → IsPrivate t

@@ -1,15 +1,15 @@
 -- Which stage may come after another one in a normal tag, and which subtag leads there.
-use Rattle.std.proofs.Common.{◌≡◌, ℕ, ◌+◌, Bool, true, false, eqb, ltb, leb, ◌&&◌, List, Option, Some, None, sym, ap, ◌∙◌, arith}
+use Rattle.std.proofs.Common.{◌≡◌, ℕ, ◌+◌, ◌≤◌, Bool, true, false, cond, eqb, ltb, leb, ◌&&◌, List, Option, Some, None, sym, ap, ◌∙◌, arith}
 use Rattle.std.proofs.lemmas.Bool.{and_parts}
 use Rattle.std.proofs.lemmas.Bool.Decides.{nat_tests}
-use Rattle.langtag_scan.specs.Stage.{Classes, classes_of, next_by, after_by, next_stage, after_stage}
+use Rattle.langtag_scan.specs.Stage.{Classes, classes_of, next_by, after_by, next_stage, after_stage, may_end}
 use Rattle.langtag_scan.specs.declared.stage.Stage.{Stage}
 use Rattle.langtag_scan.specs.declared.stage.Stage.TheVariants.{Start, Language, Extended, AfterScript, AfterRegion, AfterVariant, AfterSingleton, InExtension, AfterMark, InPrivate, AfterFirstMark, InPrivateTag}
 
 -- the class of the subtag after which a stage comes
 abbrev pub leads_to : Stage → Classes → Bool
 leads_to Start c = false
-leads_to (Language taken) c = c.primary
+leads_to (Language taken) c = c.primary && eqb taken (cond c.short 0 3)
 leads_to (Extended taken) c = c.extended
 leads_to AfterScript c = c.script
 leads_to AfterRegion c = c.region
@@ -33,8 +33,9 @@ place AfterSingleton = 4
 place InExtension = 4
 place _ = 5
 
--- a subtag opens its part, or is one more variant, and the part is this one or a later one
-abbrev opens_from : ℕ → Stage → Bool
+-- the subtag is one of the last that may stand in a part or opens the next one, and its part is this one or a later one
+abbrev pub opens_from : ℕ → Stage → Bool
+opens_from k (Extended taken) = leb k 0
 opens_from k AfterScript = leb k 1
 opens_from k AfterRegion = leb k 2
 opens_from k AfterVariant = leb k 3
@@ -42,7 +43,7 @@ opens_from k AfterSingleton = true
 opens_from k AfterMark = true
 opens_from k _ = false
 
-abbrev follows_language : ℕ → Stage → Bool
+abbrev pub follows_language : ℕ → Stage → Bool
 follows_language taken (Extended more) = eqb more (taken + 1) && ltb taken 3
 follows_language taken after = opens_from 1 after
 
@@ -60,6 +61,46 @@ may_follow InExtension after = opens_from 4 after
 may_follow AfterMark InPrivate = true
 may_follow InPrivate InPrivate = true
 may_follow _ _ = false
+
+-- the first part in which the next subtag may stand
+abbrev pub first_place : Stage → ℕ
+first_place Start = 0
+first_place (Language taken) = 0
+first_place (Extended taken) = 0
+first_place AfterScript = 2
+first_place AfterRegion = 3
+first_place AfterVariant = 3
+first_place AfterSingleton = 4
+first_place InExtension = 4
+first_place _ = 5
+
+-- it stands in none before
+pub places : (stage after : Stage) → may_follow stage after ≡ true → first_place stage ≤ place after
+places _ _ h = grind (arith, nat_tests)
+
+pub opens :
+    (stage after : Stage) → may_end stage ≡ true → leb (first_place stage) 3 ≡ true → may_follow stage after ≡ true →
+    opens_from 0 after ≡ true
+opens _ _ ends low h = grind (arith, nat_tests)
+
+-- a tag may end here, or go on with any part from this one on
+abbrev pub goes_on : ℕ → Stage → Bool
+goes_on k Start = false
+goes_on k AfterSingleton = false
+goes_on k AfterMark = false
+goes_on k InPrivate = false
+goes_on k AfterFirstMark = false
+goes_on k InPrivateTag = false
+goes_on k stage = leb (first_place stage) k
+
+pub goes_on-ends : (k : ℕ) (stage : Stage) → goes_on k stage ≡ true → may_end stage ≡ true
+goes_on-ends k _ h = grind (arith, nat_tests)
+
+pub goes_on-later : (k : ℕ) (stage : Stage) → goes_on k stage ≡ true → goes_on (k + 1) stage ≡ true
+goes_on-later k _ h = grind (arith, nat_tests)
+
+pub goes_on-follows : (k : ℕ) (stage after : Stage) → goes_on (k + 1) stage ≡ true → opens_from (k + 1) after ≡ true → may_follow stage after ≡ true
+goes_on-follows k _ _ h h' = grind (arith, nat_tests)
 
 abbrev is_led : Classes → Option Stage → Bool
 is_led c None = true
