@@ -2,8 +2,14 @@
 use Rattle.std.proofs.Common.{◌≡◌, ℕ, ◌≤◌, true, false, eqb, not, ◌&&◌, List, [], ◌∷◌, length, refl, ap, arith, inl, inr, ◌⊎◌}
 use Rattle.std.proofs.lemmas.Bool.{eqb-true, and_parts, or_cases, false_from_ne_true}
 use Rattle.std.specs.Int.{is_in_range}
+use Rattle.std.specs.Prelude.{⊤}
+use Rattle.std.proofs.lemmas.Bool.Decides.{nat_tests}
 use Rattle.langtag_scan.specs.Class.{is_letter, is_digit, is_alphanumeric, has_length, are_letters, are_digits, are_alphanumeric, starts_with_digit, is_extended, is_script, is_region, is_variant, is_extension_subtag, is_mark, is_singleton}
+use Rattle.langtag_scan.specs.Stage.{Classes, classes_of}
+use Rattle.langtag_scan.specs.declared.stage.Stage.{Stage}
+use Rattle.langtag_scan.specs.declared.stage.Stage.TheVariants.{AfterScript, AfterRegion, AfterVariant, AfterSingleton, AfterMark}
 use Rattle.langtag_scan.proofs.BoolFacts.{between_true}
+use Rattle.langtag_scan.proofs.Steps.{leads_to}
 
 pub letter_no_digit : (b : ℕ) → is_letter b ≡ true → is_digit b ≡ true → ⊥
 unfolding is_letter is_digit
@@ -52,45 +58,35 @@ pub digits_begin : (s : List ℕ) → 1 ≤ length s → are_digits s ≡ true �
 digits_begin [] n d = absurd (omega arith)
 digits_begin (b ∷ s) n d = (and_parts (is_digit b) (are_digits s) d).0
 
-pub script_no_extended : (s : List ℕ) → is_script s ≡ true → is_extended s ≡ false
-script_no_extended s h = false_from_ne_true (is_extended s) (λ e. let a = script_four s h in let b = extended_three s e in omega arith)
+abbrev IsOfNoPart : Classes → Type 0
+IsOfNoPart c = (c.extended ≡ false) × (c.script ≡ false) × (c.region ≡ false) × (c.variant ≡ false) × (c.extension_subtag ≡ false)
 
-pub region_no_extended : (s : List ℕ) → is_region s ≡ true → is_extended s ≡ false
-region_no_extended s h =
-    false_from_ne_true (is_extended s) (λ e. let b = extended_three s e in elim (region_two_three s h) [ inl a ↦ omega arith | inr a ↦ first_no_digit s b.1 (digits_begin s (omega arith) a.1) ])
+-- none of the classes that are tested before that of a stage
+abbrev IsFirst : Stage → Classes → Type 0
+IsFirst AfterScript c = c.extended ≡ false
+IsFirst AfterRegion c = (c.extended ≡ false) × (c.script ≡ false)
+IsFirst AfterVariant c = (c.extended ≡ false) × (c.script ≡ false) × (c.region ≡ false)
+IsFirst AfterMark c = IsOfNoPart c
+IsFirst AfterSingleton c = IsOfNoPart c × (c.mark ≡ false)
+IsFirst _ c = ⊤
 
-pub region_no_script : (s : List ℕ) → is_region s ≡ true → is_script s ≡ false
-region_no_script s h = false_from_ne_true (is_script s) (λ e. let b = script_four s e in elim (region_two_three s h) [ inl a ↦ omega arith | inr a ↦ omega arith ])
+pub first_class : (after : Stage) (s : List ℕ) → leads_to after (classes_of s) ≡ true → IsFirst after (classes_of s)
+unfolding is_extended is_script is_region is_variant is_extension_subtag
+first_class AfterScript s h = grind (arith, nat_tests)
+first_class AfterRegion s h = (grind (arith, nat_tests, first_no_digit s, digits_begin s), grind (arith, nat_tests))
+first_class AfterVariant s h = (grind (arith, nat_tests), grind (arith, nat_tests, first_no_digit s), grind (arith, nat_tests))
+first_class AfterMark (c ∷ []) h = (refl, refl, refl, refl, refl)
+first_class AfterSingleton (c ∷ []) h = ((refl, refl, refl, refl, refl), singleton_no_mark c h)
+first_class AfterMark _ h = absurd cc
+first_class AfterSingleton _ h = absurd cc
+first_class _ s h = tt
 
+-- in particular
 pub variant_no_extended : (s : List ℕ) → is_variant s ≡ true → is_extended s ≡ false
-variant_no_extended s h = false_from_ne_true (is_extended s) (λ e. let b = extended_three s e in elim (variant_long s h) [ inl a ↦ omega arith | inr a ↦ omega arith ])
+variant_no_extended s h = (first_class AfterVariant s h).0
 
 pub variant_no_script : (s : List ℕ) → is_variant s ≡ true → is_script s ≡ false
-variant_no_script s h = false_from_ne_true (is_script s) (λ e. let b = script_four s e in elim (variant_long s h) [ inl a ↦ omega arith | inr a ↦ first_no_digit s b.1 a.2 ])
+variant_no_script s h = (first_class AfterVariant s h).1
 
 pub variant_no_region : (s : List ℕ) → is_variant s ≡ true → is_region s ≡ false
-variant_no_region s h =
-    false_from_ne_true (is_region s) (λ e. elim (region_two_three s e) [
-      | inl b ↦ elim (variant_long s h) [ inl a ↦ omega arith | inr a ↦ omega arith ]
-      | inr b ↦ elim (variant_long s h) [ inl a ↦ omega arith | inr a ↦ omega arith ]
-    ])
-
-pub one_no_extended : (c : ℕ) → is_extended (c ∷ []) ≡ false
-unfolding is_extended
-one_no_extended c = refl
-
-pub one_no_script : (c : ℕ) → is_script (c ∷ []) ≡ false
-unfolding is_script
-one_no_script c = refl
-
-pub one_no_region : (c : ℕ) → is_region (c ∷ []) ≡ false
-unfolding is_region
-one_no_region c = refl
-
-pub one_no_variant : (c : ℕ) → is_variant (c ∷ []) ≡ false
-unfolding is_variant
-one_no_variant c = refl
-
-pub one_no_extension_subtag : (c : ℕ) → is_extension_subtag (c ∷ []) ≡ false
-unfolding is_extension_subtag
-one_no_extension_subtag c = refl
+variant_no_region s h = (first_class AfterVariant s h).2
