@@ -8,9 +8,9 @@ use Rattle.langtag_scan.specs.declared.stage.Stage.TheVariants.{Start, Language,
 use Rattle.langtag_scan.specs.Class.{is_extended, is_script, is_region, is_variant, is_extension_subtag, is_private_subtag, is_primary}
 use Rattle.langtag_scan.specs.Record.{PrivateUse, Extension, Record, IsWellFormedPrivateUse, IsWellFormedExtension, IsWellFormed, extension_flat, one_flat, private_part_flat, flat}
 use Rattle.langtag_scan.specs.Stage.{classes_of, may_end}
-use Rattle.langtag_scan.proofs.Reach.{reached}
+use Rattle.langtag_scan.proofs.Disjoint.{reached}
 use Rattle.langtag_scan.proofs.Runs.{runs}
-use Rattle.langtag_scan.proofs.Steps.{leads_to, may_follow, follows_language, goes_on, goes_on-ends, goes_on-later, goes_on-follows}
+use Rattle.langtag_scan.proofs.Steps.{leads_to, may_follow, next_part, is_next_extended, part_ends, part_follows}
 use Rattle.langtag_scan.proofs.Decoding.{Read, from_private, from_extensions, from_variants, from_region, from_script, from_extended, whole, pending, put, nothing, decode, decode-cons}
 
 -- the stages run over these subtags, and decode them to this
@@ -42,13 +42,13 @@ after_mark (s ∷ ss) some fits = more_decode AfterMark InPrivate s refl fits.0 
 -- ---- the parts, from the last one on, where a tag may go on with any of them
 
 module _ (p : Option PrivateUse) (fits_private : IfSome p IsWellFormedPrivateUse) where
-  private_decodes : (stage : Stage) → goes_on 4 stage ≡ true → Decodes stage (private_part_flat p) (whole (from_private p))
+  private_decodes : (stage : Stage) → next_part stage ≤ 4 → Decodes stage (private_part_flat p) (whole (from_private p))
   private_decodes stage on = by_part p fits_private
     where
       by_part : (q : Option PrivateUse) → IfSome q IsWellFormedPrivateUse → Decodes stage (private_part_flat q) (whole (from_private q))
-      by_part None fits = none_decodes stage (goes_on-ends 4 stage on)
+      by_part None fits = none_decodes stage (part_ends stage (omega arith))
       by_part (Some q) fits =
-          more_decode stage AfterMark (q.mark ∷ []) (goes_on-follows 3 stage AfterMark on refl) fits.mark (after_mark q.subtags fits.some fits.subtags)
+          more_decode stage AfterMark (q.mark ∷ []) (part_follows 4 stage AfterMark on refl) fits.mark (after_mark q.subtags fits.some fits.subtags)
 
   in_extension :
       (es : List Extension) (rest : List (List ℕ)) → Decodes InExtension rest (whole (from_extensions es p)) → (ss : List (List ℕ)) →
@@ -64,53 +64,53 @@ module _ (p : Option PrivateUse) (fits_private : IfSome p IsWellFormedPrivateUse
 
   one_extension :
       (e : Extension) (es : List Extension) (rest : List (List ℕ)) → IsWellFormedExtension e →
-      Decodes InExtension rest (whole (from_extensions es p)) → (stage : Stage) → goes_on 4 stage ≡ true →
+      Decodes InExtension rest (whole (from_extensions es p)) → (stage : Stage) → next_part stage ≤ 4 →
       Decodes stage (extension_flat e ++ rest) (whole (from_extensions (e ∷ es) p))
   one_extension e es rest fits others stage on =
-      more_decode stage AfterSingleton (e.singleton ∷ []) (goes_on-follows 3 stage AfterSingleton on refl) fits.singleton
+      more_decode stage AfterSingleton (e.singleton ∷ []) (part_follows 4 stage AfterSingleton on refl) fits.singleton
       (after_singleton es rest others e.subtags fits.some fits.subtags)
 
   extensions_decode :
-      (es : List Extension) → AllByRecursion IsWellFormedExtension es → (stage : Stage) → goes_on 4 stage ≡ true →
+      (es : List Extension) → AllByRecursion IsWellFormedExtension es → (stage : Stage) → next_part stage ≤ 4 →
       Decodes stage (flat_map extension_flat es ++ private_part_flat p) (whole (from_extensions es p))
   extensions_decode [] fits stage on = private_decodes stage on
   extensions_decode (e ∷ es) fits stage on =
-      rw append_assoc (one_extension e es _ fits.0 (extensions_decode es fits.1 InExtension refl) stage on)
+      rw append_assoc (one_extension e es _ fits.0 (extensions_decode es fits.1 InExtension (omega arith)) stage on)
 
   module _ (es : List Extension) (fits_extensions : AllByRecursion IsWellFormedExtension es) where
     variants_decode :
-        (vs : List (List ℕ)) → AllByRecursion (λ s. IsTrue (is_variant s)) vs → (stage : Stage) → goes_on 3 stage ≡ true →
+        (vs : List (List ℕ)) → AllByRecursion (λ s. IsTrue (is_variant s)) vs → (stage : Stage) → next_part stage ≤ 3 →
         Decodes stage (vs ++ (flat_map extension_flat es ++ private_part_flat p)) (whole (from_variants vs es p))
-    variants_decode [] fits stage on = extensions_decode es fits_extensions stage (goes_on-later 3 stage on)
+    variants_decode [] fits stage on = extensions_decode es fits_extensions stage (omega arith)
     variants_decode (s ∷ vs) fits stage on =
-        more_decode stage AfterVariant s (goes_on-follows 2 stage AfterVariant on refl) fits.0 (variants_decode vs fits.1 AfterVariant refl)
+        more_decode stage AfterVariant s (part_follows 3 stage AfterVariant on refl) fits.0 (variants_decode vs fits.1 AfterVariant (omega arith))
 
     module _ (vs : List (List ℕ)) (fits_variants : AllByRecursion (λ s. IsTrue (is_variant s)) vs) where
       region_decodes :
-          (g : Option (List ℕ)) → IfSome g (λ s. IsTrue (is_region s)) → (stage : Stage) → goes_on 2 stage ≡ true →
+          (g : Option (List ℕ)) → IfSome g (λ s. IsTrue (is_region s)) → (stage : Stage) → next_part stage ≤ 2 →
           Decodes stage (one_flat g ++ (vs ++ (flat_map extension_flat es ++ private_part_flat p))) (whole (from_region g vs es p))
-      region_decodes None fits stage on = variants_decode vs fits_variants stage (goes_on-later 2 stage on)
+      region_decodes None fits stage on = variants_decode vs fits_variants stage (omega arith)
       region_decodes (Some s) fits stage on =
-          more_decode stage AfterRegion s (goes_on-follows 1 stage AfterRegion on refl) fits (variants_decode vs fits_variants AfterRegion refl)
+          more_decode stage AfterRegion s (part_follows 2 stage AfterRegion on refl) fits (variants_decode vs fits_variants AfterRegion (omega arith))
 
       module _ (g : Option (List ℕ)) (fits_region : IfSome g (λ s. IsTrue (is_region s))) where
         script_decodes :
-            (c : Option (List ℕ)) → IfSome c (λ s. IsTrue (is_script s)) → (stage : Stage) → goes_on 1 stage ≡ true →
+            (c : Option (List ℕ)) → IfSome c (λ s. IsTrue (is_script s)) → (stage : Stage) → next_part stage ≤ 1 →
             Decodes stage (one_flat c ++ (one_flat g ++ (vs ++ (flat_map extension_flat es ++ private_part_flat p)))) (whole (from_script c g vs es p))
-        script_decodes None fits stage on = region_decodes g fits_region stage (goes_on-later 1 stage on)
+        script_decodes None fits stage on = region_decodes g fits_region stage (omega arith)
         script_decodes (Some s) fits stage on =
-            more_decode stage AfterScript s (goes_on-follows 0 stage AfterScript on refl) fits (region_decodes g fits_region AfterScript refl)
+            more_decode stage AfterScript s (part_follows 1 stage AfterScript on refl) fits (region_decodes g fits_region AfterScript (omega arith))
 
         module _ (c : Option (List ℕ)) (fits_script : IfSome c (λ s. IsTrue (is_script s))) where
           language_decodes :
               (xs : List (List ℕ)) → AllByRecursion (λ s. IsTrue (is_extended s)) xs → (taken : ℕ) → length xs ≤ 3 - taken →
-              (stage : Stage) → goes_on 1 stage ≡ true → ((after : Stage) → may_follow stage after ≡ follows_language taken after) →
+              (stage : Stage) → next_part stage ≤ 1 → ((more : ℕ) → may_follow stage (Extended more) ≡ is_next_extended taken more) →
               Decodes stage (xs ++ (one_flat c ++ (one_flat g ++ (vs ++ (flat_map extension_flat es ++ private_part_flat p))))) (whole (from_extended xs c g vs es p))
           language_decodes [] fits taken few stage on follows = script_decodes c fits_script stage on
           language_decodes (x ∷ xs) fits taken few stage on follows =
-              let more : follows_language taken (Extended (taken + 1)) ≡ true = rw (eq-eqb (taken + 1) (taken + 1) refl, lt-ltb taken 3 (omega arith)) refl in
-              more_decode stage (Extended (taken + 1)) x (follows (Extended (taken + 1)) ∙ more) fits.0
-              (language_decodes xs fits.1 (taken + 1) (omega arith) (Extended (taken + 1)) refl (λ after. refl))
+              let next : is_next_extended taken (taken + 1) ≡ true = rw (eq-eqb (taken + 1) (taken + 1) refl, lt-ltb taken 3 (omega arith)) refl in
+              more_decode stage (Extended (taken + 1)) x (follows (taken + 1) ∙ next) fits.0
+              (language_decodes xs fits.1 (taken + 1) (omega arith) (Extended (taken + 1)) (omega arith) (λ more. refl))
 
 -- how many extended subtags stand after a primary one
 few_extended : (n : ℕ) (xs : List (List ℕ)) → length xs ≤ 3 → ((n ≤ 3) ⊎ (xs ≡ [])) → length xs ≤ 3 - cond (leb n 3) 0 3
@@ -124,7 +124,7 @@ decode_complete r fits =
     let few = few_extended (length r.primary) r.extended fits.few fits.short in
     more_decode Start (Language taken) r.primary refl (and_from (is_primary r.primary) (eqb taken taken) fits.primary (eq-eqb taken taken refl))
     (language_decodes r.private_use fits.private_use r.extensions fits.extensions r.variants fits.variants r.region fits.region r.script fits.script
-    r.extended fits.extended taken few (Language taken) refl (λ after. refl))
+    r.extended fits.extended taken few (Language taken) (omega arith) (λ more. refl))
 
 -- no two well-formed records have the same subtags
 pub flat_once : (r q : Record) → IsWellFormed r → IsWellFormed q → flat r ≡ flat q → r ≡ q

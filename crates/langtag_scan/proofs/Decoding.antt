@@ -1,19 +1,20 @@
 -- The subtags over which the stages run are those of the parts of a record, which is found from the last subtag on.
-use Rattle.std.proofs.Common.{◌≡◌, ℕ, suc, zero, ◌+◌, ◌-◌, ◌≤◌, cond, true, false, leb, ltb, eqb, List, [], ◌∷◌, ◌++◌, length, get_or, Option, Some, None, ◌⊎◌, inl, inr, refl, sym, ap, ◌∙◌, arith}
+use Rattle.std.proofs.Common.{◌≡◌, ℕ, suc, zero, ◌-◌, ◌≤◌, cond, true, false, leb, eqb, List, [], ◌∷◌, ◌++◌, length, get_or, Option, Some, None, ◌⊎◌, inl, inr, refl, sym, ap, ◌∙◌, arith}
 use Rattle.std.specs.Prelude.{IsTrue, IfSome, ⊤}
 use Rattle.std.specs.List.{AllByRecursion, flat_map}
 use Rattle.std.specs.Option.{option_map_or}
-use Rattle.std.proofs.lemmas.Bool.{and_parts, ltb-true, eqb-true}
+use Rattle.std.proofs.lemmas.Bool.{and_parts, eqb-true}
 use Rattle.std.proofs.lemmas.Bool.{leb-true}
+use Rattle.std.proofs.lemmas.Bool.Decides.{nat_tests}
 use Rattle.std.proofs.lemmas.List.{nil_from_length}
 use Rattle.langtag_scan.specs.declared.stage.Stage.{Stage}
-use Rattle.langtag_scan.specs.declared.stage.Stage.TheVariants.{Start, Language, Extended, AfterScript, AfterRegion, AfterVariant, AfterSingleton, InExtension, AfterMark, InPrivate, AfterFirstMark, InPrivateTag}
+use Rattle.langtag_scan.specs.declared.stage.Stage.TheVariants.{Start, Language, Extended, AfterScript, AfterRegion, AfterVariant, AfterSingleton, InExtension, AfterMark, InPrivate}
 use Rattle.langtag_scan.specs.Class.{is_primary, is_extended, is_script, is_region, is_variant, is_extension_subtag, is_private_subtag}
 use Rattle.langtag_scan.specs.Record.{PrivateUse, Extension, Record, IsWellFormedPrivateUse, IsWellFormedExtension, extension_flat, one_flat, private_part_flat}
 use Rattle.langtag_scan.specs.Stage.{classes_of, next_stage, may_end}
 use Rattle.langtag_scan.proofs.BoolFacts.{chosen}
 use Rattle.langtag_scan.proofs.Runs.{runs}
-use Rattle.langtag_scan.proofs.Steps.{leads_to, may_follow, place, next_step, first_place, places, opens_from, opens, follows_language}
+use Rattle.langtag_scan.proofs.Steps.{leads_to, may_follow, place, next_step, opens_from, opens_place, is_next_extended}
 
 -- ---- from the subtags to the parts
 
@@ -119,14 +120,21 @@ add k s [] = []
 add zero s (b ∷ bs) = (s ∷ b) ∷ bs
 add (suc k) s (b ∷ bs) = [] ∷ add k s bs
 
+abbrev in_extensions : Read → List (List (List ℕ))
+in_extensions b =
+    [] ∷ [] ∷ [] ∷ [] ∷ (b.after ++ flat_map extension_flat b.parts.extensions) ∷ private_part_flat b.parts.private_use ∷ []
+
 -- what was read after a stage, by parts
 abbrev pub by_part : Stage → Read → List (List (List ℕ))
 by_part Start b = blocks (b.parts.primary ∷ b.parts.extended) b.parts
-by_part AfterSingleton b = [] ∷ [] ∷ [] ∷ [] ∷ (b.after ++ flat_map extension_flat b.parts.extensions) ∷ private_part_flat b.parts.private_use ∷ []
-by_part InExtension b = [] ∷ [] ∷ [] ∷ [] ∷ (b.after ++ flat_map extension_flat b.parts.extensions) ∷ private_part_flat b.parts.private_use ∷ []
-by_part AfterMark b = [] ∷ [] ∷ [] ∷ [] ∷ [] ∷ b.after ∷ []
-by_part InPrivate b = [] ∷ [] ∷ [] ∷ [] ∷ [] ∷ b.after ∷ []
-by_part stage b = from_part (first_place stage) (blocks b.parts.extended b.parts)
+by_part (Language taken) b = blocks b.parts.extended b.parts
+by_part (Extended taken) b = blocks b.parts.extended b.parts
+by_part AfterScript b = from_part 2 (blocks b.parts.extended b.parts)
+by_part AfterRegion b = from_part 3 (blocks b.parts.extended b.parts)
+by_part AfterVariant b = from_part 3 (blocks b.parts.extended b.parts)
+by_part AfterSingleton b = in_extensions b
+by_part InExtension b = in_extensions b
+by_part _ b = [] ∷ [] ∷ [] ∷ [] ∷ [] ∷ b.after ∷ []
 
 pub flatten-add : (after : Stage) (s : List ℕ) (b : Read) → flatten (add (place after) s (by_part after b)) ≡ s ∷ flatten (by_part after b)
 flatten-add Start s b = refl
@@ -141,37 +149,39 @@ from_part-add (suc k) (suc j) s (b ∷ bs) before = ap (λ cs. [] ∷ cs) (from_
 
 -- a subtag is put before those of its part
 blocks_put :
-    (after : Stage) (s : List ℕ) (b : Read) → opens_from 0 after ≡ true → leads_to after (classes_of s) ≡ true →
+    (k : ℕ) (after : Stage) (s : List ℕ) (b : Read) → opens_from k after ≡ true → leads_to after (classes_of s) ≡ true →
     blocks (put after s b).parts.extended (put after s b).parts ≡ add (place after) s (by_part after b)
-blocks_put AfterSingleton [] b opening class = absurd cc
-blocks_put AfterSingleton (c ∷ []) b opening class = refl
-blocks_put AfterSingleton (c ∷ d ∷ s) b opening class = absurd cc
-blocks_put AfterMark [] b opening class = absurd cc
-blocks_put AfterMark (c ∷ []) b opening class = refl
-blocks_put AfterMark (c ∷ d ∷ s) b opening class = absurd cc
-blocks_put _ s b opening class = cc
+blocks_put k AfterSingleton (c ∷ []) b opening class = refl
+blocks_put k AfterSingleton _ b opening class = absurd cc
+blocks_put k AfterMark (c ∷ []) b opening class = refl
+blocks_put k AfterMark _ b opening class = absurd cc
+blocks_put k _ s b opening class = cc
 
--- seen from the stage before, too
+-- seen from a stage before, too
+from_part-put :
+    (k : ℕ) (after : Stage) (s : List ℕ) (b : Read) → opens_from k after ≡ true → leads_to after (classes_of s) ≡ true →
+    from_part k (blocks (put after s b).parts.extended (put after s b).parts) ≡ add (place after) s (by_part after b)
+from_part-put k after s b opening class =
+    ap (from_part k) (blocks_put k after s b opening class) ∙ from_part-add k (place after) s (by_part after b) (opens_place k after opening)
+
 pub by_part-put :
     (stage after : Stage) (s : List ℕ) (b : Read) → may_follow stage after ≡ true → leads_to after (classes_of s) ≡ true →
     by_part stage (put after s b) ≡ add (place after) s (by_part after b)
-by_part-put InExtension AfterSingleton s b follows class = blocks_put AfterSingleton s b refl class
-by_part-put InExtension AfterMark s b follows class = blocks_put AfterMark s b refl class
-by_part-put InExtension InExtension s b follows class = refl
-by_part-put InExtension _ s b follows class = absurd cc
 by_part-put Start (Language taken) s b follows class = refl
-by_part-put Start _ s b follows class = absurd cc
+by_part-put (Language taken) (Extended more) s b follows class = refl
+by_part-put (Extended taken) (Extended more) s b follows class = refl
 by_part-put AfterSingleton InExtension s b follows class = refl
-by_part-put AfterSingleton _ s b follows class = absurd cc
+by_part-put InExtension InExtension s b follows class = refl
 by_part-put AfterMark InPrivate s b follows class = refl
-by_part-put AfterMark _ s b follows class = absurd cc
 by_part-put InPrivate InPrivate s b follows class = refl
-by_part-put InPrivate _ s b follows class = absurd cc
-by_part-put AfterFirstMark after s b follows class = absurd cc
-by_part-put InPrivateTag after s b follows class = absurd cc
-by_part-put stage after s b follows class =
-    ap (from_part (first_place stage)) (blocks_put after s b (opens stage after refl refl follows) class)
-    ∙ from_part-add (first_place stage) (place after) s (by_part after b) (places stage after follows)
+by_part-put InExtension InPrivate s b follows class = absurd cc
+by_part-put (Language taken) after s b follows class = blocks_put 1 after s b follows class
+by_part-put (Extended taken) after s b follows class = blocks_put 1 after s b follows class
+by_part-put AfterScript after s b follows class = from_part-put 2 after s b follows class
+by_part-put AfterRegion after s b follows class = from_part-put 3 after s b follows class
+by_part-put AfterVariant after s b follows class = from_part-put 3 after s b follows class
+by_part-put InExtension after s b follows class = from_part-put 4 after s b follows class
+by_part-put _ _ s b follows class = absurd cc
 
 -- ---- members of their classes
 
@@ -219,30 +229,29 @@ few_after s taken xs class few =
     let at : taken ≡ cond (leb (length s) 3) 0 3 = eqb-true _ _ k.1 in
     (k.0, omega arith, elim (chosen (leb (length s) 3) 0 3 taken (sym at)) [ inl h ↦ inl (leb-true _ _ h.0) | inr h ↦ inr (nil_from_length xs (omega arith)) ])
 
-few_put :
-    (taken : ℕ) (after : Stage) (s : List ℕ) (b : Read) → follows_language taken after ≡ true → Ready after b →
-    length (put after s b).parts.extended ≤ 3 - taken
-few_put taken (Extended more) s b follows ready =
-    let k = and_parts (eqb more (taken + 1)) (ltb taken 3) follows in omega (arith, eqb-true more (taken + 1) k.0, ltb-true taken 3 k.1)
-few_put taken (Language more) s b follows ready = absurd cc
-few_put taken _ s b follows ready = omega arith
+one_more : (taken more : ℕ) (xs : List (List ℕ)) → is_next_extended taken more ≡ true → length xs ≤ 3 - more → suc (length xs) ≤ 3 - taken
+one_more taken more xs next few = grind (arith, nat_tests)
 
-Ready-put : (stage after : Stage) (s : List ℕ) (b : Read) → may_follow stage after ≡ true → leads_to after (classes_of s) ≡ true → Ready after b → Ready stage (put after s b)
+Ready-put :
+    (stage after : Stage) (s : List ℕ) (b : Read) → may_follow stage after ≡ true → leads_to after (classes_of s) ≡ true →
+    Ready after b → Ready stage (put after s b)
 Ready-put Start (Language taken) s b follows class ready = few_after s taken b.parts.extended class ready
-Ready-put Start _ s b follows class ready = absurd cc
-Ready-put (Language taken) after s b follows class ready = few_put taken after s b follows ready
-Ready-put (Extended taken) after s b follows class ready = few_put taken after s b follows ready
+Ready-put (Language taken) (Extended more) s b follows class ready = one_more taken more b.parts.extended follows ready
+Ready-put (Extended taken) (Extended more) s b follows class ready = one_more taken more b.parts.extended follows ready
 Ready-put AfterSingleton InExtension s b follows class ready = ((class, ready), omega arith)
-Ready-put AfterSingleton _ s b follows class ready = absurd cc
 Ready-put InExtension InExtension s b follows class ready = (class, ready)
+Ready-put AfterMark InPrivate s b follows class ready = ((class, ready), omega arith)
+Ready-put InPrivate InPrivate s b follows class ready = (class, ready)
+Ready-put (Language taken) (Language more) s b follows class ready = absurd cc
+Ready-put (Extended taken) (Language more) s b follows class ready = absurd cc
+Ready-put (Language taken) _ s b follows class ready = omega arith
+Ready-put (Extended taken) _ s b follows class ready = omega arith
 Ready-put InExtension AfterSingleton s b follows class ready = tt
 Ready-put InExtension AfterMark s b follows class ready = tt
-Ready-put InExtension _ s b follows class ready = absurd cc
-Ready-put AfterMark InPrivate s b follows class ready = ((class, ready), omega arith)
-Ready-put AfterMark _ s b follows class ready = absurd cc
-Ready-put InPrivate InPrivate s b follows class ready = (class, ready)
-Ready-put InPrivate _ s b follows class ready = absurd cc
-Ready-put _ after s b follows class ready = tt
+Ready-put AfterScript _ s b follows class ready = tt
+Ready-put AfterRegion _ s b follows class ready = tt
+Ready-put AfterVariant _ s b follows class ready = tt
+Ready-put _ _ s b follows class ready = absurd cc
 
 -- what is decoded is well formed, and spelled so
 pub record IsSound (stage : Stage) (ss : List (List ℕ)) (b : Read) : Type 0 where

@@ -1,15 +1,15 @@
 -- The classes of subtags that may stand at one place have no member in common.
-use Rattle.std.proofs.Common.{◌≡◌, ℕ, ◌≤◌, true, false, eqb, not, ◌&&◌, List, [], ◌∷◌, length, refl, ap, arith, inl, inr, ◌⊎◌}
+use Rattle.std.proofs.Common.{◌≡◌, Some, ℕ, ◌≤◌, true, false, eqb, not, ◌&&◌, List, [], ◌∷◌, length, refl, ap, arith, inl, inr, ◌⊎◌}
 use Rattle.std.proofs.lemmas.Bool.{eqb-true, and_parts, or_cases, false_from_ne_true}
 use Rattle.std.specs.Int.{is_in_range}
 use Rattle.std.specs.Prelude.{⊤}
 use Rattle.std.proofs.lemmas.Bool.Decides.{nat_tests}
 use Rattle.langtag_scan.specs.Class.{is_letter, is_digit, is_alphanumeric, has_length, are_letters, are_digits, are_alphanumeric, starts_with_digit, is_extended, is_script, is_region, is_variant, is_extension_subtag, is_mark, is_singleton}
-use Rattle.langtag_scan.specs.Stage.{Classes, classes_of}
+use Rattle.langtag_scan.specs.Stage.{Classes, classes_of, next_stage}
 use Rattle.langtag_scan.specs.declared.stage.Stage.{Stage}
 use Rattle.langtag_scan.specs.declared.stage.Stage.TheVariants.{AfterScript, AfterRegion, AfterVariant, AfterSingleton, AfterMark}
 use Rattle.langtag_scan.proofs.BoolFacts.{between_true}
-use Rattle.langtag_scan.proofs.Steps.{leads_to}
+use Rattle.langtag_scan.proofs.Steps.{leads_to, may_follow}
 
 pub letter_no_digit : (b : ℕ) → is_letter b ≡ true → is_digit b ≡ true → ⊥
 unfolding is_letter is_digit
@@ -90,3 +90,9 @@ variant_no_script s h = (first_class AfterVariant s h).1
 
 pub variant_no_region : (s : List ℕ) → is_variant s ≡ true → is_region s ≡ false
 variant_no_region s h = (first_class AfterVariant s h).2
+
+-- so a subtag of the class of a stage leads there, where the stage may follow
+pub reached :
+    (stage after : Stage) (s : List ℕ) → may_follow stage after ≡ true → leads_to after (classes_of s) ≡ true →
+    next_stage stage s ≡ Some after
+reached stage after s follows class = let first = first_class after s class in grind (arith, nat_tests, follows, class, first)

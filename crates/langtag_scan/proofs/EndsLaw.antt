@@ -17,7 +17,7 @@ use Rattle.langtag_scan.proofs.PartOffsets.{ends_equal}
 use Rattle.langtag_scan.proofs.Running.{ends_after-cons}
 use Rattle.langtag_scan.proofs.Runs.{runs, ends_after}
 use Rattle.langtag_scan.proofs.StageLaws.{is_outside, next_inside}
-use Rattle.langtag_scan.proofs.Steps.{place, first_place, places, next_step, may_follow, leads_to}
+use Rattle.langtag_scan.proofs.Steps.{place, places, next_step, may_follow, leads_to}
 
 -- ---- ends in a list
 
@@ -79,7 +79,7 @@ end_at-listed _ p e = refl
 
 -- the parts in which the next subtag may stand end where the text does
 abbrev AreOpen : Stage → Ends → Type 0
-AreOpen stage e = all_from (first_place stage) e.whole (listed e) ≡ listed e
+AreOpen stage e = all_from (place stage) e.whole (listed e) ≡ listed e
 
 AreOpen-after : (after : Stage) (p : ℕ) (e : Ends) → AreOpen after (end_at after p e)
 AreOpen-after Start p e = refl
@@ -106,7 +106,7 @@ one_subtag :
 one_subtag stage after e s b follows class open_here =
     let j = place after in
     let from_here : all_from j e.whole (listed e) ≡ listed e =
-    ap (all_from j e.whole) (sym open_here) ∙ all_from-again j (first_place stage) e.whole (listed e) (places stage after follows) ∙ open_here in
+    ap (all_from j e.whole) (sym open_here) ∙ all_from-again j (place stage) e.whole (listed e) (places stage after follows) ∙ open_here in
     ap (λ es. later 0 es (by_part after b)) (end_at-listed after (e.whole + (1 + length s)) e)
     ∙ ap (later 0 (all_from j (e.whole + (1 + length s)) (listed e))) (sym (none_before after b))
     ∙ later-add j e.whole s (listed e) (by_part after b) (omega (arith, six_parts after b))

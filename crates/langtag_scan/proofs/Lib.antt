@@ -13,7 +13,6 @@ mod Unnamed
 mod Filling
 mod PrivateTexts
 mod Steps
-mod Reach
 mod StageLaws
 mod ReadingLaws
 mod EndsLaw

@@ -1,7 +1,5 @@
 -- A private text is a mark, a hyphen, and subtags over which the stages run from after a mark; no other text is.
-use Rattle.std.proofs.Common.{Bool, append-nil, ◌≡◌, ℕ, ◌≤◌, true, false, ◌&&◌, List, [], ◌∷◌, length, refl, sym, ap, ◌∙◌, arith}
-use Rattle.std.specs.Prelude.{IsTrue}
-use Rattle.std.specs.List.{AllByRecursion}
+use Rattle.std.proofs.Common.{Bool, append-nil, ◌≡◌, ℕ, true, false, ◌&&◌, List, [], ◌∷◌, refl, sym, ap, ◌∙◌}
 use Rattle.std.proofs.lemmas.Bool.{and_parts, and_from}
 use Rattle.std.proofs.lemmas.List.Splits.{join_with_byte-slice_split}
 use Rattle.langtag_scan.specs.declared.stage.Stage.TheVariants.{AfterMark}
@@ -13,7 +11,6 @@ use Rattle.langtag_scan.proofs.Decoding.{decode, decode_sound}
 use Rattle.langtag_scan.proofs.Complete.{after_mark}
 use Rattle.langtag_scan.proofs.SubtagLists.{segments-joined, each_subtag}
 use Rattle.langtag_scan.proofs.SubtagFacts.{of_one, mark_alphanumeric, of_private_subtag}
-use Rattle.langtag_scan.proofs.Running.{segments-hyphen}
 use Rattle.langtag_scan.proofs.Runs.{runs}
 
 -- whether the subtags are a mark and what may follow it

@@ -33,74 +33,55 @@ place AfterSingleton = 4
 place InExtension = 4
 place _ = 5
 
--- the subtag is one of the last that may stand in a part or opens the next one, and its part is this one or a later one
+-- the first part that the next subtag may open, and 6 where it may open none
+abbrev pub next_part : Stage → ℕ
+next_part (Language taken) = 1
+next_part (Extended taken) = 1
+next_part AfterScript = 2
+next_part AfterRegion = 3
+next_part AfterVariant = 3
+next_part InExtension = 4
+next_part _ = 6
+
+-- the subtag opens a part, or is a variant, and the part is this one or a later one
 abbrev pub opens_from : ℕ → Stage → Bool
-opens_from k (Extended taken) = leb k 0
 opens_from k AfterScript = leb k 1
 opens_from k AfterRegion = leb k 2
 opens_from k AfterVariant = leb k 3
-opens_from k AfterSingleton = true
-opens_from k AfterMark = true
+opens_from k AfterSingleton = leb k 4
+opens_from k AfterMark = leb k 5
 opens_from k _ = false
 
-abbrev pub follows_language : ℕ → Stage → Bool
-follows_language taken (Extended more) = eqb more (taken + 1) && ltb taken 3
-follows_language taken after = opens_from 1 after
+abbrev pub is_next_extended : ℕ → ℕ → Bool
+is_next_extended taken more = eqb more (taken + 1) && ltb taken 3
 
 -- whether the second stage may come after the first in a normal tag
 abbrev pub may_follow : Stage → Stage → Bool
 may_follow Start (Language taken) = true
-may_follow (Language taken) after = follows_language taken after
-may_follow (Extended taken) after = follows_language taken after
-may_follow AfterScript after = opens_from 2 after
-may_follow AfterRegion after = opens_from 3 after
-may_follow AfterVariant after = opens_from 3 after
+may_follow (Language taken) (Extended more) = is_next_extended taken more
+may_follow (Extended taken) (Extended more) = is_next_extended taken more
 may_follow AfterSingleton InExtension = true
 may_follow InExtension InExtension = true
-may_follow InExtension after = opens_from 4 after
 may_follow AfterMark InPrivate = true
 may_follow InPrivate InPrivate = true
-may_follow _ _ = false
+may_follow AfterFirstMark after = false
+may_follow InPrivateTag after = false
+may_follow stage after = opens_from (next_part stage) after
 
--- the first part in which the next subtag may stand
-abbrev pub first_place : Stage → ℕ
-first_place Start = 0
-first_place (Language taken) = 0
-first_place (Extended taken) = 0
-first_place AfterScript = 2
-first_place AfterRegion = 3
-first_place AfterVariant = 3
-first_place AfterSingleton = 4
-first_place InExtension = 4
-first_place _ = 5
-
--- it stands in none before
-pub places : (stage after : Stage) → may_follow stage after ≡ true → first_place stage ≤ place after
+-- the parts do not go back
+pub places : (stage after : Stage) → may_follow stage after ≡ true → place stage ≤ place after
 places _ _ h = grind (arith, nat_tests)
 
-pub opens :
-    (stage after : Stage) → may_end stage ≡ true → leb (first_place stage) 3 ≡ true → may_follow stage after ≡ true →
-    opens_from 0 after ≡ true
-opens _ _ ends low h = grind (arith, nat_tests)
+-- a tag may end where a part may follow
+pub part_ends : (stage : Stage) → next_part stage ≤ 5 → may_end stage ≡ true
+part_ends _ h = grind (arith, nat_tests)
 
--- a tag may end here, or go on with any part from this one on
-abbrev pub goes_on : ℕ → Stage → Bool
-goes_on k Start = false
-goes_on k AfterSingleton = false
-goes_on k AfterMark = false
-goes_on k InPrivate = false
-goes_on k AfterFirstMark = false
-goes_on k InPrivateTag = false
-goes_on k stage = leb (first_place stage) k
+-- that part, or a later one
+pub part_follows : (k : ℕ) (stage after : Stage) → next_part stage ≤ k → opens_from k after ≡ true → may_follow stage after ≡ true
+part_follows k _ _ h h' = grind (arith, nat_tests)
 
-pub goes_on-ends : (k : ℕ) (stage : Stage) → goes_on k stage ≡ true → may_end stage ≡ true
-goes_on-ends k _ h = grind (arith, nat_tests)
-
-pub goes_on-later : (k : ℕ) (stage : Stage) → goes_on k stage ≡ true → goes_on (k + 1) stage ≡ true
-goes_on-later k _ h = grind (arith, nat_tests)
-
-pub goes_on-follows : (k : ℕ) (stage after : Stage) → goes_on (k + 1) stage ≡ true → opens_from (k + 1) after ≡ true → may_follow stage after ≡ true
-goes_on-follows k _ _ h h' = grind (arith, nat_tests)
+pub opens_place : (k : ℕ) (after : Stage) → opens_from k after ≡ true → k ≤ place after
+opens_place k _ h = grind (arith, nat_tests)
 
 abbrev is_led : Classes → Option Stage → Bool
 is_led c None = true
