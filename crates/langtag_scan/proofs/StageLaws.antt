@@ -1,5 +1,5 @@
 -- The stages: what comes after a subtag, where it ends, and which bytes it may hold.
-use Rattle.std.proofs.Common.{◌≡◌, ℕ, ◌+◌, ◌≤◌, Bool, true, false, ◌||◌, ◌⊎◌, List, [], ◌∷◌, ◌++◌, length, Some, inl, inr, refl, ap, ◌∙◌, arith}
+use Rattle.std.proofs.Common.{◌≡◌, ℕ, ◌+◌, ◌≤◌, Bool, true, false, ◌⊎◌, List, [], ◌∷◌, ◌++◌, length, Some, inl, inr, refl, ap, arith}
 use Rattle.std.proofs.lemmas.List.{length_push}
 use Rattle.langtag_scan.specs.Class.{is_letter, is_digit, is_alphanumeric}
 use Rattle.langtag_scan.specs.Stage.{classes_of, next_stage, after_stage}
@@ -77,8 +77,5 @@ held_later _ b later = refl
 
 -- nothing but a letter or a digit
 pub nothing_held : (stage : Stage) (b : ℕ) → is_letter b ≡ false → is_digit b ≡ false → may_hold stage b ≡ false
-nothing_held stage b l d =
-    elim (starting stage) [
-      | inl first ↦ rw first l
-      | inr later ↦ held_later stage b later ∙ ap (λ v. v || is_digit b) l ∙ d
-    ]
+nothing_held Start b l d = l
+nothing_held _ b l d = rw (l, d) refl
