@@ -14,7 +14,7 @@ use Rattle.langtag_scan.specs.Record.{PrivateUse, Extension, Record, IsWellForme
 use Rattle.langtag_scan.specs.Stage.{classes_of, next_stage, may_end}
 use Rattle.langtag_scan.proofs.BoolFacts.{chosen}
 use Rattle.langtag_scan.proofs.Runs.{runs}
-use Rattle.langtag_scan.proofs.Steps.{leads_to, may_follow, place, next_step, opens_from, opens_place, is_next_extended}
+use Rattle.langtag_scan.proofs.Steps.{leads_to, may_follow, place, next_step, opens_from, is_next_extended}
 
 -- ---- from the subtags to the parts
 
@@ -140,48 +140,11 @@ pub flatten-add : (after : Stage) (s : List ℕ) (b : Read) → flatten (add (pl
 flatten-add Start s b = refl
 flatten-add _ s b = refl
 
-from_part-add : (k j : ℕ) (s : List ℕ) (bs : List (List (List ℕ))) → k ≤ j → from_part k (add j s bs) ≡ add j s bs
-from_part-add k j s [] before = refl
-from_part-add zero zero s (b ∷ bs) before = refl
-from_part-add zero (suc j) s (b ∷ bs) before = refl
-from_part-add (suc k) zero s (b ∷ bs) before = absurd (omega arith)
-from_part-add (suc k) (suc j) s (b ∷ bs) before = ap (λ cs. [] ∷ cs) (from_part-add k j s bs (omega arith))
-
 -- a subtag is put before those of its part
-blocks_put :
-    (k : ℕ) (after : Stage) (s : List ℕ) (b : Read) → opens_from k after ≡ true → leads_to after (classes_of s) ≡ true →
-    blocks (put after s b).parts.extended (put after s b).parts ≡ add (place after) s (by_part after b)
-blocks_put k AfterSingleton (c ∷ []) b opening class = refl
-blocks_put k AfterSingleton _ b opening class = absurd cc
-blocks_put k AfterMark (c ∷ []) b opening class = refl
-blocks_put k AfterMark _ b opening class = absurd cc
-blocks_put k _ s b opening class = cc
-
--- seen from a stage before, too
-from_part-put :
-    (k : ℕ) (after : Stage) (s : List ℕ) (b : Read) → opens_from k after ≡ true → leads_to after (classes_of s) ≡ true →
-    from_part k (blocks (put after s b).parts.extended (put after s b).parts) ≡ add (place after) s (by_part after b)
-from_part-put k after s b opening class =
-    ap (from_part k) (blocks_put k after s b opening class) ∙ from_part-add k (place after) s (by_part after b) (opens_place k after opening)
-
 pub by_part-put :
     (stage after : Stage) (s : List ℕ) (b : Read) → may_follow stage after ≡ true → leads_to after (classes_of s) ≡ true →
     by_part stage (put after s b) ≡ add (place after) s (by_part after b)
-by_part-put Start (Language taken) s b follows class = refl
-by_part-put (Language taken) (Extended more) s b follows class = refl
-by_part-put (Extended taken) (Extended more) s b follows class = refl
-by_part-put AfterSingleton InExtension s b follows class = refl
-by_part-put InExtension InExtension s b follows class = refl
-by_part-put AfterMark InPrivate s b follows class = refl
-by_part-put InPrivate InPrivate s b follows class = refl
-by_part-put InExtension InPrivate s b follows class = absurd cc
-by_part-put (Language taken) after s b follows class = blocks_put 1 after s b follows class
-by_part-put (Extended taken) after s b follows class = blocks_put 1 after s b follows class
-by_part-put AfterScript after s b follows class = from_part-put 2 after s b follows class
-by_part-put AfterRegion after s b follows class = from_part-put 3 after s b follows class
-by_part-put AfterVariant after s b follows class = from_part-put 3 after s b follows class
-by_part-put InExtension after s b follows class = from_part-put 4 after s b follows class
-by_part-put _ _ s b follows class = absurd cc
+by_part-put stage after s b follows class = grind (arith, nat_tests, follows, class)
 
 -- ---- members of their classes
 
@@ -207,51 +170,19 @@ FitParts r =
     × IfSome r.private_use IsWellFormedPrivateUse
 
 FitParts-put : (after : Stage) (s : List ℕ) (b : Read) → leads_to after (classes_of s) ≡ true → Ready after b → FitParts b.parts → FitParts (put after s b).parts
-FitParts-put (Language taken) s b class ready fit = fit
-FitParts-put (Extended taken) s b class ready fit = ((class, fit.0), fit.1, fit.2, fit.3, fit.4, fit.5)
-FitParts-put AfterScript s b class ready fit = (tt, class, fit.2, fit.3, fit.4, fit.5)
-FitParts-put AfterRegion s b class ready fit = (tt, tt, class, fit.3, fit.4, fit.5)
-FitParts-put AfterVariant s b class ready fit = (tt, tt, tt, (class, fit.3), fit.4, fit.5)
-FitParts-put AfterSingleton (c ∷ []) b class ready fit = (tt, tt, tt, tt, (record { singleton = class; some = ready.1; subtags = ready.0 }, fit.4), fit.5)
-FitParts-put AfterSingleton _ b class ready fit = absurd cc
-FitParts-put InExtension s b class ready fit = (tt, tt, tt, tt, fit.4, fit.5)
-FitParts-put AfterMark (c ∷ []) b class ready fit = (tt, tt, tt, tt, tt, record { mark = class; some = ready.1; subtags = ready.0 })
-FitParts-put AfterMark _ b class ready fit = absurd cc
-FitParts-put Start s b class ready fit = absurd cc
-FitParts-put _ s b class ready fit = (tt, tt, tt, tt, tt, tt)
+FitParts-put after s b class ready fit = grind (arith, nat_tests, class, ready, fit)
 
 -- extended subtags stand after a primary one where it leaves places for them
 few_after :
     (s : List ℕ) (taken : ℕ) (xs : List (List ℕ)) → leads_to (Language taken) (classes_of s) ≡ true → length xs ≤ 3 - taken →
     IsTrue (is_primary s) × (length xs ≤ 3) × ((length s ≤ 3) ⊎ (xs ≡ []))
-few_after s taken xs class few =
-    let k = and_parts (is_primary s) (eqb taken (cond (leb (length s) 3) 0 3)) class in
-    let at : taken ≡ cond (leb (length s) 3) 0 3 = eqb-true _ _ k.1 in
-    (k.0, omega arith, elim (chosen (leb (length s) 3) 0 3 taken (sym at)) [ inl h ↦ inl (leb-true _ _ h.0) | inr h ↦ inr (nil_from_length xs (omega arith)) ])
-
-one_more : (taken more : ℕ) (xs : List (List ℕ)) → is_next_extended taken more ≡ true → length xs ≤ 3 - more → suc (length xs) ≤ 3 - taken
-one_more taken more xs next few = grind (arith, nat_tests)
+few_after s taken xs class few = grind (arith, nat_tests, nil_from_length)
 
 Ready-put :
     (stage after : Stage) (s : List ℕ) (b : Read) → may_follow stage after ≡ true → leads_to after (classes_of s) ≡ true →
     Ready after b → Ready stage (put after s b)
 Ready-put Start (Language taken) s b follows class ready = few_after s taken b.parts.extended class ready
-Ready-put (Language taken) (Extended more) s b follows class ready = one_more taken more b.parts.extended follows ready
-Ready-put (Extended taken) (Extended more) s b follows class ready = one_more taken more b.parts.extended follows ready
-Ready-put AfterSingleton InExtension s b follows class ready = ((class, ready), omega arith)
-Ready-put InExtension InExtension s b follows class ready = (class, ready)
-Ready-put AfterMark InPrivate s b follows class ready = ((class, ready), omega arith)
-Ready-put InPrivate InPrivate s b follows class ready = (class, ready)
-Ready-put (Language taken) (Language more) s b follows class ready = absurd cc
-Ready-put (Extended taken) (Language more) s b follows class ready = absurd cc
-Ready-put (Language taken) _ s b follows class ready = omega arith
-Ready-put (Extended taken) _ s b follows class ready = omega arith
-Ready-put InExtension AfterSingleton s b follows class ready = tt
-Ready-put InExtension AfterMark s b follows class ready = tt
-Ready-put AfterScript _ s b follows class ready = tt
-Ready-put AfterRegion _ s b follows class ready = tt
-Ready-put AfterVariant _ s b follows class ready = tt
-Ready-put _ _ s b follows class ready = absurd cc
+Ready-put stage after s b follows class ready = grind (arith, nat_tests, follows, class, ready)
 
 -- what is decoded is well formed, and spelled so
 pub record IsSound (stage : Stage) (ss : List (List ℕ)) (b : Read) : Type 0 where
@@ -260,12 +191,7 @@ pub record IsSound (stage : Stage) (ss : List (List ℕ)) (b : Read) : Type 0 wh
   pub spells : flatten (by_part stage b) ≡ ss
 
 nothing_sound : (stage : Stage) → may_end stage ≡ true → IsSound stage [] nothing
-nothing_sound Start ends = absurd cc
-nothing_sound AfterSingleton ends = absurd cc
-nothing_sound AfterMark ends = absurd cc
-nothing_sound (Language taken) ends = record { ready = omega arith; fit = (tt, tt, tt, tt, tt, tt); spells = refl }
-nothing_sound (Extended taken) ends = record { ready = omega arith; fit = (tt, tt, tt, tt, tt, tt); spells = refl }
-nothing_sound _ ends = record { ready = tt; fit = (tt, tt, tt, tt, tt, tt); spells = refl }
+nothing_sound stage ends = record { ready = grind (arith, nat_tests, ends); fit = (tt, tt, tt, tt, tt, tt); spells = grind (arith, nat_tests, ends) }
 
 put_sound :
     (stage after : Stage) (s : List ℕ) (ss : List (List ℕ)) (b : Read) → may_follow stage after ≡ true →

@@ -80,9 +80,6 @@ part_ends _ h = grind (arith, nat_tests)
 pub part_follows : (k : ℕ) (stage after : Stage) → next_part stage ≤ k → opens_from k after ≡ true → may_follow stage after ≡ true
 part_follows k _ _ h h' = grind (arith, nat_tests)
 
-pub opens_place : (k : ℕ) (after : Stage) → opens_from k after ≡ true → k ≤ place after
-opens_place k _ h = grind (arith, nat_tests)
-
 abbrev is_led : Classes → Option Stage → Bool
 is_led c None = true
 is_led c (Some after) = leads_to after c
