@@ -15,9 +15,8 @@ use Rattle.langtag_scan.specs.Record.{flat, private_use_flat}
 use Rattle.langtag_scan.specs.Subtags.{join}
 use Rattle.langtag_scan.specs.Tag.{IsNormal, IsPrivate, IsIrregular, IsTag}
 use Rattle.langtag_scan.proofs.CaseLaw.{all-fold}
-use Rattle.langtag_scan.proofs.Complete.{decode_complete}
 use Rattle.langtag_scan.proofs.IrregularNames.{irregular_fold}
-use Rattle.langtag_scan.proofs.NormalTexts.{decoded_subtags}
+use Rattle.langtag_scan.proofs.NormalTexts.{flat_subtags}
 use Rattle.langtag_scan.proofs.SubtagFacts.{IsSubtag, of_private_subtag, of_one, mark_alphanumeric}
 use Rattle.langtag_scan.proofs.SubtagLists.{each_subtag}
 
@@ -52,7 +51,7 @@ IsAscii-spelled t ss spells fits = subst IsAscii spells (IsAscii-join ss (IsAsci
 
 pub IsAscii-normal : (t : List ℕ) → IsNormal t → IsAscii t
 unfolding IsNormal
-IsAscii-normal t (r, (fits, spells)) = IsAscii-spelled t (flat r) spells (decoded_subtags (flat r) _ _ (decode_complete r fits))
+IsAscii-normal t (r, (fits, spells)) = IsAscii-spelled t (flat r) spells (flat_subtags r fits)
 
 pub IsAscii-private : (t : List ℕ) → IsPrivate t → IsAscii t
 unfolding IsPrivate

@@ -1,203 +1,155 @@
 -- The ends that are kept subtag by subtag are those of the record: each part ends where the part before it does, and
 -- as many bytes later as its subtags have, each after a hyphen.
-use Rattle.std.proofs.Common.{◌≡◌, ℕ, ◌+◌, ◌≤◌, cond, leb, List, [], ◌∷◌, ◌++◌, length, Option, Some, None, ◌⊎◌, inl, inr, refl, ap, ◌∙◌, arith, append_assoc}
-use Rattle.std.specs.Prelude.{IsTrue, IfSome}
-use Rattle.std.specs.List.{AllByRecursion, flat_map}
-use Rattle.std.specs.Option.{option_map_or}
+use Rattle.std.proofs.Common.{◌≡◌, drop, ℕ, zero, suc, ◌+◌, ◌≤◌, true, false, cond, leb, List, [], ◌∷◌, length, Some, refl, sym, ap, ◌∙◌, arith}
+use Rattle.std.proofs.Math.Nat.{add-zero, zero-add, add_assoc}
 use Rattle.std.proofs.lemmas.List.{length-append}
 use Rattle.langtag_scan.specs.declared.stage.Stage.{Stage}
-use Rattle.langtag_scan.specs.declared.stage.Stage.TheVariants.{Start, Language, Extended, AfterScript, AfterRegion, AfterVariant, AfterSingleton, InExtension, AfterMark, InPrivate}
-use Rattle.langtag_scan.specs.Class.{is_extended, is_script, is_region, is_extension_subtag, is_private_subtag}
+use Rattle.langtag_scan.specs.declared.stage.Stage.TheVariants.{Start, Language, AfterSingleton}
 use Rattle.langtag_scan.specs.Ends.{ends_of}
 use Rattle.langtag_scan.specs.Machine.{all_at, end_at, index_after}
-use Rattle.langtag_scan.specs.Record.{PrivateUse, Extension, Record, IsWellFormedPrivateUse, IsWellFormedExtension, IsWellFormed, extension_flat, one_flat, private_part_flat, flat}
-use Rattle.langtag_scan.specs.Stage.{opened, next_stage}
+use Rattle.langtag_scan.specs.Record.{Record, IsWellFormed, flat}
+use Rattle.langtag_scan.specs.Stage.{classes_of, next_stage, may_end}
 use Rattle.langtag_scan.specs.declared.ends.Ends.{Ends}
-use Rattle.langtag_scan.proofs.Complete.{Opening, Varying, Regional, Speaking, opening_in_extension, varying_after_region, varying_after_variant, regional_after_script, speaking_language, speaking_extended, RestFits, fits_tail, rest_of, taken_by}
-use Rattle.langtag_scan.proofs.Disjoint.{singleton_no_mark}
+use Rattle.langtag_scan.proofs.Complete.{decode_complete}
+use Rattle.langtag_scan.proofs.Decoding.{Read, put, whole, decode, decode-cons, over_run, add, from_part, blocks, by_part, by_part-put}
 use Rattle.langtag_scan.proofs.Joins.{hyphenated, length-hyphenated, length-join}
 use Rattle.langtag_scan.proofs.PartOffsets.{ends_equal}
-use Rattle.langtag_scan.proofs.Running.{ends_after-nil, ends_after-cons}
-use Rattle.langtag_scan.proofs.Runs.{ends_after}
+use Rattle.langtag_scan.proofs.Running.{ends_after-cons}
+use Rattle.langtag_scan.proofs.Runs.{runs, ends_after}
+use Rattle.langtag_scan.proofs.StageLaws.{is_outside, next_inside}
+use Rattle.langtag_scan.proofs.Steps.{place, places, next_step, may_follow, leads_to}
 
--- ---- the weight of subtags, and the ends by it
+-- ---- ends in a list
+
+abbrev listed : Ends → List ℕ
+listed e = e.language ∷ e.script ∷ e.region ∷ e.variants ∷ e.extensions ∷ e.whole ∷ []
+
+listed_once : (d e : Ends) → listed d ≡ listed e → d ≡ e
+listed_once d e same = ends_equal d e (cc) (cc) (cc) (cc) (cc) (cc)
+
+-- from one of them on, all at this index
+abbrev all_from : ℕ → ℕ → List ℕ → List ℕ
+all_from k p [] = []
+all_from zero p (x ∷ xs) = p ∷ all_from zero p xs
+all_from (suc k) p (x ∷ xs) = x ∷ all_from k p xs
+
+all_from-again : (k j p : ℕ) (xs : List ℕ) → j ≤ k → all_from k p (all_from j p xs) ≡ all_from j p xs
+all_from-again k j p [] before = refl
+all_from-again zero zero p (x ∷ xs) before = ap (λ ys. p ∷ ys) (all_from-again zero zero p xs before)
+all_from-again zero (suc j) p (x ∷ xs) before = absurd (omega arith)
+all_from-again (suc k) zero p (x ∷ xs) before = ap (λ ys. p ∷ ys) (all_from-again k zero p xs (omega arith))
+all_from-again (suc k) (suc j) p (x ∷ xs) before = ap (λ ys. x ∷ ys) (all_from-again k j p xs (omega arith))
 
 -- the length of these subtags, each after a hyphen
 abbrev weight : List (List ℕ) → ℕ
 weight ss = length (hyphenated ss)
 
-weight-cons : (s : List ℕ) (ss : List (List ℕ)) → weight (s ∷ ss) ≡ 1 + length s + weight ss
-weight-cons s ss = omega (arith, length-append s (hyphenated ss))
+-- the ends where these subtags more stand in the parts, after so many bytes more
+abbrev later : ℕ → List ℕ → List (List (List ℕ)) → List ℕ
+later w [] bs = []
+later w (x ∷ xs) [] = x ∷ xs
+later w (x ∷ xs) (b ∷ bs) = (x + (w + weight b)) ∷ later (w + weight b) xs bs
 
-abbrev ends_at : ℕ → ℕ → ℕ → ℕ → ℕ → ℕ → Ends
-ends_at l c g v x w = record { language = l; script = c; region = g; variants = v; extensions = x; whole = w }
+later-moved : (w d p : ℕ) (xs : List ℕ) (bs : List (List (List ℕ))) → length xs ≤ length bs → later (w + d) (all_from zero p xs) bs ≡ later w (all_from zero (p + d) xs) bs
+later-moved w d p [] bs long = refl
+later-moved w d p (x ∷ xs) [] long = absurd (omega arith)
+later-moved w d p (x ∷ xs) (b ∷ bs) long =
+    let here : p + (w + d + weight b) ≡ p + d + (w + weight b) = omega arith in
+    let there : w + d + weight b ≡ w + weight b + d = omega arith in
+    cc (here, ap (λ v. later v (all_from zero p xs) bs) there, later-moved (w + weight b) d p xs bs (omega arith))
 
--- the ends of a record of which the parts up to and with one end so, the parts after it being these
-abbrev after_extensions : ℕ → ℕ → ℕ → ℕ → ℕ → Option PrivateUse → Ends
-after_extensions l c g v x p = ends_at l c g v x (x + weight (private_part_flat p))
+-- one subtag more before those of a part moves the ends from this part on
+later-add :
+    (j p : ℕ) (s : List ℕ) (xs : List ℕ) (bs : List (List (List ℕ))) → length xs ≤ length bs →
+    later 0 (all_from j (p + (1 + length s)) xs) (from_part j bs) ≡ later 0 (all_from j p xs) (add j s bs)
+later-add j p s [] bs long = refl
+later-add j p s (x ∷ xs) [] long = absurd (omega arith)
+later-add zero p s (x ∷ xs) (b ∷ bs) long =
+    let longer = length-append s (hyphenated b) in
+    let here : p + (1 + length s) + (0 + weight b) ≡ p + (0 + weight (s ∷ b)) = omega arith in
+    let there : 0 + weight (s ∷ b) ≡ 0 + weight b + (1 + length s) = omega arith in
+    cc (here, ap (λ v. later v (all_from zero p xs) bs) there, later-moved (0 + weight b) (1 + length s) p xs bs (omega arith))
+later-add (suc j) p s (x ∷ xs) (b ∷ bs) long = ap (λ ys. (x + (0 + 0)) ∷ ys) (later-add j p s xs bs (omega arith))
 
-abbrev after_variants : ℕ → ℕ → ℕ → ℕ → List Extension → Option PrivateUse → Ends
-after_variants l c g v es p = after_extensions l c g v (v + weight (flat_map extension_flat es)) p
+-- ---- over the stages
 
-abbrev after_region : ℕ → ℕ → ℕ → List (List ℕ) → List Extension → Option PrivateUse → Ends
-after_region l c g vs es p = after_variants l c g (g + weight vs) es p
+end_at-listed : (after : Stage) (p : ℕ) (e : Ends) → listed (end_at after p e) ≡ all_from (place after) p (listed e)
+end_at-listed Start p e = refl
+end_at-listed _ p e = refl
 
-abbrev after_script : ℕ → ℕ → Option (List ℕ) → List (List ℕ) → List Extension → Option PrivateUse → Ends
-after_script l c region vs es p = after_region l c (c + weight (one_flat region)) vs es p
+-- the parts in which the next subtag may stand end where the text does
+abbrev AreOpen : Stage → Ends → Type 0
+AreOpen stage e = all_from (place stage) e.whole (listed e) ≡ listed e
 
-abbrev after_language : ℕ → Option (List ℕ) → Option (List ℕ) → List (List ℕ) → List Extension → Option PrivateUse → Ends
-after_language l script region vs es p = after_script l (l + weight (one_flat script)) region vs es p
+AreOpen-after : (after : Stage) (p : ℕ) (e : Ends) → AreOpen after (end_at after p e)
+AreOpen-after Start p e = refl
+AreOpen-after _ p e = refl
 
--- ---- one subtag
+-- what was read after a stage stands in no part before its own
+none_before : (after : Stage) (b : Read) → from_part (place after) (by_part after b) ≡ by_part after b
+none_before Start b = refl
+none_before _ b = refl
 
+six_parts : (after : Stage) (b : Read) → length (by_part after b) ≡ 6
+six_parts Start b = refl
+six_parts _ b = refl
+
+index_inside : (stage : Stage) (e : Ends) (s : List ℕ) → is_outside stage ≡ false → index_after stage e s ≡ e.whole + (1 + length s)
+unfolding is_outside
+index_inside Start e s inside = absurd cc
+index_inside _ e s inside = omega arith
+
+-- the ends after a subtag, and after those that follow it
 one_subtag :
-    (stage after : Stage) (s : List ℕ) (ss : List (List ℕ)) (e : Ends) (n : ℕ) → index_after stage e s ≡ n →
-    next_stage stage s ≡ Some after → ends_after stage e (s ∷ ss) ≡ ends_after after (end_at after n e) ss
-one_subtag stage after s ss e n at next =
-    ends_after-cons stage e s ss
-    ∙ ap (λ o. option_map_or (λ x. ends_after x (end_at x (index_after stage e s) e) ss) o e) next
-    ∙ ap (λ k. ends_after after (end_at after k e) ss) at
+    (stage after : Stage) (e : Ends) (s : List ℕ) (b : Read) → may_follow stage after ≡ true → leads_to after (classes_of s) ≡ true → AreOpen stage e →
+    later 0 (listed (end_at after (e.whole + (1 + length s)) e)) (by_part after b) ≡ later 0 (listed e) (by_part stage (put after s b))
+one_subtag stage after e s b follows class open_here =
+    let j = place after in
+    let from_here : all_from j e.whole (listed e) ≡ listed e =
+    ap (all_from j e.whole) (sym open_here) ∙ all_from-again j (place stage) e.whole (listed e) (places stage after follows) ∙ open_here in
+    ap (λ es. later 0 es (by_part after b)) (end_at-listed after (e.whole + (1 + length s)) e)
+    ∙ ap (later 0 (all_from j (e.whole + (1 + length s)) (listed e))) (sym (none_before after b))
+    ∙ later-add j e.whole s (listed e) (by_part after b) (omega (arith, six_parts after b))
+    ∙ ap (λ es. later 0 es (add j s (by_part after b))) from_here
+    ∙ ap (later 0 (listed e)) (sym (by_part-put stage after s b follows class))
 
--- ---- the parts, from the last one on
+AreRight : Stage → List (List ℕ) → Type 0
+AreRight stage ss =
+    (e : Ends) → is_outside stage ≡ false → AreOpen stage e →
+    listed (ends_after stage e ss) ≡ later 0 (listed e) (by_part stage (decode stage ss))
 
-module _ (l c g v x : ℕ) where
-  private_ends :
-      (ss : List (List ℕ)) → AllByRecursion (λ s. IsTrue (is_private_subtag s)) ss → (w : ℕ) →
-      ends_after InPrivate (ends_at l c g v x w) ss ≡ ends_at l c g v x (w + weight ss)
-  private_ends [] fits w = ends_after-nil InPrivate (ends_at l c g v x w) ∙ ap (ends_at l c g v x) (omega arith)
-  private_ends (s ∷ ss) fits w =
-      one_subtag InPrivate InPrivate s ss (ends_at l c g v x w) (w + 1 + length s) refl (rw fits.0 refl)
-      ∙ private_ends ss fits.1 (w + 1 + length s)
-      ∙ ap (ends_at l c g v x) (omega (arith, weight-cons s ss))
+none_right : (stage : Stage) → may_end stage ≡ true → AreRight stage []
+unfolding AreRight ends_after decode
+none_right AfterSingleton ends e inside open_here = absurd cc
+none_right Start ends e inside open_here = absurd cc
+none_right _ ends e inside open_here = simp add-zero
 
-  mark_ends :
-      (ss : List (List ℕ)) → 1 ≤ length ss → AllByRecursion (λ s. IsTrue (is_private_subtag s)) ss → (w : ℕ) →
-      ends_after AfterMark (ends_at l c g v x w) ss ≡ ends_at l c g v x (w + weight ss)
-  mark_ends [] some fits w = absurd (omega arith)
-  mark_ends (s ∷ ss) some fits w =
-      one_subtag AfterMark InPrivate s ss (ends_at l c g v x w) (w + 1 + length s) refl (rw fits.0 refl)
-      ∙ private_ends ss fits.1 (w + 1 + length s)
-      ∙ ap (ends_at l c g v x) (omega (arith, weight-cons s ss))
+more_right : (stage after : Stage) (s : List ℕ) (ss : List (List ℕ)) → next_stage stage s ≡ Some after → AreRight after ss → AreRight stage (s ∷ ss)
+unfolding AreRight
+more_right stage after s ss next right e inside open_here =
+    let step = next_step stage after s next in
+    let p = e.whole + (1 + length s) in
+    ap listed (ends_after-cons stage e s ss ∙ rw (next, index_inside stage e s inside) refl)
+    ∙ right (end_at after p e) (next_inside stage after s next) (AreOpen-after after p e)
+    ∙ one_subtag stage after e s (decode after ss) step.0 step.1 open_here
+    ∙ ap (λ b. later 0 (listed e) (by_part stage b)) (sym (decode-cons stage after s ss next))
 
-  private_part_ends :
-      (stage : Stage) → Opening stage → (p : Option PrivateUse) → IfSome p IsWellFormedPrivateUse →
-      ends_after stage (ends_at l c g v x x) (private_part_flat p) ≡ after_extensions l c g v x p
-  private_part_ends stage open_here None fits = ends_after-nil stage (ends_at l c g v x x) ∙ ap (ends_at l c g v x) (omega arith)
-  private_part_ends stage open_here (Some p) fits =
-      let opens : opened (p.mark ∷ []) ≡ Some AfterMark = rw fits.mark refl in
-      one_subtag stage AfterMark (p.mark ∷ []) p.subtags (ends_at l c g v x x) (x + 1 + 1) (open_here.later _ _) (open_here.one p.mark ∙ opens)
-      ∙ mark_ends p.subtags fits.some fits.subtags (x + 1 + 1)
-      ∙ ap (ends_at l c g v x) (omega (arith, weight-cons (p.mark ∷ []) p.subtags))
-
-module _ (l c g v : ℕ) (rest : List (List ℕ)) where
-  extension_ends :
-      (ss : List (List ℕ)) → AllByRecursion (λ s. IsTrue (is_extension_subtag s)) ss → (x : ℕ) →
-      ends_after InExtension (ends_at l c g v x x) (ss ++ rest) ≡ ends_after InExtension (ends_at l c g v (x + weight ss) (x + weight ss)) rest
-  extension_ends [] fits x = ap (λ k. ends_after InExtension (ends_at l c g v k k) rest) (omega arith)
-  extension_ends (s ∷ ss) fits x =
-      one_subtag InExtension InExtension s (ss ++ rest) (ends_at l c g v x x) (x + 1 + length s) refl (rw fits.0 refl)
-      ∙ extension_ends ss fits.1 (x + 1 + length s)
-      ∙ ap (λ k. ends_after InExtension (ends_at l c g v k k) rest) (omega (arith, weight-cons s ss))
-
-  singleton_ends :
-      (ss : List (List ℕ)) → 1 ≤ length ss → AllByRecursion (λ s. IsTrue (is_extension_subtag s)) ss → (x : ℕ) →
-      ends_after AfterSingleton (ends_at l c g v x x) (ss ++ rest) ≡ ends_after InExtension (ends_at l c g v (x + weight ss) (x + weight ss)) rest
-  singleton_ends [] some fits x = absurd (omega arith)
-  singleton_ends (s ∷ ss) some fits x =
-      one_subtag AfterSingleton InExtension s (ss ++ rest) (ends_at l c g v x x) (x + 1 + length s) refl (rw fits.0 refl)
-      ∙ extension_ends ss fits.1 (x + 1 + length s)
-      ∙ ap (λ k. ends_after InExtension (ends_at l c g v k k) rest) (omega (arith, weight-cons s ss))
-
-extensions_ends :
-    (l c g v : ℕ) (stage : Stage) → Opening stage → (es : List Extension) (p : Option PrivateUse) →
-    AllByRecursion IsWellFormedExtension es → IfSome p IsWellFormedPrivateUse → (x : ℕ) →
-    ends_after stage (ends_at l c g v x x) (rest_of es p) ≡ after_extensions l c g v (x + weight (flat_map extension_flat es)) p
-extensions_ends l c g v stage open_here [] p fits fit x = private_part_ends l c g v x stage open_here p fit ∙ ap (λ k. after_extensions l c g v k p) (omega arith)
-extensions_ends l c g v stage open_here (e ∷ es) p fits fit x =
-    let opens : opened (e.singleton ∷ []) ≡ Some AfterSingleton = rw (singleton_no_mark e.singleton fits.0.singleton, fits.0.singleton) refl in
-    let n = x + 1 + 1 in
-    let weighs : weight ((e.singleton ∷ []) ∷ (e.subtags ++ flat_map extension_flat es)) ≡ 1 + 1 + (weight e.subtags + weight (flat_map extension_flat es)) = omega (arith, weight-cons (e.singleton ∷ []) (e.subtags ++ flat_map extension_flat es), length-hyphenated e.subtags (flat_map extension_flat es)) in
-    ap (λ ss. ends_after stage (ends_at l c g v x x) ((e.singleton ∷ []) ∷ ss)) (append_assoc e.subtags (flat_map extension_flat es) (private_part_flat p))
-    ∙ one_subtag stage AfterSingleton (e.singleton ∷ []) (e.subtags ++ rest_of es p) (ends_at l c g v x x) n (open_here.later _ _) (open_here.one e.singleton ∙ opens)
-    ∙ singleton_ends l c g v (rest_of es p) e.subtags fits.0.some fits.0.subtags n
-    ∙ extensions_ends l c g v InExtension opening_in_extension es p fits.1 fit (n + weight e.subtags)
-    ∙ ap (λ k. after_extensions l c g v k p) (omega (arith, weighs))
-
-variants_ends :
-    (l c g : ℕ) (es : List Extension) (p : Option PrivateUse) (stage : Stage) → Varying stage → (vs : List (List ℕ)) →
-    RestFits vs es p → (v : ℕ) →
-    ends_after stage (ends_at l c g v v v) (vs ++ rest_of es p) ≡ after_variants l c g (v + weight vs) es p
-variants_ends l c g es p stage vary [] fits v =
-    extensions_ends l c g v stage vary.opening es p fits.extensions fits.private_use v
-    ∙ ap (λ k. after_variants l c g k es p) (omega arith)
-variants_ends l c g es p stage vary (s ∷ vs) fits v =
-    one_subtag stage AfterVariant s (vs ++ rest_of es p) (ends_at l c g v v v) (v + 1 + length s) (vary.opening.later _ _) (vary.variant s fits.variants.0)
-    ∙ variants_ends l c g es p AfterVariant varying_after_variant vs (fits_tail s vs es p fits) (v + 1 + length s)
-    ∙ ap (λ k. after_variants l c g k es p) (omega (arith, weight-cons s vs))
-
-module _ (vs : List (List ℕ)) (es : List Extension) (p : Option PrivateUse) (fits : RestFits vs es p) where
-  region_ends :
-      (l c : ℕ) (stage : Stage) → Regional stage → (region : Option (List ℕ)) → IfSome region (λ s. IsTrue (is_region s)) →
-      (g : ℕ) →
-      ends_after stage (ends_at l c g g g g) (one_flat region ++ (vs ++ rest_of es p)) ≡ after_region l c (g + weight (one_flat region)) vs es p
-  region_ends l c stage regional None fit g =
-      variants_ends l c g es p stage regional.varying vs fits g ∙ ap (λ k. after_region l c k vs es p) (omega arith)
-  region_ends l c stage regional (Some s) fit g =
-      one_subtag stage AfterRegion s (vs ++ rest_of es p) (ends_at l c g g g g) (g + 1 + length s) (regional.varying.opening.later _ _) (regional.region s fit)
-      ∙ variants_ends l c (g + 1 + length s) es p AfterRegion varying_after_region vs fits (g + 1 + length s)
-      ∙ ap (λ k. after_region l c k vs es p) (omega (arith, weight-cons s []))
-
-  module _ (region : Option (List ℕ)) (fit : IfSome region (λ s. IsTrue (is_region s))) where
-    script_ends :
-        (l : ℕ) (taken : ℕ) (stage : Stage) → Speaking taken stage → (script : Option (List ℕ)) →
-        IfSome script (λ s. IsTrue (is_script s)) → (c : ℕ) →
-        ends_after stage (ends_at l c c c c c) (one_flat script ++ (one_flat region ++ (vs ++ rest_of es p))) ≡ after_script l (c + weight (one_flat script)) region vs es p
-    script_ends l taken stage speaking None is c =
-        region_ends l c stage speaking.regional region fit c ∙ ap (λ k. after_script l k region vs es p) (omega arith)
-    script_ends l taken stage speaking (Some s) is c =
-        one_subtag stage AfterScript s (one_flat region ++ (vs ++ rest_of es p)) (ends_at l c c c c c) (c + 1 + length s) (speaking.regional.varying.opening.later _ _) (speaking.script s is)
-        ∙ region_ends l (c + 1 + length s) AfterScript regional_after_script region fit (c + 1 + length s)
-        ∙ ap (λ k. after_script l k region vs es p) (omega (arith, weight-cons s []))
-
-    language_ends :
-        (script : Option (List ℕ)) → IfSome script (λ s. IsTrue (is_script s)) → (xs : List (List ℕ)) →
-        AllByRecursion (λ s. IsTrue (is_extended s)) xs → (taken : ℕ) → ((length xs + taken ≤ 3) ⊎ (xs ≡ [])) → (stage : Stage) →
-        Speaking taken stage → (l : ℕ) →
-        ends_after stage (all_at l) (xs ++ (one_flat script ++ (one_flat region ++ (vs ++ rest_of es p)))) ≡ after_language (l + weight xs) script region vs es p
-    language_ends script is [] fits taken few stage speaking l =
-        script_ends l taken stage speaking script is l ∙ ap (λ k. after_language k script region vs es p) (omega arith)
-    language_ends script is (x ∷ xs) fits taken (inr none_left) stage speaking l = absurd cc
-    language_ends script is (x ∷ xs) fits taken (inl few) stage speaking l =
-        one_subtag stage (Extended (taken + 1)) x (xs ++ (one_flat script ++ (one_flat region ++ (vs ++ rest_of es p)))) (all_at l) (l + 1 + length x) (speaking.regional.varying.opening.later _ _) (speaking.extended x fits.0 (omega arith))
-        ∙ language_ends script is xs fits.1 (taken + 1) (inl (omega arith)) (Extended (taken + 1)) (speaking_extended (taken + 1)) (l + 1 + length x)
-        ∙ ap (λ k. after_language k script region vs es p) (omega (arith, weight-cons x xs))
-
--- ---- the law
-
--- the ends of a record, by the weights of its parts
-ends_of-weights :
-    (r : Record) →
-    after_language (length r.primary + weight r.extended) r.script r.region r.variants r.extensions r.private_use ≡ ends_of r
-ends_of-weights r =
-    let xs = r.extended in
-    let c = one_flat r.script in
-    let g = one_flat r.region in
-    let vs = r.variants in
-    let es = flat_map extension_flat r.extensions in
-    let p = private_part_flat r.private_use in
-    ends_equal _ _
-    (omega (arith, length-join r.primary xs))
-    (omega (arith, length-join r.primary (xs ++ c), length-hyphenated xs c))
-    (omega (arith, length-join r.primary (xs ++ (c ++ g)), length-hyphenated xs (c ++ g), length-hyphenated c g))
-    (omega (arith, length-join r.primary (xs ++ (c ++ (g ++ vs))), length-hyphenated xs (c ++ (g ++ vs)), length-hyphenated c (g ++ vs), length-hyphenated g vs))
-    (omega (arith, length-join r.primary (xs ++ (c ++ (g ++ (vs ++ es)))), length-hyphenated xs (c ++ (g ++ (vs ++ es))), length-hyphenated c (g ++ (vs ++ es)), length-hyphenated g (vs ++ es), length-hyphenated vs es))
-    (omega (arith, length-join r.primary (xs ++ (c ++ (g ++ (vs ++ (es ++ p))))), length-hyphenated xs (c ++ (g ++ (vs ++ (es ++ p)))), length-hyphenated c (g ++ (vs ++ (es ++ p))), length-hyphenated g (vs ++ (es ++ p)), length-hyphenated vs (es ++ p), length-hyphenated es p))
+-- the ends of a record are those of its primary subtag, and later ones
+ends_of-later : (r : Record) → later 0 (listed (all_at (length r.primary))) (blocks r.extended r) ≡ listed (ends_of r)
+ends_of-later r = simp (length-join, length-hyphenated, zero-add, add_assoc)
 
 -- after all subtags of a well-formed record the ends are those of its parts
 pub ends_after-flat : (r : Record) → IsWellFormed r → ends_after Start (all_at 0) (flat r) ≡ ends_of r
+unfolding AreRight runs is_outside
 ends_after-flat r fits =
     let taken = cond (leb (length r.primary) 3) 0 3 in
-    let rest : RestFits r.variants r.extensions r.private_use = record { variants = fits.variants; extensions = fits.extensions; private_use = fits.private_use } in
-    one_subtag Start (Language taken) r.primary (r.extended ++ (one_flat r.script ++ (one_flat r.region ++ (r.variants ++ rest_of r.extensions r.private_use)))) (all_at 0) (length r.primary) refl (rw fits.primary refl)
-    ∙ language_ends r.variants r.extensions r.private_use rest r.region fits.region r.script fits.script r.extended fits.extended taken (taken_by (length r.primary) r.extended fits.few fits.short) (Language taken) (speaking_language taken) (length r.primary)
-    ∙ ends_of-weights r
+    let e = all_at (length r.primary) in
+    let others : List (List ℕ) = drop 1 (flat r) in
+    let next : next_stage Start r.primary ≡ Some (Language taken) = rw fits.primary refl in
+    let is : put (Language taken) r.primary (decode (Language taken) others) ≡ whole r = sym (decode-cons Start (Language taken) r.primary others next) ∙ (decode_complete r fits).is in
+    let run : runs (Language taken) others ≡ true = rw fits.primary at (decode_complete r fits).run in
+    listed_once _ _
+    (ap listed (ends_after-cons Start (all_at 0) r.primary others ∙ rw next refl)
+    ∙ over_run AreRight none_right more_right others (Language taken) run e refl refl
+    ∙ ap (λ b. later 0 (listed e) (by_part (Language taken) b)) is
+    ∙ ends_of-later r)

@@ -1,6 +1,6 @@
 -- A join is its first subtag and the others, each after a hyphen. So lists of subtags that follow one another do so in
 -- the text, too, and it can be cut between them.
-use Rattle.std.proofs.Common.{◌≡◌, ℕ, ◌+◌, ◌-◌, ◌≤◌, List, [], ◌∷◌, ◌++◌, length, take, drop, Option, None, Some, unwrap_or, refl, sym, ap, ◌∙◌, arith, append_assoc, append-nil}
+use Rattle.std.proofs.Common.{◌≡◌, ℕ, ◌+◌, ◌-◌, List, [], ◌∷◌, ◌++◌, length, take, drop, Option, None, Some, unwrap_or, refl, sym, ap, ◌∙◌, arith, append_assoc, append-nil}
 use Rattle.std.specs.List.{flat_map, replace_range}
 use Rattle.std.specs.Option.{option_map}
 use Rattle.std.proofs.lemmas.Bool.{eq-eqb, ne_eqb}
@@ -32,10 +32,6 @@ pub hyphenated-present : (ss : List (List ℕ)) → hyphenated (present ss) ≡ 
 hyphenated-present [] = refl
 hyphenated-present (s ∷ ss) = ap (λ t. 45 ∷ t) (append-nil (join (s ∷ ss)) ∙ join-hyphenated s ss)
 
--- one subtag after its hyphen
-pub hyphenated-one : (s : List ℕ) → hyphenated (s ∷ []) ≡ 45 ∷ s
-hyphenated-one s = ap (λ t. 45 ∷ t) (append-nil s)
-
 -- what stands before some subtags, these, and what stands after them
 pub join-around : (x : List ℕ) (xs ys zs : List (List ℕ)) → join (x ∷ (xs ++ (ys ++ zs))) ≡ (join (x ∷ xs) ++ hyphenated ys) ++ hyphenated zs
 join-around x xs ys zs = simp (join-hyphenated, hyphenated-append, append_assoc)
@@ -50,9 +46,6 @@ length-join x xs = ap length (join-hyphenated x xs) ∙ length-append x (hyphena
 
 pub length-join-append : (x : List ℕ) (xs ys : List (List ℕ)) → length (join (x ∷ (xs ++ ys))) ≡ length (join (x ∷ xs)) + length (hyphenated ys)
 length-join-append x xs ys = ap length (join-append x xs ys) ∙ length-append (join (x ∷ xs)) (hyphenated ys)
-
-pub join-longer : (x : List ℕ) (xs ys : List (List ℕ)) → length (join (x ∷ xs)) ≤ length (join (x ∷ (xs ++ ys)))
-join-longer x xs ys = omega (arith, length-join-append x xs ys)
 
 -- ---- a text that is cut in two
 
@@ -114,8 +107,8 @@ text_between-join x xs (y ∷ ys) zs =
     let whole : join (x ∷ (xs ++ ((y ∷ ys) ++ zs))) ≡ join (x ∷ xs) ++ 45 ∷ (join (y ∷ ys) ++ hyphenated zs) = join-append x xs ((y ∷ ys) ++ zs) ∙ ap (λ t. join (x ∷ xs) ++ t) (hyphenated-append (y ∷ ys) zs ∙ ap (λ t. t ++ hyphenated zs) part) in
     text_between-cut (join (x ∷ (xs ++ ((y ∷ ys) ++ zs)))) (join (x ∷ xs)) (join (y ∷ ys)) (hyphenated zs) (length (join (x ∷ (xs ++ y ∷ ys)))) whole (omega (arith, length-join-append x xs (y ∷ ys), ap length part))
 
--- the same, however the prefixes are grouped
+-- the same, however the prefix and the whole are grouped
 pub text_between-lists :
-    (x : List ℕ) (xs ys zs prefix whole : List (List ℕ)) → prefix ≡ xs ++ ys → whole ≡ xs ++ (ys ++ zs) →
-    text_between (join (x ∷ whole)) (length (join (x ∷ xs))) (length (join (x ∷ prefix))) ≡ joined ys
+    (x : List ℕ) (xs ys zs prefix whole : List (List ℕ)) → prefix ≡ x ∷ (xs ++ ys) → whole ≡ x ∷ (xs ++ (ys ++ zs)) →
+    text_between (join whole) (length (join (x ∷ xs))) (length (join prefix)) ≡ joined ys
 text_between-lists x xs ys zs prefix whole to_prefix to_whole = rw (to_prefix, to_whole) (text_between-join x xs ys zs)

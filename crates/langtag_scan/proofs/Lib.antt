@@ -12,6 +12,7 @@ mod Outcomes
 mod Unnamed
 mod Filling
 mod PrivateTexts
+mod Steps
 mod StageLaws
 mod ReadingLaws
 mod EndsLaw

@@ -1,126 +1,87 @@
 -- A text is normal exactly where its segments may follow one another, and its record is the only one.
-use Rattle.std.proofs.Common.{◌≡◌, ℕ, ◌+◌, Bool, true, false, cond, ltb, leb, List, [], ◌∷◌, length, Option, Some, None, inl, inr, refl, sym, ap, ◌∙◌}
+use Rattle.std.proofs.Common.{◌≡◌, append-nil, cond, eqb, leb, length, ℕ, true, cond, List, [], ◌∷◌, Some, sym, ap, ◌∙◌}
 use Rattle.std.specs.List.{AllByRecursion}
-use Rattle.std.specs.Option.{option_map, option_map_or, option_and_then, is_some}
+use Rattle.std.proofs.lemmas.Bool.{and_parts}
 use Rattle.std.proofs.lemmas.List.Splits.{join_with_byte-slice_split}
 use Rattle.langtag_scan.specs.declared.stage.Stage.{Stage}
-use Rattle.langtag_scan.specs.declared.stage.Stage.TheVariants.{Start, Language, Extended, AfterScript, AfterRegion, AfterVariant, AfterSingleton, InExtension, AfterMark, InPrivate, AfterFirstMark, InPrivateTag}
-use Rattle.langtag_scan.specs.Class.{is_primary, is_extended, is_script, is_region, is_variant, is_extension_subtag, is_private_subtag, is_mark, is_singleton}
+use Rattle.langtag_scan.specs.declared.stage.Stage.TheVariants.{Start, Language, Extended, AfterScript, AfterRegion, AfterVariant, AfterSingleton, InExtension, AfterMark, AfterFirstMark}
+use Rattle.langtag_scan.specs.Class.{is_primary, is_singleton}
 use Rattle.langtag_scan.specs.Record.{Record, IsWellFormed, flat, spell}
-use Rattle.langtag_scan.specs.Stage.{is_one, opened, after_region, after_script, after_language, next_stage, after_stage, may_end}
+use Rattle.langtag_scan.specs.Stage.{classes_of, is_one, after_stage}
 use Rattle.langtag_scan.specs.Subtags.{join, segments}
 use Rattle.langtag_scan.specs.Tag.{IsNormal}
-use Rattle.langtag_scan.proofs.BoolFacts.{chosen}
-use Rattle.langtag_scan.proofs.Decoding.{Read, whole, decode, nothing, decode_sound, bind_some, map_some, put}
+use Rattle.langtag_scan.proofs.Steps.{leads_to, after_class, next_step}
+use Rattle.langtag_scan.proofs.Decoding.{decode, decode_sound, over_run}
 use Rattle.langtag_scan.proofs.Complete.{decode_complete, flat_once}
-use Rattle.langtag_scan.proofs.SubtagFacts.{IsSubtag, of_primary, of_extended, of_script, of_region, of_variant, of_extension_subtag, of_private_subtag, of_one, of_mark, mark_alphanumeric, singleton_alphanumeric}
+use Rattle.langtag_scan.proofs.SubtagFacts.{IsSubtag, of_primary, of_extended, of_script, of_region, of_variant, of_extension_subtag, of_private_subtag, of_one, of_mark, singleton_alphanumeric}
 use Rattle.langtag_scan.proofs.SubtagLists.{segments-joined}
 use Rattle.langtag_scan.proofs.Runs.{runs}
 
-of_opened : (s : List ℕ) (after : Stage) → opened s ≡ Some after → IsSubtag s
-of_opened [] after e = absurd cc
-of_opened (c ∷ d ∷ s) after e = absurd cc
-of_opened (c ∷ []) after e =
-    elim (chosen (is_mark c) (Some AfterMark) (cond (is_singleton c) (Some AfterSingleton) None) (Some after) e) [
-      | inl h ↦ of_one c (mark_alphanumeric c h.0)
-      | inr h ↦ elim (chosen (is_singleton c) (Some AfterSingleton) None (Some after) h.1) [
-        | inl k ↦ of_one c (singleton_alphanumeric c k.0)
-        | inr k ↦ absurd cc
-      ]
-    ]
+of_singleton : (s : List ℕ) → is_one is_singleton s ≡ true → IsSubtag s
+of_singleton (c ∷ []) h = of_one c (singleton_alphanumeric c h)
+of_singleton _ h = absurd cc
 
-of_after_region : (s : List ℕ) (after : Stage) → after_region s ≡ Some after → IsSubtag s
-of_after_region s after e =
-    elim (chosen (is_variant s) (Some AfterVariant) (opened s) (Some after) e) [ inl h ↦ of_variant s h.0 | inr h ↦ of_opened s after h.1 ]
+-- a subtag of a class has one to eight letters and digits
+of_class : (after : Stage) (s : List ℕ) → leads_to after (classes_of s) ≡ true → IsSubtag s
+of_class Start s h = absurd cc
+of_class (Language taken) s h = of_primary s (and_parts (is_primary s) (eqb taken (cond (leb (length s) 3) 0 3)) h).0
+of_class (Extended taken) s h = of_extended s h
+of_class AfterScript s h = of_script s h
+of_class AfterRegion s h = of_region s h
+of_class AfterVariant s h = of_variant s h
+of_class AfterSingleton s h = of_singleton s h
+of_class InExtension s h = of_extension_subtag s h
+of_class AfterMark s h = of_mark s h
+of_class AfterFirstMark s h = of_mark s h
+of_class _ s h = of_private_subtag s h
 
-of_after_script : (s : List ℕ) (after : Stage) → after_script s ≡ Some after → IsSubtag s
-of_after_script s after e =
-    elim (chosen (is_region s) (Some AfterRegion) (after_region s) (Some after) e) [ inl h ↦ of_region s h.0 | inr h ↦ of_after_region s after h.1 ]
-
-of_after_language : (taken : ℕ) (s : List ℕ) (after : Stage) → after_language taken s ≡ Some after → IsSubtag s
-of_after_language taken s after e =
-    elim (chosen (is_extended s) (cond (ltb taken 3) (Some (Extended (taken + 1))) None) (cond (is_script s) (Some AfterScript) (after_script s)) (Some after) e) [
-      | inl h ↦ of_extended s h.0
-      | inr h ↦ elim (chosen (is_script s) (Some AfterScript) (after_script s) (Some after) h.1) [ inl k ↦ of_script s k.0 | inr k ↦ of_after_script s after k.1 ]
-    ]
-
--- a subtag that may stand somewhere has one to eight letters and digits
-pub next_subtag : (stage : Stage) (s : List ℕ) (after : Stage) → next_stage stage s ≡ Some after → IsSubtag s
-next_subtag Start s after e =
-    elim (chosen (is_primary s) (Some (Language (cond (leb (length s) 3) 0 3))) None (Some after) e) [ inl h ↦ of_primary s h.0 | inr h ↦ absurd cc ]
-next_subtag (Language taken) s after e = of_after_language taken s after e
-next_subtag (Extended taken) s after e = of_after_language taken s after e
-next_subtag AfterScript s after e = of_after_script s after e
-next_subtag AfterRegion s after e = of_after_region s after e
-next_subtag AfterVariant s after e = of_after_region s after e
-next_subtag AfterSingleton s after e =
-    elim (chosen (is_extension_subtag s) (Some InExtension) None (Some after) e) [ inl h ↦ of_extension_subtag s h.0 | inr h ↦ absurd cc ]
-next_subtag InExtension s after e =
-    elim (chosen (is_extension_subtag s) (Some InExtension) (opened s) (Some after) e) [ inl h ↦ of_extension_subtag s h.0 | inr h ↦ of_opened s after h.1 ]
-next_subtag AfterMark s after e =
-    elim (chosen (is_private_subtag s) (Some InPrivate) None (Some after) e) [ inl h ↦ of_private_subtag s h.0 | inr h ↦ absurd cc ]
-next_subtag InPrivate s after e =
-    elim (chosen (is_private_subtag s) (Some InPrivate) None (Some after) e) [ inl h ↦ of_private_subtag s h.0 | inr h ↦ absurd cc ]
-next_subtag AfterFirstMark s after e = absurd cc
-next_subtag InPrivateTag s after e = absurd cc
-
+-- and so has one that may stand somewhere
 pub after_subtag : (stage : Stage) (s : List ℕ) (after : Stage) → after_stage stage s ≡ Some after → IsSubtag s
-after_subtag Start s after e =
-    elim (chosen (is_primary s) (Some (Language (cond (leb (length s) 3) 0 3))) (cond (is_one is_mark s) (Some AfterFirstMark) None) (Some after) e) [
-      | inl h ↦ of_primary s h.0
-      | inr h ↦ elim (chosen (is_one is_mark s) (Some AfterFirstMark) None (Some after) h.1) [ inl k ↦ of_mark s k.0 | inr k ↦ absurd cc ]
-    ]
-after_subtag AfterFirstMark s after e =
-    elim (chosen (is_private_subtag s) (Some InPrivateTag) None (Some after) e) [ inl h ↦ of_private_subtag s h.0 | inr h ↦ absurd cc ]
-after_subtag InPrivateTag s after e =
-    elim (chosen (is_private_subtag s) (Some InPrivateTag) None (Some after) e) [ inl h ↦ of_private_subtag s h.0 | inr h ↦ absurd cc ]
-after_subtag stage s after e = next_subtag stage s after e
+after_subtag stage s after e = of_class after s (after_class stage after s e)
 
-pub decoded_subtags : (ss : List (List ℕ)) (stage : Stage) (b : Read) → decode stage ss ≡ Some b → AllByRecursion IsSubtag ss
-unfolding decode
-decoded_subtags [] stage b e = tt
-decoded_subtags (s ∷ ss) stage b e =
-    let x = bind_some (λ (after : Stage). option_map (put after s) (decode after ss)) (next_stage stage s) b e in
-    let y = map_some (put x.0 s) (decode x.0 ss) b x.2 in
-    (next_subtag stage s x.0 x.1, decoded_subtags ss x.0 y.0 y.1)
+pub run_subtags : (ss : List (List ℕ)) (stage : Stage) → runs stage ss ≡ true → AllByRecursion IsSubtag ss
+run_subtags ss stage run =
+    over_run (λ stage ss. AllByRecursion IsSubtag ss) (λ stage ends. tt)
+    (λ stage after s ss next others. (of_class after s (next_step stage after s next).1, others))
+    ss stage run
 
-some_map : {A B : Type 0} (f : A → B) (o : Option A) → is_some (option_map f o) ≡ is_some o
-some_map f None = refl
-some_map f (Some x) = refl
-
-runs_bind :
-    (f : Stage → Bool) (g : Stage → Option Read) (h : Stage → Read → Read) → ((x : Stage) → f x ≡ is_some (g x)) →
-    (o : Option Stage) → option_map_or f o false ≡ is_some (option_and_then (λ x. option_map (h x) (g x)) o)
-runs_bind f g h same None = refl
-runs_bind f g h same (Some x) = same x ∙ sym (some_map (h x) (g x))
-
-pub runs-decode : (ss : List (List ℕ)) (stage : Stage) → runs stage ss ≡ is_some (decode stage ss)
-unfolding runs decode
-runs-decode [] stage = elim (may_end stage) as (λ v. v ≡ is_some (cond v (Some nothing) None)) [ true ↦ refl | false ↦ refl ]
-runs-decode (s ∷ ss) stage = runs_bind (λ after. runs after ss) (λ after. decode after ss) (λ after. put after s) (λ after. runs-decode ss after) (next_stage stage s)
+pub flat_subtags : (r : Record) → IsWellFormed r → AllByRecursion IsSubtag (flat r)
+flat_subtags r fits = run_subtags (flat r) Start (decode_complete r fits).run
 
 pub spelled_segments : (r : Record) → IsWellFormed r → segments (spell r) ≡ flat r
-spelled_segments r fits = segments-joined r.primary _ (decoded_subtags (flat r) Start (whole r) (decode_complete r fits))
+spelled_segments r fits = segments-joined r.primary _ (flat_subtags r fits)
 
 -- two well-formed records with one spelling are the same
 pub spelled_once : (r q : Record) → IsWellFormed r → IsWellFormed q → spell r ≡ spell q → r ≡ q
 spelled_once r q fits fit e = flat_once r q fits fit (sym (spelled_segments r fits) ∙ ap segments e ∙ spelled_segments q fit)
 
-pub is_there : (o : Option Read) → is_some o ≡ true → (b : Read) × (o ≡ Some b)
-is_there None e = absurd cc
-is_there (Some b) e = (b, refl)
-
 -- a text is normal where its segments may follow one another
 pub normal_from_runs : (t : List ℕ) → runs Start (segments t) ≡ true → IsNormal t
 unfolding IsNormal
-normal_from_runs t h =
-    let d = is_there (decode Start (segments t)) (sym (runs-decode (segments t) Start) ∙ h) in
-    let a = decode_sound (segments t) Start d.0 d.1 in
-    (d.0.parts, (a.0, ap join a.1 ∙ join_with_byte-slice_split 45 t))
+normal_from_runs t run =
+    let sound = decode_sound (segments t) Start run in
+    let r = (decode Start (segments t)).parts in
+    let flat_parts : flat r ≡ segments t = simp append-nil at sound.spells in (
+      r,
+      (
+        record {
+          primary = sound.ready.0;
+          extended = sound.fit.0;
+          few = sound.ready.1;
+          short = sound.ready.2;
+          script = sound.fit.1;
+          region = sound.fit.2;
+          variants = sound.fit.3;
+          extensions = sound.fit.4;
+          private_use = sound.fit.5;
+        },
+        ap join flat_parts ∙ join_with_byte-slice_split 45 t,
+      ),
+    )
 
 -- and only there
 pub runs_from_normal : (t : List ℕ) → IsNormal t → runs Start (segments t) ≡ true
 unfolding IsNormal
 runs_from_normal t n =
     let same : segments t ≡ flat n.0 = ap segments (sym n.1.1) ∙ spelled_segments n.0 n.1.0 in
-    runs-decode (segments t) Start ∙ ap is_some (ap (decode Start) same ∙ decode_complete n.0 n.1.0)
+    ap (runs Start) same ∙ (decode_complete n.0 n.1.0).run

@@ -1,35 +1,23 @@
 -- Each part of a record stands between the end of the part before and its own end.
-use Rattle.std.proofs.Common.{◌≡◌, ℕ, ◌≤◌, List, [], ◌∷◌, ◌++◌, length, take, refl, sym, ap, ◌∙◌, append_assoc, append-nil}
+use Rattle.std.proofs.Common.{◌≡◌, ℕ, List, [], ◌++◌, take, drop, arith, refl, sym, ap, ◌∙◌, append_assoc, append-nil}
 use Rattle.std.specs.List.{flat_map}
-use Rattle.langtag_scan.specs.Ends.{ends_of}
-use Rattle.langtag_scan.specs.Record.{Record, extension_flat, one_flat, private_part_flat, spell}
+use Rattle.langtag_scan.specs.Ends.{to_script, to_region, to_variants, to_extensions, ends_of}
+use Rattle.langtag_scan.specs.Record.{Record, extension_flat, one_flat, private_part_flat, flat, spell}
 use Rattle.langtag_scan.specs.Subtags.{join}
 use Rattle.langtag_scan.specs.Parts.{language_part, private_use_part, present, parts, text_between}
 use Rattle.langtag_scan.specs.Parts.{AreInOrder}
 use Rattle.langtag_scan.specs.declared.ends.Ends.{Ends}
-use Rattle.langtag_scan.proofs.Joins.{join-hyphenated, hyphenated-append, hyphenated-present, join-append, take-join, join-longer, joined, joined-one, joined-private, text_between-join, text_between-lists}
+use Rattle.langtag_scan.proofs.Joins.{join-hyphenated, hyphenated-append, hyphenated-present, join-append, take-join, length-join, length-hyphenated, joined, joined-one, joined-private, text_between-join, text_between-lists}
 
--- the subtags after the primary one, up to and with a part
-abbrev to_script : Record → List (List ℕ)
-to_script r = r.extended ++ one_flat r.script
-
-abbrev to_region : Record → List (List ℕ)
-to_region r = r.extended ++ (one_flat r.script ++ one_flat r.region)
-
-abbrev to_variants : Record → List (List ℕ)
-to_variants r = r.extended ++ (one_flat r.script ++ (one_flat r.region ++ r.variants))
-
-abbrev to_extensions : Record → List (List ℕ)
-to_extensions r = r.extended ++ (one_flat r.script ++ (one_flat r.region ++ (r.variants ++ flat_map extension_flat r.extensions)))
-
-abbrev to_private_use : Record → List (List ℕ)
-to_private_use r = r.extended ++ (one_flat r.script ++ (one_flat r.region ++ (r.variants ++ (flat_map extension_flat r.extensions ++ private_part_flat r.private_use))))
-
-abbrev from_region : Record → List (List ℕ)
-from_region r = one_flat r.region ++ (r.variants ++ (flat_map extension_flat r.extensions ++ private_part_flat r.private_use))
+-- the subtags from a part on
+abbrev from_extensions : Record → List (List ℕ)
+from_extensions r = flat_map extension_flat r.extensions ++ private_part_flat r.private_use
 
 abbrev from_variants : Record → List (List ℕ)
-from_variants r = r.variants ++ (flat_map extension_flat r.extensions ++ private_part_flat r.private_use)
+from_variants r = r.variants ++ from_extensions r
+
+abbrev from_region : Record → List (List ℕ)
+from_region r = one_flat r.region ++ from_variants r
 
 pub language_between : (r : Record) → take (ends_of r).language (spell r) ≡ language_part r
 language_between r = take-join r.primary r.extended (one_flat r.script ++ from_region r)
@@ -39,35 +27,32 @@ script_between r = text_between-join r.primary r.extended (one_flat r.script) (f
 
 pub region_between : (r : Record) → text_between (spell r) (ends_of r).script (ends_of r).region ≡ r.region
 region_between r =
-    text_between-lists r.primary (to_script r) (one_flat r.region) (from_variants r) (to_region r) (to_private_use r) (simp append_assoc) (simp append_assoc)
+    text_between-lists r.primary (drop 1 (to_script r)) (one_flat r.region) (from_variants r) (to_region r) (flat r) (simp append_assoc) (simp append_assoc)
     ∙ joined-one r.region
 
 pub variants_between : (r : Record) → text_between (spell r) (ends_of r).region (ends_of r).variants ≡ joined r.variants
 variants_between r =
-    text_between-lists r.primary (to_region r) r.variants (flat_map extension_flat r.extensions ++ private_part_flat r.private_use) (to_variants r) (to_private_use r) (simp append_assoc) (simp append_assoc)
+    text_between-lists r.primary (drop 1 (to_region r)) r.variants (from_extensions r) (to_variants r) (flat r) (simp append_assoc) (simp append_assoc)
 
 pub extensions_between :
     (r : Record) →
     text_between (spell r) (ends_of r).variants (ends_of r).extensions ≡ joined (flat_map extension_flat r.extensions)
 extensions_between r =
-    text_between-lists r.primary (to_variants r) (flat_map extension_flat r.extensions) (private_part_flat r.private_use) (to_extensions r) (to_private_use r) (simp append_assoc) (simp append_assoc)
+    text_between-lists r.primary (drop 1 (to_variants r)) (flat_map extension_flat r.extensions) (private_part_flat r.private_use) (to_extensions r) (flat r) (simp append_assoc) (simp append_assoc)
 
 pub private_use_between : (r : Record) → text_between (spell r) (ends_of r).extensions (ends_of r).whole ≡ private_use_part r
 private_use_between r =
-    text_between-lists r.primary (to_extensions r) (private_part_flat r.private_use) [] (to_private_use r) (to_private_use r) (simp append_assoc) (simp (append_assoc, append-nil))
+    text_between-lists r.primary (drop 1 (to_extensions r)) (private_part_flat r.private_use) [] (flat r) (flat r) (simp append_assoc) (simp (append_assoc, append-nil))
     ∙ joined-private r.private_use
-
-longer : (x : List ℕ) (xs ys more : List (List ℕ)) → more ≡ xs ++ ys → length (join (x ∷ xs)) ≤ length (join (x ∷ more))
-longer x xs ys more cut = rw cut (join-longer x xs ys)
 
 -- no part ends before the one that it follows
 pub ends_in_order : (r : Record) → AreInOrder (ends_of r)
 ends_in_order r = record {
-  script = join-longer r.primary r.extended (one_flat r.script);
-  region = longer r.primary (to_script r) (one_flat r.region) (to_region r) (simp append_assoc);
-  variants = longer r.primary (to_region r) r.variants (to_variants r) (simp append_assoc);
-  extensions = longer r.primary (to_variants r) (flat_map extension_flat r.extensions) (to_extensions r) (simp append_assoc);
-  private_use = longer r.primary (to_extensions r) (private_part_flat r.private_use) (to_private_use r) (simp append_assoc);
+  script = simp (length-join, length-hyphenated) (omega arith);
+  region = simp (length-join, length-hyphenated) (omega arith);
+  variants = simp (length-join, length-hyphenated) (omega arith);
+  extensions = simp (length-join, length-hyphenated) (omega arith);
+  private_use = simp (length-join, length-hyphenated) (omega arith);
 }
 
 -- ---- the parts that are there, joined

@@ -13,8 +13,7 @@ use Rattle.langtag_scan.specs.Tag.{IsNormal}
 use Rattle.langtag_scan.specs.declared.ends.Ends.{Ends}
 use Rattle.langtag_scan.proofs.Ascii.{IsAscii-normal}
 use Rattle.langtag_scan.proofs.PartOffsets.{ends_in_order}
-use Rattle.langtag_scan.proofs.Complete.{decode_complete}
-use Rattle.langtag_scan.proofs.NormalTexts.{decoded_subtags, spelled_once, normal_from_runs, runs_from_normal}
+use Rattle.langtag_scan.proofs.NormalTexts.{flat_subtags, spelled_once, normal_from_runs, runs_from_normal}
 use Rattle.langtag_scan.proofs.SubtagLists.{length-subtags, subtags-joined}
 
 -- a text that a record spells is normal
@@ -51,7 +50,7 @@ ends_had text ends merely =
 -- are those of its record
 pub subtags-spelled : (text : List ℕ) → EachRecord text (λ r. subtags text ≡ flat r)
 subtags-spelled text r spells =
-    ap subtags (sym spells.1) ∙ subtags-joined (flat r) (decoded_subtags (flat r) _ _ (decode_complete r spells.0))
+    ap subtags (sym spells.1) ∙ subtags-joined (flat r) (flat_subtags r spells.0)
 
 -- and no more of them than `count` can answer
 pub ruleset tag_subtags = (subtags-spelled, length-subtags)

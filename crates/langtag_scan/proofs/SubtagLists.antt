@@ -7,9 +7,9 @@ use Rattle.std.proofs.lemmas.Str.{IsCharBoundary-after_ascii}
 use Rattle.std.specs.List.{onto_first, AllByRecursion, list_all}
 use Rattle.std.proofs.lemmas.List.Splits.{slice_split-cons_yes, slice_split-cons_no, slice_split_none, slice_split_at, length-slice_split, join_with_byte-slice_split}
 use Rattle.std.proofs.lemmas.List.Elements.{All-nil, All-cons, All-head, All-tail, All-from_recursion, All-weaker}
-use Rattle.std.proofs.lemmas.Grind.{common_steps}
 use Rattle.std.proofs.lemmas.List.Sums.{count_by-le-length}
 use Rattle.langtag_scan.specs.Subtags.{is_hyphen, IsHyphenFree, join, segments, subtags, segments_left}
+use Rattle.langtag_scan.proofs.Joins.{length-join}
 use Rattle.langtag_scan.proofs.SubtagFacts.{IsSubtag, no_hyphen}
 
 -- ---- the first and the last segment
@@ -82,15 +82,6 @@ subtags-segments : (text : List ℕ) → 0 < length text → subtags text ≡ se
 subtags-segments [] some = absurd (omega (arith, some))
 subtags-segments (b ∷ text) some = refl
 
--- nonempty texts with no hyphen are the subtags of their join
-pub subtags-join : (texts : List (List ℕ)) → All IsHyphenFree texts → All (λ text. 0 < length text) texts → subtags (join texts) ≡ texts
-subtags-join [] free some = refl
-subtags-join (first ∷ []) free some =
-    subtags-segments first (All-head (λ text. 0 < length text) first [] some) ∙ segments-join first [] free
-subtags-join (first ∷ second ∷ texts) free some =
-    subtags-segments (join (first ∷ second ∷ texts)) (grind (arith, common_steps, All-head (λ text. 0 < length text) first (second ∷ texts) some))
-    ∙ segments-join first (second ∷ texts) free
-
 -- the subtags of a text, joined, are the text
 pub join-subtags : (text : List ℕ) → join (subtags text) ≡ text
 join-subtags [] = refl
@@ -112,17 +103,15 @@ pub each_subtag :
 each_subtag test shows [] h = tt
 each_subtag test shows (s ∷ ss) h = (shows s h.0, each_subtag test shows ss h.1)
 
--- subtags that were joined are found again
-pub subtags-joined : (ss : List (List ℕ)) → AllByRecursion IsSubtag ss → subtags (join ss) ≡ ss
-subtags-joined ss fits =
-    let each = All-from_recursion IsSubtag ss fits in
-    subtags-join ss (All-weaker IsSubtag IsHyphenFree no_hyphen ss each)
-    (All-weaker IsSubtag (λ (s : List ℕ). 0 < length s) (λ s subtag. omega (arith, subtag.some)) ss each)
-
--- and the segments of the join are those subtags
+-- subtags that were joined are the segments of the join
 pub segments-joined : (s : List ℕ) (ss : List (List ℕ)) → AllByRecursion IsSubtag (s ∷ ss) → segments (join (s ∷ ss)) ≡ s ∷ ss
 segments-joined s ss fits =
     segments-join s ss (All-weaker IsSubtag IsHyphenFree no_hyphen (s ∷ ss) (All-from_recursion IsSubtag (s ∷ ss) fits))
+
+-- and its subtags
+pub subtags-joined : (ss : List (List ℕ)) → AllByRecursion IsSubtag ss → subtags (join ss) ≡ ss
+subtags-joined [] fits = refl
+subtags-joined (s ∷ ss) fits = subtags-segments (join (s ∷ ss)) (omega (arith, length-join s ss, fits.0.some)) ∙ segments-joined s ss fits
 
 -- ---- how many subtags there are
 
