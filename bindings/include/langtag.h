@@ -52,8 +52,8 @@ static inline const char *langtag_bytes(const void *pointer) {
 #endif
 }
 
-/* What a text is. The regular grandfathered tags, as zh-min-nan, are normal. */
-enum langtag_tag_kind {
+/* What langtag_kind and langtag_parse answer. The regular grandfathered tags, as zh-min-nan, are normal. */
+enum langtag_kind_answer {
     LANGTAG_NONE = 0,        /* no language tag */
     LANGTAG_NORMAL = 1,      /* rule langtag: zh-Hant-TW */
     LANGTAG_PRIVATE_USE = 2, /* rule privateuse: x-fr-CH */
@@ -77,8 +77,8 @@ typedef struct langtag_parts {
 } langtag_parts;
 
 /*
- * Decides what the bytes are (RFC 5646 section 2.1), answers an enum langtag_tag_kind, and writes where the parts stand
- * (out), whatever the answer.
+ * Decides what the bytes are (RFC 5646 section 2.1), answers an enum langtag_kind_answer, and writes where the parts
+ * stand (out), whatever the answer.
  *
  * Each span lies within the text. A part that is absent has the length 0, and of a normal tag stands where the part
  * before it ends. A tag for private use as a whole has all of its text as `private_use`, and no other part. Of an
@@ -124,8 +124,8 @@ void langtag_fold(char *bytes, size_t len);
 /*
  * Writes a text in the case that RFC 5646 section 2.1.1 recommends, in place: small letters, but for subtags of two
  * bytes, which get capitals (CH), and of four, which get one capital at their head (Latn), where they neither begin the
- * text nor stand after a subtag of one byte. The text may be any bytes. The new text equals the old one but for case; a
- * tag stays one of its kind, with its parts where they were.
+ * text nor stand anywhere after a subtag of one byte. The text may be any bytes. The new text equals the old one but for
+ * case; a tag stays one of its kind, with its parts where they were.
  */
 void langtag_recommend(char *bytes, size_t len);
 
@@ -137,7 +137,8 @@ void langtag_recommend(char *bytes, size_t len);
  *     while (langtag_next_subtag(text, len, &rest, &variant))
  *         printf("%.*s\n", (int)variant.len, text + variant.start);
  *
- * False, with `rest` and `subtag` as they were, exactly where `rest` is empty or does not lie within the text.
+ * False, with `rest` and `subtag` as they were, exactly where `rest` is empty or does not lie within the text. So an
+ * empty subtag behind the last hyphen is not handed out: of "a-" there is one subtag, and of "a--b" the second is empty.
  */
 bool langtag_next_subtag(const char *bytes, size_t len, langtag_span *rest, langtag_span *subtag);
 
@@ -153,13 +154,13 @@ typedef struct langtag_repeated {
     langtag_span singleton; /* the first singleton, one byte, that equals an earlier one but for case */
 } langtag_repeated;
 
-/* The bits of the answer of langtag_repeats. */
-enum langtag_repeat { LANGTAG_REPEATED_VARIANT = 1, LANGTAG_REPEATED_SINGLETON = 2 };
+/* The bits of what langtag_repeats answers. */
+enum langtag_repeats_answer { LANGTAG_REPEATED_VARIANT = 1, LANGTAG_REPEATED_SINGLETON = 2 };
 
 /*
  * Whether a normal tag has a variant or a singleton twice: such a tag is well formed and not valid (RFC 5646
- * section 2.2.9). Answers the bits of enum langtag_repeat, 0 for what is no normal tag, and writes where the repeats
- * stand (out), whatever the answer.
+ * section 2.2.9). Answers the bits of enum langtag_repeats_answer, 0 for what is no normal tag, and writes where the
+ * repeats stand (out), whatever the answer.
  *
  * The time of all other calls grows with the length, and of this one with its square where there are more than 8192
  * variants (0.1 s for a text of 1 MB, 5 s for one of 9 MB): limit the length of texts from strangers.
@@ -179,14 +180,14 @@ uint32_t langtag_repeats(const char *bytes, size_t len, langtag_repeated *repeat
 #define LANGTAG_GRANDFATHERED_COUNT 26u
 LANGTAG_PURE uint32_t langtag_grandfathered(const char *bytes, size_t len);
 
-/* What a text is as a language range (RFC 4647 section 2). */
-enum langtag_range {
+/* What langtag_range_kind answers (RFC 4647 section 2). */
+enum langtag_range_kind_answer {
     LANGTAG_RANGE_NONE = 0,    /* no language range */
     LANGTAG_RANGE_BASIC = 1,   /* a basic one (section 2.1): de-CH, or * alone */
     LANGTAG_RANGE_EXTENDED = 2 /* an extended one that is not basic (section 2.2): *-CH, de-*-DE */
 };
 
-/* Which kind of language range the bytes are: an enum langtag_range. */
+/* Which kind of language range the bytes are: an enum langtag_range_kind_answer. */
 LANGTAG_PURE uint32_t langtag_range_kind(const char *bytes, size_t len);
 
 /*
