@@ -164,7 +164,7 @@ enum langtag_repeats_answer { LANGTAG_REPEATED_VARIANT = 1, LANGTAG_REPEATED_SIN
  * repeats stand (out), whatever the answer.
  *
  * The time of all other calls grows with the length, and of this one with its square where there are more than 8192
- * variants (0.1 s for a text of 1 MB, 5 s for one of 9 MB): limit the length of texts from strangers.
+ * variants (about 0.15 s for a text of 1 MB, and 11 s for one of 10 MB): limit the length of texts from strangers.
  */
 uint32_t langtag_repeats(const char *bytes, size_t len, langtag_repeated *repeated);
 

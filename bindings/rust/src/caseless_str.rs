@@ -15,7 +15,7 @@ use crate::{ffi, LangTag};
 /// assert_eq!(words.get(LangTag::new("de-ch")?.as_caseless_str()), Some(&"Velo"));
 /// # Ok::<(), Box<dyn std::error::Error>>(())
 /// ```
-#[repr(transparent)]
+#[repr(transparent)] // on which the cast of `ffi::caseless_str` rests
 pub struct CaselessStr(str);
 
 impl CaselessStr {
