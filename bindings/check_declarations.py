@@ -1,6 +1,8 @@
 #!/usr/bin/env python3
 """Whether all who declare the C interface declare the same: crates/langtag_c, which defines it, the header, and the Rust
-and Python bindings. It compares names, types and order of parameters, and the members of the structs.
+and Python bindings. It compares names, types and order of parameters, and the members of the structs; and it asks that
+the header says LANGTAG_PURE of each function that writes nothing and answers something, and of no other. What the
+numbers mean is not compared: the tests of each language hold its constants against the library.
 
     check_declarations.py [ROOT]    the root of the repository; else that in which this file stands
 """
@@ -19,6 +21,10 @@ Member = tuple[str, "str | None"]
 class Function(NamedTuple):
     result: str
     parameters: list[Member]
+
+    def is_pure(self) -> bool:
+        """Whether the answer is all that a call does: no pointer is one to write by."""
+        return self.result != "void" and not any(re.fullmatch(r"(?!const ).*\*", kind) for kind, _ in self.parameters)
 
 
 class Interface(NamedTuple):
@@ -64,8 +70,12 @@ def rust_structs(source: str) -> dict[str, list[Member]]:
     return {STRUCTS[name]: [(types[kind], field) for field, kind in pairs(body)] for name, body in found}
 
 
+def header(root: pathlib.Path) -> str:
+    return without_comments((root / "bindings/include/langtag.h").read_text())
+
+
 def of_header(root: pathlib.Path) -> Interface:
-    source = without_comments((root / "bindings/include/langtag.h").read_text())
+    source = header(root)
     functions, structs = {}, {}
     declaration = r"^(?:LANGTAG_PURE )?(\w+) (langtag_\w+)\(([^)]*)\);"
     for result, name, parameters in re.findall(declaration, source, flags=re.M):
@@ -127,6 +137,13 @@ def differences(where: str, crate: Interface, other: Interface) -> list[str]:
     return sorted(found)
 
 
+def wrongly_pure(functions: dict[str, Function], source: str) -> list[str]:
+    """Where the header's word LANGTAG_PURE is lacking, and where it promises too much."""
+    said = set(re.findall(r"^LANGTAG_PURE \w+ (\w+)\(", source, flags=re.M))
+    return [f"{name}: the header {'says' if name in said else 'does not say'} LANGTAG_PURE"
+            for name, function in sorted(functions.items()) if function.is_pure() != (name in said)]
+
+
 def main(root: pathlib.Path) -> int:
     crate = of_crate(root)
     if not crate.functions or not crate.structs:
@@ -134,6 +151,7 @@ def main(root: pathlib.Path) -> int:
         return 1
     others = (("the header", of_header), ("ffi.rs", of_rust), ("langtag.py", of_python))
     found = [line for where, read in others for line in differences(where, crate, read(root))]
+    found += wrongly_pure(crate.functions, header(root))
     count = f"{len(crate.functions)} functions and {len(crate.structs)} structs"
     print("\n".join(found) or f"{count}: crate, header, ffi.rs and langtag.py agree")
     return 1 if found else 0

@@ -9,7 +9,7 @@ It looks at what is well formed, and not at the registry of subtags. Texts are s
 ({'u': ('co', 'pinyin')}, 'x-mine')
 >>> tag == parse("ZH-YUE-hant-hk-U-CO-pinyin-x-MINE")
 True
->>> Range("zh-*-HK").matches(tag)
+>>> Range("zh-*-HK").matches_extended(tag)
 True
 >>> parse("zh_Hant")
 Traceback (most recent call last):
@@ -116,7 +116,8 @@ class Kind(enum.Enum):
 
 
 class InvalidTag(ValueError):
-    """A text that is no language tag: `text`. Some tag begins with its first `viable` bytes, and none with one more."""
+    """A text that is no language tag: `text`. Some tag begins with its first `viable` bytes, and none with one more, where
+    there is one more."""
 
     def __init__(self, text: Text):
         self.text = text
@@ -354,15 +355,15 @@ class Range(_Caseless):
         """Whether it is a basic range (section 2.1): de-CH, or * alone."""
         return self._is_basic
 
-    def matches(self, tag: Tag) -> bool:
-        """Whether it matches a tag by extended filtering (section 3.3.2): de-DE matches de-Latn-DE."""
-        data = _bytes_of_tag(tag)
-        return bool(_c.langtag_matches_extended(self._data, len(self._data), data, len(data)))
-
     def matches_basic(self, tag: Tag) -> bool:
         """Whether it matches a tag by basic filtering (section 3.3.1): de-DE matches de-DE-1996, and not de-Latn-DE."""
         data = _bytes_of_tag(tag)
         return bool(_c.langtag_matches_basic(self._data, len(self._data), data, len(data)))
+
+    def matches_extended(self, tag: Tag) -> bool:
+        """Whether it matches a tag by extended filtering (section 3.3.2): de-DE matches de-Latn-DE."""
+        data = _bytes_of_tag(tag)
+        return bool(_c.langtag_matches_extended(self._data, len(self._data), data, len(data)))
 
 
 Range._base = Range

@@ -133,7 +133,7 @@ class Ranges(unittest.TestCase):
 
     def test_matching(self):
         def matches(range, tag):
-            return Range(range).matches_basic(parse(tag)), Range(range).matches(parse(tag))
+            return Range(range).matches_basic(parse(tag)), Range(range).matches_extended(parse(tag))
 
         self.assertEqual(matches("de-de", "de-DE-1996"), (True, True))
         self.assertEqual(matches("de-*-DE", "de-Latn-DE"), (False, True))
@@ -143,7 +143,7 @@ class Ranges(unittest.TestCase):
     def test_matching_of_no_tag(self):
         for value in ("de", b"de", None, Range("de")):
             with self.assertRaises(TypeError):
-                Range("de").matches(value)
+                Range("de").matches_extended(value)
             with self.assertRaises(TypeError):
                 Range("de").matches_basic(value)
 

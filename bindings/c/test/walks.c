@@ -18,6 +18,16 @@ static void whole_walks(void) {
     CHECK(!langtag_next_extension(text, len, &rest, &got) && is(text, got, "t-en"));
 }
 
+/* An empty subtag is handed out where a hyphen follows it, and not at the end. */
+static void empty_subtags(void) {
+    langtag_span rest = {0, 2}, got;
+    CHECK(langtag_next_subtag("a-", 2, &rest, &got) && got.len == 1 && !langtag_next_subtag("a-", 2, &rest, &got));
+    rest = (langtag_span){0, 4};
+    CHECK(langtag_next_subtag("a--b", 4, &rest, &got) && got.len == 1);
+    CHECK(langtag_next_subtag("a--b", 4, &rest, &got) && got.start == 2 && got.len == 0);
+    CHECK(langtag_next_subtag("a--b", 4, &rest, &got) && got.start == 3 && got.len == 1);
+}
+
 static void spans_from_elsewhere(void) {
     static const langtag_span odd[] = {{0, 0},          {99, 1},         {0, 99}, {(size_t)-1, 2},
                                        {2, (size_t)-1}, {3, (size_t)-2}, {35, 1}};
@@ -30,5 +40,6 @@ static void spans_from_elsewhere(void) {
 
 void test_walks(void) {
     whole_walks();
+    empty_subtags();
     spans_from_elsewhere();
 }

@@ -38,6 +38,18 @@ macro_rules! caseless {
             }
         }
 
+        impl PartialEq<$name $(<$lifetime>)?> for str {
+            fn eq(&self, other: &$name $(<$lifetime>)?) -> bool {
+                other == self
+            }
+        }
+
+        impl PartialEq<$name $(<$lifetime>)?> for &str {
+            fn eq(&self, other: &$name $(<$lifetime>)?) -> bool {
+                other == *self
+            }
+        }
+
         impl Ord for $name $(<$lifetime>)? {
             fn cmp(&self, other: &Self) -> core::cmp::Ordering {
                 crate::ffi::cmp(self.as_str(), other.as_str()).cmp(&0)

@@ -1,3 +1,5 @@
+#[cfg(feature = "alloc")]
+use alloc::string::String;
 use core::error::Error;
 use core::fmt;
 
@@ -23,13 +25,6 @@ impl<T: AsRef<str>> fmt::Display for InvalidLangTag<T> {
 
 impl<T: AsRef<str> + fmt::Debug> Error for InvalidLangTag<T> {}
 
-#[cfg(feature = "alloc")]
-impl From<InvalidLangTag<&str>> for InvalidLangTag<alloc::string::String> {
-    fn from(error: InvalidLangTag<&str>) -> Self {
-        InvalidLangTag(error.0.into())
-    }
-}
-
 /// A text that is no language range. It hands the text back.
 #[derive(Clone, Copy, Debug, PartialEq, Eq)]
 pub struct InvalidLanguageRange<T>(pub T);
@@ -41,3 +36,24 @@ impl<T: AsRef<str>> fmt::Display for InvalidLanguageRange<T> {
 }
 
 impl<T: AsRef<str> + fmt::Debug> Error for InvalidLanguageRange<T> {}
+
+/// Writes the way from an error that borrows its text to one that owns it.
+#[cfg(feature = "alloc")]
+macro_rules! owned {
+    ($($name:ident),+) => {$(
+        impl $name<&str> {
+            /// The same error with a copy of the text, which outlives what was read.
+            pub fn into_owned(self) -> $name<String> {
+                $name(self.0.into())
+            }
+        }
+
+        impl From<$name<&str>> for $name<String> {
+            fn from(error: $name<&str>) -> Self {
+                error.into_owned()
+            }
+        }
+    )+};
+}
+#[cfg(feature = "alloc")]
+owned!(InvalidLangTag, InvalidLanguageRange);

@@ -33,6 +33,15 @@ impl<'a> IntoIterator for Extension<'a> {
     }
 }
 
+impl<'a> IntoIterator for &Extension<'a> {
+    type Item = &'a str;
+    type IntoIter = Subtags<'a>;
+
+    fn into_iter(self) -> Subtags<'a> {
+        self.iter()
+    }
+}
+
 /// The extensions of a tag, none or more.
 #[derive(Clone, Copy, Default)]
 pub struct Extensions<'a>(&'a str);
@@ -74,6 +83,15 @@ impl<'a> Extensions<'a> {
 }
 
 impl<'a> IntoIterator for Extensions<'a> {
+    type Item = Extension<'a>;
+    type IntoIter = ExtensionsIter<'a>;
+
+    fn into_iter(self) -> ExtensionsIter<'a> {
+        self.iter()
+    }
+}
+
+impl<'a> IntoIterator for &Extensions<'a> {
     type Item = Extension<'a>;
     type IntoIter = ExtensionsIter<'a>;
 

@@ -8,7 +8,7 @@
 use alloc::string::String;
 use core::mem::MaybeUninit;
 
-use crate::Kind;
+use crate::{CaselessStr, Kind};
 
 #[repr(C)]
 #[derive(Clone, Copy)]
@@ -218,6 +218,13 @@ pub(crate) fn eq(a: &str, b: &str) -> bool {
 pub(crate) fn cmp(a: &str, b: &str) -> i32 {
     // SAFETY: as above.
     unsafe { c::langtag_cmp(a.as_ptr(), a.len(), b.as_ptr(), b.len()) }
+}
+
+#[inline]
+pub(crate) fn caseless_str(text: &str) -> &CaselessStr {
+    let text: *const str = text;
+    // SAFETY: `CaselessStr` is a `str` and nothing else (`repr(transparent)`), and is as long lent as the text.
+    unsafe { &*(text as *const CaselessStr) }
 }
 
 pub(crate) fn hash(state: u64, bytes: &[u8]) -> u64 {

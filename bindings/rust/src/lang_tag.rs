@@ -1,6 +1,8 @@
 use crate::caseless::caseless;
 use crate::ffi::{self, Parsed, Part};
-use crate::{Extensions, InvalidLangTag, Kind, Language, PrivateUse, Subtags, Variants};
+use crate::{
+    CaselessStr, Extensions, InvalidLangTag, Kind, Language, PrivateUse, Subtags, Variants,
+};
 
 /// The 26 grandfathered tags as they are registered, in the order of RFC 5646 section 2.1: first the seventeen irregular ones.
 pub const GRANDFATHERED: [&str; 26] = [
@@ -32,8 +34,9 @@ pub const GRANDFATHERED: [&str; 26] = [
     "zh-xiang",
 ];
 
-/// A language tag over a borrowed text (RFC 5646 section 2.1). It is read once, by [`LangTag::new`]: the parts are slices of
-/// the text at places that are kept.
+/// A language tag over a borrowed text (RFC 5646 section 2.1). [`LangTag::new`] reads it once, and keeps the places of its
+/// parts, which are slices of the text. What is asked of the whole tag goes over its text at each call, as
+/// [`LangTag::repeated_variant`] and [`LanguageRange::matches_basic`](crate::LanguageRange::matches_basic) do.
 #[derive(Clone, Copy)]
 pub struct LangTag<'a>(Parsed<&'a str>);
 
@@ -69,6 +72,12 @@ impl<'a> LangTag<'a> {
     #[inline]
     pub fn as_bytes(&self) -> &'a [u8] {
         self.as_str().as_bytes()
+    }
+
+    /// The text without its case, to ask a map by.
+    #[inline]
+    pub fn as_caseless_str(&self) -> &'a CaselessStr {
+        CaselessStr::new(self.as_str())
     }
 
     /// What kind of tag it is.

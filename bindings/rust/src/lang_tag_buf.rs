@@ -3,7 +3,7 @@ use core::str::FromStr;
 
 use crate::caseless::caseless;
 use crate::ffi::Parsed;
-use crate::{InvalidLangTag, LangTag};
+use crate::{CaselessStr, InvalidLangTag, LangTag};
 
 /// A language tag that owns its text. [`as_lang_tag`](LangTagBuf::as_lang_tag) lends it, and has the parts.
 ///
@@ -43,6 +43,12 @@ impl LangTagBuf {
         self.0.lend().text()
     }
 
+    /// The text without its case, to ask a map by.
+    #[inline]
+    pub fn as_caseless_str(&self) -> &CaselessStr {
+        CaselessStr::new(self.as_str())
+    }
+
     /// The very text that it was made of.
     pub fn into_string(self) -> String {
         self.0.into_text()
@@ -80,6 +86,18 @@ impl From<LangTag<'_>> for LangTagBuf {
 impl From<LangTagBuf> for String {
     fn from(tag: LangTagBuf) -> Self {
         tag.into_string()
+    }
+}
+
+impl PartialEq<String> for LangTagBuf {
+    fn eq(&self, other: &String) -> bool {
+        *self == **other
+    }
+}
+
+impl PartialEq<LangTagBuf> for String {
+    fn eq(&self, other: &LangTagBuf) -> bool {
+        *other == **self
     }
 }
 

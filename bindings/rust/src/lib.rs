@@ -16,9 +16,25 @@
 //! # Ok::<(), Box<dyn std::error::Error>>(())
 //! ```
 //!
+//! A refusal hands the text back, and so lives no longer than it. To leave a function as a boxed error it takes a copy along,
+//! by [`into_owned`](InvalidLangTag::into_owned):
+//!
+//! ```
+//! use langtag_verified::{InvalidLangTag, InvalidLanguageRange, LangTag, LanguageRange};
+//!
+//! fn is_of(tag: &str, range: &str) -> Result<bool, Box<dyn std::error::Error>> {
+//!     let tag = LangTag::new(tag).map_err(InvalidLangTag::into_owned)?;
+//!     let range = LanguageRange::new(range).map_err(InvalidLanguageRange::into_owned)?;
+//!     Ok(range.matches_basic(&tag))
+//! }
+//! assert!(is_of("de-CH-1996", "de-ch")?);
+//! # Ok::<(), Box<dyn std::error::Error>>(())
+//! ```
+//!
 //! The tags hold a text and where its parts stand in it: [`LangTag`] borrows its text, and [`LangTagBuf`] (feature `alloc`)
 //! owns it. All comparisons ignore the case of ASCII letters, and so does every hash; that is why nothing here implements
-//! `Borrow<str>`. Of two texts of which one begins the other, the shorter is the greater.
+//! `Borrow<str>`. A map by tags is asked by a [`CaselessStr`], without memory. Of two texts of which one begins the other,
+//! the shorter is the greater.
 //!
 //! The crate needs neither std nor, without the feature `alloc`, memory. The feature `serde` reads and writes tags as
 //! strings. It links the static library `liblangtag_c.a`, which the build script looks for in the folder that
@@ -34,6 +50,7 @@
 extern crate alloc;
 
 mod caseless;
+mod caseless_str;
 mod error;
 mod extension;
 #[allow(unsafe_code)]
@@ -51,6 +68,7 @@ mod serde;
 mod subtags;
 mod variants;
 
+pub use caseless_str::CaselessStr;
 pub use error::{InvalidLangTag, InvalidLanguageRange};
 pub use extension::{Extension, Extensions, ExtensionsIter};
 pub use kind::Kind;

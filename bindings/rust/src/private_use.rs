@@ -32,4 +32,13 @@ impl<'a> IntoIterator for PrivateUse<'a> {
     }
 }
 
+impl<'a> IntoIterator for &PrivateUse<'a> {
+    type Item = &'a str;
+    type IntoIter = Subtags<'a>;
+
+    fn into_iter(self) -> Subtags<'a> {
+        self.iter()
+    }
+}
+
 caseless!(PrivateUse<'_>);

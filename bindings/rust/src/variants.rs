@@ -48,4 +48,13 @@ impl<'a> IntoIterator for Variants<'a> {
     }
 }
 
+impl<'a> IntoIterator for &Variants<'a> {
+    type Item = &'a str;
+    type IntoIter = Subtags<'a>;
+
+    fn into_iter(self) -> Subtags<'a> {
+        self.iter()
+    }
+}
+
 caseless!(Variants<'_>);

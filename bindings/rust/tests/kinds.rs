@@ -57,3 +57,23 @@ fn where_a_text_goes_wrong() {
         "invalid language tag \"zh_Hant\""
     );
 }
+
+/// What leaves a function as a boxed error takes a copy of the text along.
+#[cfg(feature = "alloc")]
+#[test]
+fn refusals_outlive_their_text() {
+    use langtag_verified::{InvalidLanguageRange, LanguageRange};
+
+    fn read(tag: &str, range: &str) -> Result<(), Box<dyn std::error::Error>> {
+        LangTag::new(tag).map_err(InvalidLangTag::into_owned)?;
+        LanguageRange::new(range).map_err(InvalidLanguageRange::into_owned)?;
+        Ok(())
+    }
+    fn read_range(range: &str) -> Result<bool, InvalidLanguageRange<String>> {
+        Ok(LanguageRange::new(range)?.is_basic())
+    }
+    let error = |tag, range| read(tag, range).unwrap_err().to_string();
+    assert_eq!(error("a b", "*"), "invalid language tag \"a b\"");
+    assert_eq!(error("de", "d*"), "invalid language range \"d*\"");
+    assert_eq!(read_range("d*"), Err(InvalidLanguageRange("d*".into())));
+}

@@ -1,8 +1,8 @@
 //! Tags that own their text.
 #![cfg(feature = "alloc")]
-use std::collections::HashMap;
+use std::collections::{BTreeMap, HashMap};
 
-use langtag_verified::{InvalidLangTag, LangTag, LangTagBuf};
+use langtag_verified::{CaselessStr, InvalidLangTag, LangTag, LangTagBuf};
 
 #[test]
 fn keep_their_text() {
@@ -26,6 +26,8 @@ fn are_made_of_lent_ones() {
     let owned = lent.to_buf();
     assert_eq!(owned, lent);
     assert_eq!(lent, owned);
+    assert_eq!(owned, String::from("ZH-hant-X-A"));
+    assert_eq!(String::from("ZH-hant-X-A"), owned);
     assert_eq!(owned.as_lang_tag().private_use(), lent.private_use());
     assert_eq!(String::from(owned), "zh-Hant-x-a");
 }
@@ -38,6 +40,23 @@ fn are_keys() {
         Some(&1)
     );
     assert_eq!("a b".parse::<LangTagBuf>().unwrap_err().0, "a b");
+}
+
+#[test]
+fn are_found_by_what_owns_nothing() {
+    let tag: LangTagBuf = "en-US".parse().unwrap();
+    let hashed = HashMap::from([(tag.clone(), 1)]);
+    let sorted = BTreeMap::from([(tag, 1)]);
+    for text in ["en-US", "EN-us"] {
+        let lent = LangTag::new(text).unwrap();
+        assert_eq!(hashed.get(lent.as_caseless_str()), Some(&1));
+        assert_eq!(sorted.get(lent.to_buf().as_caseless_str()), Some(&1));
+        assert_eq!(hashed.get(CaselessStr::new(text)), Some(&1));
+    }
+    for text in ["en", "en-UK", "no tag", ""] {
+        assert_eq!(hashed.get(CaselessStr::new(text)), None);
+        assert_eq!(sorted.get(CaselessStr::new(text)), None);
+    }
 }
 
 #[test]

@@ -61,6 +61,13 @@ fn that_are_lists() {
         .map(|e| (e.singleton(), e.as_str()))
         .eq([('u', "u-co-phonebk"), ('A', "A-bb")]));
     assert!(tag.extensions().get('a').unwrap().iter().eq(["bb"]));
+    let mut walked = Vec::new();
+    for extension in &tag.extensions() {
+        walked.extend(&extension);
+    }
+    walked.extend(&tag.variants());
+    walked.extend(&tag.private_use().unwrap());
+    assert_eq!(walked, ["co", "phonebk", "bb", "1996", "ab1cd", "a"]);
     assert!(tag.extensions().iter_extension('U').eq(["co", "phonebk"]));
     assert!(
         tag.extensions().get('b').is_none()

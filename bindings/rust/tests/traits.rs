@@ -3,7 +3,7 @@ use std::collections::hash_map::DefaultHasher;
 use std::collections::{BTreeSet, HashSet};
 use std::hash::{Hash, Hasher};
 
-use langtag_verified::{LangTag, LanguageRange};
+use langtag_verified::{CaselessStr, LangTag, LanguageRange};
 
 fn hash(value: impl Hash) -> u64 {
     let mut hasher = DefaultHasher::new();
@@ -20,6 +20,8 @@ fn case_is_ignored() {
     assert_eq!(small, large);
     assert_eq!((hash(small), small.fnv1a()), (hash(large), large.fnv1a()));
     assert_eq!(small, "Zh-Hant");
+    assert_eq!("Zh-Hant", small);
+    assert_eq!(*"Zh-Hant", small);
     assert_ne!(small, "zh-han");
     assert_eq!(HashSet::from([small, large]).len(), 1);
     assert_eq!(LanguageRange::new("DE-*"), LanguageRange::new("de-*"));
@@ -27,6 +29,21 @@ fn case_is_ignored() {
         LangTag::new("de-U-co").unwrap().extensions(),
         LangTag::new("fr-u-CO").unwrap().extensions()
     );
+}
+
+/// A text that a map is asked by is compared, ordered and hashed as the tag is.
+#[test]
+fn texts_without_case() {
+    let tags = ["de-DE", "zh", "DE-de", "zh-Latn", "de"].map(|text| LangTag::new(text).unwrap());
+    for (a, b) in tags.iter().flat_map(|a| tags.iter().map(move |b| (a, b))) {
+        let (text, other) = (a.as_caseless_str(), CaselessStr::new(b.as_str()));
+        assert_eq!(
+            (a == b, a.cmp(b), hash(a)),
+            (text == other, text.cmp(other), hash(text))
+        );
+    }
+    assert_eq!(CaselessStr::new("ZH").as_str(), "ZH");
+    assert_eq!(CaselessStr::new("ZH"), "zh");
 }
 
 #[test]

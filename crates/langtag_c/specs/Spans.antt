@@ -53,6 +53,10 @@ private_alone len = record {
   private_use = record { start = 0; len = len };
 }
 
+-- no part at all
+abbrev pub no_parts : Parts
+no_parts = private_alone 0
+
 -- the spans have the parts of a record; one that is absent has no byte
 pub record ArePartsOf (text : List ℕ) (r : Record) (parts : Parts) : Type 0 where
   pub language : span_text text parts.language ≡ language_part r

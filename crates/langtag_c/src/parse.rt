@@ -6,7 +6,7 @@ ghost use Rattle.langtag_scan.specs.Parts.{AreInOrder};
 ghost use Rattle.langtag_scan.specs.Record.{EachRecord};
 ghost use Rattle.langtag_scan.specs.Tag.{IsTag, IsNormal, IsPrivate};
 ghost use Rattle.langtag_c.specs.Answers.{IsKind};
-ghost use Rattle.langtag_c.specs.Spans.{AreWithin, ArePartsOf, spans_at, private_alone};
+ghost use Rattle.langtag_c.specs.Spans.{AreWithin, ArePartsOf, spans_at, no_parts, private_alone};
 
 use crate::span::Span;
 use langtag_scan::{Ends, Found, MeteredBytes, recognise};
@@ -42,8 +42,15 @@ impl Parts {
         }
     }
 
+    /// No part at all.
+    pub(crate) fn none() -> Parts
+        ensures { result ≡ no_parts }
+    {
+        Parts::private_alone(0)
+    }
+
     /// No part but one for private use, of this length.
-    pub(crate) fn private_alone(len: usize) -> Parts
+    fn private_alone(len: usize) -> Parts
         ensures { result ≡ private_alone len }
     {
         Parts {
@@ -91,11 +98,11 @@ pub extern "C" fn langtag_parse(bytes: &[u8], parts: &mut Parts) -> u32
     ensures parts { EachRecord bytes.now (λ r. ArePartsOf bytes.now r parts.new) }
     ensures spans { EachRecord bytes.now (λ r. parts.new ≡ spans_at (ends_of r)) }
     ensures private_use { IsPrivate bytes.now → parts.new ≡ private_alone (length bytes.now) }
-    ensures other { (IsNormal bytes.now → ⊥) → (IsPrivate bytes.now → ⊥) → parts.new ≡ private_alone 0 }
+    ensures other { (IsNormal bytes.now → ⊥) → (IsPrivate bytes.now → ⊥) → parts.new ≡ no_parts }
     ensures within { AreWithin bytes.now parts.new }
 {
     let Some(found) = found_of(bytes) else {
-        *parts = Parts::private_alone(0);
+        *parts = Parts::none();
         return 0;
     };
     if let Some(ends) = found.ends() {
@@ -105,7 +112,7 @@ pub extern "C" fn langtag_parse(bytes: &[u8], parts: &mut Parts) -> u32
         *parts = Parts::private_alone(bytes.len());
         2
     } else {
-        *parts = Parts::private_alone(0);
+        *parts = Parts::none();
         3
     }
 }

@@ -44,7 +44,7 @@ pub extern "C" fn langtag_repeats(bytes: &[u8], repeated: &mut Repeated) -> u32
         };
         return 0;
     };
-    let mut parts = Parts::private_alone(0);
+    let mut parts = Parts::none();
     let _normal = langtag_parse(bytes, &mut parts);
     let variant = repeated_variant(&tag, parts.variants.start);
     let singleton = repeated_singleton(&tag, parts.extensions.start);

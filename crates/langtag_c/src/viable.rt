@@ -14,15 +14,10 @@ pub extern "C" fn langtag_viable(bytes: &[u8]) -> usize
 
 /// The length in bytes of the shortest prefix with which no tag begins, or that of all bytes where each prefix begins one:
 /// how far a reader has to read to know whether they are a tag. It is 3 of `zh_Hant`, and of `zh-`.
-#[tactic(auto, using(crate::proofs::StopLaws::stop_after, crate::proofs::StopLaws::stop_end))]
+#[tactic(auto, using(crate::proofs::StopLaws::stop_after_viable))]
 #[unsafe(no_mangle)]
 pub extern "C" fn langtag_stop(bytes: &[u8]) -> usize
     ensures { IsStop bytes.now result }
 {
-    let viable = viable_len(bytes);
-    if viable < bytes.len() {
-        viable + 1
-    } else {
-        viable
-    }
+    bytes.len().min(viable_len(bytes) + 1)
 }
