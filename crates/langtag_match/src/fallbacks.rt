@@ -74,11 +74,11 @@ fn ends_in_single(text: &str) -> bool
     ensures { (before : List (List ℕ)) × (last : List ℕ) × (segments text.now ≡ before ++ last ∷ []) × (result ≡ is_single_alphanum last) }
 {
     let bytes = text.as_bytes();
-    is_single(&bytes[segment_start(bytes, bytes.len())..])
+    is_single_alphanum(&bytes[segment_start(bytes, bytes.len())..])
 }
 
 /// Whether a subtag of a range is a single letter or digit, and not `*`.
-fn is_single(subtag: &[u8]) -> bool
+fn is_single_alphanum(subtag: &[u8]) -> bool
     ensures { result ≡ is_single_alphanum subtag.now }
 {
     matches!(subtag, [single] if *single != b'*')

@@ -36,13 +36,13 @@ pub fn filter_extended<'a, 't>(
 }
 
 /// The tags that [`filter_basic`] or [`filter_extended`] finds and that are still to come. It takes no memory.
-#[derive(Debug, Drop)]
+#[derive(Clone, Debug, Drop)]
 pub struct Filtered<'a, 't> {
     rule: FilterRule,
     ranges: &'a [LanguageRange<'a>],
     tags: &'a [LangTag<'t>],
-    range: usize,
-    tag: usize,
+    range_index: usize,
+    tag_index: usize,
 }
 
 impl<'a, 't> Filtered<'a, 't> {
@@ -58,8 +58,8 @@ impl<'a, 't> Filtered<'a, 't> {
             rule,
             ranges,
             tags,
-            range: 0,
-            tag: 0,
+            range_index: 0,
+            tag_index: 0,
         }
     }
 }
@@ -72,10 +72,19 @@ impl<'a, 't> Iterator for Filtered<'a, 't> {
     ghost remaining = { item_count filtered_left };
 
     fn next(&mut self) -> Option<LangTag<'t>> {
-        let (range, tag) = next_place(self.rule, self.ranges, self.tags, self.range, self.tag)?;
-        self.range = range;
-        self.tag = tag + 1;
-        Some(self.tags[tag])
+        let Some((range_index, tag_index)) = next_place(
+            self.rule,
+            self.ranges,
+            self.tags,
+            self.range_index,
+            self.tag_index,
+        ) else {
+            self.range_index = self.ranges.len();
+            return None;
+        };
+        self.range_index = range_index;
+        self.tag_index = tag_index + 1;
+        Some(self.tags[tag_index])
     }
 }
 
@@ -84,17 +93,17 @@ fn next_place(
     rule: FilterRule,
     ranges: &[LanguageRange<'_>],
     tags: &[LangTag<'_>],
-    range: usize,
-    tag: usize,
+    range_index: usize,
+    tag_index: usize,
 ) -> Option<(usize, usize)>
     ensures { MatchOption result
-        (spec.found_from (matches_by rule) (take range ranges.now) (drop range ranges.now) (drop tag tags.now) tags.now ≡ [])
+        (spec.found_from (matches_by rule) (take range_index ranges.now) (drop range_index ranges.now) (drop tag_index tags.now) tags.now ≡ [])
         (λ place. (place.0 < length ranges.now) × (place.1 < length tags.now) × ((next : LangTag) → slice_get tags.now place.1 ≡ Some next →
-        spec.found_from (matches_by rule) (take range ranges.now) (drop range ranges.now) (drop tag tags.now) tags.now
+        spec.found_from (matches_by rule) (take range_index ranges.now) (drop range_index ranges.now) (drop tag_index tags.now) tags.now
         ≡ next ∷ spec.found_from (matches_by rule) (take place.0 ranges.now) (drop place.0 ranges.now) (drop (place.1 + 1) tags.now) tags.now)) }
 {
-    let mut from = tag;
-    for index in range..ranges.len() {
+    let mut from = tag_index;
+    for index in range_index..ranges.len() {
         if let Some(found) = next_found(rule, &ranges[..index], ranges[index], tags, from) {
             return Some((index, found));
         }
