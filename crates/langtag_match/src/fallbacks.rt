@@ -1,5 +1,5 @@
 //! What is left of a language range when subtags are taken away from its end (RFC 4647 section 3.4).
-ghost use Rattle.std.specs.Prelude.{◌≡◌, ◌<◌, ◌++◌, ◌∷◌, ℕ, List, [], length, IfSome};
+ghost use Rattle.std.specs.Prelude.{◌≡◌, ◌<◌, ◌^◌, ◌++◌, ◌∷◌, ℕ, List, [], length, IfSome};
 ghost use Rattle.std.specs.Iterator.{YieldsFirstBy, item_count};
 ghost use Rattle.std.specs.Option.{option_map_or};
 ghost use Rattle.langtag.specs.Subtags.{segments, segments_left};
@@ -21,8 +21,10 @@ pub struct Fallbacks<'a> {
 
 impl<'a> Fallbacks<'a> {
     /// The fallbacks of a range.
+    #[tactic(auto, using(crate::proofs::Chains::few_fallbacks))]
     pub(crate) fn new(range: LanguageRange<'a>) -> Self
-        ensures { fallbacks_left result ≡ spec.fallbacks (language_range_text range.entry) }
+        ensures list { fallbacks_left result ≡ spec.fallbacks (language_range_text range.entry) }
+        ensures few { length (fallbacks_left result) < 2 ^ 64 }
     {
         Fallbacks { rest: Some(range) }
     }

@@ -1,5 +1,5 @@
 //! Filtering of a list of tags by a language priority list (RFC 4647 section 3.3).
-ghost use Rattle.std.specs.Prelude.{◌≡◌, ◌<◌, ◌≤◌, ◌+◌, ◌∷◌, [], ℕ, length, take, drop, not, ◌&&◌, slice_get, Some, MatchOption};
+ghost use Rattle.std.specs.Prelude.{◌≡◌, ◌<◌, ◌≤◌, ◌+◌, ◌^◌, ◌∷◌, [], ℕ, length, take, drop, not, ◌&&◌, slice_get, Some, MatchOption};
 ghost use Rattle.std.specs.Iterator.{YieldsFirst, item_count};
 ghost use Rattle.std.specs.List.{list_any};
 ghost use Rattle.langtag.specs.declared.lang_tag.LangTag.{LangTag};
@@ -15,22 +15,33 @@ use langtag::LangTag;
 /// The tags that basic filtering finds for a language priority list (RFC 4647 sections 3.3 and 3.3.1): those of the first
 /// range in their order, and then, for each later range, those that no range before it matches.
 ///
-/// For the ranges `de-CH` and `de` and the tags `en`, `de-AT` and `de-CH-1996` these are `de-CH-1996` and `de-AT`.
+/// For the ranges `de-CH` and `de` and the tags `en`, `de-AT` and `de-CH-1996` these are `de-CH-1996` and `de-AT`. A tag is
+/// found as often as it stands in the list.
+///
+/// Each tag is compared with each range, and with those before it once more for each range that matches it: where many
+/// ranges match one tag the time grows with the square of their number.
 pub fn filter_basic<'a, 't>(
     ranges: &'a [LanguageRange<'a>],
     tags: &'a [LangTag<'t>],
 ) -> Filtered<'a, 't>
-    ensures { filtered_left result ≡ spec.filtered test_basic ranges.now tags.now }
+    ensures list { filtered_left result ≡ spec.filtered test_basic ranges.now tags.now }
+    ensures few { length (filtered_left result) < 2 ^ 64 }
+
+    ensures found_once { spec.AreFoundOnce test_basic ranges.now tags.now (filtered_left result) }
 {
     Filtered::new(FilterRule::Basic, ranges, tags)
 }
 
-/// The same by extended filtering (section 3.3.2): for `*-CH` and the tags `de-AT` and `de-Latn-CH` it is `de-Latn-CH`.
+/// The same by extended filtering (section 3.3.2), at the same cost: for `*-CH` and the tags `de-AT` and `de-Latn-CH` it is
+/// `de-Latn-CH`.
 pub fn filter_extended<'a, 't>(
     ranges: &'a [LanguageRange<'a>],
     tags: &'a [LangTag<'t>],
 ) -> Filtered<'a, 't>
-    ensures { filtered_left result ≡ spec.filtered test_extended ranges.now tags.now }
+    ensures list { filtered_left result ≡ spec.filtered test_extended ranges.now tags.now }
+    ensures few { length (filtered_left result) < 2 ^ 64 }
+
+    ensures found_once { spec.AreFoundOnce test_extended ranges.now tags.now (filtered_left result) }
 {
     Filtered::new(FilterRule::Extended, ranges, tags)
 }
@@ -52,7 +63,9 @@ impl<'a, 't> Filtered<'a, 't> {
         ranges: &'a [LanguageRange<'a>],
         tags: &'a [LangTag<'t>],
     ) -> Filtered<'a, 't>
-        ensures { filtered_left result ≡ spec.filtered (matches_by rule) ranges.now tags.now }
+        ensures list { filtered_left result ≡ spec.filtered (matches_by rule) ranges.now tags.now }
+        ensures few { length (filtered_left result) < 2 ^ 64 }
+        ensures found_once { spec.AreFoundOnce (matches_by rule) ranges.now tags.now (filtered_left result) }
     {
         Filtered {
             rule,
