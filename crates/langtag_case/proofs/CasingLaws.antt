@@ -9,10 +9,10 @@ use Rattle.langtag_scan.proofs.CaseLaw.{length-fold}
 use Rattle.std.proofs.lemmas.List.Splits.{slice_split_none, slice_split_at, slice_split-cons_yes, slice_split-cons_no, length-slice_split}
 use Rattle.langtag_scan.specs.Case.{fold_text}
 use Rattle.langtag_scan.specs.Subtags.{is_hyphen, IsHyphenFree, NoHyphenWithin, join, segments}
-use Rattle.langtag_case.specs.Casing.{cased, casing_of, is_all_small, later, following, rest_cased, left}
+use Rattle.langtag_case.specs.Casing.{cased, casing_of, is_all_lower, later, following, rest_cased, left}
 use Rattle.langtag_case.specs.RecommendedCase.{capital_text, title_text, is_single, by_length, recommended_after, recommended_text}
 use Rattle.langtag_case.specs.declared.casing.Casing.{Casing}
-use Rattle.langtag_case.specs.declared.casing.Casing.TheVariants.{AllSmall, Small, Capitals, Title}
+use Rattle.langtag_case.specs.declared.casing.Casing.TheVariants.{AllLower, Lower, Upper, Title}
 use Rattle.langtag_case.proofs.RecommendedWalk.{rest_at, free_between}
 use Rattle.langtag_case.proofs.RecommendedLaws.{recommended_alike, IsRest, after_first, join-cons, following-some, later-cut}
 
@@ -54,7 +54,7 @@ by_length-cased s = by (length s == 1) refl
   where
     choose :
         (two four : Bool) →
-        cased (cond two Capitals (cond four Title Small)) s ≡ cond two (capital_text s) (cond four (title_text s) (fold_text s))
+        cased (cond two Upper (cond four Title Lower)) s ≡ cond two (capital_text s) (cond four (title_text s) (fold_text s))
     choose true four = refl
     choose false true = refl
     choose false false = refl
@@ -62,14 +62,14 @@ by_length-cased s = by (length s == 1) refl
     by : (v : Bool) → (length s == 1) ≡ v → cased (casing_of (length s)) s ≡ by_length s
     by true one = let single : length s ≡ 1 = eqb-true (length s) 1 one in rw single refl
     by false more =
-        ap (λ v. cased (cond v AllSmall (cond (length s == 2) Capitals (cond (length s == 4) Title Small))) s) more
+        ap (λ v. cased (cond v AllLower (cond (length s == 2) Upper (cond (length s == 4) Title Lower))) s) more
         ∙ choose (length s == 2) (length s == 4)
 
 -- which is small to the end of the text for a singleton alone
-casing-single : (s : List ℕ) → is_all_small (casing_of (length s)) ≡ is_single s
+casing-single : (s : List ℕ) → is_all_lower (casing_of (length s)) ≡ is_single s
 casing-single s = by (length s == 1) (length s == 2) (length s == 4)
   where
-    by : (one two four : Bool) → is_all_small (cond one AllSmall (cond two Capitals (cond four Title Small))) ≡ one
+    by : (one two four : Bool) → is_all_lower (cond one AllLower (cond two Upper (cond four Title Lower))) ≡ one
     by true two four = refl
     by false true four = refl
     by false false true = refl
@@ -85,14 +85,14 @@ module _ (text : List ℕ) (end : ℕ) (within : end ≤ length text) (free : No
   size = omega (arith, within, length-take end text)
 
   -- its case, and that of those that follow
-  begun : (casing : Casing) (t : List ℕ) → cased casing (take end text) ≡ t → is_all_small casing ≡ is_single (take end text) →
+  begun : (casing : Casing) (t : List ℕ) → cased casing (take end text) ≡ t → is_all_lower casing ≡ is_single (take end text) →
       rest_cased casing (segments text) ≡ t ∷ following (is_single (take end text)) first.others
   begun casing t put all =
-      ap (rest_cased casing) first.are ∙ ap (λ s. s ∷ following (is_all_small casing) first.others) put
+      ap (rest_cased casing) first.are ∙ ap (λ s. s ∷ following (is_all_lower casing) first.others) put
       ∙ ap (λ v. t ∷ following v first.others) all
 
   -- of a subtag that is the first of a text
-  first-cased : (casing : Casing) → cased casing (take end text) ≡ fold_text (take end text) → is_all_small casing ≡ is_single (take end text) → left casing text ≡ recommended_text text
+  first-cased : (casing : Casing) → cased casing (take end text) ≡ fold_text (take end text) → is_all_lower casing ≡ is_single (take end text) → left casing text ≡ recommended_text text
   first-cased casing put all =
       ap join (
       begun casing (fold_text (take end text)) put all
@@ -100,12 +100,12 @@ module _ (text : List ℕ) (end : ℕ) (within : end ≤ length text) (free : No
       ∙ sym (ap (recommended_after []) first.are))
 
   -- a first subtag of one byte
-  pub first-single : end ≡ 1 → left AllSmall text ≡ recommended_text text
-  first-single one = first-cased AllSmall refl (sym (eq-eqb (length (take end text)) 1 (size ∙ one)))
+  pub first-single : end ≡ 1 → left AllLower text ≡ recommended_text text
+  first-single one = first-cased AllLower refl (sym (eq-eqb (length (take end text)) 1 (size ∙ one)))
 
   -- a longer one
-  pub first-longer : (end ≡ 1 → ⊥) → left Small text ≡ recommended_text text
-  first-longer more = first-cased Small refl (sym (ne_eqb (length (take end text)) 1 (λ one. more (sym size ∙ one))))
+  pub first-longer : (end ≡ 1 → ⊥) → left Lower text ≡ recommended_text text
+  first-longer more = first-cased Lower refl (sym (ne_eqb (length (take end text)) 1 (λ one. more (sym size ∙ one))))
 
   -- a subtag that is not the first, and before which no singleton stands
   pub later-cased : rest_cased (casing_of end) (segments text) ≡ later (segments text)
@@ -116,10 +116,10 @@ module _ (text : List ℕ) (end : ℕ) (within : end ≤ length text) (free : No
       ∙ sym (later-cut (take end text) first.others (is_single (take end text)) refl) ∙ ap later (sym first.are)
 
 -- where not all is small, those that follow are so by their length
-pub following-later : (casing : Casing) (ss : List (List ℕ)) → (casing ≡ AllSmall → ⊥) → later ss ≡ following (is_all_small casing) ss
-following-later AllSmall ss other = absurd (other refl)
-following-later Small ss other = refl
-following-later Capitals ss other = refl
+pub following-later : (casing : Casing) (ss : List (List ℕ)) → (casing ≡ AllLower → ⊥) → later ss ≡ following (is_all_lower casing) ss
+following-later AllLower ss other = absurd (other refl)
+following-later Lower ss other = refl
+following-later Upper ss other = refl
 following-later Title ss other = refl
 
 -- ---- letters
@@ -131,7 +131,7 @@ some-segments text = omega (arith, length-slice_split is_hyphen text)
 -- a byte of a subtag
 pub letter-left :
     (casing after : Casing) (b out : ℕ) (text : List ℕ) → is_hyphen b ≡ false →
-    ((s : List ℕ) → cased casing (b ∷ s) ≡ out ∷ cased after s) → is_all_small casing ≡ is_all_small after →
+    ((s : List ℕ) → cased casing (b ∷ s) ≡ out ∷ cased after s) → is_all_lower casing ≡ is_all_lower after →
     left casing (b ∷ text) ≡ out ∷ left after text
 letter-left casing after b out text letter same all =
     ap (λ ss. join (rest_cased casing ss)) (slice_split-cons_no is_hyphen b text letter) ∙ by (segments text) (some-segments text)
@@ -143,26 +143,26 @@ letter-left casing after b out text letter same all =
     by : (ss : List (List ℕ)) → 0 < length ss → join (rest_cased casing (onto_first b ss)) ≡ out ∷ join (rest_cased after ss)
     by [] some = absurd (omega (arith, some))
     by (s ∷ ss) some =
-        ap (λ x. join (x ∷ following (is_all_small casing) ss)) (same s) ∙ joined (cased after s) (following (is_all_small casing) ss)
+        ap (λ x. join (x ∷ following (is_all_lower casing) ss)) (same s) ∙ joined (cased after s) (following (is_all_lower casing) ss)
         ∙ ap (λ v. out ∷ join (cased after s ∷ following v ss)) all
 
 -- ---- hyphens
 
 -- nothing is left of a subtag
 cased-nil : (casing : Casing) → cased casing [] ≡ []
-cased-nil AllSmall = refl
-cased-nil Small = refl
-cased-nil Capitals = refl
+cased-nil AllLower = refl
+cased-nil Lower = refl
+cased-nil Upper = refl
 cased-nil Title = refl
 
 -- the hyphen after a subtag
 pub hyphen-left :
-    (casing after : Casing) (text : List ℕ) → rest_cased after (segments text) ≡ following (is_all_small casing) (segments text) →
+    (casing after : Casing) (text : List ℕ) → rest_cased after (segments text) ≡ following (is_all_lower casing) (segments text) →
     left casing (45 ∷ text) ≡ 45 ∷ left after text
 hyphen-left casing after text next =
     ap (λ ss. join (rest_cased casing ss)) (slice_split-cons_yes is_hyphen 45 text refl)
-    ∙ ap (λ x. join (x ∷ following (is_all_small casing) (segments text))) (cased-nil casing)
-    ∙ join-cons [] (following (is_all_small casing) (segments text)) (following-some (is_all_small casing) (segments text) (some-segments text))
+    ∙ ap (λ x. join (x ∷ following (is_all_lower casing) (segments text))) (cased-nil casing)
+    ∙ join-cons [] (following (is_all_lower casing) (segments text)) (following-some (is_all_lower casing) (segments text) (some-segments text))
     ∙ ap (λ ss. 45 ∷ join ss) (sym next)
 
 -- ---- whether a text is in its recommended case

@@ -119,7 +119,11 @@ pub recommended_alike : (t : List ℕ) → Alike (recommended_text t) t
 recommended_alike t =
     sym (join-fold (recommended_after [] (segments t))) ∙ ap join (fold-recommended_after [] (segments t)) ∙ join-fold (segments t) ∙ ap fold_text (join_with_byte-slice_split 45 t)
 
--- so a text that is another in its recommended case is alike that
+-- so it has as many bytes
+pub recommended_length : (t : List ℕ) → length (recommended_text t) ≡ length t
+recommended_length t = sym (length-fold (recommended_text t)) ∙ ap length (recommended_alike t) ∙ length-fold t
+
+-- a text that is another in its recommended case is alike that
 pub alike_of_recommended : (old new : List ℕ) → new ≡ recommended_text old → Alike old new
 alike_of_recommended old new case = sym (ap fold_text case ∙ recommended_alike old)
 

@@ -5,25 +5,25 @@ use Rattle.langtag_scan.specs.Case.{fold_text}
 use Rattle.langtag_scan.specs.Subtags.{join, segments}
 use Rattle.langtag_case.specs.RecommendedCase.{capital_text, title_text, is_single, by_length}
 use Rattle.langtag_case.specs.declared.casing.Casing.{Casing}
-use Rattle.langtag_case.specs.declared.casing.Casing.TheVariants.{AllSmall, Small, Capitals, Title}
+use Rattle.langtag_case.specs.declared.casing.Casing.TheVariants.{AllLower, Lower, Upper, Title}
 
 -- what is left of a subtag
 abbrev pub cased : Casing → List ℕ → List ℕ
-cased AllSmall rest = fold_text rest
-cased Small rest = fold_text rest
-cased Capitals rest = capital_text rest
+cased AllLower rest = fold_text rest
+cased Lower rest = fold_text rest
+cased Upper rest = capital_text rest
 cased Title rest = title_text rest
 
 -- the case of a subtag of a length, which stands neither first nor after a singleton
 abbrev pub casing_of : ℕ → Casing
-casing_of n = if n == 1 then AllSmall else if n == 2 then Capitals else if n == 4 then Title else Small
+casing_of n = if n == 1 then AllLower else if n == 2 then Upper else if n == 4 then Title else Lower
 
--- all subtags that follow are small
-abbrev pub is_all_small : Casing → Bool
-is_all_small AllSmall = true
-is_all_small Small = false
-is_all_small Capitals = false
-is_all_small Title = false
+-- all subtags that follow are lowercase
+abbrev pub is_all_lower : Casing → Bool
+is_all_lower AllLower = true
+is_all_lower Lower = false
+is_all_lower Upper = false
+is_all_lower Title = false
 
 -- subtags none of which stands first, and before which no singleton stands
 abbrev pub later : List (List ℕ) → List (List ℕ)
@@ -37,7 +37,7 @@ following single ss = if single then map fold_text ss else later ss
 -- the rest of a subtag, and those that follow
 abbrev pub rest_cased : Casing → List (List ℕ) → List (List ℕ)
 rest_cased casing [] = []
-rest_cased casing (s ∷ ss) = cased casing s ∷ following (is_all_small casing) ss
+rest_cased casing (s ∷ ss) = cased casing s ∷ following (is_all_lower casing) ss
 
 -- what is left of a text
 abbrev pub left : Casing → List ℕ → List ℕ

@@ -1,7 +1,7 @@
 //! The case of the letters of a subtag, as a walk over a text goes on.
 ghost use Rattle.std.specs.Prelude.{◌≡◌, ◌∷◌};
 ghost use Rattle.langtag_scan.specs.Subtags.{segments};
-ghost use Rattle.langtag_case.specs.Casing.{casing_of, following, is_all_small, left, rest_cased};
+ghost use Rattle.langtag_case.specs.Casing.{casing_of, following, is_all_lower, left, rest_cased};
 ghost use Rattle.langtag_case.specs.RecommendedCase.{recommended_text};
 
 use langtag_scan::segment_end;
@@ -9,13 +9,13 @@ use langtag_scan::segment_end;
 /// The case of what is left of a subtag, and what is known of those after it (RFC 5646 section 2.1.1).
 #[derive(Clone, Copy, Debug)]
 pub(crate) enum Casing {
-    /// Small, as all subtags that follow: this one or one before it is of a single byte.
-    AllSmall,
-    /// Small.
-    Small,
-    /// In capitals.
-    Capitals,
-    /// A capital first, and then small.
+    /// Lowercase, as all subtags that follow: this one or one before it is of a single byte.
+    AllLower,
+    /// Lowercase.
+    Lower,
+    /// Uppercase.
+    Upper,
+    /// Titlecase: the first letter uppercase, the others lowercase.
     Title,
 }
 
@@ -25,9 +25,9 @@ impl Casing {
         ensures { left result text.now ≡ recommended_text text.now }
     {
         if segment_end(text, 0) == 1 {
-            return Casing::AllSmall;
+            return Casing::AllLower;
         }
-        Casing::Small
+        Casing::Lower
     }
 
     /// The byte in this case, and the case of what stands after it.
@@ -38,18 +38,18 @@ impl Casing {
             return (byte, self.after_hyphen(rest));
         }
         match self {
-            Casing::AllSmall | Casing::Small => (byte.to_ascii_lowercase(), self),
-            Casing::Capitals => (byte.to_ascii_uppercase(), self),
-            Casing::Title => (byte.to_ascii_uppercase(), Casing::Small),
+            Casing::AllLower | Casing::Lower => (byte.to_ascii_lowercase(), self),
+            Casing::Upper => (byte.to_ascii_uppercase(), self),
+            Casing::Title => (byte.to_ascii_uppercase(), Casing::Lower),
         }
     }
 
     /// The case of the subtag that begins after a hyphen.
     fn after_hyphen(self, rest: &[u8]) -> Casing
-        ensures { rest_cased result (segments rest.now) ≡ following (is_all_small self) (segments rest.now) }
+        ensures { rest_cased result (segments rest.now) ≡ following (is_all_lower self) (segments rest.now) }
     {
-        if let Casing::AllSmall = self {
-            return Casing::AllSmall;
+        if let Casing::AllLower = self {
+            return Casing::AllLower;
         }
         Casing::of_length(segment_end(rest, 0))
     }
@@ -59,10 +59,10 @@ impl Casing {
         ensures { result ≡ casing_of length }
     {
         match length {
-            1 => Casing::AllSmall,
-            2 => Casing::Capitals,
+            1 => Casing::AllLower,
+            2 => Casing::Upper,
             4 => Casing::Title,
-            _ => Casing::Small,
+            _ => Casing::Lower,
         }
     }
 }

@@ -3,11 +3,12 @@ ghost use Rattle.std.specs.Prelude.{◌≡◌, Some};
 ghost use Rattle.std.specs.Str.{IsAscii};
 ghost use Rattle.langtag_case.specs.RecommendedCase.{recommended_text};
 
-use crate::recommended_bytes::RecommendedBytes;
+use crate::recommended_bytes::{RecommendedBytes, is_in_recommended_case};
 use std::fmt;
 
 /// A text of ASCII, as each tag is, that is displayed in the case that RFC 5646 section 2.1.1 recommends: `{shown}` prints
-/// `mn-Cyrl-MN` of `MN-cYRL-mn`. No memory is taken.
+/// `mn-Cyrl-MN` of `MN-cYRL-mn`. No memory is taken. A text that is in that case already is written in one piece, any other one
+/// a byte at a time.
 #[derive(Clone, Copy, Debug)]
 pub struct InRecommendedCase<'a> {
     text: &'a str,
@@ -32,7 +33,11 @@ impl fmt::Display for InRecommendedCase<'_> {
     ghost output = { λ shown. Some (in_recommended_case_text shown) };
 
     fn fmt<W: fmt::Write>(&self, f: &mut fmt::Formatter<W>) -> fmt::Result {
-        for byte in RecommendedBytes::new(self.text.as_bytes()) {
+        let bytes = self.text.as_bytes();
+        if is_in_recommended_case(bytes) {
+            return f.write_str(self.text);
+        }
+        for byte in RecommendedBytes::new(bytes) {
             f.write_char(char::from(byte))?;
         }
         Ok(())

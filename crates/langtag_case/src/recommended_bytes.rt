@@ -1,5 +1,5 @@
 //! The bytes of a text in its recommended case, one by one.
-ghost use Rattle.std.specs.Prelude.{◌≡◌, ◌↔◌, ℕ, List, IsTrue};
+ghost use Rattle.std.specs.Prelude.{◌≡◌, ◌↔◌, ℕ, List, IsTrue, length};
 ghost use Rattle.std.specs.Iterator.{YieldsFirst, item_count};
 ghost use Rattle.langtag_case.specs.Casing.{left};
 ghost use Rattle.langtag_case.specs.RecommendedCase.{recommended_text};
@@ -9,7 +9,7 @@ use std::marker::Model;
 
 /// The bytes of a text in the case that RFC 5646 section 2.1.1 recommends, as far as they are still to come: `m`, `n`, `-`,
 /// `M`, `N` of `MN-mn`.
-#[derive(Debug, Drop)]
+#[derive(Clone, Debug, Drop)]
 pub struct RecommendedBytes<'a> {
     rest: &'a [u8],
     casing: Casing,
@@ -23,8 +23,10 @@ impl<'a> Model for RecommendedBytes<'a> {
 
 impl<'a> RecommendedBytes<'a> {
     /// All bytes of a text. They are as many as those of the text.
+    #[tactic(auto, using(crate::proofs::RecommendedLaws::recommended_length))]
     pub fn new(text: &'a [u8]) -> Self
-        ensures { result ≡ recommended_text text.now }
+        ensures bytes { result ≡ recommended_text text.now }
+        ensures as_many { length result ≡ length text.now }
     {
         RecommendedBytes {
             rest: text,

@@ -1,7 +1,8 @@
 -- The fallbacks of a range, by what is left when its last subtag is taken away.
 use Rattle.std.proofs.Common.{◌≡◌, inl, inr, ℕ, ◌+◌, ◌-◌, ◌<◌, ◌≤◌, false, List, [], ◌∷◌, ◌++◌, map, reverse, take, drop, length, length-drop, get_or, refl, sym, ap, ◌∙◌, subst, arith}
 use Rattle.std.proofs.lemmas.Bool.{cases_order}
-use Rattle.std.proofs.lemmas.List.{reverse-append, reverse-reverse, length-reverse, get_or-drop, at_drop_more, take-append-drop}
+use Rattle.std.proofs.lemmas.List.{reverse-append, reverse-reverse, length-map, length-reverse, get_or-drop, at_drop_more, take-append-drop}
+use Rattle.std.proofs.lemmas.List.Sums.{count_by-le-length}
 use Rattle.std.proofs.lemmas.List.Splits.{join_with_byte-slice_split, length-slice_split, slice_split_none}
 use Rattle.langtag.specs.Subtags.{is_hyphen, IsHyphenFree, NoHyphenWithin, join, segments}
 use Rattle.langtag_scan.proofs.SubtagLists.{slice_split-push}
@@ -31,6 +32,27 @@ fallbacks-first text =
     let some : 0 < length (reverse (segments text)) = omega (arith, length-reverse (segments text), length-slice_split is_hyphen text) in
     ap (map (λ subtags. join (reverse subtags))) (chain-first (reverse (segments text)) some)
     ∙ ap (λ first. first ∷ map (λ subtags. join (reverse subtags)) (shortened (before_last text))) (written text)
+
+-- no more than subtags
+length-shortened : (subtags : List (List ℕ)) → length (shortened subtags) ≤ length subtags
+length-shortened [] = omega arith
+length-shortened (last ∷ before) = grind (arith, length-shortened before)
+
+length-chain : (subtags : List (List ℕ)) → length (chain subtags) ≤ length subtags
+length-chain [] = omega arith
+length-chain (last ∷ before) = omega (arith, length-shortened before)
+
+pub few_fallbacks : (text : List ℕ) → length (fallbacks text) ≤ length text + 1
+few_fallbacks text =
+    let back = reverse (segments text) in
+    omega (
+      arith,
+      length-map (chain back) (λ subtags. join (reverse subtags)),
+      length-chain back,
+      length-reverse (segments text),
+      length-slice_split is_hyphen text,
+      count_by-le-length is_hyphen text,
+    )
 
 -- ---- a walk that takes subtags away, of which this text is left
 

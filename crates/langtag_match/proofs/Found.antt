@@ -41,7 +41,7 @@ module _ (matches : List ℕ → List ℕ → Bool) (before : List LanguageRange
   newly_found-end tags index past = ap (newly_found matches before range) (drop_all index tags past)
 
 module _ (matches : List ℕ → List ℕ → Bool) (tags : List LangTag) where
-  found_from-start : (before ranges : List LanguageRange) → found_from matches before ranges tags tags ≡ found_after matches before ranges tags
+  pub found_from-start : (before ranges : List LanguageRange) → found_from matches before ranges tags tags ≡ found_after matches before ranges tags
   found_from-start before [] = refl
   found_from-start before (range ∷ ranges) = refl
 

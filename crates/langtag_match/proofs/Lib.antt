@@ -3,6 +3,7 @@ pub mod BasicRanges
 pub mod Chains
 pub mod Elements
 pub mod Found
+pub mod FoundOnce
 pub mod Offsets
 pub mod Plain
 pub mod Prefixes

@@ -1,4 +1,6 @@
 -- The range types: their `==`, `cmp` and `hash` go by their texts, folded (RFC 4647 section 2: ranges ignore case).
+use Rattle.std.specs.Prelude.{◌≡◌, ◌==◌, ◌&&◌}
+use Rattle.langtag.specs.Case.{are_alike}
 use Rattle.langtag.specs.Compare.{ComparesByCase}
 use Rattle.langtag_match.specs.contracts.language_range.LanguageRangeHash.TheImpl as range_hash
 use Rattle.langtag_match.specs.contracts.language_range.LanguageRangeOrd.TheImpl as range_order
@@ -6,7 +8,9 @@ use Rattle.langtag_match.specs.contracts.language_range.LanguageRangePartialEq.T
 use Rattle.langtag_match.specs.contracts.language_range.LanguageRangeBufHash.TheImpl as range_buf_hash
 use Rattle.langtag_match.specs.contracts.language_range.LanguageRangeBufOrd.TheImpl as range_buf_order
 use Rattle.langtag_match.specs.contracts.language_range.LanguageRangeBufPartialEq.TheImpl as range_buf_equality
-use Rattle.langtag_match.specs.Text.{language_range_text, language_range_buf_text}
+use Rattle.langtag_match.specs.contracts.weighted_range.WeightedRangePartialEq.TheImpl as weighted_equality
+use Rattle.langtag_match.specs.Text.{language_range_text, language_range_buf_text, weighted_range_text}
+use Rattle.langtag_match.specs.declared.weighted_range.WeightedRange.{WeightedRange}
 
 abbrev pub LanguageRangesCompareByCase : Type 0
 LanguageRangesCompareByCase =
@@ -15,3 +19,8 @@ LanguageRangesCompareByCase =
 abbrev pub LanguageRangeBufsCompareByCase : Type 0
 LanguageRangeBufsCompareByCase =
     ComparesByCase language_range_buf_text range_buf_equality.eq-value.it range_buf_order.cmp-value.it range_buf_hash.hash_input-value.it
+
+-- weighted ranges have `==` alone: the ranges are alike, and the weights the same
+abbrev pub WeightedRangesCompareByBoth : Type 0
+WeightedRangesCompareByBoth =
+    (a b : WeightedRange) → weighted_equality.eq-value.it a b ≡ (are_alike (weighted_range_text a) (weighted_range_text b) && (a.weight == b.weight))

@@ -16,5 +16,5 @@ matches_by Extended range tag = test_extended range tag
 -- the tags that a walk has still to hand out
 abbrev pub filtered_left : Filtered → List LangTag
 filtered_left walk =
-    found_from (matches_by walk.rule) (take walk.range walk.ranges.now) (drop walk.range walk.ranges.now)
-    (drop walk.tag walk.tags.now) walk.tags.now
+    found_from (matches_by walk.rule) (take walk.range_index walk.ranges.now) (drop walk.range_index walk.ranges.now)
+    (drop walk.tag_index walk.tags.now) walk.tags.now

@@ -19,6 +19,7 @@ pub struct AcceptLanguage<'a> {
 }
 
 impl<'a> AcceptLanguage<'a> {
+    ghost use Rattle.langtag_match.specs.Compared.{WeightedRangesCompareByBoth};
     ghost use Rattle.langtag_match.specs.Text.{accept_language_ranges};
 
     /// The ranges of a header without those of weight 0, which are not acceptable. Ranges of one weight stay in their order,
@@ -43,9 +44,12 @@ impl<'a> AcceptLanguage<'a> {
         Ok(AcceptLanguage { ranges })
     }
 
-    /// The ranges, those that are wanted most first: `ranges()[0].range.as_str()` is `"de"` for `fr;q=0.5, de`.
+    /// The ranges, those that are wanted most first: `ranges()[0].range.as_str()` is `"de"` for `fr;q=0.5, de`. The contract
+    /// also pins when two of them are equal.
     pub fn ranges(&self) -> &[WeightedRange<'a>]
-        ensures { result.now ≡ accept_language_ranges self.now }
+        ensures list { result.now ≡ accept_language_ranges self.now }
+
+        ensures compared { WeightedRangesCompareByBoth }
     {
         self.ranges.as_slice()
     }

@@ -2,8 +2,7 @@
 ghost use Rattle.std.specs.Prelude.{◌≡◌, ◌↔◌, ◌∷◌, ℕ, List, IsTrue, true, false};
 ghost use Rattle.langtag_match.specs.Extended as spec;
 
-use langtag::case_insensitive_eq;
-use langtag_scan::Subtags;
+use langtag::{Subtags, case_insensitive_eq};
 
 /// Whether the first subtags match, and the others of the range stand among those of the tag.
 pub(crate) fn matches_extended(range: &str, tag: &str) -> bool

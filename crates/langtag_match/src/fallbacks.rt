@@ -1,5 +1,5 @@
 //! What is left of a language range when subtags are taken away from its end (RFC 4647 section 3.4).
-ghost use Rattle.std.specs.Prelude.{◌≡◌, ◌<◌, ◌++◌, ◌∷◌, ℕ, List, [], length, IfSome};
+ghost use Rattle.std.specs.Prelude.{◌≡◌, ◌<◌, ◌^◌, ◌++◌, ◌∷◌, ℕ, List, [], length, IfSome};
 ghost use Rattle.std.specs.Iterator.{YieldsFirstBy, item_count};
 ghost use Rattle.std.specs.Option.{option_map_or};
 ghost use Rattle.langtag.specs.Subtags.{segments, segments_left};
@@ -21,8 +21,10 @@ pub struct Fallbacks<'a> {
 
 impl<'a> Fallbacks<'a> {
     /// The fallbacks of a range.
+    #[tactic(auto, using(crate::proofs::Chains::few_fallbacks))]
     pub(crate) fn new(range: LanguageRange<'a>) -> Self
-        ensures { fallbacks_left result ≡ spec.fallbacks (language_range_text range.entry) }
+        ensures list { fallbacks_left result ≡ spec.fallbacks (language_range_text range.entry) }
+        ensures few { length (fallbacks_left result) < 2 ^ 64 }
     {
         Fallbacks { rest: Some(range) }
     }
@@ -74,11 +76,11 @@ fn ends_in_single(text: &str) -> bool
     ensures { (before : List (List ℕ)) × (last : List ℕ) × (segments text.now ≡ before ++ last ∷ []) × (result ≡ is_single_alphanum last) }
 {
     let bytes = text.as_bytes();
-    is_single(&bytes[segment_start(bytes, bytes.len())..])
+    is_single_alphanum(&bytes[segment_start(bytes, bytes.len())..])
 }
 
 /// Whether a subtag of a range is a single letter or digit, and not `*`.
-fn is_single(subtag: &[u8]) -> bool
+fn is_single_alphanum(subtag: &[u8]) -> bool
     ensures { result ≡ is_single_alphanum subtag.now }
 {
     matches!(subtag, [single] if *single != b'*')

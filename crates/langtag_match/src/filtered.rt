@@ -1,5 +1,5 @@
 //! Filtering of a list of tags by a language priority list (RFC 4647 section 3.3).
-ghost use Rattle.std.specs.Prelude.{◌≡◌, ◌<◌, ◌≤◌, ◌+◌, ◌∷◌, [], ℕ, length, take, drop, not, ◌&&◌, slice_get, Some, MatchOption};
+ghost use Rattle.std.specs.Prelude.{◌≡◌, ◌<◌, ◌≤◌, ◌+◌, ◌^◌, ◌∷◌, [], ℕ, length, take, drop, not, ◌&&◌, slice_get, Some, MatchOption};
 ghost use Rattle.std.specs.Iterator.{YieldsFirst, item_count};
 ghost use Rattle.std.specs.List.{list_any};
 ghost use Rattle.langtag.specs.declared.lang_tag.LangTag.{LangTag};
@@ -15,34 +15,45 @@ use langtag::LangTag;
 /// The tags that basic filtering finds for a language priority list (RFC 4647 sections 3.3 and 3.3.1): those of the first
 /// range in their order, and then, for each later range, those that no range before it matches.
 ///
-/// For the ranges `de-CH` and `de` and the tags `en`, `de-AT` and `de-CH-1996` these are `de-CH-1996` and `de-AT`.
+/// For the ranges `de-CH` and `de` and the tags `en`, `de-AT` and `de-CH-1996` these are `de-CH-1996` and `de-AT`. A tag is
+/// found as often as it stands in the list.
+///
+/// Each tag is compared with each range, and with those before it once more for each range that matches it: where many
+/// ranges match one tag the time grows with the square of their number.
 pub fn filter_basic<'a, 't>(
     ranges: &'a [LanguageRange<'a>],
     tags: &'a [LangTag<'t>],
 ) -> Filtered<'a, 't>
-    ensures { filtered_left result ≡ spec.filtered test_basic ranges.now tags.now }
+    ensures list { filtered_left result ≡ spec.filtered test_basic ranges.now tags.now }
+    ensures few { length (filtered_left result) < 2 ^ 64 }
+
+    ensures found_once { spec.AreFoundOnce test_basic ranges.now tags.now (filtered_left result) }
 {
     Filtered::new(FilterRule::Basic, ranges, tags)
 }
 
-/// The same by extended filtering (section 3.3.2): for `*-CH` and the tags `de-AT` and `de-Latn-CH` it is `de-Latn-CH`.
+/// The same by extended filtering (section 3.3.2), at the same cost: for `*-CH` and the tags `de-AT` and `de-Latn-CH` it is
+/// `de-Latn-CH`.
 pub fn filter_extended<'a, 't>(
     ranges: &'a [LanguageRange<'a>],
     tags: &'a [LangTag<'t>],
 ) -> Filtered<'a, 't>
-    ensures { filtered_left result ≡ spec.filtered test_extended ranges.now tags.now }
+    ensures list { filtered_left result ≡ spec.filtered test_extended ranges.now tags.now }
+    ensures few { length (filtered_left result) < 2 ^ 64 }
+
+    ensures found_once { spec.AreFoundOnce test_extended ranges.now tags.now (filtered_left result) }
 {
     Filtered::new(FilterRule::Extended, ranges, tags)
 }
 
 /// The tags that [`filter_basic`] or [`filter_extended`] finds and that are still to come. It takes no memory.
-#[derive(Debug, Drop)]
+#[derive(Clone, Debug, Drop)]
 pub struct Filtered<'a, 't> {
     rule: FilterRule,
     ranges: &'a [LanguageRange<'a>],
     tags: &'a [LangTag<'t>],
-    range: usize,
-    tag: usize,
+    range_index: usize,
+    tag_index: usize,
 }
 
 impl<'a, 't> Filtered<'a, 't> {
@@ -52,14 +63,16 @@ impl<'a, 't> Filtered<'a, 't> {
         ranges: &'a [LanguageRange<'a>],
         tags: &'a [LangTag<'t>],
     ) -> Filtered<'a, 't>
-        ensures { filtered_left result ≡ spec.filtered (matches_by rule) ranges.now tags.now }
+        ensures list { filtered_left result ≡ spec.filtered (matches_by rule) ranges.now tags.now }
+        ensures few { length (filtered_left result) < 2 ^ 64 }
+        ensures found_once { spec.AreFoundOnce (matches_by rule) ranges.now tags.now (filtered_left result) }
     {
         Filtered {
             rule,
             ranges,
             tags,
-            range: 0,
-            tag: 0,
+            range_index: 0,
+            tag_index: 0,
         }
     }
 }
@@ -72,10 +85,19 @@ impl<'a, 't> Iterator for Filtered<'a, 't> {
     ghost remaining = { item_count filtered_left };
 
     fn next(&mut self) -> Option<LangTag<'t>> {
-        let (range, tag) = next_place(self.rule, self.ranges, self.tags, self.range, self.tag)?;
-        self.range = range;
-        self.tag = tag + 1;
-        Some(self.tags[tag])
+        let Some((range_index, tag_index)) = next_place(
+            self.rule,
+            self.ranges,
+            self.tags,
+            self.range_index,
+            self.tag_index,
+        ) else {
+            self.range_index = self.ranges.len();
+            return None;
+        };
+        self.range_index = range_index;
+        self.tag_index = tag_index + 1;
+        Some(self.tags[tag_index])
     }
 }
 
@@ -84,17 +106,17 @@ fn next_place(
     rule: FilterRule,
     ranges: &[LanguageRange<'_>],
     tags: &[LangTag<'_>],
-    range: usize,
-    tag: usize,
+    range_index: usize,
+    tag_index: usize,
 ) -> Option<(usize, usize)>
     ensures { MatchOption result
-        (spec.found_from (matches_by rule) (take range ranges.now) (drop range ranges.now) (drop tag tags.now) tags.now ≡ [])
+        (spec.found_from (matches_by rule) (take range_index ranges.now) (drop range_index ranges.now) (drop tag_index tags.now) tags.now ≡ [])
         (λ place. (place.0 < length ranges.now) × (place.1 < length tags.now) × ((next : LangTag) → slice_get tags.now place.1 ≡ Some next →
-        spec.found_from (matches_by rule) (take range ranges.now) (drop range ranges.now) (drop tag tags.now) tags.now
+        spec.found_from (matches_by rule) (take range_index ranges.now) (drop range_index ranges.now) (drop tag_index tags.now) tags.now
         ≡ next ∷ spec.found_from (matches_by rule) (take place.0 ranges.now) (drop place.0 ranges.now) (drop (place.1 + 1) tags.now) tags.now)) }
 {
-    let mut from = tag;
-    for index in range..ranges.len() {
+    let mut from = tag_index;
+    for index in range_index..ranges.len() {
         if let Some(found) = next_found(rule, &ranges[..index], ranges[index], tags, from) {
             return Some((index, found));
         }

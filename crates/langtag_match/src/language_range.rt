@@ -1,5 +1,5 @@
 //! Language ranges (RFC 4647 section 2), lent and owned.
-ghost use Rattle.std.specs.Prelude.{◌≡◌, ◌↔◌, Some, IsTrue, IfOk, IfErr, is_ok};
+ghost use Rattle.std.specs.Prelude.{◌≡◌, ◌<◌, ◌^◌, ◌↔◌, Some, IsTrue, IfOk, IfErr, is_ok, length};
 ghost use Rattle.std.specs.String.{string_bytes};
 ghost use Rattle.langtag.specs.Case.{are_alike};
 ghost use Rattle.langtag.specs.Text.{lang_tag_text};
@@ -116,7 +116,8 @@ impl<'a> LanguageRange<'a> {
     /// The range, and what is left of it when subtags are taken away from its end, the longest first (RFC 4647 section 3.4):
     /// `zh-Hant-TW`, `zh-Hant` and `zh`. [`look_up`](crate::look_up) looks for these.
     pub fn fallbacks(&self) -> Fallbacks<'a>
-        ensures { fallbacks_left result ≡ fallbacks (language_range_text self.now) }
+        ensures list { fallbacks_left result ≡ fallbacks (language_range_text self.now) }
+        ensures few { length (fallbacks_left result) < 2 ^ 64 }
     {
         Fallbacks::new(*self)
     }

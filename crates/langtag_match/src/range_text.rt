@@ -2,8 +2,7 @@
 ghost use Rattle.std.specs.Prelude.{◌≡◌};
 ghost use Rattle.langtag_match.specs.Range as spec;
 
-use langtag::is_private_subtag;
-use langtag_scan::Subtags;
+use langtag::{Subtags, is_private_subtag};
 
 /// Whether a text is a language range, basic or extended.
 pub(crate) fn is_language_range(text: &str) -> bool

@@ -13,11 +13,14 @@ use crate::weight::weight_of;
 const SPACES: [char; 2] = [' ', '\t'];
 
 /// A language range, and how much it is wanted: `fr;q=0.25` in a header is the range `fr` with the weight 250.
-#[derive(Clone, Copy, Debug)]
+/// Two of them are equal where the weights are, and the ranges are equal without regard to case.
+#[derive(Clone, Copy, Debug, PartialEq, Eq)]
 pub struct WeightedRange<'a> {
-    /// The range, a slice of the header.
+    /// The range: one of [`AcceptLanguage::ranges`](crate::AcceptLanguage::ranges) is a basic one, with the case that it has
+    /// in the header.
     pub range: LanguageRange<'a>,
-    /// The weight in thousandths, from 0 to 1000.
+    /// The weight in thousandths: of a range of [`AcceptLanguage::ranges`](crate::AcceptLanguage::ranges) it is from 1 to 1000,
+    /// since ranges of the weight 0 are left out.
     pub weight: u32,
 }
 

@@ -38,3 +38,12 @@ fn subtags_are_taken_away_from_the_end(rt: HostRuntime) -> Result<(), Fail> {
     }
     Ok(())
 }
+
+#[test]
+fn fallbacks_are_counted(rt: HostRuntime) -> Result<(), Fail> {
+    let range = LanguageRange::new("zh-Hant-CN-x-private1")
+        .ok()
+        .ok_or("no range")?;
+    assert_eq!(rt; range.fallbacks().count(), 4);
+    Ok(())
+}

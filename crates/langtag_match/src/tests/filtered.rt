@@ -82,6 +82,19 @@ fn tags_are_found_range_by_range(rt: HostRuntime) -> Result<(), Fail> {
 }
 
 #[test]
+fn the_tags_found_are_counted(rt: HostRuntime) -> Result<(), Fail> {
+    let german = LanguageRange::new("de").ok().ok_or("no range")?;
+    let swiss = LanguageRange::new("*-CH").ok().ok_or("no range")?;
+    let tags = once_more!(tags(rt.alloc()))?;
+    assert_eq!(rt; filter_basic(&[german, swiss], tags.as_slice()).count(), 5);
+    assert_eq!(rt;
+        filter_extended(&[german, swiss], tags.as_slice()).count(),
+        6
+    );
+    Ok(())
+}
+
+#[test]
 fn nothing_is_found_without_ranges_or_tags(rt: HostRuntime) -> Result<(), Fail> {
     let range = LanguageRange::new("*").ok().ok_or("no range")?;
     let tag = LangTag::new("en").ok().ok_or("no tag")?;

@@ -1,5 +1,5 @@
-//! Headers and ranges as an attacker writes them: each is answered, in time that grows with its length.
-use crate::{AcceptLanguage, AcceptLanguageError, LanguageRange, look_up};
+//! Headers and ranges as an attacker writes them: each is answered, in time that grows with its length, but for a filter.
+use crate::{AcceptLanguage, AcceptLanguageError, LanguageRange, filter_extended, look_up};
 use langtag::LangTag;
 use std::alloc::{AllocError, Global};
 use std::test::Fail;
@@ -103,5 +103,18 @@ fn long_ranges(rt: HostRuntime) -> Result<(), Fail> {
         let tag = look_up(&[range], &[default, german], default);
         assert_eq!(rt; tag.as_str(), "de");
     }
+    Ok(())
+}
+
+/// The most that a filter has to do: ranges that match nothing, and then one range over and over. Each of the latter matches
+/// the tag, and is compared to all before the first of them.
+#[test]
+fn many_ranges_that_match(rt: HostRuntime) -> Result<(), Fail> {
+    let english = LangTag::new("en").ok().ok_or("refused")?;
+    let other = LanguageRange::new("fr").ok().ok_or("refused")?;
+    let same = LanguageRange::new("en").ok().ok_or("refused")?;
+    let mut ranges = [other; 2000];
+    ranges[1000..].fill(same);
+    assert_eq!(rt; filter_extended(&ranges, &[english]).count(), 1);
     Ok(())
 }

@@ -11,4 +11,4 @@ returns c =
     let start = c.segment_start in
     let (front, cut) = segments-end bytes bytes start.result refl start.ensures.within start.ensures.last start.ensures.hyphen in
     let last = take_all (length bytes - start.result) (drop start.result bytes) (omega (arith, length-drop start.result bytes)) in
-    (front, drop start.result bytes, ap segments (sym c.as_bytes-bytes.ensures.value) ∙ cut, c.is_single.ensures ∙ ap is_single_alphanum last)
+    (front, drop start.result bytes, ap segments (sym c.as_bytes-bytes.ensures.value) ∙ cut, c.is_single_alphanum.ensures ∙ ap is_single_alphanum last)

@@ -6,5 +6,5 @@ use Rattle.langtag_match.proofs.filtered.next_place.Given as goal
 -- what is left is what the range at the index and those after it find
 abbrev pub invariant-loop-index : goal.invariant-loop-index
 invariant-loop-index l =
-    found_from (matches_by l.rule) (take l.range l.ranges) (drop l.range l.ranges) (drop l.tag l.tags) l.tags
+    found_from (matches_by l.rule) (take l.range_index l.ranges) (drop l.range_index l.ranges) (drop l.tag_index l.tags) l.tags
     ≡ found_from (matches_by l.rule) (take l.index l.ranges) (drop l.index l.ranges) (drop l.from l.tags) l.tags

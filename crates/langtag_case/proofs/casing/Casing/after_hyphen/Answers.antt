@@ -6,4 +6,4 @@ pub returns : goal.returns
 returns c =
     let next = c.segment_end.ensures in
     rw c.of_length.ensures
-    (later-cased c.args.rest.now _ next.within next.first next.hyphen ∙ following-later c.args.self _ c.in_default.not-AllSmall)
+    (later-cased c.args.rest.now _ next.within next.first next.hyphen ∙ following-later c.args.self _ c.in_default.not-AllLower)
