@@ -128,14 +128,16 @@ impl<'a> LangTag<'a> {
     /// Whether another text, of any form, is equal but for the case of ASCII letters: true of `zh-Hant` and `ZH-hant`. Then
     /// it is a tag of the same kind, and, where that is a normal one, has alike parts at the same offsets.
     ///
-    /// The contract also says that tags are compared, ordered and hashed without regard to case, and that a tag that begins
-    /// another is the greater of the two: `zh` comes after `zh-Latn`.
+    /// The contract also says that tags are compared, ordered and hashed without regard to case, that a clone is the tag
+    /// itself, and that a tag that begins another is the greater of the two: `zh` comes after `zh-Latn`.
     pub fn eq_str(&self, other: &str) -> bool
         ensures test { result ≡ are_alike (lang_tag_text self.now) other.now }
         ensures same_kind { IsTrue result → AreOfOneKind (lang_tag_text self.now) other.now }
         ensures alike_parts { IsTrue result → EachRecord (lang_tag_text self.now) (λ r. IsSpelledAlike r other.now) }
 
         ensures compared { LangTagsCompareByCase }
+        ensures cloned { (copy : LangTag) → ⟦<LangTag<'a> as Clone>⟧.is_clone self.now copy → copy ≡ self.now }
+        ensures clone_succeeds { ⟦<LangTag<'a> as Clone>⟧.is_infallible self.now }
         ensures ends_first { (t u : List ℕ) → IsTag u → EndsFirst t u → case_cmp t u ≡ Ordering.Greater }
     {
         self.text == Caseless(other)
@@ -143,10 +145,12 @@ impl<'a> LangTag<'a> {
 
     /// The kind of the tag: `Kind::Normal` of `fr-x-a`, `Kind::PrivateUse` of `x-a`, `Kind::Grandfathered` of `i-lux`. The
     /// regular grandfathered tags are normal. The contract also says that kinds compare and are hashed as they are declared,
-    /// and that no text is of two kinds.
+    /// that a clone of one is the same, and that no text is of two kinds.
     pub fn kind(&self) -> Kind
         ensures kind { IsOfKind (lang_tag_text self.now) result }
         ensures by_index { KindsCompareByIndex }
+        ensures cloned { (kind copy : Kind) → ⟦<Kind as Clone>⟧.is_clone kind copy → copy ≡ kind }
+        ensures clone_succeeds { (kind : Kind) → ⟦<Kind as Clone>⟧.is_infallible kind }
 
         ensures normal_not_private { (t : List ℕ) → IsNormal t → IsPrivate t → ⊥ }
         ensures normal_not_irregular { (t : List ℕ) → IsNormal t → IsIrregular t → ⊥ }

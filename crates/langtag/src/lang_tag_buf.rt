@@ -1,7 +1,8 @@
 //! Language tags of every kind that own their text.
 ghost use Rattle.std.specs.Prelude.{◌≡◌, ◌↔◌, ℕ, List, [], Some, IsTrue, IsNone, IsOk, IsErrOf, IfOk, IfErr, OnOk, OnErr, is_ok};
 ghost use Rattle.std.specs.Option.{option_map};
-ghost use Rattle.std.specs.String.{string_bytes, string_capacity};
+ghost use Rattle.std.specs.String.{string_bytes, string_vec};
+ghost use Rattle.std.specs.Vec.{SameBlock};
 ghost use Rattle.langtag_case.specs.RecommendedCase.{recommended_record, recommended_text};
 ghost use Rattle.langtag_scan.specs.AlikeRecords.{IsSpelledAlike};
 ghost use Rattle.langtag_scan.specs.Case.{Alike};
@@ -261,7 +262,7 @@ impl LangTagBuf {
     /// are equal come out byte for byte the same, so that the text serves as a key where bytes are compared.
     pub fn make_recommended_case(&mut self)
         ensures case { lang_tag_buf_text self.new ≡ recommended_text (lang_tag_buf_text self.old) }
-        ensures room { string_capacity (lang_tag_buf_string self.new) ≡ string_capacity (lang_tag_buf_string self.old) }
+        ensures same_block { SameBlock (string_vec (lang_tag_buf_string self.old)) (string_vec (lang_tag_buf_string self.new)) }
         ensures record { EachRecord (lang_tag_buf_text self.old) (λ r. lang_tag_buf_text self.new ≡ spell (recommended_record r)) }
         ensures alike { Alike (lang_tag_buf_text self.old) (lang_tag_buf_text self.new) }
         ensures same_kind { AreOfOneKind (lang_tag_buf_text self.old) (lang_tag_buf_text self.new) }
