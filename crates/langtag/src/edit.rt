@@ -1,4 +1,6 @@
 //! A part of a tag's text that is replaced, and where the parts end then.
+#![tactic(auto, using(langtag_scan::proofs::SpelledTexts::offsets_kept))]
+
 ghost use Rattle.std.specs.Prelude.{◌≡◌, ◌++◌, ◌+◌, ◌≤◌, [], length, IfOk, OnOk, OnErr, IsNone, IsOk};
 ghost use Rattle.std.specs.List.{replace_range};
 ghost use Rattle.std.specs.Option.{option_map};
@@ -22,7 +24,6 @@ use std::alloc::{AllocError, Global};
 
 /// Puts a language into the text of a normal tag whose parts end at these offsets. Answers where they end then: the text is
 /// not looked at again.
-#[tactic(auto, using(langtag_scan::proofs::SpelledTexts::offsets_kept))]
 pub(crate) fn put_language(
     text: &mut String,
     ends: Ends,
@@ -44,7 +45,6 @@ pub(crate) fn put_language(
 }
 
 /// Puts a script into such a text, or takes it out.
-#[tactic(auto, using(langtag_scan::proofs::SpelledTexts::offsets_kept))]
 pub(crate) fn put_script(
     text: &mut String,
     ends: Ends,
@@ -67,7 +67,6 @@ pub(crate) fn put_script(
 }
 
 /// The same of a region.
-#[tactic(auto, using(langtag_scan::proofs::SpelledTexts::offsets_kept))]
 pub(crate) fn put_region(
     text: &mut String,
     ends: Ends,
@@ -90,7 +89,6 @@ pub(crate) fn put_region(
 }
 
 /// The same of variants.
-#[tactic(auto, using(langtag_scan::proofs::SpelledTexts::offsets_kept))]
 pub(crate) fn put_variants(
     text: &mut String,
     ends: Ends,
@@ -113,7 +111,6 @@ pub(crate) fn put_variants(
 }
 
 /// The same of extensions.
-#[tactic(auto, using(langtag_scan::proofs::SpelledTexts::offsets_kept))]
 pub(crate) fn put_extensions(
     text: &mut String,
     ends: Ends,
@@ -136,7 +133,6 @@ pub(crate) fn put_extensions(
 }
 
 /// The same of a private use part.
-#[tactic(auto, using(langtag_scan::proofs::SpelledTexts::offsets_kept))]
 pub(crate) fn put_private_use(
     text: &mut String,
     ends: Ends,

@@ -150,7 +150,7 @@ impl GrandfatheredLangTag {
     /// `Ok(GrandfatheredLangTag::IAmi)`.
     ///
     /// Its contract also has the laws that no bytes are alike two of them, that all of them are tags, that they compare and
-    /// are hashed as their indices, and that [`GRANDFATHERED`] has each at its index.
+    /// are hashed as their indices, that a clone is the value itself, and that [`GRANDFATHERED`] has each at its index.
     ///
     /// # Errors
     ///
@@ -163,6 +163,8 @@ impl GrandfatheredLangTag {
         ensures one_index { (j k : ℕ) (t : List ℕ) → IsGrandfatheredAt j t → IsGrandfatheredAt k t → j ≡ k }
         ensures are_tags { (t : List ℕ) → IsGrandfathered t → IsTag t }
         ensures by_index { TagsCompareByIndex }
+        ensures cloned { (tag copy : GrandfatheredLangTag) → ⟦<GrandfatheredLangTag as Clone>⟧.is_clone tag copy → copy ≡ tag }
+        ensures clone_succeeds { (tag : GrandfatheredLangTag) → ⟦<GrandfatheredLangTag as Clone>⟧.is_infallible tag }
         ensures listed { (tag : GrandfatheredLangTag) → slice_get GRANDFATHERED (index_of tag) ≡ Some tag }
     {
         match first_alike(&GRANDFATHERED, bytes) {

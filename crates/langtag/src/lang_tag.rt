@@ -52,14 +52,10 @@ pub struct LangTag<'a> {
 
 #[tactic(auto, using(crate::proofs::KeptFound::found_kept))]
 impl<'a> LangTag<'a> {
-    ghost use Rattle.langtag_language.specs.Text.{language_text};
-    ghost use Rattle.langtag_place.specs.Text.{script_text, region_text, variants_text};
-    ghost use Rattle.langtag_extension.specs.Text.{extensions_text};
-    ghost use Rattle.langtag_private.specs.Text.{private_use_text, private_use_subtags_left};
+    ghost use Rattle.langtag_private.specs.Text.{private_use_text};
     ghost use Rattle.langtag.specs.Compared.{LangTagsCompareByCase};
     ghost use Rattle.langtag.specs.Kinds.{IsOfKind, AreOfOneKind};
     ghost use Rattle.langtag.specs.Order.{KindsCompareByIndex};
-    ghost use Rattle.langtag.specs.Part.{PartOf};
     ghost use Rattle.langtag.specs.Registered.{index_of, IsGrandfatheredAt, IsGrandfathered};
     ghost use Rattle.langtag.specs.Text.{normal_lang_tag_text, lang_tag_text, lang_tag_buf_text};
     ghost use Rattle.langtag.specs.Typed.{IsTypedAs};
@@ -128,14 +124,16 @@ impl<'a> LangTag<'a> {
     /// Whether another text, of any form, is equal but for the case of ASCII letters: true of `zh-Hant` and `ZH-hant`. Then
     /// it is a tag of the same kind, and, where that is a normal one, has alike parts at the same offsets.
     ///
-    /// The contract also says that tags are compared, ordered and hashed without regard to case, and that a tag that begins
-    /// another is the greater of the two: `zh` comes after `zh-Latn`.
+    /// The contract also says that tags are compared, ordered and hashed without regard to case, that a clone is the tag
+    /// itself, and that a tag that begins another is the greater of the two: `zh` comes after `zh-Latn`.
     pub fn eq_str(&self, other: &str) -> bool
         ensures test { result ≡ are_alike (lang_tag_text self.now) other.now }
         ensures same_kind { IsTrue result → AreOfOneKind (lang_tag_text self.now) other.now }
         ensures alike_parts { IsTrue result → EachRecord (lang_tag_text self.now) (λ r. IsSpelledAlike r other.now) }
 
         ensures compared { LangTagsCompareByCase }
+        ensures cloned { (copy : LangTag) → ⟦<LangTag<'a> as Clone>⟧.is_clone self.now copy → copy ≡ self.now }
+        ensures clone_succeeds { ⟦<LangTag<'a> as Clone>⟧.is_infallible self.now }
         ensures ends_first { (t u : List ℕ) → IsTag u → EndsFirst t u → case_cmp t u ≡ Ordering.Greater }
     {
         self.text == Caseless(other)
@@ -143,10 +141,12 @@ impl<'a> LangTag<'a> {
 
     /// The kind of the tag: `Kind::Normal` of `fr-x-a`, `Kind::PrivateUse` of `x-a`, `Kind::Grandfathered` of `i-lux`. The
     /// regular grandfathered tags are normal. The contract also says that kinds compare and are hashed as they are declared,
-    /// and that no text is of two kinds.
+    /// that a clone of one is the same, and that no text is of two kinds.
     pub fn kind(&self) -> Kind
         ensures kind { IsOfKind (lang_tag_text self.now) result }
         ensures by_index { KindsCompareByIndex }
+        ensures cloned { (kind copy : Kind) → ⟦<Kind as Clone>⟧.is_clone kind copy → copy ≡ kind }
+        ensures clone_succeeds { (kind : Kind) → ⟦<Kind as Clone>⟧.is_infallible kind }
 
         ensures normal_not_private { (t : List ℕ) → IsNormal t → IsPrivate t → ⊥ }
         ensures normal_not_irregular { (t : List ℕ) → IsNormal t → IsIrregular t → ⊥ }
@@ -220,72 +220,6 @@ impl<'a> LangTag<'a> {
         GrandfatheredLangTag::new(self.as_bytes()).ok()
     }
 
-    /// The language of a normal tag: `zh-yue` of `zh-yue-HK`, None of `x-a` and of `i-lux`.
-    #[tactic(auto, using(crate::proofs::PartOfLaws::part_found))]
-    pub fn language(&self) -> Option<Language<'a>>
-        ensures { PartOf (lang_tag_text self.now) (λ r. Some (language_part r)) None (option_map language_text result) }
-    {
-        Some(self.as_normal()?.language())
-    }
-
-    /// The script of a normal tag: `Latn` of `sl-Latn-IT`, None of `sl-IT` and of `x-a`.
-    #[tactic(auto, using(crate::proofs::PartOfLaws::part_found))]
-    pub fn script(&self) -> Option<Script<'a>>
-        ensures { PartOf (lang_tag_text self.now) (λ r. r.script) None (option_map script_text result) }
-    {
-        self.as_normal()?.script()
-    }
-
-    /// The region of a normal tag: `419` of `es-419`, None of `es` and of `x-a`.
-    #[tactic(auto, using(crate::proofs::PartOfLaws::part_found))]
-    pub fn region(&self) -> Option<Region<'a>>
-        ensures { PartOf (lang_tag_text self.now) (λ r. r.region) None (option_map region_text result) }
-    {
-        self.as_normal()?.region()
-    }
-
-    /// The variants of a normal tag, none on any other: `rozaj-1994` of `sl-rozaj-1994`, the empty text of `x-a`.
-    #[tactic(auto, using(crate::proofs::PartOfLaws::part_found))]
-    pub fn variants(&self) -> Variants<'a>
-        ensures { PartOf (lang_tag_text self.now) variants_part [] (variants_text result) }
-    {
-        let Some(tag) = self.as_normal() else {
-            return Variants::EMPTY;
-        };
-        tag.variants()
-    }
-
-    /// The extensions of a normal tag, none on any other: `a-bb-u-co` of `en-a-bb-u-co-x-y`, the empty text of `x-a`.
-    #[tactic(auto, using(crate::proofs::PartOfLaws::part_found))]
-    pub fn extensions(&self) -> Extensions<'a>
-        ensures { PartOf (lang_tag_text self.now) extensions_part [] (extensions_text result) }
-    {
-        let Some(tag) = self.as_normal() else {
-            return Extensions::EMPTY;
-        };
-        tag.extensions()
-    }
-
-    /// The private use part of a normal tag: `x-y` of `en-x-y`. A tag for private use as a whole has none, so it is None of
-    /// `x-a`: see [`as_private_use`](LangTag::as_private_use).
-    #[tactic(auto, using(crate::proofs::PartOfLaws::part_found))]
-    pub fn private_use(&self) -> Option<PrivateUse<'a>>
-        ensures { PartOf (lang_tag_text self.now) private_use_part None (option_map private_use_text result) }
-    {
-        self.as_normal()?.private_use()
-    }
-
-    /// The subtags of the private use part of a normal tag, `x` and `y` of `en-x-x-y`; none where there is no such part.
-    #[tactic(auto, using(crate::proofs::PartOfLaws::part_found))]
-    pub fn private_use_subtags(&self) -> PrivateUseIter<'a>
-        ensures { PartOf (lang_tag_text self.now) private_use_subtags [] (private_use_subtags_left result) }
-    {
-        let Some(tag) = self.as_normal() else {
-            return PrivateUseIter::empty();
-        };
-        tag.private_use_subtags()
-    }
-
     /// The owned form of the same text: `owned.as_str()` is `zh-Latn` where this is `zh-Latn`.
     ///
     /// # Errors
@@ -325,6 +259,76 @@ impl<'a> LangTag<'a> {
         let mut owned = self.try_to_owned(alloc)?;
         owned.make_recommended_case();
         Ok(owned)
+    }
+}
+
+/// The parts of a normal tag; a tag of another kind has none.
+#[tactic(auto, using(crate::proofs::PartOfLaws::part_found))]
+impl<'a> LangTag<'a> {
+    ghost use Rattle.langtag_language.specs.Text.{language_text};
+    ghost use Rattle.langtag_place.specs.Text.{script_text, region_text, variants_text};
+    ghost use Rattle.langtag_extension.specs.Text.{extensions_text};
+    ghost use Rattle.langtag_private.specs.Text.{private_use_text, private_use_subtags_left};
+    ghost use Rattle.langtag.specs.Part.{PartOf};
+    ghost use Rattle.langtag.specs.Text.{lang_tag_text};
+
+    /// The language of a normal tag: `zh-yue` of `zh-yue-HK`, None of `x-a` and of `i-lux`.
+    pub fn language(&self) -> Option<Language<'a>>
+        ensures { PartOf (lang_tag_text self.now) (λ r. Some (language_part r)) None (option_map language_text result) }
+    {
+        Some(self.as_normal()?.language())
+    }
+
+    /// The script of a normal tag: `Latn` of `sl-Latn-IT`, None of `sl-IT` and of `x-a`.
+    pub fn script(&self) -> Option<Script<'a>>
+        ensures { PartOf (lang_tag_text self.now) (λ r. r.script) None (option_map script_text result) }
+    {
+        self.as_normal()?.script()
+    }
+
+    /// The region of a normal tag: `419` of `es-419`, None of `es` and of `x-a`.
+    pub fn region(&self) -> Option<Region<'a>>
+        ensures { PartOf (lang_tag_text self.now) (λ r. r.region) None (option_map region_text result) }
+    {
+        self.as_normal()?.region()
+    }
+
+    /// The variants of a normal tag, none on any other: `rozaj-1994` of `sl-rozaj-1994`, the empty text of `x-a`.
+    pub fn variants(&self) -> Variants<'a>
+        ensures { PartOf (lang_tag_text self.now) variants_part [] (variants_text result) }
+    {
+        let Some(tag) = self.as_normal() else {
+            return Variants::EMPTY;
+        };
+        tag.variants()
+    }
+
+    /// The extensions of a normal tag, none on any other: `a-bb-u-co` of `en-a-bb-u-co-x-y`, the empty text of `x-a`.
+    pub fn extensions(&self) -> Extensions<'a>
+        ensures { PartOf (lang_tag_text self.now) extensions_part [] (extensions_text result) }
+    {
+        let Some(tag) = self.as_normal() else {
+            return Extensions::EMPTY;
+        };
+        tag.extensions()
+    }
+
+    /// The private use part of a normal tag: `x-y` of `en-x-y`. A tag for private use as a whole has none, so it is None of
+    /// `x-a`: see [`as_private_use`](LangTag::as_private_use).
+    pub fn private_use(&self) -> Option<PrivateUse<'a>>
+        ensures { PartOf (lang_tag_text self.now) private_use_part None (option_map private_use_text result) }
+    {
+        self.as_normal()?.private_use()
+    }
+
+    /// The subtags of the private use part of a normal tag, `x` and `y` of `en-x-x-y`; none where there is no such part.
+    pub fn private_use_subtags(&self) -> PrivateUseIter<'a>
+        ensures { PartOf (lang_tag_text self.now) private_use_subtags [] (private_use_subtags_left result) }
+    {
+        let Some(tag) = self.as_normal() else {
+            return PrivateUseIter::empty();
+        };
+        tag.private_use_subtags()
     }
 }
 

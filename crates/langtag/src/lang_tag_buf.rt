@@ -1,7 +1,8 @@
 //! Language tags of every kind that own their text.
 ghost use Rattle.std.specs.Prelude.{◌≡◌, ◌↔◌, ℕ, List, [], Some, IsTrue, IsNone, IsOk, IsErrOf, IfOk, IfErr, OnOk, OnErr, is_ok};
 ghost use Rattle.std.specs.Option.{option_map};
-ghost use Rattle.std.specs.String.{string_bytes, string_capacity};
+ghost use Rattle.std.specs.String.{string_bytes, string_vec};
+ghost use Rattle.std.specs.Vec.{SameBlock};
 ghost use Rattle.langtag_case.specs.RecommendedCase.{recommended_record, recommended_text};
 ghost use Rattle.langtag_scan.specs.AlikeRecords.{IsSpelledAlike};
 ghost use Rattle.langtag_scan.specs.Case.{Alike};
@@ -121,13 +122,44 @@ impl LangTagBuf {
         Ok(NormalLangTagBuf::with_ends(self.text.0, ends))
     }
 
+    /// The text itself, which is not copied: `x-a` of `x-a`.
+    pub fn into_string(self) -> String
+        ensures same_text { string_bytes result ≡ lang_tag_buf_text self }
+        ensures same_string { result ≡ lang_tag_buf_string self }
+        ensures in_class { IsTag (string_bytes result) }
+    {
+        self.text.0
+    }
+
+    /// Puts the letters into the case that RFC 5646 section 2.1.1 recommends: `mn-Cyrl-MN` of `MN-cYRL-mn`, and `en-CA-x-ca`.
+    ///
+    /// Of a normal tag a script has a capital first and a region has capitals, and all else is small. The tag stays equal
+    /// to what it was, with its parts at the same offsets. No memory is taken, and the recogniser does not run. Tags that
+    /// are equal come out byte for byte the same, so that the text serves as a key where bytes are compared.
+    pub fn make_recommended_case(&mut self)
+        ensures case { lang_tag_buf_text self.new ≡ recommended_text (lang_tag_buf_text self.old) }
+        ensures same_block { SameBlock (string_vec (lang_tag_buf_string self.old)) (string_vec (lang_tag_buf_string self.new)) }
+        ensures record { EachRecord (lang_tag_buf_text self.old) (λ r. lang_tag_buf_text self.new ≡ spell (recommended_record r)) }
+        ensures alike { Alike (lang_tag_buf_text self.old) (lang_tag_buf_text self.new) }
+        ensures same_kind { AreOfOneKind (lang_tag_buf_text self.old) (lang_tag_buf_text self.new) }
+        ensures alike_parts { EachRecord (lang_tag_buf_text self.old) (λ r. IsSpelledAlike r (lang_tag_buf_text self.new)) }
+
+        ensures one_key { (t u : List ℕ) → Alike t u → recommended_text t ≡ recommended_text u }
+    {
+        put_recommended_case(&mut self.text.0);
+    }
+}
+
+#[tactic(auto, using(crate::proofs::KeptFound::found_kept, langtag_scan::proofs::SpelledTexts::offsets_kept, langtag_scan::proofs::TagLaws::tag_normal))]
+impl LangTagBuf {
+    ghost use Rattle.langtag.specs.Text.{lang_tag_buf_text};
+
     /// Puts a language into a normal tag, as [`NormalLangTagBuf::set_language`] does: `zh-yue` put into `sl-IT` makes
     /// `zh-yue-IT`. The recogniser goes over the new text once more.
     ///
     /// # Errors
     ///
     /// The tag is no normal one, as `x-a`, or no memory could be had. The tag is as it was.
-    #[tactic(auto, using(crate::proofs::KeptFound::found_kept, langtag_scan::proofs::SpelledTexts::offsets_kept, langtag_scan::proofs::TagLaws::tag_normal))]
     pub fn set_language(&mut self, alloc: Global, language: Language<'_>) -> Result<(), EditError>
         ensures set { OnOk result (SetsLanguage (language_text language.entry) (lang_tag_buf_text self.old) (lang_tag_buf_text self.new)) }
         ensures not_normal { IsErrOf result EditError.NotNormal ↔ (IsNormal (lang_tag_buf_text self.old) → ⊥) }
@@ -147,7 +179,6 @@ impl LangTagBuf {
     /// # Errors
     ///
     /// The tag is no normal one, as `x-a`, or no memory could be had. The tag is as it was.
-    #[tactic(auto, using(crate::proofs::KeptFound::found_kept, langtag_scan::proofs::SpelledTexts::offsets_kept, langtag_scan::proofs::TagLaws::tag_normal))]
     pub fn set_script(&mut self, alloc: Global, script: Option<Script<'_>>) -> Result<(), EditError>
         ensures set { OnOk result (SetsScript (option_map script_text script.entry) (lang_tag_buf_text self.old) (lang_tag_buf_text self.new)) }
         ensures not_normal { IsErrOf result EditError.NotNormal ↔ (IsNormal (lang_tag_buf_text self.old) → ⊥) }
@@ -168,7 +199,6 @@ impl LangTagBuf {
     /// # Errors
     ///
     /// The tag is no normal one, as `x-a`, or no memory could be had. The tag is as it was.
-    #[tactic(auto, using(crate::proofs::KeptFound::found_kept, langtag_scan::proofs::SpelledTexts::offsets_kept, langtag_scan::proofs::TagLaws::tag_normal))]
     pub fn set_region(&mut self, alloc: Global, region: Option<Region<'_>>) -> Result<(), EditError>
         ensures set { OnOk result (SetsRegion (option_map region_text region.entry) (lang_tag_buf_text self.old) (lang_tag_buf_text self.new)) }
         ensures not_normal { IsErrOf result EditError.NotNormal ↔ (IsNormal (lang_tag_buf_text self.old) → ⊥) }
@@ -189,7 +219,6 @@ impl LangTagBuf {
     /// # Errors
     ///
     /// The tag is no normal one, as `x-a`, or no memory could be had. The tag is as it was.
-    #[tactic(auto, using(crate::proofs::KeptFound::found_kept, langtag_scan::proofs::SpelledTexts::offsets_kept, langtag_scan::proofs::TagLaws::tag_normal))]
     pub fn set_variants(&mut self, alloc: Global, variants: Variants<'_>) -> Result<(), EditError>
         ensures set { OnOk result (SetsVariants (variants_text variants.entry) (lang_tag_buf_text self.old) (lang_tag_buf_text self.new)) }
         ensures not_normal { IsErrOf result EditError.NotNormal ↔ (IsNormal (lang_tag_buf_text self.old) → ⊥) }
@@ -210,7 +239,6 @@ impl LangTagBuf {
     /// # Errors
     ///
     /// The tag is no normal one, as `x-a`, or no memory could be had. The tag is as it was.
-    #[tactic(auto, using(crate::proofs::KeptFound::found_kept, langtag_scan::proofs::SpelledTexts::offsets_kept, langtag_scan::proofs::TagLaws::tag_normal))]
     pub fn set_extensions(
         &mut self,
         alloc: Global,
@@ -235,7 +263,6 @@ impl LangTagBuf {
     /// # Errors
     ///
     /// The tag is no normal one, as `x-a`, or no memory could be had. The tag is as it was.
-    #[tactic(auto, using(crate::proofs::KeptFound::found_kept, langtag_scan::proofs::SpelledTexts::offsets_kept, langtag_scan::proofs::TagLaws::tag_normal))]
     pub fn set_private_use(
         &mut self,
         alloc: Global,
@@ -252,33 +279,6 @@ impl LangTagBuf {
         put_private_use(&mut self.text.0, ends, alloc, private_use)?;
         self.found = recognise_checked(self.text.0.as_str());
         Ok(())
-    }
-
-    /// Puts the letters into the case that RFC 5646 section 2.1.1 recommends: `mn-Cyrl-MN` of `MN-cYRL-mn`, and `en-CA-x-ca`.
-    ///
-    /// Of a normal tag a script has a capital first and a region has capitals, and all else is small. The tag stays equal
-    /// to what it was, with its parts at the same offsets. No memory is taken, and the recogniser does not run. Tags that
-    /// are equal come out byte for byte the same, so that the text serves as a key where bytes are compared.
-    pub fn make_recommended_case(&mut self)
-        ensures case { lang_tag_buf_text self.new ≡ recommended_text (lang_tag_buf_text self.old) }
-        ensures room { string_capacity (lang_tag_buf_string self.new) ≡ string_capacity (lang_tag_buf_string self.old) }
-        ensures record { EachRecord (lang_tag_buf_text self.old) (λ r. lang_tag_buf_text self.new ≡ spell (recommended_record r)) }
-        ensures alike { Alike (lang_tag_buf_text self.old) (lang_tag_buf_text self.new) }
-        ensures same_kind { AreOfOneKind (lang_tag_buf_text self.old) (lang_tag_buf_text self.new) }
-        ensures alike_parts { EachRecord (lang_tag_buf_text self.old) (λ r. IsSpelledAlike r (lang_tag_buf_text self.new)) }
-
-        ensures one_key { (t u : List ℕ) → Alike t u → recommended_text t ≡ recommended_text u }
-    {
-        put_recommended_case(&mut self.text.0);
-    }
-
-    /// The text itself, which is not copied: `x-a` of `x-a`.
-    pub fn into_string(self) -> String
-        ensures same_text { string_bytes result ≡ lang_tag_buf_text self }
-        ensures same_string { result ≡ lang_tag_buf_string self }
-        ensures in_class { IsTag (string_bytes result) }
-    {
-        self.text.0
     }
 }
 

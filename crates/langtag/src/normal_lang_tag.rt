@@ -132,13 +132,15 @@ impl<'a> NormalLangTag<'a> {
     /// Whether another text, of any form, is equal but for the case of ASCII letters: true of `sl-IT` and `SL-it`. Then it is
     /// a normal tag too, with alike parts at the same offsets.
     ///
-    /// The contract also says that normal tags are compared, ordered and hashed without regard to case, and that a tag that
-    /// begins another is the greater of the two: `sl` comes after `sl-IT`.
+    /// The contract also says that normal tags are compared, ordered and hashed without regard to case, that a clone is the tag
+    /// itself, and that a tag that begins another is the greater of the two: `sl` comes after `sl-IT`.
     pub fn eq_str(&self, other: &str) -> bool
         ensures test { result ≡ are_alike (normal_lang_tag_text self.now) other.now }
         ensures alike_parts { IsTrue result → EachRecord (normal_lang_tag_text self.now) (λ r. IsSpelledAlike r other.now) }
 
         ensures compared { NormalLangTagsCompareByCase }
+        ensures cloned { (copy : NormalLangTag) → ⟦<NormalLangTag<'a> as Clone>⟧.is_clone self.now copy → copy ≡ self.now }
+        ensures clone_succeeds { ⟦<NormalLangTag<'a> as Clone>⟧.is_infallible self.now }
         ensures ends_first { (t u : List ℕ) → IsNormal u → EndsFirst t u → case_cmp t u ≡ Ordering.Greater }
     {
         self.text == Caseless(other)

@@ -1,7 +1,8 @@
 //! Normal tags that own their text.
 ghost use Rattle.std.specs.Prelude.{◌≡◌, ◌↔◌, ℕ, List, [], Option, Some, IsTrue, IsNone, IsOk, IfOk, IfErr, OnOk, OnErr, is_ok};
 ghost use Rattle.std.specs.Option.{option_map};
-ghost use Rattle.std.specs.String.{string_bytes, string_capacity};
+ghost use Rattle.std.specs.String.{string_bytes, string_vec};
+ghost use Rattle.std.specs.Vec.{SameBlock};
 ghost use Rattle.langtag_case.specs.RecommendedCase.{recommended_record, recommended_text};
 ghost use Rattle.langtag_scan.specs.AlikeRecords.{IsSpelledAlike};
 ghost use Rattle.langtag_scan.specs.Case.{Alike};
@@ -152,7 +153,7 @@ impl NormalLangTagBuf {
     /// `mn-Cyrl-MN` of `MN-cYRL-mn`. No memory is taken, and nothing is looked for.
     pub fn make_recommended_case(&mut self)
         ensures case { normal_lang_tag_buf_text self.new ≡ recommended_text (normal_lang_tag_buf_text self.old) }
-        ensures room { string_capacity (normal_lang_tag_buf_string self.new) ≡ string_capacity (normal_lang_tag_buf_string self.old) }
+        ensures same_block { SameBlock (string_vec (normal_lang_tag_buf_string self.old)) (string_vec (normal_lang_tag_buf_string self.new)) }
         ensures record { EachRecord (normal_lang_tag_buf_text self.old) (λ r. normal_lang_tag_buf_text self.new ≡ spell (recommended_record r)) }
         ensures alike { Alike (normal_lang_tag_buf_text self.old) (normal_lang_tag_buf_text self.new) }
         ensures alike_parts { EachRecord (normal_lang_tag_buf_text self.old) (λ r. IsSpelledAlike r (normal_lang_tag_buf_text self.new)) }

@@ -1,7 +1,8 @@
 //! The text of a tag in its recommended case.
 ghost use Rattle.std.specs.Prelude.{◌≡◌};
 ghost use Rattle.std.specs.Str.{IsAscii};
-ghost use Rattle.std.specs.String.{string_bytes, string_capacity};
+ghost use Rattle.std.specs.String.{string_bytes, string_vec};
+ghost use Rattle.std.specs.Vec.{SameBlock};
 ghost use Rattle.langtag_case.specs.RecommendedCase.{recommended_text};
 
 use langtag_case::make_recommended_case;
@@ -11,7 +12,7 @@ use std::mem;
 pub(crate) fn put_recommended_case(text: &mut String)
     requires { IsAscii (string_bytes text.old) }
     ensures case { string_bytes text.new ≡ recommended_text (string_bytes text.old) }
-    ensures room { string_capacity text.new ≡ string_capacity text.old }
+    ensures same_block { SameBlock (string_vec text.old) (string_vec text.new) }
 {
     let empty = String::new(*text.allocator());
     let mut bytes = mem::replace(text, empty).into_bytes();

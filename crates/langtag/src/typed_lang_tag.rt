@@ -36,11 +36,13 @@ impl<'a> TypedLangTag<'a> {
     }
 
     /// The kind of the tag: `Kind::PrivateUse` of `x-a`. The contract also says that typed tags are equal where they are of
-    /// one kind and their texts are alike.
+    /// one kind and their texts are alike, and that a clone is the value itself.
     #[tactic(auto, using(crate::proofs::OrderLaws::typed_equal))]
     pub fn kind(&self) -> Kind
         ensures kind { result ≡ kind_of self.now }
         ensures compared { TypedLangTagsCompareByKind }
+        ensures cloned { (copy : TypedLangTag) → ⟦<TypedLangTag<'a> as Clone>⟧.is_clone self.now copy → copy ≡ self.now }
+        ensures clone_succeeds { ⟦<TypedLangTag<'a> as Clone>⟧.is_infallible self.now }
     {
         match self {
             TypedLangTag::Normal(_) => Kind::Normal,

@@ -81,11 +81,13 @@ impl<'a> Extension<'a> {
 
     /// Whether another text, of any form, is equal but for the case of ASCII letters:
     /// `Extension::new("u-co")?.eq_str("U-CO")` is true. The contract also pins that extensions are compared, ordered
-    /// and hashed so.
+    /// and hashed so, and that a clone is the value itself.
     pub fn eq_str(&self, other: &str) -> bool
         ensures test { result ≡ are_alike (extension_text self.now) other.now }
 
         ensures compared { ExtensionsCompareByCase }
+        ensures cloned { (copy : Extension) → ⟦<Extension<'a> as Clone>⟧.is_clone self.now copy → copy ≡ self.now }
+        ensures clone_succeeds { ⟦<Extension<'a> as Clone>⟧.is_infallible self.now }
     {
         self.text == Caseless(other)
     }

@@ -82,11 +82,13 @@ impl<'a> ExtensionSubtag<'a> {
 
     /// Whether another text, of any form, is equal but for the case of ASCII letters:
     /// `ExtensionSubtag::new("co")?.eq_str("CO")` is true. The contract also pins that subtags are compared, ordered
-    /// and hashed so.
+    /// and hashed so, and that a clone is the value itself.
     pub fn eq_str(&self, other: &str) -> bool
         ensures test { result ≡ are_alike (extension_subtag_text self.now) other.now }
 
         ensures compared { ExtensionSubtagsCompareByCase }
+        ensures cloned { (copy : ExtensionSubtag) → ⟦<ExtensionSubtag<'a> as Clone>⟧.is_clone self.now copy → copy ≡ self.now }
+        ensures clone_succeeds { ⟦<ExtensionSubtag<'a> as Clone>⟧.is_infallible self.now }
     {
         self.text == Caseless(other)
     }

@@ -55,9 +55,6 @@ impl<'a> Extensions<'a> {
         ensures same_text { IfOk result (λ extensions. extensions_text extensions ≡ text.now) }
         ensures given_back { IfErr result (λ error. error.0 ≡ text.entry) }
     {
-        if text.is_empty() {
-            return Ok(Extensions::EMPTY);
-        }
         if !are_extensions(text) {
             return Err(InvalidExtensions(text));
         }
@@ -92,11 +89,13 @@ impl<'a> Extensions<'a> {
 
     /// Whether another text, of any form, is equal but for the case of ASCII letters:
     /// `Extensions::new("u-co")?.eq_str("U-CO")` is true. The contract also pins that lists of extensions are
-    /// compared, ordered and hashed so.
+    /// compared, ordered and hashed so, and that a clone is the value itself.
     pub fn eq_str(&self, other: &str) -> bool
         ensures test { result ≡ are_alike (extensions_text self.now) other.now }
 
         ensures compared { ExtensionListsCompareByCase }
+        ensures cloned { (copy : Extensions) → ⟦<Extensions<'a> as Clone>⟧.is_clone self.now copy → copy ≡ self.now }
+        ensures clone_succeeds { ⟦<Extensions<'a> as Clone>⟧.is_infallible self.now }
     {
         self.text == Caseless(other)
     }
@@ -144,6 +143,16 @@ impl<'a> Extensions<'a> {
             return ExtensionIter::empty();
         };
         extension.iter()
+    }
+}
+
+impl Default for Extensions<'_> {
+    ghost use Rattle.langtag_extension.specs.Text.{extensions_text};
+
+    ghost is_default = { λ extensions. extensions_text extensions ≡ [] };
+
+    fn default() -> Self {
+        Extensions::EMPTY
     }
 }
 

@@ -32,7 +32,8 @@ impl Singleton {
     ghost use Rattle.langtag_extension.specs.Text.{singleton_byte};
 
     /// The singleton of a byte: `Singleton::new(b'u')` is Ok. That a literal is one computes in a proof by its
-    /// number. The contract also pins that singletons are compared, ordered and hashed by their exact bytes.
+    /// number. The contract also pins that singletons are compared, ordered and hashed by their exact bytes, and that a
+    /// clone is the value itself.
     ///
     /// # Errors
     ///
@@ -46,6 +47,8 @@ impl Singleton {
         ensures given_back { IfErr result (λ error. error.0 ≡ c) }
 
         ensures compared { SingletonsCompareByByte }
+        ensures cloned { (singleton copy : Singleton) → ⟦<Singleton as Clone>⟧.is_clone singleton copy → copy ≡ singleton }
+        ensures clone_succeeds { (singleton : Singleton) → ⟦<Singleton as Clone>⟧.is_infallible singleton }
     {
         if !is_singleton(c) {
             return Err(InvalidSingleton(c));

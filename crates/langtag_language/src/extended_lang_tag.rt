@@ -78,12 +78,14 @@ impl<'a> ExtendedLangTag<'a> {
     }
 
     /// Whether another text, of any form, is equal but for the case of ASCII letters:
-    /// `ExtendedLangTag::new("yue")?.eq_str("YUE")` is true. The contract also pins that extended subtags are compared,
-    /// ordered and hashed so.
+    /// `ExtendedLangTag::new("yue")?.eq_str("YUE")` is true. The contract also pins that extended subtags are
+    /// compared, ordered and hashed so, and that a clone is the value itself.
     pub fn eq_str(&self, other: &str) -> bool
         ensures test { result ≡ are_alike (extended_lang_tag_text self.now) other.now }
 
         ensures compared { ExtendedLangTagsCompareByCase }
+        ensures cloned { (copy : ExtendedLangTag) → ⟦<ExtendedLangTag<'a> as Clone>⟧.is_clone self.now copy → copy ≡ self.now }
+        ensures clone_succeeds { ⟦<ExtendedLangTag<'a> as Clone>⟧.is_infallible self.now }
     {
         self.text == Caseless(other)
     }

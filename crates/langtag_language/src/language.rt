@@ -83,12 +83,14 @@ impl<'a> Language<'a> {
     }
 
     /// Whether another text, of any form, is equal but for the case of ASCII letters:
-    /// `Language::new("zh-yue")?.eq_str("ZH-YUE")` is true. The contract also pins that languages are compared, ordered
-    /// and hashed so.
+    /// `Language::new("zh-yue")?.eq_str("ZH-YUE")` is true. The contract also pins that languages are compared,
+    /// ordered and hashed so, and that a clone is the value itself.
     pub fn eq_str(&self, other: &str) -> bool
         ensures test { result ≡ are_alike (language_text self.now) other.now }
 
         ensures compared { LanguagesCompareByCase }
+        ensures cloned { (copy : Language) → ⟦<Language<'a> as Clone>⟧.is_clone self.now copy → copy ≡ self.now }
+        ensures clone_succeeds { ⟦<Language<'a> as Clone>⟧.is_infallible self.now }
     {
         self.text == Caseless(other)
     }

@@ -79,11 +79,13 @@ impl<'a> LanguageExtension<'a> {
 
     /// Whether another text, of any form, is equal but for the case of ASCII letters:
     /// `LanguageExtension::new("min-nan")?.eq_str("MIN-NAN")` is true. The contract also pins that language extensions
-    /// are compared, ordered and hashed so.
+    /// are compared, ordered and hashed so, and that a clone is the value itself.
     pub fn eq_str(&self, other: &str) -> bool
         ensures test { result ≡ are_alike (language_extension_text self.now) other.now }
 
         ensures compared { LanguageExtensionsCompareByCase }
+        ensures cloned { (copy : LanguageExtension) → ⟦<LanguageExtension<'a> as Clone>⟧.is_clone self.now copy → copy ≡ self.now }
+        ensures clone_succeeds { ⟦<LanguageExtension<'a> as Clone>⟧.is_infallible self.now }
     {
         self.text == Caseless(other)
     }

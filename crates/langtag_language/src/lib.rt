@@ -4,6 +4,15 @@
 //! [`ExtendedLangTag`]s `min` and `nan`, and the whole is a [`Language`]. Each type has an owned form, as
 //! [`LanguageBuf`].
 //!
+//! ```rust
+//! use langtag_language::Language;
+//!
+//! let language = Language::new("zh-min-nan")?;
+//! assert_eq!(rt; language.primary().as_str(), "zh");
+//! let extension = language.extension().ok_or("no extended subtags")?;
+//! assert_eq!(rt; extension.as_str(), "min-nan");
+//! ```
+//!
 //! A part that is handed out has the bytes of that part of the text and lives as long as the text. Both are proved; that it
 //! stands at the same address is not.
 #![tactic(auto)]

@@ -80,11 +80,13 @@ impl<'a> PrimaryLanguage<'a> {
 
     /// Whether another text, of any form, is equal but for the case of ASCII letters:
     /// `PrimaryLanguage::new("fr")?.eq_str("FR")` is true. The contract also pins that primary languages are compared,
-    /// ordered and hashed so.
+    /// ordered and hashed so, and that a clone is the value itself.
     pub fn eq_str(&self, other: &str) -> bool
         ensures test { result ≡ are_alike (primary_language_text self.now) other.now }
 
         ensures compared { PrimaryLanguagesCompareByCase }
+        ensures cloned { (copy : PrimaryLanguage) → ⟦<PrimaryLanguage<'a> as Clone>⟧.is_clone self.now copy → copy ≡ self.now }
+        ensures clone_succeeds { ⟦<PrimaryLanguage<'a> as Clone>⟧.is_infallible self.now }
     {
         self.text == Caseless(other)
     }

@@ -1,4 +1,14 @@
 //! What may stand after the language of a tag: script, region and variants (RFC 5646 sections 2.2.3 to 2.2.5).
+//!
+//! ```rust
+//! use langtag_place::{Region, Variants};
+//!
+//! let region = Region::new("FR")?;
+//! assert_eq!(rt; region.eq_str("fr"), true);
+//! let variants = Variants::new("rozaj-1994")?;
+//! let last = variants.last().ok_or("no variants")?;
+//! assert_eq!(rt; last.as_str(), "1994");
+//! ```
 #![tactic(auto)]
 
 mod region;

@@ -79,12 +79,14 @@ impl<'a> Region<'a> {
     }
 
     /// Whether another text, of any form, is equal but for the case of ASCII letters:
-    /// `Region::new("fr")?.eq_str("FR")` is true. The contract also pins that regions are compared, ordered and
-    /// hashed so.
+    /// `Region::new("fr")?.eq_str("FR")` is true. The contract also pins that regions are compared, ordered and hashed
+    /// so, and that a clone is the value itself.
     pub fn eq_str(&self, other: &str) -> bool
         ensures test { result ≡ are_alike (region_text self.now) other.now }
 
         ensures compared { RegionsCompareByCase }
+        ensures cloned { (copy : Region) → ⟦<Region<'a> as Clone>⟧.is_clone self.now copy → copy ≡ self.now }
+        ensures clone_succeeds { ⟦<Region<'a> as Clone>⟧.is_infallible self.now }
     {
         self.text == Caseless(other)
     }

@@ -77,11 +77,13 @@ impl<'a> Script<'a> {
 
     /// Whether another text, of any form, is equal but for the case of ASCII letters:
     /// `Script::new("Latn")?.eq_str("LATN")` is true. The contract also pins that scripts are compared, ordered and
-    /// hashed so.
+    /// hashed so, and that a clone is the value itself.
     pub fn eq_str(&self, other: &str) -> bool
         ensures test { result ≡ are_alike (script_text self.now) other.now }
 
         ensures compared { ScriptsCompareByCase }
+        ensures cloned { (copy : Script) → ⟦<Script<'a> as Clone>⟧.is_clone self.now copy → copy ≡ self.now }
+        ensures clone_succeeds { ⟦<Script<'a> as Clone>⟧.is_infallible self.now }
     {
         self.text == Caseless(other)
     }

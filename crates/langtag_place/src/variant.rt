@@ -84,11 +84,13 @@ impl<'a> Variant<'a> {
 
     /// Whether another text, of any form, is equal but for the case of ASCII letters:
     /// `Variant::new("rozaj")?.eq_str("ROZAJ")` is true. The contract also pins that variants are compared, ordered
-    /// and hashed so.
+    /// and hashed so, and that a clone is the value itself.
     pub fn eq_str(&self, other: &str) -> bool
         ensures test { result ≡ are_alike (variant_text self.now) other.now }
 
         ensures compared { VariantsCompareByCase }
+        ensures cloned { (copy : Variant) → ⟦<Variant<'a> as Clone>⟧.is_clone self.now copy → copy ≡ self.now }
+        ensures clone_succeeds { ⟦<Variant<'a> as Clone>⟧.is_infallible self.now }
     {
         self.text == Caseless(other)
     }

@@ -1,5 +1,5 @@
 //! The variants of a tag as one text (RFC 5646 section 2.2.5).
-ghost use Rattle.std.specs.Prelude.{◌≡◌, ◌↔◌, ◌-◌, ℕ, List, Some, IsTrue, IfOk, IfErr, is_ok, length, slice_get};
+ghost use Rattle.std.specs.Prelude.{◌≡◌, ◌↔◌, ◌-◌, ℕ, List, [], Some, IsTrue, IfOk, IfErr, is_ok, length, slice_get};
 ghost use Rattle.std.specs.Option.{option_map};
 ghost use Rattle.std.specs.String.{string_bytes};
 ghost use Rattle.langtag_scan.specs.Case.{are_alike};
@@ -84,11 +84,13 @@ impl<'a> Variants<'a> {
 
     /// Whether another text, of any form, is equal but for the case of ASCII letters:
     /// `Variants::new("rozaj")?.eq_str("ROZAJ")` is true. The contract also pins that lists of variants are compared,
-    /// ordered and hashed so.
+    /// ordered and hashed so, and that a clone is the value itself.
     pub fn eq_str(&self, other: &str) -> bool
         ensures test { result ≡ are_alike (variants_text self.now) other.now }
 
         ensures compared { VariantListsCompareByCase }
+        ensures cloned { (copy : Variants) → ⟦<Variants<'a> as Clone>⟧.is_clone self.now copy → copy ≡ self.now }
+        ensures clone_succeeds { ⟦<Variants<'a> as Clone>⟧.is_infallible self.now }
     {
         self.text == Caseless(other)
     }
@@ -129,6 +131,16 @@ impl<'a> Variants<'a> {
             → option_map variant_text result ≡ slice_get variants (length variants - 1) }
     {
         self.iter().next_back()
+    }
+}
+
+impl Default for Variants<'_> {
+    ghost use Rattle.langtag_place.specs.Text.{variants_text};
+
+    ghost is_default = { λ variants. variants_text variants ≡ [] };
+
+    fn default() -> Self {
+        Variants::EMPTY
     }
 }
 

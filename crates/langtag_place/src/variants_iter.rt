@@ -10,8 +10,7 @@ use langtag_scan::Subtags;
 use std::alloc::AllocError;
 
 /// The variants of a tag that are still to come, in the order in which they are written (RFC 5646 section 2.2.5),
-/// from either end: `rozaj` and `1994` of `Variants::new("rozaj-1994")?.iter()`. Each caller knows that they are few
-/// enough for `count`.
+/// from either end: `rozaj` and `1994` of `Variants::new("rozaj-1994")?.iter()`.
 #[derive(Drop)]
 pub struct VariantsIter<'a> {
     rest: Subtags<'a>,

@@ -3,6 +3,15 @@
 //! `x-a-x-b` is a [`PrivateUse`] with the [`PrivateUseSubtag`]s `a`, `x` and `b`. Both have an owned form, as
 //! [`PrivateUseBuf`].
 //!
+//! ```rust
+//! use langtag_private::PrivateUse;
+//!
+//! let private_use = PrivateUse::new("x-a-x-b")?;
+//! assert_eq!(rt; private_use.iter().count(), 3);
+//! let first = private_use.iter().next().ok_or("no subtags")?;
+//! assert_eq!(rt; first.as_str(), "a");
+//! ```
+//!
 //! A subtag that is handed out has its bytes of the text and lives as long as the text. Both are proved; that it stands at
 //! the same address is not.
 #![tactic(auto)]

@@ -79,11 +79,13 @@ impl<'a> PrivateUse<'a> {
 
     /// Whether another text, of any form, is equal but for the case of ASCII letters:
     /// `PrivateUse::new("x-twain")?.eq_str("X-TWAIN")` is true. The contract also pins that private use parts are
-    /// compared, ordered and hashed so.
+    /// compared, ordered and hashed so, and that a clone is the value itself.
     pub fn eq_str(&self, other: &str) -> bool
         ensures test { result ≡ are_alike (private_use_text self.now) other.now }
 
         ensures compared { PrivateUsesCompareByCase }
+        ensures cloned { (copy : PrivateUse) → ⟦<PrivateUse<'a> as Clone>⟧.is_clone self.now copy → copy ≡ self.now }
+        ensures clone_succeeds { ⟦<PrivateUse<'a> as Clone>⟧.is_infallible self.now }
     {
         self.text == Caseless(other)
     }

@@ -81,11 +81,13 @@ impl<'a> PrivateUseSubtag<'a> {
 
     /// Whether another text, of any form, is equal but for the case of ASCII letters:
     /// `PrivateUseSubtag::new("twain")?.eq_str("TWAIN")` is true. The contract also pins that private use subtags are
-    /// compared, ordered and hashed so.
+    /// compared, ordered and hashed so, and that a clone is the value itself.
     pub fn eq_str(&self, other: &str) -> bool
         ensures test { result ≡ are_alike (private_use_subtag_text self.now) other.now }
 
         ensures compared { PrivateUseSubtagsCompareByCase }
+        ensures cloned { (copy : PrivateUseSubtag) → ⟦<PrivateUseSubtag<'a> as Clone>⟧.is_clone self.now copy → copy ≡ self.now }
+        ensures clone_succeeds { ⟦<PrivateUseSubtag<'a> as Clone>⟧.is_infallible self.now }
     {
         self.text == Caseless(other)
     }
