@@ -1,5 +1,5 @@
 //! What a recogniser found.
-ghost use Rattle.std.specs.Prelude.{◌≡◌};
+ghost use Rattle.std.specs.Prelude.{◌≡◌, ◌↔◌, IsTrue};
 ghost use Rattle.langtag_scan.specs.Found.{finding, is_normal, is_private_use, irregular_index, normal_ends};
 
 use crate::ends::Ends;
@@ -42,8 +42,14 @@ impl Found {
     }
 
     /// The ends of the parts of a normal tag (section 2.1): of `fr-FR`, language 2 and all others 5. It is None of `x-a`.
+    /// The contract also says that a clone of ends, and of a `Found`, is the value itself, and what `==` of ends is.
     pub fn ends(&self) -> Option<Ends>
-        ensures { result ≡ normal_ends (finding self.now) }
+        ensures ends { result ≡ normal_ends (finding self.now) }
+
+        ensures equal_ends { (ends other : Ends) → IsTrue (⟦<Ends as PartialEq>⟧.eq ends other) ↔ (ends ≡ other) }
+        ensures cloned_ends { (ends copy : Ends) → ⟦<Ends as Clone>⟧.is_clone ends copy → copy ≡ ends }
+        ensures cloned { (copy : Found) → ⟦<Found as Clone>⟧.is_clone self.now copy → copy ≡ self.now }
+        ensures clone_succeeds { ⟦<Found as Clone>⟧.is_infallible self.now }
     {
         match self.finding {
             Finding::Normal(ends) => Some(ends),
