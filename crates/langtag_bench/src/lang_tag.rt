@@ -1,5 +1,5 @@
 //! A tag over a text, with all its parts asked for.
-ghost use Rattle.std.specs.Prelude.{◌≡◌, ◌↔◌, IsTrue, false};
+ghost use Rattle.std.specs.Prelude.{◌≡◌, ◌↔◌, IsTrue};
 ghost use Rattle.std.specs.Str.{IsUtf8};
 ghost use Rattle.langtag_scan.specs.Tag.{IsTag};
 
@@ -17,10 +17,10 @@ pub struct PartLengths {
 }
 
 /// Whether the bytes are UTF-8 and a tag. A tag leaves the lengths of its parts.
+#[tactic(auto, using(crate::proofs::TagBytes::utf8_tag))]
 #[unsafe(no_mangle)]
 pub extern "C" fn langtag_bench_lang_tag(bytes: &[u8], lengths: &mut PartLengths) -> bool
-    ensures tag { IsTrue result → IsTag bytes.now }
-    ensures no_tag { result ≡ false → IsTag bytes.now → ⊥ }
+    ensures { IsTrue result ↔ IsTag bytes.now }
 {
     let Ok(text) = str::from_utf8(bytes) else {
         return false;
