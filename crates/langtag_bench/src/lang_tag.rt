@@ -1,7 +1,10 @@
 //! A tag over a text, with all its parts asked for.
-ghost use Rattle.std.specs.Prelude.{◌≡◌, ◌↔◌, IsTrue, false};
+ghost use Rattle.std.specs.Prelude.{◌≡◌, ◌↔◌, IsTrue};
 ghost use Rattle.std.specs.Str.{IsUtf8};
+ghost use Rattle.langtag_scan.specs.Record.{EachRecord};
 ghost use Rattle.langtag_scan.specs.Tag.{IsTag};
+ghost use Rattle.langtag.specs.Text.{lang_tag_text};
+ghost use Rattle.langtag_bench.specs.PartLengths.{part_lengths};
 
 use langtag::LangTag;
 
@@ -17,10 +20,11 @@ pub struct PartLengths {
 }
 
 /// Whether the bytes are UTF-8 and a tag. A tag leaves the lengths of its parts.
+#[tactic(auto, using(crate::proofs::TagBytes::utf8_tag))]
 #[unsafe(no_mangle)]
 pub extern "C" fn langtag_bench_lang_tag(bytes: &[u8], lengths: &mut PartLengths) -> bool
-    ensures tag { IsTrue result → IsTag bytes.now }
-    ensures no_tag { result ≡ false → IsTag bytes.now → ⊥ }
+    ensures tag { IsTrue result ↔ IsTag bytes.now }
+    ensures lengths { EachRecord bytes.now (λ r. lengths.new ≡ part_lengths r) }
 {
     let Ok(text) = str::from_utf8(bytes) else {
         return false;
@@ -43,7 +47,9 @@ pub extern "C" fn langtag_bench_is_utf8(bytes: &[u8]) -> bool
 }
 
 /// Keeps the lengths of the parts of a tag.
-fn keep(tag: &LangTag<'_>, lengths: &mut PartLengths) {
+fn keep(tag: &LangTag<'_>, lengths: &mut PartLengths)
+    ensures { EachRecord (lang_tag_text tag.now) (λ r. lengths.new ≡ part_lengths r) }
+{
     lengths.language = tag.language().map_or(0, |part| part.as_str().len());
     lengths.script = tag.script().map_or(0, |part| part.as_str().len());
     lengths.region = tag.region().map_or(0, |part| part.as_str().len());

@@ -1,5 +1,6 @@
 //! Ranges, tags that they match, and the tag for a header.
-ghost use Rattle.std.specs.Prelude.{◌≡◌, ◌≤◌, List, length, IsTrue, IfSome};
+ghost use Rattle.std.specs.Prelude.{◌≡◌, ◌≤◌, ◌↔◌, List, length, IsTrue, false, MatchOption};
+ghost use Rattle.langtag.specs.Tag.{IsTag};
 ghost use Rattle.langtag.specs.Text.{lang_tag_text};
 ghost use Rattle.langtag_match.specs.AcceptLanguage.{AreAccepted};
 ghost use Rattle.langtag_match.specs.Basic.{MatchesBasic};
@@ -15,40 +16,50 @@ use std::alloc::Global;
 /// Whether the bytes are a range and a tag, which is all that is done before they are matched.
 #[unsafe(no_mangle)]
 pub extern "C" fn langtag_bench_pair(range: &[u8], tag: &[u8]) -> bool
-    ensures { IsTrue result → IsTrue (is_language_range range.now) }
+    ensures { IsTrue result ↔ (IsTrue (is_language_range range.now) × IsTag tag.now) }
 {
-    pair(range, tag).is_some()
+    range_of(range).is_some() && tag_of(tag).is_some()
 }
 
 /// Whether the bytes are a range and a tag that it matches by basic filtering.
 #[unsafe(no_mangle)]
 pub extern "C" fn langtag_bench_matches_basic(range: &[u8], tag: &[u8]) -> bool
-    ensures { IsTrue result → MatchesBasic range.now tag.now }
+    ensures { IsTrue result ↔ (IsTrue (is_language_range range.now) × IsTag tag.now × MatchesBasic range.now tag.now) }
 {
-    match pair(range, tag) {
-        Some((range, tag)) => range.matches_basic(&tag),
-        None => false,
+    match (range_of(range), tag_of(tag)) {
+        (Some(range), Some(tag)) => range.matches_basic(&tag),
+        _ => false,
     }
 }
 
 /// The same by extended filtering.
 #[unsafe(no_mangle)]
 pub extern "C" fn langtag_bench_matches_extended(range: &[u8], tag: &[u8]) -> bool
-    ensures { IsTrue result → MatchesExtended range.now tag.now }
+    ensures { IsTrue result ↔ (IsTrue (is_language_range range.now) × IsTag tag.now × MatchesExtended range.now tag.now) }
 {
-    match pair(range, tag) {
-        Some((range, tag)) => range.matches_extended(&tag),
-        None => false,
+    match (range_of(range), tag_of(tag)) {
+        (Some(range), Some(tag)) => range.matches_extended(&tag),
+        _ => false,
     }
 }
 
-/// The range and the tag that some bytes are.
-fn pair<'a>(range: &'a [u8], tag: &'a [u8]) -> Option<(LanguageRange<'a>, LangTag<'a>)>
-    ensures { IfSome result (λ pair. (language_range_text pair.0 ≡ range.now) × (lang_tag_text pair.1 ≡ tag.now)) }
+/// The range that the bytes are.
+#[tactic(auto, using(langtag_match::proofs::AsciiRanges::utf8_range))]
+fn range_of<'a>(bytes: &'a [u8]) -> Option<LanguageRange<'a>>
+    ensures { MatchOption result (is_language_range bytes.now ≡ false)
+        (λ range. (language_range_text range ≡ bytes.now) × IsTrue (is_language_range bytes.now)) }
 {
-    let range = str::from_utf8(range).ok()?;
-    let tag = str::from_utf8(tag).ok()?;
-    Some((LanguageRange::new(range).ok()?, LangTag::new(tag).ok()?))
+    let text = str::from_utf8(bytes).ok()?;
+    LanguageRange::new(text).ok()
+}
+
+/// The tag that the bytes are.
+#[tactic(auto, using(crate::proofs::TagBytes::utf8_tag))]
+fn tag_of<'a>(bytes: &'a [u8]) -> Option<LangTag<'a>>
+    ensures { MatchOption result (IsTag bytes.now → ⊥) (λ tag. (lang_tag_text tag ≡ bytes.now) × IsTag bytes.now) }
+{
+    let text = str::from_utf8(bytes).ok()?;
+    LangTag::new(text).ok()
 }
 
 /// The tags of a site in twenty languages.
@@ -57,7 +68,7 @@ const TAGS: [&str; 20] = [
     "sv", "pl", "ru", "ja", "ko", "zh-Hans", "zh-Hant", "ar",
 ];
 
-/// How many of the twenty tags there are, which is all that is done before a header is read.
+/// Reads the twenty tags, which is all that is done before a header is read, and counts those other than `en`.
 #[unsafe(no_mangle)]
 pub extern "C" fn langtag_bench_tags() -> usize
     ensures { result ≤ 20 }
@@ -77,7 +88,7 @@ fn known(tags: &[LangTag<'_>]) -> usize
     tags.iter().filter(|tag| !tag.eq_str("en")).count()
 }
 
-/// Whether the bytes are a header that can be read. The tag for it is looked up among twenty.
+/// Whether the bytes are a header that can be read, and memory could be had for it. The tag for it is looked up among twenty.
 #[unsafe(no_mangle)]
 pub extern "C" fn langtag_bench_tag_for_header(alloc: Global, header: &[u8]) -> bool
     ensures { IsTrue result → (ordered : List WeightedRange) × AreAccepted header.now ordered }

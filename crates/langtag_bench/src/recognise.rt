@@ -1,6 +1,9 @@
 //! The recogniser over bytes, and over a text.
-ghost use Rattle.std.specs.Prelude.{◌≡◌, IsTrue, false};
-ghost use Rattle.langtag_scan.specs.Tag.{IsTag};
+ghost use Rattle.std.specs.Prelude.{◌≡◌, ◌↔◌, IsTrue, MatchOption};
+ghost use Rattle.langtag_scan.specs.Ends.{HasEnds};
+ghost use Rattle.langtag_scan.specs.Found.{finding, normal_ends};
+ghost use Rattle.langtag_scan.specs.Tag.{IsTag, IsNormal};
+ghost use Rattle.langtag_bench.specs.PartEnds.{ends_left};
 
 use langtag_scan::{Found, Metered, MeteredBytes, recognise};
 
@@ -16,11 +19,11 @@ pub struct PartEnds {
 }
 
 /// Whether the bytes are a tag. Those of a normal one leave the ends of its parts.
-#[tactic(auto, using(langtag_scan::proofs::FoundLaws::tag_found))]
+#[tactic(auto, using(langtag_scan::proofs::FoundLaws::tag_found, crate::proofs::TagBytes::utf8_tag, crate::proofs::KeptEnds::ends_kept, crate::proofs::KeptEnds::no_ends))]
 #[unsafe(no_mangle)]
 pub extern "C" fn langtag_bench_recognise(bytes: &[u8], ends: &mut PartEnds) -> bool
-    ensures tag { IsTrue result → IsTag bytes.now }
-    ensures no_tag { result ≡ false → IsTag bytes.now → ⊥ }
+    ensures tag { IsTrue result ↔ IsTag bytes.now }
+    ensures ends { IsNormal bytes.now → HasEnds bytes.now (ends_left ends.new) }
 {
     match recognise(&mut MeteredBytes::new(bytes)) {
         Some(found) => {
@@ -32,11 +35,11 @@ pub extern "C" fn langtag_bench_recognise(bytes: &[u8], ends: &mut PartEnds) -> 
 }
 
 /// The same with the check that the bytes are UTF-8 before it.
-#[tactic(auto, using(langtag_scan::proofs::FoundLaws::tag_found))]
+#[tactic(auto, using(langtag_scan::proofs::FoundLaws::tag_found, crate::proofs::TagBytes::utf8_tag, crate::proofs::KeptEnds::ends_kept, crate::proofs::KeptEnds::no_ends))]
 #[unsafe(no_mangle)]
 pub extern "C" fn langtag_bench_recognise_text(bytes: &[u8], ends: &mut PartEnds) -> bool
-    ensures tag { IsTrue result → IsTag bytes.now }
-    ensures no_tag { result ≡ false → IsTag bytes.now → ⊥ }
+    ensures tag { IsTrue result ↔ IsTag bytes.now }
+    ensures ends { IsNormal bytes.now → HasEnds bytes.now (ends_left ends.new) }
 {
     let Ok(text) = str::from_utf8(bytes) else {
         return false;
@@ -51,7 +54,9 @@ pub extern "C" fn langtag_bench_recognise_text(bytes: &[u8], ends: &mut PartEnds
 }
 
 /// Keeps the ends of a normal tag.
-fn keep(found: &Found, ends: &mut PartEnds) {
+fn keep(found: &Found, ends: &mut PartEnds)
+    ensures { MatchOption (normal_ends (finding found.now)) (ends.new ≡ ends.old) (λ found. ends_left ends.new ≡ found) }
+{
     if let Some(found) = found.ends() {
         ends.language = found.language;
         ends.script = found.script;

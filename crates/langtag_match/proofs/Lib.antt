@@ -1,4 +1,5 @@
 pub mod Among
+pub mod AsciiRanges
 pub mod BasicRanges
 pub mod Chains
 pub mod Elements

@@ -1,0 +1,2 @@
+mod KeptEnds
+mod TagBytes

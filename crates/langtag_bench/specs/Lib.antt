@@ -1,0 +1,2 @@
+pub mod PartEnds
+pub mod PartLengths
