@@ -18,10 +18,12 @@ pub struct InRecommendedCase<'a> {
 impl<'a> InRecommendedCase<'a> {
     ghost use Rattle.langtag_case.specs.Text.{in_recommended_case_text};
 
-    /// The value that shows a text of ASCII.
+    /// The value that shows a text of ASCII. The contract also says that a clone of such a value is the same.
     pub fn from_checked(text: &'a str) -> Self
         requires { IsAscii text.now }
-        ensures { in_recommended_case_text result ≡ recommended_text text.now }
+        ensures shown { in_recommended_case_text result ≡ recommended_text text.now }
+
+        ensures cloned { (shown copy : InRecommendedCase) → ⟦<InRecommendedCase<'a> as Clone>⟧.is_clone shown copy → copy ≡ shown }
     {
         InRecommendedCase { text }
     }

@@ -27,6 +27,8 @@ impl<'a> RecommendedBytes<'a> {
     pub fn new(text: &'a [u8]) -> Self
         ensures bytes { result ≡ recommended_text text.now }
         ensures as_many { length result ≡ length text.now }
+
+        ensures cloned { (walk copy : RecommendedBytes) → ⟦<RecommendedBytes<'a> as Clone>⟧.is_clone walk copy → copy ≡ walk }
     {
         RecommendedBytes {
             rest: text,

@@ -45,11 +45,12 @@ impl<'a> AcceptLanguage<'a> {
     }
 
     /// The ranges, those that are wanted most first: `ranges()[0].range.as_str()` is `"de"` for `fr;q=0.5, de`. The contract
-    /// also pins when two of them are equal.
+    /// also pins when two of them are equal, and that a clone of one is the same.
     pub fn ranges(&self) -> &[WeightedRange<'a>]
         ensures list { result.now ≡ accept_language_ranges self.now }
 
         ensures compared { WeightedRangesCompareByBoth }
+        ensures cloned { (weighted copy : WeightedRange) → ⟦<WeightedRange<'a> as Clone>⟧.is_clone weighted copy → copy ≡ weighted }
     {
         self.ranges.as_slice()
     }

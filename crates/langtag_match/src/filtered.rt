@@ -28,6 +28,7 @@ pub fn filter_basic<'a, 't>(
     ensures few { length (filtered_left result) < 2 ^ 64 }
 
     ensures found_once { spec.AreFoundOnce test_basic ranges.now tags.now (filtered_left result) }
+    ensures cloned { (walk copy : Filtered) → ⟦<Filtered<'a, 't> as Clone>⟧.is_clone walk copy → filtered_left copy ≡ filtered_left walk }
 {
     Filtered::new(FilterRule::Basic, ranges, tags)
 }

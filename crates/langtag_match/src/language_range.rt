@@ -77,11 +77,13 @@ impl<'a> LanguageRange<'a> {
 
     /// Whether another text, of any form, is equal but for the case of ASCII letters:
     /// `LanguageRange::new("de-CH")?.eq_str("DE-ch")` is true. The contract also pins that ranges are compared, ordered
-    /// and hashed so.
+    /// and hashed so, and that a clone is the range itself.
     pub fn eq_str(&self, other: &str) -> bool
         ensures test { result ≡ are_alike (language_range_text self.now) other.now }
 
         ensures compared { LanguageRangesCompareByCase }
+        ensures cloned { (copy : LanguageRange) → ⟦<LanguageRange<'a> as Clone>⟧.is_clone self.now copy → copy ≡ self.now }
+        ensures clone_succeeds { ⟦<LanguageRange<'a> as Clone>⟧.is_infallible self.now }
     {
         self.text == Caseless(other)
     }
@@ -118,6 +120,8 @@ impl<'a> LanguageRange<'a> {
     pub fn fallbacks(&self) -> Fallbacks<'a>
         ensures list { fallbacks_left result ≡ fallbacks (language_range_text self.now) }
         ensures few { length (fallbacks_left result) < 2 ^ 64 }
+
+        ensures cloned { (walk copy : Fallbacks) → ⟦<Fallbacks<'a> as Clone>⟧.is_clone walk copy → fallbacks_left copy ≡ fallbacks_left walk }
     {
         Fallbacks::new(*self)
     }
