@@ -1,5 +1,5 @@
 -- What is known of a prefix with which a tag may begin, once the bytes of another subtag follow.
-use Rattle.std.proofs.Common.{◌≡◌, ℕ, ◌≤◌, true, false, eqb, ◌⊎◌, List, [], ◌∷◌, ◌++◌, length, Some, None, inl, inr, refl, sym, ap, subst, ◌∙◌, arith, append_assoc, append-nil}
+use Rattle.std.proofs.Common.{◌≡◌, ℕ, ◌≤◌, true, false, eqb, ◌⊎◌, List, [], ◌∷◌, ◌++◌, length, Option, Some, None, inl, inr, refl, sym, ap, subst, ◌∙◌, arith, append_assoc, append-nil}
 use Rattle.std.proofs.lemmas.Bool.{both_ways, false_from_ne_true}
 use Rattle.std.proofs.lemmas.List.{length-append, length_push}
 use Rattle.langtag_scan.specs.Case.{fold_byte}
@@ -11,6 +11,7 @@ use Rattle.langtag_scan.specs.Subtags.{segments}
 use Rattle.langtag_scan.specs.Tag.{IsIrregular, IsTag}
 use Rattle.langtag_scan.specs.Viable.{IsViable, filling}
 use Rattle.langtag_scan.specs.declared.ends.Ends.{Ends}
+use Rattle.langtag_scan.specs.declared.finding.Finding.{Finding}
 use Rattle.langtag_scan.specs.declared.stage.Stage.{Stage}
 use Rattle.langtag_scan.specs.declared.stage.Stage.TheVariants.{Start}
 use Rattle.langtag_scan.proofs.CaseLaw.{is_mark-fold}
@@ -19,7 +20,7 @@ use Rattle.langtag_scan.proofs.FoundLaws.{tag_found}
 use Rattle.langtag_scan.proofs.NamesByLength.{not_viable}
 use Rattle.langtag_scan.proofs.Outcomes.{Decides, decided}
 use Rattle.langtag_scan.proofs.PrivateTexts.{one_no_primary}
-use Rattle.langtag_scan.proofs.Running.{begun_push, first_kind, found_after, segments-one, segments-hyphen, outcome-stuck, outcome-ended}
+use Rattle.langtag_scan.proofs.Running.{begun_push, first_kind, found_after, segments-one, segments-hyphen, outcome-begun, outcome-ended}
 use Rattle.langtag_scan.proofs.StageLaws.{starting, after_not_start, index_after-length, index_after-end}
 use Rattle.langtag_scan.proofs.TagLaws.{viable_from_tag}
 use Rattle.langtag_scan.proofs.Unnamed.{unnamed-append, unnamed_first, unnamed_begun, unnamed_letters, irregular_nine}
@@ -97,11 +98,18 @@ module _ {p s q : List ℕ} {n : ℕ} {stage : Stage} {e : Ends} (k : IsPartRead
         | inr past ↦ unnamed-append q (b ∷ []) (later past)
       ]
 
-  -- ---- a byte with which the subtag can't go on
+  -- ---- a byte more: where something is found, the subtag goes on with it
 
-  pub stuck_stops : (b : ℕ) → eqb b 45 ≡ false → (IsBegun stage (s ++ b ∷ []) → ⊥) → HasStopped (q ++ b ∷ [])
-  stuck_stops b other stuck =
-      stopped_from (q ++ b ∷ []) (λ u. ap outcome_of (append_assoc q (b ∷ []) u) ∙ onward (b ∷ u) ∙ outcome-stuck stage e s b u k.begun.alphanumeric other stuck)
+  pub found_begun : (b : ℕ) (u : List ℕ) (f : Finding) → eqb b 45 ≡ false → outcome_of ((q ++ b ∷ []) ++ u) ≡ Some f → IsBegun stage (s ++ b ∷ [])
+  found_begun b u f other is =
+      outcome-begun stage e s b u f k.begun.alphanumeric other (sym (onward (b ∷ u)) ∙ ap outcome_of (sym (append_assoc q (b ∷ []) u)) ∙ is)
+
+  stuck_stops : (b : ℕ) → eqb b 45 ≡ false → (IsBegun stage (s ++ b ∷ []) → ⊥) → HasStopped (q ++ b ∷ [])
+  stuck_stops b other stuck = stopped_from (q ++ b ∷ []) (λ u. by_found u (outcome_of ((q ++ b ∷ []) ++ u)) refl)
+    where
+      by_found : (u : List ℕ) (o : Option Finding) → outcome_of ((q ++ b ∷ []) ++ u) ≡ o → o ≡ None
+      by_found u None is = refl
+      by_found u (Some f) is = absurd (stuck (found_begun b u f other is))
 
   pub stuck_dead : (b : ℕ) → eqb b 45 ≡ false → (IsBegun stage (s ++ b ∷ []) → ⊥) → IsViable (q ++ b ∷ []) → ⊥
   stuck_dead b other stuck =
@@ -120,7 +128,7 @@ module _ {p s q : List ℕ} {n : ℕ} {stage : Stage} {e : Ends} (k : IsPartRead
   reads_ended = ap outcome_of (sym (append-nil q)) ∙ ended [] [] (ap segments (append-nil s) ∙ segments-one s k.begun.alphanumeric)
 
   -- at a hyphen
-  after_hyphen : (u : List ℕ) → outcome_of ((q ++ 45 ∷ []) ++ u) ≡ found_after e n (segments u) (after_stage stage s)
+  pub after_hyphen : (u : List ℕ) → outcome_of ((q ++ 45 ∷ []) ++ u) ≡ found_after e n (segments u) (after_stage stage s)
   after_hyphen u = ap outcome_of (append_assoc q (45 ∷ []) u) ∙ ended (45 ∷ u) (segments u) (segments-hyphen s u k.begun.alphanumeric)
 
   -- after which nothing follows
