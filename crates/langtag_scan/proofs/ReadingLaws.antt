@@ -41,11 +41,15 @@ pub reads_nothing : Reads [] Start (all_at 0)
 reads_nothing = record { same = λ u. refl; index = refl; first = λ h. refl; later = λ h. absurd (h refl) }
 
 -- nothing is found of what begins so
-stopped_from : (q : List ℕ) → ((u : List ℕ) → outcome_of (q ++ u) ≡ None) → HasStopped q
-stopped_from q none = record { not_normal = λ u. (refused u).not_normal; not_private = λ u. (refused u).not_private }
+stopped_from : (q : List ℕ) → ((u : List ℕ) (f : Finding) → outcome_of (q ++ u) ≡ Some f → ⊥) → HasStopped q
+stopped_from q never = record { not_normal = λ u. (refused u).not_normal; not_private = λ u. (refused u).not_private }
   where
+    by_found : (u : List ℕ) (o : Option Finding) → outcome_of (q ++ u) ≡ o → Decides (q ++ u) o → IsRefused (q ++ u)
+    by_found u None is refused = refused
+    by_found u (Some f) is found = absurd (never u f is)
+
     refused : (u : List ℕ) → IsRefused (q ++ u)
-    refused u = subst (Decides (q ++ u)) (none u) (decided (q ++ u))
+    refused u = by_found u (outcome_of (q ++ u)) refl (decided (q ++ u))
 
 -- ---- a first subtag that a tag has, and the hyphen after it: no irregular text that begins with `i` begins so
 
@@ -115,16 +119,10 @@ module _ {p s q : List ℕ} {n : ℕ} {stage : Stage} {e : Ends} (k : IsPartRead
   found_begun b u f other is =
       outcome-begun stage e s b u f k.begun.alphanumeric other (sym (onward (b ∷ u)) ∙ ap outcome_of (sym (append_assoc q (b ∷ []) u)) ∙ is)
 
-  stuck_stops : (b : ℕ) → eqb b 45 ≡ false → (IsBegun stage (s ++ b ∷ []) → ⊥) → HasStopped (q ++ b ∷ [])
-  stuck_stops b other stuck = stopped_from (q ++ b ∷ []) (λ u. by_found u (outcome_of ((q ++ b ∷ []) ++ u)) refl)
-    where
-      by_found : (u : List ℕ) (o : Option Finding) → outcome_of ((q ++ b ∷ []) ++ u) ≡ o → o ≡ None
-      by_found u None is = refl
-      by_found u (Some f) is = absurd (stuck (found_begun b u f other is))
-
   pub stuck_dead : (b : ℕ) → eqb b 45 ≡ false → (IsBegun stage (s ++ b ∷ []) → ⊥) → IsViable (q ++ b ∷ []) → ⊥
   stuck_dead b other stuck =
-      not_viable 0 (q ++ b ∷ []) (stuck_stops b other stuck) (unnamed_push b (λ none start. false_from_ne_true (is_letter b) (opens none)) (λ one. other))
+      not_viable 0 (q ++ b ∷ []) (stopped_from (q ++ b ∷ []) (λ u f is. stuck (found_begun b u f other is)))
+      (unnamed_push b (λ none start. false_from_ne_true (is_letter b) (opens none)) (λ one. other))
     where
       opens : s ≡ [] → is_letter b ≡ true → ⊥
       opens none letter = stuck (begun_push stage s b (rw letter refl) (λ x. letter) (omega (arith, ap length none)) k.begun)
@@ -145,7 +143,7 @@ module _ {p s q : List ℕ} {n : ℕ} {stage : Stage} {e : Ends} (k : IsPartRead
   -- after which nothing follows
   pub refused_stops : after_stage stage s ≡ None → HasStopped (q ++ 45 ∷ [])
   refused_stops next =
-      stopped_from (q ++ 45 ∷ []) (λ u. after_hyphen u ∙ ap (found_after e n (segments u)) next)
+      stopped_from (q ++ 45 ∷ []) (λ u f is. let none = after_hyphen u ∙ ap (found_after e n (segments u)) next in absurd cc)
 
   -- then no tag begins so, but for an irregular text after its first byte
   pub refused_dead : after_stage stage s ≡ None → (n ≡ 1 → ⊥) → IsViable (q ++ 45 ∷ []) → ⊥
@@ -301,9 +299,5 @@ first_two t n names m subtag read one more =
     let first : get_or t 0 0 ≡ subtag.first =
     sym (ap (λ (x : Shape). x.first) read.reading.shape ∙ ap (λ k. get_or (between 0 k t) 0 0) end ∙ get_or-between t 0 1 0 0 (omega arith)) in
     let hyphen : get_or t 1 0 ≡ 45 = ap (λ k. get_or t k 0) (sym end) ∙ read.hyphen (omega (arith, end, more)) in
-    two t more ∙ ap (λ x. x ∷ get_or t 1 0 ∷ []) first ∙ ap (λ x. subtag.first ∷ x ∷ []) hyphen
-  where
-    two : (t : List ℕ) → 1 < length t → take 2 t ≡ get_or t 0 0 ∷ get_or t 1 0 ∷ []
-    two [] more = absurd (omega arith)
-    two (a ∷ []) more = absurd (omega arith)
-    two (a ∷ b ∷ t) more = refl
+    let two : take 2 t ≡ get_or t 0 0 ∷ get_or t 1 0 ∷ [] = take_more t 1 0 more ∙ ap (λ p. p ++ get_or t 1 0 ∷ []) (take_more t 0 0 (omega (arith, more))) in
+    two ∙ ap (λ x. x ∷ get_or t 1 0 ∷ []) first ∙ ap (λ x. subtag.first ∷ x ∷ []) hyphen
