@@ -7,15 +7,15 @@ use Rattle.langtag_scan.specs.Case.{fold_byte, fold_text}
 use Rattle.langtag_scan.specs.Tag.{IsIrregular, IsIrregularAt, IsTag}
 use Rattle.langtag_scan.specs.Viable.{IsViable, IsIrregularPrefix, filling, fill}
 use Rattle.langtag_scan.specs.Stage.{after_stage}
-use Rattle.langtag_scan.specs.Subtags.{is_hyphen}
-use Rattle.langtag_scan.specs.Machine.{HasStopped, all_at, end_at}
+use Rattle.langtag_scan.specs.Subtags.{is_hyphen, segments}
+use Rattle.langtag_scan.specs.Machine.{all_at, end_at, outcome_of, IsRefused}
 use Rattle.langtag_scan.specs.declared.ends.Ends.{Ends}
+use Rattle.langtag_scan.specs.declared.finding.Finding.{Finding}
 use Rattle.langtag_scan.specs.declared.stage.Stage.{Stage}
 use Rattle.langtag_scan.specs.declared.stage.Stage.TheVariants.{Start}
-use Rattle.langtag_scan.proofs.Filling.{begun_or_not}
-use Rattle.langtag_scan.proofs.RecogniserLaws.{stopped-append}
-use Rattle.langtag_scan.proofs.ReadingLaws.{IsPartRead, reads_nothing, reads_filled, reads_after, refused_stops, stuck_stops}
-use Rattle.langtag_scan.proofs.Running.{empty_begun}
+use Rattle.langtag_scan.proofs.Outcomes.{Decides, decided}
+use Rattle.langtag_scan.proofs.ReadingLaws.{IsPartRead, reads_nothing, reads_filled, reads_after, after_hyphen, found_begun}
+use Rattle.langtag_scan.proofs.Running.{empty_begun, found_after}
 use Rattle.langtag_scan.proofs.TagLaws.{tag_irregular, viable_from_tag}
 
 -- ---- what stands after the last hyphen
@@ -31,59 +31,56 @@ begun-push q b other =
     let n = suffix_len (λ x. not (is_hyphen x)) q in
     rw (reverse-append q (b ∷ []), other) (ap (λ k. drop k (q ++ b ∷ [])) (omega (arith, length_push q b)) ∙ drop-append-le (length q - n) q (b ∷ []) (omega arith))
 
--- ---- what is known of any prefix
+-- ---- a prefix of what something is found of
 
 -- the subtag that stands after its last hyphen has begun
 abbrev IsBegunPrefix : List ℕ → Type 0
 IsBegunPrefix q = (p : List ℕ) × (stage : Stage) × (e : Ends) × IsPartRead p (begun q) q (length q) stage e
 
--- the machine has stopped, or goes on
-abbrev IsRead : List ℕ → Type 0
-IsRead q = HasStopped q ⊎ IsBegunPrefix q
-
-at_hyphen : (q : List ℕ) → IsBegunPrefix q → IsRead (q ++ 45 ∷ [])
-at_hyphen q (p, stage, e, k) = by_next (after_stage stage (begun q)) refl
+at_hyphen :
+    (q u : List ℕ) (f : Finding) → IsBegunPrefix q → outcome_of ((q ++ 45 ∷ []) ++ u) ≡ Some f → IsBegunPrefix (q ++ 45 ∷ [])
+at_hyphen q u f (p, stage, e, k) is = by_next (after_stage stage (begun q)) refl (sym (after_hyphen k u) ∙ is)
   where
-    by_next : (o : Option Stage) → after_stage stage (begun q) ≡ o → IsRead (q ++ 45 ∷ [])
-    by_next None next = inl (refused_stops k next)
-    by_next (Some after) next =
-        inr (
-          q ++ 45 ∷ [],
-          after,
-          end_at after (length q) e,
-          subst (λ s. IsPartRead (q ++ 45 ∷ []) s (q ++ 45 ∷ []) (length (q ++ 45 ∷ [])) after (end_at after (length q) e)) (sym (begun-hyphen q))
-              (record { split = append-nil (q ++ 45 ∷ []); long = refl; reads = reads_after k after next; begun = empty_begun after }),
-        )
+    by_next : (o : Option Stage) → after_stage stage (begun q) ≡ o → found_after e (length q) (segments u) o ≡ Some f → IsBegunPrefix (q ++ 45 ∷ [])
+    by_next None next found = absurd cc
+    by_next (Some after) next found =
+        let ends = end_at after (length q) e in
+        let part : IsPartRead (q ++ 45 ∷ []) [] (q ++ 45 ∷ []) (length (q ++ 45 ∷ [])) after ends =
+        record { split = append-nil (q ++ 45 ∷ []); long = refl; reads = reads_after k after next; begun = empty_begun after } in
+        (q ++ 45 ∷ [], after, ends, subst (λ s. IsPartRead (q ++ 45 ∷ []) s (q ++ 45 ∷ []) (length (q ++ 45 ∷ [])) after ends) (sym (begun-hyphen q)) part)
 
-at_other : (q : List ℕ) (b : ℕ) → eqb b 45 ≡ false → IsBegunPrefix q → IsRead (q ++ b ∷ [])
-at_other q b other (p, stage, e, k) =
-    elim (begun_or_not stage (begun q ++ b ∷ [])) [
-      | inl more ↦
-          inr (
-            p,
-            stage,
-            e,
-            subst (λ s. IsPartRead p s (q ++ b ∷ []) (length (q ++ b ∷ [])) stage e) (sym (begun-push q b other))
-                (record { split = sym (append_assoc p (begun q) (b ∷ [])) ∙ ap (λ x. x ++ b ∷ []) k.split; long = refl; reads = k.reads; begun = more }),
-          )
-      | inr stuck ↦ inl (stuck_stops k b other stuck)
-    ]
+at_other :
+    (q u : List ℕ) (b : ℕ) (f : Finding) → eqb b 45 ≡ false → IsBegunPrefix q → outcome_of ((q ++ b ∷ []) ++ u) ≡ Some f → IsBegunPrefix (q ++ b ∷ [])
+at_other q u b f other (p, stage, e, k) is =
+    let split : p ++ (begun q ++ b ∷ []) ≡ q ++ b ∷ [] = sym (append_assoc p (begun q) (b ∷ [])) ∙ ap (λ x. x ++ b ∷ []) k.split in
+    let part : IsPartRead p (begun q ++ b ∷ []) (q ++ b ∷ []) (length (q ++ b ∷ [])) stage e =
+    record { split = split; long = refl; reads = k.reads; begun = found_begun k b u f other is } in
+    (p, stage, e, subst (λ s. IsPartRead p s (q ++ b ∷ []) (length (q ++ b ∷ [])) stage e) (sym (begun-push q b other)) part)
 
-read_byte : (q : List ℕ) (b : ℕ) → IsRead q → IsRead (q ++ b ∷ [])
-read_byte q b (inl stopped) = inl (stopped-append q (b ∷ []) stopped)
-read_byte q b (inr k) = by_hyphen (eqb b 45) refl
+-- byte by byte
+begins : (q p u : List ℕ) (f : Finding) → IsBegunPrefix q → outcome_of ((q ++ p) ++ u) ≡ Some f → IsBegunPrefix (q ++ p)
+begins q [] u f k is = subst IsBegunPrefix (sym (append-nil q)) k
+begins q (b ∷ p) u f k is =
+    let rest : (q ++ b ∷ []) ++ p ≡ q ++ b ∷ p = append_assoc q (b ∷ []) p in
+    let found : outcome_of (((q ++ b ∷ []) ++ p) ++ u) ≡ Some f = ap (λ x. outcome_of (x ++ u)) rest ∙ is in
+    let next : IsBegunPrefix (q ++ b ∷ []) = by_hyphen (eqb b 45) refl (ap outcome_of (sym (append_assoc (q ++ b ∷ []) p u)) ∙ found) in
+    subst IsBegunPrefix rest (begins (q ++ b ∷ []) p u f next found)
   where
-    by_hyphen : (v : Bool) → eqb b 45 ≡ v → IsRead (q ++ b ∷ [])
-    by_hyphen true e = let same : b ≡ 45 = eqb-true b 45 e in subst (λ x. IsRead (q ++ x ∷ [])) (sym same) (at_hyphen q k)
-    by_hyphen false e = at_other q b e k
+    by_hyphen : (v : Bool) → eqb b 45 ≡ v → outcome_of ((q ++ b ∷ []) ++ (p ++ u)) ≡ Some f → IsBegunPrefix (q ++ b ∷ [])
+    by_hyphen true e now =
+        subst (λ x. IsBegunPrefix (q ++ x ∷ [])) (sym (eqb-true b 45 e))
+        (at_hyphen q (p ++ u) f k (ap (λ x. outcome_of ((q ++ x ∷ []) ++ (p ++ u))) (sym (eqb-true b 45 e)) ∙ now))
+    by_hyphen false e now = at_other q (p ++ u) b f e k now
 
-read_all : (q u : List ℕ) → IsRead q → IsRead (q ++ u)
-read_all q [] k = subst IsRead (sym (append-nil q)) k
-read_all q (b ∷ u) k = subst IsRead (append_assoc q (b ∷ []) u) (read_all (q ++ b ∷ []) u (read_byte q b k))
-
-read_prefix : (q : List ℕ) → IsRead q
-read_prefix q =
-    read_all [] q (inr ([], Start, all_at 0, record { split = refl; long = refl; reads = reads_nothing; begun = empty_begun Start }))
+-- so its last subtag can be filled
+filled_tag : (p u : List ℕ) → (IsRefused (p ++ u) → ⊥) → IsTag (fill p)
+filled_tag p u some = by_found (outcome_of (p ++ u)) refl
+  where
+    by_found : (o : Option Finding) → outcome_of (p ++ u) ≡ o → IsTag (fill p)
+    by_found None is = absurd (some (subst (Decides (p ++ u)) is (decided (p ++ u))))
+    by_found (Some f) is =
+        let nothing : IsPartRead [] [] [] 0 Start (all_at 0) = record { split = refl; long = refl; reads = reads_nothing; begun = empty_begun Start } in
+        reads_filled (begins [] p u f ([], Start, all_at 0, nothing) is).3
 
 -- ---- prefixes of irregular texts
 
@@ -106,18 +103,11 @@ irregular_from_prefix p (k, name, at, same) =
 
 -- ---- the law
 
-stopped_prefix : (p : List ℕ) → HasStopped p → IsViable p → IsIrregularPrefix p
-unfolding IsViable IsTag IsIrregular
-stopped_prefix p h (u, inl n) = absurd (h.not_normal u n)
-stopped_prefix p h (u, inr (inl n)) = absurd (h.not_private u n)
-stopped_prefix p h (u, inr (inr (k, n))) = prefix_from_irregular p u k n
-
 fill_from_viable : (p : List ℕ) → IsViable p → IsTag (fill p) ⊎ IsIrregularPrefix p
-fill_from_viable p v =
-    elim (read_prefix p) [
-      | inl stopped ↦ inr (stopped_prefix p stopped v)
-      | inr k ↦ inl (reads_filled k.3)
-    ]
+unfolding IsViable IsTag IsIrregular
+fill_from_viable p (u, inl normal) = inl (filled_tag p u (λ refused. refused.not_normal normal))
+fill_from_viable p (u, inr (inl private)) = inl (filled_tag p u (λ refused. refused.not_private private))
+fill_from_viable p (u, inr (inr (k, irregular))) = inr (prefix_from_irregular p u k irregular)
 
 viable_from_fill : (p : List ℕ) → IsTag (fill p) ⊎ IsIrregularPrefix p → IsViable p
 viable_from_fill p (inl tag) = viable_from_tag p (filling (begun p)) tag

@@ -1,20 +1,22 @@
 -- A subtag that has begun, filled to five letters, may stand wherever it has begun, and a tag may end after it.
-use Rattle.std.proofs.Common.{◌≡◌, ℕ, zero, suc, ◌-◌, ◌≤◌, ◌⊎◌, Bool, true, false, cond, List, ◌++◌, length, [], Option, Some, None, inl, inr, refl, sym, ap, subst, ◌∙◌, arith, ne_eqb}
+use Rattle.std.proofs.Common.{◌≡◌, ℕ, zero, suc, ◌-◌, ◌≤◌, true, cond, List, ◌++◌, length, eqb, [], Some, None, refl, sym, ap, subst, ◌∙◌, arith, ne_eqb}
 use Rattle.std.specs.Prelude.{replicate}
+use Rattle.std.specs.List.{count_by}
 use Rattle.std.proofs.lemmas.Bool.{le-leb, lt-leb}
 use Rattle.std.proofs.lemmas.List.{length-append, length-replicate}
 use Rattle.std.proofs.lemmas.List.Folds.{list_all-append}
-use Rattle.langtag_scan.specs.Class.{is_letter, is_alphanumeric, are_letters, are_alphanumeric}
+use Rattle.langtag_scan.specs.Class.{is_letter, is_digit, is_alphanumeric, are_letters, are_alphanumeric}
 use Rattle.langtag_scan.specs.Subtags.{segments}
+use Rattle.langtag_scan.specs.Shape.{classes_of_shape}
 use Rattle.langtag_scan.specs.Viable.{filling}
-use Rattle.langtag_scan.specs.Stage.{Classes, classes_of, after_by, after_stage, may_end}
+use Rattle.langtag_scan.specs.Stage.{Classes, classes_of, after_by, may_end}
 use Rattle.langtag_scan.specs.Machine.{IsBegun, end_at, index_after, found_by, outcome}
 use Rattle.langtag_scan.specs.declared.ends.Ends.{Ends}
 use Rattle.langtag_scan.specs.declared.finding.Finding.{Finding}
 use Rattle.langtag_scan.specs.declared.stage.Stage.{Stage}
 use Rattle.langtag_scan.specs.declared.stage.Stage.TheVariants.{Start, Language, Extended, AfterScript, AfterRegion, AfterVariant, AfterSingleton, InExtension, AfterMark, InPrivate, AfterFirstMark, InPrivateTag}
-use Rattle.langtag_scan.proofs.Running.{begun_prefix, after_begun, found_after, segments-one}
-use Rattle.langtag_scan.proofs.ShapeLaws.{classes_of-shape, letters-digits}
+use Rattle.langtag_scan.proofs.Running.{found_after, segments-one}
+use Rattle.langtag_scan.proofs.ShapeLaws.{shape, classes_of-shape, letters-digits}
 use Rattle.langtag_scan.proofs.SubtagFacts.{letters_alphanumeric}
 
 record IsFull (f : List ℕ) : Type 0 where
@@ -22,55 +24,44 @@ record IsFull (f : List ℕ) : Type 0 where
   short : length f ≤ 8
   alphanumeric : are_alphanumeric f ≡ true
 
--- the classes of one: with letters alone it is a primary language subtag, too
-abbrev full : Bool → Classes
-full letters = record {
-  primary = letters;
-  extended = false;
-  script = false;
-  region = false;
-  variant = true;
-  extension_subtag = true;
-  private_subtag = true;
-  mark = false;
-  singleton = false;
-  short = false;
-}
+-- the classes of one are those of five letters and digits, of which so many are digits
+abbrev full : ℕ → Classes
+full digits = classes_of_shape (shape 5 0 digits)
 
-full_classes : (f : List ℕ) → IsFull f → classes_of f ≡ full (are_letters f)
+full_classes : (f : List ℕ) → IsFull f → classes_of f ≡ full (count_by is_digit f)
 full_classes f h =
-    let long = h.long in
+    let n : ℕ = length f in
+    let long : 5 ≤ n = h.long in
     classes_of-shape f h.short h.alphanumeric
     ∙ rw (
-      le-leb 5 (length f) long,
-      le-leb 2 (length f) (omega arith),
-      le-leb 1 (length f) (omega arith),
-      lt-leb (length f) 3 (omega arith),
-      letters-digits f h.alphanumeric,
-      ne_eqb (length f) 1 (λ e. omega (arith, e)),
-      ne_eqb (length f) 2 (λ e. omega (arith, e)),
-      ne_eqb (length f) 3 (λ e. omega (arith, e)),
-      ne_eqb (length f) 4 (λ e. omega (arith, e)),
+      le-leb 5 n long,
+      le-leb 2 n (omega arith),
+      le-leb 1 n (omega arith),
+      lt-leb n 3 (omega arith),
+      ne_eqb n 1 (λ e. omega (arith, e)),
+      ne_eqb n 2 (λ e. omega (arith, e)),
+      ne_eqb n 3 (λ e. omega (arith, e)),
+      ne_eqb n 4 (λ e. omega (arith, e)),
     ) refl
 
 -- it may stand there, and a tag may end after it
 Finishes : Stage → Classes → Type 0
 Finishes stage c = (after : Stage) × (after_by stage c ≡ Some after) × (may_end after ≡ true)
 
-after_full : (stage : Stage) (letters : Bool) → (stage ≡ Start → letters ≡ true) → Finishes stage (full letters)
+after_full : (stage : Stage) (digits : ℕ) → (stage ≡ Start → eqb digits 0 ≡ true) → Finishes stage (full digits)
 unfolding Finishes
-after_full Start letters first = (Language 3, rw (first refl) refl, refl)
-after_full (Language taken) letters first = (AfterVariant, refl, refl)
-after_full (Extended taken) letters first = (AfterVariant, refl, refl)
-after_full AfterScript letters first = (AfterVariant, refl, refl)
-after_full AfterRegion letters first = (AfterVariant, refl, refl)
-after_full AfterVariant letters first = (AfterVariant, refl, refl)
-after_full AfterSingleton letters first = (InExtension, refl, refl)
-after_full InExtension letters first = (InExtension, refl, refl)
-after_full AfterMark letters first = (InPrivate, refl, refl)
-after_full InPrivate letters first = (InPrivate, refl, refl)
-after_full AfterFirstMark letters first = (InPrivateTag, refl, refl)
-after_full InPrivateTag letters first = (InPrivateTag, refl, refl)
+after_full Start digits first = (Language 3, rw (first refl) refl, refl)
+after_full (Language taken) digits first = (AfterVariant, refl, refl)
+after_full (Extended taken) digits first = (AfterVariant, refl, refl)
+after_full AfterScript digits first = (AfterVariant, refl, refl)
+after_full AfterRegion digits first = (AfterVariant, refl, refl)
+after_full AfterVariant digits first = (AfterVariant, refl, refl)
+after_full AfterSingleton digits first = (InExtension, refl, refl)
+after_full InExtension digits first = (InExtension, refl, refl)
+after_full AfterMark digits first = (InPrivate, refl, refl)
+after_full InPrivate digits first = (InPrivate, refl, refl)
+after_full AfterFirstMark digits first = (InPrivateTag, refl, refl)
+after_full InPrivateTag digits first = (InPrivateTag, refl, refl)
 
 letters_a : (n : ℕ) → are_letters (replicate n 97) ≡ true
 unfolding is_letter
@@ -92,17 +83,10 @@ filled_letters s h = list_all-append is_letter s (filling s) ∙ rw (h, letters_
 
 finishes : (stage : Stage) (s : List ℕ) → IsBegun stage s → Finishes stage (classes_of (s ++ filling s))
 finishes stage s begun =
-    subst (Finishes stage) (sym (full_classes (s ++ filling s) (filled stage s begun)))
-    (after_full stage (are_letters (s ++ filling s)) (λ first. filled_letters s (begun.letters first)))
-
--- whether a subtag has begun: it has just where one follows when it is filled
-pub begun_or_not : (stage : Stage) (s : List ℕ) → IsBegun stage s ⊎ (IsBegun stage s → ⊥)
-unfolding Finishes
-begun_or_not stage s = by_option (after_stage stage (s ++ filling s)) refl
-  where
-    by_option : (o : Option Stage) → after_stage stage (s ++ filling s) ≡ o → IsBegun stage s ⊎ (IsBegun stage s → ⊥)
-    by_option (Some after) next = inl (begun_prefix stage s (filling s) (after_begun stage after (s ++ filling s) next))
-    by_option None next = inr (λ begun. let k = finishes stage s begun in let some = k.1 in cc)
+    let f = s ++ filling s in
+    let full_f = filled stage s begun in
+    subst (Finishes stage) (sym (full_classes f full_f))
+    (after_full stage (count_by is_digit f) (λ first. sym (letters-digits f full_f.alphanumeric) ∙ filled_letters s (begun.letters first)))
 
 -- where the last subtag is filled, something is found
 pub filled_found : (stage : Stage) (e : Ends) (s : List ℕ) → IsBegun stage s → (f : Finding) × (outcome stage e (segments (s ++ filling s)) ≡ Some f)

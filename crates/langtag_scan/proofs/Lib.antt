@@ -21,7 +21,6 @@ mod NamesByLength
 mod NameRanges
 pub mod TagLaws
 mod RecogniserLaws
-mod SubtagReading
 mod FillLaw
 pub mod CaseLaw
 pub mod OneKind

@@ -104,35 +104,33 @@ primary_unmarked [] h = refl
 primary_unmarked (m ∷ []) h = let none : is_primary (m ∷ []) ≡ false = one_no_primary m in absurd cc
 primary_unmarked (m ∷ c ∷ s) h = refl
 
+-- what is found by the one rule or the other
+abbrev found_of : List ℕ → Bool → Bool → Option Finding
+found_of t normal private = cond normal (Some (Normal (ends_after Start (all_at 0) (segments t)))) (found_if private PrivateUse)
+
 -- what was found of a text is all that it is, irregular texts left aside
 abbrev pub Decides : List ℕ → Option Finding → Type 0
 Decides t found = MatchOption found (IsRefused t) (λ f. IsFoundOf t f)
 
-by_run : (t : List ℕ) (run : Bool) (f : Finding) → (run ≡ true → IsFoundOf t f) → (run ≡ false → IsRefused t) → Decides t (found_if run f)
-by_run t true f found refused = found refl
-by_run t false f found refused = refused refl
-
-neither : (t : List ℕ) → runs Start (segments t) ≡ false → runs_private (segments t) ≡ false → IsRefused t
-neither t normal private = record {
-  not_normal = λ n. both_ways (runs Start (segments t)) normal (runs_from_normal t n);
-  not_private = λ p. both_ways (runs_private (segments t)) private (runs_from_private t p);
-}
-
-of_segments : (t s : List ℕ) (ss : List (List ℕ)) → segments t ≡ s ∷ ss → Decides t (outcome_of t)
+by_rules : (t s : List ℕ) (ss : List (List ℕ)) → segments t ≡ s ∷ ss → outcome_of t ≡ found_of t (runs Start (segments t)) (runs_private (segments t))
 unfolding runs
-of_segments t s ss at = by_primary (is_primary s) refl
+by_rules t s ss at = by_primary (is_primary s) refl
   where
-    by_primary : (v : Bool) → is_primary s ≡ v → Decides t (outcome_of t)
-    by_primary true primary =
-        let unmarked : runs_private (s ∷ ss) ≡ false = rw (primary_unmarked s primary) refl in
-        let found : outcome_of t ≡ found_if (runs Start (segments t)) (Normal (ends_after Start (all_at 0) (segments t))) = rw at (primary_outcome s ss (all_at 0) primary) in
-        subst (Decides t) (sym found) (by_run t _ _ (λ run. found_with t (normal_from_runs t run)) (λ none. neither t none (ap runs_private at ∙ unmarked)))
+    by_primary : (v : Bool) → is_primary s ≡ v → outcome_of t ≡ found_of t (runs Start (segments t)) (runs_private (segments t))
+    by_primary true primary = rw at (primary_outcome s ss (all_at 0) primary ∙ rw (primary_unmarked s primary) refl)
     by_primary false other =
         let none : runs Start (s ∷ ss) ≡ false = rw other refl in
-        let found : outcome_of t ≡ found_if (runs_private (segments t)) PrivateUse = rw at (other_outcome s ss (all_at 0) other) in
-        subst (Decides t) (sym found) (by_run t _ _ (λ run. private_from_runs t run) (λ no_run. neither t (ap (runs Start) at ∙ none) no_run))
+        rw (at, none) (other_outcome s ss (all_at 0) other)
+
+decides : (t : List ℕ) (normal private : Bool) → runs Start (segments t) ≡ normal → runs_private (segments t) ≡ private → Decides t (found_of t normal private)
+decides t true private n p = found_with t (normal_from_runs t n)
+decides t false true n p = private_from_runs t p
+decides t false false n p = record {
+  not_normal = λ is. both_ways (runs Start (segments t)) n (runs_from_normal t is);
+  not_private = λ is. both_ways (runs_private (segments t)) p (runs_from_private t is);
+}
 
 -- ---- the law
 
 pub decided : (t : List ℕ) → Decides t (outcome_of t)
-decided t = let k = first_of t in of_segments t k.0 k.1 k.2
+decided t = let k = first_of t in subst (Decides t) (sym (by_rules t k.0 k.1 k.2)) (decides t _ _ refl refl)

@@ -85,22 +85,18 @@ whole_follows t i names within gone follows =
       | inr end ↦ subst (λ p. Follows p names) (take_all i t end) follows
     ]
 
--- where the machine has stopped and no irregular text is left, the text stops
-dead_prefix : (t : List ℕ) (n : ℕ) (names : Names) → IsGone (take n t) names → HasStopped (take n t) → IsViable (take n t) → ⊥
-dead_prefix t n names gone stopped = not_viable names.len (take n t) stopped gone
-
 -- the stop of a text of which so many bytes were read when the machine had stopped
 pub stop_read :
     (t : List ℕ) (n : ℕ) (names : Names) → names.high ≤ 17 → n ≤ length t → (n < length t → IsGone (take n t) names) →
     Follows (take n t) names → HasStopped (take n t) → ((k : ℕ) → k < n → IsViable (take k t)) → IsStop t n
 stop_read t n names few within gone follows stopped earlier =
     elim (cases_lt n (length t)) [
-      | inl before ↦ stop_at t n within earlier (dead_prefix t n names (gone before) stopped)
+      | inl before ↦ stop_at t n within earlier (not_viable names.len (take n t) stopped (gone before))
       | inr end ↦ elim (cases_lt names.low names.high) [
         | inl some ↦
             let viable = viable_possible (take n t) names.low (omega arith) (first_possible (take n t) names follows some few) in
             record { within = within; before = earlier; at = inl (viable, omega arith) }
-        | inr none ↦ stop_at t n within earlier (dead_prefix t n names (gone_empty (take n t) names follows (omega arith)) stopped)
+        | inr none ↦ stop_at t n within earlier (not_viable names.len (take n t) stopped (gone_empty (take n t) names follows (omega arith)))
       ]
     ]
 

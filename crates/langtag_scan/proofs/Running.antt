@@ -76,7 +76,7 @@ begun_push stage s b held first less h = record {
   letters = λ e. rw (list_all-append is_letter s (b ∷ []), h.letters e, first e) refl;
 }
 
-begun_parts : (stage : Stage) (s v : List ℕ) → IsBegun stage (s ++ v) → IsBegun stage s × IsBegun stage v
+pub begun_parts : (stage : Stage) (s v : List ℕ) → IsBegun stage (s ++ v) → IsBegun stage s × IsBegun stage v
 begun_parts stage s v h =
     let len = length-append s v in
     let held = and_parts (are_alphanumeric s) (are_alphanumeric v) (sym (list_all-append is_alphanumeric s v) ∙ h.alphanumeric) in
@@ -84,14 +84,6 @@ begun_parts stage s v h =
       record { short = omega (arith, len, h.short); alphanumeric = held.0; letters = λ e. (letters e).0 },
       record { short = omega (arith, len, h.short); alphanumeric = held.1; letters = λ e. (letters e).1 },
     )
-
-pub begun_prefix : (stage : Stage) (s v : List ℕ) → IsBegun stage (s ++ v) → IsBegun stage s
-begun_prefix stage s v h = (begun_parts stage s v h).0
-
-pub begun_last : (stage : Stage) (s : List ℕ) (b : ℕ) → IsBegun stage (s ++ b ∷ []) → (is_alphanumeric b ≡ true) × (stage ≡ Start → is_letter b ≡ true)
-begun_last stage s b h =
-    let k = (begun_parts stage s (b ∷ []) h).1 in
-    ((and_parts (is_alphanumeric b) true k.alphanumeric).0, λ e. (and_parts (is_letter b) true (k.letters e)).0)
 
 -- a first subtag is a primary one or a mark
 pub first_kind : (s : List ℕ) (after : Stage) → after_stage Start s ≡ Some after → (is_primary s ≡ true) ⊎ (is_one is_mark s ≡ true)
@@ -111,25 +103,23 @@ after_begun stage after s e =
     let k = after_subtag stage s after e in
     record { short = k.short; alphanumeric = k.alphanumeric; letters = λ first. start_letters s after (ap (λ x. after_stage x s) (sym first) ∙ e) }
 
--- ---- a byte with which the subtag can't go on: nothing is found then
+-- ---- a byte more: where something is found, the subtag goes on with it
 
-outcome-refused : (stage : Stage) (e : Ends) (s : List ℕ) (ss : List (List ℕ)) → (IsBegun stage s → ⊥) → outcome stage e (s ∷ ss) ≡ None
+pub outcome-begun :
+    (stage : Stage) (e : Ends) (s : List ℕ) (b : ℕ) (u : List ℕ) (f : Finding) → are_alphanumeric s ≡ true → eqb b 45 ≡ false →
+    outcome stage e (segments (s ++ b ∷ u)) ≡ Some f → IsBegun stage (s ++ b ∷ [])
 unfolding outcome
-outcome-refused stage e s ss never = by_next (after_stage stage s) refl
-  where
-    by_next : (o : Option Stage) → after_stage stage s ≡ o → found_after e (index_after stage e s) ss o ≡ None
-    by_next None next = refl
-    by_next (Some after) next = absurd (never (after_begun stage after s next))
-
-pub outcome-stuck :
-    (stage : Stage) (e : Ends) (s : List ℕ) (b : ℕ) (u : List ℕ) → are_alphanumeric s ≡ true → eqb b 45 ≡ false →
-    (IsBegun stage (s ++ b ∷ []) → ⊥) → outcome stage e (segments (s ++ b ∷ u)) ≡ None
-outcome-stuck stage e s b u h other stuck =
+outcome-begun stage e s b u f h other is =
     let k = first_of u in
     let here : segments (b ∷ u) ≡ (b ∷ k.0) ∷ k.1 = slice_split-cons_no is_hyphen b u other ∙ ap (onto_first b) k.2 in
-    ap (outcome stage e) (segments-prefix s (b ∷ u) (b ∷ k.0) k.1 h here)
-    ∙ outcome-refused stage e (s ++ b ∷ k.0) k.1
-    (λ begun. stuck (begun_prefix stage (s ++ b ∷ []) k.0 (subst (IsBegun stage) (sym (append_assoc s (b ∷ []) k.0)) begun)))
+    by_next (s ++ b ∷ k.0) k.1 (after_stage stage (s ++ b ∷ k.0)) (sym (append_assoc s (b ∷ []) k.0)) refl
+    (sym (ap (outcome stage e) (segments-prefix s (b ∷ u) (b ∷ k.0) k.1 h here)) ∙ is)
+  where
+    by_next :
+        (x : List ℕ) (ss : List (List ℕ)) (o : Option Stage) → x ≡ (s ++ b ∷ []) ++ (first_of u).0 → after_stage stage x ≡ o →
+        found_after e (index_after stage e x) ss o ≡ Some f → IsBegun stage (s ++ b ∷ [])
+    by_next x ss None same next found = absurd cc
+    by_next x ss (Some after) same next found = (begun_parts stage (s ++ b ∷ []) (first_of u).0 (subst (IsBegun stage) same (after_begun stage after x next))).0
 
 -- ---- the end of a subtag, at a hyphen or at the end of the text
 

@@ -2,11 +2,11 @@
 -- Only contracts of private functions cite this page.
 --
 -- What implies what, here and on the page Tracking:
---   Tracks p m                          after the hyphen that ends p, or before the first byte, the machine m knows that:
+--   Tracks p m                          p are the bytes before a subtag, and the machine m knows what they have led to:
 --     = Reads p stage ends              however p goes on, what is found follows from the subtags after p, at the stage
---   and IsBegun stage s                 where these bytes of a subtag follow:
---     → IsSubtagRead t start m .. s     the text t has p ++ s, and then it ends or has a hyphen
---       → IsReadTo t end .. m goes_on   s has ended: either Tracks again after the hyphen, or what is found of t
+--   → IsReading t start i m s           with more of the text t: the bytes up to i have begun a subtag (IsBegun) of shape s
+--     → IsSubtagRead t start m .. s     after them t ends or has a hyphen
+--       → IsReadTo t end .. m goes_on   the subtag has ended: Tracks after the hyphen, or what is found where t ends
 use Rattle.std.specs.Prelude.{◌≡◌, ℕ, ◌+◌, ◌≤◌, true, List, [], ◌∷◌, ◌++◌, length, Option, Some, None, if◌then◌else◌}
 use Rattle.std.specs.Option.{option_map_or}
 use Rattle.langtag_scan.specs.Class.{are_letters, are_alphanumeric}

@@ -5,7 +5,7 @@ use Rattle.langtag_scan.specs.Stage.{may_end}
 use Rattle.langtag_scan.specs.Tracking.{IsDecided, IsSubtagRead}
 use Rattle.langtag_scan.specs.Viable.{IsViable}
 use Rattle.langtag_scan.proofs.RecogniserLaws.{dead_decided, end_refused, end_accepted}
-use Rattle.langtag_scan.proofs.SubtagReading.{first_two}
+use Rattle.langtag_scan.proofs.ReadingLaws.{first_two}
 use Rattle.langtag_scan.proofs.recogniser.read_tag.Goals as goal
 use Rattle.langtag_scan.proofs.recogniser.read_tag.Goals.{then-loop-goes_on-test+else-index-len-2, else-loop-goes_on-test, else-goes_on-via-then-goes_on+else-may_end, else-goes_on-via-else-goes_on}
 

@@ -1,5 +1,5 @@
 use Rattle.std.proofs.Common.{sym, ◌∙◌}
-use Rattle.langtag_scan.proofs.SubtagReading.{subtag_passed, subtag_refused}
+use Rattle.langtag_scan.proofs.ReadingLaws.{subtag_passed, subtag_refused}
 use Rattle.langtag_scan.proofs.machine.Machine.end_subtag.Goals as goal
 
 pub returns-in-Some : goal.returns-in-Some

@@ -3,14 +3,14 @@ use Rattle.std.specs.List.{between}
 use Rattle.std.proofs.lemmas.Bool.{or_right, both_ways}
 use Rattle.std.proofs.lemmas.List.{length_push}
 use Rattle.std.proofs.lemmas.List.Edits.{length-between}
-use Rattle.langtag_scan.specs.Class.{is_letter, is_digit, is_alphanumeric}
+use Rattle.langtag_scan.specs.Class.{is_letter, is_digit, are_letters, are_alphanumeric}
 use Rattle.langtag_scan.specs.Machine.{IsBegun}
 use Rattle.langtag_scan.specs.Names.{Follows}
 use Rattle.langtag_scan.specs.Tracking.{IsReading}
 use Rattle.langtag_scan.proofs.RecogniserLaws.{read_next}
-use Rattle.langtag_scan.proofs.Running.{begun_last}
+use Rattle.langtag_scan.proofs.Running.{begun_parts}
 use Rattle.langtag_scan.proofs.ShapeLaws.{shape, IsFirst, IsHeld, letter_other}
-use Rattle.langtag_scan.proofs.SubtagReading.{reading_nothing, reading_more, stuck_decided}
+use Rattle.langtag_scan.proofs.ReadingLaws.{reading_nothing, reading_more, stuck_decided}
 use Rattle.langtag_scan.proofs.machine.Machine.read_subtag.Goals as goal
 use Rattle.langtag_scan.proofs.machine.Machine.read_subtag.Goals.{else-loop-index-test, then-loop-index-test+then-byte-eq45, then-len-eq-NINE, else-len-eq-NINE, then-is_start-via-then-is_start, then-is_start-via-else-is_start+then-not-is_digit, then-not-is_letter+else-is_start+else-not-is_digit, else-not-is_letter, then-index-start, else-index-start}
 
@@ -46,11 +46,13 @@ returns-then-is_start-clause-read g c =
     let is_next : b ≡ slice_index t i = cc in
     let no_letter : is_letter b ≡ false = sym c.is_letter.ensures ∙ c.if-not-is_letter.true in
     let never : IsBegun c.args.self.now.stage (s ++ b ∷ []) → ⊥ =
-    λ begun. elim c.then-is_start.branch [
-      | then-is_start-via-then-is_start w ↦ both_ways (is_letter b) no_letter ((begun_last c.args.self.now.stage s b begun).1 (c.is_start.ensures.0 w.if-is_start.true))
+    λ begun.
+    let last = (begun_parts c.args.self.now.stage s (b ∷ []) begun).1 in
+    elim c.then-is_start.branch [
+      | then-is_start-via-then-is_start w ↦ both_ways (are_letters (b ∷ [])) (rw no_letter refl) (last.letters (c.is_start.ensures.0 w.if-is_start.true))
       | then-is_start-via-else-is_start+then-not-is_digit w ↦
           let no_digit : is_digit b ≡ false = sym w.is_digit.ensures ∙ w.if-not-is_digit.true in
-          both_ways (is_alphanumeric b) (rw (no_letter, no_digit) refl) (begun_last c.args.self.now.stage s b begun).0
+          both_ways (are_alphanumeric (b ∷ [])) (rw (no_letter, no_digit) refl) last.alphanumeric
     ] in
     (i + 1, omega (arith, known.reading.from), omega arith, omega arith, stuck_decided t c.args.start i b c.args.self.now _ within is_next c.if-byte-eq45.false known.reading never)
 
