@@ -1,5 +1,5 @@
 -- Language ranges: their bytes, and the number that answers for their kind.
-use Rattle.std.proofs.Common.{◌≡◌, ℕ, ◌<◌, Bool, true, false, List, [], ◌∷◌, length, ◌||◌, IsTrue, inl, inr, refl, sym, subst, arith}
+use Rattle.std.proofs.Common.{◌≡◌, ℕ, ◌<◌, true, false, List, [], ◌∷◌, length, ◌||◌, IsTrue, inl, inr, refl, sym, subst, arith}
 use Rattle.std.specs.Char.{is_ascii_alphabetic}
 use Rattle.std.specs.Int.{is_in_range}
 use Rattle.std.specs.List.{AllByRecursion}
