@@ -1,10 +1,8 @@
 -- The subtags over which the stages run are those of the parts of a record, which is found from the last subtag on.
-use Rattle.std.proofs.Common.{◌≡◌, ℕ, suc, zero, ◌-◌, ◌≤◌, cond, true, false, leb, eqb, List, [], ◌∷◌, ◌++◌, length, get_or, Option, Some, None, ◌⊎◌, inl, inr, refl, sym, ap, ◌∙◌, arith}
+use Rattle.std.proofs.Common.{◌≡◌, ℕ, suc, zero, ◌-◌, ◌≤◌, true, false, List, [], ◌∷◌, ◌++◌, length, get_or, Option, Some, None, ◌⊎◌, refl, ap, ◌∙◌, arith}
 use Rattle.std.specs.Prelude.{IsTrue, IfSome, ⊤}
 use Rattle.std.specs.List.{AllByRecursion, flat_map}
 use Rattle.std.specs.Option.{option_map_or}
-use Rattle.std.proofs.lemmas.Bool.{and_parts, eqb-true}
-use Rattle.std.proofs.lemmas.Bool.{leb-true}
 use Rattle.std.proofs.lemmas.Bool.Decides.{nat_tests}
 use Rattle.std.proofs.lemmas.List.{nil_from_length}
 use Rattle.langtag_scan.specs.declared.stage.Stage.{Stage}
@@ -12,9 +10,8 @@ use Rattle.langtag_scan.specs.declared.stage.Stage.TheVariants.{Start, Language,
 use Rattle.langtag_scan.specs.Class.{is_primary, is_extended, is_script, is_region, is_variant, is_extension_subtag, is_private_subtag}
 use Rattle.langtag_scan.specs.Record.{PrivateUse, Extension, Record, IsWellFormedPrivateUse, IsWellFormedExtension, extension_flat, one_flat, private_part_flat}
 use Rattle.langtag_scan.specs.Stage.{classes_of, next_stage, may_end}
-use Rattle.langtag_scan.proofs.BoolFacts.{chosen}
 use Rattle.langtag_scan.proofs.Runs.{runs}
-use Rattle.langtag_scan.proofs.Steps.{leads_to, may_follow, place, next_step, opens_from, is_next_extended}
+use Rattle.langtag_scan.proofs.Steps.{leads_to, may_follow, place, next_step}
 
 -- ---- from the subtags to the parts
 
@@ -116,8 +113,9 @@ from_part (suc k) (b ∷ bs) = [] ∷ from_part k bs
 
 -- one subtag before those of a part, and none before it
 abbrev pub add : ℕ → List ℕ → List (List (List ℕ)) → List (List (List ℕ))
-add k s [] = []
+add zero s [] = []
 add zero s (b ∷ bs) = (s ∷ b) ∷ bs
+add (suc k) s [] = []
 add (suc k) s (b ∷ bs) = [] ∷ add k s bs
 
 abbrev in_extensions : Read → List (List (List ℕ))
