@@ -41,15 +41,14 @@ after_mark (s ∷ ss) some fits = more_decode AfterMark InPrivate s refl fits.0 
 
 -- ---- the parts, from the last one on, where a tag may go on with any of them
 
-module _ (p : Option PrivateUse) (fits_private : IfSome p IsWellFormedPrivateUse) where
-  private_decodes : (stage : Stage) → next_part stage ≤ 4 → Decodes stage (private_part_flat p) (whole (from_private p))
-  private_decodes stage on = by_part p fits_private
-    where
-      by_part : (q : Option PrivateUse) → IfSome q IsWellFormedPrivateUse → Decodes stage (private_part_flat q) (whole (from_private q))
-      by_part None fits = none_decodes stage (part_ends stage (omega arith))
-      by_part (Some q) fits =
-          more_decode stage AfterMark (q.mark ∷ []) (part_follows 4 stage AfterMark on refl) fits.mark (after_mark q.subtags fits.some fits.subtags)
+private_decodes :
+    (p : Option PrivateUse) → IfSome p IsWellFormedPrivateUse → (stage : Stage) → next_part stage ≤ 4 →
+    Decodes stage (private_part_flat p) (whole (from_private p))
+private_decodes None fits stage on = none_decodes stage (part_ends stage (omega arith))
+private_decodes (Some p) fits stage on =
+    more_decode stage AfterMark (p.mark ∷ []) (part_follows 4 stage AfterMark on refl) fits.mark (after_mark p.subtags fits.some fits.subtags)
 
+module _ (p : Option PrivateUse) (fits_private : IfSome p IsWellFormedPrivateUse) where
   in_extension :
       (es : List Extension) (rest : List (List ℕ)) → Decodes InExtension rest (whole (from_extensions es p)) → (ss : List (List ℕ)) →
       AllByRecursion (λ s. IsTrue (is_extension_subtag s)) ss → Decodes InExtension (ss ++ rest) (pending ss es p)
@@ -73,7 +72,7 @@ module _ (p : Option PrivateUse) (fits_private : IfSome p IsWellFormedPrivateUse
   extensions_decode :
       (es : List Extension) → AllByRecursion IsWellFormedExtension es → (stage : Stage) → next_part stage ≤ 4 →
       Decodes stage (flat_map extension_flat es ++ private_part_flat p) (whole (from_extensions es p))
-  extensions_decode [] fits stage on = private_decodes stage on
+  extensions_decode [] fits stage on = private_decodes p fits_private stage on
   extensions_decode (e ∷ es) fits stage on =
       rw append_assoc (one_extension e es _ fits.0 (extensions_decode es fits.1 InExtension (omega arith)) stage on)
 

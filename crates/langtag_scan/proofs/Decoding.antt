@@ -1,5 +1,5 @@
 -- The subtags over which the stages run are those of the parts of a record, which is found from the last subtag on.
-use Rattle.std.proofs.Common.{◌≡◌, ℕ, suc, zero, ◌-◌, ◌≤◌, true, false, List, [], ◌∷◌, ◌++◌, length, get_or, Option, Some, None, ◌⊎◌, refl, ap, ◌∙◌, arith}
+use Rattle.std.proofs.Common.{◌≡◌, drop, ℕ, suc, zero, ◌-◌, ◌≤◌, true, false, List, [], ◌∷◌, ◌++◌, length, get_or, Option, Some, None, ◌⊎◌, refl, ap, ◌∙◌, arith}
 use Rattle.std.specs.Prelude.{IsTrue, IfSome, ⊤}
 use Rattle.std.specs.List.{AllByRecursion, flat_map}
 use Rattle.std.specs.Option.{option_map_or}
@@ -105,32 +105,23 @@ blocks language r =
 abbrev pub flatten : List (List (List ℕ)) → List (List ℕ)
 flatten bs = flat_map (λ b. b) bs
 
--- the same without those before a part
-abbrev pub from_part : ℕ → List (List (List ℕ)) → List (List (List ℕ))
-from_part k [] = []
-from_part zero (b ∷ bs) = b ∷ bs
-from_part (suc k) (b ∷ bs) = [] ∷ from_part k bs
-
 -- one subtag before those of a part, and none before it
 abbrev pub add : ℕ → List ℕ → List (List (List ℕ)) → List (List (List ℕ))
-add k s [] = []
+add zero s [] = []
 add zero s (b ∷ bs) = (s ∷ b) ∷ bs
+add (suc k) s [] = []
 add (suc k) s (b ∷ bs) = [] ∷ add k s bs
-
-abbrev in_extensions : Read → List (List (List ℕ))
-in_extensions b =
-    [] ∷ [] ∷ [] ∷ [] ∷ (b.after ++ flat_map extension_flat b.parts.extensions) ∷ private_part_flat b.parts.private_use ∷ []
 
 -- what was read after a stage, by parts
 abbrev pub by_part : Stage → Read → List (List (List ℕ))
 by_part Start b = blocks (b.parts.primary ∷ b.parts.extended) b.parts
 by_part (Language taken) b = blocks b.parts.extended b.parts
 by_part (Extended taken) b = blocks b.parts.extended b.parts
-by_part AfterScript b = from_part 2 (blocks b.parts.extended b.parts)
-by_part AfterRegion b = from_part 3 (blocks b.parts.extended b.parts)
-by_part AfterVariant b = from_part 3 (blocks b.parts.extended b.parts)
-by_part AfterSingleton b = in_extensions b
-by_part InExtension b = in_extensions b
+by_part AfterScript b = [] ∷ [] ∷ drop 2 (blocks [] b.parts)
+by_part AfterRegion b = [] ∷ [] ∷ [] ∷ drop 3 (blocks [] b.parts)
+by_part AfterVariant b = [] ∷ [] ∷ [] ∷ drop 3 (blocks [] b.parts)
+by_part AfterSingleton b = [] ∷ [] ∷ [] ∷ [] ∷ (b.after ++ flat_map extension_flat b.parts.extensions) ∷ drop 5 (blocks [] b.parts)
+by_part InExtension b = [] ∷ [] ∷ [] ∷ [] ∷ (b.after ++ flat_map extension_flat b.parts.extensions) ∷ drop 5 (blocks [] b.parts)
 by_part _ b = [] ∷ [] ∷ [] ∷ [] ∷ [] ∷ b.after ∷ []
 
 pub flatten-add : (after : Stage) (s : List ℕ) (b : Read) → flatten (add (place after) s (by_part after b)) ≡ s ∷ flatten (by_part after b)
@@ -187,23 +178,21 @@ pub record IsSound (stage : Stage) (ss : List (List ℕ)) (b : Read) : Type 0 wh
   pub fit : FitParts b.parts
   pub spells : flatten (by_part stage b) ≡ ss
 
-nothing_sound : (stage : Stage) → may_end stage ≡ true → IsSound stage [] nothing
-nothing_sound stage ends = record { ready = grind (arith, nat_tests, ends); fit = (tt, tt, tt, tt, tt, tt); spells = grind (arith, nat_tests, ends) }
-
-put_sound :
-    (stage after : Stage) (s : List ℕ) (ss : List (List ℕ)) (b : Read) → may_follow stage after ≡ true →
-    leads_to after (classes_of s) ≡ true → IsSound after ss b → IsSound stage (s ∷ ss) (put after s b)
-put_sound stage after s ss b follows class sound = record {
-  ready = Ready-put stage after s b follows class sound.ready;
-  fit = FitParts-put after s b class sound.ready sound.fit;
-  spells = ap flatten (by_part-put stage after s b follows class) ∙ flatten-add after s b ∙ ap (λ us. s ∷ us) sound.spells;
-}
-
 pub decode_sound : (ss : List (List ℕ)) (stage : Stage) → runs stage ss ≡ true → IsSound stage ss (decode stage ss)
 unfolding decode
-decode_sound ss stage run =
-    over_run (λ stage ss. IsSound stage ss (decode stage ss)) nothing_sound
-    (λ stage after s ss next sound.
-    let step = next_step stage after s next in
-    rw (decode-cons stage after s ss next) (put_sound stage after s ss (decode after ss) step.0 step.1 sound))
-    ss stage run
+decode_sound = over_run (λ stage ss. IsSound stage ss (decode stage ss)) none more
+  where
+    none : (stage : Stage) → may_end stage ≡ true → IsSound stage [] (decode stage [])
+    none stage ends = record { ready = grind (arith, nat_tests, ends); fit = (tt, tt, tt, tt, tt, tt); spells = grind (arith, nat_tests, ends) }
+
+    more :
+        (stage after : Stage) (s : List ℕ) (ss : List (List ℕ)) → next_stage stage s ≡ Some after → IsSound after ss (decode after ss) →
+        IsSound stage (s ∷ ss) (decode stage (s ∷ ss))
+    more stage after s ss next sound =
+        let step = next_step stage after s next in
+        let b = decode after ss in
+        rw (decode-cons stage after s ss next) (record {
+          ready = Ready-put stage after s b step.0 step.1 sound.ready;
+          fit = FitParts-put after s b step.1 sound.ready sound.fit;
+          spells = ap flatten (by_part-put stage after s b step.0 step.1) ∙ flatten-add after s b ∙ ap (λ us. s ∷ us) sound.spells;
+        })

@@ -1,142 +1,112 @@
 -- The ends that are kept subtag by subtag are those of the record: each part ends where the part before it does, and
 -- as many bytes later as its subtags have, each after a hyphen.
-use Rattle.std.proofs.Common.{◌≡◌, drop, ℕ, zero, suc, ◌+◌, ◌≤◌, true, false, cond, leb, List, [], ◌∷◌, length, Some, refl, sym, ap, ◌∙◌, arith}
-use Rattle.std.proofs.Math.Nat.{add-zero, zero-add, add_assoc}
+use Rattle.std.proofs.Common.{◌≡◌, subst, drop, ℕ, zero, suc, ◌+◌, ◌≤◌, true, false, cond, leb, List, [], ◌∷◌, length, Some, refl, sym, ◌∙◌, arith}
+use Rattle.std.proofs.lemmas.Bool.Decides.{nat_tests}
 use Rattle.std.proofs.lemmas.List.{length-append}
 use Rattle.langtag_scan.specs.declared.stage.Stage.{Stage}
-use Rattle.langtag_scan.specs.declared.stage.Stage.TheVariants.{Start, Language, AfterSingleton}
+use Rattle.langtag_scan.specs.declared.stage.Stage.TheVariants.{Start, Language}
 use Rattle.langtag_scan.specs.Ends.{ends_of}
 use Rattle.langtag_scan.specs.Machine.{all_at, end_at, index_after}
 use Rattle.langtag_scan.specs.Record.{Record, IsWellFormed, flat}
-use Rattle.langtag_scan.specs.Stage.{classes_of, next_stage, may_end}
+use Rattle.langtag_scan.specs.Stage.{next_stage, may_end}
 use Rattle.langtag_scan.specs.declared.ends.Ends.{Ends}
 use Rattle.langtag_scan.proofs.Complete.{decode_complete}
-use Rattle.langtag_scan.proofs.Decoding.{Read, put, whole, decode, decode-cons, over_run, add, from_part, blocks, by_part, by_part-put}
+use Rattle.langtag_scan.proofs.Decoding.{Read, put, whole, decode, decode-cons, over_run, add, blocks, by_part, by_part-put}
 use Rattle.langtag_scan.proofs.Joins.{hyphenated, length-hyphenated, length-join}
 use Rattle.langtag_scan.proofs.PartOffsets.{ends_equal}
 use Rattle.langtag_scan.proofs.Running.{ends_after-cons}
 use Rattle.langtag_scan.proofs.Runs.{runs, ends_after}
 use Rattle.langtag_scan.proofs.StageLaws.{is_outside, next_inside}
-use Rattle.langtag_scan.proofs.Steps.{place, places, next_step, may_follow, leads_to}
+use Rattle.langtag_scan.proofs.Steps.{place, places, next_step}
 
--- ---- ends in a list
-
-abbrev listed : Ends → List ℕ
-listed e = e.language ∷ e.script ∷ e.region ∷ e.variants ∷ e.extensions ∷ e.whole ∷ []
-
-listed_once : (d e : Ends) → listed d ≡ listed e → d ≡ e
-listed_once d e same = ends_equal d e (cc) (cc) (cc) (cc) (cc) (cc)
-
--- from one of them on, all at this index
-abbrev all_from : ℕ → ℕ → List ℕ → List ℕ
-all_from k p [] = []
-all_from zero p (x ∷ xs) = p ∷ all_from zero p xs
-all_from (suc k) p (x ∷ xs) = x ∷ all_from k p xs
-
-all_from-again : (k j p : ℕ) (xs : List ℕ) → j ≤ k → all_from k p (all_from j p xs) ≡ all_from j p xs
-all_from-again k j p [] before = refl
-all_from-again zero zero p (x ∷ xs) before = ap (λ ys. p ∷ ys) (all_from-again zero zero p xs before)
-all_from-again zero (suc j) p (x ∷ xs) before = absurd (omega arith)
-all_from-again (suc k) zero p (x ∷ xs) before = ap (λ ys. p ∷ ys) (all_from-again k zero p xs (omega arith))
-all_from-again (suc k) (suc j) p (x ∷ xs) before = ap (λ ys. x ∷ ys) (all_from-again k j p xs (omega arith))
+-- ---- the ends by the lengths of parts
 
 -- the length of these subtags, each after a hyphen
-abbrev weight : List (List ℕ) → ℕ
+unfoldable weight : List (List ℕ) → ℕ
 weight ss = length (hyphenated ss)
 
--- the ends where these subtags more stand in the parts, after so many bytes more
-abbrev later : ℕ → List ℕ → List (List (List ℕ)) → List ℕ
-later w [] bs = []
-later w (x ∷ xs) [] = x ∷ xs
-later w (x ∷ xs) (b ∷ bs) = (x + (w + weight b)) ∷ later (w + weight b) xs bs
+weight-nil : weight [] ≡ 0
+unfolding weight
+weight-nil = refl
 
-later-moved : (w d p : ℕ) (xs : List ℕ) (bs : List (List (List ℕ))) → length xs ≤ length bs → later (w + d) (all_from zero p xs) bs ≡ later w (all_from zero (p + d) xs) bs
-later-moved w d p [] bs long = refl
-later-moved w d p (x ∷ xs) [] long = absurd (omega arith)
-later-moved w d p (x ∷ xs) (b ∷ bs) long =
-    let here : p + (w + d + weight b) ≡ p + d + (w + weight b) = omega arith in
-    let there : w + d + weight b ≡ w + weight b + d = omega arith in
-    cc (here, ap (λ v. later v (all_from zero p xs) bs) there, later-moved (w + weight b) d p xs bs (omega arith))
+weight-cons : (s : List ℕ) (ss : List (List ℕ)) → weight (s ∷ ss) ≡ 1 + length s + weight ss
+unfolding weight
+weight-cons s ss = omega (arith, length-append s (hyphenated ss))
 
--- one subtag more before those of a part moves the ends from this part on
-later-add :
-    (j p : ℕ) (s : List ℕ) (xs : List ℕ) (bs : List (List (List ℕ))) → length xs ≤ length bs →
-    later 0 (all_from j (p + (1 + length s)) xs) (from_part j bs) ≡ later 0 (all_from j p xs) (add j s bs)
-later-add j p s [] bs long = refl
-later-add j p s (x ∷ xs) [] long = absurd (omega arith)
-later-add zero p s (x ∷ xs) (b ∷ bs) long =
-    let longer = length-append s (hyphenated b) in
-    let here : p + (1 + length s) + (0 + weight b) ≡ p + (0 + weight (s ∷ b)) = omega arith in
-    let there : 0 + weight (s ∷ b) ≡ 0 + weight b + (1 + length s) = omega arith in
-    cc (here, ap (λ v. later v (all_from zero p xs) bs) there, later-moved (0 + weight b) (1 + length s) p xs bs (omega arith))
-later-add (suc j) p s (x ∷ xs) (b ∷ bs) long = ap (λ ys. (x + (0 + 0)) ∷ ys) (later-add j p s xs bs (omega arith))
+-- that of so many of these parts
+abbrev weigh : ℕ → List (List (List ℕ)) → ℕ
+weigh zero bs = 0
+weigh (suc n) [] = 0
+weigh (suc n) (b ∷ bs) = weight b + weigh n bs
+
+-- each end is as many bytes later as the parts up to it have
+abbrev AreLater : Ends → Ends → List (List (List ℕ)) → Type 0
+AreLater d e bs =
+    (d.language ≡ e.language + weigh 1 bs) × (d.script ≡ e.script + weigh 2 bs) × (d.region ≡ e.region + weigh 3 bs)
+    × (d.variants ≡ e.variants + weigh 4 bs) × (d.extensions ≡ e.extensions + weigh 5 bs) × (d.whole ≡ e.whole + weigh 6 bs)
+
+-- the ends from a part on are that of the text
+abbrev AreOpen : ℕ → Ends → Type 0
+AreOpen k e =
+    (k ≤ 0 → e.language ≡ e.whole) × (k ≤ 1 → e.script ≡ e.whole) × (k ≤ 2 → e.region ≡ e.whole)
+    × (k ≤ 3 → e.variants ≡ e.whole) × (k ≤ 4 → e.extensions ≡ e.whole)
+
+AreOpen-later : (j k : ℕ) (e : Ends) → j ≤ k → AreOpen j e → AreOpen k e
+AreOpen-later j k e le o = (λ h. o.0 (omega arith), λ h. o.1 (omega arith), λ h. o.2 (omega arith), λ h. o.3 (omega arith), λ h. o.4 (omega arith))
+
+AreOpen-after : (after : Stage) (p : ℕ) (e : Ends) → AreOpen (place after) (end_at after p e)
+AreOpen-after after p e = grind (arith, nat_tests)
 
 -- ---- over the stages
-
-end_at-listed : (after : Stage) (p : ℕ) (e : Ends) → listed (end_at after p e) ≡ all_from (place after) p (listed e)
-end_at-listed Start p e = refl
-end_at-listed _ p e = refl
-
--- the parts in which the next subtag may stand end where the text does
-abbrev AreOpen : Stage → Ends → Type 0
-AreOpen stage e = all_from (place stage) e.whole (listed e) ≡ listed e
-
-AreOpen-after : (after : Stage) (p : ℕ) (e : Ends) → AreOpen after (end_at after p e)
-AreOpen-after Start p e = refl
-AreOpen-after _ p e = refl
-
--- what was read after a stage stands in no part before its own
-none_before : (after : Stage) (b : Read) → from_part (place after) (by_part after b) ≡ by_part after b
-none_before Start b = refl
-none_before _ b = refl
-
-six_parts : (after : Stage) (b : Read) → length (by_part after b) ≡ 6
-six_parts Start b = refl
-six_parts _ b = refl
 
 index_inside : (stage : Stage) (e : Ends) (s : List ℕ) → is_outside stage ≡ false → index_after stage e s ≡ e.whole + (1 + length s)
 unfolding is_outside
 index_inside Start e s inside = absurd cc
 index_inside _ e s inside = omega arith
 
--- the ends after a subtag, and after those that follow it
-one_subtag :
-    (stage after : Stage) (e : Ends) (s : List ℕ) (b : Read) → may_follow stage after ≡ true → leads_to after (classes_of s) ≡ true → AreOpen stage e →
-    later 0 (listed (end_at after (e.whole + (1 + length s)) e)) (by_part after b) ≡ later 0 (listed e) (by_part stage (put after s b))
-one_subtag stage after e s b follows class open_here =
-    let j = place after in
-    let from_here : all_from j e.whole (listed e) ≡ listed e =
-    ap (all_from j e.whole) (sym open_here) ∙ all_from-again j (place stage) e.whole (listed e) (places stage after follows) ∙ open_here in
-    ap (λ es. later 0 es (by_part after b)) (end_at-listed after (e.whole + (1 + length s)) e)
-    ∙ ap (later 0 (all_from j (e.whole + (1 + length s)) (listed e))) (sym (none_before after b))
-    ∙ later-add j e.whole s (listed e) (by_part after b) (omega (arith, six_parts after b))
-    ∙ ap (λ es. later 0 es (add j s (by_part after b))) from_here
-    ∙ ap (later 0 (listed e)) (sym (by_part-put stage after s b follows class))
+-- one subtag before those of a part moves the ends from this part on
+AreLater-add :
+    (after : Stage) (d e : Ends) (s : List ℕ) (b : Read) → AreOpen (place after) e →
+    AreLater d (end_at after (e.whole + (1 + length s)) e) (by_part after b) → AreLater d e (add (place after) s (by_part after b))
+AreLater-add after d e s b o later = (
+  later.0 ∙ grind (arith, nat_tests, weight-nil, weight-cons, o.0),
+  later.1 ∙ grind (arith, nat_tests, weight-nil, weight-cons, o.1),
+  later.2 ∙ grind (arith, nat_tests, weight-nil, weight-cons, o.2),
+  later.3 ∙ grind (arith, nat_tests, weight-nil, weight-cons, o.3),
+  later.4 ∙ grind (arith, nat_tests, weight-nil, weight-cons, o.4),
+  later.5 ∙ grind (arith, nat_tests, weight-nil, weight-cons),
+)
 
 AreRight : Stage → List (List ℕ) → Type 0
 AreRight stage ss =
-    (e : Ends) → is_outside stage ≡ false → AreOpen stage e →
-    listed (ends_after stage e ss) ≡ later 0 (listed e) (by_part stage (decode stage ss))
+    (e : Ends) → is_outside stage ≡ false → AreOpen (place stage) e → AreLater (ends_after stage e ss) e (by_part stage (decode stage ss))
 
 none_right : (stage : Stage) → may_end stage ≡ true → AreRight stage []
 unfolding AreRight ends_after decode
-none_right AfterSingleton ends e inside open_here = absurd cc
-none_right Start ends e inside open_here = absurd cc
-none_right _ ends e inside open_here = simp add-zero
+none_right stage ends e inside o = grind (arith, nat_tests, weight-nil, ends)
 
 more_right : (stage after : Stage) (s : List ℕ) (ss : List (List ℕ)) → next_stage stage s ≡ Some after → AreRight after ss → AreRight stage (s ∷ ss)
 unfolding AreRight
-more_right stage after s ss next right e inside open_here =
+more_right stage after s ss next right e inside o =
     let step = next_step stage after s next in
     let p = e.whole + (1 + length s) in
-    ap listed (ends_after-cons stage e s ss ∙ rw (next, index_inside stage e s inside) refl)
-    ∙ right (end_at after p e) (next_inside stage after s next) (AreOpen-after after p e)
-    ∙ one_subtag stage after e s (decode after ss) step.0 step.1 open_here
-    ∙ ap (λ b. later 0 (listed e) (by_part stage b)) (sym (decode-cons stage after s ss next))
+    let d = ends_after after (end_at after p e) ss in
+    let same : ends_after stage e (s ∷ ss) ≡ d = ends_after-cons stage e s ss ∙ rw (next, index_inside stage e s inside) refl in
+    let later = AreLater-add after d e s (decode after ss) (AreOpen-later (place stage) (place after) e (places stage after step.0) o)
+    (right (end_at after p e) (next_inside stage after s next) (AreOpen-after after p e)) in
+    rw (same, decode-cons stage after s ss next, by_part-put stage after s (decode after ss) step.0 step.1) later
 
--- the ends of a record are those of its primary subtag, and later ones
-ends_of-later : (r : Record) → later 0 (listed (all_at (length r.primary))) (blocks r.extended r) ≡ listed (ends_of r)
-ends_of-later r = simp (length-join, length-hyphenated, zero-add, add_assoc)
+-- the ends of a record are that of its primary subtag, and later ones
+ends_of-later : (d : Ends) (r : Record) → AreLater d (all_at (length r.primary)) (blocks r.extended r) → d ≡ ends_of r
+unfolding weight
+ends_of-later d r later =
+    ends_equal d (ends_of r)
+    (later.0 ∙ simp length-join (omega arith))
+    (later.1 ∙ simp (length-join, length-hyphenated) (omega arith))
+    (later.2 ∙ simp (length-join, length-hyphenated) (omega arith))
+    (later.3 ∙ simp (length-join, length-hyphenated) (omega arith))
+    (later.4 ∙ simp (length-join, length-hyphenated) (omega arith))
+    (later.5 ∙ simp (length-join, length-hyphenated) (omega arith))
 
 -- after all subtags of a well-formed record the ends are those of its parts
 pub ends_after-flat : (r : Record) → IsWellFormed r → ends_after Start (all_at 0) (flat r) ≡ ends_of r
@@ -146,10 +116,11 @@ ends_after-flat r fits =
     let e = all_at (length r.primary) in
     let others : List (List ℕ) = drop 1 (flat r) in
     let next : next_stage Start r.primary ≡ Some (Language taken) = rw fits.primary refl in
-    let is : put (Language taken) r.primary (decode (Language taken) others) ≡ whole r = sym (decode-cons Start (Language taken) r.primary others next) ∙ (decode_complete r fits).is in
+    let whole_read : put (Language taken) r.primary (decode (Language taken) others) ≡ whole r =
+    sym (decode-cons Start (Language taken) r.primary others next) ∙ (decode_complete r fits).is in
     let run : runs (Language taken) others ≡ true = rw fits.primary at (decode_complete r fits).run in
-    listed_once _ _
-    (ap listed (ends_after-cons Start (all_at 0) r.primary others ∙ rw next refl)
-    ∙ over_run AreRight none_right more_right others (Language taken) run e refl refl
-    ∙ ap (λ b. later 0 (listed e) (by_part (Language taken) b)) is
-    ∙ ends_of-later r)
+    let right = over_run AreRight none_right more_right others (Language taken) run e refl (AreOpen-after Start (length r.primary) e) in
+    let d = ends_after (Language taken) e others in
+    let later : AreLater d e (blocks r.extended r) = subst (λ b. AreLater d e (by_part (Language taken) b)) whole_read right in
+    ends_after-cons Start (all_at 0) r.primary others ∙ rw next refl
+    ∙ ends_of-later d r later

@@ -39,14 +39,11 @@ of_class _ s h = of_private_subtag s h
 pub after_subtag : (stage : Stage) (s : List ℕ) (after : Stage) → after_stage stage s ≡ Some after → IsSubtag s
 after_subtag stage s after e = of_class after s (after_class stage after s e)
 
-pub run_subtags : (ss : List (List ℕ)) (stage : Stage) → runs stage ss ≡ true → AllByRecursion IsSubtag ss
-run_subtags ss stage run =
+pub flat_subtags : (r : Record) → IsWellFormed r → AllByRecursion IsSubtag (flat r)
+flat_subtags r fits =
     over_run (λ stage ss. AllByRecursion IsSubtag ss) (λ stage ends. tt)
     (λ stage after s ss next others. (of_class after s (next_step stage after s next).1, others))
-    ss stage run
-
-pub flat_subtags : (r : Record) → IsWellFormed r → AllByRecursion IsSubtag (flat r)
-flat_subtags r fits = run_subtags (flat r) Start (decode_complete r fits).run
+    (flat r) Start (decode_complete r fits).run
 
 pub spelled_segments : (r : Record) → IsWellFormed r → segments (spell r) ≡ flat r
 spelled_segments r fits = segments-joined r.primary _ (flat_subtags r fits)

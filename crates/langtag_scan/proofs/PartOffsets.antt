@@ -1,5 +1,5 @@
 -- Each part of a record stands between the end of the part before and its own end.
-use Rattle.std.proofs.Common.{◌≡◌, ℕ, List, [], ◌++◌, take, drop, arith, refl, sym, ap, ◌∙◌, append_assoc, append-nil}
+use Rattle.std.proofs.Common.{◌≡◌, ℕ, List, [], ◌++◌, take, drop, arith, sym, ap, ◌∙◌, append_assoc, append-nil}
 use Rattle.std.specs.List.{flat_map}
 use Rattle.langtag_scan.specs.Ends.{to_script, to_region, to_variants, to_extensions, ends_of}
 use Rattle.langtag_scan.specs.Record.{Record, extension_flat, one_flat, private_part_flat, flat, spell}
@@ -66,17 +66,9 @@ join-parts r =
 
 -- ---- when ends are equal
 
-abbrev ends_at : ℕ → ℕ → ℕ → ℕ → ℕ → ℕ → Ends
-ends_at l c g v x w = record { language = l; script = c; region = g; variants = v; extensions = x; whole = w }
-
-made_ends :
-    (l c g v x w l' c' g' v' x' w' : ℕ) → l ≡ l' → c ≡ c' → g ≡ g' → v ≡ v' → x ≡ x' → w ≡ w' →
-    ends_at l c g v x w ≡ ends_at l' c' g' v' x' w'
-made_ends l c g v x w l' c' g' v' x' w' el ec eg ev ex ew = rw (el, ec, eg, ev, ex, ew) refl
-
 -- where each of their six offsets is
 pub ends_equal :
     (d e : Ends) → d.language ≡ e.language → d.script ≡ e.script → d.region ≡ e.region → d.variants ≡ e.variants →
     d.extensions ≡ e.extensions → d.whole ≡ e.whole → d ≡ e
 ends_equal d e language script region variants extensions whole =
-    made_ends _ _ _ _ _ _ e.language e.script e.region e.variants e.extensions e.whole language script region variants extensions whole
+    λ i. record { language = language i; script = script i; region = region i; variants = variants i; extensions = extensions i; whole = whole i }
