@@ -19,7 +19,7 @@ use Rattle.langtag_scan.specs.declared.stage.Stage.TheVariants.{Start, Language,
 use Rattle.langtag_scan.proofs.EndsLaw.{ends_after-flat}
 use Rattle.langtag_scan.proofs.NormalTexts.{normal_from_runs, runs_from_normal, spelled_segments}
 use Rattle.langtag_scan.proofs.PrivateTexts.{runs_private, runs_from_private, private_from_runs, one_no_primary}
-use Rattle.langtag_scan.proofs.Running.{first_of}
+use Rattle.langtag_scan.proofs.Running.{first_of, found_after}
 use Rattle.langtag_scan.proofs.StageLaws.{is_outside, next_inside, after-inside}
 use Rattle.langtag_scan.proofs.Runs.{runs, ends_after}
 
@@ -48,7 +48,7 @@ normal_outcome :
 unfolding outcome runs ends_after
 normal_outcome [] stage e inside = ap (found_if (may_end stage)) (found-inside stage e inside)
 normal_outcome (s ∷ ss) stage e inside =
-    ap (λ o. option_map_or (λ after. outcome after (end_at after (index_after stage e s) e) ss) o None) (after-inside stage s inside)
+    ap (found_after e (index_after stage e s) ss) (after-inside stage s inside)
     ∙ one_more (λ after. outcome after (end_at after (index_after stage e s) e) ss) (λ after. runs after ss) (λ after. ends_after after (end_at after (index_after stage e s) e) ss) e (next_stage stage s)
     (λ after at. normal_outcome ss after (end_at after (index_after stage e s) e) (next_inside stage after s at))
 
@@ -86,7 +86,7 @@ other_outcome s ss e other = rw other (by_mark (is_one is_mark s))
   where
     by_mark :
         (v : Bool) →
-        option_map_or (λ after. outcome after (end_at after (index_after Start e s) e) ss) (cond v (Some AfterFirstMark) None) None ≡ found_if (v && runs AfterMark ss) PrivateUse
+        found_after e (index_after Start e s) ss (cond v (Some AfterFirstMark) None) ≡ found_if (v && runs AfterMark ss) PrivateUse
     by_mark true = marked_outcome ss (end_at AfterFirstMark (index_after Start e s) e)
     by_mark false = refl
 
@@ -122,7 +122,9 @@ by_rules t s ss at = by_primary (is_primary s) refl
         let none : runs Start (s ∷ ss) ≡ false = rw other refl in
         rw (at, none) (other_outcome s ss (all_at 0) other)
 
-decides : (t : List ℕ) (normal private : Bool) → runs Start (segments t) ≡ normal → runs_private (segments t) ≡ private → Decides t (found_of t normal private)
+decides :
+    (t : List ℕ) (normal private : Bool) → runs Start (segments t) ≡ normal → runs_private (segments t) ≡ private →
+    Decides t (found_of t normal private)
 decides t true private n p = found_with t (normal_from_runs t n)
 decides t false true n p = private_from_runs t p
 decides t false false n p = record {

@@ -199,7 +199,9 @@ part_read t start i m subtag k = record {
 
 -- ---- byte by byte
 
-pub reading_nothing : (t : List ℕ) (start : ℕ) (m : Machine) → start ≤ length t → Tracks (take start t) m → IsReading t start start m (shape (start - start) 0 0)
+pub reading_nothing :
+    (t : List ℕ) (start : ℕ) (m : Machine) → start ≤ length t → Tracks (take start t) m →
+    IsReading t start start m (shape (start - start) 0 0)
 reading_nothing t start m within tracks =
     let nothing = sym (between_none t start) in
     record {

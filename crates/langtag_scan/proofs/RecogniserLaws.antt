@@ -132,7 +132,9 @@ module _ (t : List ℕ) (end : ℕ) (names : Names) (m : Machine) (goes_on : Boo
       none : cond goes_on (outcome m.stage m.ends []) None ≡ None
       none = elim why [ inl off ↦ rw off refl | inr open_end ↦ either goes_on _ (rw open_end refl) ]
 
-  pub end_accepted : (found : Found) → goes_on ≡ true → may_end m.stage ≡ true → finding found ≡ found_by m.stage m.ends → IsDecided t (Some found) (length t)
+  pub end_accepted :
+      (found : Found) → goes_on ≡ true → may_end m.stage ≡ true → finding found ≡ found_by m.stage m.ends →
+      IsDecided t (Some found) (length t)
   unfolding outcome
   end_accepted found on ends is = record { answer = subst (IsFoundOf t) (sym is) (subst (Decides t) (known.found at ∙ some) (decided t)); stop = stop }
     where

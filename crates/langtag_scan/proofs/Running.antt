@@ -80,7 +80,8 @@ pub begun_parts : (stage : Stage) (s v : List ℕ) → IsBegun stage (s ++ v) �
 begun_parts stage s v h =
     let len = length-append s v in
     let held = and_parts (are_alphanumeric s) (are_alphanumeric v) (sym (list_all-append is_alphanumeric s v) ∙ h.alphanumeric) in
-    let letters : stage ≡ Start → (are_letters s ≡ true) × (are_letters v ≡ true) = λ e. and_parts (are_letters s) (are_letters v) (sym (list_all-append is_letter s v) ∙ h.letters e) in (
+    let letters : stage ≡ Start → (are_letters s ≡ true) × (are_letters v ≡ true) =
+    λ e. and_parts (are_letters s) (are_letters v) (sym (list_all-append is_letter s v) ∙ h.letters e) in (
       record { short = omega (arith, len, h.short); alphanumeric = held.0; letters = λ e. (letters e).0 },
       record { short = omega (arith, len, h.short); alphanumeric = held.1; letters = λ e. (letters e).1 },
     )
