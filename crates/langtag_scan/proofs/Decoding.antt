@@ -49,9 +49,6 @@ pending ss es p = record { after = ss; parts = from_extensions es p }
 abbrev pub nothing : Read
 nothing = whole (from_private None)
 
-abbrev first_byte : List ℕ → ℕ
-first_byte s = get_or s 0 0
-
 -- the parts with one subtag before them, which has brought the machine into this stage
 abbrev pub put_part : Stage → List ℕ → List (List ℕ) → Record → Record
 put_part (Language taken) s after r = record r { primary = s }
@@ -59,9 +56,9 @@ put_part (Extended taken) s after r = from_extended (s ∷ r.extended) r.script 
 put_part AfterScript s after r = from_script (Some s) r.region r.variants r.extensions r.private_use
 put_part AfterRegion s after r = from_region (Some s) r.variants r.extensions r.private_use
 put_part AfterVariant s after r = from_variants (s ∷ r.variants) r.extensions r.private_use
-put_part AfterSingleton s after r = from_extensions (record { singleton = first_byte s; subtags = after } ∷ r.extensions) r.private_use
+put_part AfterSingleton s after r = from_extensions (record { singleton = get_or s 0 0; subtags = after } ∷ r.extensions) r.private_use
 put_part InExtension s after r = from_extensions r.extensions r.private_use
-put_part AfterMark s after r = from_private (Some (record { mark = first_byte s; subtags = after }))
+put_part AfterMark s after r = from_private (Some (record { mark = get_or s 0 0; subtags = after }))
 put_part _ s after r = from_private None
 
 abbrev pub put : Stage → List ℕ → Read → Read
@@ -125,8 +122,7 @@ by_part InExtension b = [] ∷ [] ∷ [] ∷ [] ∷ (b.after ++ flat_map extensi
 by_part _ b = [] ∷ [] ∷ [] ∷ [] ∷ [] ∷ b.after ∷ []
 
 pub flatten-add : (after : Stage) (s : List ℕ) (b : Read) → flatten (add (place after) s (by_part after b)) ≡ s ∷ flatten (by_part after b)
-flatten-add Start s b = refl
-flatten-add _ s b = refl
+flatten-add after s b = grind (arith, nat_tests)
 
 -- a subtag is put before those of its part
 pub by_part-put :

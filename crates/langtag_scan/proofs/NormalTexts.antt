@@ -58,23 +58,11 @@ unfolding IsNormal
 normal_from_runs t run =
     let sound = decode_sound (segments t) Start run in
     let r = (decode Start (segments t)).parts in
-    let flat_parts : flat r ≡ segments t = simp append-nil at sound.spells in (
-      r,
-      (
-        record {
-          primary = sound.ready.0;
-          extended = sound.fit.0;
-          few = sound.ready.1;
-          short = sound.ready.2;
-          script = sound.fit.1;
-          region = sound.fit.2;
-          variants = sound.fit.3;
-          extensions = sound.fit.4;
-          private_use = sound.fit.5;
-        },
-        ap join flat_parts ∙ join_with_byte-slice_split 45 t,
-      ),
-    )
+    let ready = sound.ready in
+    let fit = sound.fit in
+    let fits : IsWellFormed r = record { primary = ready.0; extended = fit.0; few = ready.1; short = ready.2; script = fit.1; region = fit.2; variants = fit.3; extensions = fit.4; private_use = fit.5 } in
+    let spells : flat r ≡ segments t = simp append-nil at sound.spells in
+    (r, (fits, ap join spells ∙ join_with_byte-slice_split 45 t))
 
 -- and only there
 pub runs_from_normal : (t : List ℕ) → IsNormal t → runs Start (segments t) ≡ true
