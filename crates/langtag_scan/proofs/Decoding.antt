@@ -71,7 +71,9 @@ unfoldable pub decode : Stage → List (List ℕ) → Read
 decode stage [] = nothing
 decode stage (s ∷ ss) = option_map_or (λ after. put after s (decode after ss)) (next_stage stage s) nothing
 
-pub decode-cons : (stage after : Stage) (s : List ℕ) (ss : List (List ℕ)) → next_stage stage s ≡ Some after → decode stage (s ∷ ss) ≡ put after s (decode after ss)
+pub decode-cons :
+    (stage after : Stage) (s : List ℕ) (ss : List (List ℕ)) → next_stage stage s ≡ Some after →
+    decode stage (s ∷ ss) ≡ put after s (decode after ss)
 unfolding decode
 decode-cons stage after s ss next = rw next refl
 
@@ -153,20 +155,15 @@ FitParts r =
     × AllByRecursion IsWellFormedExtension r.extensions
     × IfSome r.private_use IsWellFormedPrivateUse
 
-FitParts-put : (after : Stage) (s : List ℕ) (b : Read) → leads_to after (classes_of s) ≡ true → Ready after b → FitParts b.parts → FitParts (put after s b).parts
+FitParts-put :
+    (after : Stage) (s : List ℕ) (b : Read) → leads_to after (classes_of s) ≡ true → Ready after b → FitParts b.parts →
+    FitParts (put after s b).parts
 FitParts-put after s b class ready fit = grind (arith, nat_tests, class, ready, fit)
-
--- extended subtags stand after a primary one where it leaves places for them
-few_after :
-    (s : List ℕ) (taken : ℕ) (xs : List (List ℕ)) → leads_to (Language taken) (classes_of s) ≡ true → length xs ≤ 3 - taken →
-    IsTrue (is_primary s) × (length xs ≤ 3) × ((length s ≤ 3) ⊎ (xs ≡ []))
-few_after s taken xs class few = grind (arith, nat_tests, nil_from_length)
 
 Ready-put :
     (stage after : Stage) (s : List ℕ) (b : Read) → may_follow stage after ≡ true → leads_to after (classes_of s) ≡ true →
     Ready after b → Ready stage (put after s b)
-Ready-put Start (Language taken) s b follows class ready = few_after s taken b.parts.extended class ready
-Ready-put stage after s b follows class ready = grind (arith, nat_tests, follows, class, ready)
+Ready-put stage after s b follows class ready = grind (arith, nat_tests, nil_from_length, follows, class, ready)
 
 -- what is decoded is well formed, and spelled so
 pub record IsSound (stage : Stage) (ss : List (List ℕ)) (b : Read) : Type 0 where
