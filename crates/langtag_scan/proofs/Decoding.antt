@@ -49,9 +49,6 @@ pending ss es p = record { after = ss; parts = from_extensions es p }
 abbrev pub nothing : Read
 nothing = whole (from_private None)
 
-abbrev first_byte : List ℕ → ℕ
-first_byte s = get_or s 0 0
-
 -- the parts with one subtag before them, which has brought the machine into this stage
 abbrev pub put_part : Stage → List ℕ → List (List ℕ) → Record → Record
 put_part (Language taken) s after r = record r { primary = s }
@@ -59,9 +56,9 @@ put_part (Extended taken) s after r = from_extended (s ∷ r.extended) r.script 
 put_part AfterScript s after r = from_script (Some s) r.region r.variants r.extensions r.private_use
 put_part AfterRegion s after r = from_region (Some s) r.variants r.extensions r.private_use
 put_part AfterVariant s after r = from_variants (s ∷ r.variants) r.extensions r.private_use
-put_part AfterSingleton s after r = from_extensions (record { singleton = first_byte s; subtags = after } ∷ r.extensions) r.private_use
+put_part AfterSingleton s after r = from_extensions (record { singleton = get_or s 0 0; subtags = after } ∷ r.extensions) r.private_use
 put_part InExtension s after r = from_extensions r.extensions r.private_use
-put_part AfterMark s after r = from_private (Some (record { mark = first_byte s; subtags = after }))
+put_part AfterMark s after r = from_private (Some (record { mark = get_or s 0 0; subtags = after }))
 put_part _ s after r = from_private None
 
 abbrev pub put : Stage → List ℕ → Read → Read
@@ -74,7 +71,9 @@ unfoldable pub decode : Stage → List (List ℕ) → Read
 decode stage [] = nothing
 decode stage (s ∷ ss) = option_map_or (λ after. put after s (decode after ss)) (next_stage stage s) nothing
 
-pub decode-cons : (stage after : Stage) (s : List ℕ) (ss : List (List ℕ)) → next_stage stage s ≡ Some after → decode stage (s ∷ ss) ≡ put after s (decode after ss)
+pub decode-cons :
+    (stage after : Stage) (s : List ℕ) (ss : List (List ℕ)) → next_stage stage s ≡ Some after →
+    decode stage (s ∷ ss) ≡ put after s (decode after ss)
 unfolding decode
 decode-cons stage after s ss next = rw next refl
 
@@ -125,8 +124,7 @@ by_part InExtension b = [] ∷ [] ∷ [] ∷ [] ∷ (b.after ++ flat_map extensi
 by_part _ b = [] ∷ [] ∷ [] ∷ [] ∷ [] ∷ b.after ∷ []
 
 pub flatten-add : (after : Stage) (s : List ℕ) (b : Read) → flatten (add (place after) s (by_part after b)) ≡ s ∷ flatten (by_part after b)
-flatten-add Start s b = refl
-flatten-add _ s b = refl
+flatten-add after s b = grind (arith, nat_tests)
 
 -- a subtag is put before those of its part
 pub by_part-put :
@@ -157,20 +155,15 @@ FitParts r =
     × AllByRecursion IsWellFormedExtension r.extensions
     × IfSome r.private_use IsWellFormedPrivateUse
 
-FitParts-put : (after : Stage) (s : List ℕ) (b : Read) → leads_to after (classes_of s) ≡ true → Ready after b → FitParts b.parts → FitParts (put after s b).parts
+FitParts-put :
+    (after : Stage) (s : List ℕ) (b : Read) → leads_to after (classes_of s) ≡ true → Ready after b → FitParts b.parts →
+    FitParts (put after s b).parts
 FitParts-put after s b class ready fit = grind (arith, nat_tests, class, ready, fit)
-
--- extended subtags stand after a primary one where it leaves places for them
-few_after :
-    (s : List ℕ) (taken : ℕ) (xs : List (List ℕ)) → leads_to (Language taken) (classes_of s) ≡ true → length xs ≤ 3 - taken →
-    IsTrue (is_primary s) × (length xs ≤ 3) × ((length s ≤ 3) ⊎ (xs ≡ []))
-few_after s taken xs class few = grind (arith, nat_tests, nil_from_length)
 
 Ready-put :
     (stage after : Stage) (s : List ℕ) (b : Read) → may_follow stage after ≡ true → leads_to after (classes_of s) ≡ true →
     Ready after b → Ready stage (put after s b)
-Ready-put Start (Language taken) s b follows class ready = few_after s taken b.parts.extended class ready
-Ready-put stage after s b follows class ready = grind (arith, nat_tests, follows, class, ready)
+Ready-put stage after s b follows class ready = grind (arith, nat_tests, nil_from_length, follows, class, ready)
 
 -- what is decoded is well formed, and spelled so
 pub record IsSound (stage : Stage) (ss : List (List ℕ)) (b : Read) : Type 0 where

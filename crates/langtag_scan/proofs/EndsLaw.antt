@@ -22,16 +22,13 @@ use Rattle.langtag_scan.proofs.Steps.{place, places, next_step}
 -- ---- the ends by the lengths of parts
 
 -- the length of these subtags, each after a hyphen
-unfoldable weight : List (List ℕ) → ℕ
-weight ss = length (hyphenated ss)
+abbrev weight : List (List ℕ) → ℕ
+weight [] = 0
+weight (s ∷ ss) = 1 + length s + weight ss
 
-weight-nil : weight [] ≡ 0
-unfolding weight
-weight-nil = refl
-
-weight-cons : (s : List ℕ) (ss : List (List ℕ)) → weight (s ∷ ss) ≡ 1 + length s + weight ss
-unfolding weight
-weight-cons s ss = omega (arith, length-append s (hyphenated ss))
+weight-hyphenated : (ss : List (List ℕ)) → weight ss ≡ length (hyphenated ss)
+weight-hyphenated [] = refl
+weight-hyphenated (s ∷ ss) = omega (arith, length-append s (hyphenated ss), weight-hyphenated ss)
 
 -- that of so many of these parts
 abbrev weigh : ℕ → List (List (List ℕ)) → ℕ
@@ -69,12 +66,12 @@ AreLater-add :
     (after : Stage) (d e : Ends) (s : List ℕ) (b : Read) → AreOpen (place after) e →
     AreLater d (end_at after (e.whole + (1 + length s)) e) (by_part after b) → AreLater d e (add (place after) s (by_part after b))
 AreLater-add after d e s b o later = (
-  later.0 ∙ grind (arith, nat_tests, weight-nil, weight-cons, o.0),
-  later.1 ∙ grind (arith, nat_tests, weight-nil, weight-cons, o.1),
-  later.2 ∙ grind (arith, nat_tests, weight-nil, weight-cons, o.2),
-  later.3 ∙ grind (arith, nat_tests, weight-nil, weight-cons, o.3),
-  later.4 ∙ grind (arith, nat_tests, weight-nil, weight-cons, o.4),
-  later.5 ∙ grind (arith, nat_tests, weight-nil, weight-cons),
+  later.0 ∙ grind (arith, nat_tests, o.0),
+  later.1 ∙ grind (arith, nat_tests, o.1),
+  later.2 ∙ grind (arith, nat_tests, o.2),
+  later.3 ∙ grind (arith, nat_tests, o.3),
+  later.4 ∙ grind (arith, nat_tests, o.4),
+  later.5 ∙ grind (arith, nat_tests),
 )
 
 AreRight : Stage → List (List ℕ) → Type 0
@@ -83,7 +80,7 @@ AreRight stage ss =
 
 none_right : (stage : Stage) → may_end stage ≡ true → AreRight stage []
 unfolding AreRight ends_after decode
-none_right stage ends e inside o = grind (arith, nat_tests, weight-nil, ends)
+none_right stage ends e inside o = grind (arith, nat_tests, ends)
 
 more_right : (stage after : Stage) (s : List ℕ) (ss : List (List ℕ)) → next_stage stage s ≡ Some after → AreRight after ss → AreRight stage (s ∷ ss)
 unfolding AreRight
@@ -98,15 +95,14 @@ more_right stage after s ss next right e inside o =
 
 -- the ends of a record are that of its primary subtag, and later ones
 ends_of-later : (d : Ends) (r : Record) → AreLater d (all_at (length r.primary)) (blocks r.extended r) → d ≡ ends_of r
-unfolding weight
 ends_of-later d r later =
     ends_equal d (ends_of r)
-    (later.0 ∙ simp length-join (omega arith))
-    (later.1 ∙ simp (length-join, length-hyphenated) (omega arith))
-    (later.2 ∙ simp (length-join, length-hyphenated) (omega arith))
-    (later.3 ∙ simp (length-join, length-hyphenated) (omega arith))
-    (later.4 ∙ simp (length-join, length-hyphenated) (omega arith))
-    (later.5 ∙ simp (length-join, length-hyphenated) (omega arith))
+    (later.0 ∙ simp (weight-hyphenated, length-join) (omega arith))
+    (later.1 ∙ simp (weight-hyphenated, length-join, length-hyphenated) (omega arith))
+    (later.2 ∙ simp (weight-hyphenated, length-join, length-hyphenated) (omega arith))
+    (later.3 ∙ simp (weight-hyphenated, length-join, length-hyphenated) (omega arith))
+    (later.4 ∙ simp (weight-hyphenated, length-join, length-hyphenated) (omega arith))
+    (later.5 ∙ simp (weight-hyphenated, length-join, length-hyphenated) (omega arith))
 
 -- after all subtags of a well-formed record the ends are those of its parts
 pub ends_after-flat : (r : Record) → IsWellFormed r → ends_after Start (all_at 0) (flat r) ≡ ends_of r

@@ -49,14 +49,11 @@ length-join-append x xs ys = ap length (join-append x xs ys) ∙ length-append (
 
 -- ---- a text that is cut in two
 
-take_cut : (whole prefix rest : List ℕ) (n : ℕ) → whole ≡ prefix ++ rest → n ≡ length prefix → take n whole ≡ prefix
-take_cut whole prefix rest n cut at = rw (cut, at) (take_at prefix rest (length prefix) refl)
-
 drop_cut : (whole prefix rest : List ℕ) (n : ℕ) → whole ≡ prefix ++ rest → n ≡ length prefix → drop n whole ≡ rest
 drop_cut whole prefix rest n cut at = rw (cut, at) (drop_at prefix rest (length prefix) refl)
 
 pub take-join : (x : List ℕ) (xs ys : List (List ℕ)) → take (length (join (x ∷ xs))) (join (x ∷ (xs ++ ys))) ≡ join (x ∷ xs)
-take-join x xs ys = take_cut (join (x ∷ (xs ++ ys))) (join (x ∷ xs)) (hyphenated ys) (length (join (x ∷ xs))) (join-append x xs ys) refl
+take-join x xs ys = rw (join-append x xs ys) (take_at (join (x ∷ xs)) (hyphenated ys) (length (join (x ∷ xs))) refl)
 
 pub drop-join : (x : List ℕ) (xs ys : List (List ℕ)) → drop (length (join (x ∷ xs))) (join (x ∷ (xs ++ ys))) ≡ hyphenated ys
 drop-join x xs ys = drop_cut (join (x ∷ (xs ++ ys))) (join (x ∷ xs)) (hyphenated ys) (length (join (x ∷ xs))) (join-append x xs ys) refl

@@ -11,7 +11,7 @@ use Rattle.langtag_scan.specs.Stage.{classes_of, is_one, after_stage}
 use Rattle.langtag_scan.specs.Subtags.{join, segments}
 use Rattle.langtag_scan.specs.Tag.{IsNormal}
 use Rattle.langtag_scan.proofs.Steps.{leads_to, after_class, next_step}
-use Rattle.langtag_scan.proofs.Decoding.{decode, decode_sound, over_run}
+use Rattle.langtag_scan.proofs.Decoding.{Read, Ready, FitParts, decode, decode_sound, over_run}
 use Rattle.langtag_scan.proofs.Complete.{decode_complete, flat_once}
 use Rattle.langtag_scan.proofs.SubtagFacts.{IsSubtag, of_primary, of_extended, of_script, of_region, of_variant, of_extension_subtag, of_private_subtag, of_one, of_mark, singleton_alphanumeric}
 use Rattle.langtag_scan.proofs.SubtagLists.{segments-joined}
@@ -52,29 +52,18 @@ spelled_segments r fits = segments-joined r.primary _ (flat_subtags r fits)
 pub spelled_once : (r q : Record) → IsWellFormed r → IsWellFormed q → spell r ≡ spell q → r ≡ q
 spelled_once r q fits fit e = flat_once r q fits fit (sym (spelled_segments r fits) ∙ ap segments e ∙ spelled_segments q fit)
 
+well_formed : (b : Read) → Ready Start b → FitParts b.parts → IsWellFormed b.parts
+well_formed b m k =
+    record { primary = m.0; extended = k.0; few = m.1; short = m.2; script = k.1; region = k.2; variants = k.3; extensions = k.4; private_use = k.5 }
+
 -- a text is normal where its segments may follow one another
 pub normal_from_runs : (t : List ℕ) → runs Start (segments t) ≡ true → IsNormal t
 unfolding IsNormal
 normal_from_runs t run =
     let sound = decode_sound (segments t) Start run in
-    let r = (decode Start (segments t)).parts in
-    let flat_parts : flat r ≡ segments t = simp append-nil at sound.spells in (
-      r,
-      (
-        record {
-          primary = sound.ready.0;
-          extended = sound.fit.0;
-          few = sound.ready.1;
-          short = sound.ready.2;
-          script = sound.fit.1;
-          region = sound.fit.2;
-          variants = sound.fit.3;
-          extensions = sound.fit.4;
-          private_use = sound.fit.5;
-        },
-        ap join flat_parts ∙ join_with_byte-slice_split 45 t,
-      ),
-    )
+    let b = decode Start (segments t) in
+    let spells : flat b.parts ≡ segments t = simp append-nil at sound.spells in
+    (b.parts, (well_formed b sound.ready sound.fit, ap join spells ∙ join_with_byte-slice_split 45 t))
 
 -- and only there
 pub runs_from_normal : (t : List ℕ) → IsNormal t → runs Start (segments t) ≡ true

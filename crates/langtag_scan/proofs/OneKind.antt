@@ -1,8 +1,8 @@
 -- No text is of two of the three cases of a tag.
 use Rattle.std.proofs.Common.{◌≡◌, ℕ, ◌<◌, Bool, true, false, not, List, [], ◌∷◌, length, map, refl, sym, ap, ◌∙◌, arith}
 use Rattle.std.specs.List.{list_all}
-use Rattle.std.proofs.lemmas.Bool.{not-true, true_from_ne_false, both_ways}
-use Rattle.std.proofs.lemmas.List.Folds.{list_all_at}
+use Rattle.std.proofs.lemmas.Bool.{not-true, both_ways}
+use Rattle.std.proofs.lemmas.List.Sums.{AllPass-from_list_all}
 use Rattle.langtag_scan.specs.declared.stage.Stage.TheVariants.{Start}
 use Rattle.langtag_scan.specs.Case.{fold_byte, fold_text}
 use Rattle.langtag_scan.specs.Class.{is_letter, is_digit, is_primary, is_extended, is_script, is_region, is_variant, is_extension_subtag, is_private_subtag, is_mark, is_singleton}
@@ -34,9 +34,7 @@ none_passes test = list_all (λ text. not (test (segments text))) folded_texts
 
 -- it fails at each index of the table
 fails_at : (test : List (List ℕ) → Bool) → none_passes test ≡ true → (k : ℕ) → k < length folded_texts → test (segments (folded_at k)) ≡ false
-fails_at test none k lt =
-    let wrong : List ℕ → Bool = λ text. not (test (segments text)) in
-    not-true _ (true_from_ne_false (wrong (folded_at k)) (λ e. both_ways (list_all wrong folded_texts) (list_all_at wrong folded_texts k [] lt e) none))
+fails_at test none k lt = not-true _ (AllPass-from_list_all (λ text. not (test (segments text))) folded_texts none k [] lt)
 
 -- there are seventeen
 seventeen : length folded_texts ≡ 17

@@ -64,8 +64,6 @@ may_follow AfterSingleton InExtension = true
 may_follow InExtension InExtension = true
 may_follow AfterMark InPrivate = true
 may_follow InPrivate InPrivate = true
-may_follow AfterFirstMark after = false
-may_follow InPrivateTag after = false
 may_follow stage after = opens_from (next_part stage) after
 
 -- the parts do not go back
