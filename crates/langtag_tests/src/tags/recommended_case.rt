@@ -191,6 +191,7 @@ fn bytes_that_are_no_tags_keep_what_is_no_letter(rt: HostRuntime) {
             assert_same!(rt; text.as_slice(), recommended, bytes);
             assert_same!(rt; is_in_recommended_case(bytes), bytes == recommended, bytes);
             assert_that!(rt; is_in_recommended_case(recommended), bytes);
+            assert_same!(rt; RecommendedBytes::new(bytes).count(), bytes.len(), bytes);
             let mut walk = RecommendedBytes::new(bytes);
             for byte in recommended {
                 assert_same!(rt; walk.next(), Some(*byte), bytes);
