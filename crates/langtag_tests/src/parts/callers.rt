@@ -1,5 +1,6 @@
 //! The types as a caller uses them: refusals handed on by `?`, `.ok()?`, and closures over slices of values.
 use crate::support::{assert_same, assert_that, with_memory};
+use langtag_extension::{ExtensionSubtag, Extensions, Singleton};
 use langtag_language::{ExtendedLangTag, InvalidLanguage, Language, LanguageBuf};
 use langtag_place::{InvalidVariants, Region, Variants, VariantsBuf};
 use langtag_private::{InvalidPrivateUse, PrivateUse, PrivateUseBuf};
@@ -49,6 +50,30 @@ fn refusals_are_handed_on(rt: HostRuntime) {
     assert_same!(rt; variants_of("1994-").expect_err(&rt, "accepted").0, "1994-");
     assert_same!(rt; region_text("419"), Some("419"));
     assert_same!(rt; region_text("4a9"), None);
+}
+
+/// A clone has the very text, with its case, which `==` does not see.
+#[test]
+fn clones_have_the_same_text(rt: HostRuntime) {
+    with_memory(&rt, || {
+        let language = Language::new("zh-Min").expect(&rt, "refused");
+        assert_same!(rt; language.clone()?.as_str(), "zh-Min");
+        let region = Region::new("Fr").expect(&rt, "refused");
+        assert_same!(rt; region.clone()?.as_str(), "Fr");
+        let subtag = ExtensionSubtag::new("Co").expect(&rt, "refused");
+        assert_same!(rt; subtag.clone()?.as_str(), "Co");
+        let singleton = Singleton::new(b'U').expect(&rt, "refused");
+        assert_same!(rt; singleton.clone()?.unwrap(), b'U');
+        let part = PrivateUse::new("x-Twain").expect(&rt, "refused");
+        assert_same!(rt; part.clone()?.as_str(), "x-Twain");
+        Ok(())
+    });
+}
+
+#[test]
+fn defaults_are_empty(rt: HostRuntime) {
+    assert_same!(rt; Variants::default().as_str(), "");
+    assert_same!(rt; Extensions::default().as_str(), "");
 }
 
 #[test]

@@ -1,7 +1,9 @@
 //! How tags of every kind and normal ones are shown, kept and compared (RFC 5646 section 2.1.1).
 use crate::scan::case::Calls;
 use crate::support::{assert_compared, assert_same, assert_that, text_type, with_memory};
-use langtag::{EditError, Kind, LangTag, LangTagBuf, NormalLangTag, NormalLangTagBuf};
+use langtag::{
+    EditError, GrandfatheredLangTag, Kind, LangTag, LangTagBuf, NormalLangTag, NormalLangTagBuf,
+};
 use std::alloc::AllocError;
 use std::cmp::Ordering;
 use std::hash::Hash;
@@ -100,6 +102,25 @@ fn tags_feed_their_small_letters(rt: HostRuntime) {
     });
 }
 
+/// A clone has the very text, with its case, which `==` does not see, and is of the same kind.
+#[test]
+fn clones_have_the_same_text(rt: HostRuntime) {
+    with_memory(&rt, || {
+        for text in ["Fr-ca", "X-a", "I-Ami"] {
+            let tags = [LangTag::new(text).ok().expect(&rt, "refused")];
+            for copy in tags.iter().cloned() {
+                assert_same!(rt; copy.as_str(), text);
+                assert_same!(rt; copy.kind().clone()?, tags[0].kind(), text);
+                assert_that!(rt; copy.as_typed().clone()? == tags[0].as_typed(), text);
+            }
+        }
+        let tag = NormalLangTag::new("Fr-ca").ok().expect(&rt, "refused");
+        assert_same!(rt; tag.clone()?.as_str(), "Fr-ca");
+        assert_that!(rt; GrandfatheredLangTag::ILux.clone()? == GrandfatheredLangTag::ILux);
+        Ok(())
+    });
+}
+
 #[test]
 fn kinds_are_shown_and_ordered(rt: HostRuntime) {
     with_memory(&rt, || {
@@ -146,6 +167,20 @@ fn refused_edits_are_shown(rt: HostRuntime) {
         ] {
             assert_eq!(rt; error.to_string(rt.alloc())?.as_str(), words);
             assert_eq!(rt; format!(in rt.alloc(); "{error:?}")?.as_str(), debug);
+        }
+        Ok(())
+    });
+}
+
+#[test]
+fn refused_edits_are_equal_where_they_are_the_same(rt: HostRuntime) {
+    with_memory(&rt, || {
+        let errors = [EditError::NotNormal, EditError::Memory(AllocError)];
+        for (at, error) in errors.iter().enumerate() {
+            for (other_at, other) in errors.iter().enumerate() {
+                assert_same!(rt; error == other, at == other_at, (at, other_at));
+                assert_same!(rt; error.clone()? == *other, at == other_at, (at, other_at));
+            }
         }
         Ok(())
     });

@@ -1,7 +1,7 @@
 //! The case that RFC 5646 section 2.1.1 recommends.
 use crate::scan::answer::Answer;
 use crate::scan::rows::{self, Row};
-use crate::support::{assert_same, assert_that, with_memory};
+use crate::support::{assert_exact, assert_same, assert_that, with_memory};
 use crate::tags::parts::{normal, part_texts};
 use langtag::{
     GRANDFATHERED, InRecommendedCase, InvalidLangTag, LangTag, NormalLangTagBuf, RecommendedBytes,
@@ -66,7 +66,7 @@ pub(super) fn is_recommended(
         Ok(copy) => copy,
         Err(AllocError) => tag.try_to_recommended_case(alloc)?,
     };
-    assert_same!(rt; copy.into_string().as_str(), recommended, text);
+    assert_exact(rt, copy.into_string(), recommended);
     Ok(())
 }
 
@@ -89,7 +89,7 @@ pub(super) fn is_recommended_as_normal(
         Ok(copy) => copy,
         Err(AllocError) => tag.try_to_recommended_case(alloc)?,
     };
-    assert_same!(rt; copy.into_string().as_str(), recommended, text);
+    assert_exact(rt, copy.into_string(), recommended);
     Ok(())
 }
 
