@@ -88,7 +88,8 @@ fn known(tags: &[LangTag<'_>]) -> usize
     tags.iter().filter(|tag| !tag.eq_str("en")).count()
 }
 
-/// Whether the bytes are a header that can be read, and memory could be had for it. The tag for it is looked up among twenty.
+/// Whether the bytes are a header that can be read, and memory could be had for it. The tag for it is looked up among
+/// twenty.
 #[unsafe(no_mangle)]
 pub extern "C" fn langtag_bench_tag_for_header(alloc: Global, header: &[u8]) -> bool
     ensures { IsTrue result → (ordered : List WeightedRange) × AreAccepted header.now ordered }

@@ -7,8 +7,8 @@ use crate::recommended_bytes::{RecommendedBytes, is_in_recommended_case};
 use std::fmt;
 
 /// A text of ASCII, as each tag is, that is displayed in the case that RFC 5646 section 2.1.1 recommends: `{shown}` prints
-/// `mn-Cyrl-MN` of `MN-cYRL-mn`. No memory is taken. A text that is in that case already is written in one piece, any other one
-/// a byte at a time.
+/// `mn-Cyrl-MN` of `MN-cYRL-mn`. No memory is taken. A text that is in that case already is written in one piece, any
+/// other one a byte at a time.
 #[derive(Clone, Copy, Debug)]
 pub struct InRecommendedCase<'a> {
     text: &'a str,

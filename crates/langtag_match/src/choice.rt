@@ -10,8 +10,9 @@ use langtag::LangTag;
 /// The tag of the first range that finds one, or the default (RFC 4647 section 3.4). A range finds the tag that it is, or
 /// else the first of its [`fallbacks`](LanguageRange::fallbacks) that is one of the tags.
 ///
-/// For the ranges `nl` and `zh-Hant-CN` it is `nl` where the tags have it, else `zh-Hant-CN`, `zh-Hant` or `zh`, and else the default.
-/// It is meant for basic ranges: a `*` equals the subtag of no tag, so `*` alone finds none, and the next range is looked up.
+/// For the ranges `nl` and `zh-Hant-CN` it is `nl` where the tags have it, else `zh-Hant-CN`, `zh-Hant` or `zh`, and else
+/// the default. It is meant for basic ranges: a `*` equals the subtag of no tag, so `*` alone finds none, and the next range
+/// is looked up.
 pub fn look_up<'a>(
     ranges: &[LanguageRange<'_>],
     tags: &[LangTag<'a>],

@@ -19,8 +19,8 @@ pub struct WeightedRange<'a> {
     /// The range: one of [`AcceptLanguage::ranges`](crate::AcceptLanguage::ranges) is a basic one, with the case that it has
     /// in the header.
     pub range: LanguageRange<'a>,
-    /// The weight in thousandths: of a range of [`AcceptLanguage::ranges`](crate::AcceptLanguage::ranges) it is from 1 to 1000,
-    /// since ranges of the weight 0 are left out.
+    /// The weight in thousandths: of a range of [`AcceptLanguage::ranges`](crate::AcceptLanguage::ranges) it is from 1 to
+    /// 1000, since ranges of the weight 0 are left out.
     pub weight: u32,
 }
 
