@@ -7,7 +7,7 @@ use Rattle.langtag_scan.specs.declared.finding.Finding.{Finding}
 use Rattle.langtag_scan.specs.declared.finding.Finding.TheVariants as found_at
 use Rattle.langtag_scan.proofs.CaseLaw.{alike_normal, alike_private, alike_irregular}
 use Rattle.langtag_scan.proofs.FoundLaws.{tag_found, normal_found, private_found, found_had}
-use Rattle.langtag_scan.proofs.IrregularNames.{irregular_fold}
+use Rattle.langtag_scan.proofs.IrregularTexts.{irregular_fold}
 use Rattle.langtag_scan.proofs.SpelledTexts.{offsets_kept}
 use Rattle.langtag_private.proofs.Rules.{IsPrivate-from_test}
 use Rattle.langtag.specs.Kinds.{IsOfKind, AreOfOneKind}

@@ -15,7 +15,7 @@ use Rattle.langtag_scan.specs.Record.{flat, private_use_flat}
 use Rattle.langtag_scan.specs.Subtags.{join}
 use Rattle.langtag_scan.specs.Tag.{IsNormal, IsPrivate, IsIrregular, IsTag}
 use Rattle.langtag_scan.proofs.CaseLaw.{all-fold}
-use Rattle.langtag_scan.proofs.IrregularNames.{irregular_fold}
+use Rattle.langtag_scan.proofs.IrregularTexts.{irregular_fold}
 use Rattle.langtag_scan.proofs.NormalTexts.{flat_subtags}
 use Rattle.langtag_scan.proofs.SubtagFacts.{IsSubtag, of_private_subtag, of_one, mark_alphanumeric}
 use Rattle.langtag_scan.proofs.SubtagLists.{each_subtag}

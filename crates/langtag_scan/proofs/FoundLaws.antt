@@ -11,7 +11,7 @@ use Rattle.langtag_scan.specs.Tag.{IsNormal, IsPrivate, IsIrregularAt, IsIrregul
 use Rattle.langtag_scan.specs.declared.ends.Ends.{Ends}
 use Rattle.langtag_scan.specs.declared.finding.Finding.{Finding}
 use Rattle.langtag_scan.specs.declared.finding.Finding.TheVariants.{Normal, PrivateUse, Irregular}
-use Rattle.langtag_scan.proofs.IrregularNames.{irregular_fold, irregular_from_fold}
+use Rattle.langtag_scan.proofs.IrregularTexts.{irregular_fold, irregular_from_fold}
 use Rattle.langtag_scan.proofs.OneKind.{normal_no_private, normal_no_irregular, private_no_irregular}
 use Rattle.langtag_scan.proofs.PrivateTexts.{runs_from_private, private_from_runs}
 use Rattle.langtag_scan.proofs.SpelledTexts.{ends_had, normal_from_ends}

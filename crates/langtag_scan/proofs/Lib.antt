@@ -9,16 +9,16 @@ pub mod CaseOrder
 mod ShapeLaws
 mod Running
 mod Outcomes
-mod Unnamed
+mod NoCandidates
 mod Filling
 mod PrivateTexts
 mod Steps
 mod StageLaws
 mod ReadingLaws
 mod EndsLaw
-pub mod IrregularNames
-mod NamesByLength
-mod NameRanges
+pub mod IrregularTexts
+mod CandidatesByLength
+mod CandidateRanges
 pub mod TagLaws
 mod RecogniserLaws
 mod FillLaw

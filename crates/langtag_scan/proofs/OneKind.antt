@@ -13,7 +13,7 @@ use Rattle.langtag_scan.specs.Tag.{IsNormal, IsPrivate, IsIrregular}
 use Rattle.langtag_scan.proofs.NormalTexts.{runs_from_normal}
 use Rattle.langtag_scan.proofs.PrivateTexts.{runs_private, runs_from_private, one_no_primary}
 use Rattle.langtag_scan.proofs.CaseLaw.{runs-fold, runs_private-fold, segments_test-fold}
-use Rattle.langtag_scan.proofs.IrregularNames.{irregular_fold}
+use Rattle.langtag_scan.proofs.IrregularTexts.{irregular_fold}
 use Rattle.langtag_scan.proofs.Runs.{runs}
 
 -- no subtags are those of a normal text and of a private one

@@ -8,7 +8,7 @@ use Rattle.std.specs.List.{between}
 use Rattle.langtag_scan.specs.Case.{fold_byte}
 use Rattle.langtag_scan.specs.Class.{is_letter, are_letters, is_primary, is_mark}
 use Rattle.langtag_scan.specs.Machine.{IsBegun, all_at, end_at, index_after, outcome, outcome_of, Reads, HasStopped, IsRefused}
-use Rattle.langtag_scan.specs.Names.{IsUnnamed}
+use Rattle.langtag_scan.specs.Candidates.{HasNoCandidate}
 use Rattle.langtag_scan.specs.Shape.{shape_of, classes_of_shape}
 use Rattle.langtag_scan.specs.Stage.{after_stage, after_by}
 use Rattle.langtag_scan.specs.Subtags.{segments}
@@ -17,7 +17,7 @@ use Rattle.langtag_scan.specs.Tracking.{Tracks, IsDecided, IsKept, IsReading, Is
 use Rattle.langtag_scan.specs.Viable.{IsViable, filling}
 use Rattle.langtag_scan.specs.declared.ends.Ends.{Ends}
 use Rattle.langtag_scan.specs.declared.finding.Finding.{Finding}
-use Rattle.langtag_scan.specs.declared.irregular.Names.{Names}
+use Rattle.langtag_scan.specs.declared.irregular.Candidates.{Candidates}
 use Rattle.langtag_scan.specs.declared.machine.Machine.{Machine}
 use Rattle.langtag_scan.specs.declared.shape.Shape.{Shape}
 use Rattle.langtag_scan.specs.declared.stage.Stage.{Stage}
@@ -25,7 +25,7 @@ use Rattle.langtag_scan.specs.declared.stage.Stage.TheVariants.{Start}
 use Rattle.langtag_scan.proofs.CaseLaw.{is_mark-fold}
 use Rattle.langtag_scan.proofs.Filling.{filled_found}
 use Rattle.langtag_scan.proofs.FoundLaws.{tag_found}
-use Rattle.langtag_scan.proofs.NamesByLength.{not_viable}
+use Rattle.langtag_scan.proofs.CandidatesByLength.{not_viable}
 use Rattle.langtag_scan.proofs.NormalTexts.{after_subtag}
 use Rattle.langtag_scan.proofs.Outcomes.{Decides, decided}
 use Rattle.langtag_scan.proofs.PrivateTexts.{one_no_primary}
@@ -34,7 +34,7 @@ use Rattle.langtag_scan.proofs.Running.{begun_push, first_kind, found_after, seg
 use Rattle.langtag_scan.proofs.ShapeLaws.{shape, IsFirst, IsHeld, shape_nothing, shape_pushed, after_stage-shape}
 use Rattle.langtag_scan.proofs.StageLaws.{starting, after_not_start, index_after-length, index_after-end}
 use Rattle.langtag_scan.proofs.TagLaws.{viable_from_tag}
-use Rattle.langtag_scan.proofs.Unnamed.{unnamed-append, unnamed_first, unnamed_begun, unnamed_letters, irregular_nine}
+use Rattle.langtag_scan.proofs.NoCandidates.{no_candidate-append, no_candidate_first, no_candidate_begun, no_candidate_letters, irregular_nine}
 
 -- before the first byte
 pub reads_nothing : Reads [] Start (all_at 0)
@@ -60,15 +60,15 @@ no_i m marked same =
     let no_mark : is_mark (fold_byte m) ≡ false = ap is_mark same in
     both_ways (is_mark (fold_byte m)) no_mark (is_mark-fold m ∙ marked)
 
-first_unnamed : (s : List ℕ) (after : Stage) → are_letters s ≡ true → after_stage Start s ≡ Some after → IsUnnamed (s ++ 45 ∷ [])
+first_no_candidate : (s : List ℕ) (after : Stage) → are_letters s ≡ true → after_stage Start s ≡ Some after → HasNoCandidate (s ++ 45 ∷ [])
 unfolding is_letter
-first_unnamed (m ∷ []) after letters next =
+first_no_candidate (m ∷ []) after letters next =
     elim (first_kind (m ∷ []) after next) [
       | inl primary ↦ let none : is_primary (m ∷ []) ≡ false = one_no_primary m in absurd cc
-      | inr marked ↦ unnamed-append (m ∷ []) (45 ∷ []) (unnamed_first m (no_i m marked))
+      | inr marked ↦ no_candidate-append (m ∷ []) (45 ∷ []) (no_candidate_first m (no_i m marked))
     ]
-first_unnamed [] after letters next = unnamed_begun [] 45 letters (λ none. refl) (λ one. absurd (omega (arith, one)))
-first_unnamed (m ∷ c ∷ s) after letters next = unnamed_begun (m ∷ c ∷ s) 45 letters (λ none. refl) (λ one. absurd (omega (arith, one)))
+first_no_candidate [] after letters next = no_candidate_begun [] 45 letters (λ none. refl) (λ one. absurd (omega (arith, one)))
+first_no_candidate (m ∷ c ∷ s) after letters next = no_candidate_begun (m ∷ c ∷ s) 45 letters (λ none. refl) (λ one. absurd (omega (arith, one)))
 
 -- ---- the bytes of another subtag
 
@@ -89,8 +89,8 @@ module _ {p s q : List ℕ} {n : ℕ} {stage : Stage} {e : Ends} (k : IsPartRead
   starts : stage ≡ Start → s ≡ q
   starts start = ap (λ x. x ++ s) (sym (k.reads.first start)) ∙ k.split
 
-  later : (stage ≡ Start → ⊥) → IsUnnamed q
-  later past = subst IsUnnamed k.split (unnamed-append p s (k.reads.later past))
+  later : (stage ≡ Start → ⊥) → HasNoCandidate q
+  later past = subst HasNoCandidate k.split (no_candidate-append p s (k.reads.later past))
 
   -- with its last subtag filled it is a tag
   pub reads_filled : IsTag (q ++ filling s)
@@ -103,14 +103,14 @@ module _ {p s q : List ℕ} {n : ℕ} {stage : Stage} {e : Ends} (k : IsPartRead
 
   -- no irregular text that begins with `i` goes on so: neither with a first byte that is no letter, nor with a second one
   -- that is no hyphen
-  unnamed_push : (b : ℕ) → (s ≡ [] → stage ≡ Start → is_letter b ≡ false) → (n ≡ 1 → eqb b 45 ≡ false) → IsUnnamed (q ++ b ∷ [])
-  unnamed_push b first second =
+  no_candidate_push : (b : ℕ) → (s ≡ [] → stage ≡ Start → is_letter b ≡ false) → (n ≡ 1 → eqb b 45 ≡ false) → HasNoCandidate (q ++ b ∷ [])
+  no_candidate_push b first second =
       elim (starting stage) [
         | inl start ↦
             let all = starts start in
-            subst (λ x. IsUnnamed (x ++ b ∷ [])) all
-            (unnamed_begun s b (k.begun.letters start) (λ none. first none start) (λ one. second (omega (arith, k.long, ap length all, one))))
-        | inr past ↦ unnamed-append q (b ∷ []) (later past)
+            subst (λ x. HasNoCandidate (x ++ b ∷ [])) all
+            (no_candidate_begun s b (k.begun.letters start) (λ none. first none start) (λ one. second (omega (arith, k.long, ap length all, one))))
+        | inr past ↦ no_candidate-append q (b ∷ []) (later past)
       ]
 
   -- ---- a byte more: where something is found, the subtag goes on with it
@@ -122,7 +122,7 @@ module _ {p s q : List ℕ} {n : ℕ} {stage : Stage} {e : Ends} (k : IsPartRead
   pub stuck_dead : (b : ℕ) → eqb b 45 ≡ false → (IsBegun stage (s ++ b ∷ []) → ⊥) → IsViable (q ++ b ∷ []) → ⊥
   stuck_dead b other stuck =
       not_viable 0 (q ++ b ∷ []) (stopped_from (q ++ b ∷ []) (λ u f is. stuck (found_begun b u f other is)))
-      (unnamed_push b (λ none start. false_from_ne_true (is_letter b) (opens none)) (λ one. other))
+      (no_candidate_push b (λ none start. false_from_ne_true (is_letter b) (opens none)) (λ one. other))
     where
       opens : s ≡ [] → is_letter b ≡ true → ⊥
       opens none letter = stuck (begun_push stage s b (rw letter refl) (λ x. letter) (omega (arith, ap length none)) k.begun)
@@ -148,7 +148,7 @@ module _ {p s q : List ℕ} {n : ℕ} {stage : Stage} {e : Ends} (k : IsPartRead
   -- then no tag begins so, but for an irregular text after its first byte
   pub refused_dead : after_stage stage s ≡ None → (n ≡ 1 → ⊥) → IsViable (q ++ 45 ∷ []) → ⊥
   unfolding is_letter
-  refused_dead next other = not_viable 0 (q ++ 45 ∷ []) (refused_stops next) (unnamed_push 45 (λ none start. refl) (λ one. absurd (other one)))
+  refused_dead next other = not_viable 0 (q ++ 45 ∷ []) (refused_stops next) (no_candidate_push 45 (λ none start. refl) (λ one. absurd (other one)))
 
   -- after which a stage follows
   pub reads_after : (after : Stage) → after_stage stage s ≡ Some after → Reads (q ++ 45 ∷ []) after (end_at after n e)
@@ -158,9 +158,9 @@ module _ {p s q : List ℕ} {n : ℕ} {stage : Stage} {e : Ends} (k : IsPartRead
     first = λ first. absurd (past first);
     later = λ h. elim (starting stage) [
       | inl start ↦
-          subst (λ x. IsUnnamed (x ++ 45 ∷ [])) (starts start)
-          (first_unnamed s after (k.begun.letters start) (ap (λ x. after_stage x s) (sym start) ∙ next))
-      | inr before ↦ unnamed-append q (45 ∷ []) (later before)
+          subst (λ x. HasNoCandidate (x ++ 45 ∷ [])) (starts start)
+          (first_no_candidate s after (k.begun.letters start) (ap (λ x. after_stage x s) (sym start) ∙ next))
+      | inr before ↦ no_candidate-append q (45 ∷ []) (later before)
     ];
   }
     where
@@ -171,10 +171,10 @@ module _ {p s q : List ℕ} {n : ℕ} {stage : Stage} {e : Ends} (k : IsPartRead
   pub reads_nine : IsIrregular q → n ≡ 9
   reads_nine irregular = sym k.long ∙ irregular_nine q short irregular
     where
-      short : (length q ≤ 1) ⊎ IsUnnamed q
+      short : (length q ≤ 1) ⊎ HasNoCandidate q
       short =
           elim (starting stage) [
-            | inl start ↦ subst (λ x. (length x ≤ 1) ⊎ IsUnnamed x) (starts start) (unnamed_letters s (k.begun.letters start))
+            | inl start ↦ subst (λ x. (length x ≤ 1) ⊎ HasNoCandidate x) (starts start) (no_candidate_letters s (k.begun.letters start))
             | inr past ↦ inr (later past)
           ]
 
@@ -240,7 +240,7 @@ stuck_decided t start i b m subtag within is other reading stuck =
 
 -- ---- its end
 
-module _ (t : List ℕ) (start n : ℕ) (names : Names) (m : Machine) (subtag : Shape) (read : IsSubtagRead t start m names n subtag) where
+module _ (t : List ℕ) (start n : ℕ) (candidates : Candidates) (m : Machine) (subtag : Shape) (read : IsSubtagRead t start m candidates n subtag) where
   abbrev end : ℕ
   end = start + subtag.len
 
@@ -265,10 +265,10 @@ module _ (t : List ℕ) (start n : ℕ) (names : Names) (m : Machine) (subtag : 
   -- the subtag may stand there
   pub subtag_passed :
       (after : Stage) → after_by m.stage (classes_of_shape subtag) ≡ Some after →
-      IsReadTo t end names (record { stage = after; ends = end_at after end m.ends }) true
+      IsReadTo t end candidates (record { stage = after; ends = end_at after end m.ends }) true
   subtag_passed after is = record {
     within = read.reading.within;
-    kept = subst (λ k. IsKept t k names) read.count read.kept;
+    kept = subst (λ k. IsKept t k candidates) read.count read.kept;
     viable = reads_viable part;
     some = λ on. omega (arith, (after_subtag m.stage (between start end t) after (next (Some after) is)).some, length-between t start end read.reading.within);
     tracks = λ before on. subst (λ q. Reads q after (end_at after end m.ends)) (hyphen before) (reads_after part after (next (Some after) is));
@@ -279,10 +279,10 @@ module _ (t : List ℕ) (start n : ℕ) (names : Names) (m : Machine) (subtag : 
   }
 
   -- it may not
-  pub subtag_refused : after_by m.stage (classes_of_shape subtag) ≡ None → IsReadTo t end names m false
+  pub subtag_refused : after_by m.stage (classes_of_shape subtag) ≡ None → IsReadTo t end candidates m false
   subtag_refused is = record {
     within = read.reading.within;
-    kept = subst (λ k. IsKept t k names) read.count read.kept;
+    kept = subst (λ k. IsKept t k candidates) read.count read.kept;
     viable = reads_viable part;
     some = λ on. absurd cc;
     tracks = λ before on. absurd cc;
@@ -294,9 +294,9 @@ module _ (t : List ℕ) (start n : ℕ) (names : Names) (m : Machine) (subtag : 
 
 -- a text that goes on after a first subtag of one byte
 pub first_two :
-    (t : List ℕ) (n : ℕ) (names : Names) (m : Machine) (subtag : Shape) → IsSubtagRead t 0 m names n subtag → subtag.len ≡ 1 → 1 < length t →
+    (t : List ℕ) (n : ℕ) (candidates : Candidates) (m : Machine) (subtag : Shape) → IsSubtagRead t 0 m candidates n subtag → subtag.len ≡ 1 → 1 < length t →
     take 2 t ≡ subtag.first ∷ 45 ∷ []
-first_two t n names m subtag read one more =
+first_two t n candidates m subtag read one more =
     let end : 0 + subtag.len ≡ 1 = omega (arith, one) in
     let first : get_or t 0 0 ≡ subtag.first =
     sym (ap (λ (x : Shape). x.first) read.reading.shape ∙ ap (λ k. get_or (between 0 k t) 0 0) end ∙ get_or-between t 0 1 0 0 (omega arith)) in

@@ -7,17 +7,17 @@ use Rattle.langtag_scan.specs.Found.{finding, IsFoundOf}
 use Rattle.langtag_scan.specs.Irregular.{is_possible}
 use Rattle.langtag_scan.specs.Machine.{found_by, outcome, HasStopped, IsRefused}
 use Rattle.langtag_scan.specs.Stage.{may_end}
-use Rattle.langtag_scan.specs.Names.{Follows, IsGone}
+use Rattle.langtag_scan.specs.Candidates.{Follows, IsGone}
 use Rattle.langtag_scan.specs.Tag.{IsNormal, IsPrivate, IsIrregular, IsTag}
 use Rattle.langtag_scan.specs.Tracking.{IsDecided, IsReadTo, IsKept}
 use Rattle.langtag_scan.specs.Viable.{IsViable, IsStop}
 use Rattle.langtag_scan.specs.declared.finding.Finding.{Finding}
 use Rattle.langtag_scan.specs.declared.found.Found.{Found}
-use Rattle.langtag_scan.specs.declared.irregular.Names.{Names}
+use Rattle.langtag_scan.specs.declared.irregular.Candidates.{Candidates}
 use Rattle.langtag_scan.specs.declared.machine.Machine.{Machine}
-use Rattle.langtag_scan.proofs.IrregularNames.{possible_viable}
-use Rattle.langtag_scan.proofs.NameRanges.{first_possible, gone_empty, follows-append}
-use Rattle.langtag_scan.proofs.NamesByLength.{not_viable}
+use Rattle.langtag_scan.proofs.IrregularTexts.{possible_viable}
+use Rattle.langtag_scan.proofs.CandidateRanges.{first_possible, gone_empty, follows-append}
+use Rattle.langtag_scan.proofs.CandidatesByLength.{not_viable}
 use Rattle.langtag_scan.proofs.Outcomes.{Decides, decided}
 use Rattle.langtag_scan.proofs.TagLaws.{tag_irregular, viable_from_tag, no_tag_dead, prefixes_viable, stop_at, stop_whole}
 
@@ -77,26 +77,26 @@ found_irregular t (Some f) refused found = found
 
 -- the range of the irregular texts after a prefix is that of the whole text, where the prefix is the whole or the range is empty
 pub whole_follows :
-    (t : List ℕ) (i : ℕ) (names : Names) → i ≤ length t → (i < length t → IsGone (take i t) names) → Follows (take i t) names →
-    Follows t names
-whole_follows t i names within gone follows =
+    (t : List ℕ) (i : ℕ) (candidates : Candidates) → i ≤ length t → (i < length t → IsGone (take i t) candidates) → Follows (take i t) candidates →
+    Follows t candidates
+whole_follows t i candidates within gone follows =
     elim (cases_lt i (length t)) [
-      | inl before ↦ subst (λ p. Follows p names) (take-append-drop i t) (follows-append (take i t) (drop i t) names (gone before) follows)
-      | inr end ↦ subst (λ p. Follows p names) (take_all i t end) follows
+      | inl before ↦ subst (λ p. Follows p candidates) (take-append-drop i t) (follows-append (take i t) (drop i t) candidates (gone before) follows)
+      | inr end ↦ subst (λ p. Follows p candidates) (take_all i t end) follows
     ]
 
 -- the stop of a text of which so many bytes were read when the machine had stopped
 pub stop_read :
-    (t : List ℕ) (n : ℕ) (names : Names) → names.high ≤ 17 → n ≤ length t → (n < length t → IsGone (take n t) names) →
-    Follows (take n t) names → HasStopped (take n t) → ((k : ℕ) → k < n → IsViable (take k t)) → IsStop t n
-stop_read t n names few within gone follows stopped earlier =
+    (t : List ℕ) (n : ℕ) (candidates : Candidates) → candidates.high ≤ 17 → n ≤ length t → (n < length t → IsGone (take n t) candidates) →
+    Follows (take n t) candidates → HasStopped (take n t) → ((k : ℕ) → k < n → IsViable (take k t)) → IsStop t n
+stop_read t n candidates few within gone follows stopped earlier =
     elim (cases_lt n (length t)) [
-      | inl before ↦ stop_at t n within earlier (not_viable names.len (take n t) stopped (gone before))
-      | inr end ↦ elim (cases_lt names.low names.high) [
+      | inl before ↦ stop_at t n within earlier (not_viable candidates.len (take n t) stopped (gone before))
+      | inr end ↦ elim (cases_lt candidates.low candidates.high) [
         | inl some ↦
-            let viable = viable_possible (take n t) names.low (omega arith) (first_possible (take n t) names follows some few) in
+            let viable = viable_possible (take n t) candidates.low (omega arith) (first_possible (take n t) candidates follows some few) in
             record { within = within; before = earlier; at = inl (viable, omega arith) }
-        | inr none ↦ stop_at t n within earlier (not_viable names.len (take n t) stopped (gone_empty (take n t) names follows (omega arith)))
+        | inr none ↦ stop_at t n within earlier (not_viable candidates.len (take n t) stopped (gone_empty (take n t) candidates follows (omega arith)))
       ]
     ]
 
@@ -110,18 +110,18 @@ dead_decided t i within viable dead = record {
 
 -- ---- a text whose last subtag has ended
 
-module _ (t : List ℕ) (end : ℕ) (names : Names) (m : Machine) (goes_on : Bool) (at : end ≡ length t) (known : IsReadTo t end names m goes_on) where
+module _ (t : List ℕ) (end : ℕ) (candidates : Candidates) (m : Machine) (goes_on : Bool) (at : end ≡ length t) (known : IsReadTo t end candidates m goes_on) where
   stop : IsStop t (length t)
   stop = stop_whole t (subst IsViable (take_all end t (omega (arith, at))) known.viable)
 
   -- the machine alone says what is not found, but for an irregular text of nine bytes
   pub end_refused :
       (found : Option Found) → (goes_on ≡ false) ⊎ (may_end m.stage ≡ false) →
-      (IsKept t (length t) names → (IsIrregular t → length t ≡ 9) → MatchOption found (IsIrregular t → ⊥) (λ f. IsFoundOf t (finding f))) →
+      (IsKept t (length t) candidates → (IsIrregular t → length t ≡ 9) → MatchOption found (IsIrregular t → ⊥) (λ f. IsFoundOf t (finding f))) →
       IsDecided t found (length t)
   unfolding outcome
   end_refused found why answer = record {
-    answer = found_irregular t found (subst (Decides t) (known.found at ∙ none) (decided t)) (answer (subst (λ n. IsKept t n names) (omega (arith, at)) known.kept) (known.nine at));
+    answer = found_irregular t found (subst (Decides t) (known.found at ∙ none) (decided t)) (answer (subst (λ n. IsKept t n candidates) (omega (arith, at)) known.kept) (known.nine at));
     stop = stop;
   }
     where

@@ -35,5 +35,5 @@ abbrev pub matters : ℕ → ℕ → Bool
 matters len k = (len == 9) || is_within 1 14 k
 
 -- whether it does, and a text with this prefix may be alike it
-abbrev pub is_followed : ℕ → List ℕ → ℕ → Bool
-is_followed len p k = matters len k && is_possible p k
+abbrev pub is_candidate : ℕ → List ℕ → ℕ → Bool
+is_candidate len p k = matters len k && is_possible p k

@@ -15,5 +15,5 @@ pub mod CaseLaws
 pub mod Compare
 pub mod AlikeRecords
 pub mod Irregular
-pub mod Names
+pub mod Candidates
 pub mod Tracking

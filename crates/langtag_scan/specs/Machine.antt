@@ -12,7 +12,7 @@ use Rattle.std.specs.Option.{option_map_or}
 use Rattle.langtag_scan.specs.Class.{are_letters, are_alphanumeric}
 use Rattle.langtag_scan.specs.Subtags.{segments}
 use Rattle.langtag_scan.specs.Tag.{IsNormal, IsPrivate}
-use Rattle.langtag_scan.specs.Names.{IsUnnamed}
+use Rattle.langtag_scan.specs.Candidates.{HasNoCandidate}
 use Rattle.langtag_scan.specs.Stage.{after_stage, may_end}
 use Rattle.langtag_scan.specs.declared.stage.Stage.{Stage}
 use Rattle.langtag_scan.specs.declared.stage.Stage.TheVariants.{Start, Language, Extended, AfterScript, AfterRegion, AfterVariant, AfterSingleton, InExtension, AfterMark, InPrivate, AfterFirstMark, InPrivateTag}
@@ -74,7 +74,7 @@ pub record Reads (p : List ℕ) (stage : Stage) (e : Ends) : Type 0 where
   pub same : (u : List ℕ) → outcome_of (p ++ u) ≡ outcome stage e (segments u)
   pub index : index_after stage e [] ≡ length p
   pub first : stage ≡ Start → p ≡ []
-  pub later : (stage ≡ Start → ⊥) → IsUnnamed p
+  pub later : (stage ≡ Start → ⊥) → HasNoCandidate p
 
 -- neither a normal tag nor a private use one may begin with it
 pub record HasStopped (p : List ℕ) : Type 0 where

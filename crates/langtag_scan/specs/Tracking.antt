@@ -5,11 +5,11 @@ use Rattle.std.specs.List.{between}
 use Rattle.langtag_scan.specs.Found.{finding, IsFoundOf}
 use Rattle.langtag_scan.specs.Shape.{shape_of}
 use Rattle.langtag_scan.specs.Machine.{IsBegun, Reads, HasStopped, outcome, outcome_of}
-use Rattle.langtag_scan.specs.Names.{Follows}
+use Rattle.langtag_scan.specs.Candidates.{Follows}
 use Rattle.langtag_scan.specs.Tag.{IsIrregular, IsTag}
 use Rattle.langtag_scan.specs.Viable.{IsViable, IsStop}
 use Rattle.langtag_scan.specs.declared.found.Found.{Found}
-use Rattle.langtag_scan.specs.declared.irregular.Names.{Names}
+use Rattle.langtag_scan.specs.declared.irregular.Candidates.{Candidates}
 use Rattle.langtag_scan.specs.declared.machine.Machine.{Machine}
 use Rattle.langtag_scan.specs.declared.shape.Shape.{Shape}
 
@@ -18,8 +18,8 @@ abbrev pub Tracks : List ℕ → Machine → Type 0
 Tracks p m = Reads p m.stage m.ends
 
 -- what is known of the irregular texts after the first n bytes of a text: which it may become, if it has nine bytes
-abbrev pub IsKept : List ℕ → ℕ → Names → Type 0
-IsKept t n names = (names.len ≡ length t) × (length t ≡ 9 → Follows (take n t) names)
+abbrev pub IsKept : List ℕ → ℕ → Candidates → Type 0
+IsKept t n candidates = (candidates.len ≡ length t) × (length t ≡ 9 → Follows (take n t) candidates)
 
 -- a subtag has begun at an index, and has these bytes up to another one
 pub record IsReading (t : List ℕ) (start : ℕ) (i : ℕ) (m : Machine) (subtag : Shape) : Type 0 where
@@ -30,16 +30,16 @@ pub record IsReading (t : List ℕ) (start : ℕ) (i : ℕ) (m : Machine) (subta
   pub shape : subtag ≡ shape_of (between start i t)
 
 -- the subtag that begins at an index was read with the hyphen after it, by n bytes in all
-pub record IsSubtagRead (t : List ℕ) (start : ℕ) (m : Machine) (names : Names) (n : ℕ) (subtag : Shape) : Type 0 where
+pub record IsSubtagRead (t : List ℕ) (start : ℕ) (m : Machine) (candidates : Candidates) (n : ℕ) (subtag : Shape) : Type 0 where
   pub reading : IsReading t start (start + subtag.len) m subtag
-  pub kept : IsKept t n names
+  pub kept : IsKept t n candidates
   pub hyphen : start + subtag.len < length t → slice_index t (start + subtag.len) ≡ 45
   pub count : n ≡ min (start + subtag.len + 1) (length t)
 
 -- what is known after a subtag of a text that ends at an index, where a hyphen stands or the text ends: whether it goes on
-pub record IsReadTo (t : List ℕ) (end : ℕ) (names : Names) (m : Machine) (goes_on : Bool) : Type 0 where
+pub record IsReadTo (t : List ℕ) (end : ℕ) (candidates : Candidates) (m : Machine) (goes_on : Bool) : Type 0 where
   pub within : end ≤ length t
-  pub kept : IsKept t (min (end + 1) (length t)) names
+  pub kept : IsKept t (min (end + 1) (length t)) candidates
   pub viable : IsViable (take end t)
   pub some : goes_on ≡ true → 1 ≤ end
   pub tracks : end < length t → goes_on ≡ true → Tracks (take (end + 1) t) m

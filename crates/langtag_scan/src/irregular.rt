@@ -38,7 +38,7 @@ pub(crate) const NINE: usize = 9;
 /// The irregular texts that do not begin with `i` matter to a text of nine bytes alone: what begins like one of them
 /// begins a normal tag, too.
 #[derive(Clone, Copy)]
-pub(crate) struct Names {
+pub(crate) struct Candidates {
     low: usize,
     /// The index after the last.
     high: usize,
@@ -48,8 +48,8 @@ pub(crate) struct Names {
     ghost within: { high ≤ 17 },
 }
 
-impl Names {
-    ghost use Rattle.langtag_scan.specs.Names.{Follows, IsGone};
+impl Candidates {
+    ghost use Rattle.langtag_scan.specs.Candidates.{Follows, IsGone};
     ghost use Rattle.langtag_scan.specs.Tracking.{IsKept};
 
     /// Before the first byte of a text of this length.
@@ -58,7 +58,7 @@ impl Names {
         ensures follows { Follows [] result }
     {
         let (low, high) = if len == NINE { (0, 17) } else { (1, 14) };
-        Names { low, high, len }
+        Candidates { low, high, len }
     }
 
     /// Keeps the texts that have this byte at this index, in either case.
@@ -109,7 +109,7 @@ impl Names {
 }
 
 /// The texts that matter to a text of this length and begin with this folded byte.
-fn begun_by(small: u8, len: usize) -> Names
+fn begun_by(small: u8, len: usize) -> Candidates
     ensures len { result.len ≡ len }
     ensures range { (k : ℕ) → k < 17 → (matters len k && is_prefix (small ∷ []) (folded_at k)) ≡ is_within result.low result.high k }
 {
@@ -119,7 +119,7 @@ fn begun_by(small: u8, len: usize) -> Names
         b's' if len == NINE => (14, 17),
         _ => (0, 0),
     };
-    Names { low, high, len }
+    Candidates { low, high, len }
 }
 
 /// The folded irregular text at an index of the table.

@@ -3,13 +3,13 @@ ghost use Rattle.std.specs.Prelude.{◌≡◌, ◌≤◌, ◌+◌, ◌^◌, [], 
 ghost use Rattle.langtag_scan.specs.Found.{finding};
 ghost use Rattle.langtag_scan.specs.Stage.{may_end};
 ghost use Rattle.langtag_scan.specs.Machine.{found_by};
-ghost use Rattle.langtag_scan.specs.declared.irregular.Names.{Names};
+ghost use Rattle.langtag_scan.specs.declared.irregular.Candidates.{Candidates};
 
 use crate::class::{is_digit, is_letter};
 use crate::ends::Ends;
 use crate::finding::Finding;
 use crate::found::Found;
-use crate::irregular::{NINE, Names};
+use crate::irregular::{Candidates, NINE};
 use crate::shape::{LONGEST, Shape};
 use crate::source::ByteSource;
 use crate::stage::Stage;
@@ -44,17 +44,17 @@ impl Machine {
     pub(crate) fn read_subtag<S: ByteSource>(
         &self,
         source: &mut S,
-        names: &mut Names,
+        candidates: &mut Candidates,
         start: usize,
     ) -> Option<Shape>
         requires few { S.reads source.old ≤ 2 ^ 126 + start }
         requires reached { start ≤ S.reach source.old }
         requires within { start ≤ length (S.bytes source.old) }
         requires tracks { Tracks (take start (S.bytes source.old)) self.now }
-        requires kept { IsKept (S.bytes source.old) start names.old }
+        requires kept { IsKept (S.bytes source.old) start candidates.old }
         ensures bytes { S.bytes source.new ≡ S.bytes source.old }
         ensures read { (n : ℕ) × (start ≤ n) × (S.reads source.new + start ≡ S.reads source.old + n) × (S.reach source.new ≡ max (S.reach source.old) n) ×
-            MatchOption result (IsDecided (S.bytes source.old) None n) (λ subtag. IsSubtagRead (S.bytes source.old) start self.now names.new n subtag) }
+            MatchOption result (IsDecided (S.bytes source.old) None n) (λ subtag. IsSubtagRead (S.bytes source.old) start self.now candidates.new n subtag) }
     {
         let len = source.len();
         let mut index = start;
@@ -63,7 +63,7 @@ impl Machine {
         while index < len {
             let byte = source.byte(index);
             if len == NINE {
-                names.keep(index, byte);
+                candidates.keep(index, byte);
             }
             if byte == b'-' {
                 break;
@@ -92,8 +92,8 @@ impl Machine {
     /// A subtag has ended before this index, at a hyphen or at the end of the text: whether it may stand there.
     #[inline(always)]
     pub(crate) fn end_subtag(&mut self, subtag: &Shape, index: usize) -> bool
-        ensures { (t : List ℕ) (start n : ℕ) (names : Names) → IsSubtagRead t start self.old names n subtag.now → index ≡ start + subtag.now.len →
-            IsReadTo t index names self.new result }
+        ensures { (t : List ℕ) (start n : ℕ) (candidates : Candidates) → IsSubtagRead t start self.old candidates n subtag.now → index ≡ start + subtag.now.len →
+            IsReadTo t index candidates self.new result }
     {
         match self.stage.next(subtag) {
             Some(stage) => {

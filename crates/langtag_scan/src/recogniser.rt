@@ -8,7 +8,7 @@ ghost use Rattle.langtag_scan.specs.Machine.{HasStopped};
 ghost use Rattle.langtag_scan.specs.Tracking.{IsDecided};
 
 use crate::found::Found;
-use crate::irregular::Names;
+use crate::irregular::Candidates;
 use crate::machine::Machine;
 use crate::source::ByteSource;
 
@@ -47,16 +47,16 @@ fn read_tag<S: ByteSource>(source: &mut S) -> Option<Found>
 {
     let len = source.len();
     let mut machine = Machine::new();
-    let mut names = Names::new(len);
-    let subtag = machine.read_subtag(source, &mut names, 0)?;
+    let mut candidates = Candidates::new(len);
+    let subtag = machine.read_subtag(source, &mut candidates, 0)?;
     let mut index = subtag.len;
     let mut goes_on = machine.end_subtag(&subtag, index);
     // Of the irregular texts only those that begin with `i` leave what the machine follows before their end.
     if !goes_on && index == 1 && index < len {
-        return read_names(source, subtag.first);
+        return read_irregular(source, subtag.first);
     }
     while goes_on && index < len {
-        let subtag = machine.read_subtag(source, &mut names, index + 1)?;
+        let subtag = machine.read_subtag(source, &mut candidates, index + 1)?;
         index += 1 + subtag.len;
         goes_on = machine.end_subtag(&subtag, index);
     }
@@ -66,12 +66,12 @@ fn read_tag<S: ByteSource>(source: &mut S) -> Option<Found>
     if goes_on && machine.may_end() {
         return Some(machine.found());
     }
-    names.found_nine()
+    candidates.found_nine()
 }
 
 /// Reads on after a first subtag of one byte, and the hyphen after it, while an irregular text is possible.
 #[inline(always)]
-fn read_names<S: ByteSource>(source: &mut S, first: u8) -> Option<Found>
+fn read_irregular<S: ByteSource>(source: &mut S, first: u8) -> Option<Found>
     requires few { S.reads source.old ≤ 2 ^ 126 + 2 }
     requires reached { 2 ≤ S.reach source.old }
     requires begun { take 2 (S.bytes source.old) ≡ first ∷ 45 ∷ [] }
@@ -82,15 +82,15 @@ fn read_names<S: ByteSource>(source: &mut S, first: u8) -> Option<Found>
         (S.reads source.new + 2 ≡ S.reads source.old + n) × (S.reach source.new ≡ max (S.reach source.old) n) }
 {
     let len = source.len();
-    let mut names = Names::new(len);
-    names.keep(0, first);
-    names.keep(1, b'-');
+    let mut candidates = Candidates::new(len);
+    candidates.keep(0, first);
+    candidates.keep(1, b'-');
     let mut index = 2;
-    while index < len && !names.is_empty() {
-        names.keep(index, source.byte(index));
+    while index < len && !candidates.is_empty() {
+        candidates.keep(index, source.byte(index));
         index += 1;
     }
-    names.found()
+    candidates.found()
 }
 
 /// Decides whether the bytes of a source are a normal tag (rule `langtag` of RFC 5646 section 2.1), as

@@ -4,7 +4,7 @@ use Rattle.std.specs.Prelude.{codes}
 use Rattle.langtag_scan.specs.Grandfathered.{irregular_texts}
 use Rattle.langtag_scan.specs.Record.{Record, Spells}
 use Rattle.langtag_scan.specs.Tag.{IsIrregular, IsIrregularAt}
-use Rattle.langtag_scan.proofs.IrregularNames.{irregular_once}
+use Rattle.langtag_scan.proofs.IrregularTexts.{irregular_once}
 use Rattle.langtag_scan.proofs.NormalTexts.{spelled_once}
 use Rattle.langtag_scan.proofs.OneKind.{normal_no_private, normal_no_irregular, private_no_irregular}
 use Rattle.langtag_scan.proofs.SpelledTexts.{normal_spelled}

@@ -1,6 +1,6 @@
 use Rattle.std.proofs.Common.{arith}
 use Rattle.std.proofs.lemmas.Bool.Decides.{nat_tests}
-use Rattle.langtag_scan.proofs.NamesByLength.{has_initial}
+use Rattle.langtag_scan.proofs.CandidatesByLength.{has_initial}
 use Rattle.langtag_scan.proofs.irregular.begun_by.Goals as goal
 use Rattle.langtag_scan.proofs.irregular.begun_by.Goals.{in-105, in-101, in-115, in_default-2, in_default-3, in_default}
 

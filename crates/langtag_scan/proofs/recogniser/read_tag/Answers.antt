@@ -11,22 +11,22 @@ use Rattle.langtag_scan.proofs.recogniser.read_tag.Goals.{then-loop-goes_on-test
 
 -- ---- the first subtag
 
-pub read_names-requires-clause-begun : goal.read_names-requires-clause-begun
-read_names-requires-clause-begun g c =
+pub read_irregular-requires-clause-begun : goal.read_irregular-requires-clause-begun
+read_irregular-requires-clause-begun g c =
     let s = c.in_ok-subtag.ensures in
     let more : 1 < length (g.S.ByteSource.bytes c.args.source.now) = omega (arith, c.if-index-eq1.true, c.if-index-len.true, c.len-len.ensures) in
     ap (take 2) s.bytes ∙ first_two _ s.read.0 _ _ _ s.read.4 c.if-index-eq1.true more
 
-pub read_names-requires-clause-stopped : goal.read_names-requires-clause-stopped
-read_names-requires-clause-stopped g c =
+pub read_irregular-requires-clause-stopped : goal.read_irregular-requires-clause-stopped
+read_irregular-requires-clause-stopped g c =
     let s = c.in_ok-subtag.ensures in
     let ended = c.end_subtag-goes_on.ensures _ 0 s.read.0 _ s.read.4 (omega arith) in
     let stopped = ended.stopped (omega (arith, c.if-index-len.true, c.len-len.ensures)) c.if-not-goes_on.true in
     let two : c.in_ok-subtag.subtag.len + 1 ≡ 2 = omega (arith, c.if-index-eq1.true) in
     subst (λ t. HasStopped (take 2 t)) (sym s.bytes) (subst (λ n. HasStopped (take n (g.S.ByteSource.bytes c.args.source.now))) two stopped)
 
-pub read_names-requires-clause-viable : goal.read_names-requires-clause-viable
-read_names-requires-clause-viable g c =
+pub read_irregular-requires-clause-viable : goal.read_irregular-requires-clause-viable
+read_irregular-requires-clause-viable g c =
     let s = c.in_ok-subtag.ensures in
     let ended = c.end_subtag-goes_on.ensures _ 0 s.read.0 _ s.read.4 (omega arith) in
     subst (λ t. IsViable (take 1 t)) (sym s.bytes) (subst (λ n. IsViable (take n (g.S.ByteSource.bytes c.args.source.now))) c.if-index-eq1.true ended.viable)
@@ -34,9 +34,9 @@ read_names-requires-clause-viable g c =
 pub returns-then-index-len-clause-decided : goal.returns-then-index-len-clause-decided
 returns-then-index-len-clause-decided g c =
     let s = c.in_ok-subtag.ensures.read in
-    let k = c.read_names.ensures.decided in
+    let k = c.read_irregular.ensures.decided in
     let two : s.0 ≡ 2 = omega (arith, s.4.count, c.if-index-eq1.true, c.if-index-len.true, c.len-len.ensures) in
-    (k.0, subst (λ t. IsDecided t c.read_names.result k.0) c.in_ok-subtag.ensures.bytes k.2, omega (arith, k.3, s.2, two), omega (arith, k.1, k.4, s.3, two))
+    (k.0, subst (λ t. IsDecided t c.read_irregular.result k.0) c.in_ok-subtag.ensures.bytes k.2, omega (arith, k.3, s.2, two), omega (arith, k.1, k.4, s.3, two))
 
 pub loop-goes_on-init : goal.loop-goes_on-init
 loop-goes_on-init g c =
@@ -68,15 +68,15 @@ loop-goes_on-preserved g c =
     let s = c.in_ok-subtag-2.ensures.read in
     let start = c.loop-goes_on.index + 1 in
     let m = c.loop-goes_on.machine in
-    let names = c.read_subtag-in-loop-goes_on.new.names in
-    let read : IsSubtagRead t start m names s.0 c.in_ok-subtag-2.subtag = subst (λ x. IsSubtagRead x start m names s.0 c.in_ok-subtag-2.subtag) known.bytes s.4 in
+    let candidates = c.read_subtag-in-loop-goes_on.new.candidates in
+    let read : IsSubtagRead t start m candidates s.0 c.in_ok-subtag-2.subtag = subst (λ x. IsSubtagRead x start m candidates s.0 c.in_ok-subtag-2.subtag) known.bytes s.4 in
     let end : start + c.in_ok-subtag-2.subtag.len ≡ c.loop-goes_on.index + (1 + c.in_ok-subtag-2.subtag.len) = omega arith in
     record {
       bytes = c.in_ok-subtag-2.ensures.bytes ∙ known.bytes;
       reads = omega (arith, s.2, read.count, known.reads, c.if-index-len-2.true, c.len-len.ensures);
       reach = omega (arith, s.1, s.3, read.count, known.reach, c.if-index-len-2.true, c.len-len.ensures);
       other = λ before off one. omega (arith, one, known.read.some c.loop-goes_on-test.true);
-      read = c.end_subtag-goes_on-in-loop-goes_on.ensures t start s.0 names read (sym end);
+      read = c.end_subtag-goes_on-in-loop-goes_on.ensures t start s.0 candidates read (sym end);
     }
 
 -- ---- what is found
@@ -100,7 +100,7 @@ returns-then-may_end-clause-decided g c =
     let known = c.loop-goes_on.invariant in
     let i = c.loop-goes_on.index in
     let at : i ≡ length t = omega (arith, known.read.within, c.if-index-len-3.false, c.len-len.ensures) in
-    (length t, end_accepted t i c.loop-goes_on.names c.loop-goes_on.machine c.loop-goes_on.goes_on at known.read c.found.result c.if-goes_on.true (sym c.may_end.ensures ∙ c.if-may_end.true) c.found.ensures, omega (arith, known.reads, at, c.len-len.ensures), omega (arith, known.reach, at, c.len-len.ensures))
+    (length t, end_accepted t i c.loop-goes_on.candidates c.loop-goes_on.machine c.loop-goes_on.goes_on at known.read c.found.result c.if-goes_on.true (sym c.may_end.ensures ∙ c.if-may_end.true) c.found.ensures, omega (arith, known.reads, at, c.len-len.ensures), omega (arith, known.reach, at, c.len-len.ensures))
 
 pub returns-clause-decided : goal.returns-clause-decided
 returns-clause-decided g c =
@@ -114,4 +114,4 @@ returns-clause-decided g c =
       | else-goes_on-via-then-goes_on+else-may_end w ↦ inr (sym w.may_end.ensures ∙ w.if-may_end.false)
       | else-goes_on-via-else-goes_on w ↦ inl w.if-goes_on.false
     ] in
-    (length t, end_refused t i c.loop-goes_on.names m c.loop-goes_on.goes_on at known.read c.found_nine.result why (c.found_nine.ensures t), omega (arith, known.reads, at, c.len-len.ensures), omega (arith, known.reach, at, c.len-len.ensures))
+    (length t, end_refused t i c.loop-goes_on.candidates m c.loop-goes_on.goes_on at known.read c.found_nine.result why (c.found_nine.ensures t), omega (arith, known.reads, at, c.len-len.ensures), omega (arith, known.reach, at, c.len-len.ensures))

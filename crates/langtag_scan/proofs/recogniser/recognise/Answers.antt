@@ -1,5 +1,5 @@
 use Rattle.langtag_scan.proofs.FillLaw.{viable_fill}
-use Rattle.langtag_scan.proofs.IrregularNames.{irregular_once}
+use Rattle.langtag_scan.proofs.IrregularTexts.{irregular_once}
 use Rattle.langtag_scan.proofs.OneKind.{normal_no_private, normal_no_irregular, private_no_irregular}
 use Rattle.langtag_scan.proofs.recogniser.recognise.Goals as goal
 

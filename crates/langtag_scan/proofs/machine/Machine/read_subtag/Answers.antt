@@ -5,7 +5,7 @@ use Rattle.std.proofs.lemmas.List.{length_push}
 use Rattle.std.proofs.lemmas.List.Edits.{length-between}
 use Rattle.langtag_scan.specs.Class.{is_letter, is_digit, are_letters, are_alphanumeric}
 use Rattle.langtag_scan.specs.Machine.{IsBegun}
-use Rattle.langtag_scan.specs.Names.{Follows}
+use Rattle.langtag_scan.specs.Candidates.{Follows}
 use Rattle.langtag_scan.specs.Tracking.{IsReading}
 use Rattle.langtag_scan.proofs.RecogniserLaws.{read_next}
 use Rattle.langtag_scan.proofs.Running.{begun_parts}
@@ -81,8 +81,8 @@ loop-index-preserved g c =
       reads = omega arith;
       reach = omega arith;
       kept = elim c.if-len-eq-NINE.branch [
-        | then-len-eq-NINE w ↦ rw w.names-is (w.keep.ensures.len ∙ known.kept.0, λ nine. read_next t i b (λ p. Follows p c.loop-index.names) (λ p. Follows p w.keep.new.self) within is_next w.keep.ensures.follows (known.kept.1 nine))
-        | else-len-eq-NINE w ↦ rw w.names-is (known.kept.0, λ nine. absurd (w.if-len-eq-NINE.false (c.len-len.ensures ∙ nine)))
+        | then-len-eq-NINE w ↦ rw w.candidates-is (w.keep.ensures.len ∙ known.kept.0, λ nine. read_next t i b (λ p. Follows p c.loop-index.candidates) (λ p. Follows p w.keep.new.self) within is_next w.keep.ensures.follows (known.kept.1 nine))
+        | else-len-eq-NINE w ↦ rw w.candidates-is (known.kept.0, λ nine. absurd (w.if-len-eq-NINE.false (c.len-len.ensures ∙ nine)))
       ];
       reading = reading_more t c.args.start i b c.loop-index.first c.if-index-start.first c.loop-index.digits c.if-not-is_letter.digits m within is_next c.if-index-start-eq-LONGEST.false opens held known.reading;
     }
@@ -98,12 +98,12 @@ returns-clause-read g c =
     elim c.loop-index-test.branch [
       | else-loop-index-test w ↦
           let last : i ≡ length t = omega (arith, known.reading.within, w.loop-index-test.false, c.len-len.ensures) in
-          rw (w.source-is, w.names-is) (i, from, known.reads, known.reach, record { reading = read; kept = known.kept; hyphen = λ before. absurd (omega arith); count = omega arith })
+          rw (w.source-is, w.candidates-is) (i, from, known.reads, known.reach, record { reading = read; kept = known.kept; hyphen = λ before. absurd (omega arith); count = omega arith })
       | then-loop-index-test+then-byte-eq45 w ↦
           let b = w.byte-byte.result in
           let within : i < length t = omega arith in
           let is_next : b ≡ slice_index t i = cc in
-          rw (w.source-is, w.names-is) (
+          rw (w.source-is, w.candidates-is) (
             i + 1,
             omega (arith, from),
             omega arith,
@@ -112,8 +112,8 @@ returns-clause-read g c =
               reading = read;
               kept = elim w.if-len-eq-NINE.branch [
                 | then-len-eq-NINE v ↦
-                    rw v.names-is (v.keep.ensures.len ∙ known.kept.0, λ nine. read_next t i b (λ p. Follows p c.loop-index.names) (λ p. Follows p v.keep.new.self) within is_next v.keep.ensures.follows (known.kept.1 nine))
-                | else-len-eq-NINE v ↦ rw v.names-is (known.kept.0, λ nine. absurd (v.if-len-eq-NINE.false (c.len-len.ensures ∙ nine)))
+                    rw v.candidates-is (v.keep.ensures.len ∙ known.kept.0, λ nine. read_next t i b (λ p. Follows p c.loop-index.candidates) (λ p. Follows p v.keep.new.self) within is_next v.keep.ensures.follows (known.kept.1 nine))
+                | else-len-eq-NINE v ↦ rw v.candidates-is (known.kept.0, λ nine. absurd (v.if-len-eq-NINE.false (c.len-len.ensures ∙ nine)))
               ];
               hyphen = λ before. ap (slice_index t) end ∙ sym is_next ∙ w.if-byte-eq45.true;
               count = omega arith;

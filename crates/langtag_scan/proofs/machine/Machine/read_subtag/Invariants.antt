@@ -8,7 +8,7 @@ invariant-loop-index g l = record {
   bytes : g.S.ByteSource.bytes l.source ≡ g.S.ByteSource.bytes l.fn.source;
   reads : g.S.ByteSource.reads l.source + l.start ≡ g.S.ByteSource.reads l.fn.source + l.index;
   reach : g.S.ByteSource.reach l.source ≡ max (g.S.ByteSource.reach l.fn.source) l.index;
-  kept : IsKept (g.S.ByteSource.bytes l.fn.source) l.index l.names;
+  kept : IsKept (g.S.ByteSource.bytes l.fn.source) l.index l.candidates;
   reading : IsReading (g.S.ByteSource.bytes l.fn.source) l.start l.index l.self (shape (l.index - l.start) l.first l.digits);
 }
 

@@ -1,7 +1,7 @@
 use Rattle.std.proofs.Common.{◌≡◌, ℕ, ◌+◌, ◌-◌, ◌<◌, ◌≤◌, take, max}
-use Rattle.langtag_scan.specs.Names.{Follows}
+use Rattle.langtag_scan.specs.Candidates.{Follows}
 use Rattle.langtag_scan.specs.Viable.{IsViable}
-use Rattle.langtag_scan.proofs.recogniser.read_names.Given as goal
+use Rattle.langtag_scan.proofs.recogniser.read_irregular.Given as goal
 
 abbrev pub invariant-loop-index : goal.invariant-loop-index
 invariant-loop-index g l = record {
@@ -10,8 +10,8 @@ invariant-loop-index g l = record {
   reach : g.S.ByteSource.reach l.source ≡ max (g.S.ByteSource.reach l.fn.source) l.index;
   from : 2 ≤ l.index;
   within : l.index ≤ l.len;
-  len : l.names.len ≡ l.len;
-  follows : Follows (take l.index (g.S.ByteSource.bytes l.fn.source)) l.names;
+  len : l.candidates.len ≡ l.len;
+  follows : Follows (take l.index (g.S.ByteSource.bytes l.fn.source)) l.candidates;
   before : (k : ℕ) → k < l.index → IsViable (take k (g.S.ByteSource.bytes l.fn.source));
 }
 

@@ -9,23 +9,23 @@ use Rattle.langtag_scan.specs.declared.stage.Stage.TheVariants.{Start}
 use Rattle.langtag_scan.specs.Case.{fold_byte, fold_text}
 use Rattle.langtag_scan.specs.Class.{is_letter, is_digit, is_primary, is_extended, is_script, is_region, is_variant, is_mark, is_singleton}
 use Rattle.langtag_scan.specs.Grandfathered.{grandfathered_tags, irregular_texts}
-use Rattle.langtag_scan.specs.Irregular.{folded_texts, folded_at, is_prefix, has_at, is_possible, is_within, matters, is_followed}
+use Rattle.langtag_scan.specs.Irregular.{folded_texts, folded_at, is_prefix, has_at, is_possible, is_within, matters, is_candidate}
 use Rattle.langtag_scan.specs.Machine.{HasStopped}
 use Rattle.langtag_scan.specs.Subtags.{segments}
 use Rattle.langtag_scan.specs.Tag.{IsNormal, IsIrregular, IsIrregularAt, IsTag}
 use Rattle.langtag_scan.specs.Viable.{IsViable}
 use Rattle.langtag_scan.proofs.CaseLaw.{runs-fold, segments_test-fold}
-use Rattle.langtag_scan.proofs.IrregularNames.{irregular_fold, possible_prefix, is_prefix-push, prefix_rest, possible_between, possible_itself}
+use Rattle.langtag_scan.proofs.IrregularTexts.{irregular_fold, possible_prefix, is_prefix-push, prefix_rest, possible_between, possible_itself}
 use Rattle.langtag_scan.proofs.NormalTexts.{normal_from_runs}
 use Rattle.langtag_scan.proofs.Runs.{runs}
 
 -- ---- the texts that matter and are possible
 
 -- they are neighbours
-pub followed_between :
-    (len : ℕ) (p : List ℕ) (i j k : ℕ) → i ≤ j → j ≤ k → k < 17 → is_followed len p i ≡ true → is_followed len p k ≡ true →
-    is_followed len p j ≡ true
-followed_between len p i j k from to within first last =
+pub candidates_between :
+    (len : ℕ) (p : List ℕ) (i j k : ℕ) → i ≤ j → j ≤ k → k < 17 → is_candidate len p i ≡ true → is_candidate len p k ≡ true →
+    is_candidate len p j ≡ true
+candidates_between len p i j k from to within first last =
     let a = and_parts (matters len i) (is_possible p i) first in
     let b = and_parts (matters len k) (is_possible p k) last in
     and_from (matters len j) (is_possible p j) (between len i j k from to a.0 b.0) (possible_between p i j k from to within a.1 b.1)
@@ -34,23 +34,23 @@ followed_between len p i j k from to within first last =
     between len i j k from to first last = grind (arith, nat_tests)
 
 -- after one byte more: those that were, and have the byte, folded
-pub followed-push :
+pub candidate-push :
     (len : ℕ) (p : List ℕ) (b k : ℕ) →
-    is_followed len (p ++ b ∷ []) k ≡ (is_followed len p k && has_at (folded_at k) (length p) (fold_byte b))
-followed-push len p b k =
+    is_candidate len (p ++ b ∷ []) k ≡ (is_candidate len p k && has_at (folded_at k) (length p) (fold_byte b))
+candidate-push len p b k =
     rw (map-append fold_byte p (b ∷ []), is_prefix-push (fold_text p), length-map p fold_byte) (sym (and_assoc (matters len k) (is_possible p k) _))
 
 -- so none comes back
-pub followed-append : (len : ℕ) (p u : List ℕ) (k : ℕ) → is_followed len p k ≡ false → is_followed len (p ++ u) k ≡ false
-followed-append len p [] k gone = ap (λ q. is_followed len q k) (append-nil p) ∙ gone
-followed-append len p (b ∷ u) k gone =
-    ap (λ q. is_followed len q k) (sym (append_assoc p (b ∷ []) u))
-    ∙ followed-append len (p ++ b ∷ []) u k (followed-push len p b k ∙ and_left (is_followed len p k) _ gone)
+pub candidate-append : (len : ℕ) (p u : List ℕ) (k : ℕ) → is_candidate len p k ≡ false → is_candidate len (p ++ u) k ≡ false
+candidate-append len p [] k gone = ap (λ q. is_candidate len q k) (append-nil p) ∙ gone
+candidate-append len p (b ∷ u) k gone =
+    ap (λ q. is_candidate len q k) (sym (append_assoc p (b ∷ []) u))
+    ∙ candidate-append len (p ++ b ∷ []) u k (candidate-push len p b k ∙ and_left (is_candidate len p k) _ gone)
 
 -- an irregular text matters to a text of its own length, and is possible
-pub followed_itself : (p : List ℕ) (k : ℕ) → IsIrregularAt k p → (k < 17) × (is_followed (length p) p k ≡ true) × (length (folded_at k) ≡ length p)
+pub candidate_itself : (p : List ℕ) (k : ℕ) → IsIrregularAt k p → (k < 17) × (is_candidate (length p) p k ≡ true) × (length (folded_at k) ≡ length p)
 unfolding fold_byte folded_texts irregular_texts grandfathered_tags
-followed_itself p k irregular =
+candidate_itself p k irregular =
     let is = possible_itself p k irregular in
     let by_length = agree_below_at (λ j. matters (length (folded_at j)) j) (λ j. true) 17 k refl is.0 in
     (is.0, and_from (matters (length p) k) (is_possible p k) (ap (λ n. matters n k) (sym is.2) ∙ by_length) is.1, is.2)
@@ -90,7 +90,7 @@ normal_more len k t none irregular =
     normal_from_runs (t ++ more) (same ∙ other_begins k whole.0 (or_parts (eqb len 9) (is_within 1 14 k) none).1)
 
 -- where the stages have stopped and no irregular text that matters is possible, no tag begins so
-pub not_viable : (len : ℕ) (p : List ℕ) → HasStopped p → ((k : ℕ) → k < 17 → is_followed len p k ≡ false) → IsViable p → ⊥
+pub not_viable : (len : ℕ) (p : List ℕ) → HasStopped p → ((k : ℕ) → k < 17 → is_candidate len p k ≡ false) → IsViable p → ⊥
 unfolding IsViable IsTag IsIrregular
 not_viable len p stopped gone (u, inl normal) = stopped.not_normal u normal
 not_viable len p stopped gone (u, inr (inl private)) = stopped.not_private u private

@@ -3,12 +3,12 @@
 use Rattle.std.proofs.Common.{◌≡◌, ℕ, ◌-◌, ◌<◌, ◌≤◌, Bool, true, false, ◌&&◌, List, ◌++◌, length, inl, inr, sym, ap, ◌∙◌, arith}
 use Rattle.std.proofs.lemmas.Bool.{and_parts, cases_lt}
 use Rattle.std.proofs.lemmas.Bool.Decides.{nat_tests}
-use Rattle.langtag_scan.specs.Irregular.{folded_at, is_possible, is_within, matters, is_followed}
-use Rattle.langtag_scan.specs.Names.{Follows, IsGone}
+use Rattle.langtag_scan.specs.Irregular.{folded_at, is_possible, is_within, matters, is_candidate}
+use Rattle.langtag_scan.specs.Candidates.{Follows, IsGone}
 use Rattle.langtag_scan.specs.Tag.{IsIrregular, IsIrregularAt}
-use Rattle.langtag_scan.specs.declared.irregular.Names.{Names}
-use Rattle.langtag_scan.proofs.IrregularNames.{possible_once, irregular_from_length}
-use Rattle.langtag_scan.proofs.NamesByLength.{followed_itself, followed_between, followed-append}
+use Rattle.langtag_scan.specs.declared.irregular.Candidates.{Candidates}
+use Rattle.langtag_scan.proofs.IrregularTexts.{possible_once, irregular_from_length}
+use Rattle.langtag_scan.proofs.CandidatesByLength.{candidate_itself, candidates_between, candidate-append}
 
 -- ---- how a range narrows
 
@@ -22,11 +22,11 @@ pub record Narrows (passes : ℕ → Bool) (low high from to : ℕ) : Type 0 whe
   pub last : from < to → passes (to - 1) ≡ true
 
 -- the texts that matter and may begin so are neighbours, so where they are those of the old range that pass, they are the new one
-pub followed_narrowed :
+pub candidates_narrowed :
     (len : ℕ) (p : List ℕ) (passes : ℕ → Bool) (low high from to : ℕ) → high ≤ 17 →
-    ((k : ℕ) → k < 17 → is_followed len p k ≡ (is_within low high k && passes k)) → Narrows passes low high from to → (k : ℕ) → k < 17 →
-    is_followed len p k ≡ is_within from to k
-followed_narrowed len p passes low high from to few left narrows k within =
+    ((k : ℕ) → k < 17 → is_candidate len p k ≡ (is_within low high k && passes k)) → Narrows passes low high from to → (k : ℕ) → k < 17 →
+    is_candidate len p k ≡ is_within from to k
+candidates_narrowed len p passes low high from to few left narrows k within =
     elim (cases_lt k from) [
       | inl before ↦ left k within ∙ none_before before
       | inr after ↦ elim (cases_lt k to) [ inl inside ↦ between after inside ∙ in_range from to k after inside | inr past ↦ left k within ∙ none_after past ]
@@ -35,7 +35,7 @@ followed_narrowed len p passes low high from to few left narrows k within =
     in_range : (low high k : ℕ) → low ≤ k → k < high → true ≡ is_within low high k
     in_range low high k after before = grind (arith, nat_tests)
 
-    followed : (j : ℕ) → low ≤ j → j < high → passes j ≡ true → is_followed len p j ≡ true
+    followed : (j : ℕ) → low ≤ j → j < high → passes j ≡ true → is_candidate len p j ≡ true
     followed j after before passed = left j (omega arith) ∙ grind (arith, nat_tests)
 
     none_before : k < from → (is_within low high k && passes k) ≡ is_within from to k
@@ -44,41 +44,41 @@ followed_narrowed len p passes low high from to few left narrows k within =
     none_after : to ≤ k → (is_within low high k && passes k) ≡ is_within from to k
     none_after past = grind (arith, nat_tests, narrows.none_after k)
 
-    between : from ≤ k → k < to → is_followed len p k ≡ true
+    between : from ≤ k → k < to → is_candidate len p k ≡ true
     between after inside =
         let first = followed from narrows.above (omega arith) (narrows.first (omega arith)) in
         let last = followed (to - 1) (omega arith) (omega arith) (narrows.last (omega arith)) in
-        followed_between len p from k (to - 1) after (omega arith) (omega arith) first last
+        candidates_between len p from k (to - 1) after (omega arith) (omega arith) first last
 
 -- ---- what a range says
 
-module _ (p : List ℕ) (names : Names) (follows : Follows p names) where
+module _ (p : List ℕ) (candidates : Candidates) (follows : Follows p candidates) where
   -- the first text of it may begin so
-  pub first_possible : names.low < names.high → names.high ≤ 17 → is_possible p names.low ≡ true
+  pub first_possible : candidates.low < candidates.high → candidates.high ≤ 17 → is_possible p candidates.low ≡ true
   first_possible some few =
-      let first : is_followed names.len p names.low ≡ true = grind (arith, nat_tests, follows.possible names.low) in
-      (and_parts (matters names.len names.low) (is_possible p names.low) first).1
+      let first : is_candidate candidates.len p candidates.low ≡ true = grind (arith, nat_tests, follows.possible candidates.low) in
+      (and_parts (matters candidates.len candidates.low) (is_possible p candidates.low) first).1
 
   -- and is the text, if that is as long
-  pub first_whole : names.low < names.high → names.high ≤ 17 → length (folded_at names.low) ≡ length p → IsIrregularAt names.low p
-  first_whole some few whole = irregular_from_length p names.low (omega arith) (first_possible some few) whole
+  pub first_whole : candidates.low < candidates.high → candidates.high ≤ 17 → length (folded_at candidates.low) ≡ length p → IsIrregularAt candidates.low p
+  first_whole some few whole = irregular_from_length p candidates.low (omega arith) (first_possible some few) whole
 
   -- as where the text is irregular
-  pub irregular_first : names.high ≤ 17 → length p ≡ names.len → IsIrregular p → (names.low < names.high) × (length (folded_at names.low) ≡ names.len)
+  pub irregular_first : candidates.high ≤ 17 → length p ≡ candidates.len → IsIrregular p → (candidates.low < candidates.high) × (length (folded_at candidates.low) ≡ candidates.len)
   unfolding IsIrregular
   irregular_first few whole (k, irregular) =
-      let is = followed_itself p k irregular in
-      let inside : is_within names.low names.high k ≡ true = sym (follows.possible k is.0) ∙ ap (λ n. is_followed n p k) (sym whole) ∙ is.1 in
-      let some : names.low < names.high = grind (arith, nat_tests) in
-      let first = possible_once p names.low k irregular (omega arith) (first_possible some few) in
+      let is = candidate_itself p k irregular in
+      let inside : is_within candidates.low candidates.high k ≡ true = sym (follows.possible k is.0) ∙ ap (λ n. is_candidate n p k) (sym whole) ∙ is.1 in
+      let some : candidates.low < candidates.high = grind (arith, nat_tests) in
+      let first = possible_once p candidates.low k irregular (omega arith) (first_possible some few) in
       (some, ap (λ j. length (folded_at j)) (sym first) ∙ is.2 ∙ whole)
 
   -- no text of an empty range may begin so
-  pub gone_empty : names.low ≡ names.high → IsGone p names
+  pub gone_empty : candidates.low ≡ candidates.high → IsGone p candidates
   gone_empty none k within = grind (arith, nat_tests, follows.possible k within)
 
 -- nor begin a longer one
-pub follows-append : (p u : List ℕ) (names : Names) → IsGone p names → Follows p names → Follows (p ++ u) names
-follows-append p u names gone follows = record {
-  possible = λ k within. followed-append names.len p u k (gone k within) ∙ sym (gone k within) ∙ follows.possible k within;
+pub follows-append : (p u : List ℕ) (candidates : Candidates) → IsGone p candidates → Follows p candidates → Follows (p ++ u) candidates
+follows-append p u candidates gone follows = record {
+  possible = λ k within. candidate-append candidates.len p u k (gone k within) ∙ sym (gone k within) ∙ follows.possible k within;
 }
