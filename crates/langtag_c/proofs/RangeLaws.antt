@@ -1,57 +1,13 @@
 -- Language ranges: their bytes, and the number that answers for their kind.
-use Rattle.std.proofs.Common.{◌≡◌, ℕ, ◌<◌, true, false, List, [], ◌∷◌, length, ◌||◌, IsTrue, inl, inr, refl, sym, subst, arith}
-use Rattle.std.specs.Char.{is_ascii_alphabetic}
-use Rattle.std.specs.Int.{is_in_range}
-use Rattle.std.specs.List.{AllByRecursion}
-use Rattle.std.specs.Str.{IsAscii, IsUtf8}
-use Rattle.std.proofs.lemmas.Bool.{and_parts, or_cases}
-use Rattle.std.proofs.lemmas.Bool.Decides.{nat_tests}
-use Rattle.std.proofs.lemmas.Slice.Eq.{bytes_eq-Decides}
-use Rattle.std.proofs.lemmas.Str.{IsUtf8-from_ascii}
-use Rattle.std.proofs.lemmas.Str.Ascii.{IsAscii-nil, IsAscii-cons}
-use Rattle.langtag_scan.specs.Class.{has_length, is_alphanumeric, are_alphanumeric, is_private_subtag}
-use Rattle.langtag_scan.specs.Subtags.{join, subtags}
-use Rattle.langtag_scan.proofs.Ascii.{IsAscii-each, alphanumeric_below, IsAscii-join, IsUtf8-tag}
-use Rattle.langtag_scan.proofs.SubtagLists.{join-subtags}
-use Rattle.langtag_match.specs.Range.{is_star, is_first_subtag, are_letters, is_range_subtag, are_range_subtags, are_extended_range, is_language_range, is_basic_range}
+use Rattle.std.proofs.Common.{◌≡◌, ℕ, true, false, List, IsTrue, refl, arith}
+use Rattle.langtag_scan.proofs.Ascii.{IsUtf8-tag}
+use Rattle.langtag_match.specs.Range.{is_language_range, is_basic_range}
+use Rattle.langtag_match.proofs.AsciiRanges.{IsUtf8-range}
 use Rattle.langtag_match.proofs.BasicRanges.{is_language_range-from_basic}
 use Rattle.langtag_c.specs.Answers.{IsRangeKind}
 
--- ---- a range is ASCII, so bytes that are no UTF-8 are none
+-- ---- what is no UTF-8 is neither a range nor a tag
 
-letter_below : (b : ℕ) → is_ascii_alphabetic b ≡ true → b < 128
-letter_below b h = grind (arith, nat_tests)
-
-IsAscii-star : (s : List ℕ) → is_star s ≡ true → IsAscii s
-IsAscii-star s star = subst IsAscii (sym ((bytes_eq-Decides s (42 ∷ [])).0 star)) (IsAscii-cons 42 [] (omega arith) IsAscii-nil)
-
-IsAscii-first : (s : List ℕ) → (is_star s || is_first_subtag s) ≡ true → IsAscii s
-IsAscii-first s is = elim (or_cases (is_star s) (is_first_subtag s) is) [
-  | inl star ↦ IsAscii-star s star
-  | inr first ↦ IsAscii-each is_ascii_alphabetic letter_below s (and_parts (is_in_range 1 8 (length s)) (are_letters s) first).1
-]
-
-IsAscii-subtag : (s : List ℕ) → is_range_subtag s ≡ true → IsAscii s
-unfolding is_private_subtag
-IsAscii-subtag s is = elim (or_cases (is_star s) (is_private_subtag s) is) [
-  | inl star ↦ IsAscii-star s star
-  | inr plain ↦ IsAscii-each is_alphanumeric alphanumeric_below s (and_parts (has_length 1 8 s) (are_alphanumeric s) plain).1
-]
-
-IsAscii-subtags : (ss : List (List ℕ)) → are_range_subtags ss ≡ true → AllByRecursion IsAscii ss
-IsAscii-subtags [] each = tt
-IsAscii-subtags (s ∷ ss) each = let k = and_parts (is_range_subtag s) (are_range_subtags ss) each in (IsAscii-subtag s k.0, IsAscii-subtags ss k.1)
-
-IsAscii-range : (ss : List (List ℕ)) → are_extended_range ss ≡ true → IsAscii (join ss)
-IsAscii-range [] is = absurd cc
-IsAscii-range (s ∷ ss) is =
-    let k = and_parts (is_star s || is_first_subtag s) (are_range_subtags ss) is in
-    IsAscii-join (s ∷ ss) (IsAscii-first s k.0, IsAscii-subtags ss k.1)
-
-pub IsUtf8-range : (text : List ℕ) → is_language_range text ≡ true → IsUtf8 text
-IsUtf8-range text is = IsUtf8-from_ascii text (subst IsAscii (join-subtags text) (IsAscii-range (subtags text) is))
-
--- so what is no UTF-8 is neither a range nor a tag
 pub ruleset utf8 = (IsUtf8-range, IsUtf8-tag)
 
 -- ---- kinds

@@ -1,25 +1,21 @@
 -- A language range is ASCII, so bytes that are no UTF-8 are none.
-use Rattle.std.proofs.Common.{◌≡◌, ℕ, ◌<◌, Bool, true, List, [], ◌∷◌, length, ◌||◌, inl, inr, sym, subst, arith}
+use Rattle.std.proofs.Common.{◌≡◌, ℕ, ◌<◌, true, List, [], ◌∷◌, length, ◌||◌, inl, inr, sym, subst, arith}
 use Rattle.std.specs.Char.{is_ascii_alphabetic}
 use Rattle.std.specs.Int.{is_in_range}
-use Rattle.std.specs.List.{AllByRecursion, list_all}
+use Rattle.std.specs.List.{AllByRecursion}
 use Rattle.std.specs.Str.{IsAscii, IsUtf8}
 use Rattle.std.proofs.lemmas.Bool.{and_parts, or_cases}
 use Rattle.std.proofs.lemmas.Bool.Decides.{nat_tests}
 use Rattle.std.proofs.lemmas.Slice.Eq.{bytes_eq-Decides}
-use Rattle.std.proofs.lemmas.Str.{IsUtf8-from_ascii, IsAscii-append}
+use Rattle.std.proofs.lemmas.Str.{IsUtf8-from_ascii}
 use Rattle.std.proofs.lemmas.Str.Ascii.{IsAscii-nil, IsAscii-cons}
 use Rattle.langtag_scan.specs.Class.{has_length, is_alphanumeric, are_alphanumeric, is_private_subtag}
 use Rattle.langtag_scan.specs.Subtags.{join, subtags}
-use Rattle.langtag_scan.proofs.Ascii.{alphanumeric_below}
+use Rattle.langtag_scan.proofs.Ascii.{IsAscii-each, alphanumeric_below, IsAscii-join}
 use Rattle.langtag_scan.proofs.SubtagLists.{join-subtags}
 use Rattle.langtag_match.specs.Range.{is_star, is_first_subtag, are_letters, is_range_subtag, are_range_subtags, are_extended_range, is_language_range}
 
-IsAscii-each : (test : ℕ → Bool) → ((b : ℕ) → test b ≡ true → b < 128) → (s : List ℕ) → list_all test s ≡ true → IsAscii s
-IsAscii-each test below [] each = IsAscii-nil
-IsAscii-each test below (b ∷ s) each =
-    let k = and_parts (test b) (list_all test s) each in
-    IsAscii-cons b s (below b k.0) (IsAscii-each test below s k.1)
+-- ---- a star, a first subtag, any subtag, and the whole range
 
 letter_below : (b : ℕ) → is_ascii_alphabetic b ≡ true → b < 128
 letter_below b h = grind (arith, nat_tests)
@@ -44,17 +40,13 @@ IsAscii-subtags : (ss : List (List ℕ)) → are_range_subtags ss ≡ true → A
 IsAscii-subtags [] each = tt
 IsAscii-subtags (s ∷ ss) each = let k = and_parts (is_range_subtag s) (are_range_subtags ss) each in (IsAscii-subtag s k.0, IsAscii-subtags ss k.1)
 
-IsAscii-join : (ss : List (List ℕ)) → AllByRecursion IsAscii ss → IsAscii (join ss)
-IsAscii-join [] each = IsAscii-nil
-IsAscii-join (s ∷ []) each = each.0
-IsAscii-join (s ∷ u ∷ us) each = IsAscii-append s (45 ∷ join (u ∷ us)) each.0 (IsAscii-cons 45 (join (u ∷ us)) (omega arith) (IsAscii-join (u ∷ us) each.1))
-
 IsAscii-range : (ss : List (List ℕ)) → are_extended_range ss ≡ true → IsAscii (join ss)
 IsAscii-range [] is = absurd cc
 IsAscii-range (s ∷ ss) is =
     let k = and_parts (is_star s || is_first_subtag s) (are_range_subtags ss) is in
     IsAscii-join (s ∷ ss) (IsAscii-first s k.0, IsAscii-subtags ss k.1)
 
+-- so it is UTF-8
 pub IsUtf8-range : (text : List ℕ) → is_language_range text ≡ true → IsUtf8 text
 IsUtf8-range text is = IsUtf8-from_ascii text (subst IsAscii (join-subtags text) (IsAscii-range (subtags text) is))
 
