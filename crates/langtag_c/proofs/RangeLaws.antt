@@ -1,5 +1,5 @@
 -- Language ranges: their bytes, and the number that answers for their kind.
-use Rattle.std.proofs.Common.{◌≡◌, ℕ, true, false, List, IsTrue, refl, arith}
+use Rattle.std.proofs.Common.{◌≡◌, ℕ, false, List, IsTrue, refl, arith}
 use Rattle.langtag_scan.proofs.Ascii.{IsUtf8-tag}
 use Rattle.langtag_match.specs.Range.{is_language_range, is_basic_range}
 use Rattle.langtag_match.proofs.AsciiRanges.{IsUtf8-range}
