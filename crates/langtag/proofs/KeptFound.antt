@@ -8,6 +8,7 @@ use Rattle.langtag_scan.specs.declared.finding.Finding.TheVariants as found_at
 use Rattle.langtag_scan.proofs.CaseLaw.{alike_normal, alike_private, alike_irregular}
 use Rattle.langtag_scan.proofs.FoundLaws.{tag_found, normal_found, private_found, found_had}
 use Rattle.langtag_scan.proofs.IrregularTexts.{irregular_fold}
+use Rattle.langtag_scan.proofs.OneKind.{normal_no_private, normal_no_irregular, private_no_irregular}
 use Rattle.langtag_scan.proofs.SpelledTexts.{offsets_kept}
 use Rattle.langtag_private.proofs.Rules.{IsPrivate-from_test}
 use Rattle.langtag.specs.Kinds.{IsOfKind, AreOfOneKind}
@@ -56,6 +57,9 @@ unfolding IsIrregular
 typed_kind text (Normal tag) same = rw (← same) (offsets_kept _ _ tag.kept_ends).normal
 typed_kind text (PrivateUse tag) same = rw (← same) (IsPrivate-from_test _ tag.in_class)
 typed_kind text (Grandfathered tag) is = (index_of tag, is)
+
+-- no text is of two kinds
+pub ruleset one_kind = (normal_no_private, normal_no_irregular, private_no_irregular)
 
 -- alike texts are of one kind
 pub alike_kinds : (t u : List ℕ) → Alike t u → AreOfOneKind t u

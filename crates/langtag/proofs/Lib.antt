@@ -1,6 +1,7 @@
 pub mod PartsFound
 pub mod PartRules
 pub mod EditLaws
+mod SetBack
 pub mod RegisteredLaws
 pub mod KeptFound
 mod PartOfLaws
@@ -9,3 +10,5 @@ pub mod RepeatLaws
 pub mod VariantNumbers
 pub mod VariantBlockLaws
 pub mod AlikeFound
+-- what the crates above cite with the others
+pub use Rattle.langtag_scan.proofs.TagLaws

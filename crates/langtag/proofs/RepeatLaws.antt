@@ -1,22 +1,25 @@
 -- What is known of the first repeat when the first so many members were looked at.
-use Rattle.std.proofs.Common.{◌≡◌, ℕ, ◌+◌, ◌<◌, Bool, true, false, cond, ◌||◌, ◌==◌, List, [], ◌∷◌, ◌++◌, length, get_or, set, take, drop, map, slice_index, None, Some, inl, inr, refl, ap, sym, subst, ◌∙◌, arith, append-nil, append_assoc}
+use Rattle.std.proofs.Common.{◌≡◌, ℕ, ◌+◌, ◌<◌, Bool, true, false, cond, ◌||◌, ◌==◌, List, [], ◌∷◌, ◌++◌, length, get_or, set, take, drop, map, slice_get, slice_index, Option, None, Some, inl, inr, refl, ap, sym, subst, ◌∙◌, arith, append-nil, append_assoc}
 use Rattle.std.specs.List.{list_any, AllPairs}
+use Rattle.std.specs.Option.{option_and_then, option_map}
+use Rattle.std.proofs.Math.Bool.{or-false}
 use Rattle.std.proofs.lemmas.Bool.Decides.{eqb_tells}
 use Rattle.std.proofs.lemmas.Bool.{or_right}
 use Rattle.std.proofs.lemmas.Grind.{get_or-set_at}
-use Rattle.std.proofs.lemmas.List.{at_drop_more, take_more, length-drop, get_or-set_other, drop-map}
+use Rattle.std.proofs.lemmas.List.{at_drop_more, take_more, length-take, length-drop, get_or-set_other, drop-map}
 use Rattle.std.proofs.lemmas.List.Folds.{list_any_more, list_any_at, Any-from_list_any}
 use Rattle.std.proofs.lemmas.List.Quantifiers.{all_pairs_push}
+use Rattle.std.proofs.lemmas.Option.{slice_get-map}
 use Rattle.std.proofs.lemmas.Str.Ascii.{lowercase_ascii}
 use Rattle.langtag_scan.specs.Case.{fold_byte}
 use Rattle.langtag_scan.specs.Class.{is_singleton}
 use Rattle.langtag_scan.specs.Record.{Extension}
-use Rattle.langtag_scan.specs.Subtags.{join}
 use Rattle.std.proofs.lemmas.Bool.{false_from_ne_true}
 use Rattle.langtag_scan.proofs.Ascii.{alphanumeric_below}
 use Rattle.langtag_scan.proofs.SubtagFacts.{singleton_alphanumeric}
 use Rattle.langtag_extension.specs.Spelling.{extension_spelling}
-use Rattle.langtag.specs.Repeat.{repeat, repeat_after, IsFirstRepeat, opening_bytes}
+use Rattle.langtag_extension.proofs.LookUp.{first_byte-spelling}
+use Rattle.langtag.specs.Repeat.{repeat_index_after, repeat_index, repeat, IsFirstRepeat, IsFirstRepeatAt}
 
 -- ---- a walk that has come to a member
 
@@ -34,36 +37,45 @@ IsAt-drop xs n x rest left =
 
 module _ {A : Type 0} (alike : A → A → Bool) where
   -- one more member: it is the one, or is one of those that were seen
-  pub repeat_after-turn :
+  repeat_index_after-turn :
       (xs : List A) (n : ℕ) (x : A) (rest : List A) → IsAt xs n x rest →
-      repeat_after alike (take n xs) (drop n xs) ≡ cond (list_any (alike x) (take n xs)) (Some x) (repeat_after alike (take (n + 1) xs) (drop (n + 1) xs))
-  repeat_after-turn xs n x rest at =
-      at_drop_more (repeat_after alike (take n xs)) xs n x at.below
-      ∙ ap (λ z. repeat_after alike (take n xs) (z ∷ drop (n + 1) xs)) (sym at.member)
-      ∙ ap (λ seen. cond (list_any (alike x) (take n xs)) (Some x) (repeat_after alike seen (drop (n + 1) xs))) (ap (λ z. take n xs ++ z ∷ []) at.member ∙ sym (take_more xs n x at.below))
+      repeat_index_after alike (take n xs) (drop n xs)
+      ≡ cond (list_any (alike x) (take n xs)) (Some (length (take n xs))) (repeat_index_after alike (take (n + 1) xs) (drop (n + 1) xs))
+  repeat_index_after-turn xs n x rest at =
+      at_drop_more (repeat_index_after alike (take n xs)) xs n x at.below
+      ∙ ap (λ z. repeat_index_after alike (take n xs) (z ∷ drop (n + 1) xs)) (sym at.member)
+      ∙ ap (λ seen. cond (list_any (alike x) (take n xs)) (Some (length (take n xs))) (repeat_index_after alike seen (drop (n + 1) xs)))
+      (ap (λ z. take n xs ++ z ∷ []) at.member ∙ sym (take_more xs n x at.below))
+
+  turn-by :
+      (xs : List A) (n : ℕ) (x : A) (rest : List A) (seen : Bool) → repeat_index alike xs ≡ repeat_index_after alike (take n xs) (drop n xs) →
+      drop n xs ≡ x ∷ rest → list_any (alike x) (take n xs) ≡ seen →
+      repeat_index alike xs ≡ cond seen (Some (length (take n xs))) (repeat_index_after alike (take (n + 1) xs) (drop (n + 1) xs))
+  turn-by xs n x rest seen so_far left is =
+      so_far ∙ repeat_index_after-turn xs n x rest (IsAt-drop xs n x rest left)
+      ∙ ap (λ b. cond b (Some (length (take n xs))) (repeat_index_after alike (take (n + 1) xs) (drop (n + 1) xs))) is
 
   -- the member is alike an earlier one
   pub repeat-found :
-      (xs : List A) (n : ℕ) (x : A) (rest : List A) → repeat alike xs ≡ repeat_after alike (take n xs) (drop n xs) →
-      drop n xs ≡ x ∷ rest → list_any (alike x) (take n xs) ≡ true → repeat alike xs ≡ Some x
+      (xs : List A) (n : ℕ) (x : A) (rest : List A) → repeat_index alike xs ≡ repeat_index_after alike (take n xs) (drop n xs) →
+      drop n xs ≡ x ∷ rest → list_any (alike x) (take n xs) ≡ true → repeat_index alike xs ≡ Some n
   repeat-found xs n x rest so_far left seen =
-      so_far ∙ repeat_after-turn xs n x rest (IsAt-drop xs n x rest left)
-      ∙ ap (λ b. cond b (Some x) (repeat_after alike (take (n + 1) xs) (drop (n + 1) xs))) seen
+      let below = (IsAt-drop xs n x rest left).below in
+      turn-by xs n x rest true so_far left seen ∙ ap Some (omega (arith, length-take n xs, below))
 
   -- it is not, and the walk goes on
   pub repeat-later :
-      (xs : List A) (n : ℕ) (x : A) (rest : List A) → repeat alike xs ≡ repeat_after alike (take n xs) (drop n xs) →
+      (xs : List A) (n : ℕ) (x : A) (rest : List A) → repeat_index alike xs ≡ repeat_index_after alike (take n xs) (drop n xs) →
       drop n xs ≡ x ∷ rest → list_any (alike x) (take n xs) ≡ false →
-      repeat alike xs ≡ repeat_after alike (take (n + 1) xs) (drop (n + 1) xs)
-  repeat-later xs n x rest so_far left new =
-      so_far ∙ repeat_after-turn xs n x rest (IsAt-drop xs n x rest left)
-      ∙ ap (λ b. cond b (Some x) (repeat_after alike (take (n + 1) xs) (drop (n + 1) xs))) new
+      repeat_index alike xs ≡ repeat_index_after alike (take (n + 1) xs) (drop (n + 1) xs)
+  repeat-later xs n x rest so_far left new = turn-by xs n x rest false so_far left new
 
   -- no member is left
-  pub repeat-none : (xs : List A) (n : ℕ) → repeat alike xs ≡ repeat_after alike (take n xs) (drop n xs) → drop n xs ≡ [] → repeat alike xs ≡ None
-  repeat-none xs n so_far left = so_far ∙ ap (repeat_after alike (take n xs)) left
+  pub repeat-none :
+      (xs : List A) (n : ℕ) → repeat_index alike xs ≡ repeat_index_after alike (take n xs) (drop n xs) → drop n xs ≡ [] → repeat_index alike xs ≡ None
+  repeat-none xs n so_far left = so_far ∙ ap (repeat_index_after alike (take n xs)) left
 
-  -- ---- the law of `repeat`
+  -- ---- the laws of `repeat_index` and `repeat`
 
   HasNoRepeat-push :
       (seen : List A) (x : A) → AllPairs (λ y z. alike z y ≡ false) seen → list_any (alike x) seen ≡ false →
@@ -71,45 +83,88 @@ module _ {A : Type 0} (alike : A → A → Bool) where
   HasNoRepeat-push seen x none new =
       all_pairs_push (λ y z. alike z y ≡ false) seen x none (λ k d inside. false_from_ne_true (alike x (get_or seen k d)) (λ yes. let seen_it = list_any_at (alike x) seen k d inside yes in absurd cc))
 
-  repeat_after-first : (xs seen : List A) → AllPairs (λ y z. alike z y ≡ false) seen → IsFirstRepeat alike (seen ++ xs) (repeat_after alike seen xs)
-  repeat_after-first [] seen none = subst (AllPairs (λ y z. alike z y ≡ false)) (sym (append-nil seen)) none
-  repeat_after-first (x ∷ xs) seen none =
-      by_test (list_any (alike x) seen) refl (λ new. repeat_after-first xs (seen ++ x ∷ []) (HasNoRepeat-push seen x none new))
+  repeat_index_after-first :
+      (xs seen : List A) → AllPairs (λ y z. alike z y ≡ false) seen → IsFirstRepeatAt alike (seen ++ xs) (repeat_index_after alike seen xs)
+  repeat_index_after-first [] seen none = subst (AllPairs (λ y z. alike z y ≡ false)) (sym (append-nil seen)) none
+  repeat_index_after-first (x ∷ xs) seen none =
+      by_test (list_any (alike x) seen) refl (λ new. repeat_index_after-first xs (seen ++ x ∷ []) (HasNoRepeat-push seen x none new))
     where
       by_test :
           (t : Bool) → list_any (alike x) seen ≡ t →
-          (list_any (alike x) seen ≡ false → IsFirstRepeat alike ((seen ++ x ∷ []) ++ xs) (repeat_after alike (seen ++ x ∷ []) xs)) →
-          IsFirstRepeat alike (seen ++ x ∷ xs) (cond t (Some x) (repeat_after alike (seen ++ x ∷ []) xs))
-      by_test true is later = (seen, xs, refl, none, Any-from_list_any (alike x) seen is)
-      by_test false is later = subst (λ all. IsFirstRepeat alike all (repeat_after alike (seen ++ x ∷ []) xs)) (append_assoc seen (x ∷ []) xs) (later is)
+          (list_any (alike x) seen ≡ false → IsFirstRepeatAt alike ((seen ++ x ∷ []) ++ xs) (repeat_index_after alike (seen ++ x ∷ []) xs)) →
+          IsFirstRepeatAt alike (seen ++ x ∷ xs) (cond t (Some (length seen)) (repeat_index_after alike (seen ++ x ∷ []) xs))
+      by_test true is later = (x, (seen, xs, refl, none, Any-from_list_any (alike x) seen is), refl)
+      by_test false is later = subst (λ all. IsFirstRepeatAt alike all (repeat_index_after alike (seen ++ x ∷ []) xs)) (append_assoc seen (x ∷ []) xs) (later is)
+
+  pub repeat_index-first : (xs : List A) → IsFirstRepeatAt alike xs (repeat_index alike xs)
+  repeat_index-first xs = repeat_index_after-first xs [] (λ i j d before inside. absurd (omega arith))
+
+  slice_get-seam : (before after : List A) (x : A) → slice_get (before ++ x ∷ after) (length before) ≡ Some x
+  slice_get-seam [] after x = refl
+  slice_get-seam (y ∷ before) after x = slice_get-seam before after x
 
   -- `repeat` is what it is called
   pub repeat-first : (xs : List A) → IsFirstRepeat alike xs (repeat alike xs)
-  repeat-first xs = repeat_after-first xs [] (λ i j d before inside. absurd (omega arith))
+  repeat-first xs = by_index (repeat_index alike xs) (repeat_index-first xs)
+    where
+      by_index : (o : Option ℕ) → IsFirstRepeatAt alike xs o → IsFirstRepeat alike xs (option_and_then (slice_get xs) o)
+      by_index None none = none
+      by_index (Some k) (x, is, at) =
+          let here : slice_get xs k ≡ Some x = ap (slice_get xs) at ∙ ap (λ ys. slice_get ys (length is.0)) is.2 ∙ slice_get-seam is.0 is.1 x in
+          subst (IsFirstRepeat alike xs) (sym here) is
 
 -- ---- singletons
 
--- the text of an extension begins with its singleton
-opening_byte-spelling : (e : Extension) → slice_index (extension_spelling e) 0 ≡ e.singleton
-opening_byte-spelling e = by_subtags e.subtags
+-- the first of what is left of some extensions, by its text
+pub record IsNextExtension (es : List Extension) (text : List ℕ) (texts : List (List ℕ)) : Type 0 where
+  pub first : Extension
+  pub rest : List Extension
+  pub is : es ≡ first ∷ rest
+  pub spelled : extension_spelling first ≡ text
+  pub others : map extension_spelling rest ≡ texts
+
+pub next_extension : (es : List Extension) (text : List ℕ) (texts : List (List ℕ)) → map extension_spelling es ≡ text ∷ texts → IsNextExtension es text texts
+next_extension [] text texts is = absurd cc
+next_extension (e ∷ es) text texts is = record { first = e; rest = es; is = refl; spelled = cc; others = cc }
+
+pub no_extension : (es : List Extension) → map extension_spelling es ≡ [] → es ≡ []
+no_extension [] none = refl
+no_extension (e ∷ es) none = absurd cc
+
+abbrev pub singletons : List Extension → List ℕ
+singletons es = map (λ e. e.singleton) es
+
+-- its singleton is the byte that the text begins with
+pub record IsNextSingleton (es : List Extension) (n b : ℕ) (texts : List (List ℕ)) : Type 0 where
+  pub rest : List ℕ
+  pub left : drop n (singletons es) ≡ b ∷ rest
+  pub later : map extension_spelling (drop (n + 1) es) ≡ texts
+
+pub next_singleton :
+    (es : List Extension) (n : ℕ) (text : List ℕ) (texts : List (List ℕ)) (b : ℕ) → map extension_spelling (drop n es) ≡ text ∷ texts →
+    b ≡ slice_index text 0 → IsNextSingleton es n b texts
+next_singleton es n text texts b is opens =
+    let next = next_extension (drop n es) text texts is in
+    let byte : b ≡ next.first.singleton = opens ∙ ap (λ (t : List ℕ). slice_index t 0) (sym next.spelled) ∙ first_byte-spelling next.first in
+    record {
+      rest = singletons next.rest;
+      left = drop-map (λ e. e.singleton) n es ∙ ap singletons next.is ∙ ap (λ c. c ∷ singletons next.rest) (sym byte);
+      later = ap (map extension_spelling) (IsAt-drop es n next.first next.rest next.is).later ∙ next.others;
+    }
+
+pub no_singleton : (es : List Extension) (n : ℕ) → map extension_spelling (drop n es) ≡ [] → drop n (singletons es) ≡ []
+no_singleton es n left = drop-map (λ e. e.singleton) n es ∙ ap singletons (no_extension (drop n es) left)
+
+-- the one at an index, by the text at that index
+pub singleton_at :
+    (es : List Extension) (k : ℕ) (text : Option (List ℕ)) → text ≡ slice_get (map extension_spelling es) k →
+    option_map (λ (t : List ℕ). slice_index t 0) text ≡ slice_get (singletons es) k
+singleton_at es k text is =
+    ap (option_map (λ (t : List ℕ). slice_index t 0)) (is ∙ slice_get-map extension_spelling es k) ∙ by_member (slice_get es k) ∙ sym (slice_get-map (λ e. e.singleton) es k)
   where
-    by_subtags : (ss : List (List ℕ)) → slice_index (join ((e.singleton ∷ []) ∷ ss)) 0 ≡ e.singleton
-    by_subtags [] = refl
-    by_subtags (s ∷ ss) = refl
-
-pub opening_bytes-spellings : (es : List Extension) → opening_bytes (map extension_spelling es) ≡ map (λ e. e.singleton) es
-opening_bytes-spellings [] = refl
-opening_bytes-spellings (e ∷ es) = ap (λ b. b ∷ opening_bytes (map extension_spelling es)) (opening_byte-spelling e) ∙ ap (λ bs. e.singleton ∷ bs) (opening_bytes-spellings es)
-
--- what is left of the bytes is that of the texts
-pub opening_bytes-drop :
-    (texts : List (List ℕ)) (n : ℕ) (text : List ℕ) (rest : List (List ℕ)) (b : ℕ) → drop n texts ≡ text ∷ rest →
-    b ≡ slice_index text 0 → drop n (opening_bytes texts) ≡ b ∷ opening_bytes rest
-opening_bytes-drop texts n text rest b left is =
-    drop-map (λ (t : List ℕ). slice_index t 0) n texts ∙ ap opening_bytes left ∙ ap (λ c. c ∷ opening_bytes rest) (sym is)
-
-pub opening_bytes-end : (texts : List (List ℕ)) (n : ℕ) → drop n texts ≡ [] → drop n (opening_bytes texts) ≡ []
-opening_bytes-end texts n left = drop-map (λ (t : List ℕ). slice_index t 0) n texts ∙ ap opening_bytes left
+    by_member : (o : Option Extension) → option_map (λ (t : List ℕ). slice_index t 0) (option_map extension_spelling o) ≡ option_map (λ e. e.singleton) o
+    by_member None = refl
+    by_member (Some e) = ap Some (first_byte-spelling e)
 
 -- the fold of a singleton is ASCII
 pub fold_singleton-below : (b fold : ℕ) → is_singleton b ≡ true → fold ≡ fold_byte b → fold < 128
@@ -134,7 +189,3 @@ AreFlagsOf-set flags bytes n b fold rest at all is below before c inside =
           get_or-set_other flags fold c true false (λ e. other.1 (e ∙ is))
           ∙ before c inside ∙ sym (more ∙ ap (λ t. list_any (λ a. c == fold_byte a) (take n bytes) || t) other.0 ∙ or-false (list_any (λ a. c == fold_byte a) (take n bytes)))
     ]
-  where
-    or-false : (t : Bool) → (t || false) ≡ t
-    or-false true = refl
-    or-false false = refl

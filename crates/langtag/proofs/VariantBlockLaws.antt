@@ -2,6 +2,7 @@
 use Rattle.std.proofs.Common.{◌≡◌, ℕ, zero, suc, ◌+◌, ◌-◌, ◌<◌, ◌≤◌, Bool, true, false, ◌||◌, ◌&&◌, ◌==◌, List, [], ◌∷◌, ◌++◌, length, get_or, set, take, drop, map, Some, None, IsTrue, inl, inr, refl, ap, sym, subst, ◌∙◌, arith, add-one}
 use Rattle.std.specs.List.{list_any, list_all}
 use Rattle.std.specs.List.Sorted.{IsNonDecreasing}
+use Rattle.std.proofs.Math.Bool.{or-true, or-false}
 use Rattle.std.proofs.lemmas.Bool.{and_parts, cases_lt}
 use Rattle.std.proofs.lemmas.Bool.Decides.{eqb_tells}
 use Rattle.std.proofs.lemmas.Grind.{get_or-set_at}
@@ -10,7 +11,7 @@ use Rattle.std.proofs.lemmas.List.Folds.{list_any_at, list_any_none, list_any-ap
 use Rattle.std.proofs.lemmas.List.Sorted.{list_any-IsPermutation}
 use Rattle.langtag_scan.specs.Case.{are_alike}
 use Rattle.langtag_scan.specs.Class.{is_variant}
-use Rattle.langtag.specs.Repeat.{repeat, repeat_after}
+use Rattle.langtag.specs.Repeat.{repeat_index, repeat_index_after}
 use Rattle.langtag.specs.VariantBlocks.{folded_number, HasNoRepeatBefore, IsPlaceOf, AreMet, HoldsFrom}
 use Rattle.langtag.proofs.VariantNumbers.{folded_number-tells}
 use Rattle.langtag.proofs.RepeatLaws.{IsAt, repeat-found, repeat-later, repeat-none}
@@ -56,10 +57,6 @@ push-same numbers number x same =
     list_any-append (λ other. other == x) numbers (number ∷ [])
     ∙ ap (λ b. list_any (λ other. other == x) numbers || (b || false)) is_it
     ∙ or-true (list_any (λ other. other == x) numbers)
-  where
-    or-true : (t : Bool) → (t || true) ≡ true
-    or-true true = refl
-    or-true false = refl
 
 push-other : (numbers : List ℕ) (number x : ℕ) → (number ≡ x → ⊥) → list_any (λ other. other == x) (numbers ++ number ∷ []) ≡ list_any (λ other. other == x) numbers
 push-other numbers number x differs =
@@ -67,10 +64,6 @@ push-other numbers number x differs =
     list_any-append (λ other. other == x) numbers (number ∷ [])
     ∙ ap (λ b. list_any (λ other. other == x) numbers || (b || false)) not_it
     ∙ or-false (list_any (λ other. other == x) numbers)
-  where
-    or-false : (t : Bool) → (t || false) ≡ t
-    or-false true = refl
-    or-false false = refl
 
 pub AreMet-absent :
     (block : List ℕ) (met : List Bool) (numbers : List ℕ) (number : ℕ) → IsAbsent block number → AreMet block met numbers → AreMet block met (numbers ++ number ∷ [])
@@ -114,19 +107,19 @@ again-present block met numbers number place at inside same before =
 
 -- no repeat is among them: `repeat` has come to the others
 pub repeat-so_far :
-    (texts : List (List ℕ)) (n : ℕ) → n ≤ length texts → HasNoRepeatBefore n texts → repeat are_alike texts ≡ repeat_after are_alike (take n texts) (drop n texts)
+    (texts : List (List ℕ)) (n : ℕ) → n ≤ length texts → HasNoRepeatBefore n texts → repeat_index are_alike texts ≡ repeat_index_after are_alike (take n texts) (drop n texts)
 repeat-so_far texts zero within none = refl
 repeat-so_far texts (suc n) within none =
-    subst (λ m. repeat are_alike texts ≡ repeat_after are_alike (take m texts) (drop m texts)) (add-one n)
+    subst (λ m. repeat_index are_alike texts ≡ repeat_index_after are_alike (take m texts) (drop m texts)) (add-one n)
     (repeat-later are_alike texts n (get_or texts n []) (drop (n + 1) texts) (repeat-so_far texts n (omega arith) (λ i below. none i (omega arith)))
     (at_drop_more (λ ts. ts) texts n [] (omega arith)) (none n (omega arith)))
 
-pub repeat-past : (texts : List (List ℕ)) (n : ℕ) → n ≡ length texts → HasNoRepeatBefore n texts → repeat are_alike texts ≡ None
+pub repeat-past : (texts : List (List ℕ)) (n : ℕ) → n ≡ length texts → HasNoRepeatBefore n texts → repeat_index are_alike texts ≡ None
 repeat-past texts n is none = repeat-none are_alike texts n (repeat-so_far texts n (omega (arith, is)) none) (drop_all n texts (omega (arith, is)))
 
 pub repeat-at :
     (texts : List (List ℕ)) (n : ℕ) (text : List ℕ) (rest : List (List ℕ)) → HasNoRepeatBefore n texts → IsAt texts n text rest → drop n texts ≡ text ∷ rest →
-    list_any (are_alike text) (take n texts) ≡ true → repeat are_alike texts ≡ Some text
+    list_any (are_alike text) (take n texts) ≡ true → repeat_index are_alike texts ≡ Some n
 repeat-at texts n text rest none at left seen =
     repeat-found are_alike texts n text rest (let below = at.below in repeat-so_far texts n (omega (arith, below)) none) left seen
 

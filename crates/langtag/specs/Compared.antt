@@ -1,4 +1,4 @@
--- The tag types: their `==`, `cmp` and `hash` go by their texts, folded. Typed tags have `==` alone.
+-- The tag types: their `==`, `cmp` and `hash` are those of their texts, folded. Typed tags have `==` alone.
 use Rattle.std.specs.Prelude.{◌≡◌, ◌==◌, Bool, false}
 use Rattle.langtag_scan.specs.Case.{are_alike}
 use Rattle.langtag_scan.specs.Compare.{ComparesByCase}

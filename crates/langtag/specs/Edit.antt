@@ -48,20 +48,25 @@ of_parts primary extended script region = record {
 
 -- ---- the text: what the record of the old one spells with the member that is set
 
+-- with the subtags that the language spells
 abbrev pub SetsLanguage : List ℕ → List ℕ → List ℕ → Type 0
 SetsLanguage language old new =
     EachRecord old (λ r. EachSpelling language (λ primary extended. Spells (with_language r primary extended) new))
 
+-- with the script, or without
 abbrev pub SetsScript : Option (List ℕ) → List ℕ → List ℕ → Type 0
 SetsScript script old new = EachRecord old (λ r. Spells (with_script r script) new)
 
+-- with the region, or without
 abbrev pub SetsRegion : Option (List ℕ) → List ℕ → List ℕ → Type 0
 SetsRegion region old new = EachRecord old (λ r. Spells (with_region r region) new)
 
+-- with the variants that the text spells: none for the empty text
 abbrev pub SetsVariants : List ℕ → List ℕ → List ℕ → Type 0
 SetsVariants text old new =
     EachRecord old (λ r. (variants : List (List ℕ)) → SpellsVariants variants text → Spells (with_variants r variants) new)
 
+-- with the extensions that the text spells: none for the empty text
 abbrev pub SetsExtensions : List ℕ → List ℕ → List ℕ → Type 0
 SetsExtensions text old new =
     EachRecord old (λ r. (extensions : List Extension) → SpellsExtensions extensions text → Spells (with_extensions r extensions) new)
@@ -71,6 +76,13 @@ pub record SpellsPrivateUse (part : Option PrivateUse) (text : Option (List ℕ)
   pub member : IfSome part IsWellFormedPrivateUse
   pub joined : option_map (λ p. join (private_use_flat p)) part ≡ text
 
+-- with the private use part that the text spells, or without
 abbrev pub SetsPrivateUse : Option (List ℕ) → List ℕ → List ℕ → Type 0
 SetsPrivateUse text old new =
     EachRecord old (λ r. (part : Option PrivateUse) → SpellsPrivateUse part text → Spells (with_private_use r part) new)
+
+-- to set a member to what it was gives the very text back: t is spelled by a record, u by the record with another member, and v
+-- is u with that member set back
+abbrev pub GivesBack : (M : Type 0) → (Record → M → Record) → (Record → List ℕ → List ℕ → Type 0) → Type 0
+GivesBack M with_member sets_back =
+    (r : Record) (m : M) (t u v : List ℕ) → Spells r t → Spells (with_member r m) u → sets_back r u v → v ≡ t

@@ -5,6 +5,7 @@ use Rattle.langtag.specs.declared.grandfathered.GrandfatheredLangTag.{Grandfathe
 use Rattle.langtag.specs.declared.grandfathered.InvalidGrandfatheredTag.{InvalidGrandfatheredTag}
 use Rattle.langtag.specs.Registered.{index_of, IsGrandfatheredAt, IsGrandfathered}
 
+-- the tag that the bytes are but for case; else the bytes themselves come back
 pub record LooksUp (bytes : Bor (List ℕ)) (result : Result GrandfatheredLangTag (InvalidGrandfatheredTag (Bor (List ℕ)))) : Type 0 where
   pub accepts : IsTrue (is_ok result) ↔ IsGrandfathered bytes.now
   pub same_tag : IfOk result (λ tag. IsGrandfatheredAt (index_of tag) bytes.now)

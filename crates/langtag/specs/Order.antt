@@ -27,8 +27,10 @@ pub record CompareAs {K : Type 0}
   pub ordered : (a b : K) → order a b ≡ nat_cmp (index a) (index b)
   pub hashed : (a : K) → fed a ≡ usize (index a)
 
+-- grandfathered tags, by their order in RFC 5646 section 2.1
 abbrev pub TagsCompareByIndex : Type 0
 TagsCompareByIndex = CompareAs index_of tag_equality.eq-value.it tag_order.cmp-value.it tag_hash.hash_input-value.it
 
+-- kinds, by their order in the enum
 abbrev pub KindsCompareByIndex : Type 0
 KindsCompareByIndex = CompareAs index_of_kind kind_equality.eq-value.it kind_order.cmp-value.it kind_hash.hash_input-value.it

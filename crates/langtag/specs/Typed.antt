@@ -23,21 +23,25 @@ IsTypedAs text (Normal tag) = normal_lang_tag_text tag ≡ text
 IsTypedAs text (PrivateUse tag) = private_use_text tag ≡ text
 IsTypedAs text (Grandfathered tag) = IsIrregularAt (index_of tag) text
 
+-- the kind of a typed tag
 abbrev pub kind_of : TypedLangTag → kind.Kind
 kind_of (Normal tag) = kinds.Normal
 kind_of (PrivateUse tag) = kinds.PrivateUse
 kind_of (Grandfathered tag) = kinds.Grandfathered
 
+-- the normal tag, or none
 abbrev pub normal_of : TypedLangTag → Option NormalLangTag
 normal_of (Normal tag) = Some tag
 normal_of (PrivateUse tag) = None
 normal_of (Grandfathered tag) = None
 
+-- the tag for private use as a whole, or none
 abbrev pub private_use_of : TypedLangTag → Option PrivateUsePart
 private_use_of (Normal tag) = None
 private_use_of (PrivateUse tag) = Some tag
 private_use_of (Grandfathered tag) = None
 
+-- the irregular grandfathered tag, or none
 abbrev pub grandfathered_of : TypedLangTag → Option GrandfatheredLangTag
 grandfathered_of (Normal tag) = None
 grandfathered_of (PrivateUse tag) = None

@@ -3,7 +3,7 @@ use Rattle.std.specs.Prelude.{◌≡◌, ℕ, ◌+◌, ◌*◌, ◌<◌, ◌≤�
 use Rattle.std.specs.List.{list_any}
 use Rattle.std.specs.List.Sorted.{IsPermutation}
 use Rattle.langtag_scan.specs.Case.{fold_byte, are_alike}
-use Rattle.langtag.specs.Repeat.{repeat}
+use Rattle.langtag.specs.Repeat.{repeat_index}
 
 -- the folded bytes of a text as the digits of a number in base 256
 abbrev pub folded_number : List ℕ → ℕ
@@ -13,10 +13,10 @@ folded_number text = fold (λ number byte. number * 256 + fold_byte byte) 0 text
 abbrev pub HasNoRepeatBefore : ℕ → List (List ℕ) → Type 0
 HasNoRepeatBefore end texts = (i : ℕ) → i < end → list_any (are_alike (slice_index_or texts i [])) (take i texts) ≡ false
 
--- this is the first repeat of the texts; or there is none before an index
-abbrev pub IsRepeatBefore : ℕ → List (List ℕ) → Option (List ℕ) → Type 0
+-- the first repeat of the texts stands there; or there is none before an index
+abbrev pub IsRepeatBefore : ℕ → List (List ℕ) → Option ℕ → Type 0
 IsRepeatBefore end texts None = HasNoRepeatBefore end texts
-IsRepeatBefore end texts (Some text) = Some text ≡ repeat are_alike texts
+IsRepeatBefore end texts (Some index) = Some index ≡ repeat_index are_alike texts
 
 -- a block has, in order, the numbers of as many texts from a start on
 abbrev pub HoldsFrom : ℕ → List (List ℕ) → List ℕ → Type 0

@@ -5,7 +5,7 @@ ghost use Rattle.std.specs.Prelude.{◌≡◌, ◌++◌, ◌+◌, ◌≤◌, [],
 ghost use Rattle.std.specs.List.{replace_range};
 ghost use Rattle.std.specs.Option.{option_map};
 ghost use Rattle.std.specs.Str.{IsAscii};
-ghost use Rattle.std.specs.String.{string_bytes};
+ghost use Rattle.std.specs.String.{string_bytes, string_capacity};
 ghost use Rattle.langtag_scan.specs.Ends.{HasEnds};
 ghost use Rattle.langtag_language.specs.Text.{language_text};
 ghost use Rattle.langtag_place.specs.Text.{script_text, region_text, variants_text};
@@ -174,6 +174,7 @@ fn replace_part(
     ensures moved { IfOk result (λ count. length (string_bytes text.new) + end ≡ length (string_bytes text.old) + start + count) }
     ensures unchanged { OnErr result (text.new ≡ text.old) }
     ensures taken_out { part.now ≡ [] → IsOk result }
+    ensures room_kept { part.now ≡ [] → string_capacity text.old ≤ string_capacity text.new }
 {
     if part.is_empty() {
         text.replace_range(start..end, "")?;

@@ -8,10 +8,10 @@ use thiserror::Error;
 /// Why a part was not put into a tag, or taken out of it. The tag is as it was.
 #[derive(Clone, Copy, Debug, PartialEq, Eq, Error)]
 pub enum EditError {
-    /// The tag is no normal one, and has no parts (RFC 5646 section 2.1): `x-a` and `i-klingon` are refused so.
+    /// The tag is not a normal one, and has no parts (RFC 5646 section 2.1): `x-a` and `i-klingon` are refused so.
     #[error("not a normal language tag")]
     NotNormal,
-    /// No memory could be had.
+    /// Out of memory.
     #[error("out of memory")]
     Memory(AllocError),
 }

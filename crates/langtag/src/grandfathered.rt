@@ -146,7 +146,7 @@ impl GrandfatheredLangTag {
     ghost use Rattle.langtag.specs.Order.{TagsCompareByIndex};
     ghost use Rattle.langtag.specs.Registered.{index_of, language_of, IsGrandfatheredAt, IsGrandfathered};
 
-    /// The grandfathered tag with these bytes, in any case: `GrandfatheredLangTag::new(b"I-AMI")` is
+    /// Returns the grandfathered tag with these bytes, in any case: `GrandfatheredLangTag::new(b"I-AMI")` is
     /// `Ok(GrandfatheredLangTag::IAmi)`.
     ///
     /// Its contract also has the laws that no bytes are alike two of them, that all of them are tags, that they compare and
@@ -181,7 +181,7 @@ impl GrandfatheredLangTag {
         GRANDFATHERED[index]
     }
 
-    /// The primary language of a regular tag: `zh` of `zh-min-nan`. An irregular one has none: None of `i-lux`.
+    /// Returns the primary language of a regular tag: `zh` of `zh-min-nan`. An irregular one has none: None of `i-lux`.
     #[tactic(auto, unfolding(langtag_scan::specs::Grandfathered::grandfathered_tags))]
     pub fn language(&self) -> Option<Language<'static>>
         ensures { option_map language_text result ≡ language_of self.now }
@@ -190,7 +190,7 @@ impl GrandfatheredLangTag {
         Some(Language::from_checked(language))
     }
 
-    /// The registered spelling: `sgn-BE-FR` of `GrandfatheredLangTag::SgnBeFr`.
+    /// Returns the registered spelling: `sgn-BE-FR` of `GrandfatheredLangTag::SgnBeFr`.
     #[tactic(auto, unfolding(langtag_scan::specs::Grandfathered::grandfathered_tags))]
     pub fn as_str(&self) -> &'static str
         ensures { result.now ≡ text_of self.now }
@@ -198,14 +198,15 @@ impl GrandfatheredLangTag {
         REGISTERED[*self as usize].0
     }
 
-    /// The tag with the registered spelling: `GrandfatheredLangTag::ILux.as_lang_tag().kind()` is `Kind::Grandfathered`.
+    /// Returns the tag with the registered spelling: `GrandfatheredLangTag::ILux.as_lang_tag().kind()` is
+    /// `Kind::Grandfathered`.
     pub fn as_lang_tag(&self) -> LangTag<'static>
         ensures { lang_tag_text result ≡ text_of self.now }
     {
         LangTag::from_checked(self.as_str())
     }
 
-    /// The bytes of the registered spelling: `b"i-lux"` of `GrandfatheredLangTag::ILux`.
+    /// Returns the bytes of the registered spelling: `b"i-lux"` of `GrandfatheredLangTag::ILux`.
     pub fn as_bytes(&self) -> &'static [u8]
         ensures { result.now ≡ text_of self.now }
     {

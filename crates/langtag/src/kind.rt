@@ -15,21 +15,23 @@ pub enum Kind {
 }
 
 impl Kind {
-    /// Whether this is the kind of a tag that is made of parts: `Kind::Normal.is_normal()` is true.
+    /// Returns whether this is the kind of a tag that is made of parts: `Kind::Normal.is_normal()` is true.
     pub fn is_normal(&self) -> bool
         ensures { IsTrue result ↔ (self.now ≡ Kind.Normal) }
     {
         matches!(self, Kind::Normal)
     }
 
-    /// Whether this is the kind of a tag for private use as a whole: `Kind::PrivateUse.is_private_use()` is true.
+    /// Returns whether this is the kind of a tag for private use as a whole: `Kind::PrivateUse.is_private_use()` is
+    /// true.
     pub fn is_private_use(&self) -> bool
         ensures { IsTrue result ↔ (self.now ≡ Kind.PrivateUse) }
     {
         matches!(self, Kind::PrivateUse)
     }
 
-    /// Whether this is the kind of an irregular grandfathered tag: `Kind::Grandfathered.is_grandfathered()` is true.
+    /// Returns whether this is the kind of an irregular grandfathered tag: `Kind::Grandfathered.is_grandfathered()` is
+    /// true.
     pub fn is_grandfathered(&self) -> bool
         ensures { IsTrue result ↔ (self.now ≡ Kind.Grandfathered) }
     {

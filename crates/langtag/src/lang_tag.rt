@@ -16,7 +16,7 @@ use crate::kind::Kind;
 use crate::lang_tag_buf::LangTagBuf;
 use crate::normal_lang_tag::NormalLangTag;
 use crate::private_use_lang_tag::PrivateUseLangTag;
-use crate::recognise_text::{recognise_checked, recognise_text};
+use crate::recognise_text::recognise_text;
 use crate::typed_lang_tag::TypedLangTag;
 use langtag_case::{InRecommendedCase, is_in_recommended_case};
 use langtag_extension::Extensions;
@@ -30,7 +30,7 @@ use std::fmt;
 use std::fmt::Debug;
 use thiserror::Error;
 
-/// A text that is no tag. It hands the text back.
+/// The error for a text that is not a tag. It hands the text back.
 #[derive(Debug, Drop, Error)]
 #[error("invalid language tag")]
 #[error_bound(T: Debug + Drop)]
@@ -60,15 +60,21 @@ impl<'a> LangTag<'a> {
     ghost use Rattle.langtag.specs.Text.{normal_lang_tag_text, lang_tag_text, lang_tag_buf_text};
     ghost use Rattle.langtag.specs.Typed.{IsTypedAs};
 
-    /// The tag of a text: `LangTag::new("zh-Hant-TW")` is Ok, and so are `x-fr-CH` and `I-Klingon`.
+    /// Parses a text as a tag: `LangTag::new("zh-Hant-TW")` is Ok, and so are `x-fr-CH` and `I-Klingon`. The contract
+    /// also says that no text is of two kinds.
     ///
     /// # Errors
     ///
-    /// A text that is no tag comes back: `zh_Hant`, and the empty text.
+    /// A text that is not a tag comes back: `zh_Hant`, and the empty text.
+    #[tactic(auto, using(crate::proofs::KeptFound::found_kept, crate::proofs::KeptFound::one_kind))]
     pub fn new(text: &'a str) -> Result<LangTag<'a>, InvalidLangTag<&'a str>>
         ensures accepts { IsTrue (is_ok result) ↔ IsTag text.now }
         ensures same_text { IfOk result (λ tag. lang_tag_text tag ≡ text.now) }
         ensures given_back { IfErr result (λ error. error.0 ≡ text.entry) }
+
+        ensures normal_not_private { (t : List ℕ) → IsNormal t → IsPrivate t → ⊥ }
+        ensures normal_not_irregular { (t : List ℕ) → IsNormal t → IsIrregular t → ⊥ }
+        ensures private_not_irregular { (t : List ℕ) → IsPrivate t → IsIrregular t → ⊥ }
     {
         let Some(found) = recognise_text(text) else {
             return Err(InvalidLangTag(text));
@@ -76,13 +82,16 @@ impl<'a> LangTag<'a> {
         Ok(LangTag::with_found(text, found))
     }
 
-    /// The tag of a text that is known to be one: `LangTag::from_checked(tag.as_str()) == tag` of each tag. The recogniser goes
-    /// over the text once more, for what it finds.
+    /// Returns the tag of a text that is known to be one: `LangTag::from_checked(tag.as_str()) == tag` of each tag. The
+    /// recogniser goes over the text once more, for what it finds.
     pub fn from_checked(text: &'a str) -> LangTag<'a>
         requires { IsTag text.now }
         ensures { lang_tag_text result ≡ text.now }
     {
-        LangTag::with_found(text, recognise_checked(text))
+        let Some(found) = recognise_text(text) else {
+            unreachable!()
+        };
+        LangTag::with_found(text, found)
     }
 
     /// The tag of a text of which this was found: it is not looked at again.
@@ -96,7 +105,7 @@ impl<'a> LangTag<'a> {
         }
     }
 
-    /// The text, with its case: `ZH-hant` of `ZH-hant`.
+    /// Returns the text, with its case: `ZH-hant` of `ZH-hant`.
     pub fn as_str(&self) -> &'a str
         ensures same_text { result.now ≡ lang_tag_text self.now }
         ensures in_class { IsTag result.now }
@@ -104,14 +113,15 @@ impl<'a> LangTag<'a> {
         self.text.0
     }
 
-    /// The bytes of the text: `b"x-a"` of `x-a`.
+    /// Returns the bytes of the text: `b"x-a"` of `x-a`.
     pub fn as_bytes(&self) -> &'a [u8]
         ensures { result.now ≡ lang_tag_text self.now }
     {
         self.as_str().as_bytes()
     }
 
-    /// All subtags of the tag, in order and from both ends: `zh`, `Hant` and `TW` of `zh-Hant-TW`, `x` and `a` of `x-a`.
+    /// Returns all subtags of the tag, in order and from both ends: `zh`, `Hant` and `TW` of `zh-Hant-TW`, `x` and `a`
+    /// of `x-a`.
     #[tactic(auto, using(langtag_scan::proofs::SpelledTexts::tag_subtags))]
     pub fn subtags(&self) -> Subtags<'a>
         ensures list { result ≡ subtags (lang_tag_text self.now) }
@@ -121,8 +131,9 @@ impl<'a> LangTag<'a> {
         Subtags::new(self.as_str())
     }
 
-    /// Whether another text, of any form, is equal but for the case of ASCII letters: true of `zh-Hant` and `ZH-hant`. Then
-    /// it is a tag of the same kind, and, where that is a normal one, has alike parts at the same offsets.
+    /// Returns whether another text, of any form, is equal but for the case of ASCII letters: true of `zh-Hant` and
+    /// `ZH-hant`. Then it is a tag of the same kind, and, where that is a normal one, has alike parts at the same
+    /// offsets.
     ///
     /// The contract also says that tags are compared, ordered and hashed without regard to case, that a clone is the tag
     /// itself, and that a tag that begins another is the greater of the two: `zh` comes after `zh-Latn`.
@@ -139,23 +150,20 @@ impl<'a> LangTag<'a> {
         self.text == Caseless(other)
     }
 
-    /// The kind of the tag: `Kind::Normal` of `fr-x-a`, `Kind::PrivateUse` of `x-a`, `Kind::Grandfathered` of `i-lux`. The
-    /// regular grandfathered tags are normal. The contract also says that kinds compare and are hashed as they are declared,
-    /// that a clone of one is the same, and that no text is of two kinds.
+    /// Returns the kind of the tag: `Kind::Normal` of `fr-x-a`, `Kind::PrivateUse` of `x-a`, `Kind::Grandfathered` of
+    /// `i-lux`. The regular grandfathered tags are normal. The contract also says that kinds compare and are hashed as
+    /// they are declared, and that a clone of one is the same.
     pub fn kind(&self) -> Kind
         ensures kind { IsOfKind (lang_tag_text self.now) result }
         ensures by_index { KindsCompareByIndex }
         ensures cloned { (kind copy : Kind) → ⟦<Kind as Clone>⟧.is_clone kind copy → copy ≡ kind }
         ensures clone_succeeds { (kind : Kind) → ⟦<Kind as Clone>⟧.is_infallible kind }
-
-        ensures normal_not_private { (t : List ℕ) → IsNormal t → IsPrivate t → ⊥ }
-        ensures normal_not_irregular { (t : List ℕ) → IsNormal t → IsIrregular t → ⊥ }
-        ensures private_not_irregular { (t : List ℕ) → IsPrivate t → IsIrregular t → ⊥ }
     {
         self.as_typed().kind()
     }
 
-    /// The tag as a value of the type of its kind: `TypedLangTag::PrivateUse(tag)` of `x-a`, where `tag` has the same text.
+    /// Returns the tag as a value of the type of its kind: `TypedLangTag::PrivateUse(tag)` of `x-a`, where `tag` has
+    /// the same text.
     pub fn as_typed(&self) -> TypedLangTag<'a>
         ensures { IsTypedAs (lang_tag_text self.now) result }
     {
@@ -168,21 +176,23 @@ impl<'a> LangTag<'a> {
         }
     }
 
-    /// Whether the tag is a normal one: true of `zh-Latn`, false of `x-a` and `i-lux`. The regular grandfathered ones are.
+    /// Returns whether the tag is a normal one: true of `zh-Latn`, false of `x-a` and `i-lux`. The regular
+    /// grandfathered ones are.
     pub fn is_normal(&self) -> bool
         ensures { IsTrue result ↔ IsNormal (lang_tag_text self.now) }
     {
         self.found.is_normal()
     }
 
-    /// Whether the tag is for private use as a whole: true of `x-a`, false of `fr-x-a`.
+    /// Returns whether the tag is for private use as a whole: true of `x-a`, false of `fr-x-a`.
     pub fn is_private_use(&self) -> bool
         ensures { IsTrue result ↔ IsPrivate (lang_tag_text self.now) }
     {
         self.found.is_private_use()
     }
 
-    /// Whether the tag is one of the 26 grandfathered ones, in any case (RFC 5646 section 2.2.8): true of `i-lux`.
+    /// Returns whether the tag is one of the 26 grandfathered ones, in any case (RFC 5646 section 2.2.8): true of
+    /// `i-lux`.
     ///
     /// The regular ones are normal tags too, so this is true of `art-lojban`, whose kind is normal:
     /// [`as_typed().is_grandfathered()`](TypedLangTag::is_grandfathered) is false of it.
@@ -192,7 +202,7 @@ impl<'a> LangTag<'a> {
         self.as_grandfathered().is_some()
     }
 
-    /// The normal tag, where the tag is one: Some of `zh-Latn` and of `art-lojban`, None of `x-a`.
+    /// Returns the normal tag, where the tag is one: Some of `zh-Latn` and of `art-lojban`, None of `x-a`.
     pub fn as_normal(&self) -> Option<NormalLangTag<'a>>
         ensures kind { IsTrue (is_some result) ↔ IsNormal (lang_tag_text self.now) }
         ensures same_text { IfSome result (λ tag. normal_lang_tag_text tag ≡ lang_tag_text self.now) }
@@ -201,7 +211,7 @@ impl<'a> LangTag<'a> {
         Some(NormalLangTag::with_ends(self.text.0, ends))
     }
 
-    /// The tag for private use, where the whole tag is one: Some of `x-a`, None of `fr-x-a`.
+    /// Returns the tag for private use, where the whole tag is one: Some of `x-a`, None of `fr-x-a`.
     pub fn as_private_use(&self) -> Option<PrivateUseLangTag<'a>>
         ensures kind { IsTrue (is_some result) ↔ IsPrivate (lang_tag_text self.now) }
         ensures same_text { IfSome result (λ tag. private_use_text tag ≡ lang_tag_text self.now) }
@@ -212,7 +222,8 @@ impl<'a> LangTag<'a> {
         Some(PrivateUse::from_checked(self.text.0))
     }
 
-    /// The grandfathered tag, where the tag is one of the 26, in any case: Some of `I-Lux` and of `art-lojban`, None of `fr`.
+    /// Returns the grandfathered tag, where the tag is one of the 26, in any case: Some of `I-Lux` and of `art-lojban`,
+    /// None of `fr`.
     pub fn as_grandfathered(&self) -> Option<GrandfatheredLangTag>
         ensures kind { IsTrue (is_some result) ↔ IsGrandfathered (lang_tag_text self.now) }
         ensures same_tag { IfSome result (λ tag. IsGrandfatheredAt (index_of tag) (lang_tag_text self.now)) }
@@ -220,11 +231,11 @@ impl<'a> LangTag<'a> {
         GrandfatheredLangTag::new(self.as_bytes()).ok()
     }
 
-    /// The owned form of the same text: `owned.as_str()` is `zh-Latn` where this is `zh-Latn`.
+    /// Returns the owned form of the same text: `owned.as_str()` is `zh-Latn` where this is `zh-Latn`.
     ///
     /// # Errors
     ///
-    /// No memory could be had.
+    /// Out of memory.
     pub fn try_to_owned(&self, alloc: Global) -> Result<LangTagBuf, AllocError>
         ensures { IfOk result (λ owned. lang_tag_buf_text owned ≡ lang_tag_text self.now) }
     {
@@ -232,7 +243,7 @@ impl<'a> LangTag<'a> {
         Ok(LangTagBuf::with_found(text, self.found))
     }
 
-    /// The tag as it reads in the case that RFC 5646 section 2.1.1 recommends, to be displayed: `{}` of
+    /// Returns the tag as it reads in the case that RFC 5646 section 2.1.1 recommends, to be displayed: `{}` of
     /// `tag.in_recommended_case()` prints `mn-Cyrl-MN` of `MN-cYRL-mn`. No memory is taken.
     #[tactic(auto, using(crate::proofs::AlikeFound::ascii_found))]
     pub fn in_recommended_case(&self) -> InRecommendedCase<'a>
@@ -241,18 +252,20 @@ impl<'a> LangTag<'a> {
         InRecommendedCase::from_checked(self.as_str())
     }
 
-    /// Whether the tag is in the case that RFC 5646 section 2.1.1 recommends: true of `mn-Cyrl-MN`, false of `mn-cyrl-MN`.
+    /// Returns whether the tag is in the case that RFC 5646 section 2.1.1 recommends: true of `mn-Cyrl-MN`, false of
+    /// `mn-cyrl-MN`.
     pub fn is_in_recommended_case(&self) -> bool
         ensures { IsTrue result ↔ (recommended_text (lang_tag_text self.now) ≡ lang_tag_text self.now) }
     {
         is_in_recommended_case(self.as_bytes())
     }
 
-    /// The owned form of the tag in the case that RFC 5646 section 2.1.1 recommends: `mn-Cyrl-MN` of `MN-cYRL-mn`.
+    /// Returns the owned form of the tag in the case that RFC 5646 section 2.1.1 recommends: `mn-Cyrl-MN` of
+    /// `MN-cYRL-mn`.
     ///
     /// # Errors
     ///
-    /// No memory could be had.
+    /// Out of memory.
     pub fn try_to_recommended_case(&self, alloc: Global) -> Result<LangTagBuf, AllocError>
         ensures { IfOk result (λ owned. lang_tag_buf_text owned ≡ recommended_text (lang_tag_text self.now)) }
     {
@@ -272,28 +285,29 @@ impl<'a> LangTag<'a> {
     ghost use Rattle.langtag.specs.Part.{PartOf};
     ghost use Rattle.langtag.specs.Text.{lang_tag_text};
 
-    /// The language of a normal tag: `zh-yue` of `zh-yue-HK`, None of `x-a` and of `i-lux`.
+    /// Returns the language of a normal tag: `zh-yue` of `zh-yue-HK`, None of `x-a` and of `i-lux`.
     pub fn language(&self) -> Option<Language<'a>>
         ensures { PartOf (lang_tag_text self.now) (λ r. Some (language_part r)) None (option_map language_text result) }
     {
         Some(self.as_normal()?.language())
     }
 
-    /// The script of a normal tag: `Latn` of `sl-Latn-IT`, None of `sl-IT` and of `x-a`.
+    /// Returns the script of a normal tag: `Latn` of `sl-Latn-IT`, None of `sl-IT` and of `x-a`.
     pub fn script(&self) -> Option<Script<'a>>
         ensures { PartOf (lang_tag_text self.now) (λ r. r.script) None (option_map script_text result) }
     {
         self.as_normal()?.script()
     }
 
-    /// The region of a normal tag: `419` of `es-419`, None of `es` and of `x-a`.
+    /// Returns the region of a normal tag: `419` of `es-419`, None of `es` and of `x-a`.
     pub fn region(&self) -> Option<Region<'a>>
         ensures { PartOf (lang_tag_text self.now) (λ r. r.region) None (option_map region_text result) }
     {
         self.as_normal()?.region()
     }
 
-    /// The variants of a normal tag, none on any other: `rozaj-1994` of `sl-rozaj-1994`, the empty text of `x-a`.
+    /// Returns the variants of a normal tag, none on any other: `rozaj-1994` of `sl-rozaj-1994`, the empty text of
+    /// `x-a`.
     pub fn variants(&self) -> Variants<'a>
         ensures { PartOf (lang_tag_text self.now) variants_part [] (variants_text result) }
     {
@@ -303,7 +317,8 @@ impl<'a> LangTag<'a> {
         tag.variants()
     }
 
-    /// The extensions of a normal tag, none on any other: `a-bb-u-co` of `en-a-bb-u-co-x-y`, the empty text of `x-a`.
+    /// Returns the extensions of a normal tag, none on any other: `a-bb-u-co` of `en-a-bb-u-co-x-y`, the empty text of
+    /// `x-a`.
     pub fn extensions(&self) -> Extensions<'a>
         ensures { PartOf (lang_tag_text self.now) extensions_part [] (extensions_text result) }
     {
@@ -313,15 +328,16 @@ impl<'a> LangTag<'a> {
         tag.extensions()
     }
 
-    /// The private use part of a normal tag: `x-y` of `en-x-y`. A tag for private use as a whole has none, so it is None of
-    /// `x-a`: see [`as_private_use`](LangTag::as_private_use).
+    /// Returns the private use part of a normal tag: `x-y` of `en-x-y`. A tag for private use as a whole has none, so
+    /// it is None of `x-a`: see [`as_private_use`](LangTag::as_private_use).
     pub fn private_use(&self) -> Option<PrivateUse<'a>>
         ensures { PartOf (lang_tag_text self.now) private_use_part None (option_map private_use_text result) }
     {
         self.as_normal()?.private_use()
     }
 
-    /// The subtags of the private use part of a normal tag, `x` and `y` of `en-x-x-y`; none where there is no such part.
+    /// Returns the subtags of the private use part of a normal tag, `x` and `y` of `en-x-x-y`; none where there is no
+    /// such part.
     pub fn private_use_subtags(&self) -> PrivateUseIter<'a>
         ensures { PartOf (lang_tag_text self.now) private_use_subtags [] (private_use_subtags_left result) }
     {
@@ -350,7 +366,7 @@ impl<'a> From<PrivateUse<'a>> for LangTag<'a> {
     ghost from_gives = { λ private_use tag. lang_tag_text tag ≡ private_use_text private_use };
 
     fn from(tag: PrivateUse<'a>) -> LangTag<'a> {
-        LangTag::from_checked(tag.as_str())
+        LangTag::with_found(tag.as_str(), Found::private_use())
     }
 }
 

@@ -21,7 +21,7 @@ use crate::edit::{
 use crate::edit_error::EditError;
 use crate::lang_tag::{InvalidLangTag, LangTag};
 use crate::normal_lang_tag_buf::NormalLangTagBuf;
-use crate::recognise_text::{recognise_checked, recognise_text};
+use crate::recognise_text::recognise_text;
 use crate::recommended_case::put_recommended_case;
 use langtag_extension::Extensions;
 use langtag_language::Language;
@@ -47,11 +47,11 @@ impl LangTagBuf {
     ghost use Rattle.langtag.specs.Kinds.{AreOfOneKind};
     ghost use Rattle.langtag.specs.Text.{lang_tag_text, lang_tag_buf_string, lang_tag_buf_text, normal_lang_tag_buf_string, normal_lang_tag_buf_text};
 
-    /// The tag of a text, which is neither copied nor moved in memory: Ok of `x-a`.
+    /// Parses a `String` as a tag, and keeps it, without a copy: `x-a` is Ok.
     ///
     /// # Errors
     ///
-    /// A text that is no tag comes back, the same `String`: `x-` does.
+    /// A text that is not a tag comes back, the same `String`: `x-` does.
     pub fn new(text: String) -> Result<LangTagBuf, InvalidLangTag<String>>
         ensures accepts { IsTrue (is_ok result) ↔ IsTag (string_bytes text) }
         ensures same_text { IfOk result (λ tag. lang_tag_buf_text tag ≡ string_bytes text) }
@@ -62,16 +62,6 @@ impl LangTagBuf {
             return Err(InvalidLangTag(text));
         };
         Ok(LangTagBuf::with_found(text, found))
-    }
-
-    /// The tag of a text that is known to be one, which is neither copied nor moved in memory. The recogniser goes over it
-    /// once more, for what it finds.
-    pub(crate) fn from_checked(text: String) -> LangTagBuf
-        requires { IsTag (string_bytes text) }
-        ensures { lang_tag_buf_string result ≡ text }
-    {
-        let found = recognise_checked(text.as_str());
-        LangTagBuf::with_found(text, found)
     }
 
     /// The tag of a text of which this was found: it is not looked at again.
@@ -85,8 +75,8 @@ impl LangTagBuf {
         }
     }
 
-    /// The tag, lent, with what was found of it, so that nothing is looked at again: `owned.as_lang_tag().kind()` is
-    /// `Kind::PrivateUse` of `x-a`.
+    /// Borrows the tag, with what was found of it, so that nothing is looked at again:
+    /// `owned.as_lang_tag().kind()` is `Kind::PrivateUse` of `x-a`.
     ///
     /// The contract also says that owned tags are compared, ordered and hashed without regard to case.
     pub fn as_lang_tag(&self) -> LangTag<'_>
@@ -96,7 +86,7 @@ impl LangTagBuf {
         LangTag::with_found(self.as_str(), self.found)
     }
 
-    /// The text, with its case: `X-a` of `X-a`.
+    /// Returns the text, with its case: `X-a` of `X-a`.
     pub fn as_str(&self) -> &str
         ensures same_text { result.now ≡ lang_tag_buf_text self.now }
         ensures in_class { IsTag result.now }
@@ -104,7 +94,7 @@ impl LangTagBuf {
         self.text.0.as_str()
     }
 
-    /// The same tag as a normal one, over the very `String`: Ok of `zh-TW`. Nothing is looked at again, and
+    /// Returns the same tag as a normal one, over the very `String`: Ok of `zh-TW`. Nothing is looked at again, and
     /// [`into_lang_tag`](NormalLangTagBuf::into_lang_tag) is the way back.
     ///
     /// # Errors
@@ -122,7 +112,7 @@ impl LangTagBuf {
         Ok(NormalLangTagBuf::with_ends(self.text.0, ends))
     }
 
-    /// The text itself, which is not copied: `x-a` of `x-a`.
+    /// Returns the text itself, without a copy: `x-a` of `x-a`.
     pub fn into_string(self) -> String
         ensures same_text { string_bytes result ≡ lang_tag_buf_text self }
         ensures same_string { result ≡ lang_tag_buf_string self }
@@ -150,35 +140,38 @@ impl LangTagBuf {
     }
 }
 
-#[tactic(auto, using(crate::proofs::KeptFound::found_kept, langtag_scan::proofs::SpelledTexts::offsets_kept, langtag_scan::proofs::TagLaws::tag_normal))]
+#[tactic(auto, using(crate::proofs::KeptFound::found_kept, langtag_scan::proofs::SpelledTexts::offsets_kept))]
 impl LangTagBuf {
     ghost use Rattle.langtag.specs.Text.{lang_tag_buf_text};
 
     /// Puts a language into a normal tag, as [`NormalLangTagBuf::set_language`] does: `zh-yue` put into `sl-IT` makes
-    /// `zh-yue-IT`. The recogniser goes over the new text once more.
+    /// `zh-yue-IT`.
     ///
     /// # Errors
     ///
-    /// The tag is no normal one, as `x-a`, or no memory could be had. The tag is as it was.
+    /// The tag is not a normal one, as `x-a`, or memory was refused. The tag is as it was.
     pub fn set_language(&mut self, alloc: Global, language: Language<'_>) -> Result<(), EditError>
         ensures set { OnOk result (SetsLanguage (language_text language.entry) (lang_tag_buf_text self.old) (lang_tag_buf_text self.new)) }
         ensures not_normal { IsErrOf result EditError.NotNormal ↔ (IsNormal (lang_tag_buf_text self.old) → ⊥) }
         ensures unchanged { OnErr result (self.new ≡ self.old) }
+
+        ensures cloned { (error copy : EditError) → ⟦<EditError as Clone>⟧.is_clone error copy → copy ≡ error }
+        ensures clone_succeeds { (error : EditError) → ⟦<EditError as Clone>⟧.is_infallible error }
     {
         let Some(ends) = self.found.ends() else {
             return Err(EditError::NotNormal);
         };
-        put_language(&mut self.text.0, ends, alloc, language)?;
-        self.found = recognise_checked(self.text.0.as_str());
+        let ends = put_language(&mut self.text.0, ends, alloc, language)?;
+        self.found = Found::normal(ends);
         Ok(())
     }
 
     /// Puts a script into a normal tag, or takes it out, as [`NormalLangTagBuf::set_script`] does: `Latn` put into `sl-IT`
-    /// makes `sl-Latn-IT`. The recogniser goes over the new text once more.
+    /// makes `sl-Latn-IT`.
     ///
     /// # Errors
     ///
-    /// The tag is no normal one, as `x-a`, or no memory could be had. The tag is as it was.
+    /// The tag is not a normal one, as `x-a`, or memory was refused. The tag is as it was.
     pub fn set_script(&mut self, alloc: Global, script: Option<Script<'_>>) -> Result<(), EditError>
         ensures set { OnOk result (SetsScript (option_map script_text script.entry) (lang_tag_buf_text self.old) (lang_tag_buf_text self.new)) }
         ensures not_normal { IsErrOf result EditError.NotNormal ↔ (IsNormal (lang_tag_buf_text self.old) → ⊥) }
@@ -188,17 +181,17 @@ impl LangTagBuf {
         let Some(ends) = self.found.ends() else {
             return Err(EditError::NotNormal);
         };
-        put_script(&mut self.text.0, ends, alloc, script)?;
-        self.found = recognise_checked(self.text.0.as_str());
+        let ends = put_script(&mut self.text.0, ends, alloc, script)?;
+        self.found = Found::normal(ends);
         Ok(())
     }
 
     /// Puts a region into a normal tag, or takes it out, as [`NormalLangTagBuf::set_region`] does: `AT` put into `de-DE-1996`
-    /// makes `de-AT-1996`. The recogniser goes over the new text once more.
+    /// makes `de-AT-1996`.
     ///
     /// # Errors
     ///
-    /// The tag is no normal one, as `x-a`, or no memory could be had. The tag is as it was.
+    /// The tag is not a normal one, as `x-a`, or memory was refused. The tag is as it was.
     pub fn set_region(&mut self, alloc: Global, region: Option<Region<'_>>) -> Result<(), EditError>
         ensures set { OnOk result (SetsRegion (option_map region_text region.entry) (lang_tag_buf_text self.old) (lang_tag_buf_text self.new)) }
         ensures not_normal { IsErrOf result EditError.NotNormal ↔ (IsNormal (lang_tag_buf_text self.old) → ⊥) }
@@ -208,17 +201,17 @@ impl LangTagBuf {
         let Some(ends) = self.found.ends() else {
             return Err(EditError::NotNormal);
         };
-        put_region(&mut self.text.0, ends, alloc, region)?;
-        self.found = recognise_checked(self.text.0.as_str());
+        let ends = put_region(&mut self.text.0, ends, alloc, region)?;
+        self.found = Found::normal(ends);
         Ok(())
     }
 
     /// Puts variants into a normal tag, or takes them out, as [`NormalLangTagBuf::set_variants`] does: `1996` put into `de-AT`
-    /// makes `de-AT-1996`. The recogniser goes over the new text once more.
+    /// makes `de-AT-1996`.
     ///
     /// # Errors
     ///
-    /// The tag is no normal one, as `x-a`, or no memory could be had. The tag is as it was.
+    /// The tag is not a normal one, as `x-a`, or memory was refused. The tag is as it was.
     pub fn set_variants(&mut self, alloc: Global, variants: Variants<'_>) -> Result<(), EditError>
         ensures set { OnOk result (SetsVariants (variants_text variants.entry) (lang_tag_buf_text self.old) (lang_tag_buf_text self.new)) }
         ensures not_normal { IsErrOf result EditError.NotNormal ↔ (IsNormal (lang_tag_buf_text self.old) → ⊥) }
@@ -228,17 +221,17 @@ impl LangTagBuf {
         let Some(ends) = self.found.ends() else {
             return Err(EditError::NotNormal);
         };
-        put_variants(&mut self.text.0, ends, alloc, variants)?;
-        self.found = recognise_checked(self.text.0.as_str());
+        let ends = put_variants(&mut self.text.0, ends, alloc, variants)?;
+        self.found = Found::normal(ends);
         Ok(())
     }
 
     /// Puts extensions into a normal tag, or takes them out, as [`NormalLangTagBuf::set_extensions`] does: `u-co-eor` put
-    /// into `de-x-a` makes `de-u-co-eor-x-a`. The recogniser goes over the new text once more.
+    /// into `de-x-a` makes `de-u-co-eor-x-a`.
     ///
     /// # Errors
     ///
-    /// The tag is no normal one, as `x-a`, or no memory could be had. The tag is as it was.
+    /// The tag is not a normal one, as `x-a`, or memory was refused. The tag is as it was.
     pub fn set_extensions(
         &mut self,
         alloc: Global,
@@ -252,17 +245,17 @@ impl LangTagBuf {
         let Some(ends) = self.found.ends() else {
             return Err(EditError::NotNormal);
         };
-        put_extensions(&mut self.text.0, ends, alloc, extensions)?;
-        self.found = recognise_checked(self.text.0.as_str());
+        let ends = put_extensions(&mut self.text.0, ends, alloc, extensions)?;
+        self.found = Found::normal(ends);
         Ok(())
     }
 
     /// Puts a private use part into a normal tag, or takes it out, as [`NormalLangTagBuf::set_private_use`] does: `x-mine`
-    /// put into `de-x-a` makes `de-x-mine`. The recogniser goes over the new text once more.
+    /// put into `de-x-a` makes `de-x-mine`.
     ///
     /// # Errors
     ///
-    /// The tag is no normal one, as `x-a`, or no memory could be had. The tag is as it was.
+    /// The tag is not a normal one, as `x-a`, or memory was refused. The tag is as it was.
     pub fn set_private_use(
         &mut self,
         alloc: Global,
@@ -276,8 +269,8 @@ impl LangTagBuf {
         let Some(ends) = self.found.ends() else {
             return Err(EditError::NotNormal);
         };
-        put_private_use(&mut self.text.0, ends, alloc, private_use)?;
-        self.found = recognise_checked(self.text.0.as_str());
+        let ends = put_private_use(&mut self.text.0, ends, alloc, private_use)?;
+        self.found = Found::normal(ends);
         Ok(())
     }
 }
@@ -300,7 +293,7 @@ impl From<PrivateUseBuf> for LangTagBuf {
     ghost from_gives = { λ private_use tag. lang_tag_buf_string tag ≡ private_use_buf_string private_use };
 
     fn from(tag: PrivateUseBuf) -> LangTagBuf {
-        LangTagBuf::from_checked(tag.into_string())
+        LangTagBuf::with_found(tag.into_string(), Found::private_use())
     }
 }
 

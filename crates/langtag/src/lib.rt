@@ -13,7 +13,7 @@
 //! LangTag::new("zh_Hant").err().map(|error| error.0); // Some("zh_Hant")
 //! ```
 //!
-//! A [`NormalLangTag`] is a tag made of parts. It keeps where they end, so that each is had by a cut:
+//! A [`NormalLangTag`] is a tag made of parts. It keeps where they end, so that each is cut from the text:
 //!
 //! ```
 //! use langtag::{NormalLangTag, Script};
@@ -56,9 +56,7 @@ pub use grandfathered::{GRANDFATHERED, GrandfatheredLangTag, InvalidGrandfathere
 pub use kind::Kind;
 pub use lang_tag::{InvalidLangTag, LangTag};
 pub use lang_tag_buf::LangTagBuf;
-pub use langtag_case::{
-    InRecommendedCase, RecommendedBytes, is_in_recommended_case, make_recommended_case,
-};
+pub use langtag_case::{InRecommendedCase, is_in_recommended_case, make_recommended_case};
 pub use langtag_extension::{
     Extension, ExtensionBuf, ExtensionIter, ExtensionSubtag, ExtensionSubtagBuf, Extensions,
     ExtensionsBuf, ExtensionsIter, InvalidExtension, InvalidExtensionSubtag, InvalidExtensions,

@@ -5,13 +5,13 @@ ghost use Rattle.langtag_case.specs.RecommendedCase.{recommended_text};
 ghost use Rattle.langtag_case.specs.Text.{in_recommended_case_text};
 ghost use Rattle.langtag_scan.specs.AlikeRecords.{IsSpelledAlike};
 ghost use Rattle.langtag_scan.specs.Case.{EndsFirst, are_alike, case_cmp};
-ghost use Rattle.langtag_scan.specs.Ends.{HasEnds};
+ghost use Rattle.langtag_scan.specs.Ends.{ends_of, HasEnds};
 ghost use Rattle.langtag_scan.specs.Parts.{language_part, variants_part, extensions_part, private_use_part, private_use_subtags, parts, text_between};
 ghost use Rattle.langtag_scan.specs.Record.{Record, EachRecord, IsWellFormed, flat, spell};
 ghost use Rattle.langtag_scan.specs.Subtags.{join, subtags};
 ghost use Rattle.langtag_scan.specs.Tag.{IsNormal};
 ghost use Rattle.langtag.specs.Offsets.{PartsStandIn};
-ghost use Rattle.langtag.specs.Repeat.{repeat, IsFirstRepeat, are_alike_bytes};
+ghost use Rattle.langtag.specs.Repeat.{repeat, repeat_index, IsFirstRepeat, IsFirstRepeatAt, are_alike_bytes};
 
 use crate::lang_tag::LangTag;
 use crate::normal_lang_tag_buf::NormalLangTagBuf;
@@ -22,14 +22,14 @@ use langtag_extension::{Extensions, Singleton};
 use langtag_language::Language;
 use langtag_place::{Region, Script, Variant, Variants};
 use langtag_private::{PrivateUse, PrivateUseIter};
-use langtag_scan::{Caseless, Ends, Subtags};
+use langtag_scan::{Caseless, Ends, Found, Subtags};
 use std::alloc::{AllocError, Global};
 use std::cmp::Ordering;
 use std::fmt;
 use std::fmt::Debug;
 use thiserror::Error;
 
-/// A text that is no normal tag. It hands the text back.
+/// The error for a text that is not a normal tag. It hands the text back.
 #[derive(Debug, Drop, Error)]
 #[error("invalid normal language tag")]
 #[error_bound(T: Debug + Drop)]
@@ -38,8 +38,8 @@ pub struct InvalidNormalLangTag<T>(pub T);
 /// A normal tag (rule `langtag` of RFC 5646 section 2.1): a language, and after it a script, a region, variants,
 /// extensions and a private use part, each of which may be absent, as `sl-Latn-IT-rozaj-u-co-phonebk-x-mine`.
 ///
-/// It keeps where its parts end, so that each is had by a cut. Two tags are equal where their texts differ at most in
-/// the case of ASCII letters.
+/// It keeps where its parts end, so that each is cut from the text. Two tags are equal where their texts differ at most
+/// in the case of ASCII letters.
 #[derive(Clone, Copy)]
 #[derive_where(Debug, PartialEq, Eq, PartialOrd, Ord, Hash)]
 pub struct NormalLangTag<'a> {
@@ -58,14 +58,14 @@ impl<'a> NormalLangTag<'a> {
     ghost use Rattle.langtag.specs.Compared.{NormalLangTagsCompareByCase};
     ghost use Rattle.langtag.specs.Text.{lang_tag_text, normal_lang_tag_text, normal_lang_tag_buf_text};
 
-    /// The normal tag of a text: `NormalLangTag::new("sl-IT-rozaj")` is Ok.
+    /// Parses a text as a normal tag: `NormalLangTag::new("sl-IT-rozaj")` is Ok.
     ///
     /// Its contract also has laws: a normal tag has one record of its parts; the parts that are there, joined by hyphens, are
     /// the whole text; and each stands between the end of the part before and its own.
     ///
     /// # Errors
     ///
-    /// A text that is no normal tag comes back: `sl_IT`, and also `x-a`, which is a tag of another kind.
+    /// A text that is not a normal tag comes back: `sl_IT`, and also `x-a`, which is a tag of another kind.
     pub fn new(text: &'a str) -> Result<NormalLangTag<'a>, InvalidNormalLangTag<&'a str>>
         ensures accepts { IsTrue (is_ok result) ↔ IsNormal text.now }
         ensures same_text { IfOk result (λ tag. normal_lang_tag_text tag ≡ text.now) }
@@ -81,8 +81,8 @@ impl<'a> NormalLangTag<'a> {
         Ok(NormalLangTag::with_ends(text, ends))
     }
 
-    /// The normal tag of a text that is known to be one: `NormalLangTag::from_checked(tag.as_str()) == tag` of each normal
-    /// tag. The recogniser goes over the text once more, for the ends of its parts.
+    /// Returns the normal tag of a text that is known to be one: `NormalLangTag::from_checked(tag.as_str()) == tag` of
+    /// each normal tag. The recogniser goes over the text once more, for the ends of its parts.
     pub fn from_checked(text: &'a str) -> NormalLangTag<'a>
         requires { IsNormal text.now }
         ensures { normal_lang_tag_text result ≡ text.now }
@@ -104,7 +104,7 @@ impl<'a> NormalLangTag<'a> {
         }
     }
 
-    /// The text, with its case: `SL-it` of `SL-it`.
+    /// Returns the text, with its case: `SL-it` of `SL-it`.
     pub fn as_str(&self) -> &'a str
         ensures same_text { result.now ≡ normal_lang_tag_text self.now }
         ensures in_class { IsNormal result.now }
@@ -112,14 +112,14 @@ impl<'a> NormalLangTag<'a> {
         self.text.0
     }
 
-    /// The bytes of the text: `b"sl-IT"` of `sl-IT`.
+    /// Returns the bytes of the text: `b"sl-IT"` of `sl-IT`.
     pub fn as_bytes(&self) -> &'a [u8]
         ensures { result.now ≡ normal_lang_tag_text self.now }
     {
         self.as_str().as_bytes()
     }
 
-    /// All subtags of the tag, in order and from both ends: `sl`, `Latn` and `IT` of `sl-Latn-IT`.
+    /// Returns all subtags of the tag, in order and from both ends: `sl`, `Latn` and `IT` of `sl-Latn-IT`.
     #[tactic(auto, using(langtag_scan::proofs::SpelledTexts::tag_subtags))]
     pub fn subtags(&self) -> Subtags<'a>
         ensures list { result ≡ subtags (normal_lang_tag_text self.now) }
@@ -129,8 +129,8 @@ impl<'a> NormalLangTag<'a> {
         Subtags::new(self.as_str())
     }
 
-    /// Whether another text, of any form, is equal but for the case of ASCII letters: true of `sl-IT` and `SL-it`. Then it is
-    /// a normal tag too, with alike parts at the same offsets.
+    /// Returns whether another text, of any form, is equal but for the case of ASCII letters: true of `sl-IT` and
+    /// `SL-it`. Then it is a normal tag too, with alike parts at the same offsets.
     ///
     /// The contract also says that normal tags are compared, ordered and hashed without regard to case, that a clone is the tag
     /// itself, and that a tag that begins another is the greater of the two: `sl` comes after `sl-IT`.
@@ -146,24 +146,31 @@ impl<'a> NormalLangTag<'a> {
         self.text == Caseless(other)
     }
 
-    /// The same tag as one of any kind: `tag.as_lang_tag().kind()` is `Kind::Normal`. The recogniser goes over the text once
-    /// more.
-    #[tactic(auto, using(langtag_scan::proofs::TagLaws::tag_normal))]
+    /// Returns the same tag as one of any kind, with the ends that are kept: `tag.as_lang_tag().kind()` is
+    /// `Kind::Normal`.
     pub fn as_lang_tag(&self) -> LangTag<'a>
         ensures same_text { lang_tag_text result ≡ normal_lang_tag_text self.now }
         ensures kind { IsNormal (lang_tag_text result) }
     {
-        LangTag::from_checked(self.as_str())
+        LangTag::with_found(self.as_str(), Found::normal(self.ends))
     }
 
-    /// The language: `zh-min` of `zh-min-Latn-TW`.
+    /// Returns where the parts end, in bytes from the start of the text: of `sl-IT` the language at 2, and all others
+    /// at 5.
+    pub fn ends(&self) -> Ends
+        ensures { EachRecord (normal_lang_tag_text self.now) (λ r. result ≡ ends_of r) }
+    {
+        self.ends
+    }
+
+    /// Returns the language: `zh-min` of `zh-min-Latn-TW`.
     pub fn language(&self) -> Language<'a>
         ensures { EachRecord (normal_lang_tag_text self.now) (λ r. language_text result ≡ language_part r) }
     {
         Language::from_checked(self.language_str())
     }
 
-    /// The script: `Latn` of `zh-min-Latn-TW`, None of `zh-TW`.
+    /// Returns the script: `Latn` of `zh-min-Latn-TW`, None of `zh-TW`.
     pub fn script(&self) -> Option<Script<'a>>
         ensures { EachRecord (normal_lang_tag_text self.now) (λ r. option_map script_text result ≡ r.script) }
     {
@@ -171,7 +178,7 @@ impl<'a> NormalLangTag<'a> {
         Some(Script::from_checked(script))
     }
 
-    /// The region: `TW` of `zh-min-Latn-TW`, None of `zh-Latn`.
+    /// Returns the region: `TW` of `zh-min-Latn-TW`, None of `zh-Latn`.
     pub fn region(&self) -> Option<Region<'a>>
         ensures { EachRecord (normal_lang_tag_text self.now) (λ r. option_map region_text result ≡ r.region) }
     {
@@ -179,21 +186,21 @@ impl<'a> NormalLangTag<'a> {
         Some(Region::from_checked(region))
     }
 
-    /// The variants: `rozaj-1994` of `sl-rozaj-1994`, the empty text of `sl`.
+    /// Returns the variants: `rozaj-1994` of `sl-rozaj-1994`, the empty text of `sl`.
     pub fn variants(&self) -> Variants<'a>
         ensures { EachRecord (normal_lang_tag_text self.now) (λ r. variants_text result ≡ variants_part r) }
     {
         Variants::from_checked(self.part_or_empty(self.ends.region, self.ends.variants))
     }
 
-    /// The extensions: `a-bb-u-co` of `en-a-bb-u-co-x-y`, the empty text of `en-x-y`.
+    /// Returns the extensions: `a-bb-u-co` of `en-a-bb-u-co-x-y`, the empty text of `en-x-y`.
     pub fn extensions(&self) -> Extensions<'a>
         ensures { EachRecord (normal_lang_tag_text self.now) (λ r. extensions_text result ≡ extensions_part r) }
     {
         Extensions::from_checked(self.part_or_empty(self.ends.variants, self.ends.extensions))
     }
 
-    /// The private use part: `x-y` of `en-a-bb-u-co-x-y`, None of `en-a-bb`.
+    /// Returns the private use part: `x-y` of `en-a-bb-u-co-x-y`, None of `en-a-bb`.
     pub fn private_use(&self) -> Option<PrivateUse<'a>>
         ensures { EachRecord (normal_lang_tag_text self.now) (λ r. option_map private_use_text result ≡ private_use_part r) }
     {
@@ -201,7 +208,7 @@ impl<'a> NormalLangTag<'a> {
         Some(PrivateUse::from_checked(private_use))
     }
 
-    /// The subtags of the private use part: `x` and `y` of `en-x-x-y`, none where there is no such part.
+    /// Returns the subtags of the private use part: `x` and `y` of `en-x-x-y`, none where there is no such part.
     pub fn private_use_subtags(&self) -> PrivateUseIter<'a>
         ensures { EachRecord (normal_lang_tag_text self.now) (λ r. private_use_subtags_left result ≡ private_use_subtags r) }
     {
@@ -211,7 +218,7 @@ impl<'a> NormalLangTag<'a> {
         }
     }
 
-    /// The first variant that is equal, but for case, to an earlier one: the second `1996` of `de-1996-1996`.
+    /// Returns the first variant that is equal, but for case, to an earlier one: the second `1996` of `de-1996-1996`.
     ///
     /// Such a tag is well formed, and is not valid (RFC 5646 section 2.2.5). No memory is taken, and less than 80 kB of the
     /// stack. Up to 8,192 variants the time grows hardly faster than their number; past them, with its square divided by that.
@@ -219,10 +226,20 @@ impl<'a> NormalLangTag<'a> {
         ensures repeated { EachRecord (normal_lang_tag_text self.now) (λ r. option_map variant_text result ≡ repeat are_alike r.variants) }
         ensures first { (variants : List (List ℕ)) → IsFirstRepeat are_alike variants (repeat are_alike variants) }
     {
+        let index = self.repeated_variant_index()?;
+        self.variants().iter().nth(index)
+    }
+
+    /// Returns which of the variants [`repeated_variant`](NormalLangTag::repeated_variant) returns, counted from 0:
+    /// Some(1) of `de-1996-1996`.
+    pub fn repeated_variant_index(&self) -> Option<usize>
+        ensures repeated { EachRecord (normal_lang_tag_text self.now) (λ r. result ≡ repeat_index are_alike r.variants) }
+        ensures first { (variants : List (List ℕ)) → IsFirstRepeatAt are_alike variants (repeat_index are_alike variants) }
+    {
         first_repeated_variant(self.variants())
     }
 
-    /// The first singleton that is equal, but for case, to an earlier one, with its exact byte: the `A` of
+    /// Returns the first singleton that is equal, but for case, to an earlier one, with its exact byte: the `A` of
     /// `fr-a-bb-A-cc`.
     ///
     /// Such a tag is well formed, and is not valid (RFC 5646 section 2.2.6). No memory is taken.
@@ -231,14 +248,25 @@ impl<'a> NormalLangTag<'a> {
             option_map singleton_byte result ≡ repeat are_alike_bytes (map (λ e. e.singleton) r.extensions)) }
         ensures first { (singletons : List ℕ) → IsFirstRepeat are_alike_bytes singletons (repeat are_alike_bytes singletons) }
     {
-        first_repeated_singleton(self.extensions().iter())
+        let index = self.repeated_singleton_index()?;
+        Some(self.extensions().iter().nth(index)?.singleton())
     }
 
-    /// The owned form of the same text: `owned.as_str()` is `sl-IT` where this is `sl-IT`.
+    /// Returns which of the extensions has the singleton that [`repeated_singleton`](NormalLangTag::repeated_singleton)
+    /// returns, counted from 0: Some(1) of `fr-a-bb-A-cc`.
+    pub fn repeated_singleton_index(&self) -> Option<usize>
+        ensures repeated { EachRecord (normal_lang_tag_text self.now) (λ r.
+            result ≡ repeat_index are_alike_bytes (map (λ e. e.singleton) r.extensions)) }
+        ensures first { (singletons : List ℕ) → IsFirstRepeatAt are_alike_bytes singletons (repeat_index are_alike_bytes singletons) }
+    {
+        first_repeated_singleton(self.extensions())
+    }
+
+    /// Returns the owned form of the same text: `owned.as_str()` is `sl-IT` where this is `sl-IT`.
     ///
     /// # Errors
     ///
-    /// No memory could be had.
+    /// Out of memory.
     pub fn try_to_owned(&self, alloc: Global) -> Result<NormalLangTagBuf, AllocError>
         ensures { IfOk result (λ owned. normal_lang_tag_buf_text owned ≡ normal_lang_tag_text self.now) }
     {
@@ -246,7 +274,7 @@ impl<'a> NormalLangTag<'a> {
         Ok(NormalLangTagBuf::with_ends(text, self.ends))
     }
 
-    /// The tag as it reads in the case that RFC 5646 section 2.1.1 recommends, to be displayed: `{}` of
+    /// Returns the tag as it reads in the case that RFC 5646 section 2.1.1 recommends, to be displayed: `{}` of
     /// `tag.in_recommended_case()` prints `mn-Cyrl-MN` of `MN-cYRL-mn`. No memory is taken.
     pub fn in_recommended_case(&self) -> InRecommendedCase<'a>
         ensures { in_recommended_case_text result ≡ recommended_text (normal_lang_tag_text self.now) }
@@ -254,18 +282,20 @@ impl<'a> NormalLangTag<'a> {
         InRecommendedCase::from_checked(self.as_str())
     }
 
-    /// Whether the tag is in the case that RFC 5646 section 2.1.1 recommends: true of `mn-Cyrl-MN`, false of `mn-cyrl-MN`.
+    /// Returns whether the tag is in the case that RFC 5646 section 2.1.1 recommends: true of `mn-Cyrl-MN`, false of
+    /// `mn-cyrl-MN`.
     pub fn is_in_recommended_case(&self) -> bool
         ensures { IsTrue result ↔ (recommended_text (normal_lang_tag_text self.now) ≡ normal_lang_tag_text self.now) }
     {
         is_in_recommended_case(self.as_bytes())
     }
 
-    /// The owned form of the tag in the case that RFC 5646 section 2.1.1 recommends: `mn-Cyrl-MN` of `MN-cYRL-mn`.
+    /// Returns the owned form of the tag in the case that RFC 5646 section 2.1.1 recommends: `mn-Cyrl-MN` of
+    /// `MN-cYRL-mn`.
     ///
     /// # Errors
     ///
-    /// No memory could be had.
+    /// Out of memory.
     pub fn try_to_recommended_case(&self, alloc: Global) -> Result<NormalLangTagBuf, AllocError>
         ensures { IfOk result (λ owned. normal_lang_tag_buf_text owned ≡ recommended_text (normal_lang_tag_text self.now)) }
     {

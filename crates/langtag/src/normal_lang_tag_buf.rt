@@ -7,15 +7,16 @@ ghost use Rattle.langtag_case.specs.RecommendedCase.{recommended_record, recomme
 ghost use Rattle.langtag_scan.specs.AlikeRecords.{IsSpelledAlike};
 ghost use Rattle.langtag_scan.specs.Case.{Alike};
 ghost use Rattle.langtag_scan.specs.Ends.{HasEnds};
+ghost use Rattle.langtag_scan.specs.Parts.{language_part, variants_part, extensions_part, private_use_part};
 ghost use Rattle.langtag_scan.specs.Record as model;
-ghost use Rattle.langtag_scan.specs.Record.{EachRecord, Extension, Record, Spells, spell};
+ghost use Rattle.langtag_scan.specs.Record.{EachRecord, Extension, Spells, spell};
 ghost use Rattle.langtag_scan.specs.Tag.{IsNormal};
 ghost use Rattle.langtag_language.specs.Language.{EachSpelling};
 ghost use Rattle.langtag_language.specs.Text.{language_text};
 ghost use Rattle.langtag_place.specs.Text.{script_text, region_text, variants_text};
 ghost use Rattle.langtag_extension.specs.Text.{extensions_text};
 ghost use Rattle.langtag_private.specs.Text.{private_use_text};
-ghost use Rattle.langtag.specs.Edit.{of_parts, with_language, with_script, with_region, with_variants, with_extensions, with_private_use};
+ghost use Rattle.langtag.specs.Edit.{GivesBack, of_parts, with_language, with_script, with_region, with_variants, with_extensions, with_private_use};
 ghost use Rattle.langtag.specs.Edit.{SetsLanguage, SetsScript, SetsRegion, SetsVariants, SetsExtensions, SetsPrivateUse};
 
 use crate::edit::{
@@ -31,7 +32,7 @@ use langtag_extension::Extensions;
 use langtag_language::Language;
 use langtag_place::{Region, Script, Variants};
 use langtag_private::PrivateUse;
-use langtag_scan::{Caseless, Ends};
+use langtag_scan::{Caseless, Ends, Found};
 use std::alloc::{AllocError, Global};
 use std::fmt;
 
@@ -50,11 +51,11 @@ impl NormalLangTagBuf {
     ghost use Rattle.langtag.specs.Compared.{NormalLangTagBufsCompareByCase};
     ghost use Rattle.langtag.specs.Text.{normal_lang_tag_text, normal_lang_tag_buf_string, normal_lang_tag_buf_text, lang_tag_buf_string, lang_tag_buf_text};
 
-    /// The normal tag of a text, which is neither copied nor moved in memory: Ok of `sl-IT`.
+    /// Parses a `String` as a normal tag, and keeps it, without a copy: `sl-IT` is Ok.
     ///
     /// # Errors
     ///
-    /// A text that is no normal tag comes back, the same `String`: `x-a` does.
+    /// A text that is not a normal tag comes back, the same `String`: `x-a` does.
     pub fn new(text: String) -> Result<NormalLangTagBuf, InvalidNormalLangTag<String>>
         ensures accepts { IsTrue (is_ok result) ↔ IsNormal (string_bytes text) }
         ensures same_text { IfOk result (λ tag. normal_lang_tag_buf_text tag ≡ string_bytes text) }
@@ -67,12 +68,12 @@ impl NormalLangTagBuf {
         Ok(NormalLangTagBuf::with_ends(text, ends))
     }
 
-    /// The normal tag of a language, a script and a region, and no other parts: `zh-Hant-TW` of `zh`, `Hant` and `TW`, and `zh` of
-    /// `zh`, None and None. Memory is taken once, and no more than the text needs.
+    /// Returns the normal tag of a language, a script and a region, and no other parts: `zh-Hant-TW` of `zh`, `Hant`
+    /// and `TW`, and `zh` of `zh`, None and None. Memory is taken once, and no more than the text needs.
     ///
     /// # Errors
     ///
-    /// No memory could be had.
+    /// Out of memory.
     pub fn from_parts(
         alloc: Global,
         language: Language<'_>,
@@ -110,8 +111,8 @@ impl NormalLangTagBuf {
         }
     }
 
-    /// The tag, lent, with the ends that are kept, so that nothing is looked at again: `owned.as_normal_lang_tag().region()` is
-    /// `IT` of `sl-IT`.
+    /// Borrows the tag, with the ends that are kept, so that nothing is looked at again:
+    /// `owned.as_normal_lang_tag().region()` is `IT` of `sl-IT`.
     ///
     /// The contract also says that owned normal tags are compared, ordered and hashed without regard to case.
     pub fn as_normal_lang_tag(&self) -> NormalLangTag<'_>
@@ -121,7 +122,7 @@ impl NormalLangTagBuf {
         NormalLangTag::with_ends(self.as_str(), self.ends)
     }
 
-    /// The text, with its case: `SL-it` of `SL-it`.
+    /// Returns the text, with its case: `SL-it` of `SL-it`.
     pub fn as_str(&self) -> &str
         ensures same_text { result.now ≡ normal_lang_tag_buf_text self.now }
         ensures in_class { IsNormal result.now }
@@ -129,18 +130,17 @@ impl NormalLangTagBuf {
         self.text.0.as_str()
     }
 
-    /// The same tag as one of any kind, over the very `String`: `owned.into_lang_tag().kind()` is `Kind::Normal`. The
-    /// recogniser goes over the text once more.
-    #[tactic(auto, using(langtag_scan::proofs::SpelledTexts::offsets_kept, langtag_scan::proofs::TagLaws::tag_normal))]
+    /// Returns the same tag as one of any kind, over the very `String`: `owned.into_lang_tag().kind()` is
+    /// `Kind::Normal`.
     pub fn into_lang_tag(self) -> LangTagBuf
         ensures same_text { lang_tag_buf_text result ≡ normal_lang_tag_buf_text self }
         ensures same_string { lang_tag_buf_string result ≡ normal_lang_tag_buf_string self }
         ensures kind { IsNormal (lang_tag_buf_text result) }
     {
-        LangTagBuf::from_checked(self.text.0)
+        LangTagBuf::with_found(self.text.0, Found::normal(self.ends))
     }
 
-    /// The text itself, which is not copied: `sl-IT` of `sl-IT`.
+    /// Returns the text itself, without a copy: `sl-IT` of `sl-IT`.
     pub fn into_string(self) -> String
         ensures same_text { string_bytes result ≡ normal_lang_tag_buf_text self }
         ensures same_string { result ≡ normal_lang_tag_buf_string self }
@@ -168,11 +168,11 @@ impl NormalLangTagBuf {
     ///
     /// # Errors
     ///
-    /// No memory could be had. The tag is as it was.
+    /// Out of memory. The tag is as it was.
     pub fn set_language(&mut self, alloc: Global, language: Language<'_>) -> Result<(), AllocError>
         ensures set { OnOk result (SetsLanguage (language_text language.entry) (normal_lang_tag_buf_text self.old) (normal_lang_tag_buf_text self.new)) }
         ensures unchanged { OnErr result (self.new ≡ self.old) }
-        ensures set_back { (r : Record) (primary : List ℕ) (extended : List (List ℕ)) → with_language (with_language r primary extended) r.primary r.extended ≡ r }
+        ensures set_back { GivesBack (List ℕ × List (List ℕ)) (λ r m. with_language r m.0 m.1) (λ r. SetsLanguage (language_part r)) }
     {
         self.ends = put_language(&mut self.text.0, self.ends, alloc, language)?;
         Ok(())
@@ -186,7 +186,7 @@ impl NormalLangTagBuf {
     ///
     /// # Errors
     ///
-    /// No memory could be had. The tag is as it was.
+    /// Out of memory. The tag is as it was.
     pub fn set_script(
         &mut self,
         alloc: Global,
@@ -195,7 +195,7 @@ impl NormalLangTagBuf {
         ensures set { OnOk result (SetsScript (option_map script_text script.entry) (normal_lang_tag_buf_text self.old) (normal_lang_tag_buf_text self.new)) }
         ensures unchanged { OnErr result (self.new ≡ self.old) }
         ensures taken_out { IsNone script.entry → IsOk result }
-        ensures set_back { (r : Record) (script : Option (List ℕ)) → with_script (with_script r script) r.script ≡ r }
+        ensures set_back { GivesBack (Option (List ℕ)) with_script (λ r. SetsScript r.script) }
     {
         self.ends = put_script(&mut self.text.0, self.ends, alloc, script)?;
         Ok(())
@@ -208,7 +208,7 @@ impl NormalLangTagBuf {
     ///
     /// # Errors
     ///
-    /// No memory could be had. The tag is as it was.
+    /// Out of memory. The tag is as it was.
     pub fn set_region(
         &mut self,
         alloc: Global,
@@ -217,7 +217,7 @@ impl NormalLangTagBuf {
         ensures set { OnOk result (SetsRegion (option_map region_text region.entry) (normal_lang_tag_buf_text self.old) (normal_lang_tag_buf_text self.new)) }
         ensures unchanged { OnErr result (self.new ≡ self.old) }
         ensures taken_out { IsNone region.entry → IsOk result }
-        ensures set_back { (r : Record) (region : Option (List ℕ)) → with_region (with_region r region) r.region ≡ r }
+        ensures set_back { GivesBack (Option (List ℕ)) with_region (λ r. SetsRegion r.region) }
     {
         self.ends = put_region(&mut self.text.0, self.ends, alloc, region)?;
         Ok(())
@@ -230,12 +230,12 @@ impl NormalLangTagBuf {
     ///
     /// # Errors
     ///
-    /// No memory could be had. The tag is as it was.
+    /// Out of memory. The tag is as it was.
     pub fn set_variants(&mut self, alloc: Global, variants: Variants<'_>) -> Result<(), AllocError>
         ensures set { OnOk result (SetsVariants (variants_text variants.entry) (normal_lang_tag_buf_text self.old) (normal_lang_tag_buf_text self.new)) }
         ensures unchanged { OnErr result (self.new ≡ self.old) }
         ensures taken_out { variants_text variants.entry ≡ [] → IsOk result }
-        ensures set_back { (r : Record) (variants : List (List ℕ)) → with_variants (with_variants r variants) r.variants ≡ r }
+        ensures set_back { GivesBack (List (List ℕ)) with_variants (λ r. SetsVariants (variants_part r)) }
     {
         self.ends = put_variants(&mut self.text.0, self.ends, alloc, variants)?;
         Ok(())
@@ -248,7 +248,7 @@ impl NormalLangTagBuf {
     ///
     /// # Errors
     ///
-    /// No memory could be had. The tag is as it was.
+    /// Out of memory. The tag is as it was.
     pub fn set_extensions(
         &mut self,
         alloc: Global,
@@ -257,7 +257,7 @@ impl NormalLangTagBuf {
         ensures set { OnOk result (SetsExtensions (extensions_text extensions.entry) (normal_lang_tag_buf_text self.old) (normal_lang_tag_buf_text self.new)) }
         ensures unchanged { OnErr result (self.new ≡ self.old) }
         ensures taken_out { extensions_text extensions.entry ≡ [] → IsOk result }
-        ensures set_back { (r : Record) (extensions : List Extension) → with_extensions (with_extensions r extensions) r.extensions ≡ r }
+        ensures set_back { GivesBack (List Extension) with_extensions (λ r. SetsExtensions (extensions_part r)) }
     {
         self.ends = put_extensions(&mut self.text.0, self.ends, alloc, extensions)?;
         Ok(())
@@ -270,7 +270,7 @@ impl NormalLangTagBuf {
     ///
     /// # Errors
     ///
-    /// No memory could be had. The tag is as it was.
+    /// Out of memory. The tag is as it was.
     pub fn set_private_use(
         &mut self,
         alloc: Global,
@@ -279,7 +279,7 @@ impl NormalLangTagBuf {
         ensures set { OnOk result (SetsPrivateUse (option_map private_use_text private_use.entry) (normal_lang_tag_buf_text self.old) (normal_lang_tag_buf_text self.new)) }
         ensures unchanged { OnErr result (self.new ≡ self.old) }
         ensures taken_out { IsNone private_use.entry → IsOk result }
-        ensures set_back { (r : Record) (part : Option model.PrivateUse) → with_private_use (with_private_use r part) r.private_use ≡ r }
+        ensures set_back { GivesBack (Option model.PrivateUse) with_private_use (λ r. SetsPrivateUse (private_use_part r)) }
     {
         self.ends = put_private_use(&mut self.text.0, self.ends, alloc, private_use)?;
         Ok(())

@@ -6,7 +6,7 @@ ghost use Rattle.langtag_scan.specs.Tag.{IsNormal, IsTag};
 
 use langtag_scan::{Ends, Found, Metered, recognise};
 
-/// What the recogniser finds of a text; None where the text is no tag.
+/// What the recogniser finds of a text; None where the text is not a tag.
 ///
 /// Each constructor of the crate calls this function. It is not inlined, so that the recogniser's code is there once.
 #[inline(never)]
@@ -16,18 +16,7 @@ pub(crate) fn recognise_text(text: &str) -> Option<Found>
     recognise(&mut Metered::new(text))
 }
 
-/// What the recogniser finds of a text that is known to be a tag.
-pub(crate) fn recognise_checked(text: &str) -> Found
-    requires { IsTag text.now }
-    ensures { IsFoundOf text.now (finding result) }
-{
-    let Some(found) = recognise_text(text) else {
-        unreachable!()
-    };
-    found
-}
-
-/// Where the parts of a normal tag end; None where the text is no normal tag.
+/// Where the parts of a normal tag end; None where the text is not a normal tag.
 pub(crate) fn normal_ends(text: &str) -> Option<Ends>
     ensures { MatchOption result (IsNormal text.now → ⊥) (λ ends. HasEnds text.now ends) }
 {

@@ -8,7 +8,7 @@ use crate::private_use_lang_tag::PrivateUseLangTag;
 use langtag_language::Language;
 
 /// A language tag as a value of the type of its kind (RFC 5646 section 2.1), as
-/// [`LangTag::as_typed`](crate::LangTag::as_typed) answers it. Each call answers by the variant alone, and looks at no text.
+/// [`LangTag::as_typed`](crate::LangTag::as_typed) returns it. Each call looks at the variant alone, and at no text.
 #[derive(Clone, Copy, Debug, PartialEq, Eq)]
 pub enum TypedLangTag<'a> {
     /// A normal tag. The regular grandfathered tags are normal.
@@ -23,8 +23,8 @@ impl<'a> TypedLangTag<'a> {
     ghost use Rattle.langtag.specs.Compared.{TypedLangTagsCompareByKind};
     ghost use Rattle.langtag.specs.Typed.{kind_of, normal_of, private_use_of, grandfathered_of, HasLanguage};
 
-    /// The language of a normal tag, or the primary language of a regular grandfathered one: `zh` of `zh-TW`, None of `x-a` and
-    /// of `i-lux`.
+    /// Returns the language of a normal tag, or the primary language of a regular grandfathered one: `zh` of `zh-TW`,
+    /// None of `x-a` and of `i-lux`.
     pub fn language(&self) -> Option<Language<'a>>
         ensures { HasLanguage self.now result }
     {
@@ -35,9 +35,8 @@ impl<'a> TypedLangTag<'a> {
         }
     }
 
-    /// The kind of the tag: `Kind::PrivateUse` of `x-a`. The contract also says that typed tags are equal where they are of
-    /// one kind and their texts are alike, and that a clone is the value itself.
-    #[tactic(auto, using(crate::proofs::OrderLaws::typed_equal))]
+    /// Returns the kind of the tag: `Kind::PrivateUse` of `x-a`. The contract also says that typed tags are equal where
+    /// they are of one kind and their texts are alike, and that a clone is the value itself.
     pub fn kind(&self) -> Kind
         ensures kind { result ≡ kind_of self.now }
         ensures compared { TypedLangTagsCompareByKind }
@@ -51,23 +50,23 @@ impl<'a> TypedLangTag<'a> {
         }
     }
 
-    /// Whether this is a normal tag: true of `zh-TW` and of `art-lojban`, false of `x-a`.
+    /// Returns whether this is a normal tag: true of `zh-TW` and of `art-lojban`, false of `x-a`.
     pub fn is_normal(&self) -> bool
         ensures { IsTrue result ↔ (kind_of self.now ≡ Kind.Normal) }
     {
         self.kind().is_normal()
     }
 
-    /// Whether this is a tag for private use as a whole: true of `x-a`, false of `fr-x-a`.
+    /// Returns whether this is a tag for private use as a whole: true of `x-a`, false of `fr-x-a`.
     pub fn is_private_use(&self) -> bool
         ensures { IsTrue result ↔ (kind_of self.now ≡ Kind.PrivateUse) }
     {
         self.kind().is_private_use()
     }
 
-    /// Whether this is a grandfathered tag by its kind: true of `i-lux`.
+    /// Returns whether this is a grandfathered tag by its kind: true of `i-lux`.
     ///
-    /// As [`LangTag::as_typed`](crate::LangTag::as_typed) answers it, this is false of `art-lojban`, a regular grandfathered tag
+    /// As [`LangTag::as_typed`](crate::LangTag::as_typed) returns it, this is false of `art-lojban`, a regular grandfathered tag
     /// and so a normal one: [`LangTag::is_grandfathered`](crate::LangTag::is_grandfathered) is true of it.
     pub fn is_grandfathered(&self) -> bool
         ensures { IsTrue result ↔ (kind_of self.now ≡ Kind.Grandfathered) }
@@ -75,7 +74,7 @@ impl<'a> TypedLangTag<'a> {
         self.kind().is_grandfathered()
     }
 
-    /// The normal tag, where this is one: Some of `zh-TW`, None of `x-a`.
+    /// Returns the normal tag, where this is one: Some of `zh-TW`, None of `x-a`.
     pub fn as_normal(&self) -> Option<NormalLangTag<'a>>
         ensures { result ≡ normal_of self.now }
     {
@@ -85,7 +84,7 @@ impl<'a> TypedLangTag<'a> {
         }
     }
 
-    /// The tag for private use, where this is one: Some of `x-a`, None of `fr-x-a`.
+    /// Returns the tag for private use, where this is one: Some of `x-a`, None of `fr-x-a`.
     pub fn as_private_use(&self) -> Option<PrivateUseLangTag<'a>>
         ensures { result ≡ private_use_of self.now }
     {
@@ -95,7 +94,7 @@ impl<'a> TypedLangTag<'a> {
         }
     }
 
-    /// The grandfathered tag, where this is one: Some of `i-lux`, None of `art-lojban`, which is normal.
+    /// Returns the grandfathered tag, where this is one: Some of `i-lux`, None of `art-lojban`, which is normal.
     pub fn as_grandfathered(&self) -> Option<GrandfatheredLangTag>
         ensures { result ≡ grandfathered_of self.now }
     {

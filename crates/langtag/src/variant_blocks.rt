@@ -2,11 +2,10 @@
 ghost use Rattle.std.specs.Prelude.{◌≡◌, ◌==◌, ◌&&◌, ◌+◌, ◌≤◌, ℕ, List, [], ◌∷◌, ◌++◌, length, take, drop, map};
 ghost use Rattle.std.specs.List.{list_any};
 ghost use Rattle.std.specs.List.Sorted.{IsNonDecreasing};
-ghost use Rattle.std.specs.Option.{option_map};
 ghost use Rattle.langtag_scan.specs.Case.{are_alike};
 ghost use Rattle.langtag_scan.specs.Subtags.{subtags};
 ghost use Rattle.langtag_place.specs.Text.{variant_text, variants_text, variants_left};
-ghost use Rattle.langtag.specs.Repeat.{repeat};
+ghost use Rattle.langtag.specs.Repeat.{repeat_index};
 ghost use Rattle.langtag.specs.VariantBlocks.{folded_number, HasNoRepeatBefore, IsRepeatBefore, HoldsFrom, IsPlaceOf, AreMet};
 
 use langtag_place::{Variant, Variants, VariantsIter};
@@ -16,14 +15,16 @@ use std::mem;
 /// How many variants a block has, but for the last one. Each takes nine bytes of the stack, which are 72 kB together.
 const BLOCK: usize = 8192;
 
-/// The first of these variants that is equal, but for case, to an earlier one.
+const _: () = prove!(BLOCK == 8192);
+
+/// The index of the first of these variants that is equal, but for case, to an earlier one.
 ///
 /// The variants are gone over once for each block of them. What is kept of a block are its numbers in order, and which of them
 /// were met, so that each variant is looked up in few steps, whatever their order.
 // Not inlined: the stack that it takes is not taken for a few variants.
 #[inline(never)]
-pub(crate) fn first_repeated_of_many<'a>(variants: Variants<'a>) -> Option<Variant<'a>>
-    ensures { option_map variant_text result ≡ repeat are_alike (subtags (variants_text variants.entry)) }
+pub(crate) fn first_repeated_of_many(variants: Variants<'_>) -> Option<usize>
+    ensures { result ≡ repeat_index are_alike (subtags (variants_text variants.entry)) }
 {
     let mut numbers = [0; BLOCK];
     let mut rest = variants.iter();
@@ -56,15 +57,15 @@ fn fill(block: &mut [u64], rest: &mut VariantsIter<'_>)
     }
 }
 
-/// The first variant up to the end of a block that is equal, but for case, to an earlier one. The block has, in order, the
-/// numbers of the variants from the index `start` on; none of those before them is.
-fn first_met_again<'a>(block: &[u64], variants: Variants<'a>, start: usize) -> Option<Variant<'a>>
+/// The index of the first variant up to the end of a block that is equal, but for case, to an earlier one. The block has, in
+/// order, the numbers of the variants from the index `start` on; none of those before them is.
+fn first_met_again(block: &[u64], variants: Variants<'_>, start: usize) -> Option<usize>
     requires room { length block.now ≤ BLOCK }
     requires within { start + length block.now ≤ length (subtags (variants_text variants)) }
     requires new { HasNoRepeatBefore start (subtags (variants_text variants)) }
     requires rises { IsNonDecreasing block.now }
     requires from_start { HoldsFrom start (subtags (variants_text variants)) block.now }
-    ensures { IsRepeatBefore (start + length block.now) (subtags (variants_text variants.entry)) (option_map variant_text result) }
+    ensures { IsRepeatBefore (start + length block.now) (subtags (variants_text variants.entry)) result }
 {
     let mut met = [false; BLOCK];
     for (index, variant) in variants.iter().enumerate() {
@@ -72,7 +73,7 @@ fn first_met_again<'a>(block: &[u64], variants: Variants<'a>, start: usize) -> O
             break;
         }
         if meet(block, &mut met, folded_number(variant)) {
-            return Some(variant);
+            return Some(index);
         }
     }
     None

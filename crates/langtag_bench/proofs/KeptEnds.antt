@@ -18,6 +18,6 @@ ends_kept text (Normal ends) same left has is normal = subst (HasEnds text) (sym
 ends_kept text PrivateUse same left has is normal = absurd (normal_no_private text normal has)
 ends_kept text (Irregular index) same left has is normal = absurd (normal_no_irregular text normal (index, has))
 
--- and what is no tag is no normal one
+-- and what is not a tag is not a normal one
 pub no_ends : (text : List ℕ) (left : Ends) → (IsTag text → ⊥) → IsNormal text → HasEnds text left
 no_ends text left none normal = absurd (none (tag_normal text normal))

@@ -19,7 +19,7 @@ pub struct PartLengths {
     pub private_use: usize,
 }
 
-/// Whether the bytes are UTF-8 and a tag. A tag leaves the lengths of its parts.
+/// Returns whether the bytes are UTF-8 and a tag. A tag leaves the lengths of its parts.
 #[tactic(auto, using(crate::proofs::TagBytes::utf8_tag))]
 #[unsafe(no_mangle)]
 pub extern "C" fn langtag_bench_lang_tag(bytes: &[u8], lengths: &mut PartLengths) -> bool
@@ -38,7 +38,7 @@ pub extern "C" fn langtag_bench_lang_tag(bytes: &[u8], lengths: &mut PartLengths
     }
 }
 
-/// Whether the bytes are UTF-8: what `langtag_bench_lang_tag` spends before it has a text.
+/// Returns whether the bytes are UTF-8: what `langtag_bench_lang_tag` spends before it has a text.
 #[unsafe(no_mangle)]
 pub extern "C" fn langtag_bench_is_utf8(bytes: &[u8]) -> bool
     ensures { IsTrue result ↔ IsUtf8 bytes.now }

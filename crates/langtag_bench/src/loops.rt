@@ -18,7 +18,7 @@ pub extern "C" fn langtag_bench_copy(bytes: &[u8], into: &mut [u8]) -> u8
     0
 }
 
-/// The sum of the folded bytes, as far as eight bits hold it.
+/// Returns the sum of the folded bytes, as far as eight bits hold it.
 #[unsafe(no_mangle)]
 pub extern "C" fn langtag_bench_fold_and_sum(bytes: &[u8]) -> u8
     ensures { result ≡ fold (λ sum byte. (sum + fold_byte byte) % 256) 0 bytes.now }

@@ -13,7 +13,7 @@ use langtag::LangTag;
 use langtag_match::{LanguageRange, tag_for_header};
 use std::alloc::Global;
 
-/// Whether the bytes are a range and a tag, which is all that is done before they are matched.
+/// Returns whether the bytes are a range and a tag, which is all that is done before they are matched.
 #[unsafe(no_mangle)]
 pub extern "C" fn langtag_bench_pair(range: &[u8], tag: &[u8]) -> bool
     ensures { IsTrue result ↔ (IsTrue (is_language_range range.now) × IsTag tag.now) }
@@ -21,7 +21,7 @@ pub extern "C" fn langtag_bench_pair(range: &[u8], tag: &[u8]) -> bool
     range_of(range).is_some() && tag_of(tag).is_some()
 }
 
-/// Whether the bytes are a range and a tag that it matches by basic filtering.
+/// Returns whether the bytes are a range and a tag that it matches by basic filtering.
 #[unsafe(no_mangle)]
 pub extern "C" fn langtag_bench_matches_basic(range: &[u8], tag: &[u8]) -> bool
     ensures { IsTrue result ↔ (IsTrue (is_language_range range.now) × IsTag tag.now × MatchesBasic range.now tag.now) }
@@ -32,7 +32,7 @@ pub extern "C" fn langtag_bench_matches_basic(range: &[u8], tag: &[u8]) -> bool
     }
 }
 
-/// The same by extended filtering.
+/// Returns the same by extended filtering.
 #[unsafe(no_mangle)]
 pub extern "C" fn langtag_bench_matches_extended(range: &[u8], tag: &[u8]) -> bool
     ensures { IsTrue result ↔ (IsTrue (is_language_range range.now) × IsTag tag.now × MatchesExtended range.now tag.now) }
@@ -88,8 +88,8 @@ fn known(tags: &[LangTag<'_>]) -> usize
     tags.iter().filter(|tag| !tag.eq_str("en")).count()
 }
 
-/// Whether the bytes are a header that can be read, and memory could be had for it. The tag for it is looked up among
-/// twenty.
+/// Returns whether the bytes are a header that can be read, and memory could be had for it. The tag for it is looked up
+/// among twenty.
 #[unsafe(no_mangle)]
 pub extern "C" fn langtag_bench_tag_for_header(alloc: Global, header: &[u8]) -> bool
     ensures { IsTrue result → (ordered : List WeightedRange) × AreAccepted header.now ordered }

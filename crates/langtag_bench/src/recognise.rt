@@ -5,7 +5,7 @@ ghost use Rattle.langtag_scan.specs.Found.{finding, normal_ends};
 ghost use Rattle.langtag_scan.specs.Tag.{IsTag, IsNormal};
 ghost use Rattle.langtag_bench.specs.PartEnds.{ends_left};
 
-use langtag_scan::{Found, Metered, MeteredBytes, recognise};
+use langtag_scan::{Found, Metered, recognise};
 
 /// The ends of the parts of a normal tag, in bytes from its start, as `langtag_scan::Ends` has them.
 #[repr(C)]
@@ -18,14 +18,14 @@ pub struct PartEnds {
     pub whole: usize,
 }
 
-/// Whether the bytes are a tag. Those of a normal one leave the ends of its parts.
+/// Returns whether the bytes are a tag. Those of a normal one leave the ends of its parts.
 #[tactic(auto, using(langtag_scan::proofs::FoundLaws::tag_found, crate::proofs::TagBytes::utf8_tag, crate::proofs::KeptEnds::ends_kept, crate::proofs::KeptEnds::no_ends))]
 #[unsafe(no_mangle)]
 pub extern "C" fn langtag_bench_recognise(bytes: &[u8], ends: &mut PartEnds) -> bool
     ensures tag { IsTrue result ↔ IsTag bytes.now }
     ensures ends { IsNormal bytes.now → HasEnds bytes.now (ends_left ends.new) }
 {
-    match recognise(&mut MeteredBytes::new(bytes)) {
+    match recognise(&mut Metered::of_bytes(bytes)) {
         Some(found) => {
             keep(&found, ends);
             true
@@ -34,7 +34,7 @@ pub extern "C" fn langtag_bench_recognise(bytes: &[u8], ends: &mut PartEnds) -> 
     }
 }
 
-/// The same with the check that the bytes are UTF-8 before it.
+/// Returns the same with the check that the bytes are UTF-8 before it.
 #[tactic(auto, using(langtag_scan::proofs::FoundLaws::tag_found, crate::proofs::TagBytes::utf8_tag, crate::proofs::KeptEnds::ends_kept, crate::proofs::KeptEnds::no_ends))]
 #[unsafe(no_mangle)]
 pub extern "C" fn langtag_bench_recognise_text(bytes: &[u8], ends: &mut PartEnds) -> bool

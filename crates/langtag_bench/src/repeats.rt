@@ -8,7 +8,8 @@ ghost use Rattle.langtag.specs.Repeat.{repeat};
 
 use langtag::NormalLangTag;
 
-/// Whether the bytes are UTF-8 and a normal tag, which is all that is done before its repeated variant is asked for.
+/// Returns whether the bytes are UTF-8 and a normal tag, which is all that is done before its repeated variant is asked
+/// for.
 #[unsafe(no_mangle)]
 pub extern "C" fn langtag_bench_normal_lang_tag(bytes: &[u8]) -> bool
     ensures { IsTrue result ↔ IsNormal bytes.now }
@@ -19,7 +20,7 @@ pub extern "C" fn langtag_bench_normal_lang_tag(bytes: &[u8]) -> bool
     NormalLangTag::new(text).is_ok()
 }
 
-/// The length of the first variant of a normal tag that repeats an earlier one; 0 where none does.
+/// Returns the length of the first variant of a normal tag that repeats an earlier one; 0 where none does.
 #[unsafe(no_mangle)]
 pub extern "C" fn langtag_bench_repeated_variant(bytes: &[u8]) -> usize
     ensures { EachRecord bytes.now (λ r. result ≡ option_map_or length (repeat are_alike r.variants) 0) }

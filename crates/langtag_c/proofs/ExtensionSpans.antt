@@ -8,13 +8,12 @@ use Rattle.std.proofs.lemmas.List.Splits.{join_with_byte-slice_split}
 use Rattle.std.proofs.Math.Seq.{take-length}
 use Rattle.langtag_scan.specs.Record.{Extension, extension_flat}
 use Rattle.langtag_scan.specs.Subtags.{join, segments, segments_left}
-use Rattle.langtag_extension.specs.ExtensionTexts.{goes_on, opens, extension_texts, texts_left}
+use Rattle.langtag_extension.specs.ExtensionTexts.{IsFirstExtension, goes_on, opens, extension_texts, texts_left}
 use Rattle.langtag_extension.specs.Spelling.{extension_spelling, SpellsExtensions}
 use Rattle.langtag_extension.proofs.Joins.{join-group_texts, join-spellings}
 use Rattle.langtag_extension.proofs.Rules.{extension_texts_spelled}
 use Rattle.langtag_extension.proofs.WalkLemmas.{group_texts-split}
 use Rattle.langtag_c.specs.Spans.{HasBytes, end_of, span_between, span_text}
-use Rattle.langtag_c.specs.Walks.{IsFirstExtension}
 use Rattle.langtag_c.specs.declared.span.Span.{Span}
 
 -- what is left of a text, or nothing

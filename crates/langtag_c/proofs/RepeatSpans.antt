@@ -1,161 +1,143 @@
--- Where the first repeated variant and the first repeated singleton of a record stand in its text.
-use Rattle.std.proofs.Common.{◌≡◌, ℕ, ◌+◌, ◌<◌, ◌≤◌, ◌^◌, Bool, List, [], ◌∷◌, ◌++◌, length, map, Option, None, Some, is_some, unwrap_or, inl, inr, refl, ap, sym, subst, ◌∙◌, arith, append_assoc, length-append}
-use Rattle.std.specs.List.{AllByRecursion, count_by, sum_by, flat_map}
-use Rattle.std.specs.Option.{option_map}
-use Rattle.std.proofs.lemmas.Bool.Decides.{eqb_tells}
+-- Where the variants and the singletons of a record stand in its text.
+use Rattle.std.proofs.Common.{◌≡◌, ℕ, zero, suc, ◌+◌, ◌≤◌, List, [], ◌∷◌, ◌++◌, length, take, drop, map, slice_get, Option, None, Some, is_some, refl, ap, sym, ◌∙◌, arith, append_assoc, append-nil}
+use Rattle.std.specs.List.{flat_map}
+use Rattle.std.specs.Option.{option_and_then, option_map}
+use Rattle.std.proofs.lemmas.List.{take_more, take-append-drop, length-drop}
 use Rattle.std.proofs.lemmas.List.Concat.{flat_map-append}
-use Rattle.std.proofs.lemmas.List.Sums.{sum_by-cons}
-use Rattle.langtag_scan.specs.Case.{are_alike}
-use Rattle.langtag_scan.specs.Class.{is_variant}
-use Rattle.langtag_scan.specs.Ends.{ends_of, to_region, to_variants, to_extensions}
-use Rattle.langtag_scan.specs.Parts.{extensions_part, variants_part}
-use Rattle.langtag_scan.specs.Record.{Record, Extension, EachRecord, IsWellFormedExtension, Spells, extension_flat, one_flat}
-use Rattle.langtag_scan.specs.Subtags.{join, subtags}
-use Rattle.langtag_scan.specs.Tag.{IsNormal}
-use Rattle.langtag_scan.proofs.SubtagFacts.{of_variant}
-use Rattle.langtag_scan.proofs.SubtagLists.{each_subtag, subtags-joined}
-use Rattle.langtag_extension.proofs.Rules.{subtags-flat_map}
-use Rattle.langtag.specs.Repeat.{repeat, are_alike_bytes}
-use Rattle.langtag_c.specs.Repeats.{AnswersRepeat, IsFirstRepeatAt, HasFirstRepeat, have_one_singleton, singleton_place, variant_place}
-use Rattle.langtag_c.specs.Spans.{empty_at, spans_at}
+use Rattle.std.proofs.lemmas.Option.{slice_get-map, slice_get_past}
+use Rattle.langtag_scan.specs.Ends.{to_region, to_variants}
+use Rattle.langtag_scan.specs.Record.{Record, Extension, Spells, extension_flat, flat, one_flat, private_part_flat}
+use Rattle.langtag_scan.specs.Subtags.{join}
+use Rattle.langtag_scan.proofs.Joins.{join-hyphenated, length-join-append}
+use Rattle.langtag_extension.specs.Spelling.{extension_spelling}
+use Rattle.langtag.proofs.RepeatLaws.{IsAt-drop}
+use Rattle.langtag_c.specs.Repeats.{member_span, singleton_place, variant_place}
 use Rattle.langtag_c.specs.declared.span.Span.{Span}
-use Rattle.langtag_c.proofs.FirstRepeats.{first-repeat, alike-from_both, one_singleton-from_both, repeat-singletons, count-flat}
-use Rattle.langtag_c.proofs.SecondAlike.{width, join-width}
 
--- ---- where a part begins that is there
+-- ---- a member of a list
 
-width-some : (ss : List (List ℕ)) → (ss ≡ [] → ⊥) → 1 ≤ sum_by width ss
-width-some [] some = absurd (some refl)
-width-some (s ∷ ss) some = omega (arith, sum_by-cons width s ss)
+-- the members are those before an index, the one there, and the others
+pub cut_at : {A : Type 0} (xs : List A) (k : ℕ) (x : A) (rest : List A) → drop k xs ≡ x ∷ rest → xs ≡ take k xs ++ x ∷ rest
+cut_at xs k x rest left = sym (take-append-drop k xs) ∙ ap (λ ys. take k xs ++ ys) left
 
-width-flat : (es : List Extension) → (es ≡ [] → ⊥) → 1 ≤ sum_by width (flat_map extension_flat es)
-width-flat [] some = absurd (some refl)
-width-flat (e ∷ es) some = omega (arith, sum_by-cons width (e.singleton ∷ []) (e.subtags ++ flat_map extension_flat es))
+pub member_at : {A : Type 0} (xs : List A) (k : ℕ) (x : A) (rest : List A) → drop k xs ≡ x ∷ rest → slice_get xs k ≡ Some x
+member_at [] zero x rest left = absurd cc
+member_at [] (suc k) x rest left = absurd cc
+member_at (y ∷ xs) zero x rest left = cc
+member_at (y ∷ xs) (suc k) x rest left = member_at xs k x rest left
 
-pub variants-start : (r : Record) → (r.variants ≡ [] → ⊥) → (spans_at (ends_of r)).variants.start ≡ length (join (to_region r)) + 1
-variants-start r some =
-    let longer : length (join (to_variants r)) ≡ length (join (to_region r)) + sum_by width r.variants =
-    simp append_assoc at (join-width r.primary (r.extended ++ (one_flat r.script ++ one_flat r.region)) r.variants) in
-    elim (eqb_tells (length (join (to_region r))) (length (join (to_variants r)))) [
-      | inl same ↦ absurd (omega (arith, longer, same.1, width-some r.variants some))
-      | inr other ↦ rw other.0 refl
-    ]
+pub take_next : {A : Type 0} (xs : List A) (k : ℕ) (x : A) (rest : List A) → drop k xs ≡ x ∷ rest → take (k + 1) xs ≡ take k xs ++ x ∷ []
+take_next xs k x rest left =
+    let at = IsAt-drop xs k x rest left in
+    take_more xs k x at.below ∙ ap (λ y. take k xs ++ y ∷ []) (sym at.member)
 
-pub extensions-start : (r : Record) → (r.extensions ≡ [] → ⊥) → (spans_at (ends_of r)).extensions.start ≡ length (join (to_variants r)) + 1
-extensions-start r some =
-    let longer : length (join (to_extensions r)) ≡ length (join (to_variants r)) + sum_by width (flat_map extension_flat r.extensions) =
-    simp append_assoc at (join-width r.primary (r.extended ++ (one_flat r.script ++ (one_flat r.region ++ r.variants))) (flat_map extension_flat r.extensions)) in
-    elim (eqb_tells (length (join (to_variants r))) (length (join (to_extensions r)))) [
-      | inl same ↦ absurd (omega (arith, longer, same.1, width-flat r.extensions some))
-      | inr other ↦ rw other.0 refl
-    ]
+is_some-map : {A B : Type 0} (f : A → B) (o : Option A) → is_some (option_map f o) ≡ is_some o
+is_some-map f None = refl
+is_some-map f (Some x) = refl
 
--- ---- the first repeat
+-- ---- its bytes in the text
+
+-- a member of these subtags stands after others, and there are more
+pub record IsMember (text before after : ℕ) (len : ℕ) : Type 0 where
+  pub end : after ≡ before + 1 + len
+  pub within : after ≤ text
+
+members-end :
+    (x : List ℕ) (others : List (List ℕ)) (y : List ℕ) (ys more whole : List (List ℕ)) → whole ≡ x ∷ (others ++ ((y ∷ ys) ++ more)) →
+    IsMember (length (join whole)) (length (join (x ∷ others))) (length (join (x ∷ (others ++ (y ∷ ys))))) (length (join (y ∷ ys)))
+members-end x others y ys more whole is =
+    let all : whole ≡ x ∷ ((others ++ (y ∷ ys)) ++ more) = is ∙ ap (λ zs. x ∷ zs) (sym (append_assoc others (y ∷ ys) more)) in
+    record {
+      end = omega (arith, length-join-append x others (y ∷ ys), ap length (join-hyphenated y ys));
+      within = omega (arith, ap (λ zs. length (join zs)) all, length-join-append x (others ++ (y ∷ ys)) more);
+    }
+
+-- a variant
+pub variant_member :
+    (r : Record) (text : List ℕ) (k : ℕ) (v : List ℕ) (rest : List (List ℕ)) → Spells r text → drop k r.variants ≡ v ∷ rest →
+    IsMember (length text) (length (join (to_region r ++ take k r.variants))) (length (join (to_region r ++ take (k + 1) r.variants))) (length v)
+variant_member r text k v rest spells left =
+    let before = r.extended ++ (one_flat r.script ++ one_flat r.region) in
+    let after = flat_map extension_flat r.extensions ++ private_part_flat r.private_use in
+    let others = before ++ take k r.variants in
+    let whole : flat r ≡ r.primary ∷ (others ++ ((v ∷ []) ++ (rest ++ after))) =
+    ap (λ vs. r.primary ∷ (r.extended ++ (one_flat r.script ++ (one_flat r.region ++ (vs ++ after))))) (cut_at r.variants k v rest left)
+    ∙ ap (λ ss. r.primary ∷ ss) (simp append_assoc) in
+    let member = members-end r.primary others v [] (rest ++ after) (flat r) whole in
+    let next : length (join (to_region r ++ take (k + 1) r.variants)) ≡ length (join (r.primary ∷ (others ++ (v ∷ [])))) =
+    ap (λ vs. length (join (to_region r ++ vs))) (take_next r.variants k v rest left)
+    ∙ ap (λ ss. length (join (r.primary ∷ ss))) (sym (append_assoc before (take k r.variants) (v ∷ []))) in
+    let end = member.end in
+    let within = member.within in
+    record { end = omega (arith, next, end); within = omega (arith, next, within, ap length spells.1) }
+
+-- an extension
+pub extension_member :
+    (r : Record) (text : List ℕ) (k : ℕ) (e : Extension) (rest : List Extension) → Spells r text → drop k r.extensions ≡ e ∷ rest →
+    IsMember (length text) (length (join (to_variants r ++ flat_map extension_flat (take k r.extensions))))
+    (length (join (to_variants r ++ flat_map extension_flat (take (k + 1) r.extensions)))) (length (extension_spelling e))
+extension_member r text k e rest spells left =
+    let before = r.extended ++ (one_flat r.script ++ (one_flat r.region ++ r.variants)) in
+    let earlier = flat_map extension_flat (take k r.extensions) in
+    let after = flat_map extension_flat rest ++ private_part_flat r.private_use in
+    let others = before ++ earlier in
+    let listed : flat_map extension_flat r.extensions ≡ earlier ++ (extension_flat e ++ flat_map extension_flat rest) =
+    ap (flat_map extension_flat) (cut_at r.extensions k e rest left) ∙ flat_map-append extension_flat (take k r.extensions) (e ∷ rest) in
+    let whole : flat r ≡ r.primary ∷ (others ++ (extension_flat e ++ after)) =
+    ap (λ es. r.primary ∷ (r.extended ++ (one_flat r.script ++ (one_flat r.region ++ (r.variants ++ (es ++ private_part_flat r.private_use)))))) listed
+    ∙ ap (λ ss. r.primary ∷ ss) (simp append_assoc) in
+    let member = members-end r.primary others (e.singleton ∷ []) e.subtags after (flat r) whole in
+    let next : length (join (to_variants r ++ flat_map extension_flat (take (k + 1) r.extensions))) ≡ length (join (r.primary ∷ (others ++ extension_flat e))) =
+    ap (λ es. length (join (to_variants r ++ flat_map extension_flat es))) (take_next r.extensions k e rest left)
+    ∙ ap (λ ss. length (join (to_variants r ++ ss))) (flat_map-append extension_flat (take k r.extensions) (e ∷ []))
+    ∙ ap (λ ss. length (join (r.primary ∷ ss))) (simp (append_assoc, append-nil)) in
+    let end = member.end in
+    let within = member.within in
+    record { end = omega (arith, next, end); within = omega (arith, next, within, ap length spells.1) }
+
+-- ---- the span of a member
+
+-- the one at an index
+pub span_at :
+    {A : Type 0} (place : List A → A → Span) (xs : List A) (k : ℕ) (x : A) (rest : List A) → drop k xs ≡ x ∷ rest →
+    member_span place xs (Some k) ≡ Some (place (take k xs) x)
+span_at place xs k x rest left = ap (option_map (place (take k xs))) (member_at xs k x rest left)
+
+-- there is none past the end
+pub span_past : {A : Type 0} (place : List A → A → Span) (xs : List A) (k n : ℕ) → drop k xs ≡ [] → k ≤ n → member_span place xs (Some n) ≡ None
+span_past place xs k n left past =
+    ap (option_map (place (take n xs))) (slice_get_past xs n (omega (arith, past, ap length left, length-drop k xs)))
+
+-- it is there where the member is
+pub is_some-span :
+    {A : Type 0} (place : List A → A → Span) (xs : List A) (index : Option ℕ) → is_some (member_span place xs index) ≡ is_some (option_and_then (slice_get xs) index)
+is_some-span place xs None = refl
+is_some-span place xs (Some k) = is_some-map (place (take k xs)) (slice_get xs k)
+
+-- and where what is made of the member is
+pub is_some-span_of :
+    {A B : Type 0} (place : List A → A → Span) (f : A → B) (xs : List A) (index : Option ℕ) →
+    is_some (member_span place xs index) ≡ is_some (option_and_then (slice_get (map f xs)) index)
+is_some-span_of place f xs None = refl
+is_some-span_of place f xs (Some k) =
+    is_some-map (place (take k xs)) (slice_get xs k) ∙ sym (is_some-map f (slice_get xs k)) ∙ ap is_some (sym (slice_get-map f xs k))
+
+-- ---- the span of the first repeat
 
 abbrev some_span : ℕ → ℕ → Option Span
 some_span start len = Some (record { start = start; len = len })
 
-abbrev none_span : Option Span
-none_span = None
+pub variant_stands :
+    (r : Record) (k end len : ℕ) (v : List ℕ) (rest : List (List ℕ)) (index : Option ℕ) → drop k r.variants ≡ v ∷ rest →
+    end ≡ length (join (to_region r ++ take k r.variants)) → len ≡ length v → index ≡ Some k →
+    some_span (end + 1) len ≡ member_span (variant_place r) r.variants index
+variant_stands r k end len v rest index left is size at =
+    ap (λ n. some_span (n + 1) len) is ∙ ap (some_span (length (join (to_region r ++ take k r.variants)) + 1)) size
+    ∙ sym (ap (member_span (variant_place r) r.variants) at ∙ span_at (variant_place r) r.variants k v rest left)
 
-not-empty : {A : Type 0} (before after : List A) (x : A) (xs : List A) → xs ≡ before ++ x ∷ after → xs ≡ [] → ⊥
-not-empty before after x xs members none = absurd (omega (arith, ap length (sym members ∙ none), length-append before (x ∷ after)))
-
-pub variant-stands :
-    (r : Record) (text x variants : List ℕ) (start n : ℕ) → Spells r text → Some x ≡ repeat are_alike r.variants → variants ≡ variants_part r →
-    ((r.variants ≡ [] → ⊥) → start ≡ length (join (to_region r)) + 1) →
-    ((before after : List (List ℕ)) → subtags variants ≡ before ++ x ∷ after → count_by (are_alike x) before ≡ 1 → n ≡ sum_by width before) →
-    IsFirstRepeatAt are_alike (variant_place r) r.variants (some_span (start + n) (length x))
-variant-stands r text x variants start n spells is part starts place =
-    let (before, second) = first-repeat are_alike alike-from_both r.variants x (sym is) in
-    let listed : subtags variants ≡ r.variants = ap subtags part ∙ subtags-joined r.variants (each_subtag is_variant of_variant r.variants spells.0.variants) in
-    let at : start + n ≡ length (join (to_region r ++ before)) + 1 =
-    omega (
-      arith,
-      starts (not-empty before second.after x r.variants second.members),
-      place before second.after (listed ∙ second.members) second.one,
-      join-width r.primary (r.extended ++ (one_flat r.script ++ one_flat r.region)) before,
-    ) in
-    subst (AnswersRepeat are_alike r.variants None (λ others y. Some (variant_place r others y)) (some_span (start + n) (length x)))
-    is (before, second, ap (λ s. some_span s (length x)) at)
-
-each-first : (before rest : List Extension) → AllByRecursion IsWellFormedExtension (before ++ rest) → AllByRecursion IsWellFormedExtension before
-each-first [] rest fits = tt
-each-first (e ∷ before) rest fits = (fits.0, each-first before rest fits.1)
-
-pub singleton-stands :
-    (r : Record) (text extensions : List ℕ) (b start n : ℕ) → Spells r text → Some b ≡ repeat are_alike_bytes (map (λ e. e.singleton) r.extensions) →
-    extensions ≡ extensions_part r → ((r.extensions ≡ [] → ⊥) → start ≡ length (join (to_variants r)) + 1) →
-    ((before after : List (List ℕ)) → subtags extensions ≡ before ++ (b ∷ []) ∷ after → count_by (are_alike (b ∷ [])) before ≡ 1 →
-    n ≡ sum_by width before) →
-    IsFirstRepeatAt have_one_singleton (singleton_place r) r.extensions (some_span (start + n) 1)
-singleton-stands r text extensions b start n spells is part starts place =
-    by_repeat (repeat have_one_singleton r.extensions) refl (repeat-singletons r.extensions ∙ sym is)
-  where
-    by_repeat :
-        (o : Option Extension) → repeat have_one_singleton r.extensions ≡ o → option_map (λ e. e.singleton) o ≡ Some b →
-        AnswersRepeat have_one_singleton r.extensions None (λ others e. Some (singleton_place r others e)) (some_span (start + n) 1) o
-    by_repeat None found none = absurd cc
-    by_repeat (Some e) found one =
-        let byte : e.singleton ≡ b = cc in
-        let (before, second) = first-repeat have_one_singleton one_singleton-from_both r.extensions e found in
-        let flat = flat_map extension_flat before in
-        let fits = spells.0.extensions in
-        let rest = e.subtags ++ flat_map extension_flat second.after in
-        let listed : subtags extensions ≡ flat ++ (b ∷ []) ∷ rest =
-        ap subtags part ∙ subtags-flat_map r.extensions fits ∙ ap (flat_map extension_flat) second.members
-        ∙ flat_map-append extension_flat before (e ∷ second.after)
-        ∙ ap (λ c. flat ++ (c ∷ []) ∷ rest) byte in
-        let counted : count_by (are_alike (b ∷ [])) flat ≡ 1 =
-        ap (λ c. count_by (are_alike (c ∷ [])) flat) (sym byte)
-        ∙ count-flat e.singleton before (each-first before (e ∷ second.after) (subst (AllByRecursion IsWellFormedExtension) second.members fits)) ∙ second.one in
-        let at : start + n ≡ length (join (to_variants r ++ flat)) + 1 =
-        omega (
-          arith,
-          starts (not-empty before second.after e r.extensions second.members),
-          place flat rest listed counted,
-          join-width r.primary (r.extended ++ (one_flat r.script ++ (one_flat r.region ++ r.variants))) flat,
-        ) in
-        (before, second, ap (λ s. some_span s 1) at)
-
--- no singleton is repeated
-pub singleton-none :
-    (r : Record) (place : List Extension → Extension → Span) → None ≡ repeat are_alike_bytes (map (λ e. e.singleton) r.extensions) →
-    IsFirstRepeatAt have_one_singleton place r.extensions None
-singleton-none r place is = by_repeat (repeat have_one_singleton r.extensions) (repeat-singletons r.extensions ∙ sym is)
-  where
-    by_repeat :
-        (o : Option Extension) → option_map (λ e. e.singleton) o ≡ None →
-        AnswersRepeat have_one_singleton r.extensions None (λ others e. Some (place others e)) none_span o
-    by_repeat None none = refl
-    by_repeat (Some e) none = absurd cc
-
--- ---- what is made of the answer
-
-module _ {A : Type 0} (alike : A → A → Bool) (place : List A → A → Span) (xs : List A) (span : Option Span) where
-  pub is_some-first : IsFirstRepeatAt alike place xs span → is_some span ≡ is_some (repeat alike xs)
-  is_some-first first = by_repeat (repeat alike xs) first
-    where
-      by_repeat :
-          (o : Option A) → AnswersRepeat alike xs None (λ before x. Some (place before x)) span o → is_some span ≡ is_some o
-      by_repeat None is = ap is_some is
-      by_repeat (Some x) is = ap is_some is.2
-
-  pub first-there : IsFirstRepeatAt alike place xs span → HasFirstRepeat alike place xs (unwrap_or span (empty_at 0))
-  first-there first = by_repeat (repeat alike xs) first
-    where
-      by_repeat :
-          (o : Option A) → AnswersRepeat alike xs None (λ before x. Some (place before x)) span o →
-          AnswersRepeat alike xs (empty_at 0) place (unwrap_or span (empty_at 0)) o
-      by_repeat None is = ap (λ o. unwrap_or o (empty_at 0)) is
-      by_repeat (Some x) is = (is.0, is.1, ap (λ o. unwrap_or o (empty_at 0)) is.2)
-
--- ---- there is room for the sum
-
--- a normal text has a record, of which something is known
-pub room :
-    (text : List ℕ) (part_of : Record → List ℕ) (part : List ℕ) (start n : ℕ) → IsNormal text →
-    EachRecord text (λ r. start + length (part_of r) + 1 < 2 ^ 64) →
-    EachRecord text (λ r. part ≡ part_of r) → n ≤ length part + 1 → start + n < 2 ^ 64
-unfolding IsNormal
-room text part_of part start n (r, spells) few is le = omega (arith, few r spells, ap length (is r spells), le)
+pub singleton_stands :
+    (r : Record) (k end : ℕ) (e : Extension) (rest : List Extension) (index : Option ℕ) → drop k r.extensions ≡ e ∷ rest →
+    end ≡ length (join (to_variants r ++ flat_map extension_flat (take k r.extensions))) → index ≡ Some k →
+    some_span (end + 1) 1 ≡ member_span (singleton_place r) r.extensions index
+singleton_stands r k end e rest index left is at =
+    ap (λ n. some_span (n + 1) 1) is ∙ sym (ap (member_span (singleton_place r) r.extensions) at ∙ span_at (singleton_place r) r.extensions k e rest left)

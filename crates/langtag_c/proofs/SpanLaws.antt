@@ -7,7 +7,7 @@ use Rattle.langtag_scan.specs.Record.{EachRecord}
 use Rattle.langtag_scan.specs.declared.ends.Ends.{Ends}
 use Rattle.langtag_scan.proofs.SpelledTexts.{ends_each, ends_ordered, ends_whole}
 use Rattle.langtag.proofs.PartsFound.{language_found, script_found, region_found, variants_found, extensions_found, private_use_found}
-use Rattle.langtag_c.specs.Spans.{span_text, span_between, spans_at, private_alone, ArePartsOf, AreWithin, IsWithin}
+use Rattle.langtag_c.specs.Spans.{span_text, span_between, spans_at, ArePartsOf, AreWithin, IsWithin}
 
 -- the span between two ends has what stands between them
 pub between_text : (text : List ℕ) (before end : ℕ) → before ≤ end → span_text text (span_between before end) ≡ unwrap_or (text_between text before end) []
@@ -49,6 +49,3 @@ spans_within text ends h =
       extensions = between_end text ends.variants ends.extensions order.extensions (omega (arith, order.private_use, whole));
       private_use = between_end text ends.extensions ends.whole order.private_use (omega (arith, whole));
     }
-
-pub alone_within : (text : List ℕ) (len : ℕ) → len ≤ length text → AreWithin text (private_alone len)
-alone_within text len le = record { language = omega arith; script = omega arith; region = omega arith; variants = omega arith; extensions = omega arith; private_use = omega (arith, le) }

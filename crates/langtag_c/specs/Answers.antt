@@ -25,11 +25,11 @@ sign Greater = pos 1
 abbrev pub fnv : ℕ → List ℕ → ℕ
 fnv state text = fold (λ h b. (bit_xor h (fold_byte b) * 1099511628211) % 2 ^ 64) state text
 
--- 1 where the one holds, and 2 more where the other does
+-- 1 for a repeated variant, plus 2 for a repeated singleton
 abbrev pub repeat_flags : Bool → Bool → ℕ
 repeat_flags variant singleton = (if variant then 1 else 0) + (if singleton then 2 else 0)
 
--- 1 for a basic language range, 2 for an extended one that is not basic, and 0 for a text that is no range
+-- 1 for a basic language range, 2 for an extended one that is not basic, and 0 for a text that is not a range
 pub record IsRangeKind (text : List ℕ) (kind : ℕ) : Type 0 where
   pub few : kind ≤ 2
   pub none : kind ≡ 0 ↔ (is_language_range text ≡ false)

@@ -1,4 +1,4 @@
--- Where the parts of a tag stand in its text (RFC 5646 section 2.1): so many bytes from an index on.
+-- Where the parts of a tag stand in its text (RFC 5646 section 2.1): an offset and a length.
 use Rattle.std.specs.Prelude.{◌≡◌, ℕ, ◌+◌, ◌-◌, ◌<◌, ◌≤◌, ◌==◌, if◌then◌else◌, List, [], length, unwrap_or}
 use Rattle.std.specs.List.{slice_range}
 use Rattle.langtag_scan.specs.Parts.{language_part, variants_part, extensions_part, private_use_part}
@@ -15,6 +15,7 @@ span_text text span = slice_range text span.start (span.start + span.len)
 abbrev pub end_of : Span → ℕ
 end_of span = span.start + span.len
 
+-- a span lies within a text
 abbrev pub IsWithin : List ℕ → Span → Type 0
 IsWithin text span = end_of span ≤ length text
 
@@ -66,6 +67,7 @@ pub record ArePartsOf (text : List ℕ) (r : Record) (parts : Parts) : Type 0 wh
   pub extensions : span_text text parts.extensions ≡ extensions_part r
   pub private_use : span_text text parts.private_use ≡ unwrap_or (private_use_part r) []
 
+-- each span lies within the text
 pub record AreWithin (text : List ℕ) (parts : Parts) : Type 0 where
   pub language : IsWithin text parts.language
   pub script : IsWithin text parts.script

@@ -1,8 +1,7 @@
 -- What a walk takes off a span (RFC 5646 section 2.1).
-use Rattle.std.specs.Prelude.{◌≡◌, ℕ, ◌+◌, ◌<◌, ◌≤◌, IsTrue, List, length, take, drop, slice_index}
-use Rattle.std.specs.List.{list_all}
-use Rattle.langtag_scan.specs.Subtags.{segments, IsHyphenFree}
-use Rattle.langtag_extension.specs.ExtensionTexts.{goes_on, opens}
+use Rattle.std.specs.Prelude.{◌≡◌, ℕ, ◌<◌, ◌≤◌, List, slice_index}
+use Rattle.langtag_scan.specs.Subtags.{IsHyphenFree}
+use Rattle.langtag_extension.specs.ExtensionTexts.{IsFirstExtension}
 use Rattle.langtag_c.specs.Spans.{end_of, span_between, span_text}
 use Rattle.langtag_c.specs.declared.span.Span.{Span}
 
@@ -17,13 +16,6 @@ pub record TakesFirst (text : List ℕ) (before after first : Span) : Type 0 whe
 pub record TakesSubtag (text : List ℕ) (before after subtag : Span) : Type 0 where
   pub first : TakesFirst text before after subtag
   pub hyphen_free : IsHyphenFree (span_text text subtag)
-
--- so many bytes of a text, up to a hyphen or the end: no subtag after the first is of one byte, and the next one is
-pub record IsFirstExtension (text : List ℕ) (len : ℕ) : Type 0 where
-  pub within : len ≤ length text
-  pub one : IsTrue (list_all goes_on (drop 1 (segments (take len text))))
-  pub hyphen : len < length text → slice_index text len ≡ 45
-  pub next : len < length text → IsTrue (opens (segments (drop (len + 1) text)))
 
 -- they are an extension: all subtags up to the next one of one byte
 pub record TakesExtension (text : List ℕ) (before after extension : Span) : Type 0 where

@@ -6,7 +6,7 @@ ghost use Rattle.langtag_c.specs.Answers.{sign, fnv};
 use langtag_scan::{case_insensitive_cmp, case_insensitive_eq, into_smallcase};
 use std::cmp::Ordering;
 
-/// Whether two texts are equal but for the case of ASCII letters.
+/// Returns whether two texts are equal but for the case of ASCII letters.
 #[unsafe(no_mangle)]
 pub extern "C" fn langtag_eq(a: &[u8], b: &[u8]) -> bool
     ensures { result ≡ are_alike a.now b.now }
@@ -14,8 +14,8 @@ pub extern "C" fn langtag_eq(a: &[u8], b: &[u8]) -> bool
     case_insensitive_eq(a, b)
 }
 
-/// The order of two texts by their folded bytes: -1, 0 or 1. Of two texts of which one begins the other the shorter is the
-/// greater.
+/// Returns the order of two texts by their folded bytes: -1, 0 or 1. Of two texts of which one begins the other the
+/// shorter is the greater.
 #[unsafe(no_mangle)]
 pub extern "C" fn langtag_cmp(a: &[u8], b: &[u8]) -> i32
     ensures { result ≡ sign (case_cmp a.now b.now) }

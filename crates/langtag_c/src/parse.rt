@@ -9,7 +9,7 @@ ghost use Rattle.langtag_c.specs.Answers.{IsKind};
 ghost use Rattle.langtag_c.specs.Spans.{AreWithin, ArePartsOf, spans_at, no_parts, private_alone};
 
 use crate::span::Span;
-use langtag_scan::{Ends, Found, MeteredBytes, recognise};
+use langtag_scan::{Ends, Found, Metered, recognise};
 
 /// Where the parts of a tag stand in its text.
 #[repr(C)]
@@ -69,11 +69,11 @@ impl Parts {
 fn found_of(bytes: &[u8]) -> Option<Found>
     ensures { MatchOption result (IsTag bytes.now → ⊥) (λ found. IsFoundOf bytes.now (finding found)) }
 {
-    recognise(&mut MeteredBytes::new(bytes))
+    recognise(&mut Metered::of_bytes(bytes))
 }
 
-/// The kind of the tag that the bytes are: 1 for a normal one, 2 for private use, 3 for an irregular one, and 0 where they
-/// are no tag.
+/// Returns the kind of the tag that the bytes are: 1 for a normal one, 2 for private use, 3 for an irregular one, and 0
+/// where they are no tag.
 #[unsafe(no_mangle)]
 pub extern "C" fn langtag_kind(bytes: &[u8]) -> u32
     ensures { IsKind bytes.now result }
@@ -90,8 +90,8 @@ pub extern "C" fn langtag_kind(bytes: &[u8]) -> u32
     }
 }
 
-/// The kind, as [`langtag_kind`] answers it, and where the parts stand. A tag for private use is its own private use part;
-/// an irregular one has no parts. All of `parts` is written, also where the answer is 0.
+/// Returns the kind, as [`langtag_kind`] returns it, and where the parts stand. A tag for private use is its own
+/// private use part; an irregular one has no parts. All of `parts` is written, also where the answer is 0.
 #[unsafe(no_mangle)]
 pub extern "C" fn langtag_parse(bytes: &[u8], parts: &mut Parts) -> u32
     ensures kind { IsKind bytes.now result }

@@ -25,8 +25,8 @@ pub extern "C" fn langtag_range_kind(bytes: &[u8]) -> u32
     }
 }
 
-/// Whether a range matches a tag by basic filtering (RFC 4647 section 3.3.1): `de-DE` matches `de-DE-1996`, and not
-/// `de-Latn-DE`. False where the first bytes are no range, or the second no tag.
+/// Returns whether a range matches a tag by basic filtering (RFC 4647 section 3.3.1): `de-DE` matches `de-DE-1996`, and
+/// not `de-Latn-DE`. False where the first bytes are no range, or the second no tag.
 #[unsafe(no_mangle)]
 pub extern "C" fn langtag_matches_basic(range: &[u8], tag: &[u8]) -> bool
     ensures { IsTrue result ↔ IsMatch MatchesBasic range.now tag.now }
@@ -37,8 +37,8 @@ pub extern "C" fn langtag_matches_basic(range: &[u8], tag: &[u8]) -> bool
     }
 }
 
-/// Whether a range matches a tag by extended filtering (RFC 4647 section 3.3.2): `de-DE` and `de-*-DE` match `de-Latn-DE`.
-/// False where the first bytes are no range, or the second no tag.
+/// Returns whether a range matches a tag by extended filtering (RFC 4647 section 3.3.2): `de-DE` and `de-*-DE` match
+/// `de-Latn-DE`. False where the first bytes are no range, or the second no tag.
 #[unsafe(no_mangle)]
 pub extern "C" fn langtag_matches_extended(range: &[u8], tag: &[u8]) -> bool
     ensures { IsTrue result ↔ IsMatch MatchesExtended range.now tag.now }

@@ -1,20 +1,16 @@
 //! Variants and singletons that stand in a tag twice (RFC 5646 section 2.2.9).
-ghost use Rattle.std.specs.Prelude.{◌≡◌, ◌<◌, ◌≤◌, ◌+◌, ◌^◌, ◌∷◌, ◌++◌, ℕ, List, [], MatchOption, is_some, length};
-ghost use Rattle.std.specs.List.{count_by, sum_by};
+ghost use Rattle.std.specs.Prelude.{◌≡◌, ◌<◌, ◌^◌, MatchOption, is_some, length, map, unwrap_or};
 ghost use Rattle.langtag_scan.specs.Case.{are_alike};
-ghost use Rattle.langtag_scan.specs.Ends.{to_region, to_variants};
-ghost use Rattle.langtag_scan.specs.Parts.{extensions_part, variants_part};
 ghost use Rattle.langtag_scan.specs.Record.{EachRecord};
-ghost use Rattle.langtag_scan.specs.Subtags.{join, subtags};
 ghost use Rattle.langtag_scan.specs.Tag.{IsNormal};
-ghost use Rattle.langtag.specs.Repeat.{repeat};
+ghost use Rattle.langtag.specs.Repeat.{are_alike_bytes, repeat, repeat_index};
 ghost use Rattle.langtag.specs.Text.{normal_lang_tag_text};
 ghost use Rattle.langtag_c.specs.Answers.{repeat_flags};
-ghost use Rattle.langtag_c.specs.Repeats.{HasFirstRepeat, IsFirstRepeatAt, have_one_singleton, none_repeated, singleton_place, variant_place};
+ghost use Rattle.langtag_c.specs.Repeats.{member_span, none_repeated, singleton_place, variant_place};
+ghost use Rattle.langtag_c.specs.Spans.{empty_at};
 
-use crate::parse::{Parts, langtag_parse};
 use crate::span::Span;
-use langtag::{NormalLangTag, Subtags, case_insensitive_eq};
+use langtag::NormalLangTag;
 
 /// Where the first variant and the first singleton stand that are equal, but for case, to an earlier one. What is not there
 /// has no byte.
@@ -25,15 +21,18 @@ pub struct Repeated {
     pub singleton: Span,
 }
 
-/// 1 where a variant of a normal tag is equal, but for case, to an earlier one, and 2 more where a singleton is; and where the
-/// first of each stands, as the second `1996` of `de-1996-1996`. Such a tag is well formed, and is not valid. 0 for what is no
-/// normal tag. All of `repeated` is written.
+/// 1 where a variant of a normal tag is equal, but for case, to an earlier one, and 2 more where a singleton is; and
+/// where the first of each stands, as the second `1996` of `de-1996-1996`. Such a tag is well formed, and is not valid.
+/// 0 for what is not a normal tag. All of `repeated` is written.
 #[unsafe(no_mangle)]
 pub extern "C" fn langtag_repeats(bytes: &[u8], repeated: &mut Repeated) -> u32
     ensures flags { EachRecord bytes.now (λ r.
-        result ≡ repeat_flags (is_some (repeat are_alike r.variants)) (is_some (repeat have_one_singleton r.extensions))) }
-    ensures variant { EachRecord bytes.now (λ r. HasFirstRepeat are_alike (variant_place r) r.variants repeated.new.variant) }
-    ensures singleton { EachRecord bytes.now (λ r. HasFirstRepeat have_one_singleton (singleton_place r) r.extensions repeated.new.singleton) }
+        result ≡ repeat_flags (is_some (repeat are_alike r.variants)) (is_some (repeat are_alike_bytes (map (λ e. e.singleton) r.extensions)))) }
+    ensures variant { EachRecord bytes.now (λ r.
+        repeated.new.variant ≡ unwrap_or (member_span (variant_place r) r.variants (repeat_index are_alike r.variants)) (empty_at 0)) }
+    ensures singleton { EachRecord bytes.now (λ r.
+        repeated.new.singleton
+        ≡ unwrap_or (member_span (singleton_place r) r.extensions (repeat_index are_alike_bytes (map (λ e. e.singleton) r.extensions))) (empty_at 0)) }
     ensures other { (IsNormal bytes.now → ⊥) → (result ≡ 0) × (repeated.new ≡ none_repeated) }
 {
     let none = Span { start: 0, len: 0 };
@@ -44,10 +43,8 @@ pub extern "C" fn langtag_repeats(bytes: &[u8], repeated: &mut Repeated) -> u32
         };
         return 0;
     };
-    let mut parts = Parts::none();
-    let _normal = langtag_parse(bytes, &mut parts);
-    let variant = repeated_variant(&tag, parts.variants.start);
-    let singleton = repeated_singleton(&tag, parts.extensions.start);
+    let variant = repeated_variant(&tag);
+    let singleton = repeated_singleton(&tag);
     *repeated = Repeated {
         variant: variant.unwrap_or(none),
         singleton: singleton.unwrap_or(none),
@@ -64,53 +61,42 @@ fn normal_tag_of<'a>(bytes: &'a [u8]) -> Option<NormalLangTag<'a>>
     NormalLangTag::new(text).ok()
 }
 
-/// Where the first repeated variant stands in a tag whose variants begin at this index.
-fn repeated_variant(tag: &NormalLangTag<'_>, start: usize) -> Option<Span>
+/// Where the first repeated variant stands in a tag.
+fn repeated_variant(tag: &NormalLangTag<'_>) -> Option<Span>
     requires normal { IsNormal (normal_lang_tag_text tag.now) }
-    requires room { EachRecord (normal_lang_tag_text tag.now) (λ r. start + length (variants_part r) + 1 < 2 ^ 64) }
-    ensures { EachRecord (normal_lang_tag_text tag.now) (λ r. (r.variants ≡ [] → ⊥) → start ≡ length (join (to_region r)) + 1) →
-        EachRecord (normal_lang_tag_text tag.now) (λ r. IsFirstRepeatAt are_alike (variant_place r) r.variants result) }
+    requires room { length (normal_lang_tag_text tag.now) < 2 ^ 64 }
+    ensures { EachRecord (normal_lang_tag_text tag.now) (λ r. result ≡ member_span (variant_place r) r.variants (repeat_index are_alike r.variants)) }
 {
-    let variant = tag.repeated_variant()?.as_bytes();
-    let before = bytes_before_second(tag.variants().as_str(), variant);
-    Some(Span {
-        start: start + before,
-        len: variant.len(),
-    })
-}
-
-/// Where the first repeated singleton stands in a tag whose extensions begin at this index.
-fn repeated_singleton(tag: &NormalLangTag<'_>, start: usize) -> Option<Span>
-    requires normal { IsNormal (normal_lang_tag_text tag.now) }
-    requires room { EachRecord (normal_lang_tag_text tag.now) (λ r. start + length (extensions_part r) + 1 < 2 ^ 64) }
-    ensures { EachRecord (normal_lang_tag_text tag.now) (λ r. (r.extensions ≡ [] → ⊥) → start ≡ length (join (to_variants r)) + 1) →
-        EachRecord (normal_lang_tag_text tag.now) (λ r. IsFirstRepeatAt have_one_singleton (singleton_place r) r.extensions result) }
-{
-    let singleton = [tag.repeated_singleton()?.unwrap()];
-    let before = bytes_before_second(tag.extensions().as_str(), &singleton);
-    Some(Span {
-        start: start + before,
-        len: 1,
-    })
-}
-
-/// How many bytes of a text stand before the second of its subtags that are equal, but for case, to this one.
-fn bytes_before_second(text: &str, subtag: &[u8]) -> usize
-    ensures few { result ≤ length text.now + 1 }
-    ensures place { (before after : List (List ℕ)) → subtags text.now ≡ before ++ subtag.now ∷ after → count_by (are_alike subtag.now) before ≡ 1 →
-        result ≡ sum_by (λ s. length s + 1) before }
-{
-    let mut bytes = 0;
-    let mut met = false;
-    for other in Subtags::new(text) {
-        let alike = case_insensitive_eq(subtag, other.as_bytes());
-        if alike && met {
-            break;
+    let repeated = tag.repeated_variant_index()?;
+    let mut end = tag.ends().region;
+    for (index, variant) in tag.variants().iter().enumerate() {
+        let start = end + 1;
+        let len = variant.as_str().len();
+        if index == repeated {
+            return Some(Span { start, len });
         }
-        met |= alike;
-        bytes += other.len() + 1;
+        end = start + len;
     }
-    bytes
+    None
+}
+
+/// Where the first repeated singleton stands in a tag.
+fn repeated_singleton(tag: &NormalLangTag<'_>) -> Option<Span>
+    requires normal { IsNormal (normal_lang_tag_text tag.now) }
+    requires room { length (normal_lang_tag_text tag.now) < 2 ^ 64 }
+    ensures { EachRecord (normal_lang_tag_text tag.now) (λ r.
+        result ≡ member_span (singleton_place r) r.extensions (repeat_index are_alike_bytes (map (λ e. e.singleton) r.extensions))) }
+{
+    let repeated = tag.repeated_singleton_index()?;
+    let mut end = tag.ends().variants;
+    for (index, extension) in tag.extensions().iter().enumerate() {
+        let start = end + 1;
+        if index == repeated {
+            return Some(Span { start, len: 1 });
+        }
+        end = start + extension.as_str().len();
+    }
+    None
 }
 
 /// 1 for a variant, and 2 more for a singleton.

@@ -1,14 +1,12 @@
 //! Walks over the subtags and the extensions of a part, without memory.
-ghost use Rattle.std.specs.Prelude.{◌≡◌, ◌↔◌, ◌<◌, ◌≤◌, ◌+◌, ◌∷◌, List, IsTrue, false, length, take, drop, slice_index};
-ghost use Rattle.std.specs.List.{list_all};
+ghost use Rattle.std.specs.Prelude.{◌≡◌, ◌↔◌, ◌∷◌, List, IsTrue, false};
 ghost use Rattle.langtag_scan.specs.Record.{Extension};
-ghost use Rattle.langtag_scan.specs.Subtags.{segments};
-ghost use Rattle.langtag_extension.specs.ExtensionTexts.{goes_on, opens};
 ghost use Rattle.langtag_extension.specs.Spelling.{extension_spelling, SpellsExtensions};
 ghost use Rattle.langtag_c.specs.Spans.{HasBytes, span_text};
-ghost use Rattle.langtag_c.specs.Walks.{TakesSubtag, TakesExtension, IsFirstExtension};
+ghost use Rattle.langtag_c.specs.Walks.{TakesSubtag, TakesExtension};
 
 use crate::span::Span;
+use langtag_extension::first_extension_end;
 use langtag_scan::segment_end;
 
 /// Takes the first subtag off a span, and the hyphen after it. False where nothing is left, or where the span does not lie
@@ -27,7 +25,7 @@ pub extern "C" fn langtag_next_subtag(bytes: &[u8], rest: &mut Span, subtag: &mu
 }
 
 /// Takes the first extension off a span (RFC 5646 section 2.2.6), its singleton and the subtags after it, and the hyphen after
-/// them. False as [`langtag_next_subtag`] answers it.
+/// them. False as [`langtag_next_subtag`] returns it.
 #[unsafe(no_mangle)]
 pub extern "C" fn langtag_next_extension(
     bytes: &[u8],
@@ -46,20 +44,4 @@ pub extern "C" fn langtag_next_extension(
     };
     *extension = rest.take_first(first_extension_end(part));
     true
-}
-
-/// Where the first extension of a text ends: at the first hyphen before a subtag of one byte, or at the end. The subtag that the
-/// text begins with is not looked at.
-fn first_extension_end(text: &[u8]) -> usize
-    ensures { IsFirstExtension text.now result }
-{
-    let mut end = segment_end(text, 0);
-    while end < text.len() {
-        let next = segment_end(text, end + 1);
-        if next == end + 2 {
-            return end;
-        }
-        end = next;
-    }
-    end
 }

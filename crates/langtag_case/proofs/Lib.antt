@@ -1,4 +1,3 @@
 pub mod RecommendedLaws
-mod RecommendedWalk
-mod CasingLaws
+mod PieceLaws
 pub mod RecordLaw

@@ -1,6 +1,6 @@
 -- The recommended case of a text: it is alike the text, alike texts have the same one, and how it is had from subtag to
 -- subtag.
-use Rattle.std.proofs.Common.{◌≡◌, ℕ, ◌<◌, ◌==◌, Bool, true, false, cond, ◌||◌, ◌⊎◌, inl, inr, Some, All, subst, List, [], ◌∷◌, ◌++◌, length, map, take, get_or, refl, sym, ap, ◌∙◌, arith, append_assoc, append-nil}
+use Rattle.std.proofs.Common.{◌≡◌, ℕ, ◌<◌, ◌==◌, Bool, true, false, cond, ◌||◌, Some, All, subst, List, [], ◌∷◌, ◌++◌, length, map, take, get_or, refl, sym, ap, ◌∙◌, arith, append_assoc, append-nil}
 use Prim.Native.Nat.{zero, suc}
 use Rattle.std.specs.Char.{to_ascii_uppercase}
 use Rattle.std.specs.List.{list_any, slice_get}
@@ -9,7 +9,7 @@ use Rattle.std.proofs.lemmas.Bool.{eqb-true, ne_eqb}
 use Rattle.std.proofs.lemmas.List.{length-map, length-append, map-append}
 use Rattle.std.proofs.lemmas.Bool.Decides.{nat_tests}
 use Rattle.std.proofs.lemmas.List.Folds.{list_any-append}
-use Rattle.std.proofs.lemmas.List.Splits.{slice_split_none, slice_split_at, length-slice_split, join_with_byte-slice_split}
+use Rattle.std.proofs.lemmas.List.Splits.{length-slice_split, join_with_byte-slice_split}
 use Rattle.std.proofs.lemmas.Str.Ascii.{lowercase-uppercase, lowercase-lowercase}
 use Rattle.std.proofs.Math.ListN.{get_or-map}
 use Rattle.std.proofs.lemmas.Str.Ascii.{IsAscii-map, lowercase_ascii}
@@ -19,7 +19,7 @@ use Rattle.langtag_scan.specs.Subtags.{is_hyphen, IsHyphenFree, join, segments}
 use Rattle.langtag_scan.proofs.CaseLaw.{hyphen-fold, length-fold, segments-fold, join-fold}
 use Rattle.langtag_scan.proofs.SubtagLists.{segments-join, segments-hyphen_free}
 use Rattle.std.proofs.lemmas.List.Elements.{All-nil, All-cons, All-head, All-tail}
-use Rattle.langtag_case.specs.Casing.{later, following}
+use Rattle.langtag_case.specs.Walk.{later}
 use Rattle.langtag_case.specs.RecommendedCase.{title_text, is_single, by_length, recommended_subtag, recommended_after, recommended_text}
 
 -- ---- bytes
@@ -119,10 +119,6 @@ pub recommended_alike : (t : List ℕ) → Alike (recommended_text t) t
 recommended_alike t =
     sym (join-fold (recommended_after [] (segments t))) ∙ ap join (fold-recommended_after [] (segments t)) ∙ join-fold (segments t) ∙ ap fold_text (join_with_byte-slice_split 45 t)
 
--- so it has as many bytes
-pub recommended_length : (t : List ℕ) → length (recommended_text t) ≡ length t
-recommended_length t = sym (length-fold (recommended_text t)) ∙ ap length (recommended_alike t) ∙ length-fold t
-
 -- a text that is another in its recommended case is alike that
 pub alike_of_recommended : (old new : List ℕ) → new ≡ recommended_text old → Alike old new
 alike_of_recommended old new case = sym (ap fold_text case ∙ recommended_alike old)
@@ -188,90 +184,10 @@ after_none before (s ∷ ss) none some =
         ap (λ t. t ∷ recommended_after (before ++ s ∷ []) ss) here ∙ ap (λ ts. by_length s ∷ ts) (more many)
         ∙ sym (ap (λ v. cond v (map fold_text (s ∷ ss)) (by_length s ∷ later ss)) many)
 
--- what stands after the last byte of a subtag
-abbrev pub rest_of : Bool → List ℕ → List ℕ
-rest_of single [] = []
-rest_of single (hyphen ∷ rest) = hyphen ∷ join (following single (segments rest))
-
--- it is nothing, or begins with a hyphen
-abbrev pub IsRest : List ℕ → Type 0
-IsRest rest = (rest ≡ []) ⊎ ((others : List ℕ) × (rest ≡ 45 ∷ others))
-
--- what follows is as many
-pub following-some : (v : Bool) (ss : List (List ℕ)) → 0 < length ss → 0 < length (following v ss)
-following-some true ss some = omega (arith, some, length-map ss fold_text)
-following-some false [] some = absurd (omega (arith, some))
-following-some false (s ∷ ss) some = by (is_single s)
-  where
-    by : (v : Bool) → 0 < length (cond v (map fold_text (s ∷ ss)) (by_length s ∷ later ss))
-    by true = omega arith
-    by false = omega arith
-
--- a subtag and some others are joined by a hyphen
-pub join-cons : (x : List ℕ) (ss : List (List ℕ)) → 0 < length ss → join (x ∷ ss) ≡ x ++ 45 ∷ join ss
-join-cons x [] some = absurd (omega (arith, some))
-join-cons x (s ∷ ss) some = refl
-
--- a subtag and those after its hyphen
-join-rest : (v : Bool) (x q : List ℕ) → join (x ∷ following v (segments q)) ≡ x ++ rest_of v (45 ∷ q)
-join-rest v x q = join-cons x (following v (segments q)) (following-some v (segments q) (omega (arith, length-slice_split is_hyphen q)))
-
--- the first of later subtags, and those that follow it
-pub later-cut : (s : List ℕ) (ss : List (List ℕ)) (v : Bool) → is_single s ≡ v → later (s ∷ ss) ≡ by_length s ∷ following v ss
-later-cut s ss true single =
-    ap (λ v. cond v (map fold_text (s ∷ ss)) (by_length s ∷ later ss)) single ∙ ap (λ t. t ∷ map fold_text ss) (sym (by_length-single s single))
-later-cut s ss false many = ap (λ v. cond v (map fold_text (s ∷ ss)) (by_length s ∷ later ss)) many
-
--- nothing follows nothing
-nil-rest : (v : Bool) → following v [] ≡ []
-nil-rest true = refl
-nil-rest false = refl
-
--- a subtag that is not the first, and what stands after it
-later-text :
-    (s r : List ℕ) → IsHyphenFree s → IsRest r → join (later (segments (s ++ r))) ≡ by_length s ++ rest_of (is_single s) r
-later-text s r free (inl none) =
-    ap (λ t. join (later (segments (s ++ t)))) none ∙ ap (λ t. join (later (segments t))) (append-nil s)
-    ∙ ap (λ ss. join (later ss)) (slice_split_none is_hyphen s free)
-    ∙ ap join (later-cut s [] (is_single s) refl) ∙ ap (λ ss. join (by_length s ∷ ss)) (nil-rest (is_single s))
-    ∙ sym (ap (λ t. by_length s ++ rest_of (is_single s) t) none ∙ append-nil (by_length s))
-later-text s r free (inr (q, cut)) =
-    ap (λ t. join (later (segments (s ++ t)))) cut ∙ ap (λ ss. join (later ss)) (slice_split_at is_hyphen s 45 q free refl)
-    ∙ ap join (later-cut s (segments q) (is_single s) refl) ∙ join-rest (is_single s) (by_length s) q
-    ∙ sym (ap (λ t. by_length s ++ rest_of (is_single s) t) cut)
-
 -- what follows the first subtag
-pub after_first : (s : List ℕ) (ss : List (List ℕ)) (v : Bool) → is_single s ≡ v → recommended_after (s ∷ []) ss ≡ following v ss
+pub after_first : (s : List ℕ) (ss : List (List ℕ)) (v : Bool) → is_single s ≡ v → recommended_after (s ∷ []) ss ≡ cond v (map fold_text ss) (later ss)
 after_first s ss true single = after_single (s ∷ []) ss (any_push [] s false refl ∙ single)
 after_first s ss false many = after_none (s ∷ []) ss (any_push [] s false refl ∙ many) refl
-
--- the first subtag, and what stands after it
-pub first-text : (s r : List ℕ) → IsHyphenFree s → IsRest r → recommended_text (s ++ r) ≡ fold_text s ++ rest_of (is_single s) r
-first-text s r free (inl none) =
-    ap (λ t. recommended_text (s ++ t)) none ∙ ap recommended_text (append-nil s)
-    ∙ ap (λ ss. join (recommended_after [] ss)) (slice_split_none is_hyphen s free)
-    ∙ sym (ap (λ t. fold_text s ++ rest_of (is_single s) t) none ∙ append-nil (fold_text s))
-first-text s r free (inr (q, cut)) =
-    ap (λ t. recommended_text (s ++ t)) cut ∙ ap (λ ss. join (recommended_after [] ss)) (slice_split_at is_hyphen s 45 q free refl)
-    ∙ ap (λ ss. join (fold_text s ∷ ss)) (after_first s (segments q) (is_single s) refl) ∙ join-rest (is_single s) (fold_text s) q
-    ∙ sym (ap (λ t. fold_text s ++ rest_of (is_single s) t) cut)
-
--- after a singleton all is small
-pub rest-small : (r : List ℕ) → IsRest r → fold_text r ≡ r → rest_of true r ≡ r
-unfolding fold_byte
-rest-small r (inl none) small = ap (rest_of true) none ∙ sym none
-rest-small r (inr (q, cut)) small =
-    ap (rest_of true) cut ∙ ap (λ t. 45 ∷ t) (join-fold (segments q) ∙ ap fold_text (join_with_byte-slice_split 45 q))
-    ∙ sym (ap fold_text cut) ∙ small
-
--- one more subtag
-pub rest-turn :
-    (s r : List ℕ) → IsHyphenFree s → IsRest r → rest_of false (45 ∷ (s ++ r)) ≡ 45 ∷ (by_length s ++ rest_of (is_single s) r)
-rest-turn s r free rest = ap (λ t. 45 ∷ t) (later-text s r free rest)
-
--- the case by length changes no length
-pub length-by_length : (s : List ℕ) → length (by_length s) ≡ length s
-length-by_length s = sym (length-fold (by_length s)) ∙ ap length (fold-by_length s) ∙ length-fold s
 
 -- ---- each subtag
 

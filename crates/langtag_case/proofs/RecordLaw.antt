@@ -15,7 +15,7 @@ use Rattle.langtag_scan.specs.Subtags.{join}
 use Rattle.langtag_scan.proofs.BoolFacts.{between_true}
 use Rattle.langtag_scan.proofs.CaseLaw.{extensions-fold, private_part-fold}
 use Rattle.langtag_scan.proofs.NormalTexts.{spelled_segments}
-use Rattle.langtag_case.specs.Casing.{later}
+use Rattle.langtag_case.specs.Walk.{later}
 use Rattle.langtag_case.specs.RecommendedCase.{capital_text, title_text, is_single, by_length, recommended_after, recommended_text, recommended_record}
 use Rattle.langtag_case.proofs.RecommendedLaws.{after_first}
 

@@ -1,3 +1,3 @@
 pub mod RecommendedCase
-pub mod Casing
+pub mod Walk
 pub mod Text

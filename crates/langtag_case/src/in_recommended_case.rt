@@ -1,14 +1,17 @@
-//! A text that shows itself in its recommended case.
+//! A text that is displayed in its recommended case.
 ghost use Rattle.std.specs.Prelude.{◌≡◌, Some};
 ghost use Rattle.std.specs.Str.{IsAscii};
 ghost use Rattle.langtag_case.specs.RecommendedCase.{recommended_text};
 
-use crate::recommended_bytes::{RecommendedBytes, is_in_recommended_case};
+use crate::recommended_bytes::RecommendedBytes;
+use crate::recommended_case::is_in_recommended_case;
 use std::fmt;
 
-/// A text of ASCII, as each tag is, that is displayed in the case that RFC 5646 section 2.1.1 recommends: `{shown}` prints
-/// `mn-Cyrl-MN` of `MN-cYRL-mn`. No memory is taken. A text that is in that case already is written in one piece, any
-/// other one a byte at a time.
+/// An ASCII text, as each tag is, that is displayed in the case that RFC 5646 section 2.1.1 recommends: `MN-cYRL-mn` is
+/// displayed as `mn-Cyrl-MN`.
+///
+/// It allocates no memory. A text that is in its recommended case already is written in one piece, and any other text one
+/// byte at a time.
 #[derive(Clone, Copy, Debug)]
 pub struct InRecommendedCase<'a> {
     text: &'a str,
@@ -18,11 +21,12 @@ pub struct InRecommendedCase<'a> {
 impl<'a> InRecommendedCase<'a> {
     ghost use Rattle.langtag_case.specs.Text.{in_recommended_case_text};
 
-    /// The value that shows a text of ASCII. The contract also says that a clone of such a value is the same.
+    /// Displays an ASCII text in its recommended case. The contract also says that a clone succeeds and is the same value.
     pub fn from_checked(text: &'a str) -> Self
         requires { IsAscii text.now }
         ensures shown { in_recommended_case_text result ≡ recommended_text text.now }
 
+        ensures clone_succeeds { (shown : InRecommendedCase) → ⟦<InRecommendedCase<'a> as Clone>⟧.is_infallible shown }
         ensures cloned { (shown copy : InRecommendedCase) → ⟦<InRecommendedCase<'a> as Clone>⟧.is_clone shown copy → copy ≡ shown }
     {
         InRecommendedCase { text }

@@ -9,11 +9,10 @@
 //! ```
 #![tactic(auto)]
 
-mod casing;
 mod in_recommended_case;
+mod piece;
 mod recommended_bytes;
 mod recommended_case;
 
 pub use in_recommended_case::InRecommendedCase;
-pub use recommended_bytes::{RecommendedBytes, is_in_recommended_case};
-pub use recommended_case::make_recommended_case;
+pub use recommended_case::{is_in_recommended_case, make_recommended_case};

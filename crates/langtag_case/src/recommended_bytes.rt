@@ -1,38 +1,41 @@
 //! The bytes of a text in its recommended case, one by one.
-ghost use Rattle.std.specs.Prelude.{◌≡◌, ◌↔◌, ℕ, List, IsTrue, length};
+ghost use Rattle.std.specs.Prelude.{◌≡◌, ◌++◌, ℕ, List};
 ghost use Rattle.std.specs.Iterator.{YieldsFirst, item_count};
-ghost use Rattle.langtag_case.specs.Casing.{left};
 ghost use Rattle.langtag_case.specs.RecommendedCase.{recommended_text};
+ghost use Rattle.langtag_case.specs.Walk.{after_piece, cased};
 
-use crate::casing::Casing;
+use crate::piece::Piece;
 use std::marker::Model;
 
-/// The bytes of a text in the case that RFC 5646 section 2.1.1 recommends, as far as they are still to come: `m`, `n`, `-`,
-/// `M`, `N` of `MN-mn`.
-#[derive(Clone, Debug, Drop)]
-pub struct RecommendedBytes<'a> {
+/// An iterator over the bytes of a text in its recommended case (RFC 5646 section 2.1.1): `m`, `n`, `-`, `M`, `N` for
+/// `MN-mn`.
+#[derive(Drop)]
+pub(crate) struct RecommendedBytes<'a> {
+    /// What is left of the current piece.
+    piece: &'a [u8],
+    /// The number of bytes at its start whose letters are capitals.
+    capitals: usize,
+    /// What follows the piece: nothing, or a hyphen and the next pieces.
     rest: &'a [u8],
-    casing: Casing,
 }
 
 impl<'a> Model for RecommendedBytes<'a> {
     ghost Value = { List ℕ };
 
-    ghost view = { λ walk. left walk.casing walk.rest.now };
+    ghost view = { λ walk. cased walk.capitals walk.piece.now ++ after_piece walk.rest.now };
 }
 
 impl<'a> RecommendedBytes<'a> {
-    /// All bytes of a text. They are as many as those of the text.
-    #[tactic(auto, using(crate::proofs::RecommendedLaws::recommended_length))]
-    pub fn new(text: &'a [u8]) -> Self
-        ensures bytes { result ≡ recommended_text text.now }
-        ensures as_many { length result ≡ length text.now }
-
-        ensures cloned { (walk copy : RecommendedBytes) → ⟦<RecommendedBytes<'a> as Clone>⟧.is_clone walk copy → copy ≡ walk }
+    /// Iterates over all bytes of a text.
+    pub(crate) fn new(text: &'a [u8]) -> Self
+        ensures { result ≡ recommended_text text.now }
     {
+        let Piece { len, capitals } = Piece::first(text);
+        let (piece, rest) = text.split_at(len);
         RecommendedBytes {
-            rest: text,
-            casing: Casing::of_first(text),
+            piece,
+            capitals,
+            rest,
         }
     }
 }
@@ -44,25 +47,20 @@ impl<'a> Iterator for RecommendedBytes<'a> {
 
     ghost remaining = { item_count (λ walk. walk) };
 
+    #[tactic(auto, unfolding(langtag_scan::specs::Case::fold_byte))]
     fn next(&mut self) -> Option<u8> {
-        let (&first, rest) = self.rest.split_first()?;
-        let (byte, casing) = self.casing.next(first, rest);
-        self.rest = rest;
-        self.casing = casing;
-        Some(byte)
-    }
-}
-
-/// Whether [`make_recommended_case`](crate::make_recommended_case) would change nothing: true of `en-CA-x-ca`, false of
-/// `en-CA-x-CA`.
-pub fn is_in_recommended_case(text: &[u8]) -> bool
-    ensures { IsTrue result ↔ (recommended_text text.now ≡ text.now) }
-{
-    let mut recommended = RecommendedBytes::new(text);
-    for byte in text {
-        if recommended.next() != Some(*byte) {
-            return false;
+        let Some((&byte, piece)) = self.piece.split_first() else {
+            let (&hyphen, text) = self.rest.split_first()?;
+            let Piece { len, capitals } = Piece::later(text);
+            (self.piece, self.rest) = text.split_at(len);
+            self.capitals = capitals;
+            return Some(hyphen);
+        };
+        self.piece = piece;
+        if self.capitals == 0 {
+            return Some(byte.to_ascii_lowercase());
         }
+        self.capitals -= 1;
+        Some(byte.to_ascii_uppercase())
     }
-    true
 }

@@ -1,18 +1,22 @@
-//! The recommended case of a text, in place.
-ghost use Rattle.std.specs.Prelude.{◌≡◌, ℕ, List, Some, length, slice_get, take};
+//! Putting a text into its recommended case, and testing for it.
+ghost use Rattle.std.specs.Prelude.{◌≡◌, ◌↔◌, ℕ, List, Some, IsTrue, ◌≤◌, length, slice_get, take};
 ghost use Rattle.langtag_scan.specs.Case.{Alike, fold_text};
 ghost use Rattle.langtag_scan.specs.Record.{Record, IsWellFormed, spell};
 ghost use Rattle.langtag_scan.specs.Subtags.{segments};
-ghost use Rattle.langtag_case.specs.RecommendedCase.{by_length, recommended_record, recommended_subtag, recommended_text};
+ghost use Rattle.langtag_case.specs.RecommendedCase.{recommended_record, recommended_subtag, recommended_text};
+ghost use Rattle.langtag_case.specs.Walk.{cased};
 
-use langtag_scan::segment_end;
+use crate::piece::Piece;
+use crate::recommended_bytes::RecommendedBytes;
 
-/// Puts the letters of a text into the case that RFC 5646 section 2.1.1 recommends for those of a tag, as in `mn-Cyrl-MN`,
-/// `en-CA-x-ca` and `az-Latn-x-latn`. A subtag that stands first or after one of a single byte is small; of the others one
-/// of two bytes has capitals and one of four a capital first. What is no ASCII letter stays.
+/// Puts the letters of a text into the case that RFC 5646 section 2.1.1 recommends for a tag, as in `mn-Cyrl-MN`,
+/// `en-CA-x-ca` and `az-Latn-x-latn`.
 ///
-/// Texts that are equal but for the case of letters come out the same, byte for byte, so that the result serves as a key
-/// where bytes are compared.
+/// The first subtag, and each subtag after one of a single byte, becomes lowercase. Of the others, those of two bytes become
+/// uppercase, those of four bytes titlecase, and the rest lowercase. A byte that is not an ASCII letter stays as it is.
+///
+/// Texts that differ in the case of letters alone become the same bytes, so the result can be a key where bytes are
+/// compared.
 pub fn make_recommended_case(text: &mut [u8])
     ensures case { text.new ≡ recommended_text text.old }
 
@@ -24,31 +28,42 @@ pub fn make_recommended_case(text: &mut [u8])
     ensures one_key { (t u : List ℕ) → Alike t u → recommended_text t ≡ recommended_text u }
 {
     text.make_ascii_lowercase();
-    capitalise_subtags(text);
+    capitalise_pieces(text);
 }
 
-/// Puts the capitals into a small text, from hyphen to hyphen as far as the first subtag of a single byte.
-fn capitalise_subtags(text: &mut [u8])
+/// Puts a lowercase text into its recommended case, piece by piece.
+fn capitalise_pieces(text: &mut [u8])
     requires { fold_text text.old ≡ text.old }
     ensures { text.new ≡ recommended_text text.old }
 {
-    let mut start = 0;
-    let mut end = segment_end(text, 0);
-    while end - start != 1 && end < text.len() {
-        start = end + 1;
-        end = segment_end(text, start);
-        capitalise(&mut text[start..end]);
+    let mut end = Piece::first(text).len;
+    while end < text.len() {
+        let start = end + 1;
+        let piece = Piece::later(&text[start..]);
+        end = start + piece.len;
+        capitalise(&mut text[start..end], piece.capitals);
     }
 }
 
-/// Puts the capitals into a small subtag that stands neither first nor after a singleton.
-fn capitalise(subtag: &mut [u8])
-    requires { fold_text subtag.old ≡ subtag.old }
-    ensures { subtag.new ≡ by_length subtag.old }
+/// Capitalises the first letters of a lowercase text. There is nearly always one letter or none, which needs no loop.
+fn capitalise(text: &mut [u8], capitals: usize)
+    requires small { fold_text text.old ≡ text.old }
+    requires within { capitals ≤ length text.old }
+    ensures { text.new ≡ cased capitals text.old }
 {
-    match subtag.len() {
-        2 => subtag.make_ascii_uppercase(),
-        4 => subtag[0] = subtag[0].to_ascii_uppercase(),
-        _ => {}
+    match capitals {
+        0 => {}
+        1 => text[0].make_ascii_uppercase(),
+        _ => text[..capitals].make_ascii_uppercase(),
     }
+}
+
+/// Returns `true` if the text is in its recommended case, so that [`make_recommended_case`] would change nothing: true of
+/// `en-CA-x-ca`, false of `en-CA-x-CA`.
+pub fn is_in_recommended_case(text: &[u8]) -> bool
+    ensures { IsTrue result ↔ (recommended_text text.now ≡ text.now) }
+{
+    RecommendedBytes::new(text)
+        .cmp(text.iter().copied())
+        .is_eq()
 }

@@ -1,14 +1,10 @@
 -- A script that is set and set back.
-use Rattle.std.proofs.Common.{◌≡◌, ℕ, List, Option, Some, None, Result, Ok, Err, inl, sym, ap, ◌∙◌}
+use Rattle.std.proofs.Common.{◌≡◌, ℕ, List, Option, Some, None, Result, Ok, Err, sym, ap, ◌∙◌}
 use Rattle.std.specs.Option.{option_or}
 use Rattle.std.specs.Result.{OnOk, OnErr}
 use Rattle.langtag.specs.Edit.{with_script}
 use Rattle.langtag.specs.Record.{EachRecord, Spells, spell}
-use Rattle.langtag.specs.Tag.{IsNormal, IsTag}
-
-pub IsTag-from_normal : (text : List ℕ) → IsNormal text → IsTag text
-unfolding IsTag
-IsTag-from_normal text normal = inl normal
+use Rattle.langtag.specs.Tag.{IsNormal}
 
 -- the one record has its script again, so the text is the one that it spells
 pub script_set_back : (before other after : List ℕ) (script old : Option (List ℕ)) → IsNormal before

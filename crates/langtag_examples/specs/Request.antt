@@ -4,6 +4,7 @@ use Rattle.std.specs.Borrow.{Bor}
 use Rattle.langtag.specs.declared.lang_tag.LangTag.{LangTag}
 use Rattle.langtag_match.specs.AcceptLanguage.{AreAccepted, IsFirstBad, range_texts}
 use Rattle.langtag_match.specs.LookUp.{choice}
+use Rattle.langtag_match.specs.declared.accept_language_error.ElementPart.{ElementPart}
 use Rattle.langtag_match.specs.declared.weighted_range.WeightedRange.{WeightedRange}
 
 -- the tag that is looked up for the header, or the default where there is none, or one with a bad element
@@ -11,4 +12,4 @@ abbrev pub IsTagFor : List LangTag → LangTag → Option (Bor (List ℕ)) → L
 IsTagFor tags default None tag = tag ≡ default
 IsTagFor tags default (Some header) tag =
     ((ordered : List WeightedRange) × AreAccepted header.now ordered × (tag ≡ choice tags default (range_texts ordered)))
-    ⊎ ((index offset : ℕ) × IsFirstBad header.now index offset × (tag ≡ default))
+    ⊎ ((index offset : ℕ) × (part : ElementPart) × IsFirstBad header.now index offset part × (tag ≡ default))

@@ -22,7 +22,7 @@ pub struct Catalogue {
 impl Catalogue {
     ghost use Rattle.langtag_examples.specs.Catalogue.{text_for};
 
-    /// No texts: `Catalogue::new(alloc).find(alloc, "fr")` is `Ok(None)`.
+    /// Returns a catalogue without texts: `Catalogue::new(alloc).find(alloc, "fr")` is `Ok(None)`.
     pub fn new(alloc: Global) -> Self
         ensures { (tag : List ℕ) → text_for result tag ≡ None }
     {
@@ -35,7 +35,7 @@ impl Catalogue {
     ///
     /// # Errors
     ///
-    /// No memory could be had. The catalogue is as it was.
+    /// Out of memory. The catalogue is as it was.
     pub fn put(&mut self, tag: LangTagBuf, text: String) -> Result<(), AllocError>
         ensures put { OnOk result ((other : List ℕ) → IsTrue (are_alike (lang_tag_buf_text tag) other) →
             text_for self.new other ≡ Some (string_bytes text)) }
@@ -47,7 +47,7 @@ impl Catalogue {
         Ok(())
     }
 
-    /// The text for a tag: that of `fr` is had by the tag `FR`, and not by `fr-CH`.
+    /// Returns the text for a tag: that of `fr` is found by the tag `FR`, and not by `fr-CH`.
     pub fn get(&self, tag: &LangTagBuf) -> Option<&str>
         ensures { option_map (λ text. text.now) result ≡ text_for self.now (lang_tag_buf_text tag.now) }
     {
@@ -55,11 +55,12 @@ impl Catalogue {
         Some(text.as_str())
     }
 
-    /// The text for the tag that is written like this, in any case; None too where this is no tag, as `find(alloc, "de_CH")`.
+    /// Returns the text for the tag that is written like this, in any case; None too where this is not a tag, as
+    /// `find(alloc, "de_CH")`.
     ///
     /// # Errors
     ///
-    /// No memory could be had for the owned tag that the map is asked for.
+    /// Out of memory for the owned tag that the map is asked for.
     pub fn find(&self, alloc: Global, tag: &str) -> Result<Option<&str>, AllocError>
         ensures found { IfOk result (λ text. IsTag tag.now → option_map (λ text. text.now) text ≡ text_for self.now tag.now) }
         ensures none { IfOk result (λ text. (IsTag tag.now → ⊥) → text ≡ None) }

@@ -17,7 +17,7 @@ pub struct Counts {
 impl Counts {
     ghost use Rattle.langtag_examples.specs.Counts.{count_for};
 
-    /// No counts.
+    /// Returns counts of no tags.
     pub fn new(alloc: Global) -> Self
         ensures { (tag : List ℕ) → count_for result tag ≡ None }
     {
@@ -30,7 +30,7 @@ impl Counts {
     ///
     /// # Errors
     ///
-    /// No memory could be had. The counts are as they were.
+    /// Out of memory. The counts are as they were.
     pub fn put(&mut self, tag: LangTagBuf, count: u32) -> Result<(), AllocError>
         ensures put { OnOk result ((other : List ℕ) → IsTrue (are_alike (lang_tag_buf_text tag) other) →
             count_for self.new other ≡ Some count) }
@@ -42,7 +42,7 @@ impl Counts {
         Ok(())
     }
 
-    /// The count of a tag, in any case; None of a tag that was not seen.
+    /// Returns the count of a tag, in any case; None of a tag that was not seen.
     pub fn get(&self, tag: &LangTagBuf) -> Option<u32>
         ensures { result ≡ count_for self.now (lang_tag_buf_text tag.now) }
     {

@@ -17,8 +17,8 @@ pub const RIGHT_TO_LEFT_LANGUAGES: &[&str] = &[
     "ar", "ckb", "dv", "fa", "he", "ps", "sd", "ug", "ur", "yi",
 ];
 
-/// Whether a tag is written from right to left: by its script or, where it names none, by its primary language. The
-/// lists say which scripts and languages are. It takes no memory.
+/// Returns whether a tag is written from right to left: by its script or, where it names none, by its primary language.
+/// The lists say which scripts and languages are. It takes no memory.
 ///
 /// With the lists of this file `az-Arab-IR` and `he` are, `ar-Latn`, `de` and `x-ar` are not.
 pub fn is_right_to_left(tag: &LangTag<'_>, scripts: &[&str], languages: &[&str]) -> bool

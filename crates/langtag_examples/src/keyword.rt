@@ -35,7 +35,8 @@ impl<'a> Iterator for Types<'a> {
     }
 }
 
-/// The types that a tag asks for by a key, as `ca` for the calendar or `co` for the collation; None where it doesn't ask.
+/// Returns the types that a tag asks for by a key, as `ca` for the calendar or `co` for the collation; None where it
+/// doesn't ask.
 ///
 /// Those of `ca` in `ar-u-ca-islamic-civil-nu-latn` are `islamic` and `civil`.
 pub fn types_of<'a>(tag: &LangTag<'a>, key: &str) -> Option<Types<'a>>

@@ -18,7 +18,8 @@ pub struct Literal<'a> {
 }
 
 impl<'a> Literal<'a> {
-    /// Whether two literals are the same: `color` in `en-US` is `color` in `EN-us`, and neither `Color` nor `color` in `en-GB`.
+    /// Returns whether two literals are the same: `color` in `en-US` is `color` in `EN-us`, and neither `Color` nor
+    /// `color` in `en-GB`.
     pub fn is_same(&self, other: &Literal<'_>) -> bool
         ensures { IsTrue result ↔ (self.now.text.now ≡ other.now.text.now) × IsTrue (are_alike (lang_tag_text self.now.language) (lang_tag_text other.now.language)) }
     {

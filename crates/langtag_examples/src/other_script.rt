@@ -11,13 +11,13 @@ use crate::catalogue::Catalogue;
 use langtag::{NormalLangTagBuf, Script, ScriptBuf};
 use std::alloc::{AllocError, Global};
 
-/// Puts another script into a tag, or takes the script out, and answers the old one.
+/// Puts another script into a tag, or takes the script out, and returns the old one.
 ///
 /// With `Latn`, `sr-Cyrl-RS` is `sr-Latn-RS` afterwards, and the answer is `Ok(Some(Cyrl))`.
 ///
 /// # Errors
 ///
-/// No memory could be had. The tag is as it was.
+/// Out of memory. The tag is as it was.
 pub fn replace_script(
     tag: &mut NormalLangTagBuf,
     alloc: Global,
@@ -36,15 +36,15 @@ pub fn replace_script(
     Ok(old)
 }
 
-/// The text that a catalogue has for a tag, or else the one that it has for the tag in another script. The tag has its own
-/// script again afterwards.
+/// Returns the text that a catalogue has for a tag, or else the one that it has for the tag in another script. The tag
+/// has its own script again afterwards.
 ///
 /// For `sr-Cyrl-RS` and the script `Latn` it is the text for `sr-Cyrl-RS`, or else the one for `sr-Latn-RS`.
 ///
 /// # Errors
 ///
-/// No memory could be had. The tag is as it was, or in the other script where none could be had to set it back, which
-/// a tag without a script needs none for.
+/// Out of memory. The tag is as it was, or in the other script where none could be had to set it back, which a tag
+/// without a script needs none for.
 pub fn find_in_scripts<'a>(
     catalogue: &'a Catalogue,
     tag: &mut NormalLangTagBuf,

@@ -5,7 +5,7 @@ ghost use Rattle.langtag_examples.specs.Prefix.{IsPrefix, IsPrefixAmong, IsNoBet
 
 use langtag::{LangTag, case_insensitive_eq};
 
-/// The longest tag that the wanted one begins with, by whole subtags and in any case: of `de`, `zh` and
+/// Returns the longest tag that the wanted one begins with, by whole subtags and in any case: of `de`, `zh` and
 /// `zh-Hant` it is `zh-Hant` for `ZH-hant-TW`, and none for `den`. It takes no memory.
 pub fn longest_prefix<'a>(tags: &[LangTag<'a>], wanted: &LangTag<'_>) -> Option<LangTag<'a>>
     ensures found { IfSome result (IsPrefixAmong tags.now (lang_tag_text wanted.now)) }

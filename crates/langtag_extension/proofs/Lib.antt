@@ -3,5 +3,5 @@ mod SingletonLemmas
 pub mod WalkLemmas
 pub mod Joins
 pub mod Rules
-mod LookUp
+pub mod LookUp
 mod Counts

@@ -10,7 +10,7 @@ use Rattle.langtag_extension.specs.Decided.{opens_alike}
 use Rattle.langtag_extension.specs.Spelling.{extension_spelling, SpellsExtension, find_extension}
 
 -- the text of an extension begins with the singleton
-first_byte-spelling : (e : Extension) → slice_index (extension_spelling e) 0 ≡ e.singleton
+pub first_byte-spelling : (e : Extension) → slice_index (extension_spelling e) 0 ≡ e.singleton
 first_byte-spelling e = by_subtags e.subtags
   where
     by_subtags : (ss : List (List ℕ)) → slice_index (join ((e.singleton ∷ []) ∷ ss)) 0 ≡ e.singleton

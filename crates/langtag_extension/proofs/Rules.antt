@@ -1,5 +1,5 @@
 -- The one list that spells a text is found again in it, and the tests of its subtags say whether there is one.
-use Rattle.std.proofs.Common.{◌≡◌, ◌↔◌, ℕ, ◌≤◌, Bool, true, IsTrue, List, [], ◌∷◌, ◌++◌, length, drop, length-drop, refl, ap, sym, ◌∙◌, arith, map}
+use Rattle.std.proofs.Common.{◌≡◌, ◌↔◌, ℕ, ◌≤◌, Bool, true, IsTrue, List, [], ◌∷◌, ◌++◌, length, drop, refl, ap, sym, ◌∙◌, arith, map}
 use Rattle.std.specs.List.{list_all, AllByRecursion, flat_map}
 use Rattle.std.proofs.lemmas.Bool.{and_parts}
 use Rattle.std.proofs.lemmas.Grind.{common_steps}
@@ -8,7 +8,7 @@ use Rattle.langtag_scan.specs.Record.{Extension, IsWellFormedExtension, extensio
 use Rattle.langtag_scan.specs.Subtags.{join, subtags}
 use Rattle.langtag_scan.proofs.BoolFacts.{between_true}
 use Rattle.langtag_scan.proofs.SubtagFacts.{IsSubtag, of_one, of_extension_subtag, singleton_alphanumeric}
-use Rattle.langtag_scan.proofs.SubtagLists.{each_from_test, test_from_each, each_subtag, subtags-joined, join-subtags, length-subtags}
+use Rattle.langtag_scan.proofs.SubtagLists.{each_from_test, test_from_each, each_subtag, subtags-joined, join-subtags, length-after_first}
 use Rattle.langtag_extension.specs.ExtensionTexts.{goes_on, opens, groups, group_texts, extension_texts}
 use Rattle.langtag_extension.specs.Decided.{is_extension_list, is_extension_text, are_extension_texts, is_extensions_text, are_extension_subtags}
 use Rattle.langtag_extension.specs.Spelling.{extension_spelling, SpellsExtension, IsExtension, SpellsExtensions, IsExtensions}
@@ -90,12 +90,8 @@ are_extension_subtags-after ((b ∷ []) ∷ s ∷ ss) pass = (and_parts (is_sing
 pub are_extension_subtags-from_test : (text : List ℕ) → IsTrue (is_extension_text text) → IsTrue (are_extension_subtags (drop 1 (subtags text)))
 are_extension_subtags-from_test text pass = are_extension_subtags-after (subtags text) pass
 
--- no more of them than bytes
-pub length-after_singleton : (text : List ℕ) → length (drop 1 (subtags text)) ≤ length text
-length-after_singleton text = omega (arith, length-drop 1 (subtags text), length-subtags text)
-
 -- what stands after the singleton
-pub ruleset after_singleton = (are_extension_subtags-from_test, length-after_singleton)
+pub ruleset after_singleton = (are_extension_subtags-from_test, length-after_first)
 
 -- ---- a list of extensions
 

@@ -5,6 +5,7 @@ use Rattle.langtag_extension.specs.declared.singleton.Singleton.{Singleton}
 use Rattle.langtag_extension.specs.declared.singleton.InvalidSingleton.{InvalidSingleton}
 use Rattle.langtag_extension.specs.Text.{singleton_byte}
 
+-- a singleton is accepted, with its exact byte; anything else comes back
 pub record ConvertsToSingleton (c : ℕ) (result : Result Singleton (InvalidSingleton ℕ)) : Type 0 where
   pub accepts : is_ok result ≡ is_singleton c
   pub same_byte : IfOk result (λ singleton. singleton_byte singleton ≡ c)

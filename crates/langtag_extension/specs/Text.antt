@@ -1,4 +1,4 @@
--- The text of each type: its bytes; and the texts that an iterator has still to hand out.
+-- The text of each type: its bytes; and the texts that an iterator has still to yield.
 use Rattle.std.specs.Prelude.{ℕ, List, String}
 use Rattle.std.specs.String.{string_bytes}
 use Rattle.std.specs.declared.alloc.Global.{Global}

@@ -14,7 +14,7 @@ use std::fmt;
 use std::fmt::Debug;
 use thiserror::Error;
 
-/// A text that is no extension. It hands the text back.
+/// The error for a text that is not an extension. It hands the text back.
 #[derive(Debug, Drop, Error)]
 #[error("invalid extension")]
 #[error_bound(T: Debug + Drop)]
@@ -35,7 +35,7 @@ impl<'a> Extension<'a> {
     ghost use Rattle.langtag_extension.specs.Compared.{ExtensionsCompareByCase};
     ghost use Rattle.langtag_extension.specs.Text.{singleton_byte, extension_text, extension_buf_text, extension_subtags_left};
 
-    /// The extension of a text: `Extension::new("u-co-phonebk")` is Ok.
+    /// Parses a text as an extension: `Extension::new("u-co-phonebk")` is Ok.
     ///
     /// # Errors
     ///
@@ -53,7 +53,7 @@ impl<'a> Extension<'a> {
         Ok(Extension::from_checked(text))
     }
 
-    /// The extension of a text that is known to be one: it is not looked at again.
+    /// Returns the extension of a text that is known to be one, without a test.
     /// `Extension::from_checked(extension.as_str())` is equal to `extension`.
     pub fn from_checked(text: &'a str) -> Extension<'a>
         requires { IsExtension text.now }
@@ -64,7 +64,7 @@ impl<'a> Extension<'a> {
         }
     }
 
-    /// The text, with its case: `Extension::new("U-CO")?.as_str()` is `"U-CO"`.
+    /// Returns the text, with its case: `Extension::new("U-CO")?.as_str()` is `"U-CO"`.
     pub fn as_str(&self) -> &'a str
         ensures same_text { result.now ≡ extension_text self.now }
         ensures in_class { IsExtension result.now }
@@ -72,15 +72,15 @@ impl<'a> Extension<'a> {
         self.text.0
     }
 
-    /// The bytes of the text: `Extension::new("U-CO")?.as_bytes()` is `b"U-CO"`.
+    /// Returns the bytes of the text: `Extension::new("U-CO")?.as_bytes()` is `b"U-CO"`.
     pub fn as_bytes(&self) -> &'a [u8]
         ensures { result.now ≡ extension_text self.now }
     {
         self.as_str().as_bytes()
     }
 
-    /// Whether another text, of any form, is equal but for the case of ASCII letters:
-    /// `Extension::new("u-co")?.eq_str("U-CO")` is true. The contract also pins that extensions are compared, ordered
+    /// Returns whether another text, of any form, is equal but for the case of ASCII letters:
+    /// `Extension::new("u-co")?.eq_str("U-CO")` is true. The contract also says that extensions are compared, ordered
     /// and hashed so, and that a clone is the value itself.
     pub fn eq_str(&self, other: &str) -> bool
         ensures test { result ≡ are_alike (extension_text self.now) other.now }
@@ -92,11 +92,11 @@ impl<'a> Extension<'a> {
         self.text == Caseless(other)
     }
 
-    /// The owned form of the same text: `Extension::new("U-CO")?.try_to_owned(alloc)?.as_str()` is `"U-CO"`.
+    /// Returns the owned form of the same text: `Extension::new("U-CO")?.try_to_owned(alloc)?.as_str()` is `"U-CO"`.
     ///
     /// # Errors
     ///
-    /// No memory could be had.
+    /// Out of memory.
     pub fn try_to_owned(&self, alloc: Global) -> Result<ExtensionBuf, AllocError>
         ensures { IfOk result (λ owned. extension_buf_text owned ≡ extension_text self.now) }
     {
@@ -106,7 +106,7 @@ impl<'a> Extension<'a> {
         })
     }
 
-    /// The singleton that opens the extension, with its case: `U` of `U-co-phonebk`.
+    /// Returns the singleton that opens the extension, with its case: `U` of `U-co-phonebk`.
     pub fn singleton(&self) -> Singleton
         ensures first_byte { singleton_byte result ≡ slice_index (extension_text self.now) 0 }
         ensures member { (e : model.Extension) → SpellsExtension e (extension_text self.now) → singleton_byte result ≡ e.singleton }
@@ -121,10 +121,13 @@ impl<'a> Extension<'a> {
         into_smallcase(self.singleton().unwrap()) == into_smallcase(singleton.unwrap())
     }
 
-    /// The subtags after the singleton, in order: `co` and `phonebk` of `u-co-phonebk`.
+    /// Returns the subtags after the singleton, in order: `co` and `phonebk` of `u-co-phonebk`.
     #[tactic(auto, using(crate::proofs::Rules::subtags_spelled))]
     pub fn iter(&self) -> ExtensionIter<'a>
         ensures list { (e : model.Extension) → SpellsExtension e (extension_text self.now) → extension_subtags_left result ≡ e.subtags }
+
+        ensures cloned { (walk copy : ExtensionIter) → ⟦<ExtensionIter<'a> as Clone>⟧.is_clone walk copy → extension_subtags_left copy ≡ extension_subtags_left walk }
+        ensures clone_succeeds { (walk : ExtensionIter) → ⟦<ExtensionIter<'a> as Clone>⟧.is_infallible walk }
     {
         ExtensionIter::new(self.as_str())
     }
@@ -152,7 +155,7 @@ impl ExtensionBuf {
     ghost use Rattle.langtag_extension.specs.Compared.{ExtensionBufsCompareByCase};
     ghost use Rattle.langtag_extension.specs.Text.{extension_text, extension_buf_string, extension_buf_text};
 
-    /// The extension of a text, which is neither copied nor moved in memory: of the `String` `u-co` it is Ok.
+    /// Parses a `String` as an extension, and keeps it, without a copy: `u-co` is Ok.
     ///
     /// # Errors
     ///
@@ -171,7 +174,7 @@ impl ExtensionBuf {
         })
     }
 
-    /// The extension, lent: `as_extension().as_str()` of the owned `U-CO` is `"U-CO"`. The contract also pins that
+    /// Borrows the extension: `as_extension().as_str()` of the owned `U-CO` is `"U-CO"`. The contract also says that
     /// owned extensions are compared, ordered and hashed without regard to case.
     pub fn as_extension(&self) -> Extension<'_>
         ensures same_text { extension_text result ≡ extension_buf_text self.now }
@@ -181,7 +184,7 @@ impl ExtensionBuf {
         Extension::from_checked(self.as_str())
     }
 
-    /// The text, with its case: `as_str()` of the owned `U-CO` is `"U-CO"`.
+    /// Returns the text, with its case: `as_str()` of the owned `U-CO` is `"U-CO"`.
     pub fn as_str(&self) -> &str
         ensures same_text { result.now ≡ extension_buf_text self.now }
         ensures in_class { IsExtension result.now }
@@ -189,7 +192,7 @@ impl ExtensionBuf {
         self.text.0.as_str()
     }
 
-    /// The text itself, which is not copied: `into_string()` of the owned `U-CO` is the `String` `U-CO`.
+    /// Returns the text itself, without a copy: `into_string()` of the owned `U-CO` is the `String` `U-CO`.
     pub fn into_string(self) -> String
         ensures same_text { string_bytes result ≡ extension_buf_text self }
         ensures same_string { result ≡ extension_buf_string self }

@@ -13,7 +13,7 @@ use std::fmt;
 use std::fmt::Debug;
 use thiserror::Error;
 
-/// A text that is no subtag of an extension. It hands the text back.
+/// The error for a text that is not a subtag of an extension. It hands the text back.
 #[derive(Debug, Drop, Error)]
 #[error("invalid extension subtag")]
 #[error_bound(T: Debug + Drop)]
@@ -33,8 +33,8 @@ impl<'a> ExtensionSubtag<'a> {
     ghost use Rattle.langtag_extension.specs.Compared.{ExtensionSubtagsCompareByCase};
     ghost use Rattle.langtag_extension.specs.Text.{extension_subtag_text, extension_subtag_buf_text};
 
-    /// The subtag of a text: `ExtensionSubtag::new("co")` is Ok. That a literal is one computes in a proof by its
-    /// numbers.
+    /// Parses a text as a subtag: `ExtensionSubtag::new("co")` is Ok. In a proof this computes for a literal
+    /// (`by_number`).
     ///
     /// # Errors
     ///
@@ -54,7 +54,7 @@ impl<'a> ExtensionSubtag<'a> {
         Ok(ExtensionSubtag::from_checked(text))
     }
 
-    /// The subtag of a text that is known to be one: it is not looked at again.
+    /// Returns the subtag of a text that is known to be one, without a test.
     /// `ExtensionSubtag::from_checked(subtag.as_str())` is equal to `subtag`.
     pub fn from_checked(text: &'a str) -> ExtensionSubtag<'a>
         requires { IsTrue (class.is_extension_subtag text.now) }
@@ -65,7 +65,7 @@ impl<'a> ExtensionSubtag<'a> {
         }
     }
 
-    /// The text, with its case: `ExtensionSubtag::new("CO")?.as_str()` is `"CO"`.
+    /// Returns the text, with its case: `ExtensionSubtag::new("CO")?.as_str()` is `"CO"`.
     pub fn as_str(&self) -> &'a str
         ensures same_text { result.now ≡ extension_subtag_text self.now }
         ensures in_class { IsTrue (class.is_extension_subtag result.now) }
@@ -73,15 +73,15 @@ impl<'a> ExtensionSubtag<'a> {
         self.text.0
     }
 
-    /// The bytes of the text: `ExtensionSubtag::new("CO")?.as_bytes()` is `b"CO"`.
+    /// Returns the bytes of the text: `ExtensionSubtag::new("CO")?.as_bytes()` is `b"CO"`.
     pub fn as_bytes(&self) -> &'a [u8]
         ensures { result.now ≡ extension_subtag_text self.now }
     {
         self.as_str().as_bytes()
     }
 
-    /// Whether another text, of any form, is equal but for the case of ASCII letters:
-    /// `ExtensionSubtag::new("co")?.eq_str("CO")` is true. The contract also pins that subtags are compared, ordered
+    /// Returns whether another text, of any form, is equal but for the case of ASCII letters:
+    /// `ExtensionSubtag::new("co")?.eq_str("CO")` is true. The contract also says that subtags are compared, ordered
     /// and hashed so, and that a clone is the value itself.
     pub fn eq_str(&self, other: &str) -> bool
         ensures test { result ≡ are_alike (extension_subtag_text self.now) other.now }
@@ -93,11 +93,11 @@ impl<'a> ExtensionSubtag<'a> {
         self.text == Caseless(other)
     }
 
-    /// The owned form of the same text: `ExtensionSubtag::new("CO")?.try_to_owned(alloc)?.as_str()` is `"CO"`.
+    /// Returns the owned form of the same text: `ExtensionSubtag::new("CO")?.try_to_owned(alloc)?.as_str()` is `"CO"`.
     ///
     /// # Errors
     ///
-    /// No memory could be had.
+    /// Out of memory.
     pub fn try_to_owned(&self, alloc: Global) -> Result<ExtensionSubtagBuf, AllocError>
         ensures { IfOk result (λ owned. extension_subtag_buf_text owned ≡ extension_subtag_text self.now) }
     {
@@ -129,7 +129,7 @@ impl ExtensionSubtagBuf {
     ghost use Rattle.langtag_extension.specs.Compared.{ExtensionSubtagBufsCompareByCase};
     ghost use Rattle.langtag_extension.specs.Text.{extension_subtag_text, extension_subtag_buf_string, extension_subtag_buf_text};
 
-    /// The subtag of a text, which is neither copied nor moved in memory: of the `String` `co` it is Ok.
+    /// Parses a `String` as a subtag, and keeps it, without a copy: `co` is Ok.
     ///
     /// # Errors
     ///
@@ -148,7 +148,7 @@ impl ExtensionSubtagBuf {
         })
     }
 
-    /// The subtag, lent: `as_extension_subtag().as_str()` of the owned `CO` is `"CO"`. The contract also pins that
+    /// Borrows the subtag: `as_extension_subtag().as_str()` of the owned `CO` is `"CO"`. The contract also says that
     /// owned subtags are compared, ordered and hashed without regard to case.
     pub fn as_extension_subtag(&self) -> ExtensionSubtag<'_>
         ensures same_text { extension_subtag_text result ≡ extension_subtag_buf_text self.now }
@@ -158,7 +158,7 @@ impl ExtensionSubtagBuf {
         ExtensionSubtag::from_checked(self.as_str())
     }
 
-    /// The text, with its case: `as_str()` of the owned `CO` is `"CO"`.
+    /// Returns the text, with its case: `as_str()` of the owned `CO` is `"CO"`.
     pub fn as_str(&self) -> &str
         ensures same_text { result.now ≡ extension_subtag_buf_text self.now }
         ensures in_class { IsTrue (class.is_extension_subtag result.now) }
@@ -166,7 +166,7 @@ impl ExtensionSubtagBuf {
         self.text.0.as_str()
     }
 
-    /// The text itself, which is not copied: `into_string()` of the owned `CO` is the `String` `CO`.
+    /// Returns the text itself, without a copy: `into_string()` of the owned `CO` is the `String` `CO`.
     pub fn into_string(self) -> String
         ensures same_text { string_bytes result ≡ extension_subtag_buf_text self }
         ensures same_string { result ≡ extension_subtag_buf_string self }

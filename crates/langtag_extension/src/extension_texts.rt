@@ -3,7 +3,7 @@ ghost use Rattle.std.specs.Prelude.{◌≡◌, ◌++◌, ◌∷◌, List, ℕ, I
 ghost use Rattle.std.specs.Iterator.{YieldsFirstRef, item_count};
 ghost use Rattle.std.specs.List.{list_all};
 ghost use Rattle.langtag_scan.specs.Subtags.{segments, segments_left};
-ghost use Rattle.langtag_extension.specs.ExtensionTexts.{extension_texts, texts_left, goes_on, opens};
+ghost use Rattle.langtag_extension.specs.ExtensionTexts.{IsFirstExtension, extension_texts, texts_left, goes_on, opens};
 
 use langtag_scan::segment_end;
 use std::alloc::AllocError;
@@ -58,21 +58,31 @@ impl<'a> Iterator for ExtensionTexts<'a> {
     }
 }
 
-/// The text up to the first hyphen before a subtag of one byte, and what stands after that hyphen.
-/// The subtag that the text begins with is not looked at.
+/// The text of the first extension, and what stands after it and a hyphen, where there is more.
 fn split_extension<'a>(text: &'a str) -> (&'a str, Option<&'a str>)
     ensures joined { MatchOption result.1 (text.now ≡ result.0.now) (λ rest. text.now ≡ result.0.now ++ 45 ∷ rest.now) }
     ensures one { IsTrue (list_all goes_on (drop 1 (segments result.0.now))) }
     ensures next { IsTrue (opens (segments_left result.1)) }
 {
-    let bytes = text.as_bytes();
-    let mut end = segment_end(bytes, 0);
-    while end < bytes.len() {
-        let next = segment_end(bytes, end + 1);
+    let end = first_extension_end(text.as_bytes());
+    if end == text.len() {
+        return (text, None);
+    }
+    (&text[..end], Some(&text[end + 1..]))
+}
+
+/// Where the first extension of a text ends: at the first hyphen before a subtag of one byte, or at the end. The subtag that the
+/// text begins with is not looked at.
+pub fn first_extension_end(text: &[u8]) -> usize
+    ensures { IsFirstExtension text.now result }
+{
+    let mut end = segment_end(text, 0);
+    while end < text.len() {
+        let next = segment_end(text, end + 1);
         if next == end + 2 {
-            return (&text[..end], Some(&text[end + 1..]));
+            return end;
         }
         end = next;
     }
-    (text, None)
+    end
 }

@@ -18,7 +18,7 @@ use std::fmt;
 use std::fmt::Debug;
 use thiserror::Error;
 
-/// A text that is not extensions. It hands the text back.
+/// The error for a text that is not extensions. It hands the text back.
 #[derive(Debug, Drop, Error)]
 #[error("invalid extensions")]
 #[error_bound(T: Debug + Drop)]
@@ -44,7 +44,7 @@ impl<'a> Extensions<'a> {
     /// No extensions: `Extensions::EMPTY.as_str()` is `""`.
     pub const EMPTY: Extensions<'static> = Extensions { text: Caseless("") };
 
-    /// The extensions of a text: `Extensions::new("a-ext1-u-co")` and `Extensions::new("")` are Ok.
+    /// Parses a text as extensions: `Extensions::new("a-ext1-u-co")` and `Extensions::new("")` are Ok.
     ///
     /// # Errors
     ///
@@ -61,7 +61,7 @@ impl<'a> Extensions<'a> {
         Ok(Extensions::from_checked(text))
     }
 
-    /// The extensions of a text that is known to be some: it is not looked at again.
+    /// Returns the extensions of a text that is known to be some, without a test.
     /// `Extensions::from_checked(extensions.as_str())` is equal to `extensions`.
     pub fn from_checked(text: &'a str) -> Extensions<'a>
         requires { IsExtensions text.now }
@@ -72,7 +72,7 @@ impl<'a> Extensions<'a> {
         }
     }
 
-    /// The text, with its case: `Extensions::new("U-CO")?.as_str()` is `"U-CO"`.
+    /// Returns the text, with its case: `Extensions::new("U-CO")?.as_str()` is `"U-CO"`.
     pub fn as_str(&self) -> &'a str
         ensures same_text { result.now ≡ extensions_text self.now }
         ensures in_class { IsExtensions result.now }
@@ -80,16 +80,16 @@ impl<'a> Extensions<'a> {
         self.text.0
     }
 
-    /// The bytes of the text: `Extensions::new("U-CO")?.as_bytes()` is `b"U-CO"`.
+    /// Returns the bytes of the text: `Extensions::new("U-CO")?.as_bytes()` is `b"U-CO"`.
     pub fn as_bytes(&self) -> &'a [u8]
         ensures { result.now ≡ extensions_text self.now }
     {
         self.as_str().as_bytes()
     }
 
-    /// Whether another text, of any form, is equal but for the case of ASCII letters:
-    /// `Extensions::new("u-co")?.eq_str("U-CO")` is true. The contract also pins that lists of extensions are
-    /// compared, ordered and hashed so, and that a clone is the value itself.
+    /// Returns whether another text, of any form, is equal but for the case of ASCII letters:
+    /// `Extensions::new("u-co")?.eq_str("U-CO")` is true. The contract also says that lists of extensions are compared,
+    /// ordered and hashed so, and that a clone is the value itself.
     pub fn eq_str(&self, other: &str) -> bool
         ensures test { result ≡ are_alike (extensions_text self.now) other.now }
 
@@ -100,11 +100,11 @@ impl<'a> Extensions<'a> {
         self.text == Caseless(other)
     }
 
-    /// The owned form of the same text: `Extensions::new("U-CO")?.try_to_owned(alloc)?.as_str()` is `"U-CO"`.
+    /// Returns the owned form of the same text: `Extensions::new("U-CO")?.try_to_owned(alloc)?.as_str()` is `"U-CO"`.
     ///
     /// # Errors
     ///
-    /// No memory could be had.
+    /// Out of memory.
     pub fn try_to_owned(&self, alloc: Global) -> Result<ExtensionsBuf, AllocError>
         ensures { IfOk result (λ owned. extensions_buf_text owned ≡ extensions_text self.now) }
     {
@@ -114,16 +114,19 @@ impl<'a> Extensions<'a> {
         })
     }
 
-    /// The extensions in order, those of a repeated singleton too: `a-bb` and `A-cc` of `a-bb-A-cc`.
+    /// Returns the extensions in order, those of a repeated singleton too: `a-bb` and `A-cc` of `a-bb-A-cc`.
     #[tactic(auto, using(crate::proofs::Rules::extension_texts_spelled))]
     pub fn iter(&self) -> ExtensionsIter<'a>
         ensures list { (es : List model.Extension) → SpellsExtensions es (extensions_text self.now)
             → extensions_left result ≡ map extension_spelling es }
+
+        ensures cloned { (walk copy : ExtensionsIter) → ⟦<ExtensionsIter<'a> as Clone>⟧.is_clone walk copy → extensions_left copy ≡ extensions_left walk }
+        ensures clone_succeeds { (walk : ExtensionsIter) → ⟦<ExtensionsIter<'a> as Clone>⟧.is_infallible walk }
     {
         ExtensionsIter::new(self.as_str())
     }
 
-    /// The first extension of the singleton, without regard to case: `A` finds `a-bb` in `a-bb-A-cc`.
+    /// Returns the first extension of the singleton, without regard to case: `A` finds `a-bb` in `a-bb-A-cc`.
     pub fn get(&self, singleton: Singleton) -> Option<Extension<'a>>
         ensures first_match { (es : List model.Extension) → SpellsExtensions es (extensions_text self.now) →
             option_map extension_text result ≡ option_map extension_spelling (find_extension (singleton_byte singleton) es) }
@@ -132,8 +135,8 @@ impl<'a> Extensions<'a> {
             .find(|extension| extension.has_singleton(singleton))
     }
 
-    /// The subtags of the extension that `get` answers, and none where it answers none: for `u`, `co` and `phonebk`
-    /// of `a-bb-u-co-phonebk`.
+    /// Returns the subtags of the extension that `get` returns, and none where it returns None: for `u`, `co` and
+    /// `phonebk` of `a-bb-u-co-phonebk`.
     #[tactic(auto, using(crate::proofs::LookUp::subtags_not_found))]
     pub fn iter_extension(&self, singleton: Singleton) -> ExtensionIter<'a>
         ensures list { (es : List model.Extension) → SpellsExtensions es (extensions_text self.now) →
@@ -178,8 +181,7 @@ impl ExtensionsBuf {
     ghost use Rattle.langtag_extension.specs.Compared.{ExtensionsBufsCompareByCase};
     ghost use Rattle.langtag_extension.specs.Text.{extensions_text, extensions_buf_string, extensions_buf_text};
 
-    /// The extensions of a text, which is neither copied nor moved in memory: of the `String` `a-ext1-u-co` they are
-    /// Ok.
+    /// Parses a `String` as extensions, and keeps it, without a copy: `a-ext1-u-co` is Ok.
     ///
     /// # Errors
     ///
@@ -198,7 +200,7 @@ impl ExtensionsBuf {
         })
     }
 
-    /// The extensions, lent: `as_extensions().as_str()` of the owned `U-CO` is `"U-CO"`. The contract also pins that
+    /// Borrows the extensions: `as_extensions().as_str()` of the owned `U-CO` is `"U-CO"`. The contract also says that
     /// owned lists of extensions are compared, ordered and hashed without regard to case.
     pub fn as_extensions(&self) -> Extensions<'_>
         ensures same_text { extensions_text result ≡ extensions_buf_text self.now }
@@ -208,7 +210,7 @@ impl ExtensionsBuf {
         Extensions::from_checked(self.as_str())
     }
 
-    /// The text, with its case: `as_str()` of the owned `U-CO` is `"U-CO"`.
+    /// Returns the text, with its case: `as_str()` of the owned `U-CO` is `"U-CO"`.
     pub fn as_str(&self) -> &str
         ensures same_text { result.now ≡ extensions_buf_text self.now }
         ensures in_class { IsExtensions result.now }
@@ -216,7 +218,7 @@ impl ExtensionsBuf {
         self.text.0.as_str()
     }
 
-    /// The text itself, which is not copied: `into_string()` of the owned `U-CO` is the `String` `U-CO`.
+    /// Returns the text itself, without a copy: `into_string()` of the owned `U-CO` is the `String` `U-CO`.
     pub fn into_string(self) -> String
         ensures same_text { string_bytes result ≡ extensions_buf_text self }
         ensures same_string { result ≡ extensions_buf_string self }

@@ -20,6 +20,7 @@ mod singleton;
 pub use extension::{Extension, ExtensionBuf, InvalidExtension};
 pub use extension_iter::ExtensionIter;
 pub use extension_subtag::{ExtensionSubtag, ExtensionSubtagBuf, InvalidExtensionSubtag};
+pub use extension_texts::first_extension_end;
 pub use extensions::{Extensions, ExtensionsBuf, InvalidExtensions};
 pub use extensions_iter::ExtensionsIter;
 pub use singleton::{InvalidSingleton, Singleton};

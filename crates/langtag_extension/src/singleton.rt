@@ -10,7 +10,7 @@ use std::fmt;
 use std::fmt::Debug;
 use thiserror::Error;
 
-/// A byte, character or text that is no singleton. It hands it back.
+/// The error for a byte, character or text that is not a singleton. It hands it back.
 #[derive(Debug, Drop, Error)]
 #[error("invalid extension identifier")]
 #[error_bound(T: Debug + Drop)]
@@ -31,13 +31,13 @@ impl Singleton {
     ghost use Rattle.langtag_extension.specs.Compared.{SingletonsCompareByByte};
     ghost use Rattle.langtag_extension.specs.Text.{singleton_byte};
 
-    /// The singleton of a byte: `Singleton::new(b'u')` is Ok. That a literal is one computes in a proof by its
-    /// number. The contract also pins that singletons are compared, ordered and hashed by their exact bytes, and that a
+    /// Returns the singleton of a byte: `Singleton::new(b'u')` is Ok. That a literal is one computes in a proof by its
+    /// number. The contract also says that singletons are compared, ordered and hashed by their exact bytes, and that a
     /// clone is the value itself.
     ///
     /// # Errors
     ///
-    /// A byte that is no ASCII letter or digit, or is `x` or `X`, comes back: `Singleton::new(b'x')` is
+    /// A byte that is not an ASCII letter or digit, or is `x` or `X`, comes back: `Singleton::new(b'x')` is
     /// `Err(InvalidSingleton(b'x'))`.
     #[tactic(auto, using(crate::proofs::Numbers::singleton_numbers))]
     pub fn new(c: u8) -> Result<Self, InvalidSingleton<u8>>
@@ -64,11 +64,11 @@ impl Singleton {
         Singleton { byte }
     }
 
-    /// The singleton of a text of one byte: `Singleton::from_string("u")` is Ok.
+    /// Returns the singleton of a text of one byte: `Singleton::from_string("u")` is Ok.
     ///
     /// # Errors
     ///
-    /// A text that is not one byte, or whose byte is no singleton, comes back: `Singleton::from_string("uu")` is
+    /// A text that is not one byte, or whose byte is not a singleton, comes back: `Singleton::from_string("uu")` is
     /// `Err(InvalidSingleton("uu"))`.
     pub fn from_string(str: &str) -> Result<Self, InvalidSingleton<&str>>
         ensures accepts { is_ok result ≡ is_singleton_text str.now }
@@ -83,7 +83,7 @@ impl Singleton {
         Err(InvalidSingleton(str))
     }
 
-    /// The byte, with its case: `Singleton::new(b'U')?.unwrap()` is `b'U'`.
+    /// Returns the byte, with its case: `Singleton::new(b'U')?.unwrap()` is `b'U'`.
     pub fn unwrap(self) -> u8
         ensures same_byte { result ≡ singleton_byte self }
         ensures in_class { IsTrue (class.is_singleton result) }

@@ -13,6 +13,7 @@ pub record SpellsLanguageExtension (extended : List (List ℕ)) (text : List ℕ
   pub few : length extended ≤ 3
   pub joined : join extended ≡ text
 
+-- some list of extended subtags spells the text
 abbrev pub IsLanguageExtension : List ℕ → Type 0
 IsLanguageExtension text = (extended : List (List ℕ)) × SpellsLanguageExtension extended text
 
@@ -26,6 +27,7 @@ pub record SpellsLanguage (primary : List ℕ) (extended : List (List ℕ)) (tex
   pub short : (length primary ≤ 3) ⊎ (extended ≡ [])
   pub joined : join (primary ∷ extended) ≡ text
 
+-- some primary subtag, with some list of extended ones, spells the text
 abbrev pub IsLanguage : List ℕ → Type 0
 IsLanguage text = (primary : List ℕ) × (extended : List (List ℕ)) × SpellsLanguage primary extended text
 

@@ -12,7 +12,7 @@ use std::fmt;
 use std::fmt::Debug;
 use thiserror::Error;
 
-/// A text that is no extended language subtag. It hands the text back.
+/// The error for a text that is not an extended language subtag. It hands the text back.
 #[derive(Debug, Drop, Error)]
 #[error("invalid extended language subtag")]
 #[error_bound(T: Debug + Drop)]
@@ -31,8 +31,8 @@ impl<'a> ExtendedLangTag<'a> {
     ghost use Rattle.langtag_language.specs.Compared.{ExtendedLangTagsCompareByCase};
     ghost use Rattle.langtag_language.specs.Text.{extended_lang_tag_text, extended_lang_tag_buf_text};
 
-    /// The extended language subtag of a text: `ExtendedLangTag::new("yue")` is Ok. That a literal is one computes in a
-    /// proof by its numbers.
+    /// Parses a text as an extended language subtag: `ExtendedLangTag::new("yue")` is Ok. In a proof this computes for
+    /// a literal (`by_number`).
     ///
     /// # Errors
     ///
@@ -51,7 +51,7 @@ impl<'a> ExtendedLangTag<'a> {
         Ok(ExtendedLangTag::from_checked(text))
     }
 
-    /// The subtag of a text that is known to be one: it is not looked at again.
+    /// Returns the subtag of a text that is known to be one, without a test.
     /// `ExtendedLangTag::from_checked(extended.as_str())` is equal to `extended`.
     pub fn from_checked(text: &'a str) -> ExtendedLangTag<'a>
         requires { IsTrue (class.is_extended text.now) }
@@ -62,7 +62,7 @@ impl<'a> ExtendedLangTag<'a> {
         }
     }
 
-    /// The text, with its case: `ExtendedLangTag::new("YUE")?.as_str()` is `"YUE"`.
+    /// Returns the text, with its case: `ExtendedLangTag::new("YUE")?.as_str()` is `"YUE"`.
     pub fn as_str(&self) -> &'a str
         ensures same_text { result.now ≡ extended_lang_tag_text self.now }
         ensures in_class { IsTrue (class.is_extended result.now) }
@@ -70,16 +70,16 @@ impl<'a> ExtendedLangTag<'a> {
         self.text.0
     }
 
-    /// The bytes of the text: `ExtendedLangTag::new("YUE")?.as_bytes()` is `b"YUE"`.
+    /// Returns the bytes of the text: `ExtendedLangTag::new("YUE")?.as_bytes()` is `b"YUE"`.
     pub fn as_bytes(&self) -> &'a [u8]
         ensures { result.now ≡ extended_lang_tag_text self.now }
     {
         self.as_str().as_bytes()
     }
 
-    /// Whether another text, of any form, is equal but for the case of ASCII letters:
-    /// `ExtendedLangTag::new("yue")?.eq_str("YUE")` is true. The contract also pins that extended subtags are
-    /// compared, ordered and hashed so, and that a clone is the value itself.
+    /// Returns whether another text, of any form, is equal but for the case of ASCII letters:
+    /// `ExtendedLangTag::new("yue")?.eq_str("YUE")` is true. The contract also says that extended subtags are compared,
+    /// ordered and hashed so, and that a clone is the value itself.
     pub fn eq_str(&self, other: &str) -> bool
         ensures test { result ≡ are_alike (extended_lang_tag_text self.now) other.now }
 
@@ -90,11 +90,12 @@ impl<'a> ExtendedLangTag<'a> {
         self.text == Caseless(other)
     }
 
-    /// The owned form of the same text: `ExtendedLangTag::new("YUE")?.try_to_owned(alloc)?.as_str()` is `"YUE"`.
+    /// Returns the owned form of the same text: `ExtendedLangTag::new("YUE")?.try_to_owned(alloc)?.as_str()` is
+    /// `"YUE"`.
     ///
     /// # Errors
     ///
-    /// No memory could be had.
+    /// Out of memory.
     pub fn try_to_owned(&self, alloc: Global) -> Result<ExtendedLangTagBuf, AllocError>
         ensures { IfOk result (λ owned. extended_lang_tag_buf_text owned ≡ extended_lang_tag_text self.now) }
     {
@@ -126,7 +127,7 @@ impl ExtendedLangTagBuf {
     ghost use Rattle.langtag_language.specs.Compared.{ExtendedLangTagBufsCompareByCase};
     ghost use Rattle.langtag_language.specs.Text.{extended_lang_tag_text, extended_lang_tag_buf_text, extended_lang_tag_buf_string};
 
-    /// The subtag of a text, which is neither copied nor moved in memory: of the `String` `yue` it is Ok.
+    /// Parses a `String` as a subtag, and keeps it, without a copy: `yue` is Ok.
     ///
     /// # Errors
     ///
@@ -145,7 +146,7 @@ impl ExtendedLangTagBuf {
         })
     }
 
-    /// The subtag, lent: `as_extended_lang_tag().as_str()` of the owned `YUE` is `"YUE"`. The contract also pins that
+    /// Borrows the subtag: `as_extended_lang_tag().as_str()` of the owned `YUE` is `"YUE"`. The contract also says that
     /// owned extended subtags are compared, ordered and hashed without regard to case.
     pub fn as_extended_lang_tag(&self) -> ExtendedLangTag<'_>
         ensures same_text { extended_lang_tag_text result ≡ extended_lang_tag_buf_text self.now }
@@ -155,7 +156,7 @@ impl ExtendedLangTagBuf {
         ExtendedLangTag::from_checked(self.as_str())
     }
 
-    /// The text, with its case: `as_str()` of the owned `YUE` is `"YUE"`.
+    /// Returns the text, with its case: `as_str()` of the owned `YUE` is `"YUE"`.
     pub fn as_str(&self) -> &str
         ensures same_text { result.now ≡ extended_lang_tag_buf_text self.now }
         ensures in_class { IsTrue (class.is_extended result.now) }
@@ -163,7 +164,7 @@ impl ExtendedLangTagBuf {
         self.text.0.as_str()
     }
 
-    /// The text itself, which is not copied: `into_string()` of the owned `YUE` is the `String` `YUE`.
+    /// Returns the text itself, without a copy: `into_string()` of the owned `YUE` is the `String` `YUE`.
     pub fn into_string(self) -> String
         ensures same_text { string_bytes result ≡ extended_lang_tag_buf_text self }
         ensures same_string { result ≡ extended_lang_tag_buf_string self }

@@ -17,7 +17,7 @@ use std::fmt;
 use std::fmt::Debug;
 use thiserror::Error;
 
-/// A text that is no language. It hands the text back.
+/// The error for a text that is not a language. It hands the text back.
 #[derive(Debug, Drop, Error)]
 #[error("invalid language")]
 #[error_bound(T: Debug + Drop)]
@@ -39,7 +39,7 @@ impl<'a> Language<'a> {
     ghost use Rattle.langtag_language.specs.Text.{language_text, language_buf_text, primary_language_text};
     ghost use Rattle.langtag_language.specs.Text.{language_extension_text, extension_list, extended_subtags_left};
 
-    /// The language of a text: `Language::new("zh-yue")` is Ok.
+    /// Parses a text as a language: `Language::new("zh-yue")` is Ok.
     ///
     /// # Errors
     ///
@@ -56,7 +56,7 @@ impl<'a> Language<'a> {
         Ok(Language::from_checked(text))
     }
 
-    /// The language of a text that is known to be one: it is not looked at again.
+    /// Returns the language of a text that is known to be one, without a test.
     /// `Language::from_checked(language.as_str())` is equal to `language`.
     pub fn from_checked(text: &'a str) -> Language<'a>
         requires { IsLanguage text.now }
@@ -67,7 +67,7 @@ impl<'a> Language<'a> {
         }
     }
 
-    /// The text, with its case: `Language::new("ZH-YUE")?.as_str()` is `"ZH-YUE"`.
+    /// Returns the text, with its case: `Language::new("ZH-YUE")?.as_str()` is `"ZH-YUE"`.
     pub fn as_str(&self) -> &'a str
         ensures same_text { result.now ≡ language_text self.now }
         ensures in_class { IsLanguage result.now }
@@ -75,16 +75,16 @@ impl<'a> Language<'a> {
         self.text.0
     }
 
-    /// The bytes of the text: `Language::new("ZH-YUE")?.as_bytes()` is `b"ZH-YUE"`.
+    /// Returns the bytes of the text: `Language::new("ZH-YUE")?.as_bytes()` is `b"ZH-YUE"`.
     pub fn as_bytes(&self) -> &'a [u8]
         ensures { result.now ≡ language_text self.now }
     {
         self.as_str().as_bytes()
     }
 
-    /// Whether another text, of any form, is equal but for the case of ASCII letters:
-    /// `Language::new("zh-yue")?.eq_str("ZH-YUE")` is true. The contract also pins that languages are compared,
-    /// ordered and hashed so, and that a clone is the value itself.
+    /// Returns whether another text, of any form, is equal but for the case of ASCII letters:
+    /// `Language::new("zh-yue")?.eq_str("ZH-YUE")` is true. The contract also says that languages are compared, ordered
+    /// and hashed so, and that a clone is the value itself.
     pub fn eq_str(&self, other: &str) -> bool
         ensures test { result ≡ are_alike (language_text self.now) other.now }
 
@@ -95,11 +95,11 @@ impl<'a> Language<'a> {
         self.text == Caseless(other)
     }
 
-    /// The owned form of the same text: `Language::new("ZH-YUE")?.try_to_owned(alloc)?.as_str()` is `"ZH-YUE"`.
+    /// Returns the owned form of the same text: `Language::new("ZH-YUE")?.try_to_owned(alloc)?.as_str()` is `"ZH-YUE"`.
     ///
     /// # Errors
     ///
-    /// No memory could be had.
+    /// Out of memory.
     pub fn try_to_owned(&self, alloc: Global) -> Result<LanguageBuf, AllocError>
         ensures { IfOk result (λ owned. language_buf_text owned ≡ language_text self.now) }
     {
@@ -109,7 +109,7 @@ impl<'a> Language<'a> {
         })
     }
 
-    /// The primary subtag: `Language::new("zh-yue")?.primary().as_str()` is `"zh"`.
+    /// Returns the primary subtag: `Language::new("zh-yue")?.primary().as_str()` is `"zh"`.
     pub fn primary(&self) -> PrimaryLanguage<'a>
         ensures list { slice_get (subtags (language_text self.now)) 0 ≡ Some (primary_language_text result) }
         ensures member { EachSpelling (language_text self.now) (λ primary extended. primary_language_text result ≡ primary) }
@@ -117,8 +117,8 @@ impl<'a> Language<'a> {
         self.split().0
     }
 
-    /// The extended subtags as one text, None where there is none: `Language::new("zh-min-nan")?.extension()` is that of
-    /// `min-nan`.
+    /// Returns the extended subtags as one text, None where there is none: `Language::new("zh-min-nan")?.extension()`
+    /// is that of `min-nan`.
     pub fn extension(&self) -> Option<LanguageExtension<'a>>
         ensures absent { EachSpelling (language_text self.now) (λ primary extended. IsNone result ↔ (extended ≡ [])) }
         ensures members { EachSpelling (language_text self.now) (λ primary extended.
@@ -127,8 +127,8 @@ impl<'a> Language<'a> {
         self.split().1
     }
 
-    /// The extended subtags one by one; none where there is no extension:
-    /// `Language::new("zh-min-nan")?.extension_subtags()` hands out `min` and `nan`.
+    /// Returns the extended subtags one by one; none where there is no extension:
+    /// `Language::new("zh-min-nan")?.extension_subtags()` yields `min` and `nan`.
     pub fn extension_subtags(&self) -> LanguageExtensionIter<'a>
         ensures list { extended_subtags_left result ≡ drop 1 (subtags (language_text self.now)) }
         ensures members { EachSpelling (language_text self.now) (λ primary extended. extended_subtags_left result ≡ extended) }
@@ -189,7 +189,7 @@ impl LanguageBuf {
     ghost use Rattle.langtag_language.specs.Compared.{LanguageBufsCompareByCase};
     ghost use Rattle.langtag_language.specs.Text.{language_text, language_buf_text, language_buf_string};
 
-    /// The language of a text, which is neither copied nor moved in memory: of the `String` `zh-yue` it is Ok.
+    /// Parses a `String` as a language, and keeps it, without a copy: `zh-yue` is Ok.
     ///
     /// # Errors
     ///
@@ -209,7 +209,7 @@ impl LanguageBuf {
         })
     }
 
-    /// The language, lent: `as_language().as_str()` of the owned `ZH-YUE` is `"ZH-YUE"`. The contract also pins that
+    /// Borrows the language: `as_language().as_str()` of the owned `ZH-YUE` is `"ZH-YUE"`. The contract also says that
     /// owned languages are compared, ordered and hashed without regard to case.
     pub fn as_language(&self) -> Language<'_>
         ensures same_text { language_text result ≡ language_buf_text self.now }
@@ -219,7 +219,7 @@ impl LanguageBuf {
         Language::from_checked(self.as_str())
     }
 
-    /// The text, with its case: `as_str()` of the owned `ZH-YUE` is `"ZH-YUE"`.
+    /// Returns the text, with its case: `as_str()` of the owned `ZH-YUE` is `"ZH-YUE"`.
     pub fn as_str(&self) -> &str
         ensures same_text { result.now ≡ language_buf_text self.now }
         ensures in_class { IsLanguage result.now }
@@ -227,7 +227,7 @@ impl LanguageBuf {
         self.text.0.as_str()
     }
 
-    /// The text itself, which is not copied: `into_string()` of the owned `ZH-YUE` is the `String` `ZH-YUE`.
+    /// Returns the text itself, without a copy: `into_string()` of the owned `ZH-YUE` is the `String` `ZH-YUE`.
     pub fn into_string(self) -> String
         ensures same_text { string_bytes result ≡ language_buf_text self }
         ensures same_string { result ≡ language_buf_string self }

@@ -14,7 +14,7 @@ use std::fmt;
 use std::fmt::Debug;
 use thiserror::Error;
 
-/// A text that is no language extension. It hands the text back.
+/// The error for a text that is not a language extension. It hands the text back.
 #[derive(Debug, Drop, Error)]
 #[error("invalid language extension")]
 #[error_bound(T: Debug + Drop)]
@@ -34,7 +34,7 @@ impl<'a> LanguageExtension<'a> {
     ghost use Rattle.langtag_language.specs.Compared.{LanguageExtensionsCompareByCase};
     ghost use Rattle.langtag_language.specs.Text.{language_extension_text, language_extension_buf_text, extended_subtags_left};
 
-    /// The language extension of a text: `LanguageExtension::new("min-nan")` is Ok.
+    /// Parses a text as a language extension: `LanguageExtension::new("min-nan")` is Ok.
     ///
     /// # Errors
     ///
@@ -51,7 +51,7 @@ impl<'a> LanguageExtension<'a> {
         Ok(LanguageExtension::from_checked(text))
     }
 
-    /// The language extension of a text that is known to be one: it is not looked at again.
+    /// Returns the language extension of a text that is known to be one, without a test.
     /// `LanguageExtension::from_checked(extension.as_str())` is equal to `extension`.
     pub fn from_checked(text: &'a str) -> LanguageExtension<'a>
         requires { IsLanguageExtension text.now }
@@ -62,7 +62,7 @@ impl<'a> LanguageExtension<'a> {
         }
     }
 
-    /// The text, with its case: `LanguageExtension::new("MIN-NAN")?.as_str()` is `"MIN-NAN"`.
+    /// Returns the text, with its case: `LanguageExtension::new("MIN-NAN")?.as_str()` is `"MIN-NAN"`.
     pub fn as_str(&self) -> &'a str
         ensures same_text { result.now ≡ language_extension_text self.now }
         ensures in_class { IsLanguageExtension result.now }
@@ -70,15 +70,15 @@ impl<'a> LanguageExtension<'a> {
         self.text.0
     }
 
-    /// The bytes of the text: `LanguageExtension::new("MIN-NAN")?.as_bytes()` is `b"MIN-NAN"`.
+    /// Returns the bytes of the text: `LanguageExtension::new("MIN-NAN")?.as_bytes()` is `b"MIN-NAN"`.
     pub fn as_bytes(&self) -> &'a [u8]
         ensures { result.now ≡ language_extension_text self.now }
     {
         self.as_str().as_bytes()
     }
 
-    /// Whether another text, of any form, is equal but for the case of ASCII letters:
-    /// `LanguageExtension::new("min-nan")?.eq_str("MIN-NAN")` is true. The contract also pins that language extensions
+    /// Returns whether another text, of any form, is equal but for the case of ASCII letters:
+    /// `LanguageExtension::new("min-nan")?.eq_str("MIN-NAN")` is true. The contract also says that language extensions
     /// are compared, ordered and hashed so, and that a clone is the value itself.
     pub fn eq_str(&self, other: &str) -> bool
         ensures test { result ≡ are_alike (language_extension_text self.now) other.now }
@@ -90,12 +90,12 @@ impl<'a> LanguageExtension<'a> {
         self.text == Caseless(other)
     }
 
-    /// The owned form of the same text: `LanguageExtension::new("MIN-NAN")?.try_to_owned(alloc)?.as_str()` is
+    /// Returns the owned form of the same text: `LanguageExtension::new("MIN-NAN")?.try_to_owned(alloc)?.as_str()` is
     /// `"MIN-NAN"`.
     ///
     /// # Errors
     ///
-    /// No memory could be had.
+    /// Out of memory.
     pub fn try_to_owned(&self, alloc: Global) -> Result<LanguageExtensionBuf, AllocError>
         ensures { IfOk result (λ owned. language_extension_buf_text owned ≡ language_extension_text self.now) }
     {
@@ -105,10 +105,13 @@ impl<'a> LanguageExtension<'a> {
         })
     }
 
-    /// The extended subtags one by one: `LanguageExtension::new("min-nan")?.iter()` hands out `min` and `nan`.
+    /// Returns the extended subtags one by one: `LanguageExtension::new("min-nan")?.iter()` yields `min` and `nan`.
     pub fn iter(&self) -> LanguageExtensionIter<'a>
         ensures list { extended_subtags_left result ≡ subtags (language_extension_text self.now) }
         ensures spells { SpellsLanguageExtension (extended_subtags_left result) (language_extension_text self.now) }
+
+        ensures cloned { (walk copy : LanguageExtensionIter) → ⟦<LanguageExtensionIter<'a> as Clone>⟧.is_clone walk copy → extended_subtags_left copy ≡ extended_subtags_left walk }
+        ensures clone_succeeds { (walk : LanguageExtensionIter) → ⟦<LanguageExtensionIter<'a> as Clone>⟧.is_infallible walk }
     {
         LanguageExtensionIter::new(self.as_str())
     }
@@ -143,8 +146,7 @@ impl LanguageExtensionBuf {
     ghost use Rattle.langtag_language.specs.Compared.{LanguageExtensionBufsCompareByCase};
     ghost use Rattle.langtag_language.specs.Text.{language_extension_text, language_extension_buf_text, language_extension_buf_string};
 
-    /// The language extension of a text, which is neither copied nor moved in memory: of the `String` `min-nan` it is
-    /// Ok.
+    /// Parses a `String` as a language extension, and keeps it, without a copy: `min-nan` is Ok.
     ///
     /// # Errors
     ///
@@ -164,8 +166,8 @@ impl LanguageExtensionBuf {
         })
     }
 
-    /// The language extension, lent: `as_language_extension().as_str()` of the owned `MIN-NAN` is `"MIN-NAN"`. The
-    /// contract also pins that owned language extensions are compared, ordered and hashed without regard to case.
+    /// Borrows the language extension: `as_language_extension().as_str()` of the owned `MIN-NAN` is `"MIN-NAN"`. The
+    /// contract also says that owned language extensions are compared, ordered and hashed without regard to case.
     pub fn as_language_extension(&self) -> LanguageExtension<'_>
         ensures same_text { language_extension_text result ≡ language_extension_buf_text self.now }
 
@@ -174,7 +176,7 @@ impl LanguageExtensionBuf {
         LanguageExtension::from_checked(self.as_str())
     }
 
-    /// The text, with its case: `as_str()` of the owned `MIN-NAN` is `"MIN-NAN"`.
+    /// Returns the text, with its case: `as_str()` of the owned `MIN-NAN` is `"MIN-NAN"`.
     pub fn as_str(&self) -> &str
         ensures same_text { result.now ≡ language_extension_buf_text self.now }
         ensures in_class { IsLanguageExtension result.now }
@@ -182,7 +184,7 @@ impl LanguageExtensionBuf {
         self.text.0.as_str()
     }
 
-    /// The text itself, which is not copied: `into_string()` of the owned `MIN-NAN` is the `String` `MIN-NAN`.
+    /// Returns the text itself, without a copy: `into_string()` of the owned `MIN-NAN` is the `String` `MIN-NAN`.
     pub fn into_string(self) -> String
         ensures same_text { string_bytes result ≡ language_extension_buf_text self }
         ensures same_string { result ≡ language_extension_buf_string self }

@@ -13,7 +13,7 @@
 //! assert_eq!(rt; extension.as_str(), "min-nan");
 //! ```
 //!
-//! A part that is handed out has the bytes of that part of the text and lives as long as the text. Both are proved; that it
+//! A returned part has the bytes of that part of the text and lives as long as the text. Both are proved; that it
 //! stands at the same address is not.
 #![tactic(auto)]
 

@@ -13,7 +13,7 @@ use std::fmt;
 use std::fmt::Debug;
 use thiserror::Error;
 
-/// A text that is no primary language subtag. It hands the text back.
+/// The error for a text that is not a primary language subtag. It hands the text back.
 #[derive(Debug, Drop, Error)]
 #[error("invalid primary language")]
 #[error_bound(T: Debug + Drop)]
@@ -32,8 +32,8 @@ impl<'a> PrimaryLanguage<'a> {
     ghost use Rattle.langtag_language.specs.Compared.{PrimaryLanguagesCompareByCase};
     ghost use Rattle.langtag_language.specs.Text.{primary_language_text, primary_language_buf_text};
 
-    /// The primary language subtag of a text: `PrimaryLanguage::new("fr")` is Ok. That a literal is one computes in a
-    /// proof by its numbers.
+    /// Parses a text as a primary language subtag: `PrimaryLanguage::new("fr")` is Ok. In a proof this computes for a
+    /// literal (`by_number`).
     ///
     /// # Errors
     ///
@@ -52,7 +52,7 @@ impl<'a> PrimaryLanguage<'a> {
         Ok(PrimaryLanguage::from_checked(text))
     }
 
-    /// The subtag of a text that is known to be one: it is not looked at again.
+    /// Returns the subtag of a text that is known to be one, without a test.
     /// `PrimaryLanguage::from_checked(primary.as_str())` is equal to `primary`.
     pub fn from_checked(text: &'a str) -> PrimaryLanguage<'a>
         requires { IsTrue (class.is_primary text.now) }
@@ -63,7 +63,7 @@ impl<'a> PrimaryLanguage<'a> {
         }
     }
 
-    /// The text, with its case: `PrimaryLanguage::new("FR")?.as_str()` is `"FR"`.
+    /// Returns the text, with its case: `PrimaryLanguage::new("FR")?.as_str()` is `"FR"`.
     pub fn as_str(&self) -> &'a str
         ensures same_text { result.now ≡ primary_language_text self.now }
         ensures in_class { IsTrue (class.is_primary result.now) }
@@ -71,15 +71,15 @@ impl<'a> PrimaryLanguage<'a> {
         self.text.0
     }
 
-    /// The bytes of the text: `PrimaryLanguage::new("FR")?.as_bytes()` is `b"FR"`.
+    /// Returns the bytes of the text: `PrimaryLanguage::new("FR")?.as_bytes()` is `b"FR"`.
     pub fn as_bytes(&self) -> &'a [u8]
         ensures { result.now ≡ primary_language_text self.now }
     {
         self.as_str().as_bytes()
     }
 
-    /// Whether another text, of any form, is equal but for the case of ASCII letters:
-    /// `PrimaryLanguage::new("fr")?.eq_str("FR")` is true. The contract also pins that primary languages are compared,
+    /// Returns whether another text, of any form, is equal but for the case of ASCII letters:
+    /// `PrimaryLanguage::new("fr")?.eq_str("FR")` is true. The contract also says that primary languages are compared,
     /// ordered and hashed so, and that a clone is the value itself.
     pub fn eq_str(&self, other: &str) -> bool
         ensures test { result ≡ are_alike (primary_language_text self.now) other.now }
@@ -91,11 +91,11 @@ impl<'a> PrimaryLanguage<'a> {
         self.text == Caseless(other)
     }
 
-    /// The owned form of the same text: `PrimaryLanguage::new("FR")?.try_to_owned(alloc)?.as_str()` is `"FR"`.
+    /// Returns the owned form of the same text: `PrimaryLanguage::new("FR")?.try_to_owned(alloc)?.as_str()` is `"FR"`.
     ///
     /// # Errors
     ///
-    /// No memory could be had.
+    /// Out of memory.
     pub fn try_to_owned(&self, alloc: Global) -> Result<PrimaryLanguageBuf, AllocError>
         ensures { IfOk result (λ owned. primary_language_buf_text owned ≡ primary_language_text self.now) }
     {
@@ -127,7 +127,7 @@ impl PrimaryLanguageBuf {
     ghost use Rattle.langtag_language.specs.Compared.{PrimaryLanguageBufsCompareByCase};
     ghost use Rattle.langtag_language.specs.Text.{primary_language_text, primary_language_buf_text, primary_language_buf_string};
 
-    /// The subtag of a text, which is neither copied nor moved in memory: of the `String` `fr` it is Ok.
+    /// Parses a `String` as a subtag, and keeps it, without a copy: `fr` is Ok.
     ///
     /// # Errors
     ///
@@ -146,7 +146,7 @@ impl PrimaryLanguageBuf {
         })
     }
 
-    /// The subtag, lent: `as_primary_language().as_str()` of the owned `FR` is `"FR"`. The contract also pins that
+    /// Borrows the subtag: `as_primary_language().as_str()` of the owned `FR` is `"FR"`. The contract also says that
     /// owned primary languages are compared, ordered and hashed without regard to case.
     pub fn as_primary_language(&self) -> PrimaryLanguage<'_>
         ensures same_text { primary_language_text result ≡ primary_language_buf_text self.now }
@@ -156,7 +156,7 @@ impl PrimaryLanguageBuf {
         PrimaryLanguage::from_checked(self.as_str())
     }
 
-    /// The text, with its case: `as_str()` of the owned `FR` is `"FR"`.
+    /// Returns the text, with its case: `as_str()` of the owned `FR` is `"FR"`.
     pub fn as_str(&self) -> &str
         ensures same_text { result.now ≡ primary_language_buf_text self.now }
         ensures in_class { IsTrue (class.is_primary result.now) }
@@ -164,7 +164,7 @@ impl PrimaryLanguageBuf {
         self.text.0.as_str()
     }
 
-    /// The text itself, which is not copied: `into_string()` of the owned `FR` is the `String` `FR`.
+    /// Returns the text itself, without a copy: `into_string()` of the owned `FR` is the `String` `FR`.
     pub fn into_string(self) -> String
         ensures same_text { string_bytes result ≡ primary_language_buf_text self }
         ensures same_string { result ≡ primary_language_buf_string self }

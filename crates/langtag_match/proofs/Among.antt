@@ -21,7 +21,7 @@ have_no_single-append (s ∷ a) b ha hb =
     let k = and_parts (not (is_single s)) (have_no_single a) ha in
     rw (k.0, have_no_single-append a b k.1 hb) refl
 
--- subtags that are no singletons may stand before
+-- subtags that are not singletons may stand before
 StandAmong-after : (extra : List (List ℕ)) → IsTrue (have_no_single extra) → (more rest : List (List ℕ)) → StandAmong more rest → StandAmong more (extra ++ rest)
 StandAmong-after extra none [] rest h = tt
 StandAmong-after extra none (w ∷ more) rest (left_out, found, later, cut, free, alike, h) =

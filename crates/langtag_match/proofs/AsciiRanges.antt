@@ -1,7 +1,5 @@
--- A language range is ASCII, so bytes that are no UTF-8 are none.
-use Rattle.std.proofs.Common.{◌≡◌, ℕ, ◌<◌, true, List, [], ◌∷◌, length, ◌||◌, inl, inr, sym, subst, arith}
-use Rattle.std.specs.Char.{is_ascii_alphabetic}
-use Rattle.std.specs.Int.{is_in_range}
+-- A language range is ASCII, so bytes that are not UTF-8 are not one.
+use Rattle.std.proofs.Common.{◌≡◌, ℕ, ◌<◌, true, List, [], ◌∷◌, ◌||◌, inl, inr, sym, subst, arith}
 use Rattle.std.specs.List.{AllByRecursion}
 use Rattle.std.specs.Str.{IsAscii, IsUtf8}
 use Rattle.std.proofs.lemmas.Bool.{and_parts, or_cases}
@@ -9,15 +7,16 @@ use Rattle.std.proofs.lemmas.Bool.Decides.{nat_tests}
 use Rattle.std.proofs.lemmas.Slice.Eq.{bytes_eq-Decides}
 use Rattle.std.proofs.lemmas.Str.{IsUtf8-from_ascii}
 use Rattle.std.proofs.lemmas.Str.Ascii.{IsAscii-nil, IsAscii-cons}
-use Rattle.langtag_scan.specs.Class.{has_length, is_alphanumeric, are_alphanumeric, is_private_subtag}
+use Rattle.langtag_scan.specs.Class.{has_length, is_letter, are_letters, is_alphanumeric, are_alphanumeric, is_private_subtag}
 use Rattle.langtag_scan.specs.Subtags.{join, subtags}
 use Rattle.langtag_scan.proofs.Ascii.{IsAscii-each, alphanumeric_below, IsAscii-join}
 use Rattle.langtag_scan.proofs.SubtagLists.{join-subtags}
-use Rattle.langtag_match.specs.Range.{is_star, is_first_subtag, are_letters, is_range_subtag, are_range_subtags, are_extended_range, is_language_range}
+use Rattle.langtag_match.specs.Range.{is_star, is_first_subtag, is_range_subtag, are_range_subtags, are_extended_range, is_language_range}
 
 -- ---- a star, a first subtag, any subtag, and the whole range
 
-letter_below : (b : ℕ) → is_ascii_alphabetic b ≡ true → b < 128
+letter_below : (b : ℕ) → is_letter b ≡ true → b < 128
+unfolding is_letter
 letter_below b h = grind (arith, nat_tests)
 
 IsAscii-star : (s : List ℕ) → is_star s ≡ true → IsAscii s
@@ -26,7 +25,7 @@ IsAscii-star s star = subst IsAscii (sym ((bytes_eq-Decides s (42 ∷ [])).0 sta
 IsAscii-first : (s : List ℕ) → (is_star s || is_first_subtag s) ≡ true → IsAscii s
 IsAscii-first s is = elim (or_cases (is_star s) (is_first_subtag s) is) [
   | inl star ↦ IsAscii-star s star
-  | inr first ↦ IsAscii-each is_ascii_alphabetic letter_below s (and_parts (is_in_range 1 8 (length s)) (are_letters s) first).1
+  | inr first ↦ IsAscii-each is_letter letter_below s (and_parts (has_length 1 8 s) (are_letters s) first).1
 ]
 
 IsAscii-subtag : (s : List ℕ) → is_range_subtag s ≡ true → IsAscii s

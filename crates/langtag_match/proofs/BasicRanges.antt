@@ -27,3 +27,5 @@ is_language_range-from_basic text is = elim (or_cases (is_star text) (are_basic_
   | inl star ↦ ap is_language_range ((bytes_eq-Decides text (42 ∷ [])).0 star)
   | inr plain ↦ basic_extended (subtags text) plain
 ]
+
+pub ruleset basic_ranges = (is_language_range-from_basic)

@@ -1,28 +1,13 @@
--- The elements of one more item.
-use Rattle.std.proofs.Common.{◌≡◌, List, ℕ, ◌<◌, [], ◌∷◌, ◌++◌, inl, inr, IsTrue, ap, refl, sym, ◌∙◌, subst, arith, length, length-append, take, get_or}
+-- What a loop over the items of a header has read, at one more item.
+use Rattle.std.proofs.Common.{◌≡◌, List, ℕ, ◌<◌, [], ◌∷◌, ◌++◌, true, Some, None, IsTrue, ap, refl, sym, ◌∙◌, arith, length, length-append, take, get_or, map}
 use Rattle.std.specs.List.{enumerate_from}
-use Rattle.std.proofs.lemmas.List.{take_more}
+use Rattle.std.proofs.Math.Bool.{or-true}
+use Rattle.std.proofs.lemmas.List.{take_more, map-append, append-nil}
+use Rattle.std.proofs.lemmas.List.Elements.{filter_map-append}
+use Rattle.std.proofs.lemmas.List.Folds.{list_all-append}
 use Rattle.std.proofs.lemmas.List.FromFn.{length-enumerate_from, get_or-enumerate_from}
-use Rattle.langtag_match.specs.AcceptLanguage.{is_ows, IsItem, AreElements}
+use Rattle.langtag_match.specs.AcceptLanguage.{is_ows, is_good, are_good, element, elements, reading}
 use Rattle.langtag_match.specs.declared.weighted_range.WeightedRange.{WeightedRange}
-
-pub AreElements-push_empty :
-    (items : List (List ℕ)) (item : List ℕ) (elements : List WeightedRange) → AreElements items elements → IsTrue (is_ows item) →
-    AreElements (items ++ item ∷ []) elements
-AreElements-push_empty [] item elements none empty = inl (empty, none)
-AreElements-push_empty (first ∷ items) item elements (inl (spaces, more)) empty = inl (spaces, AreElements-push_empty items item elements more empty)
-AreElements-push_empty (first ∷ items) item elements (inr (weighted, rest, is, more, all)) empty =
-    inr (weighted, rest, is, AreElements-push_empty items item rest more empty, all)
-
-pub AreElements-push :
-    (items : List (List ℕ)) (item : List ℕ) (elements : List WeightedRange) (last : WeightedRange) → AreElements items elements →
-    IsItem item last → AreElements (items ++ item ∷ []) (elements ++ last ∷ [])
-AreElements-push [] item elements last none is = inr (last, [], is, refl, ap (λ es. es ++ last ∷ []) none)
-AreElements-push (first ∷ items) item elements last (inl (spaces, more)) is = inl (spaces, AreElements-push items item elements last more is)
-AreElements-push (first ∷ items) item elements last (inr (weighted, rest, there, more, all)) is =
-    inr (weighted, rest ++ last ∷ [], there, AreElements-push items item rest last more is, ap (λ es. es ++ last ∷ []) all)
-
--- ---- the turns of a loop over the items and their indices
 
 pub turn_at :
     (all : List (List ℕ)) (n index : ℕ) (item : List ℕ) →
@@ -33,22 +18,46 @@ turn_at all n index item (within, at) =
     let here = at ∙ get_or-enumerate_from 0 all n (index, item) below in
     (below, omega (arith, ap (λ p. p.0) here), ap (λ p. p.1) here)
 
-take_next :
-    {X : Type 0} (all : List (List ℕ)) (yielded : List X) (x : X) (item : List ℕ) → length yielded < length all →
-    item ≡ get_or all (length yielded) item → take (length (yielded ++ x ∷ [])) all ≡ take (length yielded) all ++ item ∷ []
-take_next all yielded x item below at =
-    ap (λ n. take n all) (length-append yielded (x ∷ [])) ∙ take_more all (length yielded) item below ∙ ap (λ i. take (length yielded) all ++ i ∷ []) (sym at)
+-- ---- what one more item adds
 
-pub after_empty :
-    {X : Type 0} (all : List (List ℕ)) (yielded : List X) (x : X) (item : List ℕ) (elements : List WeightedRange) →
-    length yielded < length all → item ≡ get_or all (length yielded) item → AreElements (take (length yielded) all) elements →
-    IsTrue (is_ows item) → AreElements (take (length (yielded ++ x ∷ [])) all) elements
-after_empty all yielded x item elements below at so_far empty =
-    subst (λ items. AreElements items elements) (sym (take_next all yielded x item below at)) (AreElements-push_empty (take (length yielded) all) item elements so_far empty)
+elements-push : (items : List (List ℕ)) (read : List WeightedRange) (item : List ℕ) (weighted : WeightedRange) → map reading read ≡ elements items → element item ≡ Some (reading weighted) → map reading (read ++ weighted ∷ []) ≡ elements (items ++ item ∷ [])
+elements-push items read item weighted so_far is =
+    map-append reading read (weighted ∷ []) ∙ ap (λ es. es ++ reading weighted ∷ []) so_far ∙ sym (filter_map-append element items (item ∷ []) ∙ rw is refl)
 
-pub after_element :
-    {X : Type 0} (all : List (List ℕ)) (yielded : List X) (x : X) (item : List ℕ) (elements : List WeightedRange) (last : WeightedRange) →
-    length yielded < length all → item ≡ get_or all (length yielded) item → AreElements (take (length yielded) all) elements →
-    IsItem item last → AreElements (take (length (yielded ++ x ∷ [])) all) (elements ++ last ∷ [])
-after_element all yielded x item elements last below at so_far is =
-    subst (λ items. AreElements items (elements ++ last ∷ [])) (sym (take_next all yielded x item below at)) (AreElements-push (take (length yielded) all) item elements last so_far is)
+elements-pass : (items : List (List ℕ)) (item : List ℕ) → element item ≡ None → elements items ≡ elements (items ++ item ∷ [])
+elements-pass items item none = sym (filter_map-append element items (item ∷ []) ∙ rw none (append-nil (elements items)))
+
+-- the items so far are good, and these are their elements
+pub record IsRead (items : List (List ℕ)) (read : List WeightedRange) : Type 0 where
+  pub good : IsTrue (are_good items)
+  pub elements : map reading read ≡ elements items
+
+-- ---- of a loop over the items
+
+module _ {X : Type 0} (all : List (List ℕ)) (yielded : List X) (x : X) (item : List ℕ) (below : length yielded < length all) (at : item ≡ get_or all (length yielded) item) (read : List WeightedRange) where
+  take_next : take (length (yielded ++ x ∷ [])) all ≡ take (length yielded) all ++ item ∷ []
+  take_next =
+      ap (λ n. take n all) (length-append yielded (x ∷ [])) ∙ take_more all (length yielded) item below ∙ ap (λ i. take (length yielded) all ++ i ∷ []) (sym at)
+
+  more_good : IsTrue (are_good (take (length yielded) all)) → is_good item ≡ true → IsTrue (are_good (take (length (yielded ++ x ∷ [])) all))
+  more_good so_far good = ap are_good take_next ∙ list_all-append is_good (take (length yielded) all) (item ∷ []) ∙ rw (so_far, good) refl
+
+  -- an element
+  pub elements-more : (weighted : WeightedRange) → map reading read ≡ elements (take (length yielded) all) → element item ≡ Some (reading weighted) → map reading (read ++ weighted ∷ []) ≡ elements (take (length (yielded ++ x ∷ [])) all)
+  elements-more weighted so_far is = elements-push (take (length yielded) all) read item weighted so_far is ∙ ap elements (sym take_next)
+
+  pub after_element : (weighted : WeightedRange) → IsRead (take (length yielded) all) read → element item ≡ Some (reading weighted) → IsRead (take (length (yielded ++ x ∷ [])) all) (read ++ weighted ∷ [])
+  after_element weighted so_far is = record {
+    good = more_good so_far.good (rw (is, or-true (is_ows item)) refl);
+    elements = elements-more weighted so_far.elements is;
+  }
+
+  -- or none
+  pub elements-same : map reading read ≡ elements (take (length yielded) all) → element item ≡ None → map reading read ≡ elements (take (length (yielded ++ x ∷ [])) all)
+  elements-same so_far none = so_far ∙ elements-pass (take (length yielded) all) item none ∙ ap elements (sym take_next)
+
+  pub after_empty : IsRead (take (length yielded) all) read → element item ≡ None → is_ows item ≡ true → IsRead (take (length (yielded ++ x ∷ [])) all) read
+  after_empty so_far none empty = record {
+    good = more_good so_far.good (rw empty refl);
+    elements = elements-same so_far.elements none;
+  }

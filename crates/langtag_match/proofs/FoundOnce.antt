@@ -1,58 +1,79 @@
--- Each tag that some range matches is found as often as it stands in the list.
-use Rattle.std.proofs.Common.{◌≡◌, ℕ, ◌+◌, ◌≤◌, ◌&&◌, Bool, true, List, [], ◌∷◌, ◌++◌, length, refl, ap, ◌∙◌, append_assoc, arith}
+-- The tags that a filter finds are those that some range matches, in another order.
+use Rattle.std.proofs.Common.{◌≡◌, ℕ, ◌≤◌, ◌&&◌, ◌||◌, Bool, true, false, not, List, [], ◌∷◌, ◌++◌, length, refl, sym, ap, ◌∙◌, subst, arith}
 use Rattle.std.specs.List.{filter}
-use Rattle.std.proofs.lemmas.List.{append-nil, length-append}
-use Rattle.std.proofs.lemmas.List.Elements.{filter-append}
+use Rattle.std.specs.List.Sorted.{IsPermutation}
+use Rattle.std.proofs.Math.Bool.{and-true}
 use Rattle.std.proofs.lemmas.List.Folds.{list_any-append}
+use Rattle.std.proofs.lemmas.List.Sorted.{IsPermutation-refl, IsPermutation-trans, IsPermutation-append_right, IsPermutation-filter_both, length_permutation}
 use Rattle.std.proofs.lemmas.List.Sums.{length-filter, count_by-le-length}
 use Rattle.langtag.specs.declared.lang_tag.LangTag.{LangTag}
 use Rattle.langtag_match.specs.Filter.{finds, is_found, newly_found, found_after, filtered, AreFoundOnce}
 use Rattle.langtag_match.specs.declared.language_range.LanguageRange.{LanguageRange}
+use Rattle.langtag_match.proofs.Readings.{filter-same}
 
-module _ (matches : List ℕ → List ℕ → Bool) (test : LangTag → Bool) where
-  -- how many tags pass the test, of those that some range matches
-  abbrev found_count : List LanguageRange → List LangTag → ℕ
-  found_count ranges tags = length (filter (λ tag. test tag && is_found matches ranges tag) tags)
+filter-none : (tags : List LangTag) → filter (λ tag. false) tags ≡ []
+filter-none [] = refl
+filter-none (tag ∷ tags) = filter-none tags
 
-  -- one range more finds what it newly finds
-  count-newly_found :
-      (before : List LanguageRange) (range : LanguageRange) (tags : List LangTag) →
-      length (filter test (newly_found matches before range tags)) + found_count before tags ≡ found_count (before ++ range ∷ []) tags
-  count-newly_found before range [] = refl
-  count-newly_found before range (tag ∷ tags) =
-      let more = count-newly_found before range tags in
-      let either = list_any-append (λ earlier. finds matches earlier tag) before (range ∷ []) in
-      grind (arith, more, either)
+filter-filter : (p q : LangTag → Bool) (tags : List LangTag) → filter p (filter q tags) ≡ filter (λ tag. q tag && p tag) tags
+filter-filter p q [] = refl
+filter-filter p q (tag ∷ tags) = by_tests (q tag) (p tag) refl refl (filter-filter p q tags)
+  where
+    by_tests :
+        (first second : Bool) → q tag ≡ first → p tag ≡ second → filter p (filter q tags) ≡ filter (λ tag. q tag && p tag) tags →
+        filter p (filter q (tag ∷ tags)) ≡ filter (λ tag. q tag && p tag) (tag ∷ tags)
+    by_tests true true is also others = rw (is, also) (ap (λ ts. tag ∷ ts) others)
+    by_tests true false is also others = rw (is, also) others
+    by_tests false second is also others = rw is others
 
-  -- and so do several, one after another
-  count-found_after :
-      (before ranges : List LanguageRange) (tags : List LangTag) →
-      length (filter test (found_after matches before ranges tags)) + found_count before tags ≡ found_count (before ++ ranges) tags
-  count-found_after before [] tags = omega (arith, ap (λ ranges. found_count ranges tags) (append-nil before))
-  count-found_after before (range ∷ ranges) tags =
-      let new = newly_found matches before range tags in
-      let later = found_after matches (before ++ range ∷ []) ranges tags in
-      let both = ap length (filter-append test new later) ∙ length-append (filter test new) (filter test later) in
-      let one = count-newly_found before range tags in
-      let others = count-found_after (before ++ range ∷ []) ranges tags in
-      let whole = ap (λ ranges. found_count ranges tags) (append_assoc before (range ∷ []) ranges) in
-      omega (arith, both, one, others, whole)
+-- f says that a range matches a tag, l that a later one does, and b that one before does
+first_found : (f l b : Bool) → (((f || l) && not b) && (f && not b)) ≡ (f && not b)
+first_found true l true = refl
+first_found true l false = refl
+first_found false true true = refl
+first_found false true false = refl
+first_found false false b = refl
 
-  found_count-none : (tags : List LangTag) → found_count [] tags ≡ 0
-  found_count-none [] = refl
-  found_count-none (tag ∷ tags) = grind (arith, found_count-none tags)
+later_found : (f l b : Bool) → (((f || l) && not b) && not (f && not b)) ≡ (l && not (b || (f || false)))
+later_found true true true = refl
+later_found true true false = refl
+later_found true false true = refl
+later_found true false false = refl
+later_found false true true = refl
+later_found false true false = refl
+later_found false false b = refl
 
-pub found_once : (matches : List ℕ → List ℕ → Bool) (ranges : List LanguageRange) (tags : List LangTag) → AreFoundOnce matches ranges tags (filtered matches ranges tags)
-found_once matches ranges tags test =
-    let found = count-found_after matches test [] ranges tags in
-    omega (arith, found, found_count-none matches test tags, length-filter test (filtered matches ranges tags), length-filter (λ tag. test tag && is_found matches ranges tag) tags)
+module _ (matches : List ℕ → List ℕ → Bool) where
+  -- some of the ranges matches a tag, and none before them does
+  abbrev is_new : List LanguageRange → List LanguageRange → LangTag → Bool
+  is_new before ranges tag = is_found matches ranges tag && not (is_found matches before tag)
 
-length-filter_all : (tags : List LangTag) → length (filter (λ tag. true) tags) ≡ length tags
-length-filter_all [] = refl
-length-filter_all (tag ∷ tags) = omega (arith, length-filter_all tags)
+  found_after-permutation :
+      (before ranges : List LanguageRange) (tags : List LangTag) → IsPermutation (filter (is_new before ranges) tags) (found_after matches before ranges tags)
+  found_after-permutation before [] tags = subst (λ none. IsPermutation none []) (sym (filter-none tags)) (IsPermutation-refl [])
+  found_after-permutation before (range ∷ ranges) tags =
+      let here : LangTag → Bool = λ tag. finds matches range tag && not (is_found matches before tag) in
+      let all : LangTag → Bool = is_new before (range ∷ ranges) in
+      let later : LangTag → Bool = is_new (before ++ range ∷ []) ranges in
+      let cut = IsPermutation-filter_both here (λ tag. not (here tag)) (λ tag. refl) (filter all tags) in
+      let first : filter here (filter all tags) ≡ newly_found matches before range tags =
+      filter-filter here all tags
+      ∙ filter-same (λ tag. all tag && here tag) here (λ tag. first_found (finds matches range tag) (is_found matches ranges tag) (is_found matches before tag)) tags in
+      let rest : filter (λ tag. not (here tag)) (filter all tags) ≡ filter later tags =
+      filter-filter (λ tag. not (here tag)) all tags
+      ∙ filter-same (λ tag. all tag && not (here tag)) later (λ tag. later_found (finds matches range tag) (is_found matches ranges tag) (is_found matches before tag) ∙ ap (λ b. is_found matches ranges tag && not b) (sym (list_any-append (λ earlier. finds matches earlier tag) before (range ∷ [])))) tags in
+      IsPermutation-trans _ _ _ cut
+      (subst (λ found. IsPermutation (found ++ filter (λ tag. not (here tag)) (filter all tags)) (found_after matches before (range ∷ ranges) tags)) (sym first)
+      (subst (λ others. IsPermutation (newly_found matches before range tags ++ others) (found_after matches before (range ∷ ranges) tags)) (sym rest)
+      (IsPermutation-append_right (newly_found matches before range tags) _ _ (found_after-permutation (before ++ range ∷ []) ranges tags))))
 
--- so no more are found than there are
-pub few_found : (matches : List ℕ → List ℕ → Bool) (ranges : List LanguageRange) (tags : List LangTag) → length (filtered matches ranges tags) ≤ length tags
-few_found matches ranges tags =
-    let found = filtered matches ranges tags in
-    omega (arith, found_once matches ranges tags (λ tag. true), length-filter (λ tag. true) found, length-filter_all found, count_by-le-length (λ tag. is_found matches ranges tag) tags)
+  pub found_once : (ranges : List LanguageRange) (tags : List LangTag) → AreFoundOnce matches ranges tags (filtered matches ranges tags)
+  found_once ranges tags =
+      let same = filter-same (is_new [] ranges) (is_found matches ranges) (λ tag. and-true (is_found matches ranges tag)) tags in
+      subst (λ found. IsPermutation found (filtered matches ranges tags)) same (found_after-permutation [] ranges tags)
+
+  -- so no more are found than there are
+  pub few_found : (ranges : List LanguageRange) (tags : List LangTag) → length (filtered matches ranges tags) ≤ length tags
+  few_found ranges tags =
+      let found = filter (is_found matches ranges) tags in
+      omega (arith, length_permutation found (filtered matches ranges tags) (found_once ranges tags), length-filter (is_found matches ranges) tags, count_by-le-length (is_found matches ranges) tags)

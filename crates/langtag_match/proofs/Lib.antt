@@ -1,13 +1,13 @@
 pub mod Among
 pub mod AsciiRanges
 pub mod BasicRanges
-pub mod Chains
+pub mod Hyphens
 pub mod Elements
 pub mod Found
 pub mod FoundOnce
 pub mod Offsets
-pub mod Plain
 pub mod Prefixes
 pub mod Readings
 pub mod Spaces
 pub mod Thousandths
+pub mod Wildcards

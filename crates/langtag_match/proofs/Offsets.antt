@@ -1,6 +1,7 @@
 -- The items of a header and their commas: how long they are, and where each stands.
 use Rattle.std.proofs.Common.{◌≡◌, ℕ, zero, suc, ◌+◌, ◌<◌, Bool, true, false, List, [], ◌∷◌, ◌++◌, Some, length, take, refl, sym, ap, ◌∙◌, subst, cond, arith}
 use Rattle.std.specs.List.{onto_first, slice_get, slice_split, sum_by, count_by}
+use Rattle.std.proofs.lemmas.List.{nil_from_length}
 use Rattle.std.proofs.lemmas.List.Splits.{slice_split-cons_yes, slice_split-cons_no, length-slice_split}
 use Rattle.std.proofs.lemmas.List.Sums.{sum_by-append}
 use Rattle.langtag_match.specs.AcceptLanguage.{is_comma, items, StandsAt}
@@ -35,10 +36,6 @@ Stands text all = (index : ℕ) (item : List ℕ) → slice_get all index ≡ So
 commas-cons : (b : ℕ) (text : List ℕ) → count_by is_comma (b ∷ text) ≡ cond (is_comma b) 1 0 + count_by is_comma text
 commas-cons b text = sum_by-cons (λ b. cond (is_comma b) 1 0) b text
 
-empty_from_length : (text : List ℕ) → length text ≡ 0 → text ≡ []
-empty_from_length [] none = refl
-empty_from_length (b ∷ text) none = absurd (omega (arith, none))
-
 -- one more byte before all items, which is a comma
 stands_after_comma : (b : ℕ) (text : List ℕ) (all : List (List ℕ)) → is_comma b ≡ true → Stands text all → Stands (b ∷ text) ([] ∷ all)
 stands_after_comma b text all comma others zero item is =
@@ -57,7 +54,7 @@ stands_after_byte b text [] some other others index item is = absurd (omega (ari
 stands_after_byte b text (first ∷ all) some other others zero item is =
     let (before, after, cut, commas, bytes) = others zero first refl in
     let here : b ∷ first ≡ item = cc in
-    let from_start : text ≡ first ++ after = cut ∙ ap (λ t. t ++ (first ++ after)) (empty_from_length before bytes) in
+    let from_start : text ≡ first ++ after = cut ∙ ap (λ t. t ++ (first ++ after)) (nil_from_length before bytes) in
     ([], after, ap (λ t. b ∷ t) from_start ∙ ap (λ t. t ++ after) here, refl, refl)
 stands_after_byte b text (first ∷ all) some other others (suc index) item is =
     let (before, after, cut, commas, bytes) = others (suc index) item is in

@@ -3,12 +3,12 @@ use Rattle.std.proofs.Common.{◌≡◌, ℕ, ◌+◌, ◌-◌, ◌*◌, ◌≤�
 use Rattle.std.specs.Int.{is_in_range}
 use Rattle.std.specs.List.{list_all}
 use Rattle.std.proofs.lemmas.Bool.{and_parts, or_cases, leb-true}
-use Rattle.langtag_match.specs.Weight.{is_fraction, is_qvalue, IsInThousandths}
+use Rattle.langtag_match.specs.Weight.{is_fraction, is_qvalue, thousandths}
 
 -- up to three digits after the point, each in its place
-pub in_places :
+in_places :
     (whole : ℕ) (fraction : List ℕ) → length fraction ≤ 4 →
-    IsInThousandths (whole ∷ fraction) (1000 * (whole - 48) + 100 * (get_or fraction 1 48 - 48) + 10 * (get_or fraction 2 48 - 48) + (get_or fraction 3 48 - 48))
+    1000 * (whole - 48) + 100 * (get_or fraction 1 48 - 48) + 10 * (get_or fraction 2 48 - 48) + (get_or fraction 3 48 - 48) ≡ thousandths (whole ∷ fraction)
 in_places whole [] few = omega arith
 in_places whole (point ∷ []) few = omega arith
 in_places whole (point ∷ a ∷ []) few = omega arith
@@ -25,7 +25,7 @@ fraction_short greatest (point ∷ digits) is =
 
 pub thousandths_of :
     (qvalue : List ℕ) → is_qvalue qvalue ≡ true →
-    IsInThousandths qvalue (1000 * (get_or qvalue 0 48 - 48) + 100 * (get_or qvalue 2 48 - 48) + 10 * (get_or qvalue 3 48 - 48) + (get_or qvalue 4 48 - 48))
+    1000 * (get_or qvalue 0 48 - 48) + 100 * (get_or qvalue 2 48 - 48) + 10 * (get_or qvalue 3 48 - 48) + (get_or qvalue 4 48 - 48) ≡ thousandths qvalue
 thousandths_of [] is = absurd cc
 thousandths_of (whole ∷ fraction) is = elim (or_cases (eqb whole 48 && is_fraction 57 fraction) (eqb whole 49 && is_fraction 48 fraction) is) [
   | inl zero ↦ in_places whole fraction (fraction_short 57 fraction (and_parts (eqb whole 48) (is_fraction 57 fraction) zero).1)

@@ -1,4 +1,4 @@
--- The range types: their `==`, `cmp` and `hash` go by their texts, folded (RFC 4647 section 2: ranges ignore case).
+-- The range types: their `==`, `cmp` and `hash` are those of their folded texts (RFC 4647 section 2: ranges ignore case).
 use Rattle.std.specs.Prelude.{◌≡◌, ◌==◌, ◌&&◌}
 use Rattle.langtag.specs.Case.{are_alike}
 use Rattle.langtag.specs.Compare.{ComparesByCase}

@@ -29,6 +29,7 @@ MatchSubtags [] tag = ⊥
 MatchSubtags (first ∷ others) [] = ⊥
 MatchSubtags (first ∷ others) (subtag ∷ subtags) = IsTrue (matches_subtag first subtag) × StandAmong (without_stars others) subtags
 
+-- the subtags of a range match those of a tag
 abbrev pub MatchesExtended : List ℕ → List ℕ → Type 0
 MatchesExtended range tag = MatchSubtags (subtags range) (subtags tag)
 
@@ -46,5 +47,6 @@ match_subtags [] tag = false
 match_subtags (first ∷ others) [] = false
 match_subtags (first ∷ others) (subtag ∷ subtags) = matches_subtag first subtag && stand_among (without_stars others) subtags
 
+-- the statement above as a test, which the clause `test` ties to it
 abbrev pub test_extended : List ℕ → List ℕ → Bool
 test_extended range tag = match_subtags (subtags range) (subtags tag)

@@ -1,19 +1,17 @@
--- What is left of a language range when subtags are taken away from its end (RFC 4647 section 3.4).
-use Rattle.std.specs.Prelude.{ℕ, List, [], ◌∷◌, map, reverse, if◌then◌else◌}
-use Rattle.langtag.specs.Subtags.{join, segments}
-use Rattle.langtag_match.specs.Range.{is_single_alphanum}
+-- What a look-up falls back to from a language range, where subtags are taken away from its end (RFC 4647 section 3.4).
+use Rattle.std.specs.Prelude.{ℕ, ◌-◌, ◌==◌, Bool, not, ◌||◌, List, [], ◌∷◌, ◌++◌, length, map, filter, slice_index_or, if◌then◌else◌}
+use Rattle.langtag_match.specs.Range.{is_single}
 
--- subtags, the last one first, without the last, without the last two ..; a single letter or digit is never left as the last
--- one: it is taken away together with the subtag after it
-abbrev pub shortened : List (List ℕ) → List (List (List ℕ))
-shortened [] = []
-shortened (last ∷ before) = if is_single_alphanum last then shortened before else (last ∷ before) ∷ shortened before
+-- what stands before each hyphen of a text, the longest first
+abbrev pub before_hyphens : List ℕ → List (List ℕ)
+before_hyphens [] = []
+before_hyphens (b ∷ text) = map (λ before. b ∷ before) (before_hyphens text) ++ (if b == 45 then [] ∷ [] else [])
 
--- and all of them first, whatever the last one is
-abbrev pub chain : List (List ℕ) → List (List (List ℕ))
-chain [] = []
-chain (last ∷ before) = (last ∷ before) ∷ shortened before
+-- the last subtag of a text is a single character
+abbrev pub ends_in_single : List ℕ → Bool
+ends_in_single text = is_single text || (slice_index_or text (length text - 2) 0 == 45)
 
--- the texts that are looked for, in their order: `zh-Hant-TW`, `zh-Hant`, `zh`
+-- the texts that are looked for, in their order: the range, and what stands before each of its hyphens, but for what ends
+-- in a single character. `zh-Hant-TW`, `zh-Hant`, `zh`
 abbrev pub fallbacks : List ℕ → List (List ℕ)
-fallbacks range = map (λ subtags. join (reverse subtags)) (chain (reverse (segments range)))
+fallbacks range = range ∷ filter (λ text. not (ends_in_single text)) (before_hyphens range)

@@ -1,6 +1,7 @@
 -- Filtering of a list of tags by a language priority list (RFC 4647 section 3.3).
-use Rattle.std.specs.Prelude.{◌≡◌, ℕ, Bool, not, ◌&&◌, List, [], ◌∷◌, ◌++◌, filter, count_by}
+use Rattle.std.specs.Prelude.{ℕ, Bool, not, ◌&&◌, List, [], ◌∷◌, ◌++◌, filter}
 use Rattle.std.specs.List.{list_any}
+use Rattle.std.specs.List.Sorted.{IsPermutation}
 use Rattle.langtag.specs.declared.lang_tag.LangTag.{LangTag}
 use Rattle.langtag.specs.Text.{lang_tag_text}
 use Rattle.langtag_match.specs.declared.language_range.LanguageRange.{LanguageRange}
@@ -24,17 +25,16 @@ abbrev pub found_after : (List ℕ → List ℕ → Bool) → List LanguageRange
 found_after matches before [] tags = []
 found_after matches before (range ∷ ranges) tags = newly_found matches before range tags ++ found_after matches (before ++ range ∷ []) ranges tags
 
--- the tags that some range matches, each where the first range does that matches it, and for one range in their order
+-- the tags that some range matches, grouped by the first range that matches them, within a group in the order of the list
 abbrev pub filtered : (List ℕ → List ℕ → Bool) → List LanguageRange → List LangTag → List LangTag
 filtered matches ranges tags = found_after matches [] ranges tags
 
--- a tag that some range matches is found as often as it stands in the list, and no other is: as many as pass a test, whatever
--- it is
+-- the tags found are those of the list that some range matches, in another order
 abbrev pub AreFoundOnce : (List ℕ → List ℕ → Bool) → List LanguageRange → List LangTag → List LangTag → Type 0
-AreFoundOnce matches ranges tags found =
-    (test : LangTag → Bool) → count_by test found ≡ count_by (λ tag. test tag && is_found matches ranges tag) tags
+AreFoundOnce matches ranges tags found = IsPermutation (filter (is_found matches ranges) tags) found
 
--- what is left when some tags were looked at for the first of the ranges, and all for those before
+-- what a walk has still to return: the first of the ranges has still to look at `left`, the later ones at all tags, and those
+-- `before` are done
 abbrev pub found_from :
     (List ℕ → List ℕ → Bool) → List LanguageRange → List LanguageRange → List LangTag → List LangTag → List LangTag
 found_from matches before [] left tags = []

@@ -6,14 +6,14 @@ use Rattle.langtag_match.specs.Extended.{test_extended}
 use Rattle.langtag_match.specs.Filter.{found_from}
 use Rattle.langtag_match.specs.declared.filter_rule.FilterRule.{FilterRule}
 use Rattle.langtag_match.specs.declared.filter_rule.FilterRule.TheVariants.{Basic, Extended}
-use Rattle.langtag_match.specs.declared.filtered.Filtered.{Filtered}
+use Rattle.langtag_match.specs.declared.filter.Filtered.{Filtered}
 
 -- whether a range matches a tag by a rule
 abbrev pub matches_by : FilterRule → List ℕ → List ℕ → Bool
 matches_by Basic range tag = test_basic range tag
 matches_by Extended range tag = test_extended range tag
 
--- the tags that a walk has still to hand out
+-- the tags that a walk has left to return
 abbrev pub filtered_left : Filtered → List LangTag
 filtered_left walk =
     found_from (matches_by walk.rule) (take walk.range_index walk.ranges.now) (drop walk.range_index walk.ranges.now)

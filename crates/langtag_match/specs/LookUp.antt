@@ -1,19 +1,32 @@
 -- Look-up of a tag for a list of language ranges (RFC 4647 section 3.4).
-use Rattle.std.specs.Prelude.{ℕ, List, [], ◌∷◌, Option, None, find, unwrap_or}
+use Rattle.std.specs.Prelude.{ℕ, ◌==◌, ◌&&◌, Bool, false, if◌then◌else◌, List, [], ◌∷◌, Option, None, find, unwrap_or}
 use Rattle.std.specs.Option.{option_or}
 use Rattle.langtag.specs.Case.{are_alike}
 use Rattle.langtag.specs.declared.lang_tag.LangTag.{LangTag}
 use Rattle.langtag.specs.Text.{lang_tag_text}
 use Rattle.langtag_match.specs.Fallback.{fallbacks}
 
--- the first of the tags that is a text, in any case
-abbrev pub tag_alike : List LangTag → List ℕ → Option LangTag
-tag_alike tags text = find (λ tag. are_alike (lang_tag_text tag) text) tags
+-- a text begins with "-*"
+abbrev pub begins_with_wildcard : List ℕ → Bool
+begins_with_wildcard [] = false
+begins_with_wildcard (a ∷ []) = false
+begins_with_wildcard (a ∷ b ∷ text) = (a == 45) && (b == 42)
 
--- the tag of the first of some texts that is one of the tags
+-- the basic range for an extended one: each "-*" is left out (section 3.2). A range that begins with "*" equals no tag, so that
+-- it needs no case of its own
+abbrev pub basic_form : List ℕ → List ℕ
+basic_form [] = []
+basic_form (a ∷ []) = a ∷ []
+basic_form (a ∷ b ∷ text) = if begins_with_wildcard (a ∷ b ∷ text) then basic_form text else a ∷ basic_form (b ∷ text)
+
+-- the first of the tags that is a range in its basic form, ignoring case
+abbrev pub tag_alike : List LangTag → List ℕ → Option LangTag
+tag_alike tags range = find (λ tag. are_alike (lang_tag_text tag) (basic_form range)) tags
+
+-- the tag of the first of some ranges that is one of the tags
 abbrev pub first_alike : List LangTag → List (List ℕ) → Option LangTag
 first_alike tags [] = None
-first_alike tags (text ∷ texts) = option_or (tag_alike tags text) (first_alike tags texts)
+first_alike tags (range ∷ ranges) = option_or (tag_alike tags range) (first_alike tags ranges)
 
 -- the tag of the first range of which a fallback is one of the tags, or the default
 abbrev pub choice : List LangTag → LangTag → List (List ℕ) → LangTag

@@ -1,10 +1,8 @@
 -- Language ranges (RFC 4647 section 2).
-use Rattle.std.specs.Prelude.{ℕ, ◌==◌, Bool, false, not, ◌&&◌, ◌||◌, List, [], ◌∷◌, length}
-use Rattle.std.specs.Char.{is_ascii_alphabetic}
-use Rattle.std.specs.Int.{is_in_range}
+use Rattle.std.specs.Prelude.{ℕ, ◌==◌, Bool, false, ◌&&◌, ◌||◌, List, [], ◌∷◌, length}
 use Rattle.std.specs.List.{list_all}
 use Rattle.std.specs.Str.{bytes_eq}
-use Rattle.langtag.specs.Class.{is_private_subtag}
+use Rattle.langtag.specs.Class.{has_length, are_letters, is_private_subtag}
 use Rattle.langtag.specs.Subtags.{subtags}
 
 -- "*"
@@ -15,17 +13,9 @@ is_star text = bytes_eq text (42 ∷ [])
 abbrev pub is_single : List ℕ → Bool
 is_single subtag = length subtag == 1
 
--- a single letter or digit of a range, where a single character may be "*" also
-abbrev pub is_single_alphanum : List ℕ → Bool
-is_single_alphanum subtag = is_single subtag && not (is_star subtag)
-
--- ALPHA alone
-abbrev pub are_letters : List ℕ → Bool
-are_letters subtag = list_all is_ascii_alphabetic subtag
-
 -- 1*8ALPHA
 abbrev pub is_first_subtag : List ℕ → Bool
-is_first_subtag subtag = is_in_range 1 8 (length subtag) && are_letters subtag
+is_first_subtag subtag = has_length 1 8 subtag && are_letters subtag
 
 -- 1*8alphanum / "*"
 abbrev pub is_range_subtag : List ℕ → Bool

@@ -23,7 +23,7 @@ language_range_buf_text range = string_bytes (language_range_buf_string range)
 abbrev pub weighted_range_text : WeightedRange → List ℕ
 weighted_range_text weighted = language_range_text weighted.range
 
--- the texts that a walk has still to hand out
+-- the texts that a walk has left to return
 abbrev pub fallbacks_left : Fallbacks → List (List ℕ)
 fallbacks_left walk = option_map_or (λ range. fallbacks (language_range_text range)) walk.rest []
 

@@ -1,8 +1,7 @@
 -- The weight of an element, weight = OWS ";" OWS "q=" qvalue (RFC 9110 section 12.4.2).
-use Rattle.std.specs.Prelude.{◌≡◌, ℕ, ◌+◌, ◌-◌, ◌*◌, ◌^◌, ◌==◌, Bool, true, false, ◌&&◌, ◌||◌, IsTrue, List, [], ◌∷◌, ◌++◌, length, fold, drop}
+use Rattle.std.specs.Prelude.{ℕ, ◌+◌, ◌-◌, ◌*◌, ◌/◌, ◌^◌, ◌==◌, Bool, true, false, ◌&&◌, ◌||◌, if◌then◌else◌, List, [], ◌∷◌, Option, Some, None, length, fold, drop}
 use Rattle.std.specs.Int.{is_in_range}
 use Rattle.std.specs.List.{list_all}
-use Rattle.std.specs.Str.{bytes_eq}
 
 -- [ "." 0*3DIGIT ], of the digits up to a greatest one
 abbrev pub is_fraction : ℕ → List ℕ → Bool
@@ -19,17 +18,16 @@ abbrev pub decimal : List ℕ → ℕ
 decimal digits = fold (λ number digit. 10 * number + (digit - 48)) 0 digits
 
 -- the value of a qvalue in thousandths: with k digits after the point it is what all its digits write, over 10 ^ k
-abbrev pub IsInThousandths : List ℕ → ℕ → Type 0
-IsInThousandths [] weight = ⊥
-IsInThousandths (whole ∷ fraction) weight =
-    let places = drop 1 fraction in weight * 10 ^ length places ≡ 1000 * decimal (whole ∷ places)
+abbrev pub thousandths : List ℕ → ℕ
+thousandths [] = 0
+thousandths (whole ∷ fraction) = let places = drop 1 fraction in 1000 * decimal (whole ∷ places) / 10 ^ length places
 
--- "q" in either case
-abbrev pub is_q : List ℕ → Bool
-is_q name = bytes_eq name (113 ∷ []) || bytes_eq name (81 ∷ [])
+-- "q"; a name ignores case
+abbrev pub is_q : ℕ → Bool
+is_q b = (b == 113) || (b == 81)
 
--- "q=" qvalue, of this value in thousandths
-abbrev pub IsWeight : List ℕ → ℕ → Type 0
-IsWeight text weight =
-    (name : List ℕ) × (qvalue : List ℕ) × (text ≡ name ++ 61 ∷ qvalue) ×
-    IsTrue (is_q name) × IsTrue (is_qvalue qvalue) × IsInThousandths qvalue weight
+-- "q=" qvalue, in thousandths
+abbrev pub weight : List ℕ → Option ℕ
+weight [] = None
+weight (name ∷ []) = None
+weight (name ∷ equals ∷ qvalue) = if is_q name && (equals == 61) && is_qvalue qvalue then Some (thousandths qvalue) else None

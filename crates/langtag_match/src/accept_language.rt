@@ -1,17 +1,17 @@
 //! The language ranges that an Accept-Language header asks for (RFC 9110 section 12.5.4).
-ghost use Rattle.std.specs.Prelude.{◌≡◌, ℕ, List, Some, IfOk, IfErr, slice_get};
+ghost use Rattle.std.specs.Prelude.{◌≡◌, ℕ, List, Some, IsTrue, true, is_ok, IfOk, IfErr, map, slice_get};
 ghost use Rattle.langtag_match.specs.AcceptLanguage as spec;
 ghost use Rattle.langtag_match.specs.LookUp.{choice};
 ghost use Rattle.langtag_match.specs.declared.weighted_range.WeightedRange.{WeightedRange};
 
 use crate::accept_language_error::AcceptLanguageError;
-use crate::choice::tag_for;
+use crate::lookup::tag_for;
 use crate::weighted_range::{WeightedRange, element_of};
 use langtag::LangTag;
 use std::alloc::{AllocError, Global};
 use std::cmp::Reverse;
 
-/// The ranges that a header accepts, those that are wanted most first: of `fr;q=0.5, de, *;q=0` they are `de` with the
+/// The ranges that a header accepts, those of the greatest weight first: of `fr;q=0.5, de, *;q=0` they are `de` with the
 /// weight 1000 and `fr` with 500.
 #[derive(Debug, Drop)]
 pub struct AcceptLanguage<'a> {
@@ -22,13 +22,13 @@ impl<'a> AcceptLanguage<'a> {
     ghost use Rattle.langtag_match.specs.Compared.{WeightedRangesCompareByBoth};
     ghost use Rattle.langtag_match.specs.Text.{accept_language_ranges};
 
-    /// The ranges of a header without those of weight 0, which are not acceptable. Ranges of one weight stay in their order,
-    /// and empty elements count for nothing: `AcceptLanguage::new(alloc, ",de,")` is Ok.
+    /// Reads a header, and leaves out the ranges of weight 0, which are not acceptable. Ranges of one weight keep their
+    /// order, and empty elements are passed over: `AcceptLanguage::new(alloc, ",de,")` is Ok.
     ///
     /// # Errors
     ///
-    /// A header with an element that is no basic language range with or without a weight is refused as a whole, and comes
-    /// back; or no memory could be had.
+    /// Refuses a whole header for one element that is neither empty nor a basic language range with or without a weight, and
+    /// returns it with the offset of the first such element; or out of memory.
     pub fn new(
         alloc: Global,
         header: &'a str,
@@ -38,25 +38,46 @@ impl<'a> AcceptLanguage<'a> {
 
         ensures one_reading { spec.HasOneReading header.now }
     {
-        let mut ranges = elements(alloc, header)?;
+        let read = elements(alloc, header)?;
+        Ok(AcceptLanguage::by_weight(read)?)
+    }
+
+    /// Reads a header as [`AcceptLanguage::new`] does, and passes bad elements over: of `de, *-CH` it takes `de`.
+    ///
+    /// # Errors
+    ///
+    /// Out of memory.
+    pub fn lenient(alloc: Global, header: &'a str) -> Result<AcceptLanguage<'a>, AllocError>
+        ensures { IfOk result (λ accepted. spec.AreElements header.now (accept_language_ranges accepted)) }
+    {
+        let read = good_elements(alloc, header)?;
+        AcceptLanguage::by_weight(read)
+    }
+
+    /// Leaves out the elements of weight 0, and sorts the others by falling weight.
+    fn by_weight(elements: Vec<WeightedRange<'a>>) -> Result<AcceptLanguage<'a>, AllocError>
+        ensures { IfOk result (λ accepted. spec.IsByWeight (spec.acceptable (map spec.reading elements.entry.items)) (map spec.reading (accept_language_ranges accepted))) }
+    {
+        let mut ranges = elements;
         ranges.retain(|weighted| weighted.weight > 0);
         ranges.sort_by_key(|weighted| Reverse(weighted.weight))?;
         Ok(AcceptLanguage { ranges })
     }
 
-    /// The ranges, those that are wanted most first: `ranges()[0].range.as_str()` is `"de"` for `fr;q=0.5, de`. The contract
-    /// also pins when two of them are equal, and that a clone of one is the same.
+    /// Returns the ranges, those of the greatest weight first: `ranges()[0].range.as_str()` is `"de"` for `fr;q=0.5, de`.
+    /// The contract also says when two of them are equal, and that a clone of one is the same.
     pub fn ranges(&self) -> &[WeightedRange<'a>]
         ensures list { result.now ≡ accept_language_ranges self.now }
 
         ensures compared { WeightedRangesCompareByBoth }
         ensures cloned { (weighted copy : WeightedRange) → ⟦<WeightedRange<'a> as Clone>⟧.is_clone weighted copy → copy ≡ weighted }
+        ensures clone_succeeds { (weighted : WeightedRange) → ⟦<WeightedRange<'a> as Clone>⟧.is_infallible weighted }
     {
         self.ranges.as_slice()
     }
 
-    /// The tag that is looked up for the ranges, or the default, as [`look_up`](crate::look_up) has it: `de-CH` for
-    /// `fr;q=0.3, DE-ch-1996;q=0.9`, where `de-CH` and `fr` are at hand.
+    /// Looks up a tag for the ranges, or returns the default, as [`look_up`](crate::look_up) does: `de-CH` for
+    /// `fr;q=0.3, DE-ch-1996;q=0.9` and the tags `de-CH` and `fr`.
     pub fn look_up<'t>(&self, tags: &[LangTag<'t>], default: LangTag<'t>) -> LangTag<'t>
         ensures { result ≡ choice tags.now default.entry (spec.range_texts (accept_language_ranges self.now)) }
     {
@@ -69,13 +90,13 @@ impl<'a> AcceptLanguage<'a> {
     }
 }
 
-/// The tag that is looked up for a header: `AcceptLanguage::new` and `look_up` in one call.
+/// Looks up a tag for a header: `AcceptLanguage::new` and `look_up` in one call.
 ///
-/// For `fr;q=0.3, DE-ch-1996;q=0.9` it is `de-CH`, where `de-CH` and `fr` are at hand.
+/// For `fr;q=0.3, DE-ch-1996;q=0.9` and the tags `de-CH` and `fr` it is `de-CH`.
 ///
 /// # Errors
 ///
-/// As [`AcceptLanguage::new`].
+/// Those of [`AcceptLanguage::new`].
 pub fn tag_for_header<'h, 't>(
     alloc: Global,
     header: &'h str,
@@ -90,37 +111,51 @@ pub fn tag_for_header<'h, 't>(
     Ok(accepted.look_up(tags, default))
 }
 
-/// The elements of a header, in order.
+/// Returns the elements of a header, in order.
 fn elements(alloc: Global, header: &str) -> Result<Vec<WeightedRange<'_>>, AcceptLanguageError<'_>>
-    ensures elements { IfOk result (λ elements. spec.AreElements (spec.items header.now) elements.items) }
+    ensures good { is_ok result ≡ true → IsTrue (spec.are_good (spec.items header.now)) }
+    ensures elements { IfOk result (λ elements. map spec.reading elements.items ≡ spec.elements (spec.items header.now)) }
     ensures refused { IfErr result (spec.Refuses header.entry) }
 {
     let mut elements = Vec::new(alloc);
     for (index, item) in header.split(',').enumerate() {
-        if is_ows(item) {
-            continue;
+        match element_of(item) {
+            Ok(element) => elements.push(element).map_err(AllocError::from)?,
+            Err(_) if is_ows(item) => {}
+            Err(part) => {
+                return Err(AcceptLanguageError::BadElement {
+                    header,
+                    index,
+                    offset: offset_of(header, index),
+                    part,
+                });
+            }
         }
-        let Some(element) = element_of(item) else {
-            let offset = offset_of(header, index);
-            return Err(AcceptLanguageError::BadElement {
-                header,
-                index,
-                offset,
-            });
-        };
-        elements.push(element).map_err(AllocError::from)?;
     }
     Ok(elements)
 }
 
-/// Whether a text is white space alone.
+/// Returns the elements of a header, in order, and passes over what is bad.
+fn good_elements(alloc: Global, header: &str) -> Result<Vec<WeightedRange<'_>>, AllocError>
+    ensures { IfOk result (λ elements. map spec.reading elements.items ≡ spec.elements (spec.items header.now)) }
+{
+    let mut elements = Vec::new(alloc);
+    for item in header.split(',') {
+        if let Ok(element) = element_of(item) {
+            elements.push(element).map_err(AllocError::from)?;
+        }
+    }
+    Ok(elements)
+}
+
+/// Returns whether a text is white space alone.
 fn is_ows(text: &str) -> bool
     ensures { result ≡ spec.is_ows text.now }
 {
     text.as_bytes().iter().all(|b| *b == b' ' || *b == b'\t')
 }
 
-/// How many bytes stand before the item at an index.
+/// Returns how many bytes stand before the item at an index.
 fn offset_of(header: &str, index: usize) -> usize
     ensures { (item : List ℕ) → slice_get (spec.items header.now) index ≡ Some item
         → spec.StandsAt header.now item index result }

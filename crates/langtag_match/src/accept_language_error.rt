@@ -1,22 +1,42 @@
-//! Why an Accept-Language header was not read.
+//! Why an Accept-Language header was refused.
 ghost use Rattle.std.specs.Prelude.{◌≡◌};
 ghost use Rattle.langtag_match.specs.declared.accept_language_error.AcceptLanguageError.TheVariants.{Memory};
 
 use std::alloc::AllocError;
+use std::fmt;
 use thiserror::Error;
 
-/// Why a header was refused: `de, *-CH` is a `BadElement` with the index 1 and the offset 3.
+/// The part of an element that is bad: of `de-` its language range, of `de;q=2` its weight. Where both are, it is the range.
+#[derive(Debug, Drop)]
+pub enum ElementPart {
+    /// What stands before the `;`, or the whole element without one, is not a basic language range.
+    Range,
+    /// What stands after the `;` is not a weight.
+    Weight,
+}
+
+impl fmt::Display for ElementPart {
+    fn fmt<W: fmt::Write>(&self, f: &mut fmt::Formatter<W>) -> fmt::Result {
+        f.write_str(match self {
+            ElementPart::Range => "language range",
+            ElementPart::Weight => "weight",
+        })
+    }
+}
+
+/// Why a header was refused: `de, *-CH` is a `BadElement` with the index 1, the offset 3 and [`ElementPart::Range`].
 #[derive(Debug, Drop, Error)]
 pub enum AcceptLanguageError<'a> {
-    /// The header, how many commas stand before its first bad element, and how many bytes stand up to and with the last of
-    /// these.
-    #[error("element {index} is no language range with or without a weight")]
+    /// The header; of its first bad element the index, which counts the commas before it, the offset in bytes just after
+    /// the last of these, and the part that is bad.
+    #[error("element {index} has a bad {part}")]
     BadElement {
         header: &'a str,
         index: usize,
         offset: usize,
+        part: ElementPart,
     },
-    /// No memory could be had for the list. Nothing is lost: the caller has the header still.
+    /// Out of memory for the list. The caller has the header still.
     #[error("out of memory")]
     Memory(AllocError),
 }

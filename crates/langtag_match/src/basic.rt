@@ -4,14 +4,14 @@ ghost use Rattle.langtag_match.specs.Basic as spec;
 
 use langtag::case_insensitive_eq;
 
-/// Whether a range is `*`, or a tag is equal to it but for case, or begins so and goes on with a hyphen.
+/// Returns whether a range is `*`, or a tag is equal to it but for case, or begins so and goes on with a hyphen.
 pub(crate) fn matches_basic(range: &str, tag: &str) -> bool
     ensures { IsTrue result ↔ spec.MatchesBasic range.now tag.now }
 {
     range == "*" || begins_with(tag.as_bytes(), range.as_bytes())
 }
 
-/// Whether a tag is a range but for case, or begins so and goes on with a hyphen.
+/// Returns whether a tag is a range but for case, or begins so and goes on with a hyphen.
 fn begins_with(tag: &[u8], range: &[u8]) -> bool
     ensures { IsTrue result ↔ spec.BeginsWith range.now tag.now }
 {

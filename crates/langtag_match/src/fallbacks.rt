@@ -1,10 +1,9 @@
 //! What is left of a language range when subtags are taken away from its end (RFC 4647 section 3.4).
-ghost use Rattle.std.specs.Prelude.{◌≡◌, ◌<◌, ◌^◌, ◌++◌, ◌∷◌, ℕ, List, [], length, IfSome};
+ghost use Rattle.std.specs.Prelude.{◌≡◌, ◌<◌, ◌^◌, ◌∷◌, [], length, IfSome, IsTrue};
 ghost use Rattle.std.specs.Iterator.{YieldsFirstBy, item_count};
 ghost use Rattle.std.specs.Option.{option_map_or};
-ghost use Rattle.langtag.specs.Subtags.{segments, segments_left};
 ghost use Rattle.langtag_match.specs.Fallback as spec;
-ghost use Rattle.langtag_match.specs.Range.{is_single_alphanum};
+ghost use Rattle.langtag_match.specs.Range.{is_language_range};
 ghost use Rattle.langtag_match.specs.Text.{language_range_text, fallbacks_left};
 
 use crate::language_range::LanguageRange;
@@ -13,15 +12,16 @@ use langtag::segment_start;
 /// What is left of a range when subtags are taken away from its end, the longest first and the range itself before all:
 /// `zh-Hant-TW`, `zh-Hant` and `zh` (RFC 4647 section 3.4).
 ///
-/// A single letter or digit goes with the subtag after it: `de-CH-x-a` is followed by `de-CH`.
+/// A single letter or digit goes with the subtag after it, and so does `*`: `de-CH-x-a` is followed by `de-CH`, and
+/// `de-*-DE` by `de`.
 #[derive(Clone, Debug, Drop)]
 pub struct Fallbacks<'a> {
     rest: Option<LanguageRange<'a>>,
 }
 
 impl<'a> Fallbacks<'a> {
-    /// The fallbacks of a range.
-    #[tactic(auto, using(crate::proofs::Chains::few_fallbacks))]
+    /// Starts at the range itself.
+    #[tactic(auto, using(crate::proofs::Hyphens::few_fallbacks))]
     pub(crate) fn new(range: LanguageRange<'a>) -> Self
         ensures list { fallbacks_left result ≡ spec.fallbacks (language_range_text range.entry) }
         ensures few { length (fallbacks_left result) < 2 ^ 64 }
@@ -44,7 +44,7 @@ impl<'a> Iterator for Fallbacks<'a> {
     }
 }
 
-/// What is left of a range without its last subtag, and without each single letter or digit that would stand last then.
+/// Returns what is left of a range without its last subtag, and without each single character that would stand last then.
 fn shortened(range: LanguageRange<'_>) -> Option<LanguageRange<'_>>
     ensures { spec.fallbacks (language_range_text range.entry) ≡ language_range_text range.entry
         ∷ option_map_or (λ shorter. spec.fallbacks (language_range_text shorter)) result [] }
@@ -59,10 +59,11 @@ fn shortened(range: LanguageRange<'_>) -> Option<LanguageRange<'_>>
     None
 }
 
-/// What stands before the last subtag of a text and its hyphen, where there is a hyphen.
+/// Returns what stands before the last hyphen of a text.
 fn without_last(text: &str) -> Option<&str>
-    ensures cut { (last : List ℕ) × (segments text.now ≡ segments_left result ++ last ∷ []) }
+    ensures cut { spec.before_hyphens text.now ≡ option_map_or (λ before. before.now ∷ spec.before_hyphens before.now) result [] }
     ensures shorter { IfSome result (λ before. length before.now < length text.now) }
+    ensures in_class { IfSome result (λ before. IsTrue (is_language_range text.now) → IsTrue (is_language_range before.now)) }
 {
     let start = segment_start(text.as_bytes(), text.len());
     if start == 0 {
@@ -71,17 +72,9 @@ fn without_last(text: &str) -> Option<&str>
     Some(&text[..start - 1])
 }
 
-/// Whether the last subtag of a text is a single letter or digit.
+/// Returns whether the last subtag of a text is a single character.
 fn ends_in_single(text: &str) -> bool
-    ensures { (before : List (List ℕ)) × (last : List ℕ) × (segments text.now ≡ before ++ last ∷ []) × (result ≡ is_single_alphanum last) }
+    ensures { result ≡ spec.ends_in_single text.now }
 {
-    let bytes = text.as_bytes();
-    is_single_alphanum(&bytes[segment_start(bytes, bytes.len())..])
-}
-
-/// Whether a subtag of a range is a single letter or digit, and not `*`.
-fn is_single_alphanum(subtag: &[u8]) -> bool
-    ensures { result ≡ is_single_alphanum subtag.now }
-{
-    matches!(subtag, [single] if *single != b'*')
+    matches!(text.as_bytes(), [_] | [.., b'-', _])
 }

@@ -7,7 +7,7 @@ ghost use Rattle.langtag_match.specs.Text.{language_range_text};
 use crate::language_range::LanguageRange;
 use langtag::LangTag;
 
-/// By which rule a range matches a tag.
+/// The rule by which a range matches a tag.
 #[derive(Clone, Copy, Debug)]
 pub(crate) enum FilterRule {
     /// That of basic filtering (section 3.3.1).
@@ -17,7 +17,7 @@ pub(crate) enum FilterRule {
 }
 
 impl FilterRule {
-    /// Whether a range matches a tag by the rule.
+    /// Returns whether a range matches a tag by the rule.
     pub(crate) fn matches(self, range: LanguageRange<'_>, tag: LangTag<'_>) -> bool
         ensures { result ≡ matches_by self (language_range_text range.entry) (lang_tag_text tag.entry) }
     {

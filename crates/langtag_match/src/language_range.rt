@@ -1,4 +1,4 @@
-//! Language ranges (RFC 4647 section 2), lent and owned.
+//! Language ranges (RFC 4647 section 2), borrowed and owned.
 ghost use Rattle.std.specs.Prelude.{◌≡◌, ◌<◌, ◌^◌, ◌↔◌, Some, IsTrue, IfOk, IfErr, is_ok, length};
 ghost use Rattle.std.specs.String.{string_bytes};
 ghost use Rattle.langtag.specs.Case.{are_alike};
@@ -19,7 +19,7 @@ use std::fmt;
 use std::fmt::Debug;
 use thiserror::Error;
 
-/// A text that is no language range. It hands the text back.
+/// The error for a text that is not a language range. It holds the text.
 #[derive(Debug, Drop, Error)]
 #[error("invalid language range")]
 #[error_bound(T: Debug + Drop)]
@@ -28,7 +28,7 @@ pub struct InvalidLanguageRange<T>(pub T);
 /// A language range, basic or extended (RFC 4647 sections 2.1 and 2.2): `de-CH`, `*`, `*-CH`, `de-*-DE`.
 ///
 /// It is one or more subtags of up to eight letters or digits, the first of letters alone, and in the place of each may
-/// stand `*`. A range need be no tag: `de-x` and `a-1` are ranges. Two ranges are equal where their texts differ at most
+/// stand `*`. A range need not be a tag: `de-x` and `a-1` are ranges. Two ranges are equal where their texts differ at most
 /// in the case of ASCII letters.
 #[derive(Clone, Copy, Debug, PartialEq, Eq, PartialOrd, Ord, Hash)]
 pub struct LanguageRange<'a> {
@@ -40,11 +40,11 @@ impl<'a> LanguageRange<'a> {
     ghost use Rattle.langtag_match.specs.Compared.{LanguageRangesCompareByCase};
     ghost use Rattle.langtag_match.specs.Text.{language_range_text, language_range_buf_text, fallbacks_left};
 
-    /// The range of a text: `LanguageRange::new("de-*-DE")` is Ok.
+    /// Reads a text as a range: `LanguageRange::new("de-*-DE")` is Ok.
     ///
     /// # Errors
     ///
-    /// A text that is no range comes back: `LanguageRange::new("de_DE")` is `Err(InvalidLanguageRange("de_DE"))`.
+    /// Returns the text where it is not a range: `LanguageRange::new("de_DE")` is `Err(InvalidLanguageRange("de_DE"))`.
     pub fn new(text: &'a str) -> Result<LanguageRange<'a>, InvalidLanguageRange<&'a str>>
         ensures accepts { is_ok result ≡ spec.is_language_range text.now }
         ensures same_text { IfOk result (λ range. language_range_text range ≡ text.now) }
@@ -56,7 +56,7 @@ impl<'a> LanguageRange<'a> {
         Ok(LanguageRange::from_checked(text))
     }
 
-    /// The range of a text that is known to be one: it is not looked at again.
+    /// Makes a range of a text that is known to be one, and does not read it again.
     /// `LanguageRange::from_checked(range.as_str())` is equal to `range`.
     pub fn from_checked(text: &'a str) -> LanguageRange<'a>
         requires { IsTrue (spec.is_language_range text.now) }
@@ -67,7 +67,7 @@ impl<'a> LanguageRange<'a> {
         }
     }
 
-    /// The text, with its case: `LanguageRange::new("de-ch")?.as_str()` is `"de-ch"`.
+    /// Returns the text, with its case: `LanguageRange::new("de-ch")?.as_str()` is `"de-ch"`.
     pub fn as_str(&self) -> &'a str
         ensures same_text { result.now ≡ language_range_text self.now }
         ensures in_class { IsTrue (spec.is_language_range result.now) }
@@ -75,9 +75,8 @@ impl<'a> LanguageRange<'a> {
         self.text.0
     }
 
-    /// Whether another text, of any form, is equal but for the case of ASCII letters:
-    /// `LanguageRange::new("de-CH")?.eq_str("DE-ch")` is true. The contract also pins that ranges are compared, ordered
-    /// and hashed so, and that a clone is the range itself.
+    /// Returns whether any text is equal but for the case of ASCII letters: `LanguageRange::new("de-CH")?.eq_str("DE-ch")`
+    /// is true. The contract also says that ranges compare and hash so, and that a clone is the range itself.
     pub fn eq_str(&self, other: &str) -> bool
         ensures test { result ≡ are_alike (language_range_text self.now) other.now }
 
@@ -88,17 +87,17 @@ impl<'a> LanguageRange<'a> {
         self.text == Caseless(other)
     }
 
-    /// Whether the range is a basic one (RFC 4647 section 2.1): true of `de-CH` and of `*`, false of `*-CH`.
+    /// Returns whether the range is a basic one (RFC 4647 section 2.1): true of `de-CH` and of `*`, false of `*-CH`.
     pub fn is_basic(&self) -> bool
         ensures { result ≡ spec.is_basic_range (language_range_text self.now) }
     {
         is_basic_range(self.as_str())
     }
 
-    /// Whether the range matches a tag by basic filtering (RFC 4647 section 3.3.1): `de-DE` matches `de-DE-1996`, and
+    /// Returns whether the range matches a tag by basic filtering (RFC 4647 section 3.3.1): `de-DE` matches `de-DE-1996`, and
     /// neither `de-Deva` nor `de-Latn-DE`.
     ///
-    /// It is meant for basic ranges. A `*` beside other subtags equals the subtag of no tag, so `de-*` matches none.
+    /// It is meant for basic ranges. A `*` beside other subtags equals no subtag of a tag, so `de-*` matches nothing.
     pub fn matches_basic(&self, tag: &LangTag<'_>) -> bool
         ensures matches { IsTrue result ↔ MatchesBasic (language_range_text self.now) (lang_tag_text tag.now) }
         ensures test { result ≡ test_basic (language_range_text self.now) (lang_tag_text tag.now) }
@@ -106,7 +105,7 @@ impl<'a> LanguageRange<'a> {
         matches_basic(self.as_str(), tag.as_str())
     }
 
-    /// Whether the range matches a tag by extended filtering (RFC 4647 section 3.3.2): `de-DE` and `de-*-DE` match
+    /// Returns whether the range matches a tag by extended filtering (RFC 4647 section 3.3.2): `de-DE` and `de-*-DE` match
     /// `de-Latn-DE-1996`, and not `de-x-DE`, where a singleton would be left out.
     pub fn matches_extended(&self, tag: &LangTag<'_>) -> bool
         ensures matches { IsTrue result ↔ MatchesExtended (language_range_text self.now) (lang_tag_text tag.now) }
@@ -115,22 +114,23 @@ impl<'a> LanguageRange<'a> {
         matches_extended(self.as_str(), tag.as_str())
     }
 
-    /// The range, and what is left of it when subtags are taken away from its end, the longest first (RFC 4647 section 3.4):
-    /// `zh-Hant-TW`, `zh-Hant` and `zh`. [`look_up`](crate::look_up) looks for these.
+    /// Iterates over the range and what is left of it when subtags are taken away from its end, the longest first (RFC 4647
+    /// section 3.4): `zh-Hant-TW`, `zh-Hant` and `zh`. [`look_up`](crate::look_up) looks for these.
     pub fn fallbacks(&self) -> Fallbacks<'a>
         ensures list { fallbacks_left result ≡ fallbacks (language_range_text self.now) }
         ensures few { length (fallbacks_left result) < 2 ^ 64 }
 
         ensures cloned { (walk copy : Fallbacks) → ⟦<Fallbacks<'a> as Clone>⟧.is_clone walk copy → fallbacks_left copy ≡ fallbacks_left walk }
+        ensures clone_succeeds { (walk : Fallbacks) → ⟦<Fallbacks<'a> as Clone>⟧.is_infallible walk }
     {
         Fallbacks::new(*self)
     }
 
-    /// The owned form of the same text: `LanguageRange::new("de-*")?.try_to_owned(alloc)?.as_str()` is `"de-*"`.
+    /// Copies the text into an owned range: `LanguageRange::new("de-*")?.try_to_owned(alloc)?.as_str()` is `"de-*"`.
     ///
     /// # Errors
     ///
-    /// No memory could be had.
+    /// Out of memory.
     pub fn try_to_owned(&self, alloc: Global) -> Result<LanguageRangeBuf, AllocError>
         ensures { IfOk result (λ owned. language_range_buf_text owned ≡ language_range_text self.now) }
     {
@@ -162,11 +162,11 @@ impl LanguageRangeBuf {
     ghost use Rattle.langtag_match.specs.Compared.{LanguageRangeBufsCompareByCase};
     ghost use Rattle.langtag_match.specs.Text.{language_range_text, language_range_buf_string, language_range_buf_text};
 
-    /// The range of a text, which is neither copied nor moved in memory: of the `String` `de-*` it is Ok.
+    /// Reads a text as a range, and neither copies it nor moves it in memory: of the `String` `de-*` it is Ok.
     ///
     /// # Errors
     ///
-    /// A text that is no range comes back, the same `String`: `de-` does.
+    /// Returns the same `String` where it is not a range, as `de-`.
     pub fn new(text: String) -> Result<LanguageRangeBuf, InvalidLanguageRange<String>>
         ensures accepts { is_ok result ≡ spec.is_language_range (string_bytes text) }
         ensures same_text { IfOk result (λ range. language_range_buf_text range ≡ string_bytes text) }
@@ -181,8 +181,8 @@ impl LanguageRangeBuf {
         })
     }
 
-    /// The range, lent: `as_language_range().is_basic()` of the owned `de` is true. The contract also pins that owned
-    /// ranges are compared, ordered and hashed without regard to case.
+    /// Borrows the range: `as_language_range().is_basic()` of the owned `de` is true. The contract also says that owned
+    /// ranges compare and hash without regard to case.
     pub fn as_language_range(&self) -> LanguageRange<'_>
         ensures same_text { language_range_text result ≡ language_range_buf_text self.now }
 
@@ -191,7 +191,7 @@ impl LanguageRangeBuf {
         LanguageRange::from_checked(self.as_str())
     }
 
-    /// The text, with its case: `as_str()` of the owned `de-ch` is `"de-ch"`.
+    /// Returns the text, with its case: `as_str()` of the owned `de-ch` is `"de-ch"`.
     pub fn as_str(&self) -> &str
         ensures same_text { result.now ≡ language_range_buf_text self.now }
         ensures in_class { IsTrue (spec.is_language_range result.now) }
@@ -199,7 +199,7 @@ impl LanguageRangeBuf {
         self.text.0.as_str()
     }
 
-    /// The text itself, which is not copied: `into_string()` of the owned `de-ch` is the `String` `de-ch`.
+    /// Returns the text itself, which is not copied: `into_string()` of the owned `de-ch` is the `String` `de-ch`.
     pub fn into_string(self) -> String
         ensures same_text { string_bytes result ≡ language_range_buf_text self }
         ensures same_string { result ≡ language_range_buf_string self }

@@ -21,12 +21,12 @@
 mod accept_language;
 mod accept_language_error;
 mod basic;
-mod choice;
 mod extended;
 mod fallbacks;
+mod filter;
 mod filter_rule;
-mod filtered;
 mod language_range;
+mod lookup;
 mod range_text;
 #[cfg(test)]
 mod tests;
@@ -34,9 +34,9 @@ mod weight;
 mod weighted_range;
 
 pub use accept_language::{AcceptLanguage, tag_for_header};
-pub use accept_language_error::AcceptLanguageError;
-pub use choice::look_up;
+pub use accept_language_error::{AcceptLanguageError, ElementPart};
 pub use fallbacks::Fallbacks;
-pub use filtered::{Filtered, filter_basic, filter_extended};
+pub use filter::{Filtered, filter_basic, filter_extended};
 pub use language_range::{InvalidLanguageRange, LanguageRange, LanguageRangeBuf};
+pub use lookup::look_up;
 pub use weighted_range::WeightedRange;

@@ -3,8 +3,9 @@ ghost use Rattle.std.specs.Prelude.{◌≡◌};
 ghost use Rattle.langtag_match.specs.Range as spec;
 
 use langtag::{Subtags, is_private_subtag};
+use langtag_scan::are_letters;
 
-/// Whether a text is a language range, basic or extended.
+/// Returns whether a text is a language range, basic or extended.
 pub(crate) fn is_language_range(text: &str) -> bool
     ensures { result ≡ spec.is_language_range text.now }
 {
@@ -15,7 +16,7 @@ pub(crate) fn is_language_range(text: &str) -> bool
     (first == "*" || is_first_subtag(first.as_bytes())) && are_range_subtags(subtags)
 }
 
-/// Whether a text is a basic language range.
+/// Returns whether a text is a basic language range.
 pub(crate) fn is_basic_range(text: &str) -> bool
     ensures { result ≡ spec.is_basic_range text.now }
 {
@@ -29,20 +30,14 @@ pub(crate) fn is_basic_range(text: &str) -> bool
     is_first_subtag(first.as_bytes()) && are_basic_subtags(subtags)
 }
 
-/// Whether the bytes are 1 to 8 letters.
+/// Returns whether the bytes are 1 to 8 letters.
 fn is_first_subtag(bytes: &[u8]) -> bool
     ensures { result ≡ spec.is_first_subtag bytes.now }
 {
     !bytes.is_empty() && bytes.len() <= 8 && are_letters(bytes)
 }
 
-fn are_letters(bytes: &[u8]) -> bool
-    ensures { result ≡ spec.are_letters bytes.now }
-{
-    bytes.iter().all(|byte| byte.is_ascii_alphabetic())
-}
-
-/// Whether each subtag is `*`, or 1 to 8 letters or digits.
+/// Returns whether each subtag is `*`, or 1 to 8 letters or digits.
 fn are_range_subtags(mut subtags: Subtags<'_>) -> bool
     ensures { result ≡ spec.are_range_subtags subtags.entry }
 {
@@ -55,7 +50,7 @@ fn is_range_subtag(subtag: &str) -> bool
     subtag == "*" || is_private_subtag(subtag.as_bytes())
 }
 
-/// Whether each subtag is 1 to 8 letters or digits.
+/// Returns whether each subtag is 1 to 8 letters or digits.
 fn are_basic_subtags(mut subtags: Subtags<'_>) -> bool
     ensures { result ≡ spec.are_basic_subtags subtags.entry }
 {

@@ -1,18 +1,15 @@
 //! An element of an Accept-Language header: a language range and its weight (RFC 9110 section 12.5.4).
-ghost use Rattle.std.specs.Prelude.{◌≡◌, ◌<◌, ℕ, List, None, IsTrue, not, length, IfSome};
-ghost use Rattle.std.specs.List.{list_all};
+ghost use Rattle.std.specs.Prelude.{◌≡◌, Some, None, IfOk, IfErr};
 ghost use Rattle.langtag_match.specs.AcceptLanguage as spec;
-ghost use Rattle.langtag_match.specs.Range.{is_basic_range};
-ghost use Rattle.langtag_match.specs.Text.{weighted_range_text};
-ghost use Rattle.langtag_match.specs.declared.weighted_range.WeightedRange.{WeightedRange};
 
+use crate::accept_language_error::ElementPart;
 use crate::language_range::LanguageRange;
 use crate::range_text::is_basic_range;
 use crate::weight::weight_of;
 
 const SPACES: [char; 2] = [' ', '\t'];
 
-/// A language range, and how much it is wanted: `fr;q=0.25` in a header is the range `fr` with the weight 250.
+/// A language range and its weight: `fr;q=0.25` in a header is the range `fr` with the weight 250.
 /// Two of them are equal where the weights are, and the ranges are equal without regard to case.
 #[derive(Clone, Copy, Debug, PartialEq, Eq)]
 pub struct WeightedRange<'a> {
@@ -24,36 +21,38 @@ pub struct WeightedRange<'a> {
     pub weight: u32,
 }
 
-/// The range and the weight that stand between two commas.
-pub(crate) fn element_of(item: &str) -> Option<WeightedRange<'_>>
-    ensures some { IfSome result (spec.IsItem item.now) }
-    ensures none { result ≡ None → (weighted : WeightedRange) → spec.IsItem item.now weighted → ⊥ }
+/// Returns the range and the weight that stand between two commas.
+#[tactic(auto, using(crate::proofs::BasicRanges::basic_ranges), unfolding(crate::specs::AcceptLanguage::element, crate::specs::AcceptLanguage::bad_part))]
+pub(crate) fn element_of(item: &str) -> Result<WeightedRange<'_>, ElementPart>
+    ensures read { IfOk result (λ weighted. spec.element item.now ≡ Some (spec.reading weighted)) }
+    ensures none { IfErr result (λ part. spec.element item.now ≡ None) }
+    ensures bad { IfErr result (λ part. part ≡ spec.bad_part item.now) }
 {
-    let Some((range, weight)) = item.split_once(';') else {
-        return weighted_in(item, 1000);
-    };
-    weighted_in(range, weight_of(trimmed(weight))?)
-}
-
-/// A range with a weight, where the text is a basic one but for white space around it.
-fn weighted_in(text: &str, weight: u32) -> Option<WeightedRange<'_>>
-    ensures some { IfSome result (λ weighted. IsTrue (is_basic_range (weighted_range_text weighted))
-        × spec.IsPadded text.now (weighted_range_text weighted) × (weighted.weight ≡ weight)) }
-    ensures none { result ≡ None → (range : List ℕ) → IsTrue (is_basic_range range) → spec.IsPadded text.now range → ⊥ }
-{
-    let range = trimmed(text);
+    let (range, weight) = parts(item);
     if !is_basic_range(range) {
-        return None;
+        return Err(ElementPart::Range);
     }
     let range = LanguageRange::from_checked(range);
-    Some(WeightedRange { range, weight })
+    match weight {
+        Some(weight) => Ok(WeightedRange { range, weight }),
+        None => Err(ElementPart::Weight),
+    }
 }
 
-/// The text without the white space around it.
+/// Returns what stands before the first `;`, without the white space around it, and the weight after that.
+fn parts(item: &str) -> (&str, Option<u32>)
+    ensures range { result.0.now ≡ spec.range_of item.now }
+    ensures weight { result.1 ≡ spec.weight_of item.now }
+{
+    match item.split_once(';') {
+        Some((range, weight)) => (trimmed(range), weight_of(trimmed(weight))),
+        None => (trimmed(item), Some(1000)),
+    }
+}
+
+/// Returns the text without the white space around it.
 fn trimmed(text: &str) -> &str
-    ensures padded { spec.IsPadded text.now result.now }
-    ensures only { (inner : List ℕ) → spec.IsPadded text.now inner → 0 < length inner →
-        IsTrue (list_all (λ b. not (spec.is_space b)) inner) → inner ≡ result.now }
+    ensures { result.now ≡ spec.trimmed text.now }
 {
     text.trim_start_matches(SPACES).trim_end_matches(SPACES)
 }

@@ -12,7 +12,7 @@ use std::fmt;
 use std::fmt::Debug;
 use thiserror::Error;
 
-/// A text that is no region. It hands the text back.
+/// The error for a text that is not a region. It hands the text back.
 #[derive(Debug, Drop, Error)]
 #[error("invalid region")]
 #[error_bound(T: Debug + Drop)]
@@ -31,7 +31,7 @@ impl<'a> Region<'a> {
     ghost use Rattle.langtag_place.specs.Compared.{RegionsCompareByCase};
     ghost use Rattle.langtag_place.specs.Text.{region_text, region_buf_text};
 
-    /// The region of a text: `Region::new("fr")` is Ok. That a literal is one computes in a proof by its numbers.
+    /// Parses a text as a region: `Region::new("fr")` is Ok. In a proof this computes for a literal (`by_number`).
     ///
     /// # Errors
     ///
@@ -52,8 +52,8 @@ impl<'a> Region<'a> {
         Ok(Region::from_checked(text))
     }
 
-    /// The region of a text that is known to be one: it is not looked at again.
-    /// `Region::from_checked(region.as_str())` is equal to `region`.
+    /// Returns the region of a text that is known to be one, without a test. `Region::from_checked(region.as_str())` is
+    /// equal to `region`.
     pub fn from_checked(text: &'a str) -> Region<'a>
         requires { IsTrue (class.is_region text.now) }
         ensures { region_text result ≡ text.now }
@@ -63,7 +63,7 @@ impl<'a> Region<'a> {
         }
     }
 
-    /// The text, with its case: `Region::new("FR")?.as_str()` is `"FR"`.
+    /// Returns the text, with its case: `Region::new("FR")?.as_str()` is `"FR"`.
     pub fn as_str(&self) -> &'a str
         ensures same_text { result.now ≡ region_text self.now }
         ensures in_class { IsTrue (class.is_region result.now) }
@@ -71,15 +71,15 @@ impl<'a> Region<'a> {
         self.text.0
     }
 
-    /// The bytes of the text: `Region::new("FR")?.as_bytes()` is `b"FR"`.
+    /// Returns the bytes of the text: `Region::new("FR")?.as_bytes()` is `b"FR"`.
     pub fn as_bytes(&self) -> &'a [u8]
         ensures { result.now ≡ region_text self.now }
     {
         self.as_str().as_bytes()
     }
 
-    /// Whether another text, of any form, is equal but for the case of ASCII letters:
-    /// `Region::new("fr")?.eq_str("FR")` is true. The contract also pins that regions are compared, ordered and hashed
+    /// Returns whether another text, of any form, is equal but for the case of ASCII letters:
+    /// `Region::new("fr")?.eq_str("FR")` is true. The contract also says that regions are compared, ordered and hashed
     /// so, and that a clone is the value itself.
     pub fn eq_str(&self, other: &str) -> bool
         ensures test { result ≡ are_alike (region_text self.now) other.now }
@@ -91,11 +91,11 @@ impl<'a> Region<'a> {
         self.text == Caseless(other)
     }
 
-    /// The owned form of the same text: `Region::new("FR")?.try_to_owned(alloc)?.as_str()` is `"FR"`.
+    /// Returns the owned form of the same text: `Region::new("FR")?.try_to_owned(alloc)?.as_str()` is `"FR"`.
     ///
     /// # Errors
     ///
-    /// No memory could be had.
+    /// Out of memory.
     pub fn try_to_owned(&self, alloc: Global) -> Result<RegionBuf, AllocError>
         ensures { IfOk result (λ owned. region_buf_text owned ≡ region_text self.now) }
     {
@@ -127,7 +127,7 @@ impl RegionBuf {
     ghost use Rattle.langtag_place.specs.Compared.{RegionBufsCompareByCase};
     ghost use Rattle.langtag_place.specs.Text.{region_text, region_buf_string, region_buf_text};
 
-    /// The region of a text, which is neither copied nor moved in memory: of the `String` `fr` it is Ok.
+    /// Parses a `String` as a region, and keeps it, without a copy: `fr` is Ok.
     ///
     /// # Errors
     ///
@@ -146,8 +146,8 @@ impl RegionBuf {
         })
     }
 
-    /// The region, lent: `as_region().as_str()` of the owned `FR` is `"FR"`. The contract also pins that owned
-    /// regions are compared, ordered and hashed without regard to case.
+    /// Borrows the region: `as_region().as_str()` of the owned `FR` is `"FR"`. The contract also says that owned regions
+    /// are compared, ordered and hashed without regard to case.
     pub fn as_region(&self) -> Region<'_>
         ensures same_text { region_text result ≡ region_buf_text self.now }
 
@@ -156,7 +156,7 @@ impl RegionBuf {
         Region::from_checked(self.as_str())
     }
 
-    /// The text, with its case: `as_str()` of the owned `FR` is `"FR"`.
+    /// Returns the text, with its case: `as_str()` of the owned `FR` is `"FR"`.
     pub fn as_str(&self) -> &str
         ensures same_text { result.now ≡ region_buf_text self.now }
         ensures in_class { IsTrue (class.is_region result.now) }
@@ -164,7 +164,7 @@ impl RegionBuf {
         self.text.0.as_str()
     }
 
-    /// The text itself, which is not copied: `into_string()` of the owned `FR` is the `String` `FR`.
+    /// Returns the text itself, without a copy: `into_string()` of the owned `FR` is the `String` `FR`.
     pub fn into_string(self) -> String
         ensures same_text { string_bytes result ≡ region_buf_text self }
         ensures same_string { result ≡ region_buf_string self }

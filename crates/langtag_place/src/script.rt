@@ -12,7 +12,7 @@ use std::fmt;
 use std::fmt::Debug;
 use thiserror::Error;
 
-/// A text that is no script. It hands the text back.
+/// The error for a text that is not a script. It hands the text back.
 #[derive(Debug, Drop, Error)]
 #[error("invalid script")]
 #[error_bound(T: Debug + Drop)]
@@ -31,7 +31,7 @@ impl<'a> Script<'a> {
     ghost use Rattle.langtag_place.specs.Compared.{ScriptsCompareByCase};
     ghost use Rattle.langtag_place.specs.Text.{script_text, script_buf_text};
 
-    /// The script of a text: `Script::new("Latn")` is Ok. That a literal is one computes in a proof by its numbers.
+    /// Parses a text as a script: `Script::new("Latn")` is Ok. In a proof this computes for a literal (`by_number`).
     ///
     /// # Errors
     ///
@@ -49,8 +49,8 @@ impl<'a> Script<'a> {
         Ok(Script::from_checked(text))
     }
 
-    /// The script of a text that is known to be one: it is not looked at again.
-    /// `Script::from_checked(script.as_str())` is equal to `script`.
+    /// Returns the script of a text that is known to be one, without a test. `Script::from_checked(script.as_str())` is
+    /// equal to `script`.
     pub fn from_checked(text: &'a str) -> Script<'a>
         requires { IsTrue (class.is_script text.now) }
         ensures { script_text result ≡ text.now }
@@ -60,7 +60,7 @@ impl<'a> Script<'a> {
         }
     }
 
-    /// The text, with its case: `Script::new("LATN")?.as_str()` is `"LATN"`.
+    /// Returns the text, with its case: `Script::new("LATN")?.as_str()` is `"LATN"`.
     pub fn as_str(&self) -> &'a str
         ensures same_text { result.now ≡ script_text self.now }
         ensures in_class { IsTrue (class.is_script result.now) }
@@ -68,15 +68,15 @@ impl<'a> Script<'a> {
         self.text.0
     }
 
-    /// The bytes of the text: `Script::new("LATN")?.as_bytes()` is `b"LATN"`.
+    /// Returns the bytes of the text: `Script::new("LATN")?.as_bytes()` is `b"LATN"`.
     pub fn as_bytes(&self) -> &'a [u8]
         ensures { result.now ≡ script_text self.now }
     {
         self.as_str().as_bytes()
     }
 
-    /// Whether another text, of any form, is equal but for the case of ASCII letters:
-    /// `Script::new("Latn")?.eq_str("LATN")` is true. The contract also pins that scripts are compared, ordered and
+    /// Returns whether another text, of any form, is equal but for the case of ASCII letters:
+    /// `Script::new("Latn")?.eq_str("LATN")` is true. The contract also says that scripts are compared, ordered and
     /// hashed so, and that a clone is the value itself.
     pub fn eq_str(&self, other: &str) -> bool
         ensures test { result ≡ are_alike (script_text self.now) other.now }
@@ -88,11 +88,11 @@ impl<'a> Script<'a> {
         self.text == Caseless(other)
     }
 
-    /// The owned form of the same text: `Script::new("LATN")?.try_to_owned(alloc)?.as_str()` is `"LATN"`.
+    /// Returns the owned form of the same text: `Script::new("LATN")?.try_to_owned(alloc)?.as_str()` is `"LATN"`.
     ///
     /// # Errors
     ///
-    /// No memory could be had.
+    /// Out of memory.
     pub fn try_to_owned(&self, alloc: Global) -> Result<ScriptBuf, AllocError>
         ensures { IfOk result (λ owned. script_buf_text owned ≡ script_text self.now) }
     {
@@ -124,7 +124,7 @@ impl ScriptBuf {
     ghost use Rattle.langtag_place.specs.Compared.{ScriptBufsCompareByCase};
     ghost use Rattle.langtag_place.specs.Text.{script_text, script_buf_string, script_buf_text};
 
-    /// The script of a text, which is neither copied nor moved in memory: of the `String` `Latn` it is Ok.
+    /// Parses a `String` as a script, and keeps it, without a copy: `Latn` is Ok.
     ///
     /// # Errors
     ///
@@ -143,7 +143,7 @@ impl ScriptBuf {
         })
     }
 
-    /// The script, lent: `as_script().as_str()` of the owned `LATN` is `"LATN"`. The contract also pins that owned
+    /// Borrows the script: `as_script().as_str()` of the owned `LATN` is `"LATN"`. The contract also says that owned
     /// scripts are compared, ordered and hashed without regard to case.
     pub fn as_script(&self) -> Script<'_>
         ensures same_text { script_text result ≡ script_buf_text self.now }
@@ -153,7 +153,7 @@ impl ScriptBuf {
         Script::from_checked(self.as_str())
     }
 
-    /// The text, with its case: `as_str()` of the owned `LATN` is `"LATN"`.
+    /// Returns the text, with its case: `as_str()` of the owned `LATN` is `"LATN"`.
     pub fn as_str(&self) -> &str
         ensures same_text { result.now ≡ script_buf_text self.now }
         ensures in_class { IsTrue (class.is_script result.now) }
@@ -161,7 +161,7 @@ impl ScriptBuf {
         self.text.0.as_str()
     }
 
-    /// The text itself, which is not copied: `into_string()` of the owned `LATN` is the `String` `LATN`.
+    /// Returns the text itself, without a copy: `into_string()` of the owned `LATN` is the `String` `LATN`.
     pub fn into_string(self) -> String
         ensures same_text { string_bytes result ≡ script_buf_text self }
         ensures same_string { result ≡ script_buf_string self }

@@ -13,7 +13,7 @@ use std::fmt;
 use std::fmt::Debug;
 use thiserror::Error;
 
-/// A text that is no variant. It hands the text back.
+/// The error for a text that is not a variant. It hands the text back.
 #[derive(Debug, Drop, Error)]
 #[error("invalid variant")]
 #[error_bound(T: Debug + Drop)]
@@ -33,8 +33,7 @@ impl<'a> Variant<'a> {
     ghost use Rattle.langtag_place.specs.Compared.{VariantsCompareByCase};
     ghost use Rattle.langtag_place.specs.Text.{variant_text, variant_buf_text};
 
-    /// The variant of a text: `Variant::new("rozaj")` is Ok. That a literal is one computes in a proof by its
-    /// numbers.
+    /// Parses a text as a variant: `Variant::new("rozaj")` is Ok. In a proof this computes for a literal (`by_number`).
     ///
     /// # Errors
     ///
@@ -56,8 +55,8 @@ impl<'a> Variant<'a> {
         Ok(Variant::from_checked(text))
     }
 
-    /// The variant of a text that is known to be one: it is not looked at again.
-    /// `Variant::from_checked(variant.as_str())` is equal to `variant`.
+    /// Returns the variant of a text that is known to be one, without a test. `Variant::from_checked(variant.as_str())`
+    /// is equal to `variant`.
     pub fn from_checked(text: &'a str) -> Variant<'a>
         requires { IsTrue (class.is_variant text.now) }
         ensures { variant_text result ≡ text.now }
@@ -67,7 +66,7 @@ impl<'a> Variant<'a> {
         }
     }
 
-    /// The text, with its case: `Variant::new("ROZAJ")?.as_str()` is `"ROZAJ"`.
+    /// Returns the text, with its case: `Variant::new("ROZAJ")?.as_str()` is `"ROZAJ"`.
     pub fn as_str(&self) -> &'a str
         ensures same_text { result.now ≡ variant_text self.now }
         ensures in_class { IsTrue (class.is_variant result.now) }
@@ -75,16 +74,16 @@ impl<'a> Variant<'a> {
         self.text.0
     }
 
-    /// The bytes of the text: `Variant::new("ROZAJ")?.as_bytes()` is `b"ROZAJ"`.
+    /// Returns the bytes of the text: `Variant::new("ROZAJ")?.as_bytes()` is `b"ROZAJ"`.
     pub fn as_bytes(&self) -> &'a [u8]
         ensures { result.now ≡ variant_text self.now }
     {
         self.as_str().as_bytes()
     }
 
-    /// Whether another text, of any form, is equal but for the case of ASCII letters:
-    /// `Variant::new("rozaj")?.eq_str("ROZAJ")` is true. The contract also pins that variants are compared, ordered
-    /// and hashed so, and that a clone is the value itself.
+    /// Returns whether another text, of any form, is equal but for the case of ASCII letters:
+    /// `Variant::new("rozaj")?.eq_str("ROZAJ")` is true. The contract also says that variants are compared, ordered and
+    /// hashed so, and that a clone is the value itself.
     pub fn eq_str(&self, other: &str) -> bool
         ensures test { result ≡ are_alike (variant_text self.now) other.now }
 
@@ -95,11 +94,11 @@ impl<'a> Variant<'a> {
         self.text == Caseless(other)
     }
 
-    /// The owned form of the same text: `Variant::new("ROZAJ")?.try_to_owned(alloc)?.as_str()` is `"ROZAJ"`.
+    /// Returns the owned form of the same text: `Variant::new("ROZAJ")?.try_to_owned(alloc)?.as_str()` is `"ROZAJ"`.
     ///
     /// # Errors
     ///
-    /// No memory could be had.
+    /// Out of memory.
     pub fn try_to_owned(&self, alloc: Global) -> Result<VariantBuf, AllocError>
         ensures { IfOk result (λ owned. variant_buf_text owned ≡ variant_text self.now) }
     {
@@ -131,7 +130,7 @@ impl VariantBuf {
     ghost use Rattle.langtag_place.specs.Compared.{VariantBufsCompareByCase};
     ghost use Rattle.langtag_place.specs.Text.{variant_text, variant_buf_string, variant_buf_text};
 
-    /// The variant of a text, which is neither copied nor moved in memory: of the `String` `rozaj` it is Ok.
+    /// Parses a `String` as a variant, and keeps it, without a copy: `rozaj` is Ok.
     ///
     /// # Errors
     ///
@@ -151,8 +150,8 @@ impl VariantBuf {
         })
     }
 
-    /// The variant, lent: `as_variant().as_str()` of the owned `ROZAJ` is `"ROZAJ"`. The contract also pins that
-    /// owned variants are compared, ordered and hashed without regard to case.
+    /// Borrows the variant: `as_variant().as_str()` of the owned `ROZAJ` is `"ROZAJ"`. The contract also says that owned
+    /// variants are compared, ordered and hashed without regard to case.
     pub fn as_variant(&self) -> Variant<'_>
         ensures same_text { variant_text result ≡ variant_buf_text self.now }
 
@@ -161,7 +160,7 @@ impl VariantBuf {
         Variant::from_checked(self.as_str())
     }
 
-    /// The text, with its case: `as_str()` of the owned `ROZAJ` is `"ROZAJ"`.
+    /// Returns the text, with its case: `as_str()` of the owned `ROZAJ` is `"ROZAJ"`.
     pub fn as_str(&self) -> &str
         ensures same_text { result.now ≡ variant_buf_text self.now }
         ensures in_class { IsTrue (class.is_variant result.now) }
@@ -169,7 +168,7 @@ impl VariantBuf {
         self.text.0.as_str()
     }
 
-    /// The text itself, which is not copied: `into_string()` of the owned `ROZAJ` is the `String` `ROZAJ`.
+    /// Returns the text itself, without a copy: `into_string()` of the owned `ROZAJ` is the `String` `ROZAJ`.
     pub fn into_string(self) -> String
         ensures same_text { string_bytes result ≡ variant_buf_text self }
         ensures same_string { result ≡ variant_buf_string self }

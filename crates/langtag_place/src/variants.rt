@@ -15,7 +15,7 @@ use std::fmt;
 use std::fmt::Debug;
 use thiserror::Error;
 
-/// A text that no list of variants spells. It hands the text back.
+/// The error for a text that no list of variants spells. It hands the text back.
 #[derive(Debug, Drop, Error)]
 #[error("invalid variants")]
 #[error_bound(T: Debug + Drop)]
@@ -39,7 +39,7 @@ impl<'a> Variants<'a> {
     /// No variants: `Variants::EMPTY.as_str()` is `""`.
     pub const EMPTY: Variants<'static> = Variants { text: Caseless("") };
 
-    /// The variants of a text: `Variants::new("rozaj-1994")` and `Variants::new("")` are Ok.
+    /// Parses a text as variants: `Variants::new("rozaj-1994")` and `Variants::new("")` are Ok.
     ///
     /// # Errors
     ///
@@ -56,7 +56,7 @@ impl<'a> Variants<'a> {
         Ok(Variants::from_checked(text))
     }
 
-    /// The variants of a text that is known to be spelled by a list of them: it is not looked at again.
+    /// Returns the variants of a text that is known to be spelled by a list of them, without a test.
     /// `Variants::from_checked(variants.as_str())` is equal to `variants`.
     pub fn from_checked(text: &'a str) -> Variants<'a>
         requires { IsVariants text.now }
@@ -67,7 +67,7 @@ impl<'a> Variants<'a> {
         }
     }
 
-    /// The text, with its case: `Variants::new("ROZAJ-1994")?.as_str()` is `"ROZAJ-1994"`.
+    /// Returns the text, with its case: `Variants::new("ROZAJ-1994")?.as_str()` is `"ROZAJ-1994"`.
     pub fn as_str(&self) -> &'a str
         ensures same_text { result.now ≡ variants_text self.now }
         ensures in_class { IsVariants result.now }
@@ -75,15 +75,15 @@ impl<'a> Variants<'a> {
         self.text.0
     }
 
-    /// The bytes of the text: `Variants::new("ROZAJ-1994")?.as_bytes()` is `b"ROZAJ-1994"`.
+    /// Returns the bytes of the text: `Variants::new("ROZAJ-1994")?.as_bytes()` is `b"ROZAJ-1994"`.
     pub fn as_bytes(&self) -> &'a [u8]
         ensures { result.now ≡ variants_text self.now }
     {
         self.as_str().as_bytes()
     }
 
-    /// Whether another text, of any form, is equal but for the case of ASCII letters:
-    /// `Variants::new("rozaj")?.eq_str("ROZAJ")` is true. The contract also pins that lists of variants are compared,
+    /// Returns whether another text, of any form, is equal but for the case of ASCII letters:
+    /// `Variants::new("rozaj")?.eq_str("ROZAJ")` is true. The contract also says that lists of variants are compared,
     /// ordered and hashed so, and that a clone is the value itself.
     pub fn eq_str(&self, other: &str) -> bool
         ensures test { result ≡ are_alike (variants_text self.now) other.now }
@@ -95,11 +95,11 @@ impl<'a> Variants<'a> {
         self.text == Caseless(other)
     }
 
-    /// The owned form of the same text: `Variants::new("ROZAJ")?.try_to_owned(alloc)?.as_str()` is `"ROZAJ"`.
+    /// Returns the owned form of the same text: `Variants::new("ROZAJ")?.try_to_owned(alloc)?.as_str()` is `"ROZAJ"`.
     ///
     /// # Errors
     ///
-    /// No memory could be had.
+    /// Out of memory.
     pub fn try_to_owned(&self, alloc: Global) -> Result<VariantsBuf, AllocError>
         ensures { IfOk result (λ owned. variants_buf_text owned ≡ variants_text self.now) }
     {
@@ -109,15 +109,18 @@ impl<'a> Variants<'a> {
         })
     }
 
-    /// The variants one by one, from either end: `rozaj` and `1994` of `rozaj-1994`.
+    /// Returns the variants one by one, from either end: `rozaj` and `1994` of `rozaj-1994`.
     pub fn iter(&self) -> VariantsIter<'a>
         ensures list { variants_left result ≡ subtags (variants_text self.now) }
         ensures spells { SpellsVariants (variants_left result) (variants_text self.now) }
+
+        ensures cloned { (walk copy : VariantsIter) → ⟦<VariantsIter<'a> as Clone>⟧.is_clone walk copy → variants_left copy ≡ variants_left walk }
+        ensures clone_succeeds { (walk : VariantsIter) → ⟦<VariantsIter<'a> as Clone>⟧.is_infallible walk }
     {
         VariantsIter::new(self.as_str())
     }
 
-    /// The first variant, if there is one: `rozaj` of `rozaj-1994`, and None of the empty text.
+    /// Returns the first variant, if there is one: `rozaj` of `rozaj-1994`, and None of the empty text.
     pub fn first(&self) -> Option<Variant<'a>>
         ensures member { (variants : List (List ℕ)) → SpellsVariants variants (variants_text self.now)
             → option_map variant_text result ≡ slice_get variants 0 }
@@ -125,7 +128,7 @@ impl<'a> Variants<'a> {
         self.iter().next()
     }
 
-    /// The last variant, if there is one: `1994` of `rozaj-1994`, and `rozaj` of `rozaj`.
+    /// Returns the last variant, if there is one: `1994` of `rozaj-1994`, and `rozaj` of `rozaj`.
     pub fn last(&self) -> Option<Variant<'a>>
         ensures member { (variants : List (List ℕ)) → SpellsVariants variants (variants_text self.now)
             → option_map variant_text result ≡ slice_get variants (length variants - 1) }
@@ -166,7 +169,7 @@ impl VariantsBuf {
     ghost use Rattle.langtag_place.specs.Compared.{VariantsBufsCompareByCase};
     ghost use Rattle.langtag_place.specs.Text.{variants_text, variants_buf_string, variants_buf_text};
 
-    /// The variants of a text, which is neither copied nor moved in memory: of the `String` `rozaj-1994` they are Ok.
+    /// Parses a `String` as variants, and keeps it, without a copy: `rozaj-1994` is Ok.
     ///
     /// # Errors
     ///
@@ -186,7 +189,7 @@ impl VariantsBuf {
         })
     }
 
-    /// The variants, lent: `as_variants().as_str()` of the owned `ROZAJ` is `"ROZAJ"`. The contract also pins that
+    /// Borrows the variants: `as_variants().as_str()` of the owned `ROZAJ` is `"ROZAJ"`. The contract also says that
     /// owned lists of variants are compared, ordered and hashed without regard to case.
     pub fn as_variants(&self) -> Variants<'_>
         ensures same_text { variants_text result ≡ variants_buf_text self.now }
@@ -196,7 +199,7 @@ impl VariantsBuf {
         Variants::from_checked(self.as_str())
     }
 
-    /// The text, with its case: `as_str()` of the owned `ROZAJ` is `"ROZAJ"`.
+    /// Returns the text, with its case: `as_str()` of the owned `ROZAJ` is `"ROZAJ"`.
     pub fn as_str(&self) -> &str
         ensures same_text { result.now ≡ variants_buf_text self.now }
         ensures in_class { IsVariants result.now }
@@ -204,7 +207,7 @@ impl VariantsBuf {
         self.text.0.as_str()
     }
 
-    /// The text itself, which is not copied: `into_string()` of the owned `ROZAJ` is the `String` `ROZAJ`.
+    /// Returns the text itself, without a copy: `into_string()` of the owned `ROZAJ` is the `String` `ROZAJ`.
     pub fn into_string(self) -> String
         ensures same_text { string_bytes result ≡ variants_buf_text self }
         ensures same_string { result ≡ variants_buf_string self }

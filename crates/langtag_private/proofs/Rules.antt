@@ -1,12 +1,12 @@
 -- The rule and its test say the same: one private list spells a text, and it is what stands between the hyphens.
-use Rattle.std.proofs.Common.{◌≡◌, ◌↔◌, ℕ, ◌≤◌, true, Bool, IsTrue, List, [], ◌∷◌, length, drop, length-drop, refl, sym, ap, ◌∙◌, arith}
+use Rattle.std.proofs.Common.{◌≡◌, ◌↔◌, ℕ, true, Bool, IsTrue, List, [], ◌∷◌, drop, refl, sym, ap, ◌∙◌, arith}
 use Rattle.std.proofs.lemmas.Bool.{and_parts}
 use Rattle.langtag_scan.specs.Class.{is_mark, is_private_subtag}
 use Rattle.langtag_scan.specs.Record.{PrivateUse, IsWellFormedPrivateUse, private_use_flat}
 use Rattle.langtag_scan.specs.Subtags.{join, subtags}
 use Rattle.langtag_scan.specs.Tag.{IsPrivate}
 use Rattle.langtag_scan.proofs.SubtagFacts.{of_one, of_private_subtag, mark_alphanumeric}
-use Rattle.langtag_scan.proofs.SubtagLists.{each_from_test, test_from_each, each_subtag, subtags-joined, join-subtags, length-subtags}
+use Rattle.langtag_scan.proofs.SubtagLists.{each_from_test, test_from_each, each_subtag, subtags-joined, join-subtags, length-after_first}
 use Rattle.langtag_private.specs.PrivateUse.{EachSpelling}
 use Rattle.langtag_private.specs.Decided.{are_private, are_private_use, is_mark_alone, is_private_use}
 
@@ -61,9 +61,5 @@ are_private-after (mark ∷ first ∷ others) h = (and_parts (is_mark_alone mark
 pub are_private-from_test : (text : List ℕ) → IsTrue (is_private_use text) → IsTrue (are_private (drop 1 (subtags text)))
 are_private-from_test text h = are_private-after (subtags text) h
 
--- no more of them than bytes
-pub length-after_mark : (text : List ℕ) → length (drop 1 (subtags text)) ≤ length text
-length-after_mark text = omega (arith, length-drop 1 (subtags text), length-subtags text)
-
 -- what stands after the mark
-pub ruleset after_mark = (are_private-from_test, length-after_mark)
+pub ruleset after_mark = (are_private-from_test, length-after_first)

@@ -10,6 +10,6 @@ use Rattle.langtag_scan.specs.Tag.{IsPrivate}
 abbrev pub IsPrivateUse : List ℕ → Type 0
 IsPrivateUse text = IsPrivate text
 
--- P holds of the subtags after the mark in each private list that spells the text
+-- P holds of the subtags after the mark in each private use part that spells the text
 abbrev pub EachSpelling : List ℕ → (List (List ℕ) → Type 0) → Type 0
 EachSpelling text P = (p : PrivateUse) → IsWellFormedPrivateUse p → join (private_use_flat p) ≡ text → P p.subtags

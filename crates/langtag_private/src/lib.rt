@@ -12,8 +12,8 @@
 //! assert_eq!(rt; first.as_str(), "a");
 //! ```
 //!
-//! A subtag that is handed out has its bytes of the text and lives as long as the text. Both are proved; that it stands at
-//! the same address is not.
+//! A returned subtag has its bytes of the text and lives as long as the text. Both are proved; that it stands at the
+//! same address is not.
 #![tactic(auto)]
 
 mod private_use;

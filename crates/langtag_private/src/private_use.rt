@@ -13,7 +13,7 @@ use std::fmt;
 use std::fmt::Debug;
 use thiserror::Error;
 
-/// A text that is no private use part. It hands the text back.
+/// The error for a text that is not a private use part. It hands the text back.
 #[derive(Debug, Drop, Error)]
 #[error("invalid private use")]
 #[error_bound(T: Debug + Drop)]
@@ -34,7 +34,7 @@ impl<'a> PrivateUse<'a> {
     ghost use Rattle.langtag_private.specs.Compared.{PrivateUsesCompareByCase};
     ghost use Rattle.langtag_private.specs.Text.{private_use_text, private_use_buf_text, private_use_subtags_left};
 
-    /// The private use part of a text: `PrivateUse::new("x-twain")` is Ok.
+    /// Parses a text as a private use part: `PrivateUse::new("x-twain")` is Ok.
     ///
     /// # Errors
     ///
@@ -51,7 +51,7 @@ impl<'a> PrivateUse<'a> {
         Ok(PrivateUse::from_checked(text))
     }
 
-    /// The private use part of a text that is known to be one: it is not looked at again.
+    /// Returns the private use part of a text that is known to be one, without a test.
     /// `PrivateUse::from_checked(private_use.as_str())` is equal to `private_use`.
     pub fn from_checked(text: &'a str) -> PrivateUse<'a>
         requires { IsPrivateUse text.now }
@@ -62,7 +62,7 @@ impl<'a> PrivateUse<'a> {
         }
     }
 
-    /// The text, with its case: `PrivateUse::new("X-TWAIN")?.as_str()` is `"X-TWAIN"`.
+    /// Returns the text, with its case: `PrivateUse::new("X-TWAIN")?.as_str()` is `"X-TWAIN"`.
     pub fn as_str(&self) -> &'a str
         ensures same_text { result.now ≡ private_use_text self.now }
         ensures in_class { IsPrivateUse result.now }
@@ -70,15 +70,15 @@ impl<'a> PrivateUse<'a> {
         self.text.0
     }
 
-    /// The bytes of the text: `PrivateUse::new("X-TWAIN")?.as_bytes()` is `b"X-TWAIN"`.
+    /// Returns the bytes of the text: `PrivateUse::new("X-TWAIN")?.as_bytes()` is `b"X-TWAIN"`.
     pub fn as_bytes(&self) -> &'a [u8]
         ensures { result.now ≡ private_use_text self.now }
     {
         self.as_str().as_bytes()
     }
 
-    /// Whether another text, of any form, is equal but for the case of ASCII letters:
-    /// `PrivateUse::new("x-twain")?.eq_str("X-TWAIN")` is true. The contract also pins that private use parts are
+    /// Returns whether another text, of any form, is equal but for the case of ASCII letters:
+    /// `PrivateUse::new("x-twain")?.eq_str("X-TWAIN")` is true. The contract also says that private use parts are
     /// compared, ordered and hashed so, and that a clone is the value itself.
     pub fn eq_str(&self, other: &str) -> bool
         ensures test { result ≡ are_alike (private_use_text self.now) other.now }
@@ -90,11 +90,12 @@ impl<'a> PrivateUse<'a> {
         self.text == Caseless(other)
     }
 
-    /// The owned form of the same text: `PrivateUse::new("X-TWAIN")?.try_to_owned(alloc)?.as_str()` is `"X-TWAIN"`.
+    /// Returns the owned form of the same text: `PrivateUse::new("X-TWAIN")?.try_to_owned(alloc)?.as_str()` is
+    /// `"X-TWAIN"`.
     ///
     /// # Errors
     ///
-    /// No memory could be had.
+    /// Out of memory.
     pub fn try_to_owned(&self, alloc: Global) -> Result<PrivateUseBuf, AllocError>
         ensures { IfOk result (λ owned. private_use_buf_text owned ≡ private_use_text self.now) }
     {
@@ -104,10 +105,13 @@ impl<'a> PrivateUse<'a> {
         })
     }
 
-    /// The subtags one by one, without the mark: `PrivateUse::new("x-a-x")?.iter()` hands out `a` and `x`.
+    /// Returns the subtags one by one, without the mark: `PrivateUse::new("x-a-x")?.iter()` yields `a` and `x`.
     pub fn iter(&self) -> PrivateUseIter<'a>
         ensures list { private_use_subtags_left result ≡ drop 1 (subtags (private_use_text self.now)) }
         ensures members { EachSpelling (private_use_text self.now) (λ members. private_use_subtags_left result ≡ members) }
+
+        ensures cloned { (walk copy : PrivateUseIter) → ⟦<PrivateUseIter<'a> as Clone>⟧.is_clone walk copy → private_use_subtags_left copy ≡ private_use_subtags_left walk }
+        ensures clone_succeeds { (walk : PrivateUseIter) → ⟦<PrivateUseIter<'a> as Clone>⟧.is_infallible walk }
     {
         PrivateUseIter::new(self.as_str())
     }
@@ -166,7 +170,7 @@ impl PrivateUseBuf {
     ghost use Rattle.langtag_private.specs.Compared.{PrivateUseBufsCompareByCase};
     ghost use Rattle.langtag_private.specs.Text.{private_use_text, private_use_buf_text, private_use_buf_string};
 
-    /// The private use part of a text, which is neither copied nor moved in memory: of the `String` `x-twain` it is Ok.
+    /// Parses a `String` as a private use part, and keeps it, without a copy: `x-twain` is Ok.
     ///
     /// # Errors
     ///
@@ -186,8 +190,8 @@ impl PrivateUseBuf {
         })
     }
 
-    /// The private use part, lent: `as_private_use().as_str()` of the owned `X-TWAIN` is `"X-TWAIN"`. The contract also
-    /// pins that owned private use parts are compared, ordered and hashed without regard to case.
+    /// Borrows the private use part: `as_private_use().as_str()` of the owned `X-TWAIN` is `"X-TWAIN"`. The contract also
+    /// says that owned private use parts are compared, ordered and hashed without regard to case.
     pub fn as_private_use(&self) -> PrivateUse<'_>
         ensures same_text { private_use_text result ≡ private_use_buf_text self.now }
 
@@ -196,7 +200,7 @@ impl PrivateUseBuf {
         PrivateUse::from_checked(self.as_str())
     }
 
-    /// The text, with its case: `as_str()` of the owned `X-TWAIN` is `"X-TWAIN"`.
+    /// Returns the text, with its case: `as_str()` of the owned `X-TWAIN` is `"X-TWAIN"`.
     pub fn as_str(&self) -> &str
         ensures same_text { result.now ≡ private_use_buf_text self.now }
         ensures in_class { IsPrivateUse result.now }
@@ -204,7 +208,7 @@ impl PrivateUseBuf {
         self.text.0.as_str()
     }
 
-    /// The text itself, which is not copied: `into_string()` of the owned `X-TWAIN` is the `String` `X-TWAIN`.
+    /// Returns the text itself, without a copy: `into_string()` of the owned `X-TWAIN` is the `String` `X-TWAIN`.
     pub fn into_string(self) -> String
         ensures same_text { string_bytes result ≡ private_use_buf_text self }
         ensures same_string { result ≡ private_use_buf_string self }

@@ -13,7 +13,7 @@ use std::fmt;
 use std::fmt::Debug;
 use thiserror::Error;
 
-/// A text that is no private use subtag. It hands the text back.
+/// The error for a text that is not a private use subtag. It hands the text back.
 #[derive(Debug, Drop, Error)]
 #[error("invalid private use subtag")]
 #[error_bound(T: Debug + Drop)]
@@ -32,8 +32,8 @@ impl<'a> PrivateUseSubtag<'a> {
     ghost use Rattle.langtag_private.specs.Compared.{PrivateUseSubtagsCompareByCase};
     ghost use Rattle.langtag_private.specs.Text.{private_use_subtag_text, private_use_subtag_buf_text};
 
-    /// The private use subtag of a text: `PrivateUseSubtag::new("twain")` is Ok. That a literal is one computes in a
-    /// proof by its numbers.
+    /// Parses a text as a private use subtag: `PrivateUseSubtag::new("twain")` is Ok. In a proof this computes for a
+    /// literal (`by_number`).
     ///
     /// # Errors
     ///
@@ -53,7 +53,7 @@ impl<'a> PrivateUseSubtag<'a> {
         Ok(PrivateUseSubtag::from_checked(text))
     }
 
-    /// The subtag of a text that is known to be one: it is not looked at again.
+    /// Returns the subtag of a text that is known to be one, without a test.
     /// `PrivateUseSubtag::from_checked(subtag.as_str())` is equal to `subtag`.
     pub fn from_checked(text: &'a str) -> PrivateUseSubtag<'a>
         requires { IsTrue (class.is_private_subtag text.now) }
@@ -64,7 +64,7 @@ impl<'a> PrivateUseSubtag<'a> {
         }
     }
 
-    /// The text, with its case: `PrivateUseSubtag::new("TWAIN")?.as_str()` is `"TWAIN"`.
+    /// Returns the text, with its case: `PrivateUseSubtag::new("TWAIN")?.as_str()` is `"TWAIN"`.
     pub fn as_str(&self) -> &'a str
         ensures same_text { result.now ≡ private_use_subtag_text self.now }
         ensures in_class { IsTrue (class.is_private_subtag result.now) }
@@ -72,15 +72,15 @@ impl<'a> PrivateUseSubtag<'a> {
         self.text.0
     }
 
-    /// The bytes of the text: `PrivateUseSubtag::new("TWAIN")?.as_bytes()` is `b"TWAIN"`.
+    /// Returns the bytes of the text: `PrivateUseSubtag::new("TWAIN")?.as_bytes()` is `b"TWAIN"`.
     pub fn as_bytes(&self) -> &'a [u8]
         ensures { result.now ≡ private_use_subtag_text self.now }
     {
         self.as_str().as_bytes()
     }
 
-    /// Whether another text, of any form, is equal but for the case of ASCII letters:
-    /// `PrivateUseSubtag::new("twain")?.eq_str("TWAIN")` is true. The contract also pins that private use subtags are
+    /// Returns whether another text, of any form, is equal but for the case of ASCII letters:
+    /// `PrivateUseSubtag::new("twain")?.eq_str("TWAIN")` is true. The contract also says that private use subtags are
     /// compared, ordered and hashed so, and that a clone is the value itself.
     pub fn eq_str(&self, other: &str) -> bool
         ensures test { result ≡ are_alike (private_use_subtag_text self.now) other.now }
@@ -92,11 +92,12 @@ impl<'a> PrivateUseSubtag<'a> {
         self.text == Caseless(other)
     }
 
-    /// The owned form of the same text: `PrivateUseSubtag::new("TWAIN")?.try_to_owned(alloc)?.as_str()` is `"TWAIN"`.
+    /// Returns the owned form of the same text: `PrivateUseSubtag::new("TWAIN")?.try_to_owned(alloc)?.as_str()` is
+    /// `"TWAIN"`.
     ///
     /// # Errors
     ///
-    /// No memory could be had.
+    /// Out of memory.
     pub fn try_to_owned(&self, alloc: Global) -> Result<PrivateUseSubtagBuf, AllocError>
         ensures { IfOk result (λ owned. private_use_subtag_buf_text owned ≡ private_use_subtag_text self.now) }
     {
@@ -128,7 +129,7 @@ impl PrivateUseSubtagBuf {
     ghost use Rattle.langtag_private.specs.Compared.{PrivateUseSubtagBufsCompareByCase};
     ghost use Rattle.langtag_private.specs.Text.{private_use_subtag_text, private_use_subtag_buf_text, private_use_subtag_buf_string};
 
-    /// The subtag of a text, which is neither copied nor moved in memory: of the `String` `twain` it is Ok.
+    /// Parses a `String` as a subtag, and keeps it, without a copy: `twain` is Ok.
     ///
     /// # Errors
     ///
@@ -147,7 +148,7 @@ impl PrivateUseSubtagBuf {
         })
     }
 
-    /// The subtag, lent: `as_private_use_subtag().as_str()` of the owned `TWAIN` is `"TWAIN"`. The contract also pins
+    /// Borrows the subtag: `as_private_use_subtag().as_str()` of the owned `TWAIN` is `"TWAIN"`. The contract also says
     /// that owned private use subtags are compared, ordered and hashed without regard to case.
     pub fn as_private_use_subtag(&self) -> PrivateUseSubtag<'_>
         ensures same_text { private_use_subtag_text result ≡ private_use_subtag_buf_text self.now }
@@ -157,7 +158,7 @@ impl PrivateUseSubtagBuf {
         PrivateUseSubtag::from_checked(self.as_str())
     }
 
-    /// The text, with its case: `as_str()` of the owned `TWAIN` is `"TWAIN"`.
+    /// Returns the text, with its case: `as_str()` of the owned `TWAIN` is `"TWAIN"`.
     pub fn as_str(&self) -> &str
         ensures same_text { result.now ≡ private_use_subtag_buf_text self.now }
         ensures in_class { IsTrue (class.is_private_subtag result.now) }
@@ -165,7 +166,7 @@ impl PrivateUseSubtagBuf {
         self.text.0.as_str()
     }
 
-    /// The text itself, which is not copied: `into_string()` of the owned `TWAIN` is the `String` `TWAIN`.
+    /// Returns the text itself, without a copy: `into_string()` of the owned `TWAIN` is the `String` `TWAIN`.
     pub fn into_string(self) -> String
         ensures same_text { string_bytes result ≡ private_use_subtag_buf_text self }
         ensures same_string { result ≡ private_use_subtag_buf_string self }

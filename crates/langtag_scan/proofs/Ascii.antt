@@ -1,4 +1,4 @@
--- A tag of any kind is ASCII, so a text that is not UTF-8 is no tag.
+-- A tag of any kind is ASCII, so a text that is not UTF-8 is not a tag.
 use Rattle.std.proofs.Common.{Bool, ◌≡◌, ℕ, ◌<◌, true, List, [], ◌∷◌, inl, inr, arith, ap, sym, subst, refl, ◌∙◌}
 use Rattle.std.proofs.lemmas.Bool.{and_parts, agree_below_at}
 use Rattle.std.specs.Char.{is_ascii}

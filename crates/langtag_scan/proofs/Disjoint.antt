@@ -66,16 +66,6 @@ first_class AfterMark _ h = absurd cc
 first_class AfterSingleton _ h = absurd cc
 first_class _ s h = tt
 
--- in particular
-pub variant_no_extended : (s : List ℕ) → is_variant s ≡ true → is_extended s ≡ false
-variant_no_extended s h = (first_class AfterVariant s h).0
-
-pub variant_no_script : (s : List ℕ) → is_variant s ≡ true → is_script s ≡ false
-variant_no_script s h = (first_class AfterVariant s h).1
-
-pub variant_no_region : (s : List ℕ) → is_variant s ≡ true → is_region s ≡ false
-variant_no_region s h = (first_class AfterVariant s h).2
-
 -- so a subtag of the class of a stage leads there, where the stage may follow
 pub reached :
     (stage after : Stage) (s : List ℕ) → may_follow stage after ≡ true → leads_to after (classes_of s) ≡ true →

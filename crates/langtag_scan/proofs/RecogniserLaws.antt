@@ -52,7 +52,7 @@ stopped_longer t i n le stopped =
     let longer : take i t ++ drop i (take n t) ≡ take n t = ap (λ p. p ++ drop i (take n t)) (sym (take-take i n t le)) ∙ take-append-drop i (take n t) in
     subst HasStopped longer (stopped-append (take i t) (drop i (take n t)) stopped)
 
--- the whole text is no normal tag and no private one
+-- the whole text is neither a normal tag nor a private one
 pub whole_refused : (t : List ℕ) (i : ℕ) → HasStopped (take i t) → IsRefused t
 whole_refused t i stopped = record {
   not_normal = λ normal. stopped.not_normal (drop i t) (subst IsNormal (sym (take-append-drop i t)) normal);
@@ -61,7 +61,7 @@ whole_refused t i stopped = record {
 
 -- ---- the answers
 
--- a text that is of none of the three kinds is no tag
+-- a text that is of none of the three kinds is not a tag
 no_tag : (t : List ℕ) → IsRefused t → (IsIrregular t → ⊥) → IsTag t → ⊥
 unfolding IsTag
 no_tag t refused never (inl normal) = refused.not_normal normal

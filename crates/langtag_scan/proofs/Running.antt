@@ -20,10 +20,6 @@ use Rattle.langtag_scan.proofs.SubtagFacts.{no_hyphen_each, alphanumeric_no_hyph
 use Rattle.langtag_scan.proofs.NormalTexts.{after_subtag}
 use Rattle.langtag_scan.proofs.Runs.{ends_after}
 
-pub ends_after-nil : (stage : Stage) (e : Ends) → ends_after stage e [] ≡ e
-unfolding ends_after
-ends_after-nil stage e = refl
-
 pub ends_after-cons :
     (stage : Stage) (e : Ends) (s : List ℕ) (ss : List (List ℕ)) →
     ends_after stage e (s ∷ ss) ≡ option_map_or (λ after. ends_after after (end_at after (index_after stage e s) e) ss) (next_stage stage s) e

@@ -1,6 +1,6 @@
 -- Texts and the lists of subtags that stand between their hyphens: joining and splitting undo one another, and a list of
 -- members of a class is found again in its join.
-use Rattle.std.proofs.Common.{◌≡◌, ℕ, ◌<◌, ◌≤◌, ◌+◌, ◌-◌, List, length, get_or, arith, subst, Bool, true, false, [], ◌∷◌, ◌++◌, refl, ap, ◌∙◌, Option, None, Some, Bor, MatchOption, All, IsTrue}
+use Rattle.std.proofs.Common.{◌≡◌, ℕ, ◌<◌, ◌≤◌, ◌+◌, ◌-◌, List, length, drop, length-drop, get_or, arith, subst, Bool, true, false, [], ◌∷◌, ◌++◌, refl, ap, ◌∙◌, Option, None, Some, Bor, MatchOption, All, IsTrue}
 use Rattle.std.proofs.lemmas.Bool.{and_parts}
 use Rattle.std.specs.Str.{IsUtf8, IsCharBoundary}
 use Rattle.std.proofs.lemmas.Str.{IsCharBoundary-after_ascii}
@@ -119,6 +119,9 @@ subtags-joined (s ∷ ss) fits = subtags-segments (join (s ∷ ss)) (omega (arit
 pub length-subtags : (text : List ℕ) → length (subtags text) ≤ length text + 1
 length-subtags [] = omega arith
 length-subtags (b ∷ text) = omega (arith, length-slice_split is_hyphen (b ∷ text), count_by-le-length is_hyphen (b ∷ text))
+
+pub length-after_first : (text : List ℕ) → length (drop 1 (subtags text)) ≤ length text
+length-after_first text = omega (arith, length-drop 1 (subtags text), length-subtags text)
 
 -- ---- cuts
 

@@ -33,7 +33,7 @@ pub viable_prefix : (p u : List ℕ) → IsViable (p ++ u) → IsViable p
 unfolding IsViable
 viable_prefix p u (v, tag) = (u ++ v, subst IsTag (append_assoc p u v) tag)
 
--- a text with a prefix that is not viable is no tag
+-- a text with a prefix that is not viable is not a tag
 pub no_tag_dead : (t : List ℕ) (i : ℕ) → (IsViable (take i t) → ⊥) → IsTag t → ⊥
 no_tag_dead t i dead tag = dead (viable_from_tag (take i t) (drop i t) (subst IsTag (sym (take-append-drop i t)) tag))
 

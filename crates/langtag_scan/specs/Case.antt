@@ -12,6 +12,7 @@ use Rattle.std.specs.Hash.{HashWrites}
 unfoldable pub fold_byte : ℕ → ℕ
 fold_byte b = to_ascii_lowercase b
 
+-- each byte of a text, folded
 abbrev pub fold_text : List ℕ → List ℕ
 fold_text text = map fold_byte text
 
@@ -24,10 +25,11 @@ abbrev pub are_alike : List ℕ → List ℕ → Bool
 are_alike = on fold_text bytes_eq
 
 -- what texts are ordered by: the folded bytes, and a number above every byte, so that of two texts of which
--- one begins the other the one that ends first is the greater
+-- one begins the other the one that ends first is the greater (as in the Rust crate: the RFC has no order)
 abbrev pub order_key : List ℕ → List ℕ
 order_key text = fold_text text ++ 256 ∷ []
 
+-- texts in the order of these keys, byte by byte
 abbrev pub case_cmp : List ℕ → List ℕ → Ordering
 case_cmp = on order_key (slice_cmp nat_cmp)
 

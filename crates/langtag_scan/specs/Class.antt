@@ -16,12 +16,15 @@ is_digit b = is_ascii_digit b
 abbrev pub is_alphanumeric : ℕ → Bool
 is_alphanumeric b = is_letter b || is_digit b
 
+-- letters alone
 abbrev pub are_letters : List ℕ → Bool
 are_letters s = list_all is_letter s
 
+-- digits alone
 abbrev pub are_digits : List ℕ → Bool
 are_digits s = list_all is_digit s
 
+-- letters and digits alone
 abbrev pub are_alphanumeric : List ℕ → Bool
 are_alphanumeric s = list_all is_alphanumeric s
 

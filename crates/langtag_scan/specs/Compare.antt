@@ -1,5 +1,5 @@
 -- That values are compared without regard to the case of ASCII letters (RFC 5646 section 2.1.1): their `==`, `cmp` and `hash`
--- go by their folded texts. The order is that of `case_insensitive_cmp`, so a text that ends first is the greater.
+-- are those of their folded texts. The order is that of `case_insensitive_cmp`, so a text that ends first is the greater.
 use Rattle.std.specs.Prelude.{◌≡◌, ℕ, Bool, List}
 use Rattle.std.specs.Hash.{HashWrites}
 use Rattle.std.specs.declared.cmp.Ordering.{Ordering}

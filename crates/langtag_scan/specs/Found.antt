@@ -11,27 +11,31 @@ use Rattle.langtag_scan.specs.declared.found.Found.{Found}
 abbrev pub finding : Found → Finding
 finding found = found.finding
 
--- the text is a tag of this case, with these ends or at this index
+-- the text is a tag of this kind, with these ends or at this index
 abbrev pub IsFoundOf : List ℕ → Finding → Type 0
 IsFoundOf t (Normal ends) = HasEnds t ends
 IsFoundOf t PrivateUse = IsPrivate t
 IsFoundOf t (Irregular index) = IsIrregularAt index t
 
+-- a normal tag was found
 abbrev pub is_normal : Finding → Bool
 is_normal (Normal ends) = true
 is_normal PrivateUse = false
 is_normal (Irregular index) = false
 
+-- a tag for private use as a whole was found
 abbrev pub is_private_use : Finding → Bool
 is_private_use (Normal ends) = false
 is_private_use PrivateUse = true
 is_private_use (Irregular index) = false
 
+-- the index of the irregular tag that was found, or none
 abbrev pub irregular_index : Finding → Option ℕ
 irregular_index (Normal ends) = None
 irregular_index PrivateUse = None
 irregular_index (Irregular index) = Some index
 
+-- the ends of the parts of the normal tag that was found, or none
 abbrev pub normal_ends : Finding → Option Ends
 normal_ends (Normal ends) = Some ends
 normal_ends PrivateUse = None

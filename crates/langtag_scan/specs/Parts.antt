@@ -6,16 +6,19 @@ use Rattle.langtag_scan.specs.Record.{Record, extension_flat, private_use_flat, 
 use Rattle.langtag_scan.specs.Subtags.{join}
 use Rattle.langtag_scan.specs.declared.ends.Ends.{Ends}
 
--- the text of each part: its subtags, joined; of variants and extensions the empty text where there are none
+-- the text of the language: the primary subtag and the extended ones, joined
 abbrev pub language_part : Record → List ℕ
 language_part r = join (r.primary ∷ r.extended)
 
+-- the variants, joined; the empty text where there are none
 abbrev pub variants_part : Record → List ℕ
 variants_part r = join r.variants
 
+-- all subtags of the extensions, joined; the empty text where there are none
 abbrev pub extensions_part : Record → List ℕ
 extensions_part r = join (flat_map extension_flat r.extensions)
 
+-- the mark and the private use subtags, joined, or none
 abbrev pub private_use_part : Record → Option (List ℕ)
 private_use_part r = option_map (λ p. join (private_use_flat p)) r.private_use
 

@@ -71,6 +71,7 @@ flat r =
     ∷ (r.extended ++ (one_flat r.script ++ (one_flat r.region ++ (r.variants
     ++ (flat_map extension_flat r.extensions ++ private_part_flat r.private_use)))))
 
+-- the text that a record spells: all its subtags, joined by hyphens
 abbrev pub spell : Record → List ℕ
 spell r = join (flat r)
 
@@ -78,6 +79,7 @@ spell r = join (flat r)
 abbrev pub Spells : Record → List ℕ → Type 0
 Spells r text = IsWellFormed r × (spell r ≡ text)
 
--- P holds of each record that spells the text: there is at most one
+-- P holds of each record that spells the text: there is at most one, and none of a text that is not a normal tag, of which
+-- this says nothing
 abbrev pub EachRecord : List ℕ → (Record → Type 0) → Type 0
 EachRecord text P = (r : Record) → Spells r text → P r

@@ -14,7 +14,7 @@ join subtags = join_with_byte 45 subtags
 abbrev pub segments : List ℕ → List (List ℕ)
 segments text = slice_split is_hyphen text
 
--- the list of subtags whose join is the text; the empty text has none
+-- the list of subtags whose join is the text; of the empty text it is the empty list
 abbrev pub subtags : List ℕ → List (List ℕ)
 subtags [] = []
 subtags (b ∷ text) = segments (b ∷ text)

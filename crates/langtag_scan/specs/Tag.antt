@@ -9,7 +9,7 @@ use Rattle.langtag_scan.specs.Grandfathered.{irregular_texts}
 unfoldable pub IsNormal : List ℕ → Type 0
 IsNormal t = (r : Record) × Spells r t
 
--- a private list spells the text
+-- a well-formed private use part, a mark and its subtags, spells the text
 unfoldable pub IsPrivate : List ℕ → Type 0
 IsPrivate t = (p : PrivateUse) × IsWellFormedPrivateUse p × (join (private_use_flat p) ≡ t)
 
@@ -17,9 +17,10 @@ IsPrivate t = (p : PrivateUse) × IsWellFormedPrivateUse p × (join (private_use
 unfoldable pub IsIrregularAt : ℕ → List ℕ → Type 0
 IsIrregularAt k t = (name : List ℕ) × (slice_get irregular_texts k ≡ Some name) × Alike name t
 
+-- the text is alike some irregular one
 unfoldable pub IsIrregular : List ℕ → Type 0
 IsIrregular t = (k : ℕ) × IsIrregularAt k t
 
--- the regular grandfathered texts are normal
+-- the text is normal, for private use, or irregular; the regular grandfathered tags are normal by their form
 unfoldable pub IsTag : List ℕ → Type 0
 IsTag t = IsNormal t ⊎ IsPrivate t ⊎ IsIrregular t

@@ -22,11 +22,11 @@ pub record IsViableLength (t : List ℕ) (n : ℕ) : Type 0 where
   pub viable : (k : ℕ) → k ≤ n → IsViable (take k t)
   pub longest : (k : ℕ) → n < k → k ≤ length t → IsViable (take k t) → ⊥
 
--- as many letters `a` as bring a subtag that has begun to five bytes
+-- the letters `a` that pad a subtag to five bytes
 abbrev pub filling : List ℕ → List ℕ
 filling s = replicate (5 - length s) 97
 
--- the text, with the bytes after its last hyphen, or all where it has none, brought to five
+-- the text with its last subtag padded: a text begins a tag exactly if, so padded, it is one, or begins an irregular one
 abbrev pub fill : List ℕ → List ℕ
 fill p = p ++ filling (after_last is_hyphen p)
 

@@ -6,7 +6,8 @@ ghost use Rattle.langtag_scan.specs.Case.{fold_byte, Alike, are_alike, case_cmp,
 use std::cmp::Ordering;
 use std::hash::Hasher;
 
-/// The fold of a byte (RFC 5646 section 2.1.1): the small letter of an ASCII capital, and any other byte as it stands.
+/// Returns the fold of a byte (RFC 5646 section 2.1.1): the small letter of an ASCII capital, and any other byte as it
+/// stands.
 ///
 /// `into_smallcase(b'L')` is `b'l'`, and `into_smallcase(b'[')` is `b'['`.
 #[tactic(auto, unfolding(crate::specs::Case::fold_byte))]
@@ -16,7 +17,7 @@ pub fn into_smallcase(c: u8) -> u8
     c.to_ascii_lowercase()
 }
 
-/// Whether two texts are equal but for the case of ASCII letters (RFC 5646 section 2.1.1).
+/// Returns whether two texts are equal but for the case of ASCII letters (RFC 5646 section 2.1.1).
 ///
 /// `case_insensitive_eq(b"zh-Latn", b"ZH-LATN")` is true.
 #[tactic(auto, unfolding(crate::specs::Case::fold_byte))]

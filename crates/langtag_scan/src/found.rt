@@ -8,29 +8,50 @@ use crate::finding::Finding;
 /// What a recogniser found of a text that is a tag (RFC 5646 section 2.1): which of the three kinds it is, with
 /// the ends of the parts of a normal tag, and the index in the table of an irregular one.
 ///
-/// Only the recognisers make one. `recognise(&mut Metered::new("x-a"))` is Some of one whose `is_private_use()` is true.
+/// `recognise(&mut Metered::new("x-a"))` is Some of one whose `is_private_use()` is true. It holds no text: a type that keeps
+/// both, as the tag types do, has to know that they belong together.
 #[derive(Clone, Copy)]
 pub struct Found {
     pub(crate) finding: Finding,
 }
 
 impl Found {
-    /// Whether the text is a normal tag. The regular grandfathered tags are: true of `zh-min`, false of `i-lux` and `x-a`.
+    /// Returns what is found of a normal tag whose parts end at these offsets, for a caller that knows them without
+    /// reading the text: `Found::normal(ends).ends()` is `Some(ends)`.
+    pub fn normal(ends: Ends) -> Self
+        ensures { finding result ≡ Finding.Normal ends }
+    {
+        Found {
+            finding: Finding::Normal(ends),
+        }
+    }
+
+    /// Returns what is found of a private use tag (section 2.2.7): `Found::private_use().is_private_use()` is true.
+    pub fn private_use() -> Self
+        ensures { finding result ≡ Finding.PrivateUse }
+    {
+        Found {
+            finding: Finding::PrivateUse,
+        }
+    }
+
+    /// Returns whether the text is a normal tag. The regular grandfathered tags are: true of `zh-min`, false of `i-lux`
+    /// and `x-a`.
     pub fn is_normal(&self) -> bool
         ensures { result ≡ is_normal (finding self.now) }
     {
         matches!(self.finding, Finding::Normal(_))
     }
 
-    /// Whether the text is a private use tag (section 2.2.7), which has a mark and private use subtags alone: true of
-    /// `x-a`, false of `fr-x-a`.
+    /// Returns whether the text is a private use tag (section 2.2.7), which has a mark and private use subtags alone:
+    /// true of `x-a`, false of `fr-x-a`.
     pub fn is_private_use(&self) -> bool
         ensures { result ≡ is_private_use (finding self.now) }
     {
         matches!(self.finding, Finding::PrivateUse)
     }
 
-    /// The index in the table of an irregular grandfathered tag (section 2.2.8): 0 to 16, in the order in which
+    /// Returns the index in the table of an irregular grandfathered tag (section 2.2.8): 0 to 16, in the order in which
     /// section 2.1 lists them. It is Some(1) of `i-AMI`, and None of `zh-min`, which is regular.
     pub fn irregular(&self) -> Option<usize>
         ensures { result ≡ irregular_index (finding self.now) }
@@ -41,8 +62,9 @@ impl Found {
         }
     }
 
-    /// The ends of the parts of a normal tag (section 2.1): of `fr-FR`, language 2 and all others 5. It is None of `x-a`.
-    /// The contract also says that a clone of ends, and of a `Found`, is the value itself, and what `==` of ends is.
+    /// Returns the ends of the parts of a normal tag (section 2.1): of `fr-FR`, language 2 and all others 5. It is None
+    /// of `x-a`. The contract also says that a clone of ends, and of a `Found`, is the value itself, and what `==` of
+    /// ends is.
     pub fn ends(&self) -> Option<Ends>
         ensures ends { result ≡ normal_ends (finding self.now) }
 

@@ -15,8 +15,7 @@
 //! viable_len(b"zh_Hant");                                // 2: no tag begins with `zh_`
 //! ```
 //!
-//! `Caseless` serves the crates of this workspace that build the text types, and `MeteredBytes` the
-//! library for C, the tests and the benchmark.
+//! `Caseless` serves the crates of this workspace that build the text types.
 #![tactic(auto)]
 
 mod case;
@@ -29,7 +28,6 @@ mod found;
 mod irregular;
 mod machine;
 mod metered;
-mod metered_bytes;
 mod recogniser;
 mod segment;
 mod shape;
@@ -41,13 +39,12 @@ mod viable;
 pub use case::{case_insensitive_cmp, case_insensitive_eq, case_insensitive_hash, into_smallcase};
 pub use caseless::Caseless;
 pub use class::{
-    is_extended, is_extension_subtag, is_mark, is_primary, is_private_subtag, is_region, is_script,
-    is_singleton, is_variant,
+    are_letters, is_extended, is_extension_subtag, is_mark, is_primary, is_private_subtag,
+    is_region, is_script, is_singleton, is_variant,
 };
 pub use ends::Ends;
 pub use found::Found;
 pub use metered::Metered;
-pub use metered_bytes::MeteredBytes;
 pub use recogniser::{recognise, recognise_normal};
 pub use segment::{segment_end, segment_start};
 pub use source::ByteSource;

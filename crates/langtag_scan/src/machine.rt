@@ -37,7 +37,7 @@ impl Machine {
     }
 
     /// Reads the subtag that begins at an index, with the hyphen after it. Where no tag begins so, it reads to the first byte
-    /// that shows this, and answers None.
+    /// that shows this, and returns None.
     ///
     /// The irregular texts are followed in a text of nine bytes alone.
     #[inline(always)]

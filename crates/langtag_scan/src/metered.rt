@@ -1,49 +1,65 @@
-//! A text, with a count of the reads.
+//! Bytes, with a count of the reads.
 ghost use Rattle.std.specs.Prelude.{◌≡◌};
 
-use crate::metered_bytes::MeteredBytes;
 use crate::source::ByteSource;
 
-/// The bytes of a text, with a count of the reads, to show how much of it is read to recognise a tag (RFC 5646 section
-/// 2.1). There is no other way to them.
+/// The bytes of a text, or any others, with a count of the reads, to show how much of them is read to recognise a tag (RFC
+/// 5646 section 2.1). There is no other way to them.
 #[derive(Drop)]
 pub struct Metered<'a> {
-    source: MeteredBytes<'a>,
+    bytes: &'a [u8],
+    reads: u128,
+    reach: usize,
 }
 
 impl<'a> Metered<'a> {
-    /// The bytes of a text, of which none was read yet: `Metered::new("fr").reads()` is 0.
+    /// Returns the bytes of a text, of which none was read yet: `Metered::new("fr").reads()` is 0.
     pub fn new(text: &'a str) -> Self
         ensures bytes { ⟦<Metered<'a> as ByteSource>⟧.bytes result ≡ text.now }
         ensures reads { ⟦<Metered<'a> as ByteSource>⟧.reads result ≡ 0 }
         ensures reach { ⟦<Metered<'a> as ByteSource>⟧.reach result ≡ 0 }
     {
+        Metered::of_bytes(text.as_bytes())
+    }
+
+    /// Bytes that need not be UTF-8: `Metered::of_bytes(b"fr\xFF").len()` is 3.
+    pub fn of_bytes(bytes: &'a [u8]) -> Self
+        ensures bytes { ⟦<Metered<'a> as ByteSource>⟧.bytes result ≡ bytes.now }
+        ensures reads { ⟦<Metered<'a> as ByteSource>⟧.reads result ≡ 0 }
+        ensures reach { ⟦<Metered<'a> as ByteSource>⟧.reach result ≡ 0 }
+    {
         Metered {
-            source: MeteredBytes::new(text.as_bytes()),
+            bytes,
+            reads: 0,
+            reach: 0,
         }
     }
 }
 
 impl<'a> ByteSource for Metered<'a> {
-    ghost bytes = { λ s. ⟦<MeteredBytes<'a> as ByteSource>⟧.bytes s.source };
+    ghost bytes = { λ s. s.bytes.now };
 
-    ghost reads = { λ s. ⟦<MeteredBytes<'a> as ByteSource>⟧.reads s.source };
+    ghost reads = { λ s. s.reads };
 
-    ghost reach = { λ s. ⟦<MeteredBytes<'a> as ByteSource>⟧.reach s.source };
+    ghost reach = { λ s. s.reach };
 
     fn len(&self) -> usize {
-        self.source.len()
+        self.bytes.len()
     }
 
     fn reads(&self) -> u128 {
-        self.source.reads()
+        self.reads
     }
 
     fn reach(&self) -> usize {
-        self.source.reach()
+        self.reach
     }
 
     fn byte(&mut self, index: usize) -> u8 {
-        self.source.byte(index)
+        self.reads += 1;
+        if self.reach <= index {
+            self.reach = index + 1;
+        }
+        self.bytes[index]
     }
 }

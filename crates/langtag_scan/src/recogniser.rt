@@ -102,7 +102,8 @@ pub fn recognise_normal<S: ByteSource>(source: &mut S) -> Option<Found>
     ensures found { MatchOption result (IsNormal (S.bytes source.old) → ⊥) (λ found.
         IsTrue (is_normal (finding found)) × IsFoundOf (S.bytes source.old) (finding found)) }
     ensures bytes { S.bytes source.new ≡ S.bytes source.old }
-    ensures reads { S.reads source.new ≤ S.reads source.old + length (S.bytes source.old) }
+    ensures reads { (n : ℕ) × IsStop (S.bytes source.old) n ×
+        (S.reads source.new ≡ S.reads source.old + n) × (S.reach source.new ≡ max (S.reach source.old) n) }
 
     // A law of these words: a text has one record.
     ensures one_record { (r q : Record) → IsWellFormed r → IsWellFormed q → spell r ≡ spell q → r ≡ q }

@@ -3,7 +3,7 @@
 ghost use Rattle.std.specs.Prelude.{◌≡◌, ◌-◌, ◌≤◌, ◌<◌, length, slice_index};
 ghost use Rattle.langtag_scan.specs.Subtags.{NoHyphenWithin};
 
-/// Where the segment that has begun at or before `index` ends: at the next hyphen, or at the end of the text.
+/// Returns where the segment that has begun at or before `index` ends: at the next hyphen, or at the end of the text.
 ///
 /// `segment_end(b"fr-FR", 0)` is 2, and `segment_end(b"fr-FR", 3)` is 5.
 pub fn segment_end(bytes: &[u8], index: usize) -> usize
@@ -20,7 +20,7 @@ pub fn segment_end(bytes: &[u8], index: usize) -> usize
     end
 }
 
-/// Where the segment begins that ends at `end`: just after a hyphen, or at 0.
+/// Returns where the segment begins that ends at `end`: just after a hyphen, or at 0.
 ///
 /// `segment_start(b"fr-FR", 5)` is 3, and `segment_start(b"fr-FR", 2)` is 0.
 pub fn segment_start(bytes: &[u8], end: usize) -> usize

@@ -1,4 +1,26 @@
 //! How the subtags of a normal tag, or of a private use one, follow one another (RFC 5646 section 2.1).
+//!
+//! ```text
+//! langtag    = language ["-" script] ["-" region] *("-" variant) *("-" extension) ["-" privateuse]
+//! privateuse = "x" 1*("-" (1*8alphanum))
+//!
+//! after                         a subtag that is        leads to
+//! Start                         primary                 Language(0), or Language(3) if it has four letters or more
+//! Start                         mark                    AfterFirstMark
+//! Language(n), Extended(n)      extended, n < 3         Extended(n + 1)
+//! Language .. Extended          script                  AfterScript
+//! Language .. AfterScript       region                  AfterRegion
+//! Language .. AfterVariant      variant                 AfterVariant
+//! Language .. AfterVariant      singleton               AfterSingleton
+//! Language .. AfterVariant      mark                    AfterMark
+//! AfterSingleton, InExtension   subtag of an extension  InExtension
+//! InExtension                   singleton               AfterSingleton
+//! InExtension                   mark                    AfterMark
+//! AfterMark, InPrivate          private use subtag      InPrivate
+//! AfterFirstMark, InPrivateTag  private use subtag      InPrivateTag
+//! ```
+//!
+//! A tag may end after any stage but `Start`, `AfterSingleton`, `AfterMark` and `AfterFirstMark`.
 ghost use Rattle.std.specs.Prelude.{◌≡◌, ◌↔◌, IsTrue};
 ghost use Rattle.langtag_scan.specs.Shape.{classes_of_shape};
 ghost use Rattle.langtag_scan.specs.Stage.{first_by, opened_by, after_region_by, after_script_by, after_language_by, after_by, may_end};

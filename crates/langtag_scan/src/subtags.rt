@@ -9,7 +9,7 @@ use std::marker::Model;
 
 /// The subtags of a text that are still to come, from either end: slices of the text, none of which holds a hyphen.
 ///
-/// Beside a hyphen at an end of the text, and between two hyphens in a row, stands an empty subtag, which is handed out
+/// Beside a hyphen at an end of the text, and between two hyphens in a row, stands an empty subtag, which is returned
 /// like any other: `a--b-` has the subtags `a`, the empty one, `b` and the empty one again.
 #[derive(Drop)]
 pub struct Subtags<'a> {
@@ -23,11 +23,14 @@ impl<'a> Model for Subtags<'a> {
 }
 
 impl<'a> Subtags<'a> {
-    /// All subtags of a text. `Subtags::new("fr-FR")` has `fr` and `FR`, and `Subtags::new("")` has none.
+    /// Returns all subtags of a text. `Subtags::new("fr-FR")` has `fr` and `FR`, and `Subtags::new("")` has none.
     pub fn new(text: &'a str) -> Self
         ensures list { result ≡ subtags text.now }
         ensures joined { join result ≡ text.now }
         ensures hyphen_free { All IsHyphenFree result }
+
+        ensures cloned { (walk copy : Subtags) → ⟦<Subtags<'a> as Clone>⟧.is_clone walk copy → copy ≡ walk }
+        ensures clone_succeeds { (walk : Subtags) → ⟦<Subtags<'a> as Clone>⟧.is_infallible walk }
     {
         if text.is_empty() {
             return Subtags::empty();
@@ -35,7 +38,7 @@ impl<'a> Subtags<'a> {
         Subtags { rest: Some(text) }
     }
 
-    /// No subtags: `Subtags::empty().next()` is None.
+    /// Returns an iterator over no subtags: `Subtags::empty().next()` is None.
     pub fn empty() -> Self
         ensures { result ≡ [] }
     {

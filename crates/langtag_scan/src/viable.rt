@@ -5,7 +5,7 @@ use crate::ended_bytes::EndedBytes;
 use crate::recogniser::recognise;
 use crate::source::ByteSource;
 
-/// The length in bytes of the longest prefix with which some tag begins (RFC 5646 section 2.1).
+/// Returns the length in bytes of the longest prefix with which some tag begins (RFC 5646 section 2.1).
 ///
 /// In bytes that are no tag, it is the index of the first wrong byte, or their number where they end too soon: of `zh_Hant`
 /// it is 2, of `i-notexist` 3, of `de-x` 4 and of nothing 0. Of a tag it is the length. It takes no memory.

@@ -3,11 +3,13 @@ use Rattle.std.specs.Prelude.{ℕ, List, Result, Ok, Err, codes}
 use Rattle.langtag_show.specs.declared.show_error.ShowError.{ShowError}
 use Rattle.langtag_show.specs.declared.show_error.ShowError.TheVariants.{Memory, Read, Write}
 
+-- the message on standard error
 abbrev pub text_of : ShowError → List ℕ
 text_of Memory = codes "out of memory"
 text_of Read = codes "read failed"
 text_of Write = codes "write failed"
 
+-- the exit status that tells the fault
 abbrev pub status_of : ShowError → ℕ
 status_of Memory = 3
 status_of Read = 4

@@ -16,7 +16,7 @@ use crate::show_error::ShowError;
 use langtag::{LangTag, NormalLangTag, PrivateUse, Region, Script, TypedLangTag};
 use std::io::Write;
 
-/// Puts the answer to a line on the page, and the LF that ends it.
+/// Adds the answer to a line, and an LF, to the page.
 pub(crate) fn put_answer<W: Write>(
     line: &[u8],
     page: &mut Page,
@@ -38,7 +38,7 @@ pub(crate) fn put_answer<W: Write>(
     }
 }
 
-/// The tag that a line is. A tag is ASCII, so a line that is not UTF-8 is none.
+/// The tag that a line consists of, if it is one. A tag is ASCII, so a line that is not UTF-8 is not a tag.
 fn tag_of(line: &[u8]) -> Option<LangTag<'_>>
     ensures { MatchOption result (¬ (IsTag line.now)) (λ tag. lang_tag_text tag ≡ line.now) }
 {
@@ -46,7 +46,7 @@ fn tag_of(line: &[u8]) -> Option<LangTag<'_>>
     LangTag::new(text).ok()
 }
 
-/// The answer to a normal tag, in pieces: its parts, and whether a variant or a singleton is repeated.
+/// The answer to a normal tag, in pieces: its parts, and whether it repeats a variant or a singleton.
 fn normal_answer<'a>(tag: &NormalLangTag<'a>) -> [&'a str; 14]
     ensures { IsAnswer (normal_lang_tag_text tag.now) (flat_map (λ piece. piece.now) result) }
 {
@@ -86,14 +86,14 @@ fn private_use_or_nothing(private_use: Option<PrivateUse<'_>>) -> &str
     private_use.map_or("", |private_use| private_use.as_str())
 }
 
-/// Whether a variant or a singleton stands in a tag twice.
+/// Returns `true` if a variant or a singleton occurs twice in a tag.
 fn has_repeats(tag: &NormalLangTag<'_>) -> bool
     ensures { EachRecord (normal_lang_tag_text tag.now) (λ r. result ≡ has_repeats r) }
 {
     tag.repeated_variant().is_some() || tag.repeated_singleton().is_some()
 }
 
-/// Puts the pieces of an answer and an LF on the page.
+/// Adds the pieces of an answer, and an LF, to the page.
 fn put_pieces<W: Write>(pieces: &[&str], page: &mut Page, output: &mut W) -> Result<(), ShowError>
     ensures ok { OnOk result (Appends (append_known (W.contents output.old) page.old) (append_known (W.contents output.new) page.new)
         (ended (flat_map (λ piece. piece.now) pieces.now))) }

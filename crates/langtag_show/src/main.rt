@@ -1,18 +1,19 @@
-//! Answers each line of standard input: which kind of language tag of RFC 5646 it is, if any, and of which parts.
+//! Answers each line of standard input: whether it is a language tag (RFC 5646), of which kind, and with which parts.
 //!
-//! A line ends at LF, and a last line without LF counts where it is not empty. CR is an ordinary byte. The answer goes
-//! by the three forms of a tag (section 2.1):
+//! A line ends at LF. A last line without LF is answered if it is not empty. CR is an ordinary byte. There are four
+//! answers, one for each form of a tag (section 2.1) and one for a line that is not a tag:
 //!
 //! - `normal language=L script=S region=R variants=V extensions=E private=P repeats=Q`, where an absent part is empty, and
-//!   Q is `yes` where a variant or a singleton stands in the tag twice (section 2.2.9), else `no`;
+//!   Q is `yes` if a variant or a singleton occurs twice in the tag (section 2.2.9), and `no` otherwise;
 //! - `private` and the tag;
-//! - `irregular` and the registered spelling of the tag;
-//! - `refused` for any other line, also one that is not UTF-8.
+//! - `irregular` and the tag as it is registered;
+//! - `refused`, also for a line that is not UTF-8.
 //!
-//! A run that a fault ends says so on standard error and by its status.
+//! If a read, a write or an allocation fails, the program says so on standard error and by its status.
 #![tactic(auto)]
 
 mod answer;
+mod gathered_line;
 mod outcome;
 mod page;
 mod run;

@@ -1,4 +1,4 @@
-//! What the program says of a run, and the status that it ends with.
+//! The message and the exit status after a run.
 ghost use Rattle.std.specs.Prelude.{◌≡◌, OnOk};
 ghost use Rattle.std.specs.Io.KnownBytes.{Appends, Keeps};
 ghost use Rattle.std.specs.Process.{exit_status};
@@ -10,9 +10,9 @@ use std::io;
 use std::io::Write;
 use std::process::ExitCode;
 
-/// Says on standard error why a run ended, if a fault ended it, and gives the status that the program ends with.
+/// Writes the error that ended a run, if there was one, to standard error, and returns the exit status.
 ///
-/// Where standard error takes nothing either, the status still tells.
+/// If standard error cannot be written either, the status still tells the error.
 pub(crate) fn conclude<W: Write>(outcome: Result<(), ShowError>, errors: &mut W) -> ExitCode
     ensures status { exit_status result ≡ status_after outcome }
     ensures quiet { OnOk outcome (Keeps (W.contents errors.old) (W.contents errors.new)) }
@@ -26,7 +26,7 @@ pub(crate) fn conclude<W: Write>(outcome: Result<(), ShowError>, errors: &mut W)
     }
 }
 
-/// Says a fault, and LF.
+/// Writes the text of an error and an LF.
 fn say<W: Write>(error: ShowError, errors: &mut W) -> io::Result<()>
     ensures { OnOk result (Appends (W.contents errors.old) (W.contents errors.new) (ended (text_of error))) }
 {

@@ -1,4 +1,4 @@
-//! A page, on which answers are gathered.
+//! A page: the buffer that answers are gathered in before they are written.
 ghost use Rattle.std.specs.Prelude.{◌≡◌, ◌+◌, ◌≤◌, List, ℕ, [], ◌++◌, length, take, OnOk, IsOkUnless};
 ghost use Rattle.std.specs.Io.KnownBytes.{Appends, append_known};
 ghost use Rattle.langtag_show.specs.declared.page.TheConstants.{PAGE_LEN};
@@ -7,13 +7,13 @@ use crate::show_error::ShowError;
 use std::io::Write;
 use std::marker::Model;
 
-/// How many bytes a page holds: some two hundred answers to ordinary tags.
+/// The length of a page in bytes, which is about two hundred answers to ordinary tags.
 const PAGE_LEN: usize = 16_384;
 
-/// The end of the answers, as far as it is not written yet, so that one write takes the answers to many lines.
+/// The answers that are not written yet, so that one write serves many lines.
 ///
-/// It takes no memory. Who reads on writes it out first, so that no answer waits for a read. Answers longer than a page
-/// go out in several writes, whole and in order.
+/// It allocates no memory. It is written out before the next read, so that no answer waits for input. Answers longer than
+/// a page are written in several writes, whole and in order.
 #[derive(Drop)]
 pub(crate) struct Page {
     bytes: [u8; PAGE_LEN],
@@ -39,8 +39,8 @@ impl Page {
         }
     }
 
-    /// Takes the next piece of an answer. What does not fit any more is written out first, and a piece longer than a
-    /// page after it.
+    /// Adds the next piece of an answer. If it does not fit, the page is written out first; a piece longer than a page is
+    /// then written directly.
     pub(crate) fn put<W: Write>(&mut self, piece: &str, output: &mut W) -> Result<(), ShowError>
         ensures ok { OnOk result (Appends (append_known (W.contents output.old) self.old)
             (append_known (W.contents output.new) self.new) piece.now) }
@@ -53,7 +53,7 @@ impl Page {
         self.put_on_next_page(piece, output)
     }
 
-    /// Writes the page out, and takes a piece on the next. Out of line, so that a piece that fits pays nothing for it.
+    /// Writes the page out, and then adds a piece. It is not inlined, so that a piece that fits costs no more for it.
     #[inline(never)]
     fn put_on_next_page<W: Write>(&mut self, piece: &str, output: &mut W) -> Result<(), ShowError>
         ensures ok { OnOk result (Appends (append_known (W.contents output.old) self.old)
@@ -70,7 +70,7 @@ impl Page {
             .map_err(|_| ShowError::Write)
     }
 
-    /// Takes bytes that fit.
+    /// Adds bytes that fit on the page.
     fn add(&mut self, bytes: &[u8])
         requires { length self.old + length bytes.now ≤ PAGE_LEN }
         ensures { self.new ≡ self.old ++ bytes.now }
@@ -80,7 +80,7 @@ impl Page {
         self.len = end;
     }
 
-    /// Writes what the page holds, which is empty then.
+    /// Writes the page out, and empties it.
     pub(crate) fn write_out<W: Write>(&mut self, output: &mut W) -> Result<(), ShowError>
         ensures ok { OnOk result (Appends (W.contents output.old) (W.contents output.new) self.old) }
         ensures empty { OnOk result (self.new ≡ []) }

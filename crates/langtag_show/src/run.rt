@@ -1,4 +1,4 @@
-//! From what is read to what is written.
+//! A run: reads the input, and writes the answer to each line.
 ghost use Rattle.std.specs.Prelude.{◌≡◌, ◌≢◌, ℕ, List, [], ◌∷◌, ◌++◌, take, OnOk, IfErr, IfSome, IsErrOf, IsOkUnless};
 ghost use Rattle.std.specs.Io.KnownBytes.{Appends, IsAtEnd, append_known};
 ghost use Rattle.std.specs.List.{position};
@@ -6,26 +6,26 @@ ghost use Rattle.langtag_show.specs.Lines.{IsCutInto, NoLineFeed, is_line_feed, 
 ghost use Rattle.langtag_show.specs.Report.{IsAnswer, AreAnswers, Answers, HavingRead};
 
 use crate::answer::put_answer;
+use crate::gathered_line::GatheredLine;
 use crate::page::Page;
 use crate::show_error::ShowError;
-use std::alloc::{Allocator, Global};
+use std::alloc::Global;
 use std::io::{Read, Write};
 
-/// How many bytes a read asks for.
+/// The number of bytes that a read asks for.
 const BUFFER_LEN: usize = 16_384;
 
 const LINE_FEED: u8 = b'\n';
 
 /// Writes the answer to each line of the input, each followed by LF, and flushes once at the end.
 ///
-/// The answers of the lines that a read completed are gathered on a page, which is written out before the next read and
-/// where it is full. The page and the buffer of the reads have fixed sizes. Memory is taken for a line that one read
-/// does not hold whole.
+/// Answers are gathered on a page, which is written out when it is full and before the next read. The page and the buffer
+/// for reads have fixed sizes. Memory is allocated only for a line that does not lie within one read.
 ///
 /// # Errors
 ///
-/// `Memory` where that line could not grow. `Read` at the first error of the reader, an interruption among them, and
-/// where the input has not ended after 2^64 - 1 reads. `Write` where `write_all` or the flush failed.
+/// `Memory` if there is not enough memory for such a line. `Read` at the first error of the reader, also an interruption,
+/// and if the input has not ended after 2^64 - 1 reads. `Write` if `write_all` or the flush fails.
 #[tactic(auto, using(crate::proofs::OneReport::one_answer, crate::proofs::OneReport::one_report))]
 pub fn run<R: Read, W: Write>(alloc: Global, input: &mut R, output: &mut W) -> Result<(), ShowError>
     ensures whole { OnOk result (IsAtEnd (R.remaining input.new)) }
@@ -36,7 +36,7 @@ pub fn run<R: Read, W: Write>(alloc: Global, input: &mut R, output: &mut W) -> R
     ensures after_memory { IsErrOf result ShowError.Memory → HavingRead (R.remaining input.old) (R.remaining input.new)
         (λ i. (k : ℕ) × Answers (W.contents output.old) (W.contents output.new) (take k (complete_lines i))) }
 
-    // What these words mean is one thing: an input is cut into lines in one way, and a line has one answer.
+    // These words have one meaning: there is one way to cut an input into lines, and one answer to a line.
     ensures cut { (i : List ℕ) → IsCutInto i (complete_lines i) (rest_of i) }
     ensures one_cut { (i : List ℕ) (lines others : List (List ℕ)) (rest other : List ℕ) →
         IsCutInto i lines rest → IsCutInto i others other → (lines ≡ others) × (rest ≡ other) }
@@ -44,15 +44,16 @@ pub fn run<R: Read, W: Write>(alloc: Global, input: &mut R, output: &mut W) -> R
     ensures one_report { (lines : List (List ℕ)) (texts others : List ℕ) →
         AreAnswers lines texts → AreAnswers lines others → texts ≡ others }
 {
-    run_in(alloc, input, output)
+    run_in(Vec::new(alloc), input, output)
 }
 
-/// `run` over any allocator.
-pub(crate) fn run_in<A: Allocator, R: Read, W: Write>(
-    alloc: A,
+/// Does what [`run`] does, and gathers lines in the given one, which is empty.
+pub(crate) fn run_in<L: GatheredLine + Drop, R: Read, W: Write>(
+    mut line: L,
     input: &mut R,
     output: &mut W,
 ) -> Result<(), ShowError>
+    requires { L.bytes line ≡ [] }
     ensures whole { OnOk result (IsAtEnd (R.remaining input.new)) }
     ensures report { OnOk result (IfSome (R.remaining input.old) (λ i.
         Answers (W.contents output.old) (W.contents output.new) (lines_of i))) }
@@ -61,7 +62,6 @@ pub(crate) fn run_in<A: Allocator, R: Read, W: Write>(
     ensures after_memory { IsErrOf result ShowError.Memory → HavingRead (R.remaining input.old) (R.remaining input.new)
         (λ i. (k : ℕ) × Answers (W.contents output.old) (W.contents output.new) (take k (complete_lines i))) }
 {
-    let mut line = Vec::new(alloc);
     let mut page = Page::new();
     let mut buffer = [0; BUFFER_LEN];
     for _ in 0..u64::MAX {
@@ -69,29 +69,29 @@ pub(crate) fn run_in<A: Allocator, R: Read, W: Write>(
             return Err(ShowError::Read);
         };
         if count == 0 {
-            return finish(&line, &mut page, output);
+            return finish(line.as_bytes(), &mut page, output);
         }
         take_bytes(&mut line, &buffer[..count], &mut page, output)?;
     }
     Err(ShowError::Read)
 }
 
-/// Takes bytes into the line that is gathered, and writes the answer to each line that they complete.
+/// Adds bytes to the line that is gathered, and writes the answer to each line that they complete.
 ///
-/// The page is empty again when it returns Ok, and so no answer waits for the next bytes.
-fn take_bytes<A: Allocator, W: Write>(
-    line: &mut Vec<u8, A>,
+/// If it returns Ok, the page is empty again, so no answer waits for the next bytes.
+fn take_bytes<L: GatheredLine, W: Write>(
+    line: &mut L,
     bytes: &[u8],
     page: &mut Page,
     output: &mut W,
 ) -> Result<(), ShowError>
-    requires free { NoLineFeed line.old.items }
+    requires free { NoLineFeed (L.bytes line.old) }
     requires written { page.old ≡ [] }
-    ensures ok { OnOk result (Answers (W.contents output.old) (W.contents output.new) (complete_lines (line.old.items ++ bytes.now))) }
-    ensures rest { OnOk result (line.new.items ≡ rest_of (line.old.items ++ bytes.now)) }
+    ensures ok { OnOk result (Answers (W.contents output.old) (W.contents output.new) (complete_lines (L.bytes line.old ++ bytes.now))) }
+    ensures rest { OnOk result (L.bytes line.new ≡ rest_of (L.bytes line.old ++ bytes.now)) }
     ensures empty { OnOk result (page.new ≡ []) }
     ensures memory { IsErrOf result ShowError.Memory → (k : ℕ) ×
-        Answers (W.contents output.old) (W.contents output.new) (take k (complete_lines (line.old.items ++ bytes.now))) }
+        Answers (W.contents output.old) (W.contents output.new) (take k (complete_lines (L.bytes line.old ++ bytes.now))) }
     ensures other { IfErr result (λ e. e ≢ ShowError.Read) }
 {
     let mut left = bytes;
@@ -103,58 +103,58 @@ fn take_bytes<A: Allocator, W: Write>(
     page.write_out(output)
 }
 
-/// How many bytes stand before the first LF, if there is one.
+/// The number of bytes before the first LF, if there is one.
 fn line_len(bytes: &[u8]) -> Option<usize>
     ensures { result ≡ position is_line_feed bytes.now }
 {
     bytes.iter().position(|byte| *byte == LINE_FEED)
 }
 
-/// Ends the line that is gathered with these bytes, and puts the answer to it on the page. A line that is whole in
-/// them is not copied.
-fn end_line<A: Allocator, W: Write>(
-    line: &mut Vec<u8, A>,
+/// Ends the line that is gathered with these bytes, and adds the answer to it to the page. If all of the line is in these
+/// bytes, it is not copied.
+fn end_line<L: GatheredLine, W: Write>(
+    line: &mut L,
     end: &[u8],
     page: &mut Page,
     output: &mut W,
 ) -> Result<(), ShowError>
     ensures ok { OnOk result (Answers (append_known (W.contents output.old) page.old) (append_known (W.contents output.new) page.new)
-        ((line.old.items ++ end.now) ∷ [])) }
-    ensures cleared { OnOk result (line.new.items ≡ []) }
+        ((L.bytes line.old ++ end.now) ∷ [])) }
+    ensures cleared { OnOk result (L.bytes line.new ≡ []) }
     ensures memory { IsErrOf result ShowError.Memory → Appends (W.contents output.old) (W.contents output.new) page.old }
     ensures other { IfErr result (λ e. e ≢ ShowError.Read) }
 {
-    if line.is_empty() {
+    if line.as_bytes().is_empty() {
         return put_answer(end, page, output);
     }
     gather(line, end, page, output)?;
-    put_answer(line, page, output)?;
+    put_answer(line.as_bytes(), page, output)?;
     line.clear();
     Ok(())
 }
 
-/// Takes bytes into the line that is gathered.
+/// Adds bytes to the line that is gathered.
 ///
-/// Where the line can't grow, the page is written out: the answers to the lines before it stand.
-fn gather<A: Allocator, W: Write>(
-    line: &mut Vec<u8, A>,
+/// If there is not enough memory, the page is written out, so that the answers to the lines before it are not lost.
+fn gather<L: GatheredLine, W: Write>(
+    line: &mut L,
     bytes: &[u8],
     page: &mut Page,
     output: &mut W,
 ) -> Result<(), ShowError>
-    ensures gathered { OnOk result (line.new.items ≡ line.old.items ++ bytes.now) }
+    ensures gathered { OnOk result (L.bytes line.new ≡ L.bytes line.old ++ bytes.now) }
     ensures kept { OnOk result (append_known (W.contents output.new) page.new ≡ append_known (W.contents output.old) page.old) }
     ensures memory { IsErrOf result ShowError.Memory → Appends (W.contents output.old) (W.contents output.new) page.old }
     ensures other { IfErr result (λ e. e ≢ ShowError.Read) }
 {
-    if line.extend_from_slice(bytes).is_err() {
+    if line.extend(bytes).is_err() {
         page.write_out(output)?;
         return Err(ShowError::Memory);
     }
     Ok(())
 }
 
-/// Writes the answer to the rest where it is a line, and flushes.
+/// Writes the answer to the rest if it is not empty, and flushes.
 fn finish<W: Write>(rest: &[u8], page: &mut Page, output: &mut W) -> Result<(), ShowError>
     requires { page.old ≡ [] }
     ensures ok { OnOk result (Answers (W.contents output.old) (W.contents output.new) (last_line rest.now)) }

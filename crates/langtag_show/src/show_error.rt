@@ -1,22 +1,22 @@
-//! Why a run ends before it has answered its whole input.
+//! The errors that end a run before it has answered its whole input.
 ghost use Rattle.std.specs.Prelude.{◌≡◌};
 
-/// The fault that ended a run.
+/// An error that ended a run.
 #[derive(Clone, Copy, Debug, PartialEq, Eq)]
 pub enum ShowError {
-    /// A growth of the line buffer was refused. The answers of some complete lines stand, whole and in order.
+    /// There was not enough memory for a line. What is written are whole answers, in order, from the first line on.
     Memory,
-    /// A read failed, or the input had not ended after the most reads that a run makes. The answers of all
-    /// complete lines that were read stand.
+    /// A read failed, or the input had not ended after 2^64 - 1 reads. The answers to all complete lines that were read
+    /// are written.
     Read,
-    /// A write or the flush failed. Nothing is known of what stands in the output.
+    /// A write or the flush failed. How much was written is not known.
     Write,
 }
 
 impl ShowError {
     ghost use Rattle.langtag_show.specs.ShowError.{text_of, status_of};
 
-    /// What the program says on standard error, without the LF.
+    /// The text that the program writes to standard error, without the LF.
     pub fn text(&self) -> &'static str
         ensures { result.now ≡ text_of self.now }
     {
@@ -27,7 +27,7 @@ impl ShowError {
         }
     }
 
-    /// The status that the program ends with.
+    /// The exit status of the program.
     pub fn status(&self) -> u8
         ensures { result ≡ status_of self.now }
     {

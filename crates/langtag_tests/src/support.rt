@@ -4,20 +4,21 @@ ghost use Rattle.std.specs.Prelude.{◌≡◌};
 use langtag_extension::ExtensionIter;
 use langtag_scan::{case_insensitive_cmp, case_insensitive_eq};
 use std::alloc::{AllocError, Global};
-use std::collections::{BTreeMap, HashMap};
 use std::fmt::{Debug, Display};
 use std::hash::{DefaultHasher, Hash, Hasher};
 use std::process::Abort;
 
-/// Runs the body of a test, and a second time where it was refused memory: at most one growth of a test is refused
-/// (`rt try --test --fail-alloc N`), so that a body that has none twice fails. In a body `?` is for want of memory alone.
-pub(crate) fn with_memory<F: Fn() -> Result<(), AllocError>>(rt: &impl Abort, body: F)
-    requires { F.IsAlwaysCallable body }
-{
-    if body().is_err() {
-        assert!(rt; body().is_ok(), "memory was refused twice");
-    }
+/// Makes a call that takes memory, and again where it was refused some: at most one growth of a test is refused
+/// (`rt try --test --fail-alloc N`), so that a call that has none twice fails. Its `?` are for want of memory alone.
+macro_rules! with_memory {
+    ($rt:expr, $call:expr) => {
+        if $call.is_err() {
+            $crate::support::expect_true(&$rt, $call.is_ok(), "memory was refused twice")
+        }
+    };
 }
+
+pub(crate) use with_memory;
 
 /// What a hasher answers that was fed a value.
 pub(crate) fn hash_of<T: Hash>(value: &T) -> u64 {
@@ -27,74 +28,46 @@ pub(crate) fn hash_of<T: Hash>(value: &T) -> u64 {
 }
 
 /// Fails the test where a condition does not hold of a case. What `assert_that!` calls.
-pub(crate) fn expect_true(rt: &impl Abort, holds: bool, case: &impl Debug) {
+pub(crate) fn expect_true<C: Debug + Drop>(rt: &impl Abort, holds: bool, case: C) {
     assert!(rt; holds, "of {case:?}");
 }
 
 /// Fails the test where a case has another answer than the one wanted. What `assert_same!` calls.
-pub(crate) fn expect_same<T: Debug + PartialEq>(
+pub(crate) fn expect_same<T: Debug + PartialEq + Drop, C: Debug + Drop>(
     rt: &impl Abort,
-    found: &T,
-    wanted: &T,
-    case: &impl Debug,
+    found: T,
+    wanted: T,
+    case: C,
 ) {
-    assert_eq!(rt; *found, *wanted, "of {case:?}");
+    assert_eq!(rt; found, wanted, "of {case:?}");
 }
 
 /// Asserts that a condition holds, of a case where one is named: `assert_that!(rt; walk.next().is_none(), text)`.
 ///
-/// This and `assert_same!` are calls, and stand in place of `assert!` and `assert_eq!`, whose failure the check proves
-/// safe anew wherever one stands, at ten times the cost of a call.
+/// This and `assert_same!` are calls that take their arguments by value, and stand in place of `assert!` and `assert_eq!`:
+/// a failure that is written out is proved safe anew at ten times the cost of a call, and a reference to each argument
+/// makes a call three times as dear.
 macro_rules! assert_that {
     ($rt:expr; $holds:expr) => {
-        $crate::support::expect_true(&$rt, $holds, &stringify!($holds))
+        $crate::support::expect_true(&$rt, $holds, stringify!($holds))
     };
     ($rt:expr; $holds:expr, $case:expr) => {
-        $crate::support::expect_true(&$rt, $holds, &$case)
+        $crate::support::expect_true(&$rt, $holds, $case)
     };
 }
 
 /// Asserts that an answer is the one wanted, of a case where one is named: `assert_same!(rt; tag.as_str(), "fr")`.
 macro_rules! assert_same {
     ($rt:expr; $found:expr, $wanted:expr) => {
-        $crate::support::expect_same(&$rt, &$found, &$wanted, &stringify!($found))
+        $crate::support::expect_same(&$rt, $found, $wanted, stringify!($found))
     };
     ($rt:expr; $found:expr, $wanted:expr, $case:expr) => {
-        $crate::support::expect_same(&$rt, &$found, &$wanted, &$case)
+        $crate::support::expect_same(&$rt, $found, $wanted, $case)
     };
 }
 
 pub(crate) use assert_same;
 pub(crate) use assert_that;
-
-/// Asserts that a value is shown as its text stands (Display answers Ok wherever the writer does, which no clause can say),
-/// and in Debug by the name of its type and its text.
-pub(crate) fn assert_shown<T: Debug + Display>(
-    rt: &impl Abort,
-    value: &T,
-    (name, text): (&str, &str),
-    alloc: Global,
-) -> Result<(), AllocError> {
-    assert_same!(rt; value.to_string(alloc)?.as_str(), text);
-    let debug = format!(in alloc; "{value:?}")?;
-    let wanted = format!(in alloc; "{name} {{ text: Caseless({text:?})")?;
-    assert_that!(rt; debug.as_str().starts_with(wanted.as_str()), debug);
-    Ok(())
-}
-
-/// Asserts that a refusal says its message, and is `InvalidRegion("F")` in Debug where the type is `Region` and the text `F`.
-pub(crate) fn assert_refusal<E: Debug + Display>(
-    rt: &impl Abort,
-    refusal: &E,
-    (message, name, text): (&str, &str, &str),
-    alloc: Global,
-) -> Result<(), AllocError> {
-    assert_same!(rt; refusal.to_string(alloc)?.as_str(), message);
-    let debug = format!(in alloc; "{refusal:?}")?;
-    let wanted = format!(in alloc; "Invalid{name}({text:?})")?;
-    assert_same!(rt; debug, wanted);
-    Ok(())
-}
 
 /// Asserts that two values compare and hash as their texts do, whose folded bytes langtag_scan compares.
 pub(crate) fn assert_compared<T: Ord + Hash>(
@@ -103,38 +76,17 @@ pub(crate) fn assert_compared<T: Ord + Hash>(
     texts: (&str, &str),
 ) {
     let order = case_insensitive_cmp(texts.0.as_bytes(), texts.1.as_bytes());
-    assert_alike(rt, value == other, texts);
-    assert_alike(rt, hash_of(value) == hash_of(other), texts);
+    let are_alike = case_insensitive_eq(texts.0.as_bytes(), texts.1.as_bytes());
+    assert_same!(rt; value == other, are_alike, texts);
+    assert_same!(rt; hash_of(value) == hash_of(other), are_alike, texts);
     assert_same!(rt; value.cmp(other), order, texts);
     assert_same!(rt; value.partial_cmp(other), Some(order), texts);
-}
-
-/// Asserts that an answer is whether two texts are equal but for the case of ASCII letters.
-pub(crate) fn assert_alike(rt: &impl Abort, answer: bool, (text, other): (&str, &str)) {
-    let alike = case_insensitive_eq(text.as_bytes(), other.as_bytes());
-    assert_same!(rt; answer, alike, (text, other));
 }
 
 /// Asserts that a copy is a text, with room for that text alone.
 pub(crate) fn assert_exact(rt: &impl Abort, copy: String, text: &str) {
     assert_same!(rt; copy.as_str(), text);
     assert_same!(rt; copy.capacity(), text.len(), text);
-}
-
-/// Asserts that a value is found in a HashMap and in a BTreeMap by one that is alike.
-pub(crate) fn assert_key<K: Ord + Hash + Drop>(
-    rt: &impl Abort,
-    keys: (K, K),
-    alike: &K,
-    alloc: Global,
-) -> Result<(), AllocError> {
-    let mut hashed = HashMap::new(alloc);
-    let mut sorted = BTreeMap::new(alloc);
-    hashed.insert(keys.0, 1)?;
-    sorted.insert(keys.1, 1)?;
-    assert_same!(rt; hashed.get(alike).copied(), Some(1));
-    assert_same!(rt; sorted.get(alike).copied(), Some(1));
-    Ok(())
 }
 
 /// Texts that no type accepts: other bytes, hyphens out of place, and letters past ASCII, of which some fold to one of ASCII.
@@ -174,188 +126,190 @@ pub(crate) const HOSTILE: &[&str] = &[
     "abcdefghijklmnopqrstuvwxyz0123456789",
 ];
 
-/// A text type's names and the message of its error, texts that it accepts, and texts that it refuses.
+/// A text type's name, how Debug ends after the text, the message of its error, texts that it accepts and that it refuses.
 #[derive(Clone, Copy)]
 pub(crate) struct TextType<'a> {
     pub(crate) name: &'a str,
-    pub(crate) owned_name: &'a str,
+    pub(crate) debug_end: &'a str,
     pub(crate) message: &'a str,
     pub(crate) accepted: &'a [&'a str],
     pub(crate) refused: &'a [&'a str],
 }
 
-/// Asserts that a borrowed type keeps each accepted text, compares it with each text as the texts do, and hands the others
-/// back.
-fn assert_borrowed<'a, T, E, N, A>(
-    rt: &impl Abort,
-    texts: TextType<'a>,
+/// What the borrowed and the owned form of a text type answer of a text, as both are shown by Display and by Debug.
+#[derive(Drop)]
+pub(crate) enum Seen {
+    Accepted { shown: String, copy: String },
+    Refused { shown: String },
+}
+
+/// What a value and its owned form, or the refusals of both forms, are shown as.
+pub(crate) fn show<T: Debug + Display, U: Debug + Display>(
+    value: &T,
+    owned: &U,
     alloc: Global,
-    new: &N,
-    is_alike: &A,
-) -> Result<(), AllocError>
-where
-    T: Debug + Display + Ord + Hash + Drop,
-    E: Debug + Display + Drop,
-    N: Fn(&'a str) -> Result<T, E>,
-    A: Fn(&T, &str) -> bool,
-    requires new { N.IsAlwaysCallable new.now }
-    requires is_alike { A.IsAlwaysCallable is_alike.now }
-{
-    for text in texts.accepted {
-        let value = (*new)(*text).expect(rt, "refused");
-        assert_shown(rt, &value, (texts.name, *text), alloc)?;
-        for other in texts.accepted {
-            let other_value = (*new)(*other).expect(rt, "refused");
-            assert_compared(rt, (&value, &other_value), (*text, *other));
-        }
-        for list in [texts.accepted, texts.refused, HOSTILE] {
-            for other in list {
-                assert_alike(rt, (*is_alike)(&value, *other), (*text, *other));
+) -> Result<String, AllocError> {
+    format!(in alloc; "{value} {owned} {value:?} {owned:?}")
+}
+
+/// What is seen of a text that the borrowed form refuses: an owned form that accepts it is shown as nothing.
+pub(crate) fn see_refused<T: Drop, E: Debug + Display, F: Debug + Display + Drop>(
+    refusal: &E,
+    owned: Result<T, F>,
+    alloc: Global,
+) -> Result<Seen, AllocError> {
+    let shown = match owned {
+        Ok(_) => String::new(alloc),
+        Err(owned) => show(refusal, &owned, alloc)?,
+    };
+    Ok(Seen::Refused { shown })
+}
+
+/// What both forms of a text type answer of a text: the body of a function for each type, so that all that is asserted of
+/// the answers is proved once.
+macro_rules! seen {
+    ($borrowed:ident, $owned:ident, $text:ident, $alloc:ident) => {
+        match $borrowed::new($text) {
+            Ok(value) => {
+                let owned = value.try_to_owned($alloc)?;
+                let shown = $crate::support::show(&value, &owned, $alloc)?;
+                let copy = owned.into_string();
+                Ok($crate::support::Seen::Accepted { shown, copy })
+            }
+            Err(refusal) => {
+                let owned = $owned::new(String::from_str($alloc, $text)?);
+                $crate::support::see_refused(&refusal, owned, $alloc)
             }
         }
+    };
+}
+
+pub(crate) use seen;
+
+/// Asserts that an accepted text is shown as it stands (Display answers Ok wherever the writer does, which no clause can
+/// say), and in Debug by the name of its type and its text; and that its copy has no room to spare.
+fn assert_accepted(
+    rt: &impl Abort,
+    alloc: Global,
+    texts: TextType<'_>,
+    (text, shown, copy): (&str, String, String),
+) -> Result<(), AllocError> {
+    let TextType {
+        name,
+        debug_end,
+        ..
+    } = texts;
+    let debug = format!(in alloc; "{{ text: Caseless({text:?}){debug_end}")?;
+    let wanted = format!(in alloc; "{text} {text} {name} {debug} {name}Buf {debug}")?;
+    assert_same!(rt; shown, wanted);
+    assert_exact(rt, copy, text);
+    Ok(())
+}
+
+/// Asserts that a refusal says its message, and is `InvalidRegion("F")` in Debug where the type is `Region` and the text `F`.
+fn assert_refused(
+    rt: &impl Abort,
+    alloc: Global,
+    texts: TextType<'_>,
+    (text, shown): (&str, String),
+) -> Result<(), AllocError> {
+    let TextType { name, message, .. } = texts;
+    let wanted = format!(in alloc;
+        "{message} {message} Invalid{name}({text:?}) Invalid{name}({text:?})"
+    )?;
+    assert_same!(rt; shown, wanted);
+    Ok(())
+}
+
+/// Asserts that a text type accepts a text, and each beginning of it that it accepts, so that all lengths are met.
+fn assert_beginnings(
+    rt: &impl Abort,
+    alloc: Global,
+    texts: TextType<'_>,
+    text: &str,
+    see: fn(&str, Global) -> Result<Seen, AllocError>,
+) -> Result<(), AllocError>
+    requires { IsAlwaysCallable see }
+{
+    for end in 0..=text.len() {
+        if let Some(beginning) = text.get(..end) {
+            assert_beginning(rt, alloc, texts, beginning, end < text.len(), see)?;
+        }
+    }
+    Ok(())
+}
+
+/// Asserts that a text type accepts a text, or refuses it where it may.
+fn assert_beginning(
+    rt: &impl Abort,
+    alloc: Global,
+    texts: TextType<'_>,
+    text: &str,
+    may_refuse: bool,
+    see: fn(&str, Global) -> Result<Seen, AllocError>,
+) -> Result<(), AllocError>
+    requires { IsAlwaysCallable see }
+{
+    match see(text, alloc)? {
+        Seen::Accepted { shown, copy } => assert_accepted(rt, alloc, texts, (text, shown, copy))?,
+        Seen::Refused { .. } => assert_that!(rt; may_refuse, text),
+    }
+    Ok(())
+}
+
+/// Asserts what a text type answers of the texts that it accepts, of those that it refuses and of what no type accepts.
+fn assert_texts(
+    rt: &impl Abort,
+    alloc: Global,
+    texts: TextType<'_>,
+    see: fn(&str, Global) -> Result<Seen, AllocError>,
+) -> Result<(), AllocError>
+    requires { IsAlwaysCallable see }
+{
+    for text in texts.accepted {
+        assert_beginnings(rt, alloc, texts, *text, see)?;
     }
     for list in [texts.refused, HOSTILE] {
         for text in list {
-            let refusal = (*new)(*text).expect_err(rt, "accepted");
-            assert_refusal(rt, &refusal, (texts.message, texts.name, *text), alloc)?;
-        }
-    }
-    Ok(())
-}
-
-/// Asserts that each accepted beginning of an accepted text, so that all lengths are met, is kept, shown and copied.
-fn assert_beginnings<'a, T, E, N, C>(
-    rt: &impl Abort,
-    texts: TextType<'a>,
-    alloc: Global,
-    new: &N,
-    copy: &C,
-) -> Result<(), AllocError>
-where
-    T: Display + Drop,
-    E: Drop,
-    N: Fn(&'a str) -> Result<T, E>,
-    C: Fn(&T, &str, Global) -> Result<(bool, String), AllocError>,
-    requires new { N.IsAlwaysCallable new.now }
-    requires copy { C.IsAlwaysCallable copy.now }
-{
-    for text in texts.accepted {
-        for end in 0..=text.len() {
-            let beginning = text.get(..end).unwrap_or("");
-            if let Ok(value) = (*new)(beginning) {
-                assert_same!(rt; value.to_string(alloc)?.as_str(), beginning);
-                let (is_text, copy) = (*copy)(&value, beginning, alloc)?;
-                assert_that!(rt; is_text, beginning);
-                assert_exact(rt, copy, beginning);
+            match see(*text, alloc)? {
+                Seen::Accepted { .. } => assert_that!(rt; false, *text),
+                Seen::Refused { shown } => assert_refused(rt, alloc, texts, (*text, shown))?,
             }
         }
     }
     Ok(())
 }
 
-/// Asserts that an owned type does the same, and that its values are keys.
-fn assert_owned<'a, T, E, N, S>(
+/// Asserts this of a text type, by the function that sees what it answers.
+pub(crate) fn assert_text_type(
     rt: &impl Abort,
-    texts: TextType<'a>,
     alloc: Global,
-    new: &N,
-    is_text: &S,
-) -> Result<(), AllocError>
-where
-    T: Debug + Display + Ord + Hash + Drop,
-    E: Debug + Display + Drop,
-    N: Fn(String) -> Result<T, E>,
-    S: Fn(&T, &str) -> bool,
-    requires new { N.IsAlwaysCallable new.now }
-    requires is_text { S.IsAlwaysCallable is_text.now }
-{
-    for text in texts.accepted {
-        for end in 0..=text.len() {
-            let beginning = text.get(..end).unwrap_or("");
-            if let Ok(value) = (*new)(String::from_str(alloc, beginning)?) {
-                assert_that!(rt; (*is_text)(&value, beginning), beginning);
-                assert_shown(rt, &value, (texts.owned_name, beginning), alloc)?;
-                let capital = (*new)(beginning.to_ascii_uppercase(alloc)?).expect(rt, "refused");
-                assert_compared(rt, (&value, &capital), (beginning, beginning));
-                let again = (*new)(String::from_str(alloc, beginning)?).expect(rt, "refused");
-                assert_key(rt, (value, again), &capital, alloc)?;
-            }
-        }
-    }
-    for list in [texts.refused, HOSTILE] {
-        for text in list {
-            let refusal = (*new)(String::from_str(alloc, *text)?).expect_err(rt, "accepted");
-            assert_refusal(rt, &refusal, (texts.message, texts.name, *text), alloc)?;
-        }
-    }
-    Ok(())
-}
-
-/// Asserts all three of a text type, by its calls, of which `copy` tells whether a value answers with a text and copies it,
-/// and `lend` tells whether an owned value does. They are asserted once more where memory was refused.
-pub(crate) fn assert_text_type<'a, T, E, U, F, N, A, C, O, L>(
-    rt: &impl Abort,
-    texts: TextType<'a>,
-    alloc: Global,
-    new: N,
-    eq_str: A,
-    copy: C,
-    new_owned: O,
-    lend: L,
+    texts: TextType<'_>,
+    see: fn(&str, Global) -> Result<Seen, AllocError>,
 )
-where
-    T: Debug + Display + Ord + Hash + Drop,
-    E: Debug + Display + Drop,
-    U: Debug + Display + Ord + Hash + Drop,
-    F: Debug + Display + Drop,
-    N: Fn(&'a str) -> Result<T, E>,
-    A: Fn(&T, &str) -> bool,
-    C: Fn(&T, &str, Global) -> Result<(bool, String), AllocError>,
-    O: Fn(String) -> Result<U, F>,
-    L: Fn(&U, &str) -> bool,
-    requires new { N.IsAlwaysCallable new }
-    requires eq_str { A.IsAlwaysCallable eq_str }
-    requires copy { C.IsAlwaysCallable copy }
-    requires new_owned { O.IsAlwaysCallable new_owned }
-    requires lend { L.IsAlwaysCallable lend }
+    requires { IsAlwaysCallable see }
 {
-    if assert_borrowed(rt, texts, alloc, &new, &eq_str).is_err() {
-        assert_that!(rt; assert_borrowed(rt, texts, alloc, &new, &eq_str).is_ok());
-    }
-    if assert_beginnings(rt, texts, alloc, &new, &copy).is_err() {
-        assert_that!(rt; assert_beginnings(rt, texts, alloc, &new, &copy).is_ok());
-    }
-    if assert_owned(rt, texts, alloc, &new_owned, &lend).is_err() {
-        assert_that!(rt; assert_owned(rt, texts, alloc, &new_owned, &lend).is_ok());
-    }
+    with_memory!(rt, assert_texts(rt, alloc, texts, see));
 }
 
 /// What the borrowed and the owned form of a text type answer alike, for texts that it accepts and for texts that it refuses:
 ///
 /// ```text
-/// text_type!(rt, Region, RegionBuf, as_region, "invalid region", ["FR", "419"], ["F", "é", ""]);
+/// text_type!(rt, region, Region, " }", "invalid region", ["FR", "419"], ["F", "é", ""]);
 /// ```
 macro_rules! text_type {
-    ($rt:ident, $borrowed:ident, $owned:ident, $lend:ident, $message:literal, [$($accepted:literal),* $(,)?], [$($refused:literal),* $(,)?] $(,)?) => {
+    ($rt:ident, $see:ident, $name:ident, $debug_end:literal, $message:literal, $accepted:expr, $refused:expr $(,)?) => {
         $crate::support::assert_text_type(
             &$rt,
-            $crate::support::TextType {
-                name: stringify!($borrowed),
-                owned_name: stringify!($owned),
-                message: $message,
-                accepted: &[$($accepted),*],
-                refused: &[$($refused),*],
-            },
             $rt.alloc(),
-            $borrowed::new,
-            $borrowed::eq_str,
-            |value, text, alloc| {
-                let again = $borrowed::from_checked(value.as_str());
-                let is_text = again.as_str() == text && again.as_bytes() == text.as_bytes();
-                Ok((is_text, value.try_to_owned(alloc)?.into_string()))
+            $crate::support::TextType {
+                name: stringify!($name),
+                debug_end: $debug_end,
+                message: $message,
+                accepted: &$accepted,
+                refused: &$refused,
             },
-            $owned::new,
-            |value, text| value.as_str() == text && value.$lend().as_str() == text,
+            $see,
         )
     };
 }
@@ -367,14 +321,14 @@ pub(crate) use text_type;
 macro_rules! assert_walk {
     ($rt:ident, $walk:ident, $texts:ident) => {{
         let clone = $walk.clone().ok().expect($rt, "no clone");
-        $crate::support::expect_same($rt, &clone.count(), &$texts.len(), &$texts);
+        $crate::support::expect_same($rt, clone.count(), $texts.len(), $texts);
         let mut walk = $walk;
         for text in $texts {
             let found = walk.next().expect($rt, "none");
-            $crate::support::expect_same($rt, &found.as_str(), text, &$texts);
+            $crate::support::expect_same($rt, found.as_str(), *text, $texts);
         }
-        $crate::support::expect_true($rt, walk.next().is_none(), &$texts);
-        $crate::support::expect_true($rt, walk.next().is_none(), &$texts);
+        $crate::support::expect_true($rt, walk.next().is_none(), $texts);
+        $crate::support::expect_true($rt, walk.next().is_none(), $texts);
     }};
 }
 

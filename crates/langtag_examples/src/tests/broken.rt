@@ -14,8 +14,8 @@ fn a_text_breaks_after_what_begins_a_tag(rt: HostRuntime) -> Result<(), Fail> {
     ];
     for (text, begun) in cases {
         match tag_or_break(text) {
-            Ok(_) => assert!(rt; false, "a tag: {text}"),
-            Err(error) => assert_eq!(rt; error.begun, begun, "of {text}"),
+            Ok(_) => assert_that!(rt; false, text),
+            Err(error) => assert_same!(rt; error.begun, begun, text),
         }
     }
     Ok(())
@@ -23,12 +23,12 @@ fn a_text_breaks_after_what_begins_a_tag(rt: HostRuntime) -> Result<(), Fail> {
 
 #[test]
 fn a_break_is_told_in_words(rt: HostRuntime) -> Result<(), Fail> {
-    assert!(rt; tag_or_break("zh-Hant").is_ok());
+    assert_that!(rt; tag_or_break("zh-Hant").is_ok());
     let Err(error) = tag_or_break("zh_Hant") else {
-        return Ok(assert!(rt; false, "no tag"));
+        return Ok(assert_that!(rt; false, "no tag"));
     };
     let told = format!(in rt.alloc(); "{error}")?;
-    assert_eq!(rt;
+    assert_same!(rt;
         told.as_str(),
         "no language tag can begin with more than the first 2 bytes of 'zh_Hant'"
     );

@@ -12,7 +12,7 @@ fn tag(rt: &impl Abort, alloc: Global, text: &str) -> Result<LangTagBuf, AllocEr
 
 fn are_found_in_any_case(rt: &impl Abort, alloc: Global) -> Result<(), AllocError> {
     let mut catalogue = Catalogue::new(alloc);
-    assert_eq!(rt; catalogue.find(alloc, "fr")?, None);
+    assert_same!(rt; catalogue.find(alloc, "fr")?, None);
     for (language, text) in [
         ("de-CH", "Grüezi"),
         ("fr", "Salut"),
@@ -33,10 +33,10 @@ fn are_found_in_any_case(rt: &impl Abort, alloc: Global) -> Result<(), AllocErro
         ("ÿ", None),
     ];
     for (text, found) in cases {
-        assert_eq!(rt; catalogue.find(alloc, text)?, found, "of {text}");
+        assert_same!(rt; catalogue.find(alloc, text)?, found, text);
     }
-    assert_eq!(rt; catalogue.get(&tag(rt, alloc, "Fr")?), Some("Salut"));
-    assert_eq!(rt; catalogue.get(&tag(rt, alloc, "fr-CH")?), None);
+    assert_same!(rt; catalogue.get(&tag(rt, alloc, "Fr")?), Some("Salut"));
+    assert_same!(rt; catalogue.get(&tag(rt, alloc, "fr-CH")?), None);
     Ok(())
 }
 
@@ -59,16 +59,13 @@ fn private_text(alloc: Global, len: usize) -> Result<String, AllocError> {
 /// A tag of so many bytes is put in, found and had.
 fn is_kept(rt: &impl Abort, alloc: Global, len: usize) -> Result<(), AllocError> {
     let text = private_text(alloc, len)?;
-    assert_eq!(rt; text.len(), len);
+    assert_same!(rt; text.len(), len);
     let mut catalogue = Catalogue::new(alloc);
     let key = tag(rt, alloc, text.as_str())?;
     catalogue.put(key, text.clone()?)?;
     let found = catalogue.find(alloc, text.as_str())?;
-    assert_eq!(rt; found, Some(text.as_str()), "of {len} bytes");
-    assert_eq!(rt;
-        catalogue.get(&tag(rt, alloc, text.as_str())?),
-        Some(text.as_str())
-    );
+    assert_same!(rt; found, Some(text.as_str()), len);
+    assert_same!(rt; catalogue.get(&tag(rt, alloc, text.as_str())?), Some(text.as_str()));
     Ok(())
 }
 
@@ -91,7 +88,7 @@ fn are_kept(rt: &impl Abort, alloc: Global) -> Result<(), AllocError> {
     }
     for number in 0..1000_u32 {
         let text = format!(in alloc; "x-{number}")?;
-        assert_eq!(rt; catalogue.find(alloc, text.as_str())?, Some(text.as_str()));
+        assert_same!(rt; catalogue.find(alloc, text.as_str())?, Some(text.as_str()));
     }
     Ok(())
 }

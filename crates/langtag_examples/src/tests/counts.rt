@@ -24,7 +24,7 @@ fn are_found_in_any_case(rt: &impl Abort, alloc: Global) -> Result<(), AllocErro
     ];
     for (text, expected) in cases {
         let tag = tag(rt, alloc, text)?;
-        assert_eq!(rt; counts.get(&tag), expected, "of {text}");
+        assert_same!(rt; counts.get(&tag), expected, text);
     }
     Ok(())
 }
@@ -43,7 +43,7 @@ fn are_kept(rt: &impl Abort, alloc: Global) -> Result<(), AllocError> {
         text.push_str("-a")?;
         counts.put(tag(rt, alloc, text.as_str())?, count)?;
         let tag = tag(rt, alloc, text.as_str())?;
-        assert_eq!(rt; counts.get(&tag), Some(count), "of {text}");
+        assert_same!(rt; counts.get(&tag), Some(count), text.as_str());
     }
     Ok(())
 }

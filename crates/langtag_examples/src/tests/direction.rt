@@ -21,11 +21,8 @@ fn the_script_decides_and_else_the_language(rt: HostRuntime) -> Result<(), Fail>
     for (text, expected) in cases {
         let tag = LangTag::new(text)?;
         let answer = is_right_to_left(&tag, RIGHT_TO_LEFT_SCRIPTS, RIGHT_TO_LEFT_LANGUAGES);
-        assert_eq!(rt; answer, expected, "of {text}");
-        assert!(rt;
-            !is_right_to_left(&tag, &[], &[]),
-            "of {text} with no lists"
-        );
+        assert_same!(rt; answer, expected, text);
+        assert_that!(rt; !is_right_to_left(&tag, &[], &[]), text);
     }
     Ok(())
 }

@@ -41,7 +41,7 @@ fn types_of_a_key(rt: HostRuntime) -> Result<(), Fail> {
     for (text, key, types) in cases {
         let tag = LangTag::new(text).ok().ok_or(text)?;
         let found = once_more!(shown(rt.alloc(), &tag, key))?;
-        assert_eq!(rt; found.as_str(), types, "of {text}");
+        assert_same!(rt; found.as_str(), types, text);
     }
     Ok(())
 }

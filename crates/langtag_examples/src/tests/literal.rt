@@ -33,32 +33,32 @@ fn tags_are_compared_without_case_and_texts_with_it(rt: HostRuntime) -> Result<(
         text: "color",
         language: small,
     };
-    assert!(rt;
+    assert_that!(rt;
         color.is_same(&Literal {
             text: "color",
             language: capital
         })
     );
-    assert!(rt;
+    assert_that!(rt;
         !color.is_same(&Literal {
             text: "Color",
             language: small
         })
     );
-    assert!(rt;
+    assert_that!(rt;
         !color.is_same(&Literal {
             text: "color",
             language: british
         })
     );
-    assert!(rt;
+    assert_that!(rt;
         hash_of(color)
             != hash_of(Literal {
                 text: "Color",
                 language: small
             })
     );
-    assert!(rt;
+    assert_that!(rt;
         hash_of(color)
             != hash_of(Literal {
                 text: "color",
@@ -66,6 +66,6 @@ fn tags_are_compared_without_case_and_texts_with_it(rt: HostRuntime) -> Result<(
             })
     );
     let literals = once_more!(count(rt.alloc(), &[small, capital, british]));
-    assert_eq!(rt; literals, Ok(2));
+    assert_same!(rt; literals, Ok(2));
     Ok(())
 }

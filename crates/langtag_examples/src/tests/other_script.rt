@@ -21,10 +21,10 @@ fn is_set_and_set_back(
 ) -> Result<(), AllocError> {
     let mut tag = owned(rt, alloc, text)?;
     let old = replace_script(&mut tag, alloc, Script::new("Latn").ok())?;
-    assert_eq!(rt; tag.as_str(), other, "of {text}");
+    assert_same!(rt; tag.as_str(), other, text);
     let old = old.as_ref().map(|script| script.as_script());
     replace_script(&mut tag, alloc, old)?;
-    assert_eq!(rt; tag.as_str(), text);
+    assert_same!(rt; tag.as_str(), text);
     Ok(())
 }
 
@@ -64,11 +64,8 @@ fn is_found(
     let latin = Script::new("Latn").ok().expect(rt, "a script");
     let had_script = tag.as_normal_lang_tag().script().is_some();
     let answer = find_in_scripts(&catalogue, &mut tag, alloc, latin);
-    assert!(rt;
-        tag.as_str() == text || answer.is_err() && had_script,
-        "of {text}"
-    );
-    assert_eq!(rt; answer?, found, "of {text}");
+    assert_that!(rt; tag.as_str() == text || answer.is_err() && had_script, text);
+    assert_same!(rt; answer?, found, text);
     Ok(())
 }
 

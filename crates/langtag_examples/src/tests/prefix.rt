@@ -24,7 +24,7 @@ fn prefixes_are_of_whole_subtags(rt: HostRuntime) -> Result<(), Fail> {
     for (text, expected) in cases {
         let wanted = LangTag::new(text)?;
         let found = longest_prefix(&tags, &wanted).map(|tag| tag.as_str());
-        assert_eq!(rt; found, expected, "of {text}");
+        assert_same!(rt; found, expected, text);
     }
     Ok(())
 }
@@ -32,6 +32,6 @@ fn prefixes_are_of_whole_subtags(rt: HostRuntime) -> Result<(), Fail> {
 #[test]
 fn no_tag_is_a_prefix_where_none_is_at_hand(rt: HostRuntime) -> Result<(), Fail> {
     let wanted = LangTag::new("de")?;
-    assert!(rt; longest_prefix(&[], &wanted).is_none());
+    assert_that!(rt; longest_prefix(&[], &wanted).is_none());
     Ok(())
 }

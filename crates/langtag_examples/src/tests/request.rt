@@ -17,7 +17,7 @@ fn requests_are_answered(rt: HostRuntime) -> Result<(), Fail> {
     let tags = [english, LangTag::new("de-CH").ok().ok_or("refused")?];
     for (header, tag) in CASES {
         let chosen = once_more!(tag_for_request(rt.alloc(), header, &tags, english))?;
-        assert_eq!(rt; chosen.as_str(), tag, "of {header:?}");
+        assert_same!(rt; chosen.as_str(), tag, header);
     }
     Ok(())
 }

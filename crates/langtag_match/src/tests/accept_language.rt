@@ -1,19 +1,27 @@
 //! The Accept-Language header (RFC 9110 section 12.5.4).
-use crate::{AcceptLanguage, AcceptLanguageError, tag_for_header};
-use langtag::LangTag;
+use super::tag;
+use crate::{AcceptLanguage, AcceptLanguageError, ElementPart, tag_for_header};
 use std::alloc::{AllocError, Global};
 use std::test::Fail;
 
 /// The ranges of a header and their weights, as text.
-fn shown(alloc: Global, header: &str) -> Result<String, AcceptLanguageError<'_>> {
+fn shown(alloc: Global, accepted: &AcceptLanguage<'_>) -> Result<String, AllocError> {
     let mut text = String::new(alloc);
-    for weighted in AcceptLanguage::new(alloc, header)?.ranges() {
+    for weighted in accepted.ranges() {
         let range = weighted.range;
         let weight = weighted.weight;
         let element = format!(in alloc; "{range} {weight} ")?;
-        text.push_str(element.as_str()).map_err(AllocError::from)?;
+        text.push_str(element.as_str())?;
     }
     Ok(text)
+}
+
+fn read(alloc: Global, header: &str) -> Result<String, AcceptLanguageError<'_>> {
+    Ok(shown(alloc, &AcceptLanguage::new(alloc, header)?)?)
+}
+
+fn read_leniently(alloc: Global, header: &str) -> Result<String, AllocError> {
+    shown(alloc, &AcceptLanguage::lenient(alloc, header)?)
 }
 
 /// The example of section 12.5.4, white space and empty elements, and how weights are written (section 12.4.2).
@@ -33,57 +41,73 @@ const READ: [(&str, &str); 8] = [
 
 #[test]
 fn headers_that_are_read(rt: HostRuntime) -> Result<(), Fail> {
-    for (header, read) in READ {
-        let text = once_more!(shown(rt.alloc(), header)).ok().ok_or(header)?;
-        assert_eq!(rt; text.as_str(), read, "of {header}");
+    for (header, ranges) in READ {
+        let text = once_more!(read(rt.alloc(), header)).ok().ok_or(header)?;
+        assert_same!(rt; text.as_str(), ranges, header);
+        let text = once_more!(read_leniently(rt.alloc(), header))?;
+        assert_same!(rt; text.as_str(), ranges, header);
     }
     Ok(())
 }
 
-/// The number of the element for which a header is refused, and where it stands.
-fn bad_element(alloc: Global, text: &str) -> Option<(usize, usize)> {
+/// The index of the element for which a header is refused, where it stands, and whether its weight is bad.
+fn bad_element(alloc: Global, text: &str) -> Option<(usize, usize, bool)> {
     match AcceptLanguage::new(alloc, text) {
         Err(
             AcceptLanguageError::BadElement {
                 header,
                 index,
                 offset,
+                part,
             },
-        ) if header == text => Some((index, offset)),
+        ) if header == text => Some((index, offset, matches!(part, ElementPart::Weight))),
         _ => None,
     }
 }
 
-const REFUSED: [(&str, usize, usize); 16] = [
-    ("de-", 0, 0),
-    ("de, *-CH", 1, 3),
-    (",,en;q=0.8,fr;q=,nl", 3, 11),
-    ("de;q=1.001", 0, 0),
-    ("de;q=0.1234", 0, 0),
-    ("de;q=.5", 0, 0),
-    ("de;q=2", 0, 0),
-    ("de;q= 1", 0, 0),
-    ("de;q =1", 0, 0),
-    ("de;q=1;q=1", 0, 0),
-    ("de;level=1", 0, 0),
-    ("de;", 0, 0),
-    (";q=1", 0, 0),
-    ("de en", 0, 0),
-    ("de\n", 0, 0),
-    ("de,é", 1, 3),
+const REFUSED: [(&str, usize, usize, bool); 17] = [
+    ("de-", 0, 0, false),
+    ("de, *-CH", 1, 3, false),
+    (",,en;q=0.8,fr;q=,nl", 3, 11, true),
+    ("de;q=1.001", 0, 0, true),
+    ("de;q=0.1234", 0, 0, true),
+    ("de;q=.5", 0, 0, true),
+    ("de;q=2", 0, 0, true),
+    ("de;q= 1", 0, 0, true),
+    ("de;q =1", 0, 0, true),
+    ("de;q=1;q=1", 0, 0, true),
+    ("de;level=1", 0, 0, true),
+    ("de;", 0, 0, true),
+    (";q=1", 0, 0, false),
+    ("d!;q=2", 0, 0, false),
+    ("de en", 0, 0, false),
+    ("de\n", 0, 0, false),
+    ("de,é", 1, 3, false),
 ];
 
 #[test]
 fn headers_that_are_refused(rt: HostRuntime) {
-    for (text, index, offset) in REFUSED {
+    for (text, index, offset, weight) in REFUSED {
         let refused = once_more!(bad_element(rt.alloc(), text).ok_or(()));
-        assert_eq!(rt; refused, Ok((index, offset)), "of {text}");
+        assert_same!(rt; refused, Ok((index, offset, weight)), text);
     }
 }
 
+#[test]
+fn bad_elements_are_passed_over(rt: HostRuntime) -> Result<(), Fail> {
+    for (header, ranges) in [
+        ("en;q=0.5, *-CH, de, fr;q=2, d!;q=x,", "de 1000 en 500 "),
+        ("?", ""),
+    ] {
+        let text = once_more!(read_leniently(rt.alloc(), header))?;
+        assert_same!(rt; text.as_str(), ranges, header);
+    }
+    Ok(())
+}
+
 /// What a refusal for an element says.
-fn words(alloc: Global) -> Result<String, AllocError> {
-    match AcceptLanguage::new(alloc, "de, e!") {
+fn words(alloc: Global, header: &str) -> Result<String, AllocError> {
+    match AcceptLanguage::new(alloc, header) {
         Ok(_) => Ok(String::new(alloc)),
         Err(AcceptLanguageError::Memory(error)) => Err(error),
         Err(refused) => refused.to_string(alloc),
@@ -91,12 +115,14 @@ fn words(alloc: Global) -> Result<String, AllocError> {
 }
 
 #[test]
-fn a_refusal_tells_the_element(rt: HostRuntime) -> Result<(), Fail> {
-    let words = once_more!(words(rt.alloc()))?;
-    assert_eq!(rt;
-        words.as_str(),
-        "element 1 is no language range with or without a weight"
-    );
+fn a_refusal_tells_the_element_and_what_is_bad_of_it(rt: HostRuntime) -> Result<(), Fail> {
+    for (header, text) in [
+        ("de, e!", "element 1 has a bad language range"),
+        ("de;q=2", "element 0 has a bad weight"),
+    ] {
+        let words = once_more!(words(rt.alloc(), header))?;
+        assert_same!(rt; words.as_str(), text);
+    }
     Ok(())
 }
 
@@ -113,17 +139,13 @@ const CHOSEN: [(&str, &str); 7] = [
 
 #[test]
 fn the_tag_for_a_header(rt: HostRuntime) -> Result<(), Fail> {
-    let english = LangTag::new("en").ok().ok_or("refused")?;
-    let tags = [
-        english,
-        LangTag::new("de-CH").ok().ok_or("refused")?,
-        LangTag::new("fr").ok().ok_or("refused")?,
-    ];
+    let english = tag(&rt, "en");
+    let tags = [english, tag(&rt, "de-CH"), tag(&rt, "fr")];
     for (header, tag) in CHOSEN {
         let chosen = once_more!(tag_for_header(rt.alloc(), header, &tags, english));
         let chosen = chosen.ok().ok_or(header)?;
-        assert_eq!(rt; chosen.as_str(), tag, "of {header}");
+        assert_same!(rt; chosen.as_str(), tag, header);
     }
-    assert!(rt; tag_for_header(rt.alloc(), "de;q", &tags, english).is_err());
+    assert_that!(rt; tag_for_header(rt.alloc(), "de;q", &tags, english).is_err());
     Ok(())
 }

@@ -1,4 +1,5 @@
 //! The fallbacks of a range (RFC 4647 section 3.4).
+use super::range;
 use crate::LanguageRange;
 use std::alloc::{AllocError, Global};
 use std::test::Fail;
@@ -13,7 +14,7 @@ fn shown(alloc: Global, range: LanguageRange<'_>) -> Result<String, AllocError> 
     Ok(text)
 }
 
-const CASES: [(&str, &str); 9] = [
+const CASES: [(&str, &str); 10] = [
     // The example of the section.
     (
         "zh-Hant-CN-x-private1-private2",
@@ -22,7 +23,8 @@ const CASES: [(&str, &str); 9] = [
     ("zh-Hant-TW", "zh-Hant-TW zh-Hant zh "),
     ("de", "de "),
     ("*", "* "),
-    ("*-CH", "*-CH * "),
+    ("*-CH", "*-CH "),
+    ("de-*-DE", "de-*-DE de "),
     ("x-a", "x-a "),
     ("de-x", "de-x de "),
     ("de-a-b-cc", "de-a-b-cc de "),
@@ -32,18 +34,15 @@ const CASES: [(&str, &str); 9] = [
 #[test]
 fn subtags_are_taken_away_from_the_end(rt: HostRuntime) -> Result<(), Fail> {
     for (text, fallbacks) in CASES {
-        let range = LanguageRange::new(text).ok().ok_or("no range")?;
+        let range = range(&rt, text);
         let text = once_more!(shown(rt.alloc(), range))?;
-        assert_eq!(rt; text.as_str(), fallbacks);
+        assert_same!(rt; text.as_str(), fallbacks);
     }
     Ok(())
 }
 
 #[test]
-fn fallbacks_are_counted(rt: HostRuntime) -> Result<(), Fail> {
-    let range = LanguageRange::new("zh-Hant-CN-x-private1")
-        .ok()
-        .ok_or("no range")?;
-    assert_eq!(rt; range.fallbacks().count(), 4);
-    Ok(())
+fn fallbacks_are_counted(rt: HostRuntime) {
+    let range = range(&rt, "zh-Hant-CN-x-private1");
+    assert_same!(rt; range.fallbacks().count(), 4);
 }

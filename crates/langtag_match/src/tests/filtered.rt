@@ -1,10 +1,11 @@
 //! Filtering of a list by a priority list (RFC 4647 section 3.3).
-use crate::{Filtered, LanguageRange, filter_basic, filter_extended};
+use super::{range, tag};
+use crate::{Filtered, filter_basic, filter_extended};
 use langtag::LangTag;
 use std::alloc::{AllocError, Global};
 use std::test::Fail;
 
-/// The tags at hand.
+/// The tags that are filtered.
 const TAGS: [&str; 7] = [
     "de",
     "fr-CH",
@@ -55,7 +56,7 @@ fn shown(alloc: Global, found: Filtered<'_, '_>) -> Result<String, AllocError> {
     Ok(text)
 }
 
-/// The tags at hand.
+/// The tags that are filtered.
 fn tags(alloc: Global) -> Result<Vec<LangTag<'static>>, AllocError> {
     let mut tags = Vec::new(alloc);
     for text in TAGS {
@@ -70,35 +71,31 @@ fn tags(alloc: Global) -> Result<Vec<LangTag<'static>>, AllocError> {
 fn tags_are_found_range_by_range(rt: HostRuntime) -> Result<(), Fail> {
     let tags = once_more!(tags(rt.alloc()))?;
     for (first, second, basic, extended) in CASES {
-        let first = LanguageRange::new(first).ok().ok_or("no range")?;
-        let second = LanguageRange::new(second).ok().ok_or("no range")?;
+        let first = range(&rt, first);
+        let second = range(&rt, second);
         let ranges = [first, second];
         let found = once_more!(shown(rt.alloc(), filter_basic(&ranges, tags.as_slice())))?;
-        assert_eq!(rt; found.as_str(), basic);
+        assert_same!(rt; found.as_str(), basic);
         let found = once_more!(shown(rt.alloc(), filter_extended(&ranges, tags.as_slice())))?;
-        assert_eq!(rt; found.as_str(), extended);
+        assert_same!(rt; found.as_str(), extended);
     }
     Ok(())
 }
 
 #[test]
 fn the_tags_found_are_counted(rt: HostRuntime) -> Result<(), Fail> {
-    let german = LanguageRange::new("de").ok().ok_or("no range")?;
-    let swiss = LanguageRange::new("*-CH").ok().ok_or("no range")?;
+    let german = range(&rt, "de");
+    let swiss = range(&rt, "*-CH");
     let tags = once_more!(tags(rt.alloc()))?;
-    assert_eq!(rt; filter_basic(&[german, swiss], tags.as_slice()).count(), 5);
-    assert_eq!(rt;
-        filter_extended(&[german, swiss], tags.as_slice()).count(),
-        6
-    );
+    assert_same!(rt; filter_basic(&[german, swiss], tags.as_slice()).count(), 5);
+    assert_same!(rt; filter_extended(&[german, swiss], tags.as_slice()).count(), 6);
     Ok(())
 }
 
 #[test]
-fn nothing_is_found_without_ranges_or_tags(rt: HostRuntime) -> Result<(), Fail> {
-    let range = LanguageRange::new("*").ok().ok_or("no range")?;
-    let tag = LangTag::new("en").ok().ok_or("no tag")?;
-    assert!(rt; filter_basic(&[], &[tag]).next().is_none());
-    assert!(rt; filter_extended(&[range], &[]).next().is_none());
-    Ok(())
+fn nothing_is_found_without_ranges_or_tags(rt: HostRuntime) {
+    let range = range(&rt, "*");
+    let tag = tag(&rt, "en");
+    assert_same!(rt; filter_basic(&[], &[tag]).count(), 0);
+    assert_same!(rt; filter_extended(&[range], &[]).count(), 0);
 }

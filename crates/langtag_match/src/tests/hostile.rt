@@ -1,6 +1,6 @@
 //! Headers and ranges as an attacker writes them: each is answered, in time that grows with its length, but for a filter.
-use crate::{AcceptLanguage, AcceptLanguageError, LanguageRange, filter_extended, look_up};
-use langtag::LangTag;
+use super::{range, tag};
+use crate::{AcceptLanguage, AcceptLanguageError, filter_extended, look_up};
 use std::alloc::{AllocError, Global};
 use std::test::Fail;
 
@@ -19,7 +19,7 @@ fn count(alloc: Global, header: &str) -> Result<usize, AcceptLanguageError<'_>> 
     Ok(AcceptLanguage::new(alloc, header)?.ranges().len())
 }
 
-/// Memory is wanted for the list, and had: for each number of elements, and for headers of each length.
+/// The list gets the memory that it needs: for each number of elements, and for headers of each length.
 #[test]
 fn headers_of_each_length(rt: HostRuntime) -> Result<(), Fail> {
     for times in 0..100 {
@@ -30,7 +30,7 @@ fn headers_of_each_length(rt: HostRuntime) -> Result<(), Fail> {
         ] {
             let header = once_more!(repeated(rt.alloc(), piece, times, end))?;
             let ranges = once_more!(count(rt.alloc(), header.as_str()));
-            assert_eq!(rt; ranges.ok(), Some(elements), "of {header}");
+            assert_same!(rt; ranges.ok(), Some(elements), header);
         }
     }
     Ok(())
@@ -54,7 +54,7 @@ fn long_headers_are_read(rt: HostRuntime) -> Result<(), Fail> {
     for (piece, times, end, ranges) in READ {
         let header = once_more!(repeated(rt.alloc(), piece, times, end))?;
         let counted = once_more!(count(rt.alloc(), header.as_str()));
-        assert_eq!(rt; counted.ok(), Some(ranges), "of {piece}");
+        assert_same!(rt; counted.ok(), Some(ranges), piece);
     }
     Ok(())
 }
@@ -85,7 +85,7 @@ fn long_headers_are_refused(rt: HostRuntime) -> Result<(), Fail> {
     for (piece, times, end, place) in REFUSED {
         let header = once_more!(repeated(rt.alloc(), piece, times, end))?;
         let refused = once_more!(offset(rt.alloc(), header.as_str()).ok_or(()));
-        assert_eq!(rt; refused, Ok(place), "of {piece}");
+        assert_same!(rt; refused, Ok(place), piece);
     }
     Ok(())
 }
@@ -93,15 +93,15 @@ fn long_headers_are_refused(rt: HostRuntime) -> Result<(), Fail> {
 /// One range of many subtags: of singletons, which all go at once, and of others.
 #[test]
 fn long_ranges(rt: HostRuntime) -> Result<(), Fail> {
-    let default = LangTag::new("en").ok().ok_or("refused")?;
-    let german = LangTag::new("de").ok().ok_or("refused")?;
+    let default = tag(&rt, "en");
+    let german = tag(&rt, "de");
     for piece in ["-a", "-bb", "-*"] {
         let tail = once_more!(repeated(rt.alloc(), piece, 20_000, ""))?;
         let text = once_more!(repeated(rt.alloc(), "de", 1, tail.as_str()))?;
-        let range = LanguageRange::new(text.as_str()).ok().ok_or("refused")?;
-        assert!(rt; !range.matches_basic(&german));
+        let range = range(&rt, text.as_str());
+        assert_that!(rt; !range.matches_basic(&german));
         let tag = look_up(&[range], &[default, german], default);
-        assert_eq!(rt; tag.as_str(), "de");
+        assert_same!(rt; tag.as_str(), "de");
     }
     Ok(())
 }
@@ -109,12 +109,11 @@ fn long_ranges(rt: HostRuntime) -> Result<(), Fail> {
 /// The most that a filter has to do: ranges that match nothing, and then one range over and over. Each of the latter matches
 /// the tag, and is compared to all before the first of them.
 #[test]
-fn many_ranges_that_match(rt: HostRuntime) -> Result<(), Fail> {
-    let english = LangTag::new("en").ok().ok_or("refused")?;
-    let other = LanguageRange::new("fr").ok().ok_or("refused")?;
-    let same = LanguageRange::new("en").ok().ok_or("refused")?;
+fn many_ranges_that_match(rt: HostRuntime) {
+    let english = tag(&rt, "en");
+    let other = range(&rt, "fr");
+    let same = range(&rt, "en");
     let mut ranges = [other; 2000];
     ranges[1000..].fill(same);
-    assert_eq!(rt; filter_extended(&ranges, &[english]).count(), 1);
-    Ok(())
+    assert_same!(rt; filter_extended(&ranges, &[english]).count(), 1);
 }

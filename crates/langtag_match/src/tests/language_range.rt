@@ -1,4 +1,5 @@
 //! Which texts are ranges (RFC 4647 sections 2.1 and 2.2), and what is done with one.
+use super::range;
 use crate::{LanguageRange, LanguageRangeBuf};
 use std::alloc::Global;
 use std::test::Fail;
@@ -17,18 +18,17 @@ const BASIC: [&str; 8] = [
 const EXTENDED: [&str; 5] = ["*-CH", "de-*", "de-*-DE", "*-*", "de-*-*-x-*"];
 
 #[test]
-fn ranges_are_basic_or_extended(rt: HostRuntime) -> Result<(), Fail> {
+fn ranges_are_basic_or_extended(rt: HostRuntime) {
     for text in BASIC {
-        let range = LanguageRange::new(text).ok().ok_or("refused")?;
-        assert!(rt; range.is_basic(), "{text}");
-        assert_eq!(rt; range.as_str(), text);
+        let range = range(&rt, text);
+        assert_that!(rt; range.is_basic(), text);
+        assert_same!(rt; range.as_str(), text);
     }
     for text in EXTENDED {
-        let range = LanguageRange::new(text).ok().ok_or("refused")?;
-        assert!(rt; !range.is_basic(), "{text}");
-        assert!(rt; range.eq_str(text));
+        let range = range(&rt, text);
+        assert_that!(rt; !range.is_basic(), text);
+        assert_that!(rt; range.eq_str(text));
     }
-    Ok(())
 }
 
 const REFUSED: [&str; 14] = [
@@ -52,7 +52,7 @@ const REFUSED: [&str; 14] = [
 fn other_texts_are_handed_back(rt: HostRuntime) {
     for text in REFUSED {
         let refused = LanguageRange::new(text).err();
-        assert_eq!(rt; refused.map(|error| error.0), Some(text));
+        assert_same!(rt; refused.map(|error| error.0), Some(text));
     }
 }
 
@@ -62,27 +62,27 @@ fn owned(alloc: Global, text: &str) -> Option<LanguageRangeBuf> {
 }
 
 #[test]
-fn owned_ranges_are_as_lent_ones(rt: HostRuntime) -> Result<(), Fail> {
-    let range = LanguageRange::new("de-*-CH").ok().ok_or("refused")?;
+fn owned_ranges_are_as_borrowed_ones(rt: HostRuntime) -> Result<(), Fail> {
+    let range = range(&rt, "de-*-CH");
     let copy = once_more!(range.try_to_owned(rt.alloc()))?;
     let made = once_more!(owned(rt.alloc(), "DE-*-ch").ok_or(()))
         .ok()
         .ok_or("refused")?;
-    assert!(rt; copy == made);
-    assert!(rt; made.as_language_range() == range);
-    assert_eq!(rt; made.as_str(), "DE-*-ch");
-    assert_eq!(rt; copy.into_string().as_str(), "de-*-CH");
-    assert!(rt; owned(rt.alloc(), "de_CH").is_none());
+    assert_that!(rt; copy == made);
+    assert_that!(rt; made.as_language_range() == range);
+    assert_same!(rt; made.as_str(), "DE-*-ch");
+    assert_same!(rt; copy.into_string().as_str(), "de-*-CH");
+    assert_that!(rt; owned(rt.alloc(), "de_CH").is_none());
     Ok(())
 }
 
 #[test]
 fn ranges_are_shown(rt: HostRuntime) -> Result<(), Fail> {
-    let range = LanguageRange::new("de-*").ok().ok_or("refused")?;
+    let range = range(&rt, "de-*");
     let text = once_more!(format!(in rt.alloc(); "{range}"))?;
-    assert_eq!(rt; text.as_str(), "de-*");
+    assert_same!(rt; text.as_str(), "de-*");
     let refused = LanguageRange::new("de_CH").err().ok_or("taken")?;
     let words = once_more!(format!(in rt.alloc(); "{refused}"))?;
-    assert_eq!(rt; words.as_str(), "invalid language range");
+    assert_same!(rt; words.as_str(), "invalid language range");
     Ok(())
 }

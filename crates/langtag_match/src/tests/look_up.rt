@@ -1,9 +1,8 @@
 //! The look-up of RFC 4647 section 3.4.
-use crate::{LanguageRange, look_up};
-use langtag::LangTag;
-use std::test::Fail;
+use super::{range, tag};
+use crate::look_up;
 
-/// The tags at hand.
+/// The tags that are looked up.
 const TAGS: [&str; 8] = [
     "zh",
     "zh-Hant",
@@ -16,7 +15,7 @@ const TAGS: [&str; 8] = [
 ];
 
 /// A range, and the tag that is chosen for it.
-const CASES: [(&str, &str); 16] = [
+const CASES: [(&str, &str); 21] = [
     // The example of the section.
     ("zh-Hant-CN-x-private1-private2", "zh-Hant"),
     ("zh-HANT", "zh-Hant"),
@@ -32,38 +31,39 @@ const CASES: [(&str, &str); 16] = [
     ("fr-x-b-c", "fr"),
     ("fr-x-c", "fr"),
     ("fr-a-b-cc", "fr"),
+    // Extended ranges, by section 3.2.
+    ("de-*-DE", "de-DE"),
+    ("ZH-*-*-hant-*-CN-*", "zh-Hant"),
+    ("fr-*-x-*-B-*", "fr-x-b"),
+    ("fr-x-B-*-c", "fr"),
     ("fr-*", "fr"),
+    ("*-zh", "en"),
     ("*", "en"),
 ];
 
 #[test]
-fn ranges_are_shortened_from_their_ends(rt: HostRuntime) -> Result<(), Fail> {
-    let default = LangTag::new("en").ok().ok_or("refused")?;
+fn ranges_are_shortened_from_their_ends(rt: HostRuntime) {
+    let default = tag(&rt, "en");
     let mut tags = [default; 8];
-    for (tag, text) in tags.iter_mut().zip(TAGS) {
-        *tag = LangTag::new(text).ok().ok_or("refused")?;
+    for (slot, text) in tags.iter_mut().zip(TAGS) {
+        *slot = tag(&rt, text);
     }
     for (text, chosen) in CASES {
-        let range = LanguageRange::new(text).ok().ok_or("refused")?;
+        let range = range(&rt, text);
         let tag = look_up(&[range], &tags, default);
-        assert_eq!(rt; tag.as_str(), chosen, "of {text}");
+        assert_same!(rt; tag.as_str(), chosen, text);
     }
-    Ok(())
 }
 
 /// The priority list of the section: `fr-FR`, `fr`, `zh-Hant` and `zh` are looked for in this order.
 #[test]
-fn the_first_range_decides(rt: HostRuntime) -> Result<(), Fail> {
-    let default = LangTag::new("en").ok().ok_or("refused")?;
-    let zh = LangTag::new("zh").ok().ok_or("refused")?;
-    let fr = LangTag::new("fr").ok().ok_or("refused")?;
-    let ranges = [
-        LanguageRange::new("fr-FR").ok().ok_or("refused")?,
-        LanguageRange::new("zh-Hant").ok().ok_or("refused")?,
-    ];
-    assert_eq!(rt; look_up(&ranges, &[zh, fr], default).as_str(), "fr");
-    assert_eq!(rt; look_up(&ranges, &[zh], default).as_str(), "zh");
-    assert_eq!(rt; look_up(&ranges, &[], default).as_str(), "en");
-    assert_eq!(rt; look_up(&[], &[zh, fr], default).as_str(), "en");
-    Ok(())
+fn the_first_range_decides(rt: HostRuntime) {
+    let default = tag(&rt, "en");
+    let zh = tag(&rt, "zh");
+    let fr = tag(&rt, "fr");
+    let ranges = [range(&rt, "fr-FR"), range(&rt, "zh-Hant")];
+    assert_same!(rt; look_up(&ranges, &[zh, fr], default).as_str(), "fr");
+    assert_same!(rt; look_up(&ranges, &[zh], default).as_str(), "zh");
+    assert_same!(rt; look_up(&ranges, &[], default).as_str(), "en");
+    assert_same!(rt; look_up(&[], &[zh, fr], default).as_str(), "en");
 }

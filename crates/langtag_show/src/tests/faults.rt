@@ -21,13 +21,10 @@ fn a_failing_read_ends_the_run(rt: HostRuntime) {
         for kind in [ErrorKind::Other, ErrorKind::Interrupted] {
             let mut input = Feed::failing(text, step, read, kind);
             let mut output = Sheet::new();
-            assert_eq!(rt;
-                run_again(rt.alloc(), &mut input, &mut output),
-                Err(ShowError::Read)
-            );
-            assert!(rt; is_report(output.text(), want), "of {text:?}");
-            assert_eq!(rt; input.reads, read, "no read follows the one that failed");
-            assert_eq!(rt; output.flushes, 0);
+            assert_same!(rt; run_again(rt.alloc(), &mut input, &mut output), Err(ShowError::Read));
+            assert_that!(rt; is_report(output.text(), want), text);
+            assert_same!(rt; input.reads, read, "no read follows the one that failed");
+            assert_same!(rt; output.flushes, 0);
         }
     }
 }
@@ -53,25 +50,18 @@ fn a_failing_write_ends_the_run(rt: HostRuntime) {
         ),
     ];
     for (text, step, mut output, writes, flushes) in rows {
-        assert_eq!(rt;
+        assert_same!(rt;
             run_again(rt.alloc(), &mut Feed::new(text, step), &mut output),
             Err(ShowError::Write)
         );
-        assert_eq!(rt;
-            output.writes,
-            writes,
-            "no write follows the one that failed"
-        );
-        assert_eq!(rt; output.flushes, flushes);
+        assert_same!(rt; output.writes, writes, "no write follows the one that failed");
+        assert_same!(rt; output.flushes, flushes);
     }
 }
 
 #[test]
 fn an_interrupted_write_is_tried_again(rt: HostRuntime) {
     let mut output = Sheet::failing(1, ErrorKind::Interrupted);
-    assert_eq!(rt;
-        run_again(rt.alloc(), &mut Feed::new(b"fr\n", 3), &mut output),
-        Ok(())
-    );
-    assert!(rt; is_report(output.text(), &[FR]));
+    assert_same!(rt; run_again(rt.alloc(), &mut Feed::new(b"fr\n", 3), &mut output), Ok(()));
+    assert_that!(rt; is_report(output.text(), &[FR]));
 }

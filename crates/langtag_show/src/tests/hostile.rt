@@ -156,26 +156,22 @@ fn is_accepted_by(
     let owned = owned_acceptance(alloc, text)?;
     for (index, name) in TYPES.iter().enumerate() {
         let is_accepted = is_among(types, name);
-        assert_eq!(rt; lent[index], is_accepted, "{name} of {text}");
-        assert_eq!(rt; owned[index], is_accepted, "owned {name} of {text}");
+        assert_same!(rt; lent[index], is_accepted, (name, text));
+        assert_same!(rt; owned[index], is_accepted, (name, text));
     }
-    assert!(rt; Singleton::from_string(text).is_err());
+    assert_that!(rt; Singleton::from_string(text).is_err());
     Ok(())
 }
 
 /// A recogniser reads so many bytes, and decides as the types do.
 fn is_read(rt: &impl Abort, text: &str, reads: u128, types: &[&str]) {
     let mut source = Metered::new(text);
-    assert_eq!(rt;
-        recognise(&mut source).is_some(),
-        is_among(types, "LangTag"),
-        "of {text}"
-    );
-    assert_eq!(rt; source.reads(), reads, "of {text}");
-    assert_eq!(rt;
+    assert_same!(rt; recognise(&mut source).is_some(), is_among(types, "LangTag"), text);
+    assert_same!(rt; source.reads(), reads, text);
+    assert_same!(rt;
         recognise_normal(&mut Metered::new(text)).is_some(),
         is_among(types, "NormalLangTag"),
-        "of {text}"
+        text
     );
 }
 
@@ -183,34 +179,16 @@ fn is_read(rt: &impl Abort, text: &str, reads: u128, types: &[&str]) {
 fn has_normal_parts(rt: &impl Abort, tag: &LangTag<'_>) {
     let text = tag.as_str();
     let normal = tag.as_normal();
-    assert!(rt;
-        tag.language() == normal.map(|it| it.language()),
-        "of {text}"
-    );
-    assert!(rt;
-        tag.script() == normal.and_then(|it| it.script()),
-        "of {text}"
-    );
-    assert!(rt;
-        tag.region() == normal.and_then(|it| it.region()),
-        "of {text}"
-    );
-    assert!(rt;
-        tag.variants() == normal.map_or(Variants::EMPTY, |it| it.variants()),
-        "of {text}"
-    );
-    assert!(rt;
-        tag.extensions() == normal.map_or(Extensions::EMPTY, |it| it.extensions()),
-        "of {text}"
-    );
-    assert!(rt;
-        tag.private_use() == normal.and_then(|it| it.private_use()),
-        "of {text}"
-    );
-    assert_eq!(rt;
+    assert_that!(rt; tag.language() == normal.map(|it| it.language()), text);
+    assert_that!(rt; tag.script() == normal.and_then(|it| it.script()), text);
+    assert_that!(rt; tag.region() == normal.and_then(|it| it.region()), text);
+    assert_that!(rt; tag.variants() == normal.map_or(Variants::EMPTY, |it| it.variants()), text);
+    assert_that!(rt; tag.extensions() == normal.map_or(Extensions::EMPTY, |it| it.extensions()), text);
+    assert_that!(rt; tag.private_use() == normal.and_then(|it| it.private_use()), text);
+    assert_same!(rt;
         tag.private_use_subtags().count(),
         normal.map_or(0, |it| it.private_use_subtags().count()),
-        "of {text}"
+        text
     );
 }
 
@@ -242,11 +220,11 @@ fn is_as_stated(
     is_read(rt, text, reads, types);
     is_accepted_by(rt, alloc, text, types)?;
     if let Ok(tag) = LangTag::new(text) {
-        assert!(rt; tag.eq_str(text));
-        assert!(rt; tag.kind() == tag.as_typed().kind(), "of {text}");
+        assert_that!(rt; tag.eq_str(text));
+        assert_that!(rt; tag.kind() == tag.as_typed().kind(), text);
         has_normal_parts(rt, &tag);
         if let Some(normal) = tag.as_normal() {
-            assert!(rt; is_edited_and_back(alloc, &normal)?, "of {text}");
+            assert_that!(rt; is_edited_and_back(alloc, &normal)?, text);
         }
     }
     Ok(())
@@ -256,11 +234,11 @@ fn is_as_stated(
 fn is_answered(rt: &impl Abort, alloc: Global, text: &str, answer: &str) {
     let mut input = Feed::new(text.as_bytes(), 100);
     let mut output = Sheet::new();
-    assert_eq!(rt; run_again(alloc, &mut input, &mut output), Ok(()));
+    assert_same!(rt; run_again(alloc, &mut input, &mut output), Ok(()));
     if text.is_empty() {
-        assert!(rt; output.text().is_empty());
+        assert_that!(rt; output.text().is_empty());
     } else {
-        assert!(rt; is_report(output.text(), &[answer]), "of {text}");
+        assert_that!(rt; is_report(output.text(), &[answer]), text);
     }
 }
 
@@ -269,10 +247,10 @@ fn each_call_answers(rt: HostRuntime) -> Result<(), Fail> {
     for (text, reads, types, answer) in TEXTS {
         once_more!(is_as_stated(&rt, rt.alloc(), text, reads, types))?;
         is_answered(&rt, rt.alloc(), text, answer);
-        assert_eq!(rt;
+        assert_same!(rt;
             GrandfatheredLangTag::new(text.as_bytes()).is_ok(),
             answer.starts_with("irregular"),
-            "of {text}"
+            text
         );
     }
     Ok(())

@@ -34,14 +34,14 @@ fn leaves_whole_answers(
     let mut text = output.text();
     if outcome == Ok(()) {
         let (end, len) = last;
-        assert!(rt; text.ends_with(end.as_bytes()));
+        assert_that!(rt; text.ends_with(end.as_bytes()));
         let first = text.len().saturating_sub(len);
         text = text.get(..first).unwrap_or(&[]);
-        assert!(rt; is_report(text, complete));
+        assert_that!(rt; is_report(text, complete));
     } else {
-        assert_eq!(rt; outcome, Err(ShowError::Memory));
-        assert!(rt; (0..=complete.len()).any(|k| is_report(text, &complete[..k])));
-        assert_eq!(rt; output.flushes, 0);
+        assert_same!(rt; outcome, Err(ShowError::Memory));
+        assert_that!(rt; (0..=complete.len()).any(|k| is_report(text, &complete[..k])));
+        assert_same!(rt; output.flushes, 0);
     }
 }
 
@@ -59,54 +59,59 @@ fn a_refused_growth_of_a_long_line_leaves_whole_answers(rt: HostRuntime) {
     leaves_whole_answers(&rt, rt.alloc(), long_input(), &[FR], last);
 }
 
-// A run over an allocator that gives no larger block ends so, and leaves these answers. It is made again where it ends
+// A run whose line may have so many bytes at most ends so, and leaves these answers. It is made again where it ends
 // otherwise: `--fail-alloc N` may have refused another growth.
 fn ends_so(
     rt: &impl Abort,
-    heap: Small<Global>,
+    alloc: Global,
+    largest: usize,
     input: Feed<'_>,
     want: Result<(), ShowError>,
     answers: &[&str],
 ) {
-    let (mut outcome, mut output) = run_on(Sheet::new(), heap, input);
+    let (mut outcome, mut output) = run_on(Sheet::new(), alloc, largest, input);
     if outcome != want || !is_report(output.text(), answers) {
-        (outcome, output) = run_on(Sheet::new(), heap, input);
+        (outcome, output) = run_on(Sheet::new(), alloc, largest, input);
     }
-    assert_eq!(rt; outcome, want);
-    assert!(rt; is_report(output.text(), answers));
-    assert_eq!(rt; output.flushes, u64::from(want.is_ok()));
+    assert_same!(rt; outcome, want);
+    assert_that!(rt; is_report(output.text(), answers));
+    assert_same!(rt; output.flushes, u64::from(want.is_ok()));
 }
 
 fn run_on(
     mut output: Sheet,
-    heap: Small<Global>,
+    alloc: Global,
+    largest: usize,
     mut input: Feed<'_>,
 ) -> (Result<(), ShowError>, Sheet) {
-    (run_in(heap, &mut input, &mut output), output)
+    let outcome = run_in(Small::new(alloc, largest), &mut input, &mut output);
+    (outcome, output)
 }
 
-// The line that is gathered in small pieces first has room for 8 bytes, and then for 16: each of the two growths of the
-// worked input is refused in turn, and then none. What needs no growth has no memory at all, and so no room is taken
-// beforehand.
+// Read in small pieces, the lines of the worked input grow to 5 bytes, and the last one to 10: each of these growths is
+// refused in turn, and then none.
 #[test]
 fn each_growth_is_refused_in_turn(rt: HostRuntime) {
     let rows: [(&[u8], usize, Result<(), ShowError>, &[&str]); 8] = [
         (WORKED, 0, Err(ShowError::Memory), &[]),
-        (WORKED, 7, Err(ShowError::Memory), &[]),
-        (WORKED, 8, Err(ShowError::Memory), &ANSWERS[..4]),
-        (WORKED, 15, Err(ShowError::Memory), &ANSWERS[..4]),
-        (WORKED, 16, Ok(()), &ANSWERS),
+        (WORKED, 4, Err(ShowError::Memory), &[]),
+        (WORKED, 5, Err(ShowError::Memory), &ANSWERS[..4]),
+        (WORKED, 9, Err(ShowError::Memory), &ANSWERS[..4]),
+        (WORKED, 10, Ok(()), &ANSWERS),
         (b"", 0, Ok(()), &[]),
         (b"\n", 0, Ok(()), &[REFUSED]),
         (b"\n\n", 0, Ok(()), &[REFUSED, REFUSED]),
     ];
     for (text, largest, want, answers) in rows {
         for step in [1, 3] {
-            let heap = Small {
-                inner: rt.alloc(),
+            ends_so(
+                &rt,
+                rt.alloc(),
                 largest,
-            };
-            ends_so(&rt, heap, Feed::new(text, step), want, answers);
+                Feed::new(text, step),
+                want,
+                answers,
+            );
         }
     }
 }
@@ -121,11 +126,14 @@ fn a_line_within_a_read_takes_no_memory(rt: HostRuntime) {
         (WORKED, 10, Ok(()), &ANSWERS),
     ];
     for (text, largest, want, answers) in rows {
-        let heap = Small {
-            inner: rt.alloc(),
+        ends_so(
+            &rt,
+            rt.alloc(),
             largest,
-        };
-        ends_so(&rt, heap, Feed::new(text, 100), want, answers);
+            Feed::new(text, 100),
+            want,
+            answers,
+        );
     }
 }
 
@@ -148,11 +156,14 @@ fn the_answers_before_a_refused_growth_stand(rt: HostRuntime) {
         (long_input(), &[FR]),
     ];
     for (input, answers) in rows {
-        let heap = Small {
-            inner: rt.alloc(),
-            largest: 16_384,
-        };
-        ends_so(&rt, heap, input, Err(ShowError::Memory), answers);
+        ends_so(
+            &rt,
+            rt.alloc(),
+            16_384,
+            input,
+            Err(ShowError::Memory),
+            answers,
+        );
     }
 }
 
@@ -164,17 +175,13 @@ fn a_refused_growth_makes_one_write(rt: HostRuntime) {
         (Sheet::new(), ShowError::Memory),
         (Sheet::failing(1, ErrorKind::Other), ShowError::Write),
     ];
-    let heap = Small {
-        inner: rt.alloc(),
-        largest: 8,
-    };
     for (sheet, want) in rows {
-        let (mut outcome, mut output) = run_on(sheet, heap, Feed::new(WORKED, 100));
+        let (mut outcome, mut output) = run_on(sheet, rt.alloc(), 9, Feed::new(WORKED, 100));
         if outcome != Err(want) || output.writes == 0 {
-            (outcome, output) = run_on(sheet, heap, Feed::new(WORKED, 100));
+            (outcome, output) = run_on(sheet, rt.alloc(), 9, Feed::new(WORKED, 100));
         }
-        assert_eq!(rt; outcome, Err(want));
-        assert_eq!(rt; (output.writes, output.flushes), (1, 0));
+        assert_same!(rt; outcome, Err(want));
+        assert_same!(rt; (output.writes, output.flushes), (1, 0));
     }
 }
 

@@ -16,12 +16,9 @@ fn concludes_each_outcome(rt: HostRuntime) -> Result<(), Fail> {
     ];
     for (outcome, words, status) in rows {
         let mut errors = Sheet::new();
-        assert_eq!(rt; conclude(outcome, &mut errors), ExitCode::from(status));
-        assert_eq!(rt; errors.text(), words);
-        assert_eq!(rt;
-            conclude(outcome, &mut Sheet::full()),
-            ExitCode::from(status)
-        );
+        assert_same!(rt; conclude(outcome, &mut errors), ExitCode::from(status));
+        assert_same!(rt; errors.text(), words);
+        assert_same!(rt; conclude(outcome, &mut Sheet::full()), ExitCode::from(status));
     }
     Ok(())
 }
@@ -34,11 +31,11 @@ fn tells_each_fault(rt: HostRuntime) -> Result<(), Fail> {
         (ShowError::Write, "write failed", 5, b"Write"),
     ];
     for (error, text, status, debug) in rows {
-        assert_eq!(rt; error.text(), text);
-        assert_eq!(rt; error.status(), status);
+        assert_same!(rt; error.text(), text);
+        assert_same!(rt; error.status(), status);
         let mut shown = Sheet::new();
         write!(shown, "{error:?}")?;
-        assert_eq!(rt; shown.text(), debug);
+        assert_same!(rt; shown.text(), debug);
     }
     Ok(())
 }

@@ -44,16 +44,21 @@ impl Read for Asker<'_> {
 struct Taker<'a> {
     wanted: Feed<'a>,
     owed: &'a Cell<u64>,
+    flushes: u64,
 }
 
 impl<'a> Taker<'a> {
     fn new(wanted: Feed<'a>, owed: &'a Cell<u64>) -> Taker<'a> {
-        Taker { wanted, owed }
+        Taker {
+            wanted,
+            owed,
+            flushes: 0,
+        }
     }
 
-    /// Whether it has taken all that is wanted.
+    /// Whether it has taken all that is wanted, and one flush.
     fn has_all(mut self) -> bool {
-        self.wanted.next_bytes(1).is_empty()
+        self.wanted.next_bytes(1).is_empty() && self.flushes == 1
     }
 }
 
@@ -70,6 +75,7 @@ impl Write for Taker<'_> {
     }
 
     fn flush(&mut self) -> io::Result<()> {
+        self.flushes = self.flushes.saturating_add(1);
         Ok(())
     }
 }
@@ -97,9 +103,9 @@ fn answers_stand_before_the_next_read(rt: HostRuntime) {
         let mut input = Asker::new(Feed::repeating(b"", lines, rounds, step), &owed);
         let wanted = Feed::repeating(b"", answer, answers, 1);
         let mut output = Taker::new(wanted, &owed);
-        assert_eq!(rt; run_again(rt.alloc(), &mut input, &mut output), Ok(()));
-        assert!(rt; !input.is_late);
-        assert!(rt; output.has_all());
+        assert_same!(rt; run_again(rt.alloc(), &mut input, &mut output), Ok(()));
+        assert_that!(rt; !input.is_late);
+        assert_that!(rt; output.has_all());
     }
 }
 
@@ -107,7 +113,7 @@ fn answers_stand_before_the_next_read(rt: HostRuntime) {
 type Long<'a> = (&'a [u8], &'a [u8], u64, &'a [u8], &'a [u8], u64, &'a [u8]);
 
 const LONG_LINES: [Long<'static>; 2] = [
-    (b"", &[b'a'; 20_000], 150, b"refused", b"", 0, b"\n"),
+    (b"", &[b'a'; 20_000], 850, b"refused", b"", 0, b"\n"),
     (
         b"fr\nen-x",
         b"-a-a-a-a-a-a-a-a-a-a-a-a-a-a-a-a-a-a-a-a",
@@ -158,12 +164,12 @@ fn are_answered(rt: &impl Abort, alloc: Global, rows: &[Long<'_>]) {
         let mut input = Feed::repeating(first, again, *rounds, 20_000);
         let wanted = Feed::repeating(start, part, *parts, 1).ending(end);
         let mut output = Taker::new(wanted, &owed);
-        assert_eq!(rt; run_again(alloc, &mut input, &mut output), Ok(()));
-        assert!(rt; output.has_all(), "of {again:?}");
+        assert_same!(rt; run_again(alloc, &mut input, &mut output), Ok(()));
+        assert_that!(rt; output.has_all(), again);
     }
 }
 
-// Lines of three million bytes.
+// Lines of 17 and of three million bytes.
 #[test]
 fn long_lines_are_answered(rt: HostRuntime) {
     are_answered(&rt, rt.alloc(), &LONG_LINES);
@@ -175,25 +181,22 @@ fn long_parts_are_answered(rt: HostRuntime) {
     are_answered(&rt, rt.alloc(), &LONG_PARTS);
 }
 
-// Short lines are answered, over an allocator that gives no larger block.
-fn short_lines_in(heap: Small<Global>) -> Result<bool, ShowError> {
+// Short lines are answered, where the line that is gathered may have so many bytes at most.
+fn short_lines_in(alloc: Global, largest: usize) -> Result<bool, ShowError> {
     let owed = Cell::new(0);
     let wanted = Feed::repeating(b"", ANSWERS, 1_500, 1);
     let mut output = Taker::new(wanted, &owed);
     run_in(
-        heap,
+        Small::new(alloc, largest),
         &mut Feed::repeating(b"", LINES, 1_500, 100),
         &mut output,
     )?;
     Ok(output.has_all())
 }
 
-// 21,000 bytes of short lines, and no block of more than 16 bytes.
+// 21,000 bytes of short lines.
 #[test]
-fn short_lines_take_no_large_block(rt: HostRuntime) {
-    let heap = Small {
-        inner: rt.alloc(),
-        largest: 16,
-    };
-    assert_eq!(rt; once_more!(short_lines_in(heap)), Ok(true));
+fn short_lines_are_gathered_one_by_one(rt: HostRuntime) {
+    let all = once_more!(short_lines_in(rt.alloc(), 16));
+    assert_same!(rt; all, Ok(true));
 }

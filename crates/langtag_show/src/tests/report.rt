@@ -71,10 +71,10 @@ fn answers_each_line(rt: HostRuntime) {
         for step in [1, 2, 3, 100] {
             let mut input = Feed::new(text, step);
             let mut output = Sheet::new();
-            assert_eq!(rt; run_again(rt.alloc(), &mut input, &mut output), Ok(()));
-            assert!(rt; is_report(output.text(), want), "of {text:?}");
-            assert_eq!(rt; output.flushes, 1);
-            assert_eq!(rt; input.ends, 1, "no read follows the one that met the end");
+            assert_same!(rt; run_again(rt.alloc(), &mut input, &mut output), Ok(()));
+            assert_that!(rt; is_report(output.text(), want), text);
+            assert_same!(rt; output.flushes, 1);
+            assert_same!(rt; input.ends, 1, "no read follows the one that met the end");
         }
     }
 }
@@ -84,9 +84,9 @@ fn answers_each_line(rt: HostRuntime) {
 fn a_read_asks_for_many_bytes(rt: HostRuntime) {
     let mut input = Feed::new(&[b'-'; 40_000], 40_000);
     let mut output = Sheet::new();
-    assert_eq!(rt; run_again(rt.alloc(), &mut input, &mut output), Ok(()));
-    assert!(rt; is_report(output.text(), &[REFUSED]));
-    assert_eq!(rt; input.reads, 4);
+    assert_same!(rt; run_again(rt.alloc(), &mut input, &mut output), Ok(()));
+    assert_that!(rt; is_report(output.text(), &[REFUSED]));
+    assert_same!(rt; input.reads, 4);
 }
 
 // What a caller over memory knows of `run`: its premise, that reader and writer tell their bytes, can be met.
@@ -104,6 +104,6 @@ fn reports_what_memory_holds(rt: HostRuntime) -> Result<(), Fail> {
     let Ok(report) = once_more!(report_of(rt.alloc(), b"fr\nx")) else {
         return Err(Fail::from("no report"));
     };
-    assert!(rt; is_report(&report, &[FR, REFUSED]));
+    assert_that!(rt; is_report(&report, &[FR, REFUSED]));
     Ok(())
 }

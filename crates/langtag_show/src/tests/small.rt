@@ -1,25 +1,42 @@
-//! An allocator that refuses each block above a size, so that a test meets a refused growth where it wants one.
-use std::alloc::{AllocError, Allocator};
+//! A line that may not grow above a size, so that a test meets a refused growth where it wants one.
+ghost use Rattle.std.specs.Prelude.{◌≡◌, []};
 
-/// Passes each call on, but for the blocks that it refuses.
-#[derive(Clone, Copy)]
-pub(crate) struct Small<B: Allocator> {
-    pub(crate) inner: B,
-    /// The largest block that it gives.
-    pub(crate) largest: usize,
+use crate::gathered_line::GatheredLine;
+use std::alloc::{AllocError, Global};
+
+/// Holds at most `largest` bytes.
+#[derive(Drop)]
+pub(crate) struct Small {
+    line: Vec<u8>,
+    largest: usize,
 }
 
-unsafe impl<B: Allocator> Allocator for Small<B> {
-    ghost dealloc_token = { λ heap ty ptr. B.dealloc_token heap.inner ty ptr };
-
-    fn allocate(&self, size: usize, align: usize) -> Result<*mut u8, AllocError> {
-        if self.largest < size {
-            return Err(AllocError);
+impl Small {
+    pub(crate) fn new(alloc: Global, largest: usize) -> Small
+        ensures { result.line.items ≡ [] }
+    {
+        Small {
+            line: Vec::new(alloc),
+            largest,
         }
-        self.inner.allocate(size, align)
+    }
+}
+
+impl GatheredLine for Small {
+    ghost bytes = { λ small. small.line.items };
+
+    fn as_bytes(&self) -> &[u8] {
+        self.line.as_slice()
     }
 
-    unsafe fn deallocate(&self, ptr: *mut u8, size: usize, align: usize) {
-        self.inner.deallocate(ptr, size, align);
+    fn extend(&mut self, more: &[u8]) -> Result<(), AllocError> {
+        if self.largest.saturating_sub(self.line.len()) < more.len() {
+            return Err(AllocError);
+        }
+        self.line.extend_from_slice(more)
+    }
+
+    fn clear(&mut self) {
+        self.line.clear();
     }
 }

@@ -4,6 +4,8 @@ use langtag_extension::{ExtensionSubtag, Extensions, Singleton};
 use langtag_language::{ExtendedLangTag, InvalidLanguage, Language, LanguageBuf};
 use langtag_place::{InvalidVariants, Region, Variants, VariantsBuf};
 use langtag_private::{InvalidPrivateUse, PrivateUse, PrivateUseBuf};
+use std::alloc::{AllocError, Global};
+use std::process::Abort;
 
 /// A language and how many extended subtags it has, or its text again.
 fn counted<'a>(text: &'a str) -> Result<(Language<'a>, usize), InvalidLanguage<&'a str>> {
@@ -55,19 +57,21 @@ fn refusals_are_handed_on(rt: HostRuntime) {
 /// A clone has the very text, with its case, which `==` does not see.
 #[test]
 fn clones_have_the_same_text(rt: HostRuntime) {
-    with_memory(&rt, || {
-        let language = Language::new("zh-Min").expect(&rt, "refused");
-        assert_same!(rt; language.clone()?.as_str(), "zh-Min");
-        let region = Region::new("Fr").expect(&rt, "refused");
-        assert_same!(rt; region.clone()?.as_str(), "Fr");
-        let subtag = ExtensionSubtag::new("Co").expect(&rt, "refused");
-        assert_same!(rt; subtag.clone()?.as_str(), "Co");
-        let singleton = Singleton::new(b'U').expect(&rt, "refused");
-        assert_same!(rt; singleton.clone()?.unwrap(), b'U');
-        let part = PrivateUse::new("x-Twain").expect(&rt, "refused");
-        assert_same!(rt; part.clone()?.as_str(), "x-Twain");
-        Ok(())
-    });
+    with_memory!(rt, check_clones_have_the_same_text(&rt, rt.alloc()));
+}
+
+fn check_clones_have_the_same_text(rt: &impl Abort, alloc: Global) -> Result<(), AllocError> {
+    let language = Language::new("zh-Min").expect(rt, "refused");
+    assert_same!(rt; language.clone()?.as_str(), "zh-Min");
+    let region = Region::new("Fr").expect(rt, "refused");
+    assert_same!(rt; region.clone()?.as_str(), "Fr");
+    let subtag = ExtensionSubtag::new("Co").expect(rt, "refused");
+    assert_same!(rt; subtag.clone()?.as_str(), "Co");
+    let singleton = Singleton::new(b'U').expect(rt, "refused");
+    assert_same!(rt; singleton.clone()?.unwrap(), b'U');
+    let part = PrivateUse::new("x-Twain").expect(rt, "refused");
+    assert_same!(rt; part.clone()?.as_str(), "x-Twain");
+    Ok(())
 }
 
 #[test]
@@ -78,16 +82,18 @@ fn defaults_are_empty(rt: HostRuntime) {
 
 #[test]
 fn owned_texts_are_handed_on(rt: HostRuntime) {
-    with_memory(&rt, || {
-        let owned = LanguageBuf::new(String::from_str(rt.alloc(), "zh-min")?);
-        let again = owned_again(owned.expect(&rt, "refused")).expect(&rt, "refused");
-        assert_same!(rt; again.as_str(), "zh-min");
-        let again = variants_again(String::from_str(rt.alloc(), "rozaj-1994")?);
-        assert_same!(rt; again.expect(&rt, "refused").as_str(), "rozaj-1994");
-        let refused = owned_private(String::from_str(rt.alloc(), "x-")?);
-        assert_same!(rt; refused.expect_err(&rt, "accepted").0.as_str(), "x-");
-        Ok(())
-    });
+    with_memory!(rt, check_owned_texts_are_handed_on(&rt, rt.alloc()));
+}
+
+fn check_owned_texts_are_handed_on(rt: &impl Abort, alloc: Global) -> Result<(), AllocError> {
+    let owned = LanguageBuf::new(String::from_str(alloc, "zh-min")?);
+    let again = owned_again(owned.expect(rt, "refused")).expect(rt, "refused");
+    assert_same!(rt; again.as_str(), "zh-min");
+    let again = variants_again(String::from_str(alloc, "rozaj-1994")?);
+    assert_same!(rt; again.expect(rt, "refused").as_str(), "rozaj-1994");
+    let refused = owned_private(String::from_str(alloc, "x-")?);
+    assert_same!(rt; refused.expect_err(rt, "accepted").0.as_str(), "x-");
+    Ok(())
 }
 
 #[test]

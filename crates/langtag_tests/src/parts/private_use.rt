@@ -14,6 +14,7 @@ fn the_subtags_without_the_mark(rt: HostRuntime) {
         ("x-a-x-b", ["a", "x", "b"].as_slice()),
         ("X-a", ["a"].as_slice()),
         ("X-7", ["7"].as_slice()),
+        ("x-a-ccc", ["a", "ccc"].as_slice()),
         ("x-twain-a", ["twain", "a"].as_slice()),
         (
             "x-ext1-ext2-EXT3-ext4-ext5-ext6-ext7-12345678",

@@ -1,7 +1,9 @@
 //! The singleton (RFC 5646 section 2.2.6).
 use crate::support::{assert_same, assert_that, hash_of, with_memory};
 use langtag_extension::{ExtensionSubtag, Extensions, InvalidSingleton, Singleton};
+use std::alloc::{AllocError, Global};
 use std::convert::TryFrom;
+use std::process::Abort;
 
 /// Whether a byte is a singleton: a letter or digit but `x` and `X`.
 fn is_singleton(byte: u8) -> bool {
@@ -41,20 +43,22 @@ fn texts_convert(rt: HostRuntime) {
 
 #[test]
 fn what_is_shown(rt: HostRuntime) {
-    with_memory(&rt, || {
-        for text in ["0", "9", "A", "U", "Z", "a", "w", "z"] {
-            let singleton = Singleton::from_string(text).expect(&rt, "refused");
-            assert_same!(rt; singleton.to_string(rt.alloc())?.as_str(), text);
-        }
-        let capital = Singleton::new(b'U').expect(&rt, "refused");
-        let debug = format!(in rt.alloc(); "{capital:?}")?;
-        assert_same!(rt; debug.as_str(), "Singleton { byte: 85 }");
-        let refused = Singleton::new(b'x').expect_err(&rt, "accepted");
-        let debug = format!(in rt.alloc(); "{refused:?}")?;
-        assert_same!(rt; debug.as_str(), "InvalidSingleton(120)");
-        assert_same!(rt; refused.to_string(rt.alloc())?.as_str(), "invalid extension identifier");
-        Ok(())
-    });
+    with_memory!(rt, check_what_is_shown(&rt, rt.alloc()));
+}
+
+fn check_what_is_shown(rt: &impl Abort, alloc: Global) -> Result<(), AllocError> {
+    for text in ["0", "9", "A", "U", "Z", "a", "w", "z"] {
+        let singleton = Singleton::from_string(text).expect(rt, "refused");
+        assert_same!(rt; singleton.to_string(alloc)?.as_str(), text);
+    }
+    let capital = Singleton::new(b'U').expect(rt, "refused");
+    let debug = format!(in alloc; "{capital:?}")?;
+    assert_same!(rt; debug.as_str(), "Singleton { byte: 85 }");
+    let refused = Singleton::new(b'x').expect_err(rt, "accepted");
+    let debug = format!(in alloc; "{refused:?}")?;
+    assert_same!(rt; debug.as_str(), "InvalidSingleton(120)");
+    assert_same!(rt; refused.to_string(alloc)?.as_str(), "invalid extension identifier");
+    Ok(())
 }
 
 #[test]

@@ -1,6 +1,6 @@
 //! What a recogniser answers, in a form that compares.
 use crate::support::{assert_same, assert_that};
-use langtag_scan::{ByteSource, Ends, Found, Metered, MeteredBytes, recognise, recognise_normal};
+use langtag_scan::{ByteSource, Ends, Found, Metered, recognise, recognise_normal};
 use std::process::Abort;
 
 /// The answer of a recogniser.
@@ -51,7 +51,7 @@ pub(crate) fn of_text(rt: &impl Abort, text: &str) -> (Answer, usize) {
 
 /// The answer of `recognise` on bytes, and how many of them it read, of which the last was the furthest.
 pub(crate) fn of_bytes(rt: &impl Abort, bytes: &[u8]) -> (Answer, usize) {
-    let mut source = MeteredBytes::new(bytes);
+    let mut source = Metered::of_bytes(bytes);
     let found = recognise(&mut source);
     assert_same!(rt; source.reads(), source.reach() as u128, bytes);
     (Answer::of(found), source.reach())

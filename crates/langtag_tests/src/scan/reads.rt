@@ -4,6 +4,7 @@ use crate::scan::rows::{self, Row};
 use crate::scan::source::PrivateSubtags;
 use crate::support::{assert_same, assert_that, with_memory};
 use langtag_scan::{ByteSource, Ends, Metered, recognise, recognise_normal};
+use std::alloc::{AllocError, Global};
 use std::process::Abort;
 
 fn are_decided(rt: &impl Abort, rows: &[Row]) {
@@ -63,16 +64,18 @@ fn parts_stand_between_the_ends(rt: HostRuntime) {
 
 #[test]
 fn debug_shows_each_end(rt: HostRuntime) {
+    with_memory!(rt, check_debug_shows_each_end(&rt, rt.alloc()));
+}
+
+fn check_debug_shows_each_end(rt: &impl Abort, alloc: Global) -> Result<(), AllocError> {
     let ends = recognise(&mut Metered::new("fr-abc-nice-bz-e-foo"))
         .and_then(|found| found.ends())
-        .expect(&rt, "refused");
-    with_memory(&rt, || {
-        let shown = format!(in rt.alloc(); "{ends:?}")?;
-        let wanted =
-            "Ends { language: 6, script: 11, region: 14, variants: 14, extensions: 20, whole: 20 }";
-        assert_same!(rt; shown.as_str(), wanted);
-        Ok(())
-    });
+        .expect(rt, "refused");
+    let shown = format!(in alloc; "{ends:?}")?;
+    let wanted =
+        "Ends { language: 6, script: 11, region: 14, variants: 14, extensions: 20, whole: 20 }";
+    assert_same!(rt; shown.as_str(), wanted);
+    Ok(())
 }
 
 #[test]

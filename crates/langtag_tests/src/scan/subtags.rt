@@ -2,6 +2,7 @@
 use crate::support::{assert_same, assert_that, with_memory};
 use langtag_scan::Subtags;
 use std::alloc::{AllocError, Global};
+use std::process::Abort;
 
 /// What a walk gives: at most `first` subtags from the front, a `>` after each, and then all others from the back, a
 /// `<` before each.
@@ -37,13 +38,15 @@ const WALKS: [(&str, u8, &str); 11] = [
 
 #[test]
 fn walks_from_both_ends(rt: HostRuntime) {
-    with_memory(&rt, || {
-        for (text, first, want) in WALKS {
-            let found = walked(rt.alloc(), text, first)?;
-            assert_same!(rt; found.as_str(), want, (text, first));
-        }
-        Ok(())
-    });
+    with_memory!(rt, check_walks_from_both_ends(&rt, rt.alloc()));
+}
+
+fn check_walks_from_both_ends(rt: &impl Abort, alloc: Global) -> Result<(), AllocError> {
+    for (text, first, want) in WALKS {
+        let found = walked(alloc, text, first)?;
+        assert_same!(rt; found.as_str(), want, (text, first));
+    }
+    Ok(())
 }
 
 #[test]

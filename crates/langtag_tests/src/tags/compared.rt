@@ -1,57 +1,43 @@
 //! How tags of every kind and normal ones are shown, kept and compared (RFC 5646 section 2.1.1).
 use crate::scan::case::Calls;
-use crate::support::{assert_compared, assert_same, assert_that, text_type, with_memory};
+use crate::support::{
+    Seen, assert_compared, assert_same, assert_that, seen, text_type, with_memory,
+};
 use langtag::{
     EditError, GrandfatheredLangTag, Kind, LangTag, LangTagBuf, NormalLangTag, NormalLangTagBuf,
 };
-use std::alloc::AllocError;
+use std::alloc::{AllocError, Global};
 use std::cmp::Ordering;
 use std::hash::Hash;
 use std::process::Abort;
 
+fn lang_tag(text: &str, alloc: Global) -> Result<Seen, AllocError> {
+    seen!(LangTag, LangTagBuf, text, alloc)
+}
+
 #[test]
 fn tags(rt: HostRuntime) {
-    text_type!(
-        rt,
-        LangTag,
-        LangTagBuf,
-        as_lang_tag,
-        "invalid language tag",
+    text_type! {
+        rt, lang_tag, LangTag, ", .. }", "invalid language tag",
         [
-            "fr",
-            "AaBbCcDd",
-            "en-GB",
-            "zh-Latn",
-            "de-001-1996-0-00-x-0-1",
-            "x-0",
-            "x-Fr",
-            "X-fR",
-            "I-kLINgon",
-            "sgn-BE-FR"
+            "fr", "AaBbCcDd", "en-GB", "zh-Latn", "de-001-1996-0-00-x-0-1", "x-0", "x-Fr", "X-fR", "I-kLINgon",
+            "sgn-BE-FR",
         ],
-        ["", "i-no", "ab--ab", "x", "zh-x-Üńìcødê"]
-    );
+        ["", "i-no", "ab--ab", "x", "zh-x-Üńìcødê"],
+    }
+}
+
+fn normal_lang_tag(text: &str, alloc: Global) -> Result<Seen, AllocError> {
+    seen!(NormalLangTag, NormalLangTagBuf, text, alloc)
 }
 
 #[test]
 fn normal_tags(rt: HostRuntime) {
-    text_type!(
-        rt,
-        NormalLangTag,
-        NormalLangTagBuf,
-        as_normal_lang_tag,
-        "invalid normal language tag",
-        [
-            "fr",
-            "fR-fr",
-            "AaBbCcDd",
-            "en-GB",
-            "zh-Latn",
-            "zh-min-nan",
-            "de-001-1996-0-00-x-0-1"
-        ],
-        ["", "x-a", "i-ami", "ab--ab", "en-GB-oed", "zh-x-Üńìcødê"]
-    );
+    text_type! {
+        rt, normal_lang_tag, NormalLangTag, ", .. }", "invalid normal language tag",
+        ["fr", "fR-fr", "AaBbCcDd", "en-GB", "zh-Latn", "zh-min-nan", "de-001-1996-0-00-x-0-1"],
+        ["", "x-a", "i-ami", "ab--ab", "en-GB-oed", "zh-x-Üńìcødê"],
+    }
 }
 
 /// Two tags and how they are ordered.
@@ -89,99 +75,111 @@ fn feeds_small_letters(rt: &impl Abort, value: &impl Hash) {
 
 #[test]
 fn tags_feed_their_small_letters(rt: HostRuntime) {
-    with_memory(&rt, || {
-        for text in ["dE-AraB-lY", "DE-aRaB-LY"] {
-            let tag = LangTag::new(text).ok().expect(&rt, "refused");
-            feeds_small_letters(&rt, &tag);
-            feeds_small_letters(&rt, &tag.try_to_owned(rt.alloc())?);
-            let tag = tag.as_normal().expect(&rt, "none");
-            feeds_small_letters(&rt, &tag);
-            feeds_small_letters(&rt, &tag.try_to_owned(rt.alloc())?);
-        }
-        Ok(())
-    });
+    with_memory!(rt, check_tags_feed_their_small_letters(&rt, rt.alloc()));
+}
+
+fn check_tags_feed_their_small_letters(rt: &impl Abort, alloc: Global) -> Result<(), AllocError> {
+    for text in ["dE-AraB-lY", "DE-aRaB-LY"] {
+        let tag = LangTag::new(text).ok().expect(rt, "refused");
+        feeds_small_letters(rt, &tag);
+        feeds_small_letters(rt, &tag.try_to_owned(alloc)?);
+        let tag = tag.as_normal().expect(rt, "none");
+        feeds_small_letters(rt, &tag);
+        feeds_small_letters(rt, &tag.try_to_owned(alloc)?);
+    }
+    Ok(())
 }
 
 /// A clone has the very text, with its case, which `==` does not see, and is of the same kind.
 #[test]
 fn clones_have_the_same_text(rt: HostRuntime) {
-    with_memory(&rt, || {
-        for text in ["Fr-ca", "X-a", "I-Ami"] {
-            let tags = [LangTag::new(text).ok().expect(&rt, "refused")];
-            for copy in tags.iter().cloned() {
-                assert_same!(rt; copy.as_str(), text);
-                assert_same!(rt; copy.kind().clone()?, tags[0].kind(), text);
-                assert_that!(rt; copy.as_typed().clone()? == tags[0].as_typed(), text);
-            }
+    with_memory!(rt, check_clones_have_the_same_text(&rt, rt.alloc()));
+}
+
+fn check_clones_have_the_same_text(rt: &impl Abort, alloc: Global) -> Result<(), AllocError> {
+    for text in ["Fr-ca", "X-a", "I-Ami"] {
+        let tags = [LangTag::new(text).ok().expect(rt, "refused")];
+        for copy in tags.iter().cloned() {
+            assert_same!(rt; copy.as_str(), text);
+            assert_same!(rt; copy.kind().clone()?, tags[0].kind(), text);
+            assert_that!(rt; copy.as_typed().clone()? == tags[0].as_typed(), text);
         }
-        let tag = NormalLangTag::new("Fr-ca").ok().expect(&rt, "refused");
-        assert_same!(rt; tag.clone()?.as_str(), "Fr-ca");
-        assert_that!(rt; GrandfatheredLangTag::ILux.clone()? == GrandfatheredLangTag::ILux);
-        Ok(())
-    });
+    }
+    let tag = NormalLangTag::new("Fr-ca").ok().expect(rt, "refused");
+    assert_same!(rt; tag.clone()?.as_str(), "Fr-ca");
+    assert_that!(rt; GrandfatheredLangTag::ILux.clone()? == GrandfatheredLangTag::ILux);
+    Ok(())
 }
 
 #[test]
 fn kinds_are_shown_and_ordered(rt: HostRuntime) {
-    with_memory(&rt, || {
-        let shown = format!(in rt.alloc();
-            "{:?}",
-            [Kind::Normal, Kind::PrivateUse, Kind::Grandfathered]
-        )?;
-        assert_same!(rt; shown.as_str(), "[Normal, PrivateUse, Grandfathered]");
-        assert_that!(rt; Kind::Normal < Kind::PrivateUse && Kind::PrivateUse < Kind::Grandfathered);
-        Ok(())
-    });
+    with_memory!(rt, check_kinds_are_shown_and_ordered(&rt, rt.alloc()));
+}
+
+fn check_kinds_are_shown_and_ordered(rt: &impl Abort, alloc: Global) -> Result<(), AllocError> {
+    let shown = format!(in alloc;
+        "{:?}",
+        [Kind::Normal, Kind::PrivateUse, Kind::Grandfathered]
+    )?;
+    assert_same!(rt; shown.as_str(), "[Normal, PrivateUse, Grandfathered]");
+    assert_that!(rt; Kind::Normal < Kind::PrivateUse && Kind::PrivateUse < Kind::Grandfathered);
+    Ok(())
 }
 
 #[test]
 fn typed_tags_are_shown(rt: HostRuntime) {
-    with_memory(&rt, || {
-        for (text, shown) in [
-            ("fr", "Normal(NormalLangTag { text: Caseless(\"fr\")"),
-            ("X-a", "PrivateUse(PrivateUse { text: Caseless(\"X-a\")"),
-            ("I-ami", "Grandfathered(IAmi)"),
-        ] {
-            let typed = LangTag::new(text).ok().expect(&rt, "refused").as_typed();
-            let debug = format!(in rt.alloc(); "{typed:?}")?;
-            assert!(rt; debug.as_str().starts_with(shown), "of {debug}");
-        }
-        Ok(())
-    });
+    with_memory!(rt, check_typed_tags_are_shown(&rt, rt.alloc()));
+}
+
+fn check_typed_tags_are_shown(rt: &impl Abort, alloc: Global) -> Result<(), AllocError> {
+    for (text, shown) in [
+        ("fr", "Normal(NormalLangTag { text: Caseless(\"fr\")"),
+        ("X-a", "PrivateUse(PrivateUse { text: Caseless(\"X-a\")"),
+        ("I-ami", "Grandfathered(IAmi)"),
+    ] {
+        let typed = LangTag::new(text).ok().expect(rt, "refused").as_typed();
+        let debug = format!(in alloc; "{typed:?}")?;
+        assert!(rt; debug.as_str().starts_with(shown), "of {debug}");
+    }
+    Ok(())
 }
 
 #[test]
 fn refused_edits_are_shown(rt: HostRuntime) {
-    with_memory(&rt, || {
-        for (error, words, debug) in [
-            (
-                EditError::NotNormal,
-                "not a normal language tag",
-                "NotNormal",
-            ),
-            (
-                EditError::Memory(AllocError),
-                "out of memory",
-                "Memory(AllocError)",
-            ),
-        ] {
-            assert_eq!(rt; error.to_string(rt.alloc())?.as_str(), words);
-            assert_eq!(rt; format!(in rt.alloc(); "{error:?}")?.as_str(), debug);
-        }
-        Ok(())
-    });
+    with_memory!(rt, check_refused_edits_are_shown(&rt, rt.alloc()));
+}
+
+fn check_refused_edits_are_shown(rt: &impl Abort, alloc: Global) -> Result<(), AllocError> {
+    for (error, words, debug) in [
+        (
+            EditError::NotNormal,
+            "not a normal language tag",
+            "NotNormal",
+        ),
+        (
+            EditError::Memory(AllocError),
+            "out of memory",
+            "Memory(AllocError)",
+        ),
+    ] {
+        assert_eq!(rt; error.to_string(alloc)?.as_str(), words);
+        assert_eq!(rt; format!(in alloc; "{error:?}")?.as_str(), debug);
+    }
+    Ok(())
 }
 
 #[test]
 fn refused_edits_are_equal_where_they_are_the_same(rt: HostRuntime) {
-    with_memory(&rt, || {
-        let errors = [EditError::NotNormal, EditError::Memory(AllocError)];
-        for (at, error) in errors.iter().enumerate() {
-            for (other_at, other) in errors.iter().enumerate() {
-                assert_same!(rt; error == other, at == other_at, (at, other_at));
-                assert_same!(rt; error.clone()? == *other, at == other_at, (at, other_at));
-            }
+    with_memory!(rt, check_equal_edits(&rt, rt.alloc()));
+}
+
+fn check_equal_edits(rt: &impl Abort, alloc: Global) -> Result<(), AllocError> {
+    let errors = [EditError::NotNormal, EditError::Memory(AllocError)];
+    for (at, error) in errors.iter().enumerate() {
+        for (other_at, other) in errors.iter().enumerate() {
+            assert_same!(rt; error == other, at == other_at, (at, other_at));
+            assert_same!(rt; error.clone()? == *other, at == other_at, (at, other_at));
         }
-        Ok(())
-    });
+    }
+    Ok(())
 }

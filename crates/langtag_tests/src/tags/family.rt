@@ -1,6 +1,6 @@
 //! Ways from one tag type to another, and tags of any kind that are edited.
 use crate::support::{assert_same, assert_that, with_memory};
-use crate::tags::parts::{normal, part_texts};
+use crate::tags::parts::{have_same_parts, normal};
 use langtag::{
     EditError, Extensions, GRANDFATHERED, Kind, LangTag, LangTagBuf, PrivateUse, PrivateUseBuf,
     Region, Script, Variants,
@@ -37,20 +37,22 @@ pub(super) fn edited(rt: &impl Abort, answer: Result<(), EditError>) -> Result<(
 #[test]
 fn normal_tags_are_tags(rt: HostRuntime) {
     for text in NORMAL {
-        let tag = normal(&rt, text);
-        for other in [tag.as_lang_tag(), LangTag::from(tag)] {
-            assert_same!(rt; other.as_str(), text);
-            assert_same!(rt; other.kind(), Kind::Normal);
-        }
-        with_memory(&rt, || {
-            let kept = tag.try_to_owned(rt.alloc())?.into_lang_tag();
-            assert_same!(rt; kept.as_str(), text);
-            let again = kept.into_normal().ok().expect(&rt, "handed back");
-            assert_that!(rt; part_texts(&again.as_normal_lang_tag()) == part_texts(&tag));
-            assert_same!(rt; LangTagBuf::from(again).as_str(), text);
-            Ok(())
-        });
+        with_memory!(rt, is_tag(&rt, rt.alloc(), text));
     }
+}
+
+fn is_tag(rt: &impl Abort, alloc: Global, text: &str) -> Result<(), AllocError> {
+    let tag = normal(rt, text);
+    for other in [tag.as_lang_tag(), LangTag::from(tag)] {
+        assert_same!(rt; other.as_str(), text);
+        assert_same!(rt; other.kind(), Kind::Normal);
+    }
+    let kept = tag.try_to_owned(alloc)?.into_lang_tag();
+    assert_same!(rt; kept.as_str(), text);
+    let again = kept.into_normal().ok().expect(rt, "handed back");
+    assert_that!(rt; have_same_parts(&again.as_normal_lang_tag(), &tag), text);
+    assert_same!(rt; LangTagBuf::from(again).as_str(), text);
+    Ok(())
 }
 
 #[test]
@@ -64,73 +66,76 @@ fn tags_of_other_kinds_are_tags(rt: HostRuntime) {
         assert_same!(rt; tag.as_str(), grandfathered.as_str());
         assert_that!(rt; tag.is_grandfathered());
     }
-    with_memory(&rt, || {
-        let part = PrivateUseBuf::new(String::from_str(rt.alloc(), "X-fr-CH")?);
-        let kept = LangTagBuf::from(part.ok().expect(&rt, "refused"));
-        assert_same!(rt; kept.as_lang_tag().kind(), Kind::PrivateUse);
-        assert_same!(rt; kept.into_string().as_str(), "X-fr-CH");
-        Ok(())
-    });
+    with_memory!(rt, check_an_owned_private_use_part(&rt, rt.alloc()));
+}
+
+fn check_an_owned_private_use_part(rt: &impl Abort, alloc: Global) -> Result<(), AllocError> {
+    let part = PrivateUseBuf::new(String::from_str(alloc, "X-fr-CH")?);
+    let kept = LangTagBuf::from(part.ok().expect(rt, "refused"));
+    assert_same!(rt; kept.as_lang_tag().kind(), Kind::PrivateUse);
+    assert_same!(rt; kept.into_string().as_str(), "X-fr-CH");
+    Ok(())
 }
 
 #[test]
 fn a_tag_of_another_kind_comes_back(rt: HostRuntime) {
     for text in ["x-a", "i-KLINGON", "sgn-BE-FR"] {
-        with_memory(&rt, || {
-            let mut tag = owned(&rt, rt.alloc(), text)?;
-            let answer = tag.set_region(rt.alloc(), Region::new("DE").ok());
-            assert_that!(rt; matches!(answer, Err(EditError::NotNormal)), text);
-            let answer = tag.set_script(rt.alloc(), None);
-            assert_that!(rt; matches!(answer, Err(EditError::NotNormal)), text);
-            let answer = tag.set_language(rt.alloc(), normal(&rt, "de").language());
-            assert_that!(rt; matches!(answer, Err(EditError::NotNormal)), text);
-            let answer = tag.set_variants(rt.alloc(), Variants::EMPTY);
-            assert_that!(rt; matches!(answer, Err(EditError::NotNormal)), text);
-            let answer = tag.set_extensions(rt.alloc(), Extensions::EMPTY);
-            assert_that!(rt; matches!(answer, Err(EditError::NotNormal)), text);
-            let answer = tag.set_private_use(rt.alloc(), None);
-            assert_that!(rt; matches!(answer, Err(EditError::NotNormal)), text);
-            let same = tag
-                .into_normal()
-                .err()
-                .expect(&rt, "taken for a normal tag");
-            assert_same!(rt; same.as_str(), text);
-            Ok(())
-        });
+        with_memory!(rt, refuses_edits(&rt, rt.alloc(), text));
     }
+}
+
+fn refuses_edits(rt: &impl Abort, alloc: Global, text: &str) -> Result<(), AllocError> {
+    let mut tag = owned(rt, alloc, text)?;
+    for answer in [
+        tag.set_region(alloc, Region::new("DE").ok()),
+        tag.set_script(alloc, None),
+        tag.set_language(alloc, normal(rt, "de").language()),
+        tag.set_variants(alloc, Variants::EMPTY),
+        tag.set_extensions(alloc, Extensions::EMPTY),
+        tag.set_private_use(alloc, None),
+    ] {
+        assert_same!(rt; answer, Err(EditError::NotNormal), text);
+    }
+    let same = tag.into_normal().err().expect(rt, "taken for a normal tag");
+    assert_same!(rt; same.as_str(), text);
+    Ok(())
 }
 
 #[test]
 fn a_normal_tag_is_edited(rt: HostRuntime) {
-    with_memory(&rt, || {
-        let mut tag = owned(&rt, rt.alloc(), "zh-x-mine")?;
-        edited(&rt, tag.set_script(rt.alloc(), Script::new("Hant").ok()))?;
-        edited(&rt, tag.set_region(rt.alloc(), Region::new("TW").ok()))?;
-        assert_same!(rt; tag.as_str(), "zh-Hant-TW-x-mine");
-        let region = tag.as_lang_tag().region().expect(&rt, "no region");
-        assert_same!(rt; region.as_str(), "TW");
-        edited(&rt, tag.set_script(rt.alloc(), None))?;
-        assert_same!(rt; tag.into_string().as_str(), "zh-TW-x-mine");
-        Ok(())
-    });
+    with_memory!(rt, check_edits(&rt, rt.alloc()));
+}
+
+fn check_edits(rt: &impl Abort, alloc: Global) -> Result<(), AllocError> {
+    let mut tag = owned(rt, alloc, "zh-x-mine")?;
+    edited(rt, tag.set_script(alloc, Script::new("Hant").ok()))?;
+    edited(rt, tag.set_region(alloc, Region::new("TW").ok()))?;
+    assert_same!(rt; tag.as_str(), "zh-Hant-TW-x-mine");
+    let region = tag.as_lang_tag().region().expect(rt, "no region");
+    assert_same!(rt; region.as_str(), "TW");
+    edited(rt, tag.set_script(alloc, None))?;
+    assert_same!(rt; tag.into_string().as_str(), "zh-TW-x-mine");
+    Ok(())
 }
 
 #[test]
 fn the_other_parts_of_a_normal_tag_are_edited(rt: HostRuntime) {
-    with_memory(&rt, || {
-        let other = normal(&rt, "zh-yue-rozaj-u-co-eor-x-mine");
-        let mut tag = owned(&rt, rt.alloc(), "de-AT")?;
-        edited(&rt, tag.set_language(rt.alloc(), other.language()))?;
-        assert_same!(rt; tag.as_str(), "zh-yue-AT");
-        edited(&rt, tag.set_variants(rt.alloc(), other.variants()))?;
-        edited(&rt, tag.set_extensions(rt.alloc(), other.extensions()))?;
-        edited(&rt, tag.set_private_use(rt.alloc(), other.private_use()))?;
-        assert_same!(rt; tag.as_str(), "zh-yue-AT-rozaj-u-co-eor-x-mine");
-        edited(&rt, tag.set_variants(rt.alloc(), Variants::EMPTY))?;
-        edited(&rt, tag.set_extensions(rt.alloc(), Extensions::EMPTY))?;
-        assert_same!(rt; tag.as_str(), "zh-yue-AT-x-mine");
-        edited(&rt, tag.set_private_use(rt.alloc(), None))?;
-        assert_same!(rt; tag.into_string().as_str(), "zh-yue-AT");
-        Ok(())
-    });
+    with_memory!(rt, check_edits_of_other_parts(&rt, rt.alloc()));
+}
+
+fn check_edits_of_other_parts(rt: &impl Abort, alloc: Global) -> Result<(), AllocError> {
+    let other = normal(rt, "zh-yue-rozaj-u-co-eor-x-mine");
+    let mut tag = owned(rt, alloc, "de-AT")?;
+    edited(rt, tag.set_language(alloc, other.language()))?;
+    assert_same!(rt; tag.as_str(), "zh-yue-AT");
+    edited(rt, tag.set_variants(alloc, other.variants()))?;
+    edited(rt, tag.set_extensions(alloc, other.extensions()))?;
+    edited(rt, tag.set_private_use(alloc, other.private_use()))?;
+    assert_same!(rt; tag.as_str(), "zh-yue-AT-rozaj-u-co-eor-x-mine");
+    edited(rt, tag.set_variants(alloc, Variants::EMPTY))?;
+    edited(rt, tag.set_extensions(alloc, Extensions::EMPTY))?;
+    assert_same!(rt; tag.as_str(), "zh-yue-AT-x-mine");
+    edited(rt, tag.set_private_use(alloc, None))?;
+    assert_same!(rt; tag.into_string().as_str(), "zh-yue-AT");
+    Ok(())
 }

@@ -1,6 +1,7 @@
 //! The grandfathered tags (RFC 5646 section 2.2.8).
 use crate::support::{HOSTILE, assert_same, assert_that, with_memory};
 use langtag::{GRANDFATHERED, GrandfatheredLangTag, Kind, LangTag, TypedLangTag};
+use std::alloc::{AllocError, Global};
 use std::convert::TryFrom;
 use std::process::Abort;
 
@@ -57,59 +58,65 @@ fn is_found(rt: &impl Abort, text: &str, tag: GrandfatheredLangTag, is_regular: 
 
 #[test]
 fn all_are_shown_as_registered(rt: HostRuntime) {
-    with_memory(&rt, || {
-        for (index, &(tag, text, language)) in TABLE.iter().enumerate() {
-            assert_that!(rt; GRANDFATHERED[index] == tag);
-            assert_same!(rt; tag.as_str(), text);
-            assert_same!(rt; tag.as_bytes(), text.as_bytes());
-            assert_same!(rt; tag.to_string(rt.alloc())?.as_str(), text);
-            assert_same!(rt; tag.language().map(|found| found.as_str()), language);
-            let typed = TypedLangTag::Grandfathered(tag);
-            assert_same!(rt; typed.language().map(|found| found.as_str()), language);
-        }
-        Ok(())
-    });
+    with_memory!(rt, check_all_are_shown_as_registered(&rt, rt.alloc()));
+}
+
+fn check_all_are_shown_as_registered(rt: &impl Abort, alloc: Global) -> Result<(), AllocError> {
+    for (index, &(tag, text, language)) in TABLE.iter().enumerate() {
+        assert_that!(rt; GRANDFATHERED[index] == tag);
+        assert_same!(rt; tag.as_str(), text);
+        assert_same!(rt; tag.as_bytes(), text.as_bytes());
+        assert_same!(rt; tag.to_string(alloc)?.as_str(), text);
+        assert_same!(rt; tag.language().map(|found| found.as_str()), language);
+        let typed = TypedLangTag::Grandfathered(tag);
+        assert_same!(rt; typed.language().map(|found| found.as_str()), language);
+    }
+    Ok(())
 }
 
 #[test]
 fn all_are_found_in_any_case(rt: HostRuntime) {
-    with_memory(&rt, || {
-        for (tag, text, language) in TABLE {
-            let mut other = String::from_str(rt.alloc(), text)?;
-            is_found(&rt, other.as_str(), tag, language.is_some());
-            other.make_ascii_uppercase();
-            is_found(&rt, other.as_str(), tag, language.is_some());
-            other.make_ascii_lowercase();
-            is_found(&rt, other.as_str(), tag, language.is_some());
-        }
-        is_found(&rt, "ZH-min-NAN", GrandfatheredLangTag::ZhMinNan, true);
-        Ok(())
-    });
+    with_memory!(rt, check_all_are_found_in_any_case(&rt, rt.alloc()));
+}
+
+fn check_all_are_found_in_any_case(rt: &impl Abort, alloc: Global) -> Result<(), AllocError> {
+    for (tag, text, language) in TABLE {
+        let mut other = String::from_str(alloc, text)?;
+        is_found(rt, other.as_str(), tag, language.is_some());
+        other.make_ascii_uppercase();
+        is_found(rt, other.as_str(), tag, language.is_some());
+        other.make_ascii_lowercase();
+        is_found(rt, other.as_str(), tag, language.is_some());
+    }
+    is_found(rt, "ZH-min-NAN", GrandfatheredLangTag::ZhMinNan, true);
+    Ok(())
 }
 
 #[test]
 fn other_bytes_come_back(rt: HostRuntime) {
-    with_memory(&rt, || {
-        let others: [&[u8]; 6] = [b"", b"zh-mi", b"zh-min-CN", b"i-klingon-x", b"fr", b"\xff"];
-        for bytes in others {
-            let refused = GrandfatheredLangTag::new(bytes)
-                .err()
-                .expect(&rt, "accepted");
-            assert_same!(rt; refused, bytes);
-            let refused = GrandfatheredLangTag::try_from(bytes)
-                .err()
-                .expect(&rt, "accepted");
-            assert_same!(rt; refused.0, bytes);
-            assert_same!(rt; refused.to_string(rt.alloc())?.as_str(), "invalid grandfathered tag");
-        }
-        for text in HOSTILE {
-            let refused = GrandfatheredLangTag::try_from(text.as_bytes());
-            assert_same!(rt; refused.err().expect(&rt, "accepted").0, text.as_bytes());
-        }
-        let refused = GrandfatheredLangTag::try_from(b"zh".as_slice());
-        let refused = refused.err().expect(&rt, "accepted");
-        let shown = format!(in rt.alloc(); "{refused:?}")?;
-        assert_same!(rt; shown.as_str(), "InvalidGrandfatheredTag([122, 104])");
-        Ok(())
-    });
+    with_memory!(rt, check_other_bytes_come_back(&rt, rt.alloc()));
+}
+
+fn check_other_bytes_come_back(rt: &impl Abort, alloc: Global) -> Result<(), AllocError> {
+    let others: [&[u8]; 6] = [b"", b"zh-mi", b"zh-min-CN", b"i-klingon-x", b"fr", b"\xff"];
+    for bytes in others {
+        let refused = GrandfatheredLangTag::new(bytes)
+            .err()
+            .expect(rt, "accepted");
+        assert_same!(rt; refused, bytes);
+        let refused = GrandfatheredLangTag::try_from(bytes)
+            .err()
+            .expect(rt, "accepted");
+        assert_same!(rt; refused.0, bytes);
+        assert_same!(rt; refused.to_string(alloc)?.as_str(), "invalid grandfathered tag");
+    }
+    for text in HOSTILE {
+        let refused = GrandfatheredLangTag::try_from(text.as_bytes());
+        assert_same!(rt; refused.err().expect(rt, "accepted").0, text.as_bytes());
+    }
+    let refused = GrandfatheredLangTag::try_from(b"zh".as_slice());
+    let refused = refused.err().expect(rt, "accepted");
+    let shown = format!(in alloc; "{refused:?}")?;
+    assert_same!(rt; shown.as_str(), "InvalidGrandfatheredTag([122, 104])");
+    Ok(())
 }

@@ -106,12 +106,9 @@ fn become_tags_or_come_back(
 
 #[test]
 fn strings_become_tags_or_come_back(rt: HostRuntime) {
-    with_memory(&rt, || {
-        for rows in rows::all() {
-            become_tags_or_come_back(&rt, rt.alloc(), rows)?;
-        }
-        Ok(())
-    });
+    for rows in rows::all() {
+        with_memory!(rt, become_tags_or_come_back(&rt, rt.alloc(), rows));
+    }
 }
 
 #[test]

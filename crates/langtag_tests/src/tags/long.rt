@@ -49,75 +49,79 @@ fn is_normal(
 
 #[test]
 fn variants(rt: HostRuntime) {
-    with_memory(
-        &rt,
-        || is_normal(&rt, rt.alloc(), ("en", "-1996", 400_000), [400_000, 0, 0]),
+    with_memory!(
+        rt,
+        is_normal(&rt, rt.alloc(), ("en", "-1996", 400_000), [400_000, 0, 0])
     );
 }
 
 #[test]
 fn one_extension(rt: HostRuntime) {
-    with_memory(
-        &rt,
-        || is_normal(&rt, rt.alloc(), ("en-a", "-bb", 700_000), [0, 1, 0]),
+    with_memory!(
+        rt,
+        is_normal(&rt, rt.alloc(), ("en-a", "-bb", 700_000), [0, 1, 0])
     );
 }
 
 #[test]
 fn extensions(rt: HostRuntime) {
-    with_memory(
-        &rt,
-        || is_normal(&rt, rt.alloc(), ("en", "-a-bb", 400_000), [0, 400_000, 0]),
+    with_memory!(
+        rt,
+        is_normal(&rt, rt.alloc(), ("en", "-a-bb", 400_000), [0, 400_000, 0])
     );
 }
 
 #[test]
 fn private_use_subtags(rt: HostRuntime) {
-    with_memory(
-        &rt,
-        || is_normal(
+    with_memory!(
+        rt,
+        is_normal(
             &rt,
             rt.alloc(),
             ("en-x", "-a", 1_000_000),
-            [0, 0, 1_000_000],
-        ),
+            [0, 0, 1_000_000]
+        )
     );
 }
 
 #[test]
 fn copies_and_setters(rt: HostRuntime) {
-    with_memory(&rt, || {
-        for (text, piece) in [
-            ("en-x", "-a"),
-            ("en", "-rozaj"),
-            ("en", "-a-bb"),
-            ("fr-abc-Latn-FR-a", "-bb"),
-        ] {
-            let long = repeated(rt.alloc(), text, piece, 10_000)?;
-            let tag = LangTag::new(long.as_str()).ok().expect(&rt, "refused");
-            is_shown_and_copied(&rt, rt.alloc(), &tag, long.as_str())?;
-            let tag = normal(&rt, long.as_str());
-            is_shown_and_copied_as_normal(&rt, rt.alloc(), &tag, long.as_str())?;
-            is_set_and_set_back(&rt, rt.alloc(), long.as_str(), &WAYS)?;
-            is_set_as_one_of_any_kind(&rt, rt.alloc(), long.as_str())?;
-        }
-        Ok(())
-    });
+    with_memory!(rt, check_copies_and_setters(&rt, rt.alloc()));
+}
+
+fn check_copies_and_setters(rt: &impl Abort, alloc: Global) -> Result<(), AllocError> {
+    for (text, piece) in [
+        ("en-x", "-a"),
+        ("en", "-rozaj"),
+        ("en", "-a-bb"),
+        ("fr-abc-Latn-FR-a", "-bb"),
+    ] {
+        let long = repeated(alloc, text, piece, 10_000)?;
+        let tag = LangTag::new(long.as_str()).ok().expect(rt, "refused");
+        is_shown_and_copied(rt, alloc, &tag, long.as_str())?;
+        let tag = normal(rt, long.as_str());
+        is_shown_and_copied_as_normal(rt, alloc, &tag, long.as_str())?;
+        is_set_and_set_back(rt, alloc, long.as_str(), &WAYS)?;
+        is_set_as_one_of_any_kind(rt, alloc, long.as_str())?;
+    }
+    Ok(())
 }
 
 #[test]
 fn a_private_use_tag(rt: HostRuntime) {
-    with_memory(&rt, || {
-        let long = repeated(rt.alloc(), "x", "-a", 1_000_000)?;
-        let text = long.as_str();
-        assert_that!(rt; of_text(&rt, text) == (Answer::PrivateUse, text.len()));
-        let tag = LangTag::new(text).ok().expect(&rt, "refused");
-        let private_use = tag.as_private_use().expect(&rt, "none");
-        assert_same!(rt; private_use.iter().count(), 1_000_000);
-        assert_that!(rt; tag.language().is_none() && tag.private_use().is_none());
-        assert_that!(rt; NormalLangTag::new(text).is_err());
-        is_shown_and_copied(&rt, rt.alloc(), &tag, text)
-    });
+    with_memory!(rt, check_a_private_use_tag(&rt, rt.alloc()));
+}
+
+fn check_a_private_use_tag(rt: &impl Abort, alloc: Global) -> Result<(), AllocError> {
+    let long = repeated(alloc, "x", "-a", 1_000_000)?;
+    let text = long.as_str();
+    assert_that!(rt; of_text(rt, text) == (Answer::PrivateUse, text.len()));
+    let tag = LangTag::new(text).ok().expect(rt, "refused");
+    let private_use = tag.as_private_use().expect(rt, "none");
+    assert_same!(rt; private_use.iter().count(), 1_000_000);
+    assert_that!(rt; tag.language().is_none() && tag.private_use().is_none());
+    assert_that!(rt; NormalLangTag::new(text).is_err());
+    is_shown_and_copied(rt, alloc, &tag, text)
 }
 
 /// Pieces that make a tag of two million bytes, and the same in their recommended case.
@@ -129,53 +133,61 @@ const CASED: [(&str, &str, &str, &str, u32); 3] = [
 
 #[test]
 fn the_recommended_case_in_place(rt: HostRuntime) {
-    with_memory(&rt, || {
-        for (text, piece, recommended, small, count) in CASED {
-            let long = repeated(rt.alloc(), text, piece, count)?;
-            let wanted = repeated(rt.alloc(), recommended, small, count)?;
-            let mut tag = LangTagBuf::new(long).ok().expect(&rt, "refused");
-            tag.make_recommended_case();
-            assert_that!(rt; tag.as_str() == wanted.as_str(), text);
-            assert_that!(rt; tag.as_lang_tag().is_in_recommended_case(), text);
-        }
-        Ok(())
-    });
+    with_memory!(rt, check_the_recommended_case_in_place(&rt, rt.alloc()));
+}
+
+fn check_the_recommended_case_in_place(rt: &impl Abort, alloc: Global) -> Result<(), AllocError> {
+    for (text, piece, recommended, small, count) in CASED {
+        let long = repeated(alloc, text, piece, count)?;
+        let wanted = repeated(alloc, recommended, small, count)?;
+        let mut tag = LangTagBuf::new(long).ok().expect(rt, "refused");
+        tag.make_recommended_case();
+        assert_that!(rt; tag.as_str() == wanted.as_str(), text);
+        assert_that!(rt; tag.as_lang_tag().is_in_recommended_case(), text);
+    }
+    Ok(())
 }
 
 #[test]
 fn the_recommended_case_of_a_copy(rt: HostRuntime) {
-    with_memory(&rt, || {
-        for (text, piece, recommended, small, _) in CASED {
-            let long = repeated(rt.alloc(), text, piece, 10_000)?;
-            let wanted = repeated(rt.alloc(), recommended, small, 10_000)?;
-            is_recommended(&rt, rt.alloc(), long.as_str(), wanted.as_str())?;
-        }
-        Ok(())
-    });
+    with_memory!(rt, check_the_recommended_case_of_a_copy(&rt, rt.alloc()));
+}
+
+fn check_the_recommended_case_of_a_copy(rt: &impl Abort, alloc: Global) -> Result<(), AllocError> {
+    for (text, piece, recommended, small, _) in CASED {
+        let long = repeated(alloc, text, piece, 10_000)?;
+        let wanted = repeated(alloc, recommended, small, 10_000)?;
+        is_recommended(rt, alloc, long.as_str(), wanted.as_str())?;
+    }
+    Ok(())
 }
 
 #[test]
 fn the_recommended_case_of_bytes(rt: HostRuntime) {
-    with_memory(&rt, || {
-        for (text, recommended) in [("-ab", "-AB"), ("-ABCD", "-Abcd"), ("A", "a")] {
-            let long = repeated(rt.alloc(), "en", text, 500_000)?;
-            let wanted = repeated(rt.alloc(), "en", recommended, 500_000)?;
-            let mut bytes = long.into_bytes();
-            make_recommended_case(bytes.as_mut_slice());
-            assert_that!(rt; bytes.as_slice() == wanted.as_bytes(), text);
-            assert_that!(rt; is_in_recommended_case(bytes.as_slice()), text);
-        }
-        Ok(())
-    });
+    with_memory!(rt, check_the_recommended_case_of_bytes(&rt, rt.alloc()));
+}
+
+fn check_the_recommended_case_of_bytes(rt: &impl Abort, alloc: Global) -> Result<(), AllocError> {
+    for (text, recommended) in [("-ab", "-AB"), ("-ABCD", "-Abcd"), ("A", "a")] {
+        let long = repeated(alloc, "en", text, 500_000)?;
+        let wanted = repeated(alloc, "en", recommended, 500_000)?;
+        let mut bytes = long.into_bytes();
+        make_recommended_case(bytes.as_mut_slice());
+        assert_that!(rt; bytes.as_slice() == wanted.as_bytes(), text);
+        assert_that!(rt; is_in_recommended_case(bytes.as_slice()), text);
+    }
+    Ok(())
 }
 
 #[test]
 fn the_beginning_of_a_tag(rt: HostRuntime) {
-    with_memory(&rt, || {
-        let long = repeated(rt.alloc(), "en-x", "-a", 1_000_000)?;
-        assert_eq!(rt; viable_len(long.as_bytes()), long.len());
-        Ok(())
-    });
+    with_memory!(rt, check_the_beginning_of_a_tag(&rt, rt.alloc()));
+}
+
+fn check_the_beginning_of_a_tag(rt: &impl Abort, alloc: Global) -> Result<(), AllocError> {
+    let long = repeated(alloc, "en-x", "-a", 1_000_000)?;
+    assert_eq!(rt; viable_len(long.as_bytes()), long.len());
+    Ok(())
 }
 
 /// What a text that is no tag begins with, what follows it a million times, and how many bytes decide it.
@@ -193,37 +205,41 @@ const REFUSED: [(&str, &str, usize); 9] = [
 
 #[test]
 fn texts_that_are_no_tags(rt: HostRuntime) {
-    with_memory(&rt, || {
-        for (text, piece, reads) in REFUSED {
-            let long = repeated(rt.alloc(), text, piece, 1_000_000)?;
-            assert_that!(rt; of_text(&rt, long.as_str()) == (Answer::Refused, reads), text);
-            let refused = LangTag::new(long.as_str()).err().expect(&rt, "accepted");
-            assert_same!(rt; refused.0.len(), long.len(), text);
-            let refused = NormalLangTag::new(long.as_str())
-                .err()
-                .expect(&rt, "accepted");
-            assert_same!(rt; refused.0.len(), long.len(), text);
-        }
-        Ok(())
-    });
+    with_memory!(rt, check_texts_that_are_no_tags(&rt, rt.alloc()));
+}
+
+fn check_texts_that_are_no_tags(rt: &impl Abort, alloc: Global) -> Result<(), AllocError> {
+    for (text, piece, reads) in REFUSED {
+        let long = repeated(alloc, text, piece, 1_000_000)?;
+        assert_that!(rt; of_text(rt, long.as_str()) == (Answer::Refused, reads), text);
+        let refused = LangTag::new(long.as_str()).err().expect(rt, "accepted");
+        assert_same!(rt; refused.0.len(), long.len(), text);
+        let refused = NormalLangTag::new(long.as_str())
+            .err()
+            .expect(rt, "accepted");
+        assert_same!(rt; refused.0.len(), long.len(), text);
+    }
+    Ok(())
 }
 
 #[test]
 fn bytes_without_a_hyphen(rt: HostRuntime) {
-    with_memory(&rt, || {
-        let long = repeated(rt.alloc(), "", "a", 1_000_000)?;
-        let bytes = long.as_bytes();
-        let is_subtag = is_primary(bytes)
-            || is_variant(bytes)
-            || is_extension_subtag(bytes)
-            || is_private_subtag(bytes);
-        assert_that!(rt; !is_subtag);
-        assert_same!(rt; segment_end(bytes, 0), bytes.len());
-        assert_same!(rt; segment_start(bytes, bytes.len()), 0);
-        assert_that!(rt; case_insensitive_eq(bytes, bytes));
-        assert_that!(rt; case_insensitive_cmp(bytes, bytes).is_eq());
-        let other = long.as_str();
-        assert_same!(rt; hash_of(&Caseless(other)), hash_of(&Caseless(other)));
-        Ok(())
-    });
+    with_memory!(rt, check_bytes_without_a_hyphen(&rt, rt.alloc()));
+}
+
+fn check_bytes_without_a_hyphen(rt: &impl Abort, alloc: Global) -> Result<(), AllocError> {
+    let long = repeated(alloc, "", "a", 1_000_000)?;
+    let bytes = long.as_bytes();
+    let is_subtag = is_primary(bytes)
+        || is_variant(bytes)
+        || is_extension_subtag(bytes)
+        || is_private_subtag(bytes);
+    assert_that!(rt; !is_subtag);
+    assert_same!(rt; segment_end(bytes, 0), bytes.len());
+    assert_same!(rt; segment_start(bytes, bytes.len()), 0);
+    assert_that!(rt; case_insensitive_eq(bytes, bytes));
+    assert_that!(rt; case_insensitive_cmp(bytes, bytes).is_eq());
+    let other = long.as_str();
+    assert_same!(rt; hash_of(&Caseless(other)), hash_of(&Caseless(other)));
+    Ok(())
 }

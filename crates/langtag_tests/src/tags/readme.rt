@@ -1,6 +1,8 @@
 //! A tag is taken apart and kept, and a text refused, as the README's lines do.
 use crate::support::{assert_same, assert_that, with_memory};
 use langtag::{Kind, LangTag};
+use std::alloc::{AllocError, Global};
+use std::process::Abort;
 use std::test::Fail;
 
 #[test]
@@ -13,14 +15,16 @@ fn a_tag_is_taken_apart_and_kept(rt: HostRuntime) -> Result<(), Fail> {
     assert_same!(rt; tag.variants().as_str(), "");
     assert_that!(rt; tag.eq_str("ZH-hant-tw-X-mine"));
 
-    with_memory(&rt, || {
-        let kept = tag.try_to_owned(rt.alloc())?;
-        let private_use = kept.as_lang_tag().private_use();
-        assert_same!(rt; private_use.map(|part| part.as_str()), Some("x-mine"));
-        Ok(())
-    });
+    with_memory!(rt, is_kept(&rt, rt.alloc(), tag));
 
     let refused = LangTag::new("zh_Hant").err();
     assert_same!(rt; refused.map(|error| error.0), Some("zh_Hant"));
+    Ok(())
+}
+
+fn is_kept(rt: &impl Abort, alloc: Global, tag: LangTag<'_>) -> Result<(), AllocError> {
+    let kept = tag.try_to_owned(alloc)?;
+    let private_use = kept.as_lang_tag().private_use();
+    assert_same!(rt; private_use.map(|part| part.as_str()), Some("x-mine"));
     Ok(())
 }

@@ -2,9 +2,9 @@
 use crate::scan::answer::Answer;
 use crate::scan::rows::{self, Row};
 use crate::support::{assert_exact, assert_same, assert_that, with_memory};
-use crate::tags::parts::{normal, part_texts};
+use crate::tags::parts::{have_same_parts, normal};
 use langtag::{
-    GRANDFATHERED, InRecommendedCase, InvalidLangTag, LangTag, NormalLangTagBuf, RecommendedBytes,
+    GRANDFATHERED, InRecommendedCase, InvalidLangTag, LangTag, NormalLangTagBuf,
     is_in_recommended_case, make_recommended_case,
 };
 use std::alloc::{AllocError, Global};
@@ -83,8 +83,7 @@ pub(super) fn is_recommended_as_normal(
     let mut owned = tag.try_to_owned(alloc)?;
     owned.make_recommended_case();
     assert_same!(rt; owned.as_str(), recommended, text);
-    let parts = part_texts(&owned.as_normal_lang_tag());
-    assert_same!(rt; parts, part_texts(&normal(rt, recommended)), text);
+    assert_that!(rt; have_same_parts(&owned.as_normal_lang_tag(), &normal(rt, recommended)), text);
     let copy = match tag.try_to_recommended_case(alloc) {
         Ok(copy) => copy,
         Err(AllocError) => tag.try_to_recommended_case(alloc)?,
@@ -95,25 +94,24 @@ pub(super) fn is_recommended_as_normal(
 
 #[test]
 fn letters_are_put_into_their_case(rt: HostRuntime) {
-    with_memory(&rt, || {
-        for (text, recommended) in CASES {
-            is_recommended(&rt, rt.alloc(), text, recommended)?;
-        }
-        Ok(())
-    });
+    for (text, recommended) in CASES {
+        with_memory!(rt, is_recommended(&rt, rt.alloc(), text, recommended));
+    }
 }
 
 #[test]
 fn registered_spellings_are_recommended(rt: HostRuntime) {
-    with_memory(&rt, || {
-        for tag in GRANDFATHERED {
-            let registered = tag.as_str();
-            is_recommended(&rt, rt.alloc(), registered, registered)?;
-            let capital = registered.to_ascii_uppercase(rt.alloc())?;
-            is_recommended(&rt, rt.alloc(), capital.as_str(), registered)?;
-        }
-        Ok(())
-    });
+    with_memory!(rt, check_registered_spellings(&rt, rt.alloc()));
+}
+
+fn check_registered_spellings(rt: &impl Abort, alloc: Global) -> Result<(), AllocError> {
+    for tag in GRANDFATHERED {
+        let registered = tag.as_str();
+        is_recommended(rt, alloc, registered, registered)?;
+        let capital = registered.to_ascii_uppercase(alloc)?;
+        is_recommended(rt, alloc, capital.as_str(), registered)?;
+    }
+    Ok(())
 }
 
 /// The recommended text of a tag by its parts: the script in titlecase, the region in capitals, and all else small.
@@ -160,12 +158,9 @@ fn are_recommended(rt: &impl Abort, alloc: Global, rows: &[Row]) -> Result<(), A
 
 #[test]
 fn each_part_has_its_case(rt: HostRuntime) {
-    with_memory(&rt, || {
-        for (rows, _) in rows::tags() {
-            are_recommended(&rt, rt.alloc(), rows)?;
-        }
-        Ok(())
-    });
+    for (rows, _) in rows::tags() {
+        with_memory!(rt, are_recommended(&rt, rt.alloc(), rows));
+    }
 }
 
 /// Bytes that are no tags, and the same in their recommended case.
@@ -184,22 +179,18 @@ const BYTES: [(&[u8], &[u8]); 10] = [
 
 #[test]
 fn bytes_that_are_no_tags_keep_what_is_no_letter(rt: HostRuntime) {
-    with_memory(&rt, || {
-        for (bytes, recommended) in BYTES {
-            let mut text = bytes.to_vec(rt.alloc())?;
-            make_recommended_case(text.as_mut_slice());
-            assert_same!(rt; text.as_slice(), recommended, bytes);
-            assert_same!(rt; is_in_recommended_case(bytes), bytes == recommended, bytes);
-            assert_that!(rt; is_in_recommended_case(recommended), bytes);
-            assert_same!(rt; RecommendedBytes::new(bytes).count(), bytes.len(), bytes);
-            let mut walk = RecommendedBytes::new(bytes);
-            for byte in recommended {
-                assert_same!(rt; walk.next(), Some(*byte), bytes);
-            }
-            assert_that!(rt; walk.next().is_none() && walk.next().is_none(), bytes);
-        }
-        Ok(())
-    });
+    with_memory!(rt, check_bytes(&rt, rt.alloc()));
+}
+
+fn check_bytes(rt: &impl Abort, alloc: Global) -> Result<(), AllocError> {
+    for (bytes, recommended) in BYTES {
+        let mut text = bytes.to_vec(alloc)?;
+        make_recommended_case(text.as_mut_slice());
+        assert_same!(rt; text.as_slice(), recommended, bytes);
+        assert_same!(rt; is_in_recommended_case(bytes), bytes == recommended, bytes);
+        assert_that!(rt; is_in_recommended_case(recommended), bytes);
+    }
+    Ok(())
 }
 
 /// A tag as it reads in its recommended case, or its text again.
@@ -218,16 +209,18 @@ fn content_language(alloc: Global, text: &str) -> Result<Option<NormalLangTagBuf
 
 #[test]
 fn callers_hand_it_on(rt: HostRuntime) {
-    with_memory(&rt, || {
-        let shown = recommended("MN-cYRL-mn").ok().expect(&rt, "refused");
-        let line = format!(in rt.alloc(); "Content-Language: {shown}")?;
-        assert_same!(rt; line.as_str(), "Content-Language: mn-Cyrl-MN");
-        assert_same!(rt; recommended("mn_MN").err().map(|error| error.0), Some("mn_MN"));
-        let owned = content_language(rt.alloc(), "DE-ch-1996")?.expect(&rt, "none");
-        assert_same!(rt; owned.as_str(), "de-CH-1996");
-        assert_that!(rt; content_language(rt.alloc(), "x-a")?.is_none());
-        Ok(())
-    });
+    with_memory!(rt, check_callers_hand_it_on(&rt, rt.alloc()));
+}
+
+fn check_callers_hand_it_on(rt: &impl Abort, alloc: Global) -> Result<(), AllocError> {
+    let shown = recommended("MN-cYRL-mn").ok().expect(rt, "refused");
+    let line = format!(in alloc; "Content-Language: {shown}")?;
+    assert_same!(rt; line.as_str(), "Content-Language: mn-Cyrl-MN");
+    assert_same!(rt; recommended("mn_MN").err().map(|error| error.0), Some("mn_MN"));
+    let owned = content_language(alloc, "DE-ch-1996")?.expect(rt, "none");
+    assert_same!(rt; owned.as_str(), "de-CH-1996");
+    assert_that!(rt; content_language(alloc, "x-a")?.is_none());
+    Ok(())
 }
 
 /// The text of a tag by which a store that compares bytes finds it.
@@ -238,19 +231,24 @@ fn key(rt: &impl Abort, alloc: Global, text: &str) -> Result<String, AllocError>
 
 #[test]
 fn equal_tags_have_one_key_by_bytes(rt: HostRuntime) {
-    with_memory(&rt, || {
-        let mut store = HashMap::new(rt.alloc());
-        store.insert(key(&rt, rt.alloc(), "ZH-hant-tw")?, 1)?;
-        store.insert(key(&rt, rt.alloc(), "I-AMI")?, 2)?;
-        for (text, found) in [
-            ("zh-Hant-TW", Some(1)),
-            ("zh-hANT-tW", Some(1)),
-            ("i-ami", Some(2)),
-            ("zh-TW", None),
-        ] {
-            let wanted = key(&rt, rt.alloc(), text)?;
-            assert_same!(rt; store.get(&wanted).copied(), found, text);
-        }
-        Ok(())
-    });
+    with_memory!(rt, check_equal_tags_have_one_key_by_bytes(&rt, rt.alloc()));
+}
+
+fn check_equal_tags_have_one_key_by_bytes(
+    rt: &impl Abort,
+    alloc: Global,
+) -> Result<(), AllocError> {
+    let mut store = HashMap::new(alloc);
+    store.insert(key(rt, alloc, "ZH-hant-tw")?, 1)?;
+    store.insert(key(rt, alloc, "I-AMI")?, 2)?;
+    for (text, found) in [
+        ("zh-Hant-TW", Some(1)),
+        ("zh-hANT-tW", Some(1)),
+        ("i-ami", Some(2)),
+        ("zh-TW", None),
+    ] {
+        let wanted = key(rt, alloc, text)?;
+        assert_same!(rt; store.get(&wanted).copied(), found, text);
+    }
+    Ok(())
 }

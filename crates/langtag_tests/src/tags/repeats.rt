@@ -110,25 +110,27 @@ const MANY: [Variants; 12] = [
 
 #[test]
 fn a_repeat_among_few_variants(rt: HostRuntime) {
-    with_memory(&rt, || are_repeated(&rt, rt.alloc(), &FEW));
+    with_memory!(rt, are_repeated(&rt, rt.alloc(), &FEW));
 }
 
 #[test]
 fn a_repeat_among_many_variants(rt: HostRuntime) {
-    with_memory(&rt, || are_repeated(&rt, rt.alloc(), &MANY));
+    with_memory!(rt, are_repeated(&rt, rt.alloc(), &MANY));
 }
 
 #[test]
 fn a_repeat_after_all_singletons(rt: HostRuntime) {
-    with_memory(&rt, || {
-        let mut text = String::from_str(rt.alloc(), "en")?;
-        for letter in "0123456789abcdefghijklmnopqrstuvwyz".chars() {
-            text.push_str(format!(in rt.alloc(); "-{letter}-aa")?.as_str())?;
-        }
-        assert_that!(rt; normal(&rt, text.as_str()).repeated_singleton().is_none());
-        text.push_str("-Z-aa")?;
-        let repeated = normal(&rt, text.as_str()).repeated_singleton();
-        assert_same!(rt; repeated.map(|singleton| singleton.unwrap()), Some(b'Z'));
-        Ok(())
-    });
+    with_memory!(rt, check_a_repeat_after_all_singletons(&rt, rt.alloc()));
+}
+
+fn check_a_repeat_after_all_singletons(rt: &impl Abort, alloc: Global) -> Result<(), AllocError> {
+    let mut text = String::from_str(alloc, "en")?;
+    for letter in "0123456789abcdefghijklmnopqrstuvwyz".chars() {
+        text.push_str(format!(in alloc; "-{letter}-aa")?.as_str())?;
+    }
+    assert_that!(rt; normal(rt, text.as_str()).repeated_singleton().is_none());
+    text.push_str("-Z-aa")?;
+    let repeated = normal(rt, text.as_str()).repeated_singleton();
+    assert_same!(rt; repeated.map(|singleton| singleton.unwrap()), Some(b'Z'));
+    Ok(())
 }

@@ -243,17 +243,19 @@ pub(super) fn is_set_and_set_back(
 
 #[test]
 fn parts_are_put_in_and_taken_out_again(rt: HostRuntime) {
-    with_memory(&rt, || {
-        for (text, part, after) in CASES {
-            let tag = normal(&rt, text);
-            let mut owned = tag.try_to_owned(rt.alloc())?;
-            let set_back = set(&rt, rt.alloc(), &mut owned, (part_texts(&tag), part))?;
-            assert_same!(rt; owned.as_str(), after);
-            set(&rt, rt.alloc(), &mut owned, set_back)?;
-            assert_same!(rt; owned.as_str(), text);
-        }
-        Ok(())
-    });
+    with_memory!(rt, check_parts_put_in(&rt, rt.alloc()));
+}
+
+fn check_parts_put_in(rt: &impl Abort, alloc: Global) -> Result<(), AllocError> {
+    for (text, part, after) in CASES {
+        let tag = normal(rt, text);
+        let mut owned = tag.try_to_owned(alloc)?;
+        let set_back = set(rt, alloc, &mut owned, (part_texts(&tag), part))?;
+        assert_same!(rt; owned.as_str(), after);
+        set(rt, alloc, &mut owned, set_back)?;
+        assert_same!(rt; owned.as_str(), text);
+    }
+    Ok(())
 }
 
 /// Sets a tag as one of any kind in each way: it is what the normal one is then, and has as much room.
@@ -297,12 +299,9 @@ fn are_set_and_set_back(rt: &impl Abort, alloc: Global, rows: &[Row]) -> Result<
 
 #[test]
 fn each_prefix_is_set_in_each_way(rt: HostRuntime) {
-    with_memory(&rt, || {
-        for rows in rows::normal_tags() {
-            are_set_and_set_back(&rt, rt.alloc(), rows)?;
-        }
-        Ok(())
-    });
+    for rows in rows::normal_tags() {
+        with_memory!(rt, are_set_and_set_back(&rt, rt.alloc(), rows));
+    }
 }
 
 /// Two parts that are set one after the other.
@@ -342,17 +341,19 @@ const MADE: [(&str, &str, &str, &str); 5] = [
 
 #[test]
 fn a_tag_is_made_of_its_parts(rt: HostRuntime) {
-    with_memory(&rt, || {
-        for (language, script, region, text) in MADE {
-            let tag = NormalLangTagBuf::from_parts(
-                rt.alloc(),
-                Language::new(language).ok().expect(&rt, "refused"),
-                Script::new(script).ok(),
-                Region::new(region).ok(),
-            )?;
-            assert_that!(rt; has_parts(&rt, &tag, [language, script, region, "", "", ""]));
-            assert_exact(&rt, tag.into_string(), text);
-        }
-        Ok(())
-    });
+    with_memory!(rt, check_a_tag_of_parts(&rt, rt.alloc()));
+}
+
+fn check_a_tag_of_parts(rt: &impl Abort, alloc: Global) -> Result<(), AllocError> {
+    for (language, script, region, text) in MADE {
+        let tag = NormalLangTagBuf::from_parts(
+            alloc,
+            Language::new(language).ok().expect(rt, "refused"),
+            Script::new(script).ok(),
+            Region::new(region).ok(),
+        )?;
+        assert_that!(rt; has_parts(rt, &tag, [language, script, region, "", "", ""]));
+        assert_exact(rt, tag.into_string(), text);
+    }
+    Ok(())
 }

@@ -66,12 +66,9 @@ fn come_back_drawn_out(rt: &impl Abort, alloc: Global, rows: &[Row]) -> Result<(
 
 #[test]
 fn tags_with_more_after_them_come_back(rt: HostRuntime) {
-    with_memory(&rt, || {
-        for (rows, _) in rows::tags() {
-            come_back_drawn_out(&rt, rt.alloc(), rows)?;
-        }
-        Ok(())
-    });
+    for (rows, _) in rows::tags() {
+        with_memory!(rt, come_back_drawn_out(&rt, rt.alloc(), rows));
+    }
 }
 
 fn prefixes_are_shown_and_copied(
@@ -100,10 +97,7 @@ fn are_shown_and_copied(rt: &impl Abort, alloc: Global, rows: &[Row]) -> Result<
 
 #[test]
 fn each_prefix_is_shown_and_copied(rt: HostRuntime) {
-    with_memory(&rt, || {
-        for (rows, _) in rows::tags() {
-            are_shown_and_copied(&rt, rt.alloc(), rows)?;
-        }
-        Ok(())
-    });
+    for (rows, _) in rows::tags() {
+        with_memory!(rt, are_shown_and_copied(&rt, rt.alloc(), rows));
+    }
 }

@@ -1,61 +1,61 @@
-use Rattle.std.proofs.Common.{◌≡◌, true, false, take, length, refl, sym, ap, ◌∙◌, rules}
+use Rattle.std.proofs.Common.{◌≡◌, true, false, take, length, arith, refl, sym, ap, ◌∙◌, rules}
 use Rattle.std.specs.List.{list_any}
-use Rattle.std.proofs.lemmas.List.{get_or-replicate, length_push, length-set}
-use Rattle.langtag_extension.specs.Text.{singleton_byte, extensions_left}
-use Rattle.langtag.specs.Repeat.{are_alike_bytes, opening_bytes}
-use Rattle.langtag.proofs.RepeatLaws.{opening_bytes-drop, opening_bytes-end, fold_singleton-below, AreFlagsOf-set, IsAt-drop, repeat-found, repeat-later, repeat-none}
+use Rattle.std.proofs.lemmas.List.{get_or-replicate, length-set}
+use Rattle.langtag_extension.specs.Text.{singleton_byte}
+use Rattle.langtag.specs.Repeat.{are_alike_bytes}
+use Rattle.langtag.proofs.RepeatLaws.{next_singleton, no_singleton, singletons, fold_singleton-below, AreFlagsOf-set, IsAt-drop, repeat-found, repeat-later, repeat-none}
 use Rattle.langtag.proofs.repeats.first_repeated_singleton.Goals as goal
 
-pub loop-extension-init : goal.loop-extension-init
-loop-extension-init c = record {
+pub loop-index-init : goal.loop-index-init
+loop-index-init c = record {
   can_next = tt;
   is_finite = tt;
+  counter = search rules;
   flags = refl;
-  flag = λ k below. get_or-replicate 128 k false false below;
-  so_far = refl;
-  left = ap extensions_left (sym c.into_iter-extension-iterator.ensures.into_iter_gives);
+  flag = λ es spells k below. get_or-replicate 128 k false false below;
+  so_far = λ es spells. refl;
+  left = λ es spells. sym (c.iter-extension-items.ensures.list es spells);
 }
 
 pub bounds-seen-byte : goal.bounds-seen-byte
 bounds-seen-byte c = fold_singleton-below c.unwrap.result c.into_smallcase-byte.result c.unwrap.ensures.in_class c.into_smallcase-byte.ensures
 
-pub bounds-seen-byte-in-loop-extension : goal.bounds-seen-byte-in-loop-extension
-bounds-seen-byte-in-loop-extension c = fold_singleton-below c.unwrap.result c.into_smallcase-byte.result c.unwrap.ensures.in_class c.into_smallcase-byte.ensures
+pub bounds-seen-byte-in-loop-index : goal.bounds-seen-byte-in-loop-index
+bounds-seen-byte-in-loop-index c = fold_singleton-below c.unwrap.result c.into_smallcase-byte.result c.unwrap.ensures.in_class c.into_smallcase-byte.ensures
 
 pub returns-then-seen-byte : goal.returns-then-seen-byte
-returns-then-seen-byte c =
-    let texts = extensions_left c.args.extensions in
-    let count = length c.loop-extension.yielded in
-    let byte = singleton_byte c.singleton-singleton.result in
+returns-then-seen-byte c es spells =
+    let index = c.loop-index.index in
+    let byte = singleton_byte c.singleton.result in
     let below = fold_singleton-below c.unwrap.result c.into_smallcase-byte.result c.unwrap.ensures.in_class c.into_smallcase-byte.ensures in
-    let left = opening_bytes-drop texts count _ _ byte (c.loop-extension.invariant.left ∙ c.in-Some.ensures.steps) c.singleton-singleton.ensures.first_byte in
-    let flag = c.loop-extension.invariant.flag c.into_smallcase-byte.result below in
-    let seen : list_any (are_alike_bytes byte) (take count (opening_bytes texts)) ≡ true = search rules in
-    sym (repeat-found are_alike_bytes (opening_bytes texts) count byte _ c.loop-extension.invariant.so_far left seen)
+    let next = next_singleton es index _ _ byte (c.loop-index.invariant.left es spells ∙ c.in-Some.ensures.steps) c.singleton.ensures.first_byte in
+    let flag = c.loop-index.invariant.flag es spells c.into_smallcase-byte.result below in
+    let seen : list_any (are_alike_bytes byte) (take index (singletons es)) ≡ true = search rules in
+    sym (repeat-found are_alike_bytes (singletons es) index byte _ (c.loop-index.invariant.so_far es spells) next.left seen)
 
-pub loop-extension-preserved : goal.loop-extension-preserved
-loop-extension-preserved c =
-    let texts = extensions_left c.args.extensions in
-    let count = length c.loop-extension.yielded in
-    let byte = singleton_byte c.singleton-singleton.result in
+pub loop-index-preserved : goal.loop-index-preserved
+loop-index-preserved c =
+    let index = c.loop-index.index in
+    let byte = singleton_byte c.singleton.result in
     let below = fold_singleton-below c.unwrap.result c.into_smallcase-byte.result c.unwrap.ensures.in_class c.into_smallcase-byte.ensures in
-    let walk = c.loop-extension.invariant.left ∙ c.in-Some.ensures.steps in
-    let left = opening_bytes-drop texts count _ _ byte walk c.singleton-singleton.ensures.first_byte in
-    let flag = c.loop-extension.invariant.flag c.into_smallcase-byte.result below in
-    let new : list_any (are_alike_bytes byte) (take count (opening_bytes texts)) ≡ false = search rules in
-    let more = length_push c.loop-extension.yielded c.in-Some.extension in
     record {
       can_next = tt;
       is_finite = tt;
-      flags = length-set _ _ _ ∙ c.loop-extension.invariant.flags;
-      flag = rw more (AreFlagsOf-set c.loop-extension.seen (opening_bytes texts) count byte c.into_smallcase-byte.result _ (IsAt-drop _ count byte _ left) c.loop-extension.invariant.flags (search rules) below c.loop-extension.invariant.flag);
-      so_far = rw more (repeat-later are_alike_bytes (opening_bytes texts) count byte _ c.loop-extension.invariant.so_far left new);
-      left = rw more (IsAt-drop texts count _ _ walk).later;
+      counter = omega (arith, c.loop-index.invariant.counter, ap length c.in-Some.ensures.steps);
+      flags = length-set _ _ _ ∙ c.loop-index.invariant.flags;
+      flag = λ es spells.
+          let next = next_singleton es index _ _ byte (c.loop-index.invariant.left es spells ∙ c.in-Some.ensures.steps) c.singleton.ensures.first_byte in
+          AreFlagsOf-set c.loop-index.seen (singletons es) index byte c.into_smallcase-byte.result _ (IsAt-drop _ index byte _ next.left) c.loop-index.invariant.flags
+          (search rules) below (c.loop-index.invariant.flag es spells);
+      so_far = λ es spells.
+          let next = next_singleton es index _ _ byte (c.loop-index.invariant.left es spells ∙ c.in-Some.ensures.steps) c.singleton.ensures.first_byte in
+          let flag = c.loop-index.invariant.flag es spells c.into_smallcase-byte.result below in
+          let new : list_any (are_alike_bytes byte) (take index (singletons es)) ≡ false = search rules in
+          repeat-later are_alike_bytes (singletons es) index byte _ (c.loop-index.invariant.so_far es spells) next.left new;
+      left = λ es spells. (next_singleton es index _ _ byte (c.loop-index.invariant.left es spells ∙ c.in-Some.ensures.steps) c.singleton.ensures.first_byte).later;
     }
 
 pub returns : goal.returns
-returns c =
-    let texts = extensions_left c.args.extensions in
-    let count = length c.loop-extension.yielded in
-    let left = opening_bytes-end texts count (c.loop-extension.invariant.left ∙ c.in-None.ensures.steps.0) in
-    sym (repeat-none are_alike_bytes (opening_bytes texts) count c.loop-extension.invariant.so_far left)
+returns c es spells =
+    let left = no_singleton es c.loop-index.index (c.loop-index.invariant.left es spells ∙ c.in-None.ensures.steps.0) in
+    sym (repeat-none are_alike_bytes (singletons es) c.loop-index.index (c.loop-index.invariant.so_far es spells) left)

@@ -5,13 +5,13 @@ use Rattle.langtag_case.proofs.RecommendedLaws.{fold_text-fold, recommended-fold
 use Rattle.langtag_case.proofs.RecordLaw.{recommended_spelled}
 use Rattle.langtag_case.proofs.recommended_case.make_recommended_case.Goals as goal
 
-pub capitalise_subtags-requires : goal.capitalise_subtags-requires
+pub capitalise_pieces-requires : goal.capitalise_pieces-requires
 unfolding fold_byte
-capitalise_subtags-requires c = rw c.make_ascii_lowercase.ensures.after (fold_text-fold _)
+capitalise_pieces-requires c = rw c.make_ascii_lowercase.ensures.after (fold_text-fold _)
 
 pub returns-clause-case : goal.returns-clause-case
 unfolding fold_byte
-returns-clause-case c = c.capitalise_subtags.ensures ∙ ap recommended_text c.make_ascii_lowercase.ensures.after ∙ recommended-fold c.args.text.now
+returns-clause-case c = c.capitalise_pieces.ensures ∙ ap recommended_text c.make_ascii_lowercase.ensures.after ∙ recommended-fold c.args.text.now
 
 pub returns-clause-each_subtag : goal.returns-clause-each_subtag
 returns-clause-each_subtag c = λ t subtag k there. recommended_each t subtag k there

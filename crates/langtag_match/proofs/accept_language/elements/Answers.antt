@@ -1,4 +1,4 @@
-use Rattle.std.proofs.Common.{◌≡◌, ◌++◌, ◌∷◌, [], Some, refl, sym, ap, ◌∙◌, subst, lit<, length, take, arith}
+use Rattle.std.proofs.Common.{◌≡◌, IsTrue, ◌++◌, ◌∷◌, [], Some, false, refl, sym, ap, ◌∙◌, subst, lit<, length, take, arith}
 use Rattle.std.proofs.lemmas.Grind.{common_steps}
 use Rattle.std.specs.List.{slice_get}
 use Rattle.std.proofs.lemmas.Option.{slice_get_read}
@@ -6,36 +6,18 @@ use Rattle.std.proofs.lemmas.List.{take_all}
 use Rattle.std.proofs.lemmas.List.FromFn.{length-enumerate_from}
 use Rattle.std.proofs.lemmas.Iterator.Splits.{YieldsList-from_str_split}
 use Rattle.std.proofs.lemmas.Iterator.Consumers.{YieldsList-from_enumerate, YieldsList-at, YieldsList-turn, YieldsList-end}
-use Rattle.langtag_match.specs.AcceptLanguage.{items, AreElements}
+use Rattle.langtag_match.specs.AcceptLanguage.{items, elements, is_ows, are_good}
 use Rattle.langtag_match.proofs.Elements.{turn_at, after_empty, after_element}
 use Rattle.langtag_match.proofs.accept_language.elements.Goals as goal
 
-pub loop-index-preserved-then-is_ows : goal.loop-index-preserved-then-is_ows
-loop-index-preserved-then-is_ows c =
+pub loop-index-preserved-in-Continue-1 : goal.loop-index-preserved-in-Continue-1
+loop-index-preserved-in-Continue-1 c =
     let pieces = YieldsList-from_str_split {s = c.split.result} 44 c.args.header.now (lit< tt) c.split.ensures.text c.split.ensures.has_more c.split.ensures.pattern in
     let road = YieldsList-from_enumerate {s = c.into_iter-index-iterator.result} (YieldsList-at (cc) pieces) cc in
     let turn = YieldsList-turn road c.loop-index.yielded _ c.loop-index.yielded_by _ _ (c.in-Some.index, c.in-Some.item) c.in-Some.is c.next.ensures.steps in
     let (below, nth, here) = turn_at (items c.args.header.now) _ _ _ turn in
-    after_empty (items c.args.header.now) c.loop-index.yielded _ c.in-Some.item.now _ below here c.loop-index.invariant (sym c.is_ows.ensures ∙ c.if-is_ows.true)
-
-pub returns-in_default-clause-refused : goal.returns-in_default-clause-refused
-returns-in_default-clause-refused c =
-    let pieces = YieldsList-from_str_split {s = c.split.result} 44 c.args.header.now (lit< tt) c.split.ensures.text c.split.ensures.has_more c.split.ensures.pattern in
-    let road = YieldsList-from_enumerate {s = c.into_iter-index-iterator.result} (YieldsList-at (cc) pieces) cc in
-    let turn = YieldsList-turn road c.loop-index.yielded _ c.loop-index.yielded_by _ _ (c.in-Some.index, c.in-Some.item) c.in-Some.is c.next.ensures.steps in
-    let (below, nth, here) = turn_at (items c.args.header.now) _ _ _ turn in
-    let there : slice_get (items c.args.header.now) c.in-Some.index ≡ Some c.in-Some.item.now =
-    ap (slice_get (items c.args.header.now)) nth ∙ slice_get_read (items c.args.header.now) _ _ c.in-Some.item.now refl below here in (
-      refl,
-      record {
-        item = c.in-Some.item.now;
-        there = there;
-        place = c.offset_of-offset.ensures c.in-Some.item.now there;
-        not_empty = sym c.is_ows.ensures ∙ c.if-is_ows.false;
-        no_element = c.in_default.ensures.none refl;
-        before = (c.loop-index.elements.items, subst (λ n. AreElements (take n (items c.args.header.now)) c.loop-index.elements.items) (sym nth) c.loop-index.invariant);
-      },
-    )
+    let pushed : c.push.new.self.items ≡ c.loop-index.elements.items ++ c.in-Ok.element ∷ [] = grind (arith, common_steps) in
+    rw pushed (after_element (items c.args.header.now) c.loop-index.yielded _ c.in-Some.item.now below here c.loop-index.elements.items c.in-Ok.element c.loop-index.invariant c.in-Ok.ensures.read)
 
 pub loop-index-preserved : goal.loop-index-preserved
 loop-index-preserved c =
@@ -43,8 +25,35 @@ loop-index-preserved c =
     let road = YieldsList-from_enumerate {s = c.into_iter-index-iterator.result} (YieldsList-at (cc) pieces) cc in
     let turn = YieldsList-turn road c.loop-index.yielded _ c.loop-index.yielded_by _ _ (c.in-Some.index, c.in-Some.item) c.in-Some.is c.next.ensures.steps in
     let (below, nth, here) = turn_at (items c.args.header.now) _ _ _ turn in
-    let pushed : c.push.new.self.items ≡ c.loop-index.elements.items ++ c.in-Some-element_of.element ∷ [] = grind (arith, common_steps) in
-    rw pushed (after_element (items c.args.header.now) c.loop-index.yielded _ c.in-Some.item.now c.loop-index.elements.items c.in-Some-element_of.element below here c.loop-index.invariant c.in-Some-element_of.ensures.some)
+    after_empty (items c.args.header.now) c.loop-index.yielded _ c.in-Some.item.now below here c.loop-index.elements.items c.loop-index.invariant c.in-Err.ensures.none (sym c.is_ows.ensures ∙ c.if-is_ows.true)
+
+pub returns-in-Err-2-clause-refused : goal.returns-in-Err-2-clause-refused
+returns-in-Err-2-clause-refused c =
+    let pieces = YieldsList-from_str_split {s = c.split.result} 44 c.args.header.now (lit< tt) c.split.ensures.text c.split.ensures.has_more c.split.ensures.pattern in
+    let road = YieldsList-from_enumerate {s = c.into_iter-index-iterator.result} (YieldsList-at (cc) pieces) cc in
+    let turn = YieldsList-turn road c.loop-index.yielded _ c.loop-index.yielded_by _ _ (c.in-Some.index, c.in-Some.item) c.in-Some.is c.next.ensures.steps in
+    let (below, nth, here) = turn_at (items c.args.header.now) _ _ _ turn in
+    let there : slice_get (items c.args.header.now) c.in-Some.index ≡ Some c.in-Some.item.now =
+    ap (slice_get (items c.args.header.now)) nth ∙ slice_get_read (items c.args.header.now) _ _ c.in-Some.item.now refl below here in
+    let blank : is_ows c.in-Some.item.now ≡ false = sym c.is_ows.ensures ∙ c.if-is_ows.false in (
+      refl,
+      record {
+        item = c.in-Some.item.now;
+        there = there;
+        place = c.offset_of.ensures c.in-Some.item.now there;
+        bad = rw (blank, c.in-Err.ensures.none) refl;
+        which = c.in-Err.ensures.bad;
+        before = subst (λ n. IsTrue (are_good (take n (items c.args.header.now)))) (sym nth) c.loop-index.invariant.good;
+      },
+    )
+
+pub returns-clause-good : goal.returns-clause-good
+returns-clause-good c = λ _.
+    let pieces = YieldsList-from_str_split {s = c.split.result} 44 c.args.header.now (lit< tt) c.split.ensures.text c.split.ensures.has_more c.split.ensures.pattern in
+    let road = YieldsList-from_enumerate {s = c.into_iter-index-iterator.result} (YieldsList-at (cc) pieces) cc in
+    let (all, count) = YieldsList-end road c.loop-index.yielded _ c.loop-index.yielded_by _ _ c.in-None.is c.next.ensures.steps in
+    let whole = take_all (length c.loop-index.yielded) (items c.args.header.now) (omega (arith, count, length-enumerate_from 0 (items c.args.header.now))) in
+    subst (λ t. IsTrue (are_good t)) whole c.loop-index.invariant.good
 
 pub returns-clause-elements : goal.returns-clause-elements
 returns-clause-elements c =
@@ -52,4 +61,4 @@ returns-clause-elements c =
     let road = YieldsList-from_enumerate {s = c.into_iter-index-iterator.result} (YieldsList-at (cc) pieces) cc in
     let (all, count) = YieldsList-end road c.loop-index.yielded _ c.loop-index.yielded_by _ _ c.in-None.is c.next.ensures.steps in
     let whole = take_all (length c.loop-index.yielded) (items c.args.header.now) (omega (arith, count, length-enumerate_from 0 (items c.args.header.now))) in
-    subst (λ t. AreElements t c.loop-index.elements.items) whole c.loop-index.invariant
+    c.loop-index.invariant.elements ∙ ap elements whole

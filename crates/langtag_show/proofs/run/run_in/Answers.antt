@@ -9,7 +9,7 @@ use Rattle.langtag_show.proofs.run.run_in.Goals as goal
 
 pub loop-init : goal.loop-init
 unfolding complete_lines rest_of
-loop-init g c = ([], Consumes-nil _, c.new-line.ensures.items, c.new-page.ensures, Answers-nil _)
+loop-init g c = ([], Consumes-nil _, c.requires, c.new-page.ensures, Answers-nil _)
 
 pub take_bytes-requires-clause-free : goal.take_bytes-requires-clause-free
 take_bytes-requires-clause-free g c =
@@ -47,4 +47,4 @@ returns-then-count-eq0-clause-report g c =
     let end = c.in-Ok.ensures.bytes.1 c.if-count-eq0.true (omega arith) in
     on_ok_weaker c.finish.result
     (λ last. Consumes-whole _ _ _ (λ i. Answers (g.W.Write.contents c.args.output.now) (g.W.Write.contents c.finish.new.output) (lines_of i)) all end
-    (written_all _ _ _ seen _ rest written (rw c.deref.ensures.value at last))) c.finish.ensures.ok
+    (written_all _ _ _ seen _ rest written (rw c.as_bytes.ensures at last))) c.finish.ensures.ok

@@ -6,6 +6,6 @@ use Rattle.langtag_show.proofs.run.run_in.Given as goal
 
 abbrev pub invariant-loop : goal.invariant-loop
 invariant-loop g l = (seen : List ℕ) × Consumes (g.R.Read.remaining l.initial.input) (g.R.Read.remaining l.input) seen
-    × (l.line.items ≡ rest_of seen)
+    × (g.L.GatheredLine.bytes l.line ≡ rest_of seen)
     × (l.page ≡ [])
     × Answers (g.W.Write.contents l.initial.output) (g.W.Write.contents l.output) (complete_lines seen)

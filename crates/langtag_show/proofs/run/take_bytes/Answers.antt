@@ -11,7 +11,7 @@ use Rattle.langtag_show.proofs.run.take_bytes.Goals as goal
 
 pub loop-len-init : goal.loop-len-init
 loop-len-init g c =
-    let line = c.args.line.now.items in (
+    let line = g.L.GatheredLine.bytes c.args.line.now in (
       [],
       refl,
       rw append-nil (sym (rest_of-free_text line c.requires.free)),
@@ -21,7 +21,7 @@ loop-len-init g c =
 pub returns-in_err-end_line-clause-memory : goal.returns-in_err-end_line-clause-memory
 returns-in_err-end_line-clause-memory g c = λ memory.
     let (taken, are, rest, written) = c.loop-len.invariant in
-    let line = c.args.line.now.items in
+    let line = g.L.GatheredLine.bytes c.args.line.now in
     let p = err_from_is_err_and c.from_residual.result c.from_residual.ensures.1 in
     let same : Err c.in_err-end_line.field-0.0 ≡ Err Memory = cc in
     let stand = Answers-written _ _ _ _ _ written (c.in_err-end_line.ensures.memory same) in
@@ -34,9 +34,9 @@ loop-len-preserved g c =
     let left = c.loop-len.left.now in
     let len = c.in-Some.len in
     let first = first_line left len (sym c.in-Some.ensures) in
-    let ends = ends_line c.loop-len.line.items (take len left) (free_rest _ _ rest) first.free in
+    let ends = ends_line (g.L.GatheredLine.bytes c.loop-len.line) (take len left) (free_rest _ _ rest) first.free in
     let more = ended (take len left) in
-    let line = c.args.line.now.items in
+    let line = g.L.GatheredLine.bytes c.args.line.now in
     let joined = append_assoc taken more (drop (len + 1) left) ∙ ap (λ l. taken ++ l) first.joined ∙ are in
     let whole = append_assoc line taken more in (
       taken ++ more,
@@ -48,7 +48,7 @@ loop-len-preserved g c =
 pub returns-in_err-gather-clause-memory : goal.returns-in_err-gather-clause-memory
 returns-in_err-gather-clause-memory g c = λ memory.
     let (taken, are, rest, written) = c.loop-len.invariant in
-    let line = c.args.line.now.items in
+    let line = g.L.GatheredLine.bytes c.args.line.now in
     let p = err_from_is_err_and c.from_residual-in_err-gather.result c.from_residual-in_err-gather.ensures.1 in
     let same : Err c.in_err-gather.field-0.0 ≡ Err Memory = cc in
     let stand = Answers-written _ _ _ _ _ written (c.in_err-gather.ensures.memory same) in
@@ -58,10 +58,10 @@ returns-in_err-gather-clause-memory g c = λ memory.
 pub returns-clause-ok : goal.returns-clause-ok
 returns-clause-ok g c =
     let (taken, are, rest, written) = c.loop-len.invariant in
-    let line = c.args.line.now.items in
+    let line = g.L.GatheredLine.bytes c.args.line.now in
     let left = c.loop-len.left.now in
     let none : position is_line_feed left ≡ None = search rules in
-    let leaves = leaves_line c.loop-len.line.items left (free_rest _ _ rest) (no_line left none) in
+    let leaves = leaves_line (g.L.GatheredLine.bytes c.loop-len.line) left (free_rest _ _ rest) (no_line left none) in
     let stand = written_more _ _ _ (line ++ taken) _ left rest written (Answers-same _ _ _ _ (sym leaves.lines) (Answers-nil _)) in
     let whole = append_assoc line taken left ∙ ap (λ l. line ++ l) are in
     let page = Answers-held _ _ _ _ c.in_ok-gather.ensures.kept stand in
@@ -70,9 +70,9 @@ returns-clause-ok g c =
 pub returns-clause-rest : goal.returns-clause-rest
 returns-clause-rest g c =
     let (taken, are, rest, written) = c.loop-len.invariant in
-    let line = c.args.line.now.items in
+    let line = g.L.GatheredLine.bytes c.args.line.now in
     let left = c.loop-len.left.now in
     let none : position is_line_feed left ≡ None = search rules in
-    let leaves = leaves_line c.loop-len.line.items left (free_rest _ _ rest) (no_line left none) in
+    let leaves = leaves_line (g.L.GatheredLine.bytes c.loop-len.line) left (free_rest _ _ rest) (no_line left none) in
     let whole = append_assoc line taken left ∙ ap (λ l. line ++ l) are in
     OnOk-by _ c.write_out.result (λ ok. c.in_ok-gather.ensures.gathered ∙ sym leaves.rest ∙ rest_more _ _ left rest ∙ ap rest_of whole)

@@ -7,8 +7,8 @@ use Rattle.langtag_show.proofs.run.take_bytes.Given as goal
 -- the bytes before those that are left
 abbrev pub invariant-loop-len : goal.invariant-loop-len
 invariant-loop-len g l = (taken : List ℕ) × (taken ++ l.left ≡ l.bytes)
-    × (l.line.items ≡ rest_of (l.initial.line.items ++ taken))
-    × Answers (g.W.Write.contents l.initial.output) (append_known (g.W.Write.contents l.output) l.page) (complete_lines (l.initial.line.items ++ taken))
+    × (g.L.GatheredLine.bytes l.line ≡ rest_of (g.L.GatheredLine.bytes l.initial.line ++ taken))
+    × Answers (g.W.Write.contents l.initial.output) (append_known (g.W.Write.contents l.output) l.page) (complete_lines (g.L.GatheredLine.bytes l.initial.line ++ taken))
 
 abbrev pub decreases-loop-len : goal.decreases-loop-len
 decreases-loop-len g l = length l.left

@@ -1,14 +1,32 @@
-use Rattle.std.proofs.Common.{sym, ap, ◌∙◌}
-use Rattle.langtag.specs.Repeat.{repeat, are_alike_bytes, opening_bytes}
-use Rattle.langtag.proofs.RepeatLaws.{opening_bytes-spellings, repeat-first}
+use Rattle.std.proofs.Common.{None, Some, map, slice_get, sym, ap, ◌∙◌}
+use Rattle.std.specs.Option.{option_and_then, option_map}
+use Rattle.std.proofs.lemmas.Iterator.Consumers.{YieldsList-from_first, nth_from_yields_List}
+use Rattle.langtag_extension.specs.Spelling.{extension_spelling}
+use Rattle.langtag_extension.specs.Text.{extension_text, extensions_left, singleton_byte}
+use Rattle.langtag.specs.Repeat.{are_alike_bytes}
+use Rattle.langtag.proofs.RepeatLaws.{repeat-first, singleton_at, singletons}
 use Rattle.langtag.proofs.normal_lang_tag.NormalLangTag.repeated_singleton.Goals as goal
+
+pub returns-in_err-nth-clause-repeated : goal.returns-in_err-nth-clause-repeated
+returns-in_err-nth-clause-repeated c r spells =
+    let at = nth_from_yields_List c.nth.result c.nth.new.self c.in_ok-index.index c.nth.ensures.ran
+    (YieldsList-from_first extension_text extensions_left (map extension_spelling r.extensions)
+    (c.iter.ensures.list r.extensions (record { members = spells.0.extensions; joined = sym (c.extensions.ensures r spells) }))) in
+    ap (option_map singleton_byte) c.from_residual-in_err-nth.ensures
+    ∙ singleton_at r.extensions c.in_ok-index.index None (ap (option_map extension_text) (sym c.in_err-nth.was) ∙ at)
+    ∙ ap (option_and_then (slice_get (singletons r.extensions))) (c.in_ok-index.ensures.repeated r spells)
 
 pub returns-clause-repeated : goal.returns-clause-repeated
 returns-clause-repeated c r spells =
-    let walk = c.iter.ensures.list r.extensions (record { members = spells.0.extensions; joined = sym (c.extensions.ensures r spells) }) in
-    c.first_repeated_singleton.ensures
-    ∙ ap (λ texts. repeat are_alike_bytes (opening_bytes texts)) walk
-    ∙ ap (repeat are_alike_bytes) (opening_bytes-spellings r.extensions)
+    let at = nth_from_yields_List c.nth.result c.nth.new.self c.in_ok-index.index c.nth.ensures.ran
+    (YieldsList-from_first extension_text extensions_left (map extension_spelling r.extensions)
+    (c.iter.ensures.list r.extensions (record { members = spells.0.extensions; joined = sym (c.extensions.ensures r spells) }))) in
+    ap Some c.singleton.ensures.first_byte
+    ∙ singleton_at r.extensions c.in_ok-index.index (Some (extension_text c.in_ok-nth.field-0)) (ap (option_map extension_text) (sym c.in_ok-nth.was) ∙ at)
+    ∙ ap (option_and_then (slice_get (singletons r.extensions))) (c.in_ok-index.ensures.repeated r spells)
+
+pub returns-in_err-nth-clause-first : goal.returns-in_err-nth-clause-first
+returns-in_err-nth-clause-first c = repeat-first are_alike_bytes
 
 pub returns-clause-first : goal.returns-clause-first
 returns-clause-first c = repeat-first are_alike_bytes

@@ -1,18 +1,22 @@
-use Rattle.std.proofs.Common.{ap, ◌∙◌}
+use Rattle.std.proofs.Common.{ap, ◌∙◌, slice_get}
+use Rattle.std.specs.Option.{option_and_then}
+use Rattle.std.proofs.lemmas.Iterator.Consumers.{YieldsList-from_first, nth_from_yields_List}
 use Rattle.langtag_scan.specs.Case.{are_alike}
 use Rattle.langtag_scan.specs.Class.{is_variant}
 use Rattle.langtag_scan.specs.Subtags.{subtags}
 use Rattle.langtag_scan.proofs.SubtagFacts.{of_variant}
 use Rattle.langtag_scan.proofs.SubtagLists.{each_subtag, subtags-joined}
-use Rattle.langtag.specs.Repeat.{repeat}
+use Rattle.langtag_place.specs.Text.{variant_text, variants_left}
 use Rattle.langtag.proofs.RepeatLaws.{repeat-first}
 use Rattle.langtag.proofs.normal_lang_tag.NormalLangTag.repeated_variant.Goals as goal
 
 pub returns-clause-repeated : goal.returns-clause-repeated
 returns-clause-repeated c r spells =
-    c.first_repeated_variant.ensures
-    ∙ ap (λ text. repeat are_alike (subtags text)) (c.variants.ensures r spells)
-    ∙ ap (repeat are_alike) (subtags-joined r.variants (each_subtag is_variant of_variant r.variants spells.0.variants))
+    let walk = YieldsList-from_first variant_text variants_left _ c.iter.ensures.list in
+    let listed = ap subtags (c.variants.ensures r spells) ∙ subtags-joined r.variants (each_subtag is_variant of_variant r.variants spells.0.variants) in
+    nth_from_yields_List c.nth.result c.nth.new.self c.in_ok-index.index c.nth.ensures.ran walk
+    ∙ ap (λ texts. slice_get texts c.in_ok-index.index) listed
+    ∙ ap (option_and_then (slice_get r.variants)) (c.in_ok-index.ensures.repeated r spells)
 
 pub returns-clause-first : goal.returns-clause-first
 returns-clause-first c = repeat-first are_alike

@@ -8,7 +8,7 @@ use Rattle.langtag_case.proofs.in_recommended_case.InRecommendedCaseDisplay.fmt.
 
 pub loop-byte-init : goal.loop-byte-init
 loop-byte-init g c =
-    let begun = c.into_iter-byte-iterator.ensures.into_iter_gives ∙ c.new-byte-items.ensures.bytes ∙ ap recommended_text c.as_bytes-bytes.ensures.value in
+    let begun = c.into_iter-byte-iterator.ensures.into_iter_gives ∙ c.new-byte-items.ensures ∙ ap recommended_text c.as_bytes-bytes.ensures.value in
     (subst IsAscii (sym begun) (recommended-ascii c.args.self.now.text.now c.args.self.now.ascii), λ plain. ([], search rules, begun))
 
 pub loop-byte-preserved : goal.loop-byte-preserved

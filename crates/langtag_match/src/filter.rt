@@ -1,0 +1,170 @@
+//! Filtering of a list of tags by a language priority list (RFC 4647 section 3.3).
+ghost use Rattle.std.specs.Prelude.{◌≡◌, ◌<◌, ◌≤◌, ◌+◌, ◌^◌, ◌∷◌, [], ℕ, length, take, drop, not, ◌&&◌, slice_get, Some, MatchOption};
+ghost use Rattle.std.specs.Iterator.{YieldsFirst, item_count};
+ghost use Rattle.std.specs.List.{list_any};
+ghost use Rattle.langtag.specs.declared.lang_tag.LangTag.{LangTag};
+ghost use Rattle.langtag_match.specs.Basic.{test_basic};
+ghost use Rattle.langtag_match.specs.Extended.{test_extended};
+ghost use Rattle.langtag_match.specs.Filter as spec;
+ghost use Rattle.langtag_match.specs.FilterRule.{matches_by, filtered_left};
+
+use crate::filter_rule::FilterRule;
+use crate::language_range::LanguageRange;
+use langtag::LangTag;
+
+/// Iterates over the tags that basic filtering finds for a language priority list (RFC 4647 sections 3.3 and 3.3.1): those
+/// of the first range in their order, and then, for each later range, those that no range before it matches.
+///
+/// For the ranges `de-CH` and `de` and the tags `en`, `de-AT` and `de-CH-1996` these are `de-CH-1996` and `de-AT`. A tag is
+/// found as often as it stands in the list.
+///
+/// Each tag is compared with each range, and with those before it once more for each range that matches it: where many
+/// ranges match one tag the time grows with the square of their number.
+pub fn filter_basic<'a, 't>(
+    ranges: &'a [LanguageRange<'a>],
+    tags: &'a [LangTag<'t>],
+) -> Filtered<'a, 't>
+    ensures list { filtered_left result ≡ spec.filtered test_basic ranges.now tags.now }
+    ensures few { length (filtered_left result) < 2 ^ 64 }
+
+    ensures found_once { spec.AreFoundOnce test_basic ranges.now tags.now (filtered_left result) }
+    ensures cloned { (walk copy : Filtered) → ⟦<Filtered<'a, 't> as Clone>⟧.is_clone walk copy → filtered_left copy ≡ filtered_left walk }
+    ensures clone_succeeds { (walk : Filtered) → ⟦<Filtered<'a, 't> as Clone>⟧.is_infallible walk }
+{
+    Filtered::new(FilterRule::Basic, ranges, tags)
+}
+
+/// Does the same by extended filtering (section 3.3.2), at the same cost: for `*-CH` and the tags `de-AT` and `de-Latn-CH`
+/// it is `de-Latn-CH`.
+pub fn filter_extended<'a, 't>(
+    ranges: &'a [LanguageRange<'a>],
+    tags: &'a [LangTag<'t>],
+) -> Filtered<'a, 't>
+    ensures list { filtered_left result ≡ spec.filtered test_extended ranges.now tags.now }
+    ensures few { length (filtered_left result) < 2 ^ 64 }
+
+    ensures found_once { spec.AreFoundOnce test_extended ranges.now tags.now (filtered_left result) }
+{
+    Filtered::new(FilterRule::Extended, ranges, tags)
+}
+
+/// The tags that [`filter_basic`] or [`filter_extended`] finds and that are still to come. It takes no memory.
+#[derive(Clone, Debug, Drop)]
+pub struct Filtered<'a, 't> {
+    rule: FilterRule,
+    ranges: &'a [LanguageRange<'a>],
+    tags: &'a [LangTag<'t>],
+    range_index: usize,
+    tag_index: usize,
+}
+
+impl<'a, 't> Filtered<'a, 't> {
+    /// Starts at the first tag that the ranges find.
+    fn new(
+        rule: FilterRule,
+        ranges: &'a [LanguageRange<'a>],
+        tags: &'a [LangTag<'t>],
+    ) -> Filtered<'a, 't>
+        ensures list { filtered_left result ≡ spec.filtered (matches_by rule) ranges.now tags.now }
+        ensures few { length (filtered_left result) < 2 ^ 64 }
+        ensures found_once { spec.AreFoundOnce (matches_by rule) ranges.now tags.now (filtered_left result) }
+    {
+        Filtered {
+            rule,
+            ranges,
+            tags,
+            range_index: 0,
+            tag_index: 0,
+        }
+    }
+}
+
+impl<'a, 't> Iterator for Filtered<'a, 't> {
+    type Item = LangTag<'t>;
+
+    ghost next_gives = { YieldsFirst filtered_left };
+
+    ghost remaining = { item_count filtered_left };
+
+    fn next(&mut self) -> Option<LangTag<'t>> {
+        let Some((range_index, tag_index)) = next_place(
+            self.rule,
+            self.ranges,
+            self.tags,
+            self.range_index,
+            self.tag_index,
+        ) else {
+            self.range_index = self.ranges.len();
+            return None;
+        };
+        self.range_index = range_index;
+        self.tag_index = tag_index + 1;
+        Some(self.tags[tag_index])
+    }
+}
+
+/// Returns the indices of the next range that finds a tag and of that tag, from a range on and a tag of it on.
+fn next_place(
+    rule: FilterRule,
+    ranges: &[LanguageRange<'_>],
+    tags: &[LangTag<'_>],
+    range_index: usize,
+    tag_index: usize,
+) -> Option<(usize, usize)>
+    ensures { MatchOption result
+        (spec.found_from (matches_by rule) (take range_index ranges.now) (drop range_index ranges.now) (drop tag_index tags.now) tags.now ≡ [])
+        (λ place. (place.0 < length ranges.now) × (place.1 < length tags.now) × ((next : LangTag) → slice_get tags.now place.1 ≡ Some next →
+        spec.found_from (matches_by rule) (take range_index ranges.now) (drop range_index ranges.now) (drop tag_index tags.now) tags.now
+        ≡ next ∷ spec.found_from (matches_by rule) (take place.0 ranges.now) (drop place.0 ranges.now) (drop (place.1 + 1) tags.now) tags.now)) }
+{
+    let mut from = tag_index;
+    for index in range_index..ranges.len() {
+        if let Some(found) = next_found(rule, &ranges[..index], ranges[index], tags, from) {
+            return Some((index, found));
+        }
+        from = 0;
+    }
+    None
+}
+
+/// Returns the index of the first tag, from an index on, that a range matches and none of the ranges before it.
+fn next_found(
+    rule: FilterRule,
+    before: &[LanguageRange<'_>],
+    range: LanguageRange<'_>,
+    tags: &[LangTag<'_>],
+    from: usize,
+) -> Option<usize>
+    ensures { MatchOption result
+        (spec.newly_found (matches_by rule) before.now range.entry (drop from tags.now) ≡ [])
+        (λ found. (found < length tags.now) × ((next : LangTag) → slice_get tags.now found ≡ Some next →
+        spec.newly_found (matches_by rule) before.now range.entry (drop from tags.now)
+        ≡ next ∷ spec.newly_found (matches_by rule) before.now range.entry (drop (found + 1) tags.now))) }
+{
+    for index in from..tags.len() {
+        if is_newly_found(rule, before, range, tags[index]) {
+            return Some(index);
+        }
+    }
+    None
+}
+
+/// Returns whether a range matches a tag, and none of the ranges before it does.
+fn is_newly_found(
+    rule: FilterRule,
+    before: &[LanguageRange<'_>],
+    range: LanguageRange<'_>,
+    tag: LangTag<'_>,
+) -> bool
+    ensures { result ≡ spec.finds (matches_by rule) range.entry tag.entry
+        && not (list_any (λ earlier. spec.finds (matches_by rule) earlier tag.entry) before.now) }
+{
+    rule.matches(range, tag) && !is_found(rule, before, tag)
+}
+
+/// Returns whether one of some ranges matches a tag.
+fn is_found(rule: FilterRule, ranges: &[LanguageRange<'_>], tag: LangTag<'_>) -> bool
+    ensures { result ≡ list_any (λ range. spec.finds (matches_by rule) range tag.entry) ranges.now }
+{
+    ranges.iter().any(|range| rule.matches(*range, tag))
+}
