@@ -103,7 +103,7 @@ def of_python(root: pathlib.Path) -> Interface:
     types |= {"_" + name: in_c for name, in_c in STRUCTS.items()}
     types |= {f"POINTER(_{name})": f"{in_c} *" for name, in_c in STRUCTS.items()}
     functions, structs = {}, {}
-    for node in ast.parse((root / "bindings/python/langtag.py").read_text()).body:
+    for node in ast.parse((root / "bindings/python/langtag/__init__.py").read_text()).body:
         if isinstance(node, ast.AnnAssign) and ast.unparse(node.target) == "_FUNCTIONS":
             for name, row in zip(node.value.keys, node.value.values):
                 result, *parameters = [types[ast.unparse(kind)] for kind in row.elts]
@@ -144,16 +144,46 @@ def wrongly_pure(functions: dict[str, Function], source: str) -> list[str]:
             for name, function in sorted(functions.items()) if function.is_pure() != (name in said)]
 
 
+# Where the version and the number of the ABI stand: a file, and what stands around them.
+VERSIONS = [
+    ("bindings/rust/Cargo.toml", r'^version = "([0-9.]+)"'), ("bindings/python/pyproject.toml", r'^version = "([0-9.]+)"'),
+    ("bindings/python/langtag/__init__.py", r'^__version__ = "([0-9.]+)"'),
+]
+NUMBERS = [
+    ("bindings/c/Makefile", r"\.so\.([0-9]+)"), ("bindings/c/langtag_verified.map", r"LANGTAG_VERIFIED_([0-9]+) "),
+    ("bindings/python/langtag/__init__.py", r"\.so\.([0-9]+)"), ("bindings/python/setup.py", r"\.so\.([0-9]+)"),
+]
+
+
+def wrong_numbers(root: pathlib.Path) -> list[str]:
+    """Where a number of the header differs from the table, or one of another file from the header."""
+    source = (root / "bindings/include/langtag.h").read_text()
+    comment = re.search(r"in RFC 5646 section 2\.1, or(.*?)\*/", source, flags=re.S)
+    said = sorted((int(number), tag) for number, tag in re.findall(r" (\d+) ([a-z]+-[\w-]+)", comment[1] if comment else ""))
+    table = (root / "bindings/table.txt").read_text()
+    wanted = [(int(number), tag) for tag, number in re.findall(r"^grandfathered (\S+) (\d+)", table, flags=re.M)][:26]
+    found = [] if said == wanted else [f"grandfathered tags: the header has {sorted(set(said) ^ set(wanted))}"]
+    if "#define LANGTAG_PURE __attribute__((pure, warn_unused_result))\n" not in source:
+        found.append("LANGTAG_PURE: the header's word is not pure")
+    for name, places in (("LANGTAG_VERSION", VERSIONS), ("LANGTAG_ABI_VERSION", NUMBERS)):
+        number = re.search(rf'#define {name} "?([0-9.]+)', source)
+        for file, around in places:
+            others = set(re.findall(around, (root / file).read_text(), flags=re.M))
+            if not number or others != {number[1]}:
+                found.append(f"{name}: {file} has {sorted(others)}, and the header {number[1] if number else 'none'}")
+    return found
+
+
 def main(root: pathlib.Path) -> int:
     crate = of_crate(root)
     if not crate.functions or not crate.structs:
         print("no functions, or no structs, were found in the crate")
         return 1
-    others = (("the header", of_header), ("ffi.rs", of_rust), ("langtag.py", of_python))
+    others = (("the header", of_header), ("ffi.rs", of_rust), ("langtag", of_python))
     found = [line for where, read in others for line in differences(where, crate, read(root))]
-    found += wrongly_pure(crate.functions, header(root))
+    found += wrongly_pure(crate.functions, header(root)) + wrong_numbers(root)
     count = f"{len(crate.functions)} functions and {len(crate.structs)} structs"
-    print("\n".join(found) or f"{count}: crate, header, ffi.rs and langtag.py agree")
+    print("\n".join(found) or f"{count}: crate, header, ffi.rs and langtag agree")
     return 1 if found else 0
 
 

@@ -14,8 +14,9 @@ import unittest
 import check_declarations
 
 ROOT = pathlib.Path(__file__).resolve().parent.parent
-HEADER, RUST, PYTHON = "bindings/include/langtag.h", "bindings/rust/src/ffi.rs", "bindings/python/langtag.py"
+HEADER, RUST, PYTHON = "bindings/include/langtag.h", "bindings/rust/src/ffi.rs", "bindings/python/langtag/__init__.py"
 CRATE = "crates/langtag_c/src"
+FILES = {HEADER, RUST, PYTHON, "bindings/table.txt", *(name for name, _ in check_declarations.VERSIONS + check_declarations.NUMBERS)}
 
 # A file, a text that stands in it, what is put in its place, and what the message has to name.
 PLANTED = [
@@ -37,6 +38,12 @@ PLANTED = [
     (PYTHON, "c_size_t, POINTER(_Repeated))", "c_size_t)", "langtag_repeats"),
     (PYTHON, '[("start", c_size_t), ("len", c_size_t)]', '[("start", c_size_t), ("len", c_uint32)]', "langtag_span"),
     (PYTHON, '    "langtag_fold": (None,', '    "langtag_folds": (None,', "langtag_folds"),
+    (HEADER, "__attribute__((pure,", "__attribute__((const,", "LANGTAG_PURE"),
+    (HEADER, "0 en-GB-oed    1 i-ami ", "1 en-GB-oed    0 i-ami ", "grandfathered"),
+    (HEADER, "LANGTAG_ABI_VERSION 1", "LANGTAG_ABI_VERSION 2", "LANGTAG_ABI_VERSION"),
+    ("bindings/c/Makefile", "soname,$(NAME).so.1", "soname,$(NAME).so.2", "Makefile"),
+    ("bindings/rust/Cargo.toml", 'version = "0.1.0"', 'version = "0.1.1"', "Cargo.toml"),
+    (PYTHON, '__version__ = "0.1.0"', '__version__ = "0.2.0"', "LANGTAG_VERSION"),
     (CRATE, "fn langtag_eq(a: &[u8], b: &[u8])", "fn langtag_eq(b: &[u8], a: &[u8])", "langtag_eq"),
     (CRATE, "pub singleton: Span", "pub singletons: Span", "langtag_repeated"),
 ]
@@ -61,7 +68,7 @@ class Planted(unittest.TestCase):
         for where, old, new, named in PLANTED:
             with self.subTest(where=where, new=new), tempfile.TemporaryDirectory() as folder:
                 copy = pathlib.Path(folder)
-                for name in (HEADER, RUST, PYTHON):
+                for name in FILES:
                     (copy / name).parent.mkdir(parents=True, exist_ok=True)
                     shutil.copy(ROOT / name, copy / name)
                 shutil.copytree(ROOT / CRATE, copy / CRATE)

@@ -2,7 +2,17 @@
 with_make() { make -s -C c ARCHIVE="$archive" "$@"; }
 
 check "C: tests, static and shared, under sanitizers and valgrind" with_make check BUILD="$work/c"
-has valgrind || not_run "C: valgrind" "it is not there"
+if has valgrind && echo '#include <valgrind/callgrind.h>' | cc -E - >/dev/null 2>&1; then
+    check "C: twice the text takes at most 2.2 times the instructions" with_make growth BUILD="$work/c"
+else
+    not_run "C: valgrind" "it is not there, or its headers are not"
+fi
+if has objdump && [ -x "$root/.ci/stack" ]; then
+    check "C: no function takes more of the stack than the header says" \
+        python3 "$root/.ci/stack" "$archive" --header include/langtag.h
+else
+    not_run "C: the stack" "there is no objdump, or no .ci/stack"
+fi
 if has clang && has clang++; then
     check "C: the same by clang" with_make check CC=clang CXX=clang++ VALGRIND= BUILD="$work/clang"
 else
@@ -10,3 +20,9 @@ else
 fi
 check "C: random texts against a second reading, each at the edge of a page" \
     with_make fuzz SECONDS="$FUZZ_SECONDS" SEED="$FUZZ_SEED" BUILD="$work/c"
+
+# What Rust and Python answer to random calls is compared with C's answers.
+answers_of_c() {
+    python3 random_calls.py "$FUZZ_SEED" >"$work/calls" && "$work/c/test" --answer <"$work/calls" >"$work/answers"
+}
+check "C: answers to random calls, for Rust and Python" answers_of_c

@@ -22,6 +22,7 @@ directory = "$registry"
 [net]
 offline = true
 END
+    cp -r .cargo "$work/bindings-cargo"
 elif ! (cd rust && timeout 60 cargo fetch -q) >/dev/null 2>&1; then
     not_run "Rust: the feature serde" "its source is not in $registry, and crates.io cannot be reached"
     take_out_serde rust/Cargo.toml
@@ -29,7 +30,8 @@ elif ! (cd rust && timeout 60 cargo fetch -q) >/dev/null 2>&1; then
 fi
 
 rust() { cd rust && cargo "$@"; }
-check "Rust: tests and the examples of its documents" rust test --all-features
+check "Rust: tests, the examples of its documents, and C's answers to random calls" \
+    env LANGTAG_ANSWERS="$work/answers" bash -c 'cd rust && cargo test --all-features'
 check "Rust: without alloc" rust build --no-default-features
 under_valgrind() {
     CARGO_TARGET_X86_64_UNKNOWN_LINUX_GNU_RUNNER="valgrind -q --error-exitcode=9" rust test --all-features --tests
@@ -48,7 +50,7 @@ check "Rust: documents" env RUSTDOCFLAGS=-Dwarnings cargo doc --manifest-path ru
 
 # A crate without dependencies is built with no registry at all, and says nothing.
 without_serde() {
-    mkdir "$work/no-registry" && cp -r rust "$work/no-registry/rust" && cd "$work/no-registry/rust" || return 1
+    mkdir "$work/no-registry" && cp -r rust table.txt "$work/no-registry/" && cd "$work/no-registry/rust" || return 1
     take_out_serde Cargo.toml && ! grep -n '^ *serde' Cargo.toml || return 1
     CARGO_HOME=$work/no-registry/home RUSTFLAGS=-Dwarnings CARGO_TARGET_DIR=$work/no-registry/target \
         cargo test -q --offline
@@ -68,6 +70,10 @@ other_platforms() {
         refused 'of 32 bits' --target x86_64-unknown-linux-gnux32 &&
         refused '64 bits, windows' --target x86_64-pc-windows-gnu
 }
+archive_changed() {
+    (rust build -q) && touch "$LANGTAG_LIB_DIR/liblangtag_c.a" && (rust build 2>&1) | grep 'Compiling langtag-verified'
+}
+check "Rust: another archive is linked" archive_changed
 check "Rust: clear words where there is no archive" no_archive
 check "Rust: clear words where LANGTAG_LIB_DIR is not absolute" relative_folder
 check "Rust: clear words on another platform" other_platforms

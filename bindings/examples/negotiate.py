@@ -61,7 +61,9 @@ def choose(header: str, tags: Iterable[Tag], default: Tag) -> Tag:
     >>> choose("fr;q=0.3, DE-ch-1996;q=0.9", GREETINGS, DEFAULT), choose("ja, *", GREETINGS, DEFAULT)
     (Tag('de-CH'), Tag('en'))
     """
-    folded = {tag.folded(): tag for tag in tags}
+    folded: dict[str, Tag] = {}
+    for tag in tags:
+        folded.setdefault(tag.folded(), tag)  # of equal tags the first
     longest = max(map(len, folded), default=0)
     for range in accepted(header):
         for text in fallbacks(str(range).lower(), longest):

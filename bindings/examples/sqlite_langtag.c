@@ -6,7 +6,7 @@
  *     sqlite> SELECT langtag_part('zh-Hant-TW', 'script');          -- Hant
  *     sqlite> SELECT * FROM texts WHERE tag = 'ZH-hant' COLLATE langtag;
  *
- * langtag_part(tag, part) is NULL where the text is no tag, where the part is absent, and of NULL. The parts are
+ * langtag_part(tag, part) is NULL where the text is not a tag, where the part is absent, and of NULL. The parts are
  * language, script, region, variants, extensions and private_use.
  */
 #include <langtag.h>

@@ -6,6 +6,8 @@ NEGOTIATE is the C program, built. Both servers get the same headers, and have t
 import contextlib
 import doctest
 import http.client
+import itertools
+import re
 import socket
 import subprocess
 import sys
@@ -22,6 +24,9 @@ HEADERS = [
     ("fr;q=2, de", "de"), ("fr;, de", "de"), ("fr;q=, de;q=0.001", "de"), ("fr ; Q=0.9\t, de", "de"),
     ("*-CH, fr;q=0.1", "fr"), ("fr_FR", "en"), ("fr;q=1.000, de;q=0.999", "fr"), (",,, ,de,", "de"),
     ("fr;q=0.3;q=0.4, de;q=0.1", "de"), ("a-b, de", "de"), ("fr;q=1.", "fr"),
+    ("fr;q=0.112, de;q=0.113", "de"), ("fr;q=0.001, de;q=0.002", "de"), ("fr;q=0.5, de;q=0.501, zh-Hant;q=0.499", "de"),
+    *((f"fr;q={whole}{mark}5, de;q=0.1", "fr" if (whole, mark) == ("0", ".") else "de")
+      for whole in "01259 /:" for mark in ".>-/0:e"),
 ]
 
 
@@ -75,6 +80,25 @@ class Examples(unittest.TestCase):
         wanted = [(200, tag, negotiate.GREETINGS[negotiate.Tag(tag)] + "\n") for _, tag in HEADERS]
         self.assertEqual(answers([sys.executable, negotiate.__file__, "0"]), wanted)
         self.assertEqual(answers([NEGOTIATE, "0"]), wanted)
+
+    def test_weights(self):
+        """Every text of up to four bytes of these as a weight, and some longer ones, beside RFC 9110 section 12.4.2."""
+        texts = ["".join(text) for length in range(5) for text in itertools.product("01.>5", repeat=length)]
+        texts += ["0.1234", "0.0004", "0.999", "1.0000", "1.000", "0.5 5", "00.5", "+0.5", "0,5", "0.001", "0.0001"]
+        for text in texts:
+            is_weight = re.fullmatch(r"0(\.\d{0,3})?|1(\.0{0,3})?", text)
+            found = negotiate.accepted(f"fr;q={text}, de;q=0.5")
+            wanted = ["fr"] if is_weight and float(text) >= 0.5 else []
+            wanted += ["de"] + (["fr"] if is_weight and 0 < float(text) < 0.5 else [])
+            self.assertEqual([str(it) for it in found], wanted, text)
+        for a, b in ((a, b) for a in range(1, 999, 37) for b in (a, a + 1)):
+            header = f"fr;q=0.{a:03}, de;q=0.{b:03}"
+            chosen = negotiate.choose(header, negotiate.GREETINGS, negotiate.DEFAULT)
+            self.assertEqual(str(chosen), "de" if b > a else "fr", header)
+
+    def test_equal_tags(self):
+        tags = [negotiate.Tag(text) for text in ("DE", "de", "fr", "De")]
+        self.assertEqual(str(negotiate.choose("de", tags, tags[2])), "DE")
 
     def test_a_long_header(self):
         begun = time.monotonic()

@@ -17,7 +17,7 @@
  *      written. Of what a comment calls "out" nothing is read, so that it need not be initialised.
  *   4. What one argument lets a call write (an out struct, `rest`, the bytes of langtag_fold and langtag_recommend), no
  *      other argument of the call leads to. Where two texts are only read, they may be the same, or share bytes.
- *   5. The processor has SSE4.2 (x86-64-v2), and calls go by the System V convention. 1 KiB of the stack is free for
+ *   5. The processor has SSE4.2 (x86-64-v2), and calls follow the System V convention. 1 KiB of the stack is free for
  *      each call, and 96 KiB for langtag_repeats.
  *
  * Offsets and lengths are numbers of bytes, offsets from the start of the text. Case is that of ASCII letters alone.
@@ -31,6 +31,8 @@
 #include <stdbool.h>
 #endif
 
+/* The version of the bindings, and the number of the soname, which changes where a program has to be built anew. */
+#define LANGTAG_VERSION "0.1.0"
 #define LANGTAG_ABI_VERSION 1
 
 #ifdef __cplusplus
@@ -83,7 +85,7 @@ typedef struct langtag_parts {
  *
  * No span reaches out of the text. Of a normal tag, a part that is absent has the length 0 at the end of the part before
  * it. Of a tag for private use as a whole, `private_use` is all of the text, and all other members are 0. Of an
- * irregular tag and of what is no tag, all members are 0.
+ * irregular tag and of what is not a tag, all members are 0.
  */
 uint32_t langtag_parse(const char *bytes, size_t len, langtag_parts *parts);
 
@@ -113,7 +115,7 @@ LANGTAG_PURE int32_t langtag_cmp(const char *a, size_t a_len, const char *b, siz
 
 /*
  * FNV-1a of 64 bits over a text, each ASCII capital of it taken as the small letter. The state is LANGTAG_HASH, or the
- * hash of what stands before the text in a longer key. Who may pick the texts can make them collide; against that, fold
+ * hash of what stands before the text in a longer key. Whoever picks the texts can make them collide; against that, fold
  * a copy by langtag_fold and run a keyed hash over it.
  */
 #define LANGTAG_HASH UINT64_C(0xcbf29ce484222325)
@@ -139,7 +141,7 @@ void langtag_recommend(char *bytes, size_t len);
  *         printf("%.*s\n", (int)variant.len, text + variant.start);
  *
  * False exactly where `rest` has no byte or reaches out of the text; both spans then stay. So an empty subtag behind
- * the last hyphen is not handed out: of "a-" there is one subtag, and of "a--b" the second of three is empty.
+ * the last hyphen is not returned: of "a-" there is one subtag, and of "a--b" the second of three is empty.
  */
 bool langtag_next_subtag(const char *bytes, size_t len, langtag_span *rest, langtag_span *subtag);
 
@@ -160,7 +162,7 @@ enum langtag_repeats_answer { LANGTAG_REPEATED_VARIANT = 1, LANGTAG_REPEATED_SIN
 
 /*
  * Whether a normal tag has a variant or a singleton twice: such a tag is well formed and not valid (RFC 5646
- * section 2.2.9). Answers the bits of enum langtag_repeats_answer, 0 for what is no normal tag, and writes where the
+ * section 2.2.9). Answers the bits of enum langtag_repeats_answer, 0 for what is not a normal tag, and writes where the
  * repeats stand (out), whatever the answer.
  *
  * The time of all other calls grows with the length, and of this one with its square where there are more than 8192
@@ -194,7 +196,7 @@ LANGTAG_PURE uint32_t langtag_range_kind(const char *bytes, size_t len);
 /*
  * Whether a range matches a tag by basic filtering (RFC 4647 section 3.3.1): the range is *, or equals the tag but for
  * case, or equals a prefix of it that a hyphen follows. de-DE matches de-DE-1996, and neither de-Deva nor de-Latn-DE.
- * False where the first text is no language range or the second no language tag.
+ * False where the first text is not a language range or the second not a language tag.
  */
 LANGTAG_PURE bool langtag_matches_basic(const char *range, size_t range_len, const char *tag, size_t tag_len);
 

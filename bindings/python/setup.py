@@ -1,4 +1,5 @@
-"""Puts the shared library into the wheel, which LANGTAG_LIBRARY names, else where `make` in bindings/c writes it."""
+"""Puts the shared library into the package: the one that stands there in an sdist, the one that LANGTAG_LIBRARY names, or
+the one that `make` in bindings/c writes."""
 import os
 import pathlib
 import shutil
@@ -18,12 +19,11 @@ HERE = pathlib.Path(__file__).resolve().parent
 class WithLibrary(build_py):
     def run(self):
         super().run()
-        library = pathlib.Path(os.environ.get("LANGTAG_LIBRARY", HERE.parent / "c/build" / NAME))
+        packed = HERE / "langtag" / NAME
+        library = packed if packed.is_file() else pathlib.Path(os.environ.get("LANGTAG_LIBRARY", HERE.parent / "c/build" / NAME))
         if not library.is_file():
             raise SystemExit(f"there is no {library}: run `make` in bindings/c, or name the library by LANGTAG_LIBRARY")
-        folder = pathlib.Path(self.build_lib, "langtag.libs")
-        folder.mkdir(parents=True, exist_ok=True)
-        shutil.copy(library, folder / NAME)
+        shutil.copy(library, pathlib.Path(self.build_lib, "langtag", NAME))
 
 
 class ForEachPython(bdist_wheel):

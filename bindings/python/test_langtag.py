@@ -7,41 +7,23 @@ import random
 import subprocess
 import sys
 import unittest
+import weakref
 
 import langtag
-from langtag import GRANDFATHERED, InvalidRange, InvalidTag, Kind, Range, Tag, kind, parse, stop, viable
+from langtag import InvalidRange, InvalidTag, Kind, Range, Tag, kind, parse, stop, viable
 
 
 class Parts(unittest.TestCase):
-    def test_of_a_normal_tag(self):
-        tag = parse("sl-rbz-Latn-IT-rozaj-1994-u-co-phonebk-A-bb-x-mine-1")
-        self.assertEqual((tag.kind, tag.language, tag.script, tag.region), (Kind.NORMAL, "sl-rbz", "Latn", "IT"))
-        self.assertEqual((tag.primary_language, tag.extended_language), ("sl", ("rbz",)))
-        self.assertEqual(tag.variants, ("rozaj", "1994"))
-        self.assertEqual(tag.extensions, {"u": ("co", "phonebk"), "a": ("bb",)})
-        self.assertEqual(tag.private_use, "x-mine-1")
-
     def test_absent(self):
         tag = parse(b"de")
         self.assertEqual((tag.script, tag.region, tag.variants, tag.extensions, tag.private_use), (None, None, (), {}, None))
         self.assertEqual((tag.grandfathered, tag.repeated_variant, tag.repeated_singleton), (None, None, None))
-
-    def test_repeated(self):
-        tag = parse("sl-rozaj-ROZAJ-a-bb-A-cc")
-        self.assertEqual((tag.repeated_variant, tag.repeated_singleton), ("ROZAJ", "A"))
-        self.assertEqual(tag.extensions, {"a": ("bb",)})
 
 
 class Kinds(unittest.TestCase):
     def test_private_use(self):
         tag = parse("X-a")
         self.assertEqual((tag.kind, tag.private_use, tag.language, tag.primary_language), (Kind.PRIVATE_USE, "X-a", None, None))
-
-    def test_grandfathered(self):
-        for index, text in enumerate(GRANDFATHERED):
-            tag = parse(text.upper())
-            self.assertEqual(tag.grandfathered, text)
-            self.assertIs(tag.kind, Kind.IRREGULAR if index < 17 else Kind.NORMAL)
 
     def test_none(self):
         for text in ("", "f", "en_US", "zh-x-é", "en\0", b"en\xff", "\ud800", "i-notexist", "K-ab", "\u212a"):
@@ -52,7 +34,7 @@ class Kinds(unittest.TestCase):
             self.assertIn(repr(text), str(caught.exception))
 
     def test_other_types(self):
-        for value in (None, 5, ["en"], bytearray(b"en"), parse("en")):
+        for value in (None, 5, ["en"], bytearray(b"en"), Range("en")):
             with self.assertRaises(TypeError):
                 parse(value)
 
@@ -73,7 +55,7 @@ class Kinds(unittest.TestCase):
 
     def test_where_a_text_goes_wrong(self):
         self.assertEqual((viable("i-no"), stop("i-no"), viable("en-"), stop("en-")), (3, 4, 3, 3))
-        self.assertEqual(str(InvalidTag("en-")), "'en-' is no language tag: it ends too soon")
+        self.assertEqual(str(InvalidTag("en-")), "'en-' is not a language tag: it ends too soon")
 
     def test_any_bytes(self):
         numbers = random.Random(1)
@@ -114,12 +96,31 @@ class Values(unittest.TestCase):
         self.assertEqual((str(parse("ZH-hant")), repr(parse("ZH-hant"))), ("ZH-hant", "Tag('ZH-hant')"))
         self.assertEqual((str(parse("EN-ca-X-CA").recommended()), parse("EN-ca-X-CA").folded()), ("en-CA-x-ca", "en-ca-x-ca"))
 
+    def test_habits(self):
+        class Noted(Tag):
+            pass
+
+        for value in (parse("zh-Hant"), Range("zh-*"), Noted("de")):
+            kind = type(value)._base
+            self.assertEqual((f"{value:>10}|{value}", str(kind(value))), (f"{str(value):>10}|{value}", str(value)))
+            self.assertIs(weakref.ref(value)(), value)
+            for name in ("_data", *kind.__slots__, "kind" if kind is Tag else "is_basic"):
+                with self.assertRaises(AttributeError):
+                    setattr(value, name, b"en")
+                with self.assertRaises(AttributeError):
+                    delattr(value, name)
+            with self.assertRaises(AttributeError):
+                value.__init__("en")
+            self.assertEqual(kind(value), value)
+        noted = Noted("de")
+        noted.word = "Velo"
+        self.assertEqual(noted.word, "Velo")
+
     def test_copies(self):
-        for value in (parse("zh-Hant"), Range("*-CH")):
+        for value in (parse("zh-Hant"), Range("*-CH"), InvalidTag("en_US"), InvalidTag(b"en_US"), InvalidRange("de_")):
             for made in (copy.copy(value), copy.deepcopy(value), pickle.loads(pickle.dumps(value))):
-                self.assertEqual(repr(made), repr(value))
-        error = pickle.loads(pickle.dumps(InvalidTag("en_US")))
-        self.assertEqual((error.text, error.viable), ("en_US", 2))
+                self.assertEqual((type(made), repr(made), str(made)), (type(value), repr(value), str(value)))
+                self.assertEqual(getattr(made, "__dict__", None), getattr(value, "__dict__", None))
 
 
 class Ranges(unittest.TestCase):
@@ -129,16 +130,7 @@ class Ranges(unittest.TestCase):
         for text in ("", "de_CH", "1-de", "de-", "de-**", "abcdefghi", "é", "\ud800"):
             with self.assertRaises(InvalidRange) as caught:
                 Range(text)
-            self.assertEqual((caught.exception.text, str(caught.exception)), (text, f"{text!r} is no language range"))
-
-    def test_matching(self):
-        def matches(range, tag):
-            return Range(range).matches_basic(parse(tag)), Range(range).matches_extended(parse(tag))
-
-        self.assertEqual(matches("de-de", "de-DE-1996"), (True, True))
-        self.assertEqual(matches("de-*-DE", "de-Latn-DE"), (False, True))
-        self.assertEqual(matches("de-DE", "de-x-DE"), (False, False))
-        self.assertEqual(matches("*", "x-mine"), (True, True))
+            self.assertEqual((caught.exception.text, str(caught.exception)), (text, f"{text!r} is not a language range"))
 
     def test_matching_of_no_tag(self):
         for value in ("de", b"de", None, Range("de")):

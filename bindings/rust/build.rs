@@ -27,7 +27,7 @@ fn folders() -> Vec<PathBuf> {
     }
     let here =
         PathBuf::from(env::var_os("CARGO_MANIFEST_DIR").expect("cargo names the crate's folder"));
-    vec![here.join("../lib"), here.join("../../crates/langtag_c/out")]
+    vec![here.join("lib"), here.join("../../crates/langtag_c/out")]
 }
 
 fn fail(message: &str) -> ! {

@@ -16,11 +16,6 @@ void test_case(void) {
     langtag_fold(fold, 0);
     langtag_recommend(fold, 0);
     CHECK(strcmp(fold, "zh-hant[\xc0@z") == 0);
-    /* the RFC's own */
-    CHECK(recommended("MN-cYRL-mn", "mn-Cyrl-MN") && recommended("EN-ca-X-CA", "en-CA-x-ca"));
-    CHECK(recommended("SGN-be-fr", "sgn-BE-FR") && recommended("AZ-latn-X-LATN", "az-Latn-x-latn"));
-    CHECK(recommended("I-AMI", "i-ami") && recommended("EN-gb-OED", "en-GB-oed"));
-    CHECK(recommended("X-FR-CH", "x-fr-ch") && recommended("DE-1996-1ABC-U-CO-PHONEBK", "de-1996-1abc-u-co-phonebk"));
     /* any bytes */
     CHECK(recommended("", "") && recommended("-ab", "-AB") && recommended("AB--cd", "ab--CD"));
     CHECK(recommended("\xc0Z-\xe0z", "\xc0z-\xe0Z") && recommended("a_B", "a_b"));

@@ -19,11 +19,8 @@ extern int checks, failures;
 bool is(const char *text, langtag_span span, const char *wanted);
 
 void test_parse(void);
-void test_viable(void);
 void test_compare(void);
 void test_case(void);
 void test_walks(void);
-void test_repeats(void);
-void test_ranges(void);
 
 #endif

@@ -1,5 +1,9 @@
-/* Tests of the C interface by hand: each function, the edges of its inputs, and what stays as it was. */
+/*
+ * Tests of the C interface: test TABLE makes each call of bindings/table.txt, and tests by hand what it does not have,
+ * the edges of inputs and what stays as it was. test --answer answers the calls of the standard input.
+ */
 #include "check.h"
+#include "table.h"
 
 int checks, failures;
 
@@ -7,14 +11,16 @@ bool is(const char *text, langtag_span span, const char *wanted) {
     return span.len == strlen(wanted) && memcmp(text + span.start, wanted, span.len) == 0;
 }
 
-int main(void) {
+int main(int argc, char **argv) {
+    FILE *table = argc > 1 ? fopen(argv[1], "rb") : NULL;
+    if (argc > 1 && strcmp(argv[1], "--answer") == 0) return table_answers(stdin), 0;
+    if (!table) return puts("the table is not there"), 2;
+    test_table(table);
+    fclose(table);
     test_parse();
-    test_viable();
     test_compare();
     test_case();
     test_walks();
-    test_repeats();
-    test_ranges();
     printf("%d checks, %d failed\n", checks, failures);
     return failures != 0;
 }

@@ -18,7 +18,7 @@ static void whole_walks(void) {
     CHECK(!langtag_next_extension(text, len, &rest, &got) && is(text, got, "t-en"));
 }
 
-/* An empty subtag is handed out where a hyphen follows it, and not at the end. */
+/* An empty subtag is returned where a hyphen follows it, and not at the end. */
 static void empty_subtags(void) {
     langtag_span rest = {0, 2}, got;
     CHECK(langtag_next_subtag("a-", 2, &rest, &got) && got.len == 1 && !langtag_next_subtag("a-", 2, &rest, &got));

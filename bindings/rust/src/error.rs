@@ -5,7 +5,7 @@ use core::fmt;
 
 use crate::prefix::viable_len;
 
-/// A text that is no language tag. It hands the text back.
+/// The error for a text that is not a language tag. It hands the text back.
 #[derive(Clone, Copy, Debug, PartialEq, Eq)]
 pub struct InvalidLangTag<T>(pub T);
 
@@ -25,7 +25,7 @@ impl<T: AsRef<str>> fmt::Display for InvalidLangTag<T> {
 
 impl<T: AsRef<str> + fmt::Debug> Error for InvalidLangTag<T> {}
 
-/// A text that is no language range. It hands the text back.
+/// The error for a text that is not a language range. It hands the text back.
 #[derive(Clone, Copy, Debug, PartialEq, Eq)]
 pub struct InvalidLanguageRange<T>(pub T);
 

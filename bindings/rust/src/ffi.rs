@@ -151,7 +151,7 @@ impl<'a> Parsed<&'a str> {
 
 #[cfg(feature = "alloc")]
 impl Parsed<String> {
-    /// Hands a text back that is no tag.
+    /// Hands back a text that is not a tag.
     #[inline]
     pub(crate) fn from_string(text: String) -> Result<Self, String> {
         match parse(&text) {

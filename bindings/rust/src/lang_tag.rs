@@ -45,7 +45,8 @@ impl<'a> LangTag<'a> {
     ///
     /// # Errors
     ///
-    /// A text that is no tag comes back: `LangTag::new("zh_Hant")` is `Err(InvalidLangTag("zh_Hant"))`.
+    /// A text that is not a tag comes back: `LangTag::new("zh_Hant")` is `Err(InvalidLangTag("zh_Hant"))`. An error that
+    /// outlives the text needs [`InvalidLangTag::into_owned`]: `LangTag::new(text).map_err(InvalidLangTag::into_owned)?`.
     #[inline]
     pub fn new(text: &'a str) -> Result<Self, InvalidLangTag<&'a str>> {
         Parsed::new(text).map(LangTag).ok_or(InvalidLangTag(text))
@@ -191,6 +192,20 @@ impl<'a> LangTag<'a> {
     #[cfg(feature = "alloc")]
     pub fn to_buf(&self) -> crate::LangTagBuf {
         (*self).into()
+    }
+
+    /// An owned copy in the case that RFC 5646 section 2.1.1 recommends.
+    ///
+    /// ```
+    /// # use langtag_verified::LangTag;
+    /// assert_eq!(LangTag::new("ZH-hant-tw")?.to_recommended_case().as_str(), "zh-Hant-TW");
+    /// # Ok::<(), langtag_verified::InvalidLangTag<&str>>(())
+    /// ```
+    #[cfg(feature = "alloc")]
+    pub fn to_recommended_case(&self) -> crate::LangTagBuf {
+        let mut copy = self.to_buf();
+        copy.make_recommended_case();
+        copy
     }
 }
 

@@ -1,9 +1,13 @@
+use alloc::borrow::Cow;
 use alloc::string::String;
+use core::cmp::Ordering;
 use core::str::FromStr;
 
 use crate::caseless::caseless;
 use crate::ffi::Parsed;
-use crate::{CaselessStr, InvalidLangTag, LangTag};
+use crate::{
+    CaselessStr, Extensions, InvalidLangTag, Kind, LangTag, Language, PrivateUse, Variants,
+};
 
 /// A language tag that owns its text. [`as_lang_tag`](LangTagBuf::as_lang_tag) lends it, and has the parts.
 ///
@@ -24,7 +28,7 @@ impl LangTagBuf {
     ///
     /// # Errors
     ///
-    /// A text that is no tag comes back.
+    /// A text that is not a tag comes back.
     pub fn new(text: String) -> Result<Self, InvalidLangTag<String>> {
         Parsed::from_string(text)
             .map(LangTagBuf)
@@ -41,6 +45,41 @@ impl LangTagBuf {
     #[inline]
     pub fn as_str(&self) -> &str {
         self.0.lend().text()
+    }
+
+    /// What kind of tag it is.
+    pub fn kind(&self) -> Kind {
+        self.as_lang_tag().kind()
+    }
+
+    /// The language of a normal tag: `zh-yue`.
+    pub fn language(&self) -> Option<Language<'_>> {
+        self.as_lang_tag().language()
+    }
+
+    /// The script: `Hant`.
+    pub fn script(&self) -> Option<&str> {
+        self.as_lang_tag().script()
+    }
+
+    /// The region: `HK`, `419`.
+    pub fn region(&self) -> Option<&str> {
+        self.as_lang_tag().region()
+    }
+
+    /// The variants: `rozaj-1994`.
+    pub fn variants(&self) -> Variants<'_> {
+        self.as_lang_tag().variants()
+    }
+
+    /// The extensions: `u-co-pinyin`.
+    pub fn extensions(&self) -> Extensions<'_> {
+        self.as_lang_tag().extensions()
+    }
+
+    /// The private use part: `x-mine`. A tag for private use is all of it.
+    pub fn private_use(&self) -> Option<PrivateUse<'_>> {
+        self.as_lang_tag().private_use()
     }
 
     /// The text without its case, to ask a map by.
@@ -77,6 +116,27 @@ impl TryFrom<String> for LangTagBuf {
     }
 }
 
+/// ```
+/// use langtag_verified::{LangTag, LangTagBuf};
+///
+/// let tag = LangTagBuf::try_from("de-CH")?;
+/// assert_eq!((tag.region(), LangTag::from(&tag).region()), (Some("CH"), Some("CH")));
+/// # Ok::<(), langtag_verified::InvalidLangTag<String>>(())
+/// ```
+impl TryFrom<&str> for LangTagBuf {
+    type Error = InvalidLangTag<String>;
+
+    fn try_from(text: &str) -> Result<Self, Self::Error> {
+        text.parse()
+    }
+}
+
+impl<'a> From<&'a LangTagBuf> for LangTag<'a> {
+    fn from(tag: &'a LangTagBuf) -> Self {
+        tag.as_lang_tag()
+    }
+}
+
 impl From<LangTag<'_>> for LangTagBuf {
     fn from(tag: LangTag<'_>) -> Self {
         LangTagBuf(Parsed::from_lent(tag.parsed()))
@@ -110,6 +170,30 @@ impl PartialEq<LangTag<'_>> for LangTagBuf {
 impl PartialEq<LangTagBuf> for LangTag<'_> {
     fn eq(&self, other: &LangTagBuf) -> bool {
         *self == other.as_lang_tag()
+    }
+}
+
+impl PartialOrd<LangTag<'_>> for LangTagBuf {
+    fn partial_cmp(&self, other: &LangTag<'_>) -> Option<Ordering> {
+        self.as_lang_tag().partial_cmp(other)
+    }
+}
+
+impl PartialOrd<LangTagBuf> for LangTag<'_> {
+    fn partial_cmp(&self, other: &LangTagBuf) -> Option<Ordering> {
+        self.partial_cmp(&other.as_lang_tag())
+    }
+}
+
+impl PartialEq<Cow<'_, str>> for LangTagBuf {
+    fn eq(&self, other: &Cow<'_, str>) -> bool {
+        *self == **other
+    }
+}
+
+impl PartialEq<Cow<'_, str>> for LangTag<'_> {
+    fn eq(&self, other: &Cow<'_, str>) -> bool {
+        *self == **other
     }
 }
 

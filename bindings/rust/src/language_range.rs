@@ -23,7 +23,7 @@ impl<'a> LanguageRange<'a> {
     ///
     /// # Errors
     ///
-    /// A text that is no range comes back: `LanguageRange::new("de_DE")` is `Err(InvalidLanguageRange("de_DE"))`.
+    /// A text that is not a range comes back: `LanguageRange::new("de_DE")` is `Err(InvalidLanguageRange("de_DE"))`.
     pub fn new(text: &'a str) -> Result<Self, InvalidLanguageRange<&'a str>> {
         match ffi::range_kind(text) {
             0 => Err(InvalidLanguageRange(text)),
@@ -32,6 +32,11 @@ impl<'a> LanguageRange<'a> {
                 is_basic: kind == 1,
             }),
         }
+    }
+
+    #[cfg(feature = "alloc")]
+    pub(crate) fn from_read(text: &'a str, is_basic: bool) -> Self {
+        LanguageRange { text, is_basic }
     }
 
     /// The text, with its case.

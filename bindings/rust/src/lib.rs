@@ -61,6 +61,8 @@ mod lang_tag;
 mod lang_tag_buf;
 mod language;
 mod language_range;
+#[cfg(feature = "alloc")]
+mod language_range_buf;
 mod prefix;
 mod private_use;
 #[cfg(feature = "serde")]
@@ -77,6 +79,8 @@ pub use lang_tag::{LangTag, GRANDFATHERED};
 pub use lang_tag_buf::LangTagBuf;
 pub use language::Language;
 pub use language_range::LanguageRange;
+#[cfg(feature = "alloc")]
+pub use language_range_buf::LanguageRangeBuf;
 pub use prefix::{stop_len, viable_len};
 pub use private_use::PrivateUse;
 pub use subtags::Subtags;

@@ -31,4 +31,18 @@ impl<'a> Iterator for Subtags<'a> {
     }
 }
 
+/// ```
+/// # use langtag_verified::LangTag;
+/// assert!(LangTag::new("zh-Hant-TW")?.subtags().rev().eq(["TW", "Hant", "zh"]));
+/// # Ok::<(), langtag_verified::InvalidLangTag<&str>>(())
+/// ```
+impl<'a> DoubleEndedIterator for Subtags<'a> {
+    fn next_back(&mut self) -> Option<&'a str> {
+        let rest = self.rest;
+        let (before, subtag) = rest.rsplit_once('-').unwrap_or(("", rest));
+        self.rest = before;
+        (!rest.is_empty()).then_some(subtag)
+    }
+}
+
 impl FusedIterator for Subtags<'_> {}

@@ -35,7 +35,7 @@ impl<'a> Variants<'a> {
 
     /// The last variant.
     pub fn last(&self) -> Option<&'a str> {
-        self.iter().last()
+        self.iter().next_back()
     }
 }
 

@@ -2,7 +2,9 @@
 #![cfg(feature = "alloc")]
 use std::collections::{BTreeMap, HashMap};
 
-use langtag_verified::{CaselessStr, InvalidLangTag, LangTag, LangTagBuf};
+use langtag_verified::{
+    CaselessStr, InvalidLangTag, InvalidLanguageRange, LangTag, LangTagBuf, LanguageRangeBuf,
+};
 
 #[test]
 fn keep_their_text() {
@@ -60,23 +62,49 @@ fn are_found_by_what_owns_nothing() {
 }
 
 #[test]
-fn take_the_recommended_case() {
-    let cases = [
-        ("ZH-HANT-TW", "zh-Hant-TW"),
-        ("EN-ca-X-CA", "en-CA-x-ca"),
-        ("sgn-be-fr", "sgn-BE-FR"),
-        ("AZ-latn-X-LATN", "az-Latn-x-latn"),
-        ("DE-1996-U-CO-PHONEBK", "de-1996-u-co-phonebk"),
-        ("I-KLINGON", "i-klingon"),
-    ];
-    for (text, recommended) in cases {
-        let mut tag: LangTagBuf = text.parse().unwrap();
-        tag.make_recommended_case();
-        assert_eq!(tag.as_str(), recommended);
-        let again = LangTag::new(recommended).unwrap();
-        assert_eq!(
-            (tag.as_lang_tag().script(), tag.as_lang_tag().region()),
-            (again.script(), again.region())
-        );
-    }
+fn are_compared_with_lent_ones() {
+    let (owned, lent) = (
+        LangTagBuf::try_from("de-CH").unwrap(),
+        LangTag::new("de-AT").unwrap(),
+    );
+    assert_eq!(
+        (lent < owned, owned < lent, LangTag::from(&owned) == owned),
+        (true, false, true)
+    );
+    let text: std::borrow::Cow<str> = "DE-ch".into();
+    assert_eq!(
+        (owned == text, LangTag::from(&owned) == text, lent == text),
+        (true, true, false)
+    );
+    assert_eq!(
+        LangTagBuf::try_from("a b"),
+        Err(InvalidLangTag("a b".into()))
+    );
+    let tag = LangTagBuf::try_from("zh-yue-Hant-HK-1994-u-co-x-a").unwrap();
+    let lent = tag.as_lang_tag();
+    assert_eq!((tag.kind(), tag.language()), (lent.kind(), lent.language()));
+    assert_eq!((tag.script(), tag.region()), (Some("Hant"), Some("HK")));
+    assert_eq!(
+        (tag.variants(), tag.extensions()),
+        (lent.variants(), lent.extensions())
+    );
+    assert_eq!(tag.private_use(), lent.private_use());
+}
+
+#[test]
+fn ranges_are_stored() {
+    let range = LanguageRangeBuf::new("DE-*".into()).unwrap();
+    let (lent, copy) = (range.as_language_range(), range.clone());
+    assert!(!lent.is_basic() && LanguageRangeBuf::from(lent) == copy);
+    assert_eq!(
+        (range.as_str(), copy.into_string()),
+        ("DE-*", "DE-*".into())
+    );
+    let refused = LanguageRangeBuf::try_from(String::from("de_"));
+    assert_eq!(refused, Err(InvalidLanguageRange("de_".into())));
+    assert!("*"
+        .parse::<LanguageRangeBuf>()
+        .unwrap()
+        .as_language_range()
+        .is_basic());
 }

@@ -1,17 +1,5 @@
 //! The parts of a tag.
-use langtag_verified::{Kind, LangTag};
-
-#[test]
-fn of_a_normal_tag() {
-    let tag = LangTag::new("zh-yue-Hant-HK-rozaj-1994-u-co-pinyin-A-bb-x-mine-1").unwrap();
-    assert_eq!(tag.kind(), Kind::Normal);
-    assert_eq!((tag.script(), tag.region()), (Some("Hant"), Some("HK")));
-    assert_eq!(tag.variants().as_str(), "rozaj-1994");
-    assert_eq!(tag.extensions().as_str(), "u-co-pinyin-A-bb");
-    assert_eq!(tag.private_use().unwrap().as_str(), "x-mine-1");
-    assert!(tag.private_use_subtags().eq(["mine", "1"]));
-    assert_eq!(tag.subtags().count(), 14);
-}
+use langtag_verified::LangTag;
 
 #[test]
 fn that_are_absent() {
@@ -74,19 +62,4 @@ fn that_are_lists() {
             && tag.extensions().get('é').is_none()
             && tag.extensions().get('x').is_none()
     );
-}
-
-#[test]
-fn that_are_repeated() {
-    let tag = LangTag::new("sl-rozaj-ROZAJ-a-bb-A-cc").unwrap();
-    assert_eq!(
-        (tag.repeated_variant(), tag.repeated_singleton()),
-        (Some("ROZAJ"), Some('A'))
-    );
-    let tag = LangTag::new("de-1996-u-co").unwrap();
-    assert_eq!(
-        (tag.repeated_variant(), tag.repeated_singleton()),
-        (None, None)
-    );
-    assert_eq!(LangTag::new("x-a-a").unwrap().repeated_singleton(), None);
 }

@@ -54,21 +54,6 @@ fn order() {
 }
 
 #[test]
-fn hashes_of_long_texts() {
-    let tail = "-abcdefgh".repeat(30);
-    let (small, large) = (
-        format!("en-x{tail}"),
-        format!("EN-X{}", tail.to_uppercase()),
-    );
-    let (small, large) = (LangTag::new(&small).unwrap(), LangTag::new(&large).unwrap());
-    assert_eq!((hash(small), small.fnv1a()), (hash(large), large.fnv1a()));
-    assert_ne!(
-        hash(small),
-        hash(LangTag::new(&small.as_str()[..270]).unwrap())
-    );
-}
-
-#[test]
 fn texts() {
     let tag = LangTag::try_from("ZH-Hant").unwrap();
     assert_eq!(

@@ -14,7 +14,7 @@ True
 >>> parse("zh_Hant")
 Traceback (most recent call last):
 ...
-langtag.InvalidTag: 'zh_Hant' is no language tag: none begins with 'zh_'
+langtag.InvalidTag: 'zh_Hant' is not a language tag: none begins with 'zh_'
 """
 from __future__ import annotations
 
@@ -80,10 +80,11 @@ _FUNCTIONS: dict[str, tuple[Any, ...]] = {
 
 
 def _open() -> ctypes.CDLL:
-    """LANGTAG_LIBRARY names the library; else it stands where a wheel puts it, beside this file, or where the system looks."""
+    """LANGTAG_LIBRARY names the library; else it stands in the package, as in a wheel, or beside it, or where the system
+    looks."""
     name = "liblangtag_verified.so.1"
     here = pathlib.Path(__file__).resolve().parent
-    beside = [path for path in (here / "langtag.libs" / name, here / name) if path.is_file()]
+    beside = [path for path in (here / name, here.parent / name) if path.is_file()]
     path = os.environ.get("LANGTAG_LIBRARY") or str(beside[0] if beside else name)
     try:
         library = ctypes.CDLL(path)
@@ -91,7 +92,7 @@ def _open() -> ctypes.CDLL:
             found = getattr(library, function)
             found.restype, found.argtypes = result, parameters
     except (OSError, AttributeError) as error:  # the latter where it is another library
-        raise ImportError(f"{error}: install {name}, put it beside {__file__}, or name it by LANGTAG_LIBRARY") from error
+        raise ImportError(f"{error}: install {name}, put it into {here}, or name it by LANGTAG_LIBRARY") from error
     return library
 
 
@@ -116,7 +117,7 @@ class Kind(enum.Enum):
 
 
 class InvalidTag(ValueError):
-    """A text that is no language tag: `text`. Some tag begins with its first `viable` bytes, and none with one more, where
+    """A text that is not a tag: `text`. Some tag begins with its first `viable` bytes, and none with one more, where
     there is one more."""
 
     def __init__(self, text: Text):
@@ -125,20 +126,20 @@ class InvalidTag(ValueError):
         data = _bytes(text)
         if self.viable < len(data):
             begins = data[: self.viable + 1].decode("utf-8", "backslashreplace")
-            super().__init__(f"{text!r} is no language tag: none begins with {begins!r}")
+            super().__init__(f"{text!r} is not a language tag: none begins with {begins!r}")
         else:
-            super().__init__(f"{text!r} is no language tag: it ends too soon")
+            super().__init__(f"{text!r} is not a language tag: it ends too soon")
 
     def __reduce__(self) -> tuple[type[InvalidTag], tuple[Text]]:
         return type(self), (self.text,)
 
 
 class InvalidRange(ValueError):
-    """A text that is no language range: `text`."""
+    """A text that is not a language range: `text`."""
 
     def __init__(self, text: Text):
         self.text = text
-        super().__init__(f"{text!r} is no language range")
+        super().__init__(f"{text!r} is not a language range")
 
     def __reduce__(self) -> tuple[type[InvalidRange], tuple[Text]]:
         return type(self), (self.text,)
@@ -167,7 +168,7 @@ class _Caseless:
     """A text that is compared and hashed without regard to the case of ASCII letters. Of two texts of which one begins the
     other, the shorter is the greater."""
 
-    __slots__ = ("_data",)
+    __slots__ = ("_data", "__weakref__")
     _data: bytes
     _base: ClassVar[type[_Caseless]]  # Tag or Range: of one, all are compared, and with nothing else
 
@@ -187,6 +188,19 @@ class _Caseless:
     def __str__(self) -> str:
         return self._data.decode("ascii")
 
+    def __format__(self, form: str) -> str:
+        return format(str(self), form)
+
+    def __setattr__(self, name: str, value: object) -> None:
+        """A value is a key of dicts, and does not change; a subclass may have attributes of its own."""
+        if name in _Caseless.__slots__ or name in self._base.__slots__:
+            raise AttributeError(f"{name} of a {self._base.__name__} does not change")
+        object.__setattr__(self, name, value)
+
+    def __delattr__(self, name: str) -> None:
+        self.__setattr__(name, None)
+        object.__delattr__(self, name)
+
     def __repr__(self) -> str:
         return f"{type(self).__name__}({str(self)!r})"
 
@@ -204,13 +218,17 @@ class Tag(_Caseless):
 
     __slots__ = ("_kind", "_parts")
 
-    def __init__(self, text: Text):
+    def __init__(self, text: Text | Tag):
+        if hasattr(self, "_data"):
+            raise AttributeError("a Tag does not change")
+        text = text._data if isinstance(text, Tag) else text
         data = _bytes(text)
         parts = _Parts()
         found = _c.langtag_parse(data, len(data), parts)
         if not found:
             raise InvalidTag(text)
-        self._data, self._kind, self._parts = data, Kind(found), parts
+        for name, value in (("_data", data), ("_kind", Kind(found)), ("_parts", parts)):
+            object.__setattr__(self, name, value)
 
     def _part(self, span: _Span) -> str | None:
         return self._data[span.start : span.start + span.len].decode("ascii") if span.len else None
@@ -343,12 +361,16 @@ class Range(_Caseless):
 
     __slots__ = ("_is_basic",)
 
-    def __init__(self, text: Text):
+    def __init__(self, text: Text | Range):
+        if hasattr(self, "_data"):
+            raise AttributeError("a Range does not change")
+        text = text._data if isinstance(text, Range) else text
         data = _bytes(text)
         found = _c.langtag_range_kind(data, len(data))
         if not found:
             raise InvalidRange(text)
-        self._data, self._is_basic = data, bool(found == 1)
+        object.__setattr__(self, "_data", data)
+        object.__setattr__(self, "_is_basic", bool(found == 1))
 
     @property
     def is_basic(self) -> bool:

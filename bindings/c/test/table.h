@@ -1,0 +1,13 @@
+/* The table of calls and answers. */
+#ifndef TABLE_H
+#define TABLE_H
+
+#include <stdio.h>
+
+/* Makes each call of a table, and compares the answers. */
+void test_table(FILE *file);
+
+/* Writes calls, one a line, with their answers. */
+void table_answers(FILE *file);
+
+#endif
