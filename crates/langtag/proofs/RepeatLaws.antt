@@ -18,7 +18,7 @@ use Rattle.std.proofs.lemmas.Bool.{false_from_ne_true}
 use Rattle.langtag_scan.proofs.Ascii.{alphanumeric_below}
 use Rattle.langtag_scan.proofs.SubtagFacts.{singleton_alphanumeric}
 use Rattle.langtag_extension.specs.Spelling.{extension_spelling}
-use Rattle.langtag_extension.proofs.LookUp.{first_byte-spelling}
+use Rattle.langtag_extension.proofs.ExtensionLookUp.{first_byte-spelling}
 use Rattle.langtag.specs.Repeat.{repeat_index_after, repeat_index, repeat, IsFirstRepeat, IsFirstRepeatAt}
 
 -- ---- a walk that has come to a member

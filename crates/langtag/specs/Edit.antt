@@ -4,7 +4,7 @@ use Rattle.std.specs.Prelude.{◌≡◌, ℕ, List, [], Option, None, IfSome}
 use Rattle.std.specs.Option.{option_map}
 use Rattle.langtag_scan.specs.Record.{Extension, PrivateUse, Record, EachRecord, IsWellFormedPrivateUse, Spells, private_use_flat}
 use Rattle.langtag_scan.specs.Subtags.{join}
-use Rattle.langtag_language.specs.Language.{EachSpelling}
+use Rattle.langtag_language.specs.Language.{EachLanguageSpelling}
 use Rattle.langtag_place.specs.Variants.{SpellsVariants}
 use Rattle.langtag_extension.specs.Spelling.{SpellsExtensions}
 
@@ -51,7 +51,7 @@ of_parts primary extended script region = record {
 -- with the subtags that the language spells
 abbrev pub SetsLanguage : List ℕ → List ℕ → List ℕ → Type 0
 SetsLanguage language old new =
-    EachRecord old (λ r. EachSpelling language (λ primary extended. Spells (with_language r primary extended) new))
+    EachRecord old (λ r. EachLanguageSpelling language (λ primary extended. Spells (with_language r primary extended) new))
 
 -- with the script, or without
 abbrev pub SetsScript : Option (List ℕ) → List ℕ → List ℕ → Type 0

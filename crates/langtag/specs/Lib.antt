@@ -5,7 +5,7 @@ pub mod Repeat
 pub mod VariantBlocks
 pub mod Text
 pub mod Registered
-pub mod LookUp
+pub mod LooksUp
 pub mod Kinds
 pub mod Typed
 pub mod Order

@@ -223,7 +223,7 @@ fn first_alike(tags: &[GrandfatheredLangTag], bytes: &[u8]) -> Option<usize>
 }
 
 impl<'a> TryFrom<&'a [u8]> for GrandfatheredLangTag {
-    ghost use Rattle.langtag.specs.LookUp.{LooksUp};
+    ghost use Rattle.langtag.specs.LooksUp.{LooksUp};
 
     type Error = InvalidGrandfatheredTag<&'a [u8]>;
 

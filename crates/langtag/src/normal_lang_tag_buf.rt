@@ -11,7 +11,7 @@ ghost use Rattle.langtag_scan.specs.Parts.{language_part, variants_part, extensi
 ghost use Rattle.langtag_scan.specs.Record as model;
 ghost use Rattle.langtag_scan.specs.Record.{EachRecord, Extension, Spells, spell};
 ghost use Rattle.langtag_scan.specs.Tag.{IsNormal};
-ghost use Rattle.langtag_language.specs.Language.{EachSpelling};
+ghost use Rattle.langtag_language.specs.Language.{EachLanguageSpelling};
 ghost use Rattle.langtag_language.specs.Text.{language_text};
 ghost use Rattle.langtag_place.specs.Text.{script_text, region_text, variants_text};
 ghost use Rattle.langtag_extension.specs.Text.{extensions_text};
@@ -80,7 +80,7 @@ impl NormalLangTagBuf {
         script: Option<Script<'_>>,
         region: Option<Region<'_>>,
     ) -> Result<NormalLangTagBuf, AllocError>
-        ensures { IfOk result (λ tag. EachSpelling (language_text language.entry) (λ primary extended.
+        ensures { IfOk result (λ tag. EachLanguageSpelling (language_text language.entry) (λ primary extended.
             Spells (of_parts primary extended (option_map script_text script.entry) (option_map region_text region.entry))
             (normal_lang_tag_buf_text tag))) }
     {

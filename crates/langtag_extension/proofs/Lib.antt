@@ -3,5 +3,5 @@ mod SingletonLemmas
 pub mod WalkLemmas
 pub mod Joins
 pub mod Rules
-pub mod LookUp
+pub mod ExtensionLookUp
 mod Counts

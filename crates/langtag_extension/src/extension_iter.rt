@@ -10,7 +10,7 @@ use std::alloc::AllocError;
 
 /// The subtags of an extension that are still to come (RFC 5646 section 2.2.6), without the singleton: `co` and
 /// `phonebk` of `Extension::new("u-co-phonebk")?.iter()`.
-#[derive(Drop)]
+#[derive(Debug, Drop)]
 pub struct ExtensionIter<'a> {
     rest: Subtags<'a>,
     ghost in_class: { IsTrue (are_extension_subtags rest) },

@@ -10,7 +10,7 @@ use std::alloc::AllocError;
 use std::marker::Model;
 
 /// The texts of the extensions that are still to come: a text is cut before each subtag of one byte.
-#[derive(Drop)]
+#[derive(Debug, Drop)]
 pub(crate) struct ExtensionTexts<'a> {
     rest: Option<&'a str>,
 }

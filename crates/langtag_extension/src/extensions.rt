@@ -137,7 +137,7 @@ impl<'a> Extensions<'a> {
 
     /// Returns the subtags of the extension that `get` returns, and none where it returns None: for `u`, `co` and
     /// `phonebk` of `a-bb-u-co-phonebk`.
-    #[tactic(auto, using(crate::proofs::LookUp::subtags_not_found))]
+    #[tactic(auto, using(crate::proofs::ExtensionLookUp::subtags_not_found))]
     pub fn iter_extension(&self, singleton: Singleton) -> ExtensionIter<'a>
         ensures list { (es : List model.Extension) → SpellsExtensions es (extensions_text self.now) →
             extension_subtags_left result ≡ option_map_or (λ e. e.subtags) (find_extension (singleton_byte singleton) es) [] }

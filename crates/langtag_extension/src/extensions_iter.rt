@@ -10,7 +10,7 @@ use std::alloc::AllocError;
 
 /// The extensions that are still to come (RFC 5646 section 2.2.6), in the order in which they are written: `a-ext1`
 /// and `u-co` of `Extensions::new("a-ext1-u-co")?.iter()`.
-#[derive(Drop)]
+#[derive(Debug, Drop)]
 pub struct ExtensionsIter<'a> {
     rest: ExtensionTexts<'a>,
     ghost in_class: { IsTrue (are_extension_texts rest) },

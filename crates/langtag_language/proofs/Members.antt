@@ -2,19 +2,19 @@
 use Rattle.std.proofs.Common.{◌≡◌, ◌↔◌, ℕ, List, [], ◌∷◌, drop, Option, None, Some, IsNone, IfSome, rules, sym, ap, ◌∙◌}
 use Rattle.langtag_scan.specs.Subtags.{subtags}
 use Rattle.langtag_language.specs.declared.language_extension.LanguageExtension.{LanguageExtension}
-use Rattle.langtag_language.specs.Language.{EachSpelling, SpellsLanguageExtension}
+use Rattle.langtag_language.specs.Language.{EachLanguageSpelling, SpellsLanguageExtension}
 use Rattle.langtag_language.specs.Decided.{are_language_extension}
 use Rattle.langtag_language.specs.Text.{language_extension_text, extension_list}
 use Rattle.langtag_language.proofs.Rules.{subtags-language, SpellsLanguageExtension-from_test}
 
 pub members_spelled :
     (text first : List ℕ) (others : List (List ℕ)) → subtags text ≡ first ∷ others →
-    EachSpelling text (λ primary extended. (first ≡ primary) × (others ≡ extended))
+    EachLanguageSpelling text (λ primary extended. (first ≡ primary) × (others ≡ extended))
 members_spelled text first others list primary extended spells = let same = sym list ∙ subtags-language primary extended text spells in (cc, cc)
 
 pub others_spelled :
     (text : List ℕ) (others : List (List ℕ)) → others ≡ drop 1 (subtags text) →
-    EachSpelling text (λ primary extended. others ≡ extended)
+    EachLanguageSpelling text (λ primary extended. others ≡ extended)
 others_spelled text others list primary extended spells = list ∙ ap (drop 1) (subtags-language primary extended text spells)
 
 -- an extension has a subtag

@@ -32,5 +32,5 @@ abbrev pub IsLanguage : List ℕ → Type 0
 IsLanguage text = (primary : List ℕ) × (extended : List (List ℕ)) × SpellsLanguage primary extended text
 
 -- P holds of each primary subtag with each list of extended ones that spell the text
-abbrev pub EachSpelling : List ℕ → (List ℕ → List (List ℕ) → Type 0) → Type 0
-EachSpelling text P = (primary : List ℕ) (extended : List (List ℕ)) → SpellsLanguage primary extended text → P primary extended
+abbrev pub EachLanguageSpelling : List ℕ → (List ℕ → List (List ℕ) → Type 0) → Type 0
+EachLanguageSpelling text P = (primary : List ℕ) (extended : List (List ℕ)) → SpellsLanguage primary extended text → P primary extended

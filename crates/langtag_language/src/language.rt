@@ -4,7 +4,7 @@ ghost use Rattle.std.specs.Prelude.{IsNone, IfSome, IfOk, IfErr};
 ghost use Rattle.std.specs.String.{string_bytes};
 ghost use Rattle.langtag_scan.specs.Case.{are_alike};
 ghost use Rattle.langtag_scan.specs.Subtags.{subtags};
-ghost use Rattle.langtag_language.specs.Language.{IsLanguage, EachSpelling, SpellsLanguageExtension};
+ghost use Rattle.langtag_language.specs.Language.{IsLanguage, EachLanguageSpelling, SpellsLanguageExtension};
 ghost use Rattle.langtag_language.specs.Decided as test;
 
 use crate::extended_subtags::are_extended_within;
@@ -112,7 +112,7 @@ impl<'a> Language<'a> {
     /// Returns the primary subtag: `Language::new("zh-yue")?.primary().as_str()` is `"zh"`.
     pub fn primary(&self) -> PrimaryLanguage<'a>
         ensures list { slice_get (subtags (language_text self.now)) 0 ≡ Some (primary_language_text result) }
-        ensures member { EachSpelling (language_text self.now) (λ primary extended. primary_language_text result ≡ primary) }
+        ensures member { EachLanguageSpelling (language_text self.now) (λ primary extended. primary_language_text result ≡ primary) }
     {
         self.split().0
     }
@@ -120,8 +120,8 @@ impl<'a> Language<'a> {
     /// Returns the extended subtags as one text, None where there is none: `Language::new("zh-min-nan")?.extension()`
     /// is that of `min-nan`.
     pub fn extension(&self) -> Option<LanguageExtension<'a>>
-        ensures absent { EachSpelling (language_text self.now) (λ primary extended. IsNone result ↔ (extended ≡ [])) }
-        ensures members { EachSpelling (language_text self.now) (λ primary extended.
+        ensures absent { EachLanguageSpelling (language_text self.now) (λ primary extended. IsNone result ↔ (extended ≡ [])) }
+        ensures members { EachLanguageSpelling (language_text self.now) (λ primary extended.
             IfSome result (λ extension. SpellsLanguageExtension extended (language_extension_text extension))) }
     {
         self.split().1
@@ -131,7 +131,7 @@ impl<'a> Language<'a> {
     /// `Language::new("zh-min-nan")?.extension_subtags()` yields `min` and `nan`.
     pub fn extension_subtags(&self) -> LanguageExtensionIter<'a>
         ensures list { extended_subtags_left result ≡ drop 1 (subtags (language_text self.now)) }
-        ensures members { EachSpelling (language_text self.now) (λ primary extended. extended_subtags_left result ≡ extended) }
+        ensures members { EachLanguageSpelling (language_text self.now) (λ primary extended. extended_subtags_left result ≡ extended) }
     {
         let (_, extension) = self.split();
         match extension {

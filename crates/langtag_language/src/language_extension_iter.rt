@@ -9,7 +9,7 @@ use langtag_scan::Subtags;
 use std::alloc::AllocError;
 
 /// The extended subtags that are still to come (RFC 5646 section 2.2.2): `min` and `nan` of `min-nan`.
-#[derive(Drop)]
+#[derive(Debug, Drop)]
 pub struct LanguageExtensionIter<'a> {
     rest: Subtags<'a>,
     ghost in_class: { IsTrue (are_extended rest) },

@@ -11,7 +11,7 @@ use std::alloc::AllocError;
 
 /// The variants of a tag that are still to come, in the order in which they are written (RFC 5646 section 2.2.5),
 /// from either end: `rozaj` and `1994` of `Variants::new("rozaj-1994")?.iter()`.
-#[derive(Drop)]
+#[derive(Debug, Drop)]
 pub struct VariantsIter<'a> {
     rest: Subtags<'a>,
     ghost in_class: { IsTrue (are_variants rest) },

@@ -7,7 +7,7 @@ use Rattle.langtag_scan.specs.Subtags.{join, subtags}
 use Rattle.langtag_scan.specs.Tag.{IsPrivate}
 use Rattle.langtag_scan.proofs.SubtagFacts.{of_one, of_private_subtag, mark_alphanumeric}
 use Rattle.langtag_scan.proofs.SubtagLists.{each_from_test, test_from_each, each_subtag, subtags-joined, join-subtags, length-after_first}
-use Rattle.langtag_private.specs.PrivateUse.{EachSpelling}
+use Rattle.langtag_private.specs.PrivateUse.{EachPrivateUseSpelling}
 use Rattle.langtag_private.specs.Decided.{are_private, are_private_use, is_mark_alone, is_private_use}
 
 -- one text, one list
@@ -15,7 +15,7 @@ pub subtags-private : (text : List ℕ) (p : PrivateUse) → IsWellFormedPrivate
 subtags-private text p fits joined =
     ap subtags (sym joined) ∙ subtags-joined (private_use_flat p) (of_one p.mark (mark_alphanumeric p.mark fits.mark), each_subtag is_private_subtag of_private_subtag p.subtags fits.subtags)
 
-pub others_spelled : (text : List ℕ) (others : List (List ℕ)) → others ≡ drop 1 (subtags text) → EachSpelling text (λ members. others ≡ members)
+pub others_spelled : (text : List ℕ) (others : List (List ℕ)) → others ≡ drop 1 (subtags text) → EachPrivateUseSpelling text (λ members. others ≡ members)
 others_spelled text others list p fits joined = list ∙ ap (drop 1) (subtags-private text p fits joined)
 
 are_private_use-from_rule :

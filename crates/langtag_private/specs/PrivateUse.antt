@@ -11,5 +11,5 @@ abbrev pub IsPrivateUse : List ℕ → Type 0
 IsPrivateUse text = IsPrivate text
 
 -- P holds of the subtags after the mark in each private use part that spells the text
-abbrev pub EachSpelling : List ℕ → (List (List ℕ) → Type 0) → Type 0
-EachSpelling text P = (p : PrivateUse) → IsWellFormedPrivateUse p → join (private_use_flat p) ≡ text → P p.subtags
+abbrev pub EachPrivateUseSpelling : List ℕ → (List (List ℕ) → Type 0) → Type 0
+EachPrivateUseSpelling text P = (p : PrivateUse) → IsWellFormedPrivateUse p → join (private_use_flat p) ≡ text → P p.subtags

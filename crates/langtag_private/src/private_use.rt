@@ -3,7 +3,7 @@ ghost use Rattle.std.specs.Prelude.{◌≡◌, ◌↔◌, Some, IsTrue, IfOk, If
 ghost use Rattle.std.specs.String.{string_bytes};
 ghost use Rattle.langtag_scan.specs.Case.{are_alike};
 ghost use Rattle.langtag_scan.specs.Subtags.{subtags};
-ghost use Rattle.langtag_private.specs.PrivateUse.{IsPrivateUse, EachSpelling};
+ghost use Rattle.langtag_private.specs.PrivateUse.{IsPrivateUse, EachPrivateUseSpelling};
 ghost use Rattle.langtag_private.specs.Decided as test;
 
 use crate::private_use_iter::PrivateUseIter;
@@ -108,7 +108,7 @@ impl<'a> PrivateUse<'a> {
     /// Returns the subtags one by one, without the mark: `PrivateUse::new("x-a-x")?.iter()` yields `a` and `x`.
     pub fn iter(&self) -> PrivateUseIter<'a>
         ensures list { private_use_subtags_left result ≡ drop 1 (subtags (private_use_text self.now)) }
-        ensures members { EachSpelling (private_use_text self.now) (λ members. private_use_subtags_left result ≡ members) }
+        ensures members { EachPrivateUseSpelling (private_use_text self.now) (λ members. private_use_subtags_left result ≡ members) }
 
         ensures cloned { (walk copy : PrivateUseIter) → ⟦<PrivateUseIter<'a> as Clone>⟧.is_clone walk copy → private_use_subtags_left copy ≡ private_use_subtags_left walk }
         ensures clone_succeeds { (walk : PrivateUseIter) → ⟦<PrivateUseIter<'a> as Clone>⟧.is_infallible walk }

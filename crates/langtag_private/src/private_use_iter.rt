@@ -9,7 +9,7 @@ use langtag_scan::Subtags;
 use std::alloc::AllocError;
 
 /// The private use subtags that are still to come (RFC 5646 section 2.2.7): `a` and `b` of `x-a-b`.
-#[derive(Drop)]
+#[derive(Debug, Drop)]
 pub struct PrivateUseIter<'a> {
     rest: Subtags<'a>,
     ghost in_class: { IsTrue (are_private rest) },

@@ -11,7 +11,7 @@ use std::marker::Model;
 ///
 /// Beside a hyphen at an end of the text, and between two hyphens in a row, stands an empty subtag, which is returned
 /// like any other: `a--b-` has the subtags `a`, the empty one, `b` and the empty one again.
-#[derive(Drop)]
+#[derive(Debug, Drop)]
 pub struct Subtags<'a> {
     rest: Option<&'a str>,
 }

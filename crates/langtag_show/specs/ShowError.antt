@@ -4,10 +4,10 @@ use Rattle.langtag_show.specs.declared.show_error.ShowError.{ShowError}
 use Rattle.langtag_show.specs.declared.show_error.ShowError.TheVariants.{Memory, Read, Write}
 
 -- the message on standard error
-abbrev pub text_of : ShowError → List ℕ
-text_of Memory = codes "out of memory"
-text_of Read = codes "read failed"
-text_of Write = codes "write failed"
+abbrev pub message_of : ShowError → List ℕ
+message_of Memory = codes "out of memory"
+message_of Read = codes "read failed"
+message_of Write = codes "write failed"
 
 -- the exit status that tells the fault
 abbrev pub status_of : ShowError → ℕ

@@ -3,7 +3,7 @@ ghost use Rattle.std.specs.Prelude.{◌≡◌, OnOk};
 ghost use Rattle.std.specs.Io.KnownBytes.{Appends, Keeps};
 ghost use Rattle.std.specs.Process.{exit_status};
 ghost use Rattle.langtag_show.specs.Lines.{ended};
-ghost use Rattle.langtag_show.specs.ShowError.{text_of, status_after};
+ghost use Rattle.langtag_show.specs.ShowError.{message_of, status_after};
 
 use crate::show_error::ShowError;
 use std::io;
@@ -28,7 +28,7 @@ pub(crate) fn conclude<W: Write>(outcome: Result<(), ShowError>, errors: &mut W)
 
 /// Writes the text of an error and an LF.
 fn say<W: Write>(error: ShowError, errors: &mut W) -> io::Result<()>
-    ensures { OnOk result (Appends (W.contents errors.old) (W.contents errors.new) (ended (text_of error))) }
+    ensures { OnOk result (Appends (W.contents errors.old) (W.contents errors.new) (ended (message_of error))) }
 {
     writeln!(errors, "{}", error.text())
 }

@@ -14,11 +14,11 @@ pub enum ShowError {
 }
 
 impl ShowError {
-    ghost use Rattle.langtag_show.specs.ShowError.{text_of, status_of};
+    ghost use Rattle.langtag_show.specs.ShowError.{message_of, status_of};
 
     /// The text that the program writes to standard error, without the LF.
     pub fn text(&self) -> &'static str
-        ensures { result.now ≡ text_of self.now }
+        ensures { result.now ≡ message_of self.now }
     {
         match self {
             ShowError::Memory => "out of memory",

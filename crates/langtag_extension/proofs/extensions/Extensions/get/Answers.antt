@@ -4,7 +4,7 @@ use Rattle.std.proofs.lemmas.Iterator.Consumers.{YieldsList-from_first}
 use Rattle.langtag_extension.specs.Decided.{opens_alike}
 use Rattle.langtag_extension.specs.Spelling.{extension_spelling}
 use Rattle.langtag_extension.specs.Text.{extension_text, extensions_left}
-use Rattle.langtag_extension.proofs.LookUp.{find_spellings}
+use Rattle.langtag_extension.proofs.ExtensionLookUp.{find_spellings}
 use Rattle.langtag_extension.proofs.extensions.Extensions.get.Goals as goal
 
 pub returns : goal.returns

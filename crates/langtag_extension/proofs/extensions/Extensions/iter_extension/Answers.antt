@@ -1,5 +1,5 @@
 use Rattle.langtag_extension.specs.Text.{extension_text}
-use Rattle.langtag_extension.proofs.LookUp.{subtags_found}
+use Rattle.langtag_extension.proofs.ExtensionLookUp.{subtags_found}
 use Rattle.langtag_extension.proofs.extensions.Extensions.iter_extension.Goals as goal
 
 pub returns : goal.returns
