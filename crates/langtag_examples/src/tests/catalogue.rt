@@ -46,6 +46,29 @@ fn texts_are_found_in_any_case(rt: HostRuntime) -> Result<(), Fail> {
     Ok(())
 }
 
+/// The text for `iw` becomes that for `he`, whatever memory is refused on the way.
+fn is_renamed(rt: &impl Abort, alloc: Global) -> Result<(), AllocError> {
+    let mut catalogue = Catalogue::new(alloc);
+    catalogue.put(tag(rt, alloc, "iw")?, String::from_str(alloc, "Shalom")?)?;
+    let new = tag(rt, alloc, "he")?;
+    let renamed = catalogue.rename(&tag(rt, alloc, "IW")?, new)?;
+    assert_same!(rt; renamed, true);
+    assert_same!(rt; catalogue.find(alloc, "iw")?, None);
+    assert_same!(rt; catalogue.find(alloc, "HE")?, Some("Shalom"));
+    let renamed = catalogue.rename(&tag(rt, alloc, "he")?, tag(rt, alloc, "He")?)?;
+    assert_same!(rt; renamed, true);
+    assert_same!(rt; catalogue.find(alloc, "he")?, Some("Shalom"));
+    let renamed = catalogue.rename(&tag(rt, alloc, "fr")?, tag(rt, alloc, "he")?)?;
+    assert_same!(rt; renamed, false);
+    Ok(())
+}
+
+#[test]
+fn a_text_is_moved_to_another_tag(rt: HostRuntime) -> Result<(), Fail> {
+    once_more!(is_renamed(&rt, rt.alloc()))?;
+    Ok(())
+}
+
 /// A tag of private use of `len` bytes, three or more.
 fn private_text(alloc: Global, len: usize) -> Result<String, AllocError> {
     let start = if len % 2 == 1 { "x" } else { "x-aa" };
