@@ -34,6 +34,6 @@ is_possible p k = is_prefix (fold_text p) (folded_at k)
 abbrev pub matters : ℕ → ℕ → Bool
 matters len k = (len == 9) || is_within 1 14 k
 
--- whether it does, and a text with this prefix may be alike it
+-- whether it has to be, and a text with this prefix may equal the irregular one, ignoring case
 abbrev pub is_candidate : ℕ → List ℕ → ℕ → Bool
 is_candidate len p k = matters len k && is_possible p k
