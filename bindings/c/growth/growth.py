@@ -1,5 +1,6 @@
 #!/usr/bin/env python3
-"""Fails where a function's instructions grow faster than its text: growth.py PROGRAM HEADER, under valgrind."""
+"""Fails where a function's instructions grow faster than its text: growth.py PROGRAM FILE.., under valgrind. The files, a
+header or sources of Rattle, declare the functions that the program has to call."""
 import glob
 import re
 import subprocess
@@ -8,9 +9,11 @@ import tempfile
 
 FEW = 5000  # instructions that a text of any length may take
 MOST = 2.2
+# What a header declares, and a source of Rattle exports.
+DECLARED = re.compile(r'\blangtag_(\w+)\([^;{]*\);|extern "C" fn langtag_bench_(\w+)')
 
 
-def main(program, header):
+def main(program, *files):
     counts = {}
     with tempfile.TemporaryDirectory() as room:
         out = f"--callgrind-out-file={room}/out"
@@ -21,12 +24,12 @@ def main(program, header):
             if label:
                 total = re.search(r"(?m)^(?:summary|totals): (\d+)", text)
                 counts.setdefault((label[1], label[2]), {})[label[3]] = int(total[1])
-    declared = {it.removeprefix("langtag_") for it in re.findall(r"(langtag_\w+)\([^;{]*\);", open(header, encoding="utf-8").read())}
+    declared = {name for path in files for names in DECLARED.findall(open(path, encoding="utf-8").read()) for name in names if name}
     missing = declared - {function for function, _ in counts}
-    faults = [f"langtag_{it} is not called" for it in sorted(missing)]
+    faults = [f"{it} is not called" for it in sorted(missing)]
     for (function, shape), count in sorted(counts.items()):
         if count["2"] > max(MOST * count["1"], FEW):
-            faults.append(f"langtag_{function} of {shape}: {count['1']} instructions, and {count['2']} of twice the text")
+            faults.append(f"{function} of {shape}: {count['1']} instructions, and {count['2']} of twice the text")
     print(*faults, f"{len(counts)} pairs of counts, {len(faults)} faults", sep="\n")
     return 1 if faults else 0
 

@@ -45,7 +45,7 @@ pub extern "C" fn langtag_bench_matches_extended(range: &[u8], tag: &[u8]) -> bo
 
 /// The range that the bytes are.
 #[tactic(auto, using(langtag_match::proofs::AsciiRanges::utf8_range))]
-fn range_of<'a>(bytes: &'a [u8]) -> Option<LanguageRange<'a>>
+pub(crate) fn range_of<'a>(bytes: &'a [u8]) -> Option<LanguageRange<'a>>
     ensures { MatchOption result (is_language_range bytes.now ≡ false)
         (λ range. (language_range_text range ≡ bytes.now) × IsTrue (is_language_range bytes.now)) }
 {
@@ -55,7 +55,7 @@ fn range_of<'a>(bytes: &'a [u8]) -> Option<LanguageRange<'a>>
 
 /// The tag that the bytes are.
 #[tactic(auto, using(crate::proofs::TagBytes::utf8_tag))]
-fn tag_of<'a>(bytes: &'a [u8]) -> Option<LangTag<'a>>
+pub(crate) fn tag_of<'a>(bytes: &'a [u8]) -> Option<LangTag<'a>>
     ensures { MatchOption result (IsTag bytes.now → ⊥) (λ tag. (lang_tag_text tag ≡ bytes.now) × IsTag bytes.now) }
 {
     let text = str::from_utf8(bytes).ok()?;
@@ -103,7 +103,7 @@ pub extern "C" fn langtag_bench_tag_for_header(alloc: Global, header: &[u8]) -> 
 }
 
 /// Reads the twenty tags.
-fn read_tags(tags: &mut [LangTag<'static>]) {
+pub(crate) fn read_tags(tags: &mut [LangTag<'static>]) {
     for (tag, text) in tags.iter_mut().zip(TAGS) {
         if let Ok(read) = LangTag::new(text) {
             *tag = read;

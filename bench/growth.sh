@@ -1,0 +1,15 @@
+#!/usr/bin/env bash
+# Fails where a call of langtag or langtag_match takes over 2.2 times the instructions for twice the text, where one of their
+# functions calls itself, and where one has no fixed size on the stack. It needs rt, cc, valgrind with its headers, and objdump.
+set -euo pipefail
+here=$(cd "$(dirname "$0")" && pwd)
+target=$here/target
+crate=$here/../crates/langtag_bench
+mkdir -p "$target"
+
+(cd "$crate" && rt lib >&2)
+"$here/../.ci/stack" "$crate/out/liblangtag_bench.a"
+# The heap of the library is the toolchain's, over malloc.
+cc -std=c11 -O2 -Wall -Wextra "$here/src/growth.c" "$crate/out/liblangtag_bench.a" "$(dirname "$(rt doc)")/c/liblibc_c.a" \
+    -o "$target/growth"
+python3 "$here/../bindings/c/growth/growth.py" "$target/growth" "$crate"/src/*.rt

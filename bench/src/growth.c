@@ -1,0 +1,96 @@
+/*
+ * How the work of calls of langtag and langtag_match grows with their text: the entries of langtag_bench. Filters and
+ * look-ups are asked about twenty tags, repeats about fewer variants than one block holds: past that their documentation
+ * says how they grow.
+ */
+#include "../../bindings/c/growth/growth.h"
+#include <stdbool.h>
+
+/* The offsets or lengths of the six parts of a tag. */
+struct parts {
+    size_t parts[6];
+};
+
+/* A slice crosses as a pointer and a length. */
+bool langtag_bench_recognise(const char *bytes, size_t len, struct parts *ends);
+bool langtag_bench_recognise_text(const char *bytes, size_t len, struct parts *ends);
+bool langtag_bench_lang_tag(const char *bytes, size_t len, struct parts *lengths);
+bool langtag_bench_is_utf8(const char *bytes, size_t len);
+bool langtag_bench_normal_lang_tag(const char *bytes, size_t len);
+size_t langtag_bench_repeated_variant(const char *bytes, size_t len);
+size_t langtag_bench_repeated_singleton(const char *bytes, size_t len);
+uint8_t langtag_bench_copy(const char *bytes, size_t len, char *into, size_t into_len);
+uint8_t langtag_bench_fold_and_sum(const char *bytes, size_t len);
+bool langtag_bench_eq_str(const char *bytes, size_t len, const char *others, size_t others_len);
+size_t langtag_bench_subtags(const char *bytes, size_t len);
+size_t langtag_bench_walk(const char *bytes, size_t len);
+bool langtag_bench_recommended(const char *bytes, size_t len);
+bool langtag_bench_displayed(const char *bytes, size_t len);
+bool langtag_bench_made_of_parts(const char *bytes, size_t len);
+bool langtag_bench_pair(const char *range, size_t range_len, const char *tag, size_t tag_len);
+bool langtag_bench_matches_basic(const char *range, size_t range_len, const char *tag, size_t tag_len);
+bool langtag_bench_matches_extended(const char *range, size_t range_len, const char *tag, size_t tag_len);
+size_t langtag_bench_fallbacks(const char *bytes, size_t len);
+bool langtag_bench_filter_basic(const char *ranges, size_t len);
+bool langtag_bench_filter_extended(const char *ranges, size_t len);
+size_t langtag_bench_tags(void);
+bool langtag_bench_tag_for_header(const char *header, size_t len);
+bool langtag_bench_lenient(const char *header, size_t len);
+
+static struct parts parts;
+
+FUNCTION(recognise, result = langtag_bench_recognise(text, len, &parts))
+FUNCTION(recognise_text, result = langtag_bench_recognise_text(text, len, &parts))
+FUNCTION(lang_tag, result = langtag_bench_lang_tag(text, len, &parts))
+FUNCTION(is_utf8, result = langtag_bench_is_utf8(text, len))
+FUNCTION(normal_lang_tag, result = langtag_bench_normal_lang_tag(text, len))
+FUNCTION(repeated_variant, result = langtag_bench_repeated_variant(text, len))
+FUNCTION(repeated_singleton, result = langtag_bench_repeated_singleton(text, len))
+FUNCTION(copy, result = langtag_bench_copy(text, len, other, len))
+FUNCTION(fold_and_sum, result = langtag_bench_fold_and_sum(text, len))
+FUNCTION(eq_str, result = langtag_bench_eq_str(text, len, other, len))
+FUNCTION(subtags, result = langtag_bench_subtags(text, len))
+FUNCTION(walk, result = langtag_bench_walk(text, len))
+FUNCTION(recommended, result = langtag_bench_recommended(text, len))
+FUNCTION(displayed, result = langtag_bench_displayed(text, len))
+FUNCTION(made_of_parts, result = langtag_bench_made_of_parts(text, len))
+FUNCTION(pair, result = langtag_bench_pair(text, len, other, len))
+FUNCTION(matches_basic, result = langtag_bench_matches_basic(text, len, other, len))
+FUNCTION(matches_extended, result = langtag_bench_matches_extended(text, len, other, len))
+FUNCTION(fallbacks, result = langtag_bench_fallbacks(text, len))
+FUNCTION(filter_basic, result = langtag_bench_filter_basic(text, len))
+FUNCTION(filter_extended, result = langtag_bench_filter_extended(text, len))
+FUNCTION(tags, result = langtag_bench_tags())
+FUNCTION(tag_for_header, result = langtag_bench_tag_for_header(text, len))
+FUNCTION(lenient, result = langtag_bench_lenient(text, len))
+
+#define ENTRY(name)                                                                                                    \
+    { #name, name }
+static const struct function functions[] = {
+    ENTRY(recognise),
+    ENTRY(recognise_text),
+    ENTRY(lang_tag),
+    ENTRY(is_utf8),
+    ENTRY(normal_lang_tag),
+    ENTRY(repeated_variant),
+    ENTRY(repeated_singleton),
+    ENTRY(copy),
+    ENTRY(fold_and_sum),
+    ENTRY(eq_str),
+    ENTRY(subtags),
+    ENTRY(walk),
+    ENTRY(recommended),
+    ENTRY(displayed),
+    ENTRY(made_of_parts),
+    ENTRY(pair),
+    ENTRY(matches_basic),
+    ENTRY(matches_extended),
+    ENTRY(fallbacks),
+    ENTRY(filter_basic),
+    ENTRY(filter_extended),
+    ENTRY(tags),
+    ENTRY(tag_for_header),
+    ENTRY(lenient),
+};
+
+int main(void) { return count(functions, sizeof functions / sizeof *functions); }

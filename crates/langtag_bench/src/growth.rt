@@ -1,0 +1,174 @@
+//! Calls of langtag and langtag_match over one text; `bench/growth.sh` counts how their work grows with it.
+ghost use Rattle.std.specs.Prelude.{◌≡◌, List, length, IsTrue};
+ghost use Rattle.std.specs.Str.{IsUtf8};
+ghost use Rattle.langtag_scan.specs.Case.{Alike};
+ghost use Rattle.langtag_scan.specs.Subtags.{subtags};
+ghost use Rattle.langtag_scan.specs.Tag.{IsTag, IsNormal};
+ghost use Rattle.langtag_match.specs.AcceptLanguage.{AreElements};
+ghost use Rattle.langtag_match.specs.Fallback.{fallbacks};
+ghost use Rattle.langtag_match.specs.Range.{is_language_range};
+ghost use Rattle.langtag_match.specs.declared.weighted_range.WeightedRange.{WeightedRange};
+
+use crate::matching::{range_of, read_tags, tag_of};
+use langtag::{LangTag, NormalLangTag, NormalLangTagBuf};
+use langtag_match::{AcceptLanguage, LanguageRange, filter_basic, filter_extended};
+use std::alloc::{AllocError, Global};
+
+/// Returns whether the bytes are a tag, and others a text that is equal to it but for case.
+#[unsafe(no_mangle)]
+pub extern "C" fn langtag_bench_eq_str(bytes: &[u8], others: &[u8]) -> bool
+    ensures { IsTrue result → IsTag bytes.now × Alike bytes.now others.now }
+{
+    match (tag_of(bytes), str::from_utf8(others)) {
+        (Some(tag), Ok(other)) => tag.eq_str(other),
+        _ => false,
+    }
+}
+
+/// Returns how many subtags a tag has, and 0 for another text.
+#[unsafe(no_mangle)]
+pub extern "C" fn langtag_bench_subtags(bytes: &[u8]) -> usize
+    ensures { IsTag bytes.now → result ≡ length (subtags bytes.now) }
+{
+    match tag_of(bytes) {
+        Some(tag) => tag.subtags().count(),
+        None => 0,
+    }
+}
+
+/// Walks over the variants, the extensions and the private use subtags of a tag, and returns how many the most numerous of
+/// them are; 0 for another text.
+#[unsafe(no_mangle)]
+pub extern "C" fn langtag_bench_walk(bytes: &[u8]) -> usize
+    ensures { (IsTag bytes.now → ⊥) → result ≡ 0 }
+{
+    let Some(tag) = tag_of(bytes) else {
+        return 0;
+    };
+    let variants = tag.variants().iter().count();
+    let extensions = tag.extensions().iter().count();
+    let private_use = tag.private_use_subtags().count();
+    variants.max(extensions).max(private_use)
+}
+
+/// Returns whether the bytes are a tag, and memory could be had for a copy in its recommended case.
+#[unsafe(no_mangle)]
+pub extern "C" fn langtag_bench_recommended(alloc: Global, bytes: &[u8]) -> bool
+    ensures { IsTrue result → IsTag bytes.now }
+{
+    let Some(tag) = tag_of(bytes) else {
+        return false;
+    };
+    match tag.try_to_recommended_case(alloc) {
+        Ok(owned) => owned.as_lang_tag().is_in_recommended_case(),
+        Err(_) => false,
+    }
+}
+
+/// Returns whether the bytes are a tag, and memory could be had for what is displayed of it in its recommended case.
+#[unsafe(no_mangle)]
+pub extern "C" fn langtag_bench_displayed(alloc: Global, bytes: &[u8]) -> bool
+    ensures { IsTrue result → IsTag bytes.now }
+{
+    let Some(tag) = tag_of(bytes) else {
+        return false;
+    };
+    match format!(in alloc; "{}", tag.in_recommended_case()) {
+        Ok(displayed) => tag.eq_str(displayed.as_str()),
+        Err(_) => false,
+    }
+}
+
+/// Returns whether the bytes are a normal tag, and memory could be had for the same tag made of its parts.
+#[unsafe(no_mangle)]
+pub extern "C" fn langtag_bench_made_of_parts(alloc: Global, bytes: &[u8]) -> bool
+    ensures { IsTrue result → IsNormal bytes.now }
+{
+    let Ok(text) = str::from_utf8(bytes) else {
+        return false;
+    };
+    let Ok(tag) = NormalLangTag::new(text) else {
+        return false;
+    };
+    match made_of_parts(alloc, &tag) {
+        Ok(made) => made.as_normal_lang_tag().eq_str(text),
+        Err(_) => false,
+    }
+}
+
+/// The tag that is made of the parts of another, the last part first.
+fn made_of_parts(alloc: Global, tag: &NormalLangTag<'_>) -> Result<NormalLangTagBuf, AllocError> {
+    let mut made = NormalLangTagBuf::from_parts(alloc, tag.language(), tag.script(), None)?;
+    made.set_private_use(alloc, tag.private_use())?;
+    made.set_extensions(alloc, tag.extensions())?;
+    made.set_variants(alloc, tag.variants())?;
+    made.set_region(alloc, tag.region())?;
+    made.set_language(alloc, tag.language())?;
+    Ok(made)
+}
+
+/// Returns how many fallbacks a range has, and 0 for another text.
+#[unsafe(no_mangle)]
+pub extern "C" fn langtag_bench_fallbacks(bytes: &[u8]) -> usize
+    ensures { IsTrue (is_language_range bytes.now) → result ≡ length (fallbacks bytes.now) }
+{
+    match range_of(bytes) {
+        Some(range) => range.fallbacks().count(),
+        None => 0,
+    }
+}
+
+/// Returns whether memory could be had for the ranges among the bytes, with commas between them, and basic filtering finds
+/// one of the twenty tags.
+#[unsafe(no_mangle)]
+pub extern "C" fn langtag_bench_filter_basic(alloc: Global, bytes: &[u8]) -> bool
+    ensures { IsTrue result → IsUtf8 bytes.now }
+{
+    let (Ok(text), Ok(english)) = (str::from_utf8(bytes), LangTag::new("en")) else {
+        return false;
+    };
+    let mut tags = [english; 20];
+    read_tags(&mut tags);
+    match ranges_of(alloc, text) {
+        Ok(ranges) => filter_basic(ranges.as_slice(), &tags).count() > 0,
+        Err(_) => false,
+    }
+}
+
+/// Returns the same by extended filtering.
+#[unsafe(no_mangle)]
+pub extern "C" fn langtag_bench_filter_extended(alloc: Global, bytes: &[u8]) -> bool
+    ensures { IsTrue result → IsUtf8 bytes.now }
+{
+    let (Ok(text), Ok(english)) = (str::from_utf8(bytes), LangTag::new("en")) else {
+        return false;
+    };
+    let mut tags = [english; 20];
+    read_tags(&mut tags);
+    match ranges_of(alloc, text) {
+        Ok(ranges) => filter_extended(ranges.as_slice(), &tags).count() > 0,
+        Err(_) => false,
+    }
+}
+
+/// The ranges of a text, with commas between them.
+fn ranges_of(alloc: Global, text: &str) -> Result<Vec<LanguageRange<'_>>, AllocError> {
+    let mut ranges = Vec::new(alloc);
+    for item in text.split(',') {
+        if let Ok(range) = LanguageRange::new(item) {
+            ranges.push(range).map_err(AllocError::from)?;
+        }
+    }
+    Ok(ranges)
+}
+
+/// Returns whether the bytes are UTF-8, and memory could be had for the ranges of them as a header; bad ones are passed over.
+#[unsafe(no_mangle)]
+pub extern "C" fn langtag_bench_lenient(alloc: Global, header: &[u8]) -> bool
+    ensures { IsTrue result → (ordered : List WeightedRange) × AreElements header.now ordered }
+{
+    match str::from_utf8(header) {
+        Ok(header) => AcceptLanguage::lenient(alloc, header).is_ok(),
+        Err(_) => false,
+    }
+}
