@@ -1,13 +1,13 @@
 #!/usr/bin/env bash
-# Fails where a call of langtag or langtag_match takes over 2.2 times the instructions for twice the text, where one of their
-# functions calls itself, and where one has no fixed size on the stack. It needs rt, cc, valgrind with its headers, and objdump.
+# Fails where a call of langtag or langtag_match takes over 2.2 times the instructions for twice the text, and where a function
+# that such a call reaches calls itself or has a frame of no fixed size. It needs rt, cc, objdump, and valgrind with its headers.
 set -euo pipefail
 here=$(cd "$(dirname "$0")" && pwd)
 target=$here/target
 crate=$here/../crates/langtag_bench
 mkdir -p "$target"
 
-(cd "$crate" && rt lib >&2)
+(cd "$crate" && rt lib) >"$target/lib.log" 2>&1 || { tail -20 "$target/lib.log"; exit 1; }
 "$here/../.ci/stack" "$crate/out/liblangtag_bench.a"
 # The heap of the library is the toolchain's, over malloc.
 cc -std=c11 -O2 -Wall -Wextra "$here/src/growth.c" "$crate/out/liblangtag_bench.a" "$(dirname "$(rt doc)")/c/liblibc_c.a" \

@@ -27,6 +27,7 @@ size_t langtag_bench_walk(const char *bytes, size_t len);
 bool langtag_bench_recommended(const char *bytes, size_t len);
 bool langtag_bench_displayed(const char *bytes, size_t len);
 bool langtag_bench_made_of_parts(const char *bytes, size_t len);
+bool langtag_bench_part(const char *bytes, size_t len);
 bool langtag_bench_pair(const char *range, size_t range_len, const char *tag, size_t tag_len);
 bool langtag_bench_matches_basic(const char *range, size_t range_len, const char *tag, size_t tag_len);
 bool langtag_bench_matches_extended(const char *range, size_t range_len, const char *tag, size_t tag_len);
@@ -54,6 +55,9 @@ FUNCTION(walk, result = langtag_bench_walk(text, len))
 FUNCTION(recommended, result = langtag_bench_recommended(text, len))
 FUNCTION(displayed, result = langtag_bench_displayed(text, len))
 FUNCTION(made_of_parts, result = langtag_bench_made_of_parts(text, len))
+/* What stands after the first hyphen is a part, where there is one. */
+FUNCTION(part, char *rest = memchr(text, '-', len);
+         if (rest) result = langtag_bench_part(rest + 1, text + len - rest - 1))
 FUNCTION(pair, result = langtag_bench_pair(text, len, other, len))
 FUNCTION(matches_basic, result = langtag_bench_matches_basic(text, len, other, len))
 FUNCTION(matches_extended, result = langtag_bench_matches_extended(text, len, other, len))
@@ -82,6 +86,7 @@ static const struct function functions[] = {
     ENTRY(recommended),
     ENTRY(displayed),
     ENTRY(made_of_parts),
+    ENTRY(part),
     ENTRY(pair),
     ENTRY(matches_basic),
     ENTRY(matches_extended),

@@ -10,7 +10,13 @@ ghost use Rattle.langtag_match.specs.Range.{is_language_range};
 ghost use Rattle.langtag_match.specs.declared.weighted_range.WeightedRange.{WeightedRange};
 
 use crate::matching::{range_of, read_tags, tag_of};
-use langtag::{LangTag, NormalLangTag, NormalLangTagBuf};
+use langtag::{
+    ExtendedLangTag, ExtendedLangTagBuf, Extension, ExtensionBuf, ExtensionSubtag,
+    ExtensionSubtagBuf, Extensions, ExtensionsBuf, LangTag, LangTagBuf, Language, LanguageBuf,
+    LanguageExtension, LanguageExtensionBuf, NormalLangTag, NormalLangTagBuf, PrimaryLanguage,
+    PrimaryLanguageBuf, PrivateUse, PrivateUseBuf, PrivateUseSubtag, PrivateUseSubtagBuf, Region,
+    RegionBuf, Script, ScriptBuf, Variant, VariantBuf, Variants, VariantsBuf,
+};
 use langtag_match::{AcceptLanguage, LanguageRange, filter_basic, filter_extended};
 use std::alloc::{AllocError, Global};
 
@@ -65,7 +71,8 @@ pub extern "C" fn langtag_bench_recommended(alloc: Global, bytes: &[u8]) -> bool
     }
 }
 
-/// Returns whether the bytes are a tag, and memory could be had for what is displayed of it in its recommended case.
+/// Returns whether the bytes are a tag, and memory could be had for what is displayed of it in its recommended case, which
+/// is read again.
 #[unsafe(no_mangle)]
 pub extern "C" fn langtag_bench_displayed(alloc: Global, bytes: &[u8]) -> bool
     ensures { IsTrue result → IsTag bytes.now }
@@ -73,8 +80,11 @@ pub extern "C" fn langtag_bench_displayed(alloc: Global, bytes: &[u8]) -> bool
     let Some(tag) = tag_of(bytes) else {
         return false;
     };
-    match format!(in alloc; "{}", tag.in_recommended_case()) {
-        Ok(displayed) => tag.eq_str(displayed.as_str()),
+    let Ok(displayed) = format!(in alloc; "{}", tag.in_recommended_case()) else {
+        return false;
+    };
+    match LangTagBuf::new(displayed) {
+        Ok(owned) => owned.as_lang_tag() == tag,
         Err(_) => false,
     }
 }
@@ -91,7 +101,8 @@ pub extern "C" fn langtag_bench_made_of_parts(alloc: Global, bytes: &[u8]) -> bo
         return false;
     };
     match made_of_parts(alloc, &tag) {
-        Ok(made) => made.as_normal_lang_tag().eq_str(text),
+        Ok(made) => NormalLangTagBuf::new(made.into_string()).is_ok_and(|read| read.as_str()
+            == text),
         Err(_) => false,
     }
 }
@@ -105,6 +116,54 @@ fn made_of_parts(alloc: Global, tag: &NormalLangTag<'_>) -> Result<NormalLangTag
     made.set_region(alloc, tag.region())?;
     made.set_language(alloc, tag.language())?;
     Ok(made)
+}
+
+/// Returns whether the bytes are a part of a tag, by the types that lend it, and by the owned ones, as far as memory can be
+/// had.
+#[unsafe(no_mangle)]
+pub extern "C" fn langtag_bench_part(alloc: Global, bytes: &[u8]) -> bool
+    ensures { IsTrue result → IsUtf8 bytes.now }
+{
+    let Ok(text) = str::from_utf8(bytes) else {
+        return false;
+    };
+    is_lent_part(text) && is_owned_part(alloc, text).unwrap_or(false)
+}
+
+/// Returns whether a text is a part of a tag, by the types that lend it.
+fn is_lent_part(text: &str) -> bool {
+    PrimaryLanguage::new(text).is_ok()
+        || ExtendedLangTag::new(text).is_ok()
+        || Language::new(text).is_ok()
+        || LanguageExtension::new(text).is_ok()
+        || Script::new(text).is_ok()
+        || Region::new(text).is_ok()
+        || Variant::new(text).is_ok()
+        || Variants::new(text).is_ok()
+        || ExtensionSubtag::new(text).is_ok()
+        || Extension::new(text).is_ok()
+        || Extensions::new(text).is_ok()
+        || PrivateUseSubtag::new(text).is_ok()
+        || PrivateUse::new(text).is_ok()
+}
+
+/// Returns the same by the owned types.
+fn is_owned_part(alloc: Global, text: &str) -> Result<bool, AllocError> {
+    Ok(
+        PrimaryLanguageBuf::new(String::from_str(alloc, text)?).is_ok()
+            || ExtendedLangTagBuf::new(String::from_str(alloc, text)?).is_ok()
+            || LanguageBuf::new(String::from_str(alloc, text)?).is_ok()
+            || LanguageExtensionBuf::new(String::from_str(alloc, text)?).is_ok()
+            || ScriptBuf::new(String::from_str(alloc, text)?).is_ok()
+            || RegionBuf::new(String::from_str(alloc, text)?).is_ok()
+            || VariantBuf::new(String::from_str(alloc, text)?).is_ok()
+            || VariantsBuf::new(String::from_str(alloc, text)?).is_ok()
+            || ExtensionSubtagBuf::new(String::from_str(alloc, text)?).is_ok()
+            || ExtensionBuf::new(String::from_str(alloc, text)?).is_ok()
+            || ExtensionsBuf::new(String::from_str(alloc, text)?).is_ok()
+            || PrivateUseSubtagBuf::new(String::from_str(alloc, text)?).is_ok()
+            || PrivateUseBuf::new(String::from_str(alloc, text)?).is_ok(),
+    )
 }
 
 /// Returns how many fallbacks a range has, and 0 for another text.
