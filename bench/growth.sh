@@ -1,6 +1,6 @@
 #!/usr/bin/env bash
-# Fails where a call of langtag or langtag_match takes over 2.2 times the instructions for twice the text, and where a function
-# that such a call reaches calls itself or has a frame of no fixed size. It needs rt, cc, objdump, and valgrind with its headers.
+# Fails where a call of langtag or langtag_match takes over 2.2 times the instructions for twice the text, and where a
+# function that it reaches calls itself or has a frame of no fixed size. It needs rt, cc, objdump, valgrind and its headers.
 set -euo pipefail
 here=$(cd "$(dirname "$0")" && pwd)
 target=$here/target

@@ -1,6 +1,6 @@
 #!/usr/bin/env python3
 """Fails where a function's instructions grow faster than its text: growth.py PROGRAM FILE.., under valgrind. The files, a
-header or sources of Rattle, declare the functions that the program has to call."""
+header or sources of Rattle, declare the functions that the program has to call. Work that is done twice is not seen so."""
 import glob
 import re
 import subprocess
@@ -24,7 +24,8 @@ def main(program, *files):
             if label:
                 total = re.search(r"(?m)^(?:summary|totals): (\d+)", text)
                 counts.setdefault((label[1], label[2]), {})[label[3]] = int(total[1])
-    declared = {name for path in files for names in DECLARED.findall(open(path, encoding="utf-8").read()) for name in names if name}
+    texts = [open(path, encoding="utf-8").read() for path in files]
+    declared = {name for text in texts for names in DECLARED.findall(text) for name in names if name}
     missing = declared - {function for function, _ in counts}
     faults = [f"{it} is not called" for it in sorted(missing)]
     for (function, shape), count in sorted(counts.items()):

@@ -221,7 +221,7 @@ fn ranges_of(alloc: Global, text: &str) -> Result<Vec<LanguageRange<'_>>, AllocE
     Ok(ranges)
 }
 
-/// Returns whether the bytes are UTF-8, and memory could be had for the ranges of them as a header; bad ones are passed over.
+/// Returns whether the bytes are UTF-8, and memory could be had for the ranges that they have as a header.
 #[unsafe(no_mangle)]
 pub extern "C" fn langtag_bench_lenient(alloc: Global, header: &[u8]) -> bool
     ensures { IsTrue result → (ordered : List WeightedRange) × AreElements header.now ordered }
