@@ -29,7 +29,8 @@ fn check_lengths(rt: &impl Abort, alloc: Global) -> Result<(), AllocError> {
     for len in 0..=300 {
         check_length(rt, alloc, len)?;
     }
-    check_length(rt, alloc, 3_000_000)
+    let header = format!(in alloc; "{}de-ch-1996", " ".repeat(alloc, 3_000_000)?)?;
+    check_request(rt, alloc, Some(header.as_str()), "de-CH")
 }
 
 const CASES: [(Option<&str>, &str); 5] = [
