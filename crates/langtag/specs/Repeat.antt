@@ -6,20 +6,20 @@ use Rattle.std.specs.Option.{option_and_then}
 use Rattle.langtag_scan.specs.Case.{fold_byte}
 
 module _ {A : Type 0} (alike : A → A → Bool) where
-  -- the index, in `seen` and these together, of the first of these that is alike one before it, or none
+  -- the index, in `seen` and these together, of the first of these that equals one before it by `alike`, or none
   abbrev pub repeat_index_after : List A → List A → Option ℕ
   repeat_index_after seen [] = None
   repeat_index_after seen (x ∷ xs) = if list_any (alike x) seen then Some (length seen) else repeat_index_after (seen ++ x ∷ []) xs
 
-  -- the index of the first member that is alike an earlier one, or none
+  -- the index of the first member that equals an earlier one by `alike`, or none
   abbrev pub repeat_index : List A → Option ℕ
   repeat_index xs = repeat_index_after [] xs
 
-  -- the first member that is alike an earlier one, or none
+  -- the first member that equals an earlier one by `alike`, or none
   abbrev pub repeat : List A → Option A
   repeat xs = option_and_then (slice_get xs) (repeat_index xs)
 
-  -- what that means: it is alike an earlier member, and no two members before it are alike; or no two members are
+  -- what that means: it equals an earlier member by `alike`, and no two members before it do; or no two members do
   abbrev pub IsFirstRepeat : List A → Option A → Type 0
   IsFirstRepeat xs None = AllPairs (λ y x. alike x y ≡ false) xs
   IsFirstRepeat xs (Some x) = (before : List A) × (after : List A) × (xs ≡ before ++ x ∷ after) × AllPairs (λ y z. alike z y ≡ false) before × Any (λ y. alike x y ≡ true) before

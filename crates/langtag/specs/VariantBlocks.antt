@@ -9,7 +9,7 @@ use Rattle.langtag.specs.Repeat.{repeat_index}
 abbrev pub folded_number : List ℕ → ℕ
 folded_number text = fold (λ number byte. number * 256 + fold_byte byte) 0 text
 
--- no text before an index is alike an earlier one
+-- no text before an index equals an earlier one, ignoring case
 abbrev pub HasNoRepeatBefore : ℕ → List (List ℕ) → Type 0
 HasNoRepeatBefore end texts = (i : ℕ) → i < end → list_any (are_alike (slice_index_or texts i [])) (take i texts) ≡ false
 

@@ -149,8 +149,9 @@ impl GrandfatheredLangTag {
     /// Returns the grandfathered tag with these bytes, in any case: `GrandfatheredLangTag::new(b"I-AMI")` is
     /// `Ok(GrandfatheredLangTag::IAmi)`.
     ///
-    /// Its contract also has the laws that no bytes are alike two of them, that all of them are tags, that they compare and
-    /// are hashed as their indices, that a clone is the value itself, and that [`GRANDFATHERED`] has each at its index.
+    /// Its contract also has the laws that no bytes equal two of them, ignoring case, that all of them are tags, that they
+    /// compare and are hashed as their indices, that a clone is the value itself, and that [`GRANDFATHERED`] has each at
+    /// its index.
     ///
     /// # Errors
     ///

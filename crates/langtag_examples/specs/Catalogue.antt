@@ -7,6 +7,6 @@ use Rattle.langtag.specs.Case.{are_alike}
 use Rattle.langtag.specs.Text.{lang_tag_buf_text}
 use Rattle.langtag_examples.specs.declared.catalogue.Catalogue.{Catalogue}
 
--- the text for the tag that is alike these bytes
+-- the text for the tag that equals these bytes, ignoring case
 abbrev pub text_for : Catalogue → List ℕ → Option (List ℕ)
 text_for catalogue tag = option_map string_bytes (lookup (λ key. are_alike tag (lang_tag_buf_text key)) catalogue.texts.entries)

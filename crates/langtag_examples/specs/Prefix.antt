@@ -4,7 +4,7 @@ use Rattle.langtag.specs.Case.{Alike}
 use Rattle.langtag.specs.Text.{lang_tag_text}
 use Rattle.langtag.specs.declared.lang_tag.LangTag.{LangTag}
 
--- the text is alike the part, or begins alike it and has a hyphen next
+-- the text equals the part, ignoring case, or begins with it and has a hyphen next
 abbrev pub IsPrefix : List ℕ → List ℕ → Type 0
 IsPrefix part text = Alike part text ⊎ ((slice_get text (length part) ≡ Some 45) × Alike part (take (length part) text))
 

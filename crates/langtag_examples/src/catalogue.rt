@@ -1,6 +1,6 @@
 //! Texts by language tag.
-ghost use Rattle.std.specs.Prelude.{◌≡◌, ℕ, List, Some, None, OnOk, OnErr, IfOk, IsTrue, false};
-ghost use Rattle.std.specs.Option.{option_map};
+ghost use Rattle.std.specs.Prelude.{◌≡◌, ℕ, List, Some, None, OnOk, OnErr, IfOk, IsTrue, false, is_some};
+ghost use Rattle.std.specs.Option.{option_map, option_or};
 ghost use Rattle.std.specs.String.{string_bytes};
 ghost use Rattle.langtag.specs.Case.{are_alike};
 ghost use Rattle.langtag.specs.Tag.{IsTag};
@@ -45,6 +45,35 @@ impl Catalogue {
     {
         self.texts.insert(tag, text)?;
         Ok(())
+    }
+
+    /// Moves the text for a tag to another tag, in the place of that one's, and returns whether there was one: after
+    /// `rename(&iw, he)` the text for `iw` is that for `he`.
+    ///
+    /// The room comes first: a text that was taken out before it would be lost where there is none.
+    ///
+    /// # Errors
+    ///
+    /// Out of memory. The catalogue is as it was.
+    pub fn rename(&mut self, tag: &LangTagBuf, new: LangTagBuf) -> Result<bool, AllocError>
+        ensures found { IfOk result (λ found. found ≡ is_some (text_for self.old (lang_tag_buf_text tag.now))) }
+        ensures moved { OnOk result ((other : LangTagBuf) → IsTrue (are_alike (lang_tag_buf_text new) (lang_tag_buf_text other)) →
+            text_for self.new (lang_tag_buf_text other) ≡ option_or (text_for self.old (lang_tag_buf_text tag.now)) (text_for self.old (lang_tag_buf_text other))) }
+        ensures gone { OnOk result ((other : LangTagBuf) → IsTrue (are_alike (lang_tag_buf_text tag.now) (lang_tag_buf_text other)) →
+            are_alike (lang_tag_buf_text new) (lang_tag_buf_text other) ≡ false → text_for self.new (lang_tag_buf_text other) ≡ None) }
+        ensures others { OnOk result ((other : LangTagBuf) → are_alike (lang_tag_buf_text tag.now) (lang_tag_buf_text other) ≡ false →
+            are_alike (lang_tag_buf_text new) (lang_tag_buf_text other) ≡ false →
+            text_for self.new (lang_tag_buf_text other) ≡ text_for self.old (lang_tag_buf_text other)) }
+        ensures unchanged { OnErr result ((other : LangTagBuf) → text_for self.new (lang_tag_buf_text other) ≡ text_for self.old (lang_tag_buf_text other)) }
+    {
+        self.texts.reserve(1)?;
+        let Some(text) = self.texts.remove(tag) else {
+            return Ok(false);
+        };
+        let Ok(_) = self.texts.insert(new, text) else {
+            unreachable!()
+        };
+        Ok(true)
     }
 
     /// Returns the text for a tag: that of `fr` is found by the tag `FR`, and not by `fr-CH`.

@@ -25,7 +25,7 @@ has_at text index b = nat_lt index (length text) && (slice_index text index == b
 abbrev pub is_within : ℕ → ℕ → ℕ → Bool
 is_within low high k = nat_le low k && nat_lt k high
 
--- whether a text that is alike the irregular one at an index of the table may begin with a prefix
+-- whether a text that equals the irregular one at an index of the table, ignoring case, may begin with a prefix
 abbrev pub is_possible : List ℕ → ℕ → Bool
 is_possible p k = is_prefix (fold_text p) (folded_at k)
 
@@ -34,6 +34,6 @@ is_possible p k = is_prefix (fold_text p) (folded_at k)
 abbrev pub matters : ℕ → ℕ → Bool
 matters len k = (len == 9) || is_within 1 14 k
 
--- whether it does, and a text with this prefix may be alike it
+-- whether it has to be, and a text with this prefix may equal the irregular one, ignoring case
 abbrev pub is_candidate : ℕ → List ℕ → ℕ → Bool
 is_candidate len p k = matters len k && is_possible p k

@@ -13,11 +13,11 @@ IsNormal t = (r : Record) × Spells r t
 unfoldable pub IsPrivate : List ℕ → Type 0
 IsPrivate t = (p : PrivateUse) × IsWellFormedPrivateUse p × (join (private_use_flat p) ≡ t)
 
--- the text is alike the irregular one at an index of the table
+-- the text equals the irregular one at an index of the table, ignoring case
 unfoldable pub IsIrregularAt : ℕ → List ℕ → Type 0
 IsIrregularAt k t = (name : List ℕ) × (slice_get irregular_texts k ≡ Some name) × Alike name t
 
--- the text is alike some irregular one
+-- the text equals some irregular one, ignoring case
 unfoldable pub IsIrregular : List ℕ → Type 0
 IsIrregular t = (k : ℕ) × IsIrregularAt k t
 

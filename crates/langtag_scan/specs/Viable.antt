@@ -30,6 +30,6 @@ filling s = replicate (5 - length s) 97
 abbrev pub fill : List ℕ → List ℕ
 fill p = p ++ filling (after_last is_hyphen p)
 
--- the text is alike a prefix of an irregular one
+-- the text equals a prefix of an irregular one, ignoring case
 unfoldable pub IsIrregularPrefix : List ℕ → Type 0
 IsIrregularPrefix p = (index : ℕ) × (name : List ℕ) × (slice_get irregular_texts index ≡ Some name) × Alike p (take (length p) name)
