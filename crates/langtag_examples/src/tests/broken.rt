@@ -1,36 +1,44 @@
-//! Where texts break.
+//! Where texts break, and how a break is told.
+use super::check_answers;
 use crate::tag_or_break;
-use std::test::Fail;
+use std::alloc::{AllocError, Global};
 
-#[test]
-fn a_text_breaks_after_what_begins_a_tag(rt: HostRuntime) -> Result<(), Fail> {
-    let cases = [
-        ("zh_Hant", 2),
-        ("en-", 3),
-        ("e1", 1),
-        ("", 0),
-        ("de-Latn-x", 9),
-        ("i-notexist", 3),
-    ];
-    for (text, begun) in cases {
-        match tag_or_break(text) {
-            Ok(_) => assert_that!(rt; false, text),
-            Err(error) => assert_same!(rt; error.begun, begun, text),
-        }
+fn told(alloc: Global, text: &str) -> Result<String, AllocError> {
+    match tag_or_break(text) {
+        Ok(tag) => String::from_str(alloc, tag.as_str()),
+        Err(error) => error.to_string(alloc),
     }
-    Ok(())
 }
 
+const CASES: &[(&str, &str)] = &[
+    ("zh-Hant", "zh-Hant"),
+    (
+        "zh_Hant",
+        "no language tag can begin with more than the first 2 bytes of 'zh_Hant'",
+    ),
+    (
+        "en-",
+        "no language tag can begin with more than the first 3 bytes of 'en-'",
+    ),
+    (
+        "e1",
+        "no language tag can begin with more than the first 1 bytes of 'e1'",
+    ),
+    (
+        "",
+        "no language tag can begin with more than the first 0 bytes of ''",
+    ),
+    (
+        "de-Latn-x",
+        "no language tag can begin with more than the first 9 bytes of 'de-Latn-x'",
+    ),
+    (
+        "i-notexist",
+        "no language tag can begin with more than the first 3 bytes of 'i-notexist'",
+    ),
+];
+
 #[test]
-fn a_break_is_told_in_words(rt: HostRuntime) -> Result<(), Fail> {
-    assert_that!(rt; tag_or_break("zh-Hant").is_ok());
-    let Err(error) = tag_or_break("zh_Hant") else {
-        return Ok(assert_that!(rt; false, "no tag"));
-    };
-    let told = format!(in rt.alloc(); "{error}")?;
-    assert_same!(rt;
-        told.as_str(),
-        "no language tag can begin with more than the first 2 bytes of 'zh_Hant'"
-    );
-    Ok(())
+fn a_text_breaks_after_what_begins_a_tag(rt: HostRuntime) {
+    with_memory!(rt, check_answers(&rt, rt.alloc(), CASES, told));
 }

@@ -1,43 +1,57 @@
-//! The catalogue.
+//! The catalogue: `put` and `find` want memory, and have it for each tag.
+use super::{expect_true, owned_tag, private_text};
 use crate::Catalogue;
-use langtag::LangTagBuf;
 use std::alloc::{AllocError, Global};
 use std::process::Abort;
-use std::test::Fail;
 
-fn tag(rt: &impl Abort, alloc: Global, text: &str) -> Result<LangTagBuf, AllocError> {
-    let tag = LangTagBuf::new(String::from_str(alloc, text)?);
-    Ok(tag.ok().expect(rt, "a tag"))
+/// A tag's own text is put in for it, found and had.
+fn check_tag(
+    rt: &impl Abort,
+    alloc: Global,
+    catalogue: &mut Catalogue,
+    text: &str,
+) -> Result<(), AllocError> {
+    catalogue.put(owned_tag(rt, alloc, text)?, String::from_str(alloc, text)?)?;
+    let found = catalogue.find(alloc, text)?;
+    expect_true(rt, found == Some(text), text);
+    let tag = owned_tag(rt, alloc, text)?;
+    expect_true(rt, catalogue.get(&tag) == Some(text), text);
+    Ok(())
 }
 
-fn are_found_in_any_case(rt: &impl Abort, alloc: Global) -> Result<(), AllocError> {
+/// Tags of each length, and of three million bytes.
+fn check_lengths(rt: &impl Abort, alloc: Global) -> Result<(), AllocError> {
     let mut catalogue = Catalogue::new(alloc);
-    assert_same!(rt; catalogue.find(alloc, "fr")?, None);
-    for (language, text) in [
-        ("de-CH", "Grüezi"),
-        ("fr", "Salut"),
-        ("i-klingon", "nuqneH"),
-        ("DE-ch", "Hoi"),
-    ] {
-        catalogue.put(tag(rt, alloc, language)?, String::from_str(alloc, text)?)?;
+    for len in 3..=300 {
+        let text = private_text(alloc, len)?;
+        check_tag(rt, alloc, &mut catalogue, text.as_str())?;
     }
-    let cases = [
-        ("de-CH", Some("Hoi")),
-        ("dE-cH", Some("Hoi")),
-        ("FR", Some("Salut")),
-        ("I-KLINGON", Some("nuqneH")),
-        ("de", None),
-        ("de-CH-1996", None),
-        ("de_CH", None),
-        ("", None),
-        ("ÿ", None),
-    ];
-    for (text, found) in cases {
-        assert_same!(rt; catalogue.find(alloc, text)?, found, text);
-    }
-    assert_same!(rt; catalogue.get(&tag(rt, alloc, "Fr")?), Some("Salut"));
-    assert_same!(rt; catalogue.get(&tag(rt, alloc, "fr-CH")?), None);
+    let text = private_text(alloc, 3_000_000)?;
+    check_tag(rt, alloc, &mut catalogue, text.as_str())
+}
+
+/// The text for `iw` becomes that for `he`, and stays where it is renamed to the same tag.
+fn check_renamed(rt: &impl Abort, alloc: Global) -> Result<(), AllocError> {
+    let mut catalogue = Catalogue::new(alloc);
+    catalogue.put(
+        owned_tag(rt, alloc, "iw")?,
+        String::from_str(alloc, "Shalom")?,
+    )?;
+    let renamed = catalogue.rename(&owned_tag(rt, alloc, "IW")?, owned_tag(rt, alloc, "he")?)?;
+    expect_true(rt, renamed, "IW");
+    expect_true(rt, catalogue.find(alloc, "iw")?.is_none(), "iw");
+    expect_true(rt, catalogue.find(alloc, "HE")? == Some("Shalom"), "HE");
+    let renamed = catalogue.rename(&owned_tag(rt, alloc, "he")?, owned_tag(rt, alloc, "He")?)?;
+    expect_true(rt, renamed, "he");
+    expect_true(rt, catalogue.find(alloc, "he")? == Some("Shalom"), "he");
+    let renamed = catalogue.rename(&owned_tag(rt, alloc, "fr")?, owned_tag(rt, alloc, "he")?)?;
+    expect_true(rt, !renamed, "fr");
     Ok(())
+}
+
+#[test]
+fn a_text_is_moved_to_another_tag(rt: HostRuntime) {
+    with_memory!(rt, check_renamed(&rt, rt.alloc()));
 }
 
 #[test]
@@ -107,17 +121,23 @@ fn are_kept(rt: &impl Abort, alloc: Global) -> Result<(), AllocError> {
     let mut catalogue = Catalogue::new(alloc);
     for number in 0..1000_u32 {
         let text = format!(in alloc; "x-{number}")?;
-        catalogue.put(tag(rt, alloc, text.as_str())?, text)?;
-    }
-    for number in 0..1000_u32 {
-        let text = format!(in alloc; "x-{number}")?;
-        assert_same!(rt; catalogue.find(alloc, text.as_str())?, Some(text.as_str()));
+        check_tag(rt, alloc, &mut catalogue, text.as_str())?;
+        let text = format!(in alloc; "x_{number}")?;
+        expect_true(
+            rt,
+            catalogue.find(alloc, text.as_str())?.is_none(),
+            "no tag",
+        );
     }
     Ok(())
 }
 
 #[test]
-fn many_tags_are_kept(rt: HostRuntime) -> Result<(), Fail> {
-    once_more!(are_kept(&rt, rt.alloc()))?;
-    Ok(())
+fn tags_of_each_length_are_kept(rt: HostRuntime) {
+    with_memory!(rt, check_lengths(&rt, rt.alloc()));
+}
+
+#[test]
+fn many_tags_are_kept(rt: HostRuntime) {
+    with_memory!(rt, check_many(&rt, rt.alloc()));
 }

@@ -1,10 +1,10 @@
 //! Literals of RDF.
+use super::{expect_true, tag};
 use crate::Literal;
-use langtag::LangTag;
 use std::alloc::{AllocError, Global};
 use std::collections::HashSet;
 use std::hash::{DefaultHasher, Hash, Hasher};
-use std::test::Fail;
+use std::process::Abort;
 
 fn hash_of(literal: Literal<'_>) -> u64 {
     let mut hasher = DefaultHasher::new();
@@ -12,60 +12,33 @@ fn hash_of(literal: Literal<'_>) -> u64 {
     hasher.finish()
 }
 
-/// How many literals of one text a set keeps.
-fn count(alloc: Global, languages: &[LangTag<'_>]) -> Result<usize, AllocError> {
-    let mut literals = HashSet::new(alloc);
-    for language in languages {
-        literals.insert(Literal {
-            text: "color",
-            language: *language,
-        })?;
+/// Literals, and whether they are the same as `color` in `en-us`.
+const CASES: [(&str, &str, bool); 3] = [
+    ("color", "en-US", true),
+    ("Color", "en-us", false),
+    ("color", "en-GB", false),
+];
+
+/// Literals are compared and hashed, and a set keeps one of those that are the same.
+fn check_literals(rt: &impl Abort, alloc: Global) -> Result<(), AllocError> {
+    let color = Literal {
+        text: "color",
+        language: tag(rt, "en-us"),
+    };
+    for (text, language, wanted) in CASES {
+        let language = tag(rt, language);
+        let other = Literal { text, language };
+        expect_true(rt, color.is_same(&other) == wanted, text);
+        expect_true(rt, (hash_of(color) == hash_of(other)) == wanted, text);
+        let mut literals = HashSet::new(alloc);
+        literals.insert(color)?;
+        literals.insert(other)?;
+        expect_true(rt, (literals.len() == 1) == wanted, text);
     }
-    Ok(literals.len())
+    Ok(())
 }
 
 #[test]
-fn tags_are_compared_without_case_and_texts_with_it(rt: HostRuntime) -> Result<(), Fail> {
-    let small = LangTag::new("en-us").ok().ok_or("refused")?;
-    let capital = LangTag::new("en-US").ok().ok_or("refused")?;
-    let british = LangTag::new("en-GB").ok().ok_or("refused")?;
-    let color = Literal {
-        text: "color",
-        language: small,
-    };
-    assert_that!(rt;
-        color.is_same(&Literal {
-            text: "color",
-            language: capital
-        })
-    );
-    assert_that!(rt;
-        !color.is_same(&Literal {
-            text: "Color",
-            language: small
-        })
-    );
-    assert_that!(rt;
-        !color.is_same(&Literal {
-            text: "color",
-            language: british
-        })
-    );
-    assert_that!(rt;
-        hash_of(color)
-            != hash_of(Literal {
-                text: "Color",
-                language: small
-            })
-    );
-    assert_that!(rt;
-        hash_of(color)
-            != hash_of(Literal {
-                text: "color",
-                language: british
-            })
-    );
-    let literals = once_more!(count(rt.alloc(), &[small, capital, british]));
-    assert_same!(rt; literals, Ok(2));
-    Ok(())
+fn tags_are_compared_without_case_and_texts_with_it(rt: HostRuntime) {
+    with_memory!(rt, check_literals(&rt, rt.alloc()));
 }

@@ -1,37 +1,31 @@
 //! The longest tag that another begins with.
+use super::{expect_text, tag};
 use crate::longest_prefix;
-use langtag::LangTag;
-use std::test::Fail;
+
+const CASES: [(&str, &str); 7] = [
+    ("zh-Hant-TW", "zh-hanT"),
+    ("zh-Hant", "zh-hanT"),
+    ("zh-Hans", "ZH"),
+    ("zh", "ZH"),
+    ("zh-ha", "zh-Ha"),
+    ("den", "none"),
+    ("x-de", "none"),
+];
 
 #[test]
-fn prefixes_are_of_whole_subtags(rt: HostRuntime) -> Result<(), Fail> {
+fn prefixes_are_of_whole_subtags(rt: HostRuntime) {
     let tags = [
-        LangTag::new("de")?,
-        LangTag::new("ZH")?,
-        LangTag::new("zh-hanT")?,
-        LangTag::new("zh-Ha")?,
-        LangTag::new("ZH-HANT")?,
+        tag(&rt, "de"),
+        tag(&rt, "ZH"),
+        tag(&rt, "zh-hanT"),
+        tag(&rt, "zh-Ha"),
+        tag(&rt, "ZH-HANT"),
     ];
-    let cases = [
-        ("zh-Hant-TW", Some("zh-hanT")),
-        ("zh-Hant", Some("zh-hanT")),
-        ("zh-Hans", Some("ZH")),
-        ("zh", Some("ZH")),
-        ("zh-ha", Some("zh-Ha")),
-        ("den", None),
-        ("x-de", None),
-    ];
-    for (text, expected) in cases {
-        let wanted = LangTag::new(text)?;
-        let found = longest_prefix(&tags, &wanted).map(|tag| tag.as_str());
-        assert_same!(rt; found, expected, text);
+    for (text, wanted) in CASES {
+        let found = match longest_prefix(&tags, &tag(&rt, text)) {
+            Some(tag) => tag.as_str(),
+            None => "none",
+        };
+        expect_text(&rt, found, wanted, text);
     }
-    Ok(())
-}
-
-#[test]
-fn no_tag_is_a_prefix_where_none_is_at_hand(rt: HostRuntime) -> Result<(), Fail> {
-    let wanted = LangTag::new("de")?;
-    assert_that!(rt; longest_prefix(&[], &wanted).is_none());
-    Ok(())
 }

@@ -1,7 +1,37 @@
 //! The language to answer a request in.
+use super::{expect_text, tag};
 use crate::tag_for_request;
-use langtag::LangTag;
-use std::test::Fail;
+use std::alloc::{AllocError, Global};
+use std::process::Abort;
+
+fn check_request(
+    rt: &impl Abort,
+    alloc: Global,
+    header: Option<&str>,
+    wanted: &str,
+) -> Result<(), AllocError> {
+    let (english, german) = (tag(rt, "en"), tag(rt, "de-CH"));
+    let chosen = tag_for_request(alloc, header, &[english, german], english)?;
+    expect_text(rt, chosen.as_str(), wanted, "request");
+    Ok(())
+}
+
+/// A header of a length, and one that cannot be read.
+fn check_length(rt: &impl Abort, alloc: Global, len: usize) -> Result<(), AllocError> {
+    let header = format!(in alloc; "{}de-ch-1996", " ".repeat(alloc, len)?)?;
+    check_request(rt, alloc, Some(header.as_str()), "de-CH")?;
+    let header = format!(in alloc; "de-CH{}?", ",".repeat(alloc, len)?)?;
+    check_request(rt, alloc, Some(header.as_str()), "en")
+}
+
+/// Headers of each length, and of three million bytes.
+fn check_lengths(rt: &impl Abort, alloc: Global) -> Result<(), AllocError> {
+    for len in 0..=300 {
+        check_length(rt, alloc, len)?;
+    }
+    let header = format!(in alloc; "{}de-ch-1996", " ".repeat(alloc, 3_000_000)?)?;
+    check_request(rt, alloc, Some(header.as_str()), "de-CH")
+}
 
 const CASES: [(Option<&str>, &str); 5] = [
     (None, "en"),
@@ -11,13 +41,15 @@ const CASES: [(Option<&str>, &str); 5] = [
     (Some("de-CH, fr_FR"), "en"),
 ];
 
-#[test]
-fn requests_are_answered(rt: HostRuntime) -> Result<(), Fail> {
-    let english = LangTag::new("en").ok().ok_or("refused")?;
-    let tags = [english, LangTag::new("de-CH").ok().ok_or("refused")?];
-    for (header, tag) in CASES {
-        let chosen = once_more!(tag_for_request(rt.alloc(), header, &tags, english))?;
-        assert_same!(rt; chosen.as_str(), tag, header);
+fn check_cases(rt: &impl Abort, alloc: Global) -> Result<(), AllocError> {
+    for (header, wanted) in CASES {
+        check_request(rt, alloc, header, wanted)?;
     }
     Ok(())
+}
+
+#[test]
+fn requests_are_answered(rt: HostRuntime) {
+    with_memory!(rt, check_cases(&rt, rt.alloc()));
+    with_memory!(rt, check_lengths(&rt, rt.alloc()));
 }
