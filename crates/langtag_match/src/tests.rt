@@ -2,6 +2,7 @@
 use crate::LanguageRange;
 use langtag::LangTag;
 use std::alloc::{AllocError, Global};
+use std::fmt::Debug;
 use std::process::Abort;
 
 /// Makes a call that takes memory, and again where it was refused some: at most one growth of a test is refused
@@ -19,8 +20,8 @@ fn expect_true(rt: &impl Abort, holds: bool, case: &str) {
     assert!(rt; holds, "of {case:?}");
 }
 
-/// Fails the test where a case has another answer than the one wanted.
-fn expect_text(rt: &impl Abort, found: &str, wanted: &str, case: &str) {
+/// Fails the test where a case has another answer than the one wanted. Generic, so that it is proved once.
+fn expect_same<T: Debug + PartialEq + Drop>(rt: &impl Abort, found: T, wanted: T, case: &str) {
     assert_eq!(rt; found, wanted, "of {case:?}");
 }
 
@@ -42,14 +43,10 @@ fn check_answers(
     requires { IsAlwaysCallable answer }
 {
     for (text, wanted) in rows {
-        expect_text(rt, answer(alloc, *text)?.as_str(), *wanted, *text);
+        let found = answer(alloc, *text)?;
+        expect_same(rt, found.as_str(), *wanted, *text);
     }
     Ok(())
-}
-
-/// A tag whose text is one.
-fn tag<'a>(rt: &impl Abort, text: &'a str) -> LangTag<'a> {
-    LangTag::new(text).ok().expect(rt, "refused")
 }
 
 /// A range whose text is one.

@@ -33,9 +33,10 @@ fn lenient(alloc: Global, header: &str) -> Result<String, AllocError> {
     shown(alloc, AcceptLanguage::lenient(alloc, header)?.ranges())
 }
 
-/// The tag for a header among `de-CH` and `fr`, or else `en`.
-fn chosen(alloc: Global, header: &str) -> Result<String, AllocError> {
-    let tags = tags_of(alloc, "en de-CH fr")?;
+/// The tag for the header before the `|` among the tags behind it, of which the first is also the default.
+pub(super) fn chosen(alloc: Global, question: &str) -> Result<String, AllocError> {
+    let (header, tags) = question.split_once('|').unwrap_or((question, ""));
+    let tags = tags_of(alloc, tags)?;
     let Some(default) = tags.first() else {
         return Ok(String::new(alloc));
     };
@@ -87,14 +88,17 @@ const LENIENT: &[(&str, &str)] = &[
 ];
 
 const CHOSEN: &[(&str, &str)] = &[
-    ("fr;q=0.3, DE-ch-1996;q=0.9", "de-CH"),
-    ("de, fr;q=0.1", "fr"),
-    ("nl,nl,nl,nl,nl,nl,nl,nl,nl,nl,nl,nl,nl,nl,nl,nl,fr", "fr"),
-    ("fr;q=0, nl", "en"),
-    ("de-CH-1996, de-CH;q=0", "de-CH"),
-    ("*", "en"),
-    ("", "en"),
-    ("de;q", "element 0 has a bad weight at 0"),
+    ("fr;q=0.3, DE-ch-1996;q=0.9|en de-CH fr", "de-CH"),
+    ("de, fr;q=0.1|en de-CH fr", "fr"),
+    (
+        "nl,nl,nl,nl,nl,nl,nl,nl,nl,nl,nl,nl,nl,nl,nl,nl,fr|en de-CH fr",
+        "fr",
+    ),
+    ("fr;q=0, nl|en de-CH fr", "en"),
+    ("de-CH-1996, de-CH;q=0|en de-CH fr", "de-CH"),
+    ("*|en de-CH fr", "en"),
+    ("|en de-CH fr", "en"),
+    ("de;q|en de-CH fr", "element 0 has a bad weight at 0"),
 ];
 
 #[test]

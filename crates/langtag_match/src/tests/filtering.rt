@@ -1,4 +1,4 @@
-//! Filtering of tags by ranges (RFC 4647 section 3.3): the examples of sections 3.3.1 and 3.3.2, and what these say beside them.
+//! Filtering of tags by ranges (RFC 4647 section 3.3): the examples of the section, and what it says beside them.
 use super::{check_answers, ranges_of, tags_of};
 use crate::{Filtered, filter_basic, filter_extended};
 use std::alloc::{AllocError, Global};
@@ -20,7 +20,7 @@ fn basic(alloc: Global, question: &str) -> Result<String, AllocError> {
     shown(alloc, filter_basic(ranges.as_slice(), tags.as_slice()))
 }
 
-fn extended(alloc: Global, question: &str) -> Result<String, AllocError> {
+pub(super) fn extended(alloc: Global, question: &str) -> Result<String, AllocError> {
     let (ranges, tags) = question.split_once('|').unwrap_or((question, ""));
     let (ranges, tags) = (ranges_of(alloc, ranges)?, tags_of(alloc, tags)?);
     shown(alloc, filter_extended(ranges.as_slice(), tags.as_slice()))

@@ -1,6 +1,7 @@
 //! Ranges, headers and lists of each length: each has the memory that it needs, and a range is written in one piece.
-use super::{expect_text, expect_true, range, tag};
-use crate::{AcceptLanguage, AcceptLanguageError, tag_for_header};
+use super::accept_language::chosen;
+use super::{expect_same, range};
+use crate::{AcceptLanguage, AcceptLanguageError};
 use std::alloc::{AllocError, Global};
 use std::fmt;
 use std::fmt::Write;
@@ -28,11 +29,12 @@ fn check_range(
     let text = format!(in alloc; "{start}{}", piece.repeat(alloc, times)?)?;
     let range = range(rt, text.as_str());
     let copy = range.try_to_owned(alloc)?;
-    expect_text(rt, range.to_string(alloc)?.as_str(), text.as_str(), start);
-    expect_text(rt, copy.to_string(alloc)?.as_str(), text.as_str(), start);
+    let shown = format!(in alloc; "{range} {copy}")?;
+    let wanted = format!(in alloc; "{text} {text}")?;
+    expect_same(rt, shown, wanted, start);
     let mut pieces = Pieces(0);
     let is_written = write!(pieces, "{range}{copy}").is_ok();
-    expect_true(rt, is_written && pieces.0 == 2, start);
+    expect_same(rt, (is_written, pieces.0), (true, 2), start);
     Ok(())
 }
 
@@ -65,13 +67,14 @@ fn check_header(
     let found = match AcceptLanguage::new(alloc, header.as_str()) {
         Ok(accepted) => {
             let lenient = AcceptLanguage::lenient(alloc, header.as_str())?;
-            expect_true(rt, lenient.ranges().len() == accepted.ranges().len(), piece);
-            Ok(accepted.ranges().len())
+            let count = accepted.ranges().len();
+            expect_same(rt, lenient.ranges().len(), count, piece);
+            Ok(count)
         }
         Err(AcceptLanguageError::BadElement { offset, .. }) => Err(offset),
         Err(AcceptLanguageError::Memory(error)) => return Err(error),
     };
-    expect_true(rt, found == wanted, piece);
+    expect_same(rt, found, wanted, piece);
     Ok(())
 }
 
@@ -94,7 +97,7 @@ fn headers_of_each_length(rt: HostRuntime) {
 /// A piece of a header, how often it stands there, what follows it, and how many ranges that makes or where it is refused:
 /// white space, empty elements, elements that are not acceptable, one range, ranges of rising weight, 10,000 and more of one
 /// weight, and four million bytes; a bad element at the end of a long header, and one that is long itself.
-const LONG: [(&str, usize, &str, Result<usize, usize>); 17] = [
+const LONG: &[(&str, usize, &str, Result<usize, usize>)] = &[
     (" ", 3_000_000, "", Ok(0)),
     (",", 65_536, "", Ok(0)),
     (",", 1_000_000, "", Ok(0)),
@@ -116,7 +119,7 @@ const LONG: [(&str, usize, &str, Result<usize, usize>); 17] = [
 
 fn check_long_headers(rt: &impl Abort, alloc: Global) -> Result<(), AllocError> {
     for (piece, times, end, wanted) in LONG {
-        check_header(rt, alloc, (piece, times, end), wanted)?;
+        check_header(rt, alloc, (*piece, *times, *end), *wanted)?;
     }
     Ok(())
 }
@@ -128,15 +131,11 @@ fn long_headers(rt: HostRuntime) {
 
 /// The last of so many tags is chosen for a header.
 fn check_tags(rt: &impl Abort, alloc: Global) -> Result<(), AllocError> {
-    let (english, german) = (tag(rt, "en"), tag(rt, "de-CH"));
-    for count in 0..=40 {
-        let mut tags = vec![in alloc; english; count]?;
-        tags.push(german).map_err(AllocError::from)?;
-        match tag_for_header(alloc, "fr, de-ch-1996;q=0.9", tags.as_slice(), english) {
-            Ok(tag) => expect_text(rt, tag.as_str(), "de-CH", "many tags"),
-            Err(AcceptLanguageError::Memory(error)) => return Err(error),
-            Err(_) => expect_true(rt, false, "many tags"),
-        }
+    for count in 1..=40 {
+        let tags = "en ".repeat(alloc, count)?;
+        let question = format!(in alloc; "fr, de-ch-1996;q=0.9|{tags}de-CH")?;
+        let found = chosen(alloc, question.as_str())?;
+        expect_same(rt, found.as_str(), "de-CH", question.as_str());
     }
     Ok(())
 }

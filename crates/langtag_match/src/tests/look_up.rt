@@ -3,14 +3,14 @@ use super::{check_answers, ranges_of, tags_of};
 use crate::look_up;
 use std::alloc::{AllocError, Global};
 
-/// Looks up the ranges before the `|` among the tags behind it, of which the first is the default.
-fn chosen(alloc: Global, question: &str) -> Result<String, AllocError> {
+/// Looks up the ranges before the `|` among the tags behind it, of which the first is also the default.
+pub(super) fn chosen(alloc: Global, question: &str) -> Result<String, AllocError> {
     let (ranges, tags) = question.split_once('|').unwrap_or((question, ""));
     let (ranges, tags) = (ranges_of(alloc, ranges)?, tags_of(alloc, tags)?);
-    let Some((default, others)) = tags.as_slice().split_first() else {
+    let Some(default) = tags.first() else {
         return Ok(String::new(alloc));
     };
-    let tag = look_up(ranges.as_slice(), others, *default);
+    let tag = look_up(ranges.as_slice(), tags.as_slice(), *default);
     String::from_str(alloc, tag.as_str())
 }
 
