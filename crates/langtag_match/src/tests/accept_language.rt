@@ -1,31 +1,53 @@
 //! The Accept-Language header (RFC 9110 section 12.5.4).
-use super::tag;
-use crate::{AcceptLanguage, AcceptLanguageError, ElementPart, tag_for_header};
+use super::{check_answers, tags_of};
+use crate::{AcceptLanguage, AcceptLanguageError, WeightedRange, tag_for_header};
 use std::alloc::{AllocError, Global};
-use std::test::Fail;
 
-/// The ranges of a header and their weights, as text.
-fn shown(alloc: Global, accepted: &AcceptLanguage<'_>) -> Result<String, AllocError> {
+/// The ranges and their weights, as text.
+fn shown(alloc: Global, ranges: &[WeightedRange<'_>]) -> Result<String, AllocError> {
     let mut text = String::new(alloc);
-    for weighted in accepted.ranges() {
-        let range = weighted.range;
-        let weight = weighted.weight;
-        let element = format!(in alloc; "{range} {weight} ")?;
-        text.push_str(element.as_str())?;
+    for WeightedRange { range, weight } in ranges {
+        text.push_str(format!(in alloc; "{range} {weight} ")?.as_str())?;
     }
     Ok(text)
 }
 
-fn read(alloc: Global, header: &str) -> Result<String, AcceptLanguageError<'_>> {
-    Ok(shown(alloc, &AcceptLanguage::new(alloc, header)?)?)
+/// What a refusal says, and the offset of the bad element.
+fn told(alloc: Global, refusal: AcceptLanguageError<'_>) -> Result<String, AllocError> {
+    match refusal {
+        AcceptLanguageError::Memory(error) => Err(error),
+        AcceptLanguageError::BadElement { offset, .. } => {
+            format!(in alloc; "{refusal} at {offset}")
+        }
+    }
 }
 
-fn read_leniently(alloc: Global, header: &str) -> Result<String, AllocError> {
-    shown(alloc, &AcceptLanguage::lenient(alloc, header)?)
+fn strict(alloc: Global, header: &str) -> Result<String, AllocError> {
+    match AcceptLanguage::new(alloc, header) {
+        Ok(accepted) => shown(alloc, accepted.ranges()),
+        Err(refusal) => told(alloc, refusal),
+    }
+}
+
+fn lenient(alloc: Global, header: &str) -> Result<String, AllocError> {
+    shown(alloc, AcceptLanguage::lenient(alloc, header)?.ranges())
+}
+
+/// The tag for the header before the `|` among the tags behind it, of which the first is also the default.
+pub(super) fn chosen(alloc: Global, question: &str) -> Result<String, AllocError> {
+    let (header, tags) = question.split_once('|').unwrap_or((question, ""));
+    let tags = tags_of(alloc, tags)?;
+    let Some(default) = tags.first() else {
+        return Ok(String::new(alloc));
+    };
+    match tag_for_header(alloc, header, tags.as_slice(), *default) {
+        Ok(tag) => String::from_str(alloc, tag.as_str()),
+        Err(refusal) => told(alloc, refusal),
+    }
 }
 
 /// The example of section 12.5.4, white space and empty elements, and how weights are written (section 12.4.2).
-const READ: [(&str, &str); 8] = [
+const READ: &[(&str, &str)] = &[
     ("da, en-gb;q=0.8, en;q=0.7", "da 1000 en-gb 800 en 700 "),
     ("en;q=0.7,da,*;q=0,en-gb;q=0.8", "da 1000 en-gb 800 en 700 "),
     ("fr;q=0.5,de,en;q=0.5,nl", "de 1000 nl 1000 fr 500 en 500 "),
@@ -39,113 +61,51 @@ const READ: [(&str, &str); 8] = [
     ),
 ];
 
-#[test]
-fn headers_that_are_read(rt: HostRuntime) -> Result<(), Fail> {
-    for (header, ranges) in READ {
-        let text = once_more!(read(rt.alloc(), header)).ok().ok_or(header)?;
-        assert_same!(rt; text.as_str(), ranges, header);
-        let text = once_more!(read_leniently(rt.alloc(), header))?;
-        assert_same!(rt; text.as_str(), ranges, header);
-    }
-    Ok(())
-}
+const REFUSED: &[(&str, &str)] = &[
+    ("de-", "element 0 has a bad language range at 0"),
+    ("de, *-CH", "element 1 has a bad language range at 3"),
+    (",,en;q=0.8,fr;q=,nl", "element 3 has a bad weight at 11"),
+    ("de;q=1.001", "element 0 has a bad weight at 0"),
+    ("de;q=0.1234", "element 0 has a bad weight at 0"),
+    ("de;q=.5", "element 0 has a bad weight at 0"),
+    ("de;q=2", "element 0 has a bad weight at 0"),
+    ("de;q= 1", "element 0 has a bad weight at 0"),
+    ("de;q =1", "element 0 has a bad weight at 0"),
+    ("de;q=1;q=1", "element 0 has a bad weight at 0"),
+    ("de;level=1", "element 0 has a bad weight at 0"),
+    ("de;", "element 0 has a bad weight at 0"),
+    (";q=1", "element 0 has a bad language range at 0"),
+    ("d!;q=2", "element 0 has a bad language range at 0"),
+    ("de en", "element 0 has a bad language range at 0"),
+    ("de\n", "element 0 has a bad language range at 0"),
+    ("de,é", "element 1 has a bad language range at 3"),
+];
 
-/// The index of the element for which a header is refused, where it stands, and whether its weight is bad.
-fn bad_element(alloc: Global, text: &str) -> Option<(usize, usize, bool)> {
-    match AcceptLanguage::new(alloc, text) {
-        Err(
-            AcceptLanguageError::BadElement {
-                header,
-                index,
-                offset,
-                part,
-            },
-        ) if header == text => Some((index, offset, matches!(part, ElementPart::Weight))),
-        _ => None,
-    }
-}
+/// Headers with bad elements, which are passed over.
+const LENIENT: &[(&str, &str)] = &[
+    ("en;q=0.5, *-CH, de, fr;q=2, d!;q=x,", "de 1000 en 500 "),
+    ("?", ""),
+];
 
-const REFUSED: [(&str, usize, usize, bool); 17] = [
-    ("de-", 0, 0, false),
-    ("de, *-CH", 1, 3, false),
-    (",,en;q=0.8,fr;q=,nl", 3, 11, true),
-    ("de;q=1.001", 0, 0, true),
-    ("de;q=0.1234", 0, 0, true),
-    ("de;q=.5", 0, 0, true),
-    ("de;q=2", 0, 0, true),
-    ("de;q= 1", 0, 0, true),
-    ("de;q =1", 0, 0, true),
-    ("de;q=1;q=1", 0, 0, true),
-    ("de;level=1", 0, 0, true),
-    ("de;", 0, 0, true),
-    (";q=1", 0, 0, false),
-    ("d!;q=2", 0, 0, false),
-    ("de en", 0, 0, false),
-    ("de\n", 0, 0, false),
-    ("de,é", 1, 3, false),
+const CHOSEN: &[(&str, &str)] = &[
+    ("fr;q=0.3, DE-ch-1996;q=0.9|en de-CH fr", "de-CH"),
+    ("de, fr;q=0.1|en de-CH fr", "fr"),
+    (
+        "nl,nl,nl,nl,nl,nl,nl,nl,nl,nl,nl,nl,nl,nl,nl,nl,fr|en de-CH fr",
+        "fr",
+    ),
+    ("fr;q=0, nl|en de-CH fr", "en"),
+    ("de-CH-1996, de-CH;q=0|en de-CH fr", "de-CH"),
+    ("*|en de-CH fr", "en"),
+    ("|en de-CH fr", "en"),
+    ("de;q|en de-CH fr", "element 0 has a bad weight at 0"),
 ];
 
 #[test]
-fn headers_that_are_refused(rt: HostRuntime) {
-    for (text, index, offset, weight) in REFUSED {
-        let refused = once_more!(bad_element(rt.alloc(), text).ok_or(()));
-        assert_same!(rt; refused, Ok((index, offset, weight)), text);
-    }
-}
-
-#[test]
-fn bad_elements_are_passed_over(rt: HostRuntime) -> Result<(), Fail> {
-    for (header, ranges) in [
-        ("en;q=0.5, *-CH, de, fr;q=2, d!;q=x,", "de 1000 en 500 "),
-        ("?", ""),
-    ] {
-        let text = once_more!(read_leniently(rt.alloc(), header))?;
-        assert_same!(rt; text.as_str(), ranges, header);
-    }
-    Ok(())
-}
-
-/// What a refusal for an element says.
-fn words(alloc: Global, header: &str) -> Result<String, AllocError> {
-    match AcceptLanguage::new(alloc, header) {
-        Ok(_) => Ok(String::new(alloc)),
-        Err(AcceptLanguageError::Memory(error)) => Err(error),
-        Err(refused) => refused.to_string(alloc),
-    }
-}
-
-#[test]
-fn a_refusal_tells_the_element_and_what_is_bad_of_it(rt: HostRuntime) -> Result<(), Fail> {
-    for (header, text) in [
-        ("de, e!", "element 1 has a bad language range"),
-        ("de;q=2", "element 0 has a bad weight"),
-    ] {
-        let words = once_more!(words(rt.alloc(), header))?;
-        assert_same!(rt; words.as_str(), text);
-    }
-    Ok(())
-}
-
-/// A header, and the tag that is chosen for it from `en`, `de-CH` and `fr`.
-const CHOSEN: [(&str, &str); 7] = [
-    ("fr;q=0.3, DE-ch-1996;q=0.9", "de-CH"),
-    ("de, fr;q=0.1", "fr"),
-    ("nl,nl,nl,nl,nl,nl,nl,nl,nl,nl,nl,nl,nl,nl,nl,nl,fr", "fr"),
-    ("fr;q=0, nl", "en"),
-    ("de-CH-1996, de-CH;q=0", "de-CH"),
-    ("*", "en"),
-    ("", "en"),
-];
-
-#[test]
-fn the_tag_for_a_header(rt: HostRuntime) -> Result<(), Fail> {
-    let english = tag(&rt, "en");
-    let tags = [english, tag(&rt, "de-CH"), tag(&rt, "fr")];
-    for (header, tag) in CHOSEN {
-        let chosen = once_more!(tag_for_header(rt.alloc(), header, &tags, english));
-        let chosen = chosen.ok().ok_or(header)?;
-        assert_same!(rt; chosen.as_str(), tag, header);
-    }
-    assert_that!(rt; tag_for_header(rt.alloc(), "de;q", &tags, english).is_err());
-    Ok(())
+fn headers(rt: HostRuntime) {
+    with_memory!(rt, check_answers(&rt, rt.alloc(), READ, strict));
+    with_memory!(rt, check_answers(&rt, rt.alloc(), READ, lenient));
+    with_memory!(rt, check_answers(&rt, rt.alloc(), REFUSED, strict));
+    with_memory!(rt, check_answers(&rt, rt.alloc(), LENIENT, lenient));
+    with_memory!(rt, check_answers(&rt, rt.alloc(), CHOSEN, chosen));
 }

@@ -1,20 +1,20 @@
 //! The fallbacks of a range (RFC 4647 section 3.4).
-use super::range;
-use crate::LanguageRange;
+use super::{check_answers, ranges_of};
 use std::alloc::{AllocError, Global};
-use std::test::Fail;
 
-/// The fallbacks of a range, with a space after each.
-fn shown(alloc: Global, range: LanguageRange<'_>) -> Result<String, AllocError> {
+/// The fallbacks of ranges, with a space after each.
+fn fallbacks(alloc: Global, ranges: &str) -> Result<String, AllocError> {
     let mut text = String::new(alloc);
-    for fallback in range.fallbacks() {
-        text.push_str(fallback.as_str())?;
-        text.push_str(" ")?;
+    for range in ranges_of(alloc, ranges)? {
+        for fallback in range.fallbacks() {
+            text.push_str(fallback.as_str())?;
+            text.push_str(" ")?;
+        }
     }
     Ok(text)
 }
 
-const CASES: [(&str, &str); 10] = [
+const CASES: &[(&str, &str)] = &[
     // The example of the section.
     (
         "zh-Hant-CN-x-private1-private2",
@@ -32,17 +32,6 @@ const CASES: [(&str, &str); 10] = [
 ];
 
 #[test]
-fn subtags_are_taken_away_from_the_end(rt: HostRuntime) -> Result<(), Fail> {
-    for (text, fallbacks) in CASES {
-        let range = range(&rt, text);
-        let text = once_more!(shown(rt.alloc(), range))?;
-        assert_same!(rt; text.as_str(), fallbacks);
-    }
-    Ok(())
-}
-
-#[test]
-fn fallbacks_are_counted(rt: HostRuntime) {
-    let range = range(&rt, "zh-Hant-CN-x-private1");
-    assert_same!(rt; range.fallbacks().count(), 4);
+fn subtags_are_taken_away_from_the_end(rt: HostRuntime) {
+    with_memory!(rt, check_answers(&rt, rt.alloc(), CASES, fallbacks));
 }

@@ -1,88 +1,76 @@
-//! Which texts are ranges (RFC 4647 sections 2.1 and 2.2), and what is done with one.
-use super::range;
-use crate::{LanguageRange, LanguageRangeBuf};
-use std::alloc::Global;
-use std::test::Fail;
+//! Which texts are ranges (RFC 4647 sections 2.1 and 2.2), and how one is shown.
+use super::check_answers;
+use crate::LanguageRange;
+use std::alloc::{AllocError, Global};
 
-const BASIC: [&str; 8] = [
-    "*",
-    "de",
-    "de-DE",
-    "DE-de-1996-x-a",
-    "x-a",
-    "i-klingon",
-    "a-1",
-    "abcdefgh-12345678",
+/// What a range and its copy are shown as, or a refusal.
+fn seen(alloc: Global, text: &str) -> Result<String, AllocError> {
+    match LanguageRange::new(text) {
+        Ok(range) => {
+            let copy = range.try_to_owned(alloc)?;
+            format!(in alloc; "{range} {copy} {range:?} {copy:?}")
+        }
+        Err(refusal) => format!(in alloc; "{refusal} {refusal:?}"),
+    }
+}
+
+const SEEN: &[(&str, &str)] = &[
+    (
+        "de-*",
+        "de-* de-* LanguageRange { text: Caseless(\"de-*\") } LanguageRangeBuf { text: Caseless(\"de-*\") }",
+    ),
+    (
+        "*",
+        "* * LanguageRange { text: Caseless(\"*\") } LanguageRangeBuf { text: Caseless(\"*\") }",
+    ),
+    (
+        "de_CH",
+        "invalid language range InvalidLanguageRange(\"de_CH\")",
+    ),
 ];
 
-const EXTENDED: [&str; 5] = ["*-CH", "de-*", "de-*-DE", "*-*", "de-*-*-x-*"];
-
-#[test]
-fn ranges_are_basic_or_extended(rt: HostRuntime) {
-    for text in BASIC {
-        let range = range(&rt, text);
-        assert_that!(rt; range.is_basic(), text);
-        assert_same!(rt; range.as_str(), text);
-    }
-    for text in EXTENDED {
-        let range = range(&rt, text);
-        assert_that!(rt; !range.is_basic(), text);
-        assert_that!(rt; range.eq_str(text));
-    }
+/// Which rule of section 2 a text follows.
+fn rule(alloc: Global, text: &str) -> Result<String, AllocError> {
+    let rule = match LanguageRange::new(text) {
+        Ok(range) if range.is_basic() => "basic",
+        Ok(_) => "extended",
+        Err(_) => "none",
+    };
+    String::from_str(alloc, rule)
 }
 
-const REFUSED: [&str; 14] = [
-    "",
-    "-",
-    "de-",
-    "-de",
-    "de--DE",
-    "de_DE",
-    "1",
-    "1a-b",
-    "abcdefghi",
-    "de-123456789",
-    "**",
-    "de-**",
-    "d*",
-    "é",
+const RULES: &[(&str, &str)] = &[
+    ("*", "basic"),
+    ("de", "basic"),
+    ("de-DE", "basic"),
+    ("DE-de-1996-x-a", "basic"),
+    ("x-a", "basic"),
+    ("i-klingon", "basic"),
+    ("a-1", "basic"),
+    ("abcdefgh-12345678", "basic"),
+    ("*-CH", "extended"),
+    ("de-*", "extended"),
+    ("de-*-DE", "extended"),
+    ("*-*", "extended"),
+    ("de-*-*-x-*", "extended"),
+    ("", "none"),
+    ("-", "none"),
+    ("de-", "none"),
+    ("-de", "none"),
+    ("de--DE", "none"),
+    ("de_DE", "none"),
+    ("1", "none"),
+    ("1a-b", "none"),
+    ("abcdefghi", "none"),
+    ("de-123456789", "none"),
+    ("**", "none"),
+    ("de-**", "none"),
+    ("d*", "none"),
+    ("é", "none"),
 ];
 
 #[test]
-fn other_texts_are_handed_back(rt: HostRuntime) {
-    for text in REFUSED {
-        let refused = LanguageRange::new(text).err();
-        assert_same!(rt; refused.map(|error| error.0), Some(text));
-    }
-}
-
-/// The owned form of a range, made of a text of its own.
-fn owned(alloc: Global, text: &str) -> Option<LanguageRangeBuf> {
-    LanguageRangeBuf::new(String::from_str(alloc, text).ok()?).ok()
-}
-
-#[test]
-fn owned_ranges_are_as_borrowed_ones(rt: HostRuntime) -> Result<(), Fail> {
-    let range = range(&rt, "de-*-CH");
-    let copy = once_more!(range.try_to_owned(rt.alloc()))?;
-    let made = once_more!(owned(rt.alloc(), "DE-*-ch").ok_or(()))
-        .ok()
-        .ok_or("refused")?;
-    assert_that!(rt; copy == made);
-    assert_that!(rt; made.as_language_range() == range);
-    assert_same!(rt; made.as_str(), "DE-*-ch");
-    assert_same!(rt; copy.into_string().as_str(), "de-*-CH");
-    assert_that!(rt; owned(rt.alloc(), "de_CH").is_none());
-    Ok(())
-}
-
-#[test]
-fn ranges_are_shown(rt: HostRuntime) -> Result<(), Fail> {
-    let range = range(&rt, "de-*");
-    let text = once_more!(format!(in rt.alloc(); "{range}"))?;
-    assert_same!(rt; text.as_str(), "de-*");
-    let refused = LanguageRange::new("de_CH").err().ok_or("taken")?;
-    let words = once_more!(format!(in rt.alloc(); "{refused}"))?;
-    assert_same!(rt; words.as_str(), "invalid language range");
-    Ok(())
+fn ranges(rt: HostRuntime) {
+    with_memory!(rt, check_answers(&rt, rt.alloc(), SEEN, seen));
+    with_memory!(rt, check_answers(&rt, rt.alloc(), RULES, rule));
 }

@@ -1,69 +1,54 @@
 //! The look-up of RFC 4647 section 3.4.
-use super::{range, tag};
+use super::{check_answers, ranges_of, tags_of};
 use crate::look_up;
+use std::alloc::{AllocError, Global};
 
-/// The tags that are looked up.
-const TAGS: [&str; 8] = [
-    "zh",
-    "zh-Hant",
-    "de-DE",
-    "x-a",
-    "i-klingon",
-    "fr-x-b",
-    "fr",
-    "ZH-hant",
-];
+/// Looks up the ranges before the `|` among the tags behind it, of which the first is also the default.
+pub(super) fn chosen(alloc: Global, question: &str) -> Result<String, AllocError> {
+    let (ranges, tags) = question.split_once('|').unwrap_or((question, ""));
+    let (ranges, tags) = (ranges_of(alloc, ranges)?, tags_of(alloc, tags)?);
+    let Some(default) = tags.first() else {
+        return Ok(String::new(alloc));
+    };
+    let tag = look_up(ranges.as_slice(), tags.as_slice(), *default);
+    String::from_str(alloc, tag.as_str())
+}
 
-/// A range, and the tag that is chosen for it.
-const CASES: [(&str, &str); 21] = [
+const CASES: &[(&str, &str)] = &[
     // The example of the section.
-    ("zh-Hant-CN-x-private1-private2", "zh-Hant"),
-    ("zh-HANT", "zh-Hant"),
-    ("zh-Hans", "zh"),
-    ("de-DE-1996", "de-DE"),
-    ("de", "en"),
-    ("de-CH", "en"),
-    ("X-A", "x-a"),
-    ("x-a-b", "en"),
-    ("x-b", "en"),
-    ("I-Klingon-b", "i-klingon"),
-    ("fr-x-B", "fr-x-b"),
-    ("fr-x-b-c", "fr"),
-    ("fr-x-c", "fr"),
-    ("fr-a-b-cc", "fr"),
+    (
+        "zh-Hant-CN-x-private1-private2|en zh zh-Hant ZH-hant",
+        "zh-Hant",
+    ),
+    ("zh-HANT|en zh zh-Hant ZH-hant", "zh-Hant"),
+    ("zh-Hans|en zh zh-Hant", "zh"),
+    ("de-DE-1996|en de-DE", "de-DE"),
+    ("de|en de-DE", "en"),
+    ("de-CH|en de-DE", "en"),
+    ("X-A|en x-a", "x-a"),
+    ("x-a-b|en x-a", "en"),
+    ("x-b|en x-a fr-x-b", "en"),
+    ("I-Klingon-b|en i-klingon", "i-klingon"),
+    ("fr-x-B|en fr-x-b fr", "fr-x-b"),
+    ("fr-x-b-c|en fr-x-b fr", "fr"),
+    ("fr-x-c|en fr-x-b fr", "fr"),
+    ("fr-a-b-cc|en fr-x-b fr", "fr"),
     // Extended ranges, by section 3.2.
-    ("de-*-DE", "de-DE"),
-    ("ZH-*-*-hant-*-CN-*", "zh-Hant"),
-    ("fr-*-x-*-B-*", "fr-x-b"),
-    ("fr-x-B-*-c", "fr"),
-    ("fr-*", "fr"),
-    ("*-zh", "en"),
-    ("*", "en"),
+    ("de-*-DE|en de-DE", "de-DE"),
+    ("ZH-*-*-hant-*-CN-*|en zh zh-Hant", "zh-Hant"),
+    ("fr-*-x-*-B-*|en fr-x-b fr", "fr-x-b"),
+    ("fr-x-B-*-c|en fr-x-b fr", "fr"),
+    ("fr-*|en fr-x-b fr", "fr"),
+    ("*-zh|en zh zh-Hant", "en"),
+    ("*|en zh zh-Hant", "en"),
+    // The priority list of the section: `fr-FR`, `fr`, `zh-Hant` and `zh` are looked for in this order.
+    ("fr-FR zh-Hant|en zh fr", "fr"),
+    ("fr-FR zh-Hant|en zh", "zh"),
+    ("fr-FR zh-Hant|en", "en"),
+    ("|en zh fr", "en"),
 ];
 
 #[test]
 fn ranges_are_shortened_from_their_ends(rt: HostRuntime) {
-    let default = tag(&rt, "en");
-    let mut tags = [default; 8];
-    for (slot, text) in tags.iter_mut().zip(TAGS) {
-        *slot = tag(&rt, text);
-    }
-    for (text, chosen) in CASES {
-        let range = range(&rt, text);
-        let tag = look_up(&[range], &tags, default);
-        assert_same!(rt; tag.as_str(), chosen, text);
-    }
-}
-
-/// The priority list of the section: `fr-FR`, `fr`, `zh-Hant` and `zh` are looked for in this order.
-#[test]
-fn the_first_range_decides(rt: HostRuntime) {
-    let default = tag(&rt, "en");
-    let zh = tag(&rt, "zh");
-    let fr = tag(&rt, "fr");
-    let ranges = [range(&rt, "fr-FR"), range(&rt, "zh-Hant")];
-    assert_same!(rt; look_up(&ranges, &[zh, fr], default).as_str(), "fr");
-    assert_same!(rt; look_up(&ranges, &[zh], default).as_str(), "zh");
-    assert_same!(rt; look_up(&ranges, &[], default).as_str(), "en");
-    assert_same!(rt; look_up(&[], &[zh, fr], default).as_str(), "en");
+    with_memory!(rt, check_answers(&rt, rt.alloc(), CASES, chosen));
 }
