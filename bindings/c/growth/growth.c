@@ -23,6 +23,9 @@ static const struct {
     {"private", "x", "-aaaaaaaa"},
     {"singles", "de-x", "-a"},
     {"wildcards", "*", "-*-aa"},
+    {"elements", "de", " ;q=0.1\t, aa-bb"},
+    {"empty", "", ", "},
+    {"spaces", "de", " "},
 };
 
 static char text[2 * BYTES + 16], other[2 * BYTES + 16];
@@ -30,6 +33,7 @@ static size_t len;
 static langtag_parts parts;
 static langtag_span rest, found;
 static langtag_repeated repeated;
+static uint32_t weight;
 static volatile uint64_t result;
 
 #define FUNCTION(name, ...)                                                                                            \
@@ -50,6 +54,8 @@ FUNCTION(grandfathered, result = langtag_grandfathered(text, len))
 FUNCTION(range_kind, result = langtag_range_kind(text, len))
 FUNCTION(matches_basic, result = langtag_matches_basic(text, len, other, len))
 FUNCTION(matches_extended, result = langtag_matches_extended(text, len, other, len))
+FUNCTION(next_fallback, while (langtag_next_fallback(text, len, &rest)) result = rest.len)
+FUNCTION(next_accepted, while (langtag_next_accepted(text, len, &rest, &found, &weight)) result = weight)
 
 static const struct {
     const char *name;
@@ -71,6 +77,8 @@ static const struct {
     {"range_kind", range_kind},
     {"matches_basic", matches_basic},
     {"matches_extended", matches_extended},
+    {"next_fallback", next_fallback},
+    {"next_accepted", next_accepted},
 };
 
 /* Writes a text of a shape, of at most so many bytes: whole pieces, with numbers in an order that is not theirs. */
