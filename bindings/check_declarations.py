@@ -57,7 +57,7 @@ def of_crate(root: pathlib.Path) -> Interface:
                 length = "len" if parameter == "bytes" else parameter + "_len"
                 found += [("const char *" if kind == "&[u8]" else "char *", parameter), ("size_t", length)]
             elif kind.startswith("&mut "):
-                found.append((STRUCTS[kind[5:]] + " *", parameter))
+                found.append(((STRUCTS | INTEGERS)[kind[5:]] + " *", parameter))
             else:
                 found.append((INTEGERS[kind], parameter))
         functions[name] = Function(INTEGERS[result], found)
@@ -89,7 +89,7 @@ def of_header(root: pathlib.Path) -> Interface:
 def of_rust(root: pathlib.Path) -> Interface:
     source = without_comments((root / "bindings/rust/src/ffi.rs").read_text())
     types = INTEGERS | {"*const u8": "const char *", "*mut u8": "char *"}
-    types |= {f"*mut {name}": f"{in_c} *" for name, in_c in STRUCTS.items()}
+    types |= {f"*mut {name}": f"{in_c} *" for name, in_c in (STRUCTS | {"u32": "uint32_t"}).items()}
     functions = {}
     for name, parameters, result in re.findall(r"fn (langtag_\w+)\(([^)]*)\)(?: -> (\w+))?;", source):
         functions[name] = Function(types[result], [(types[kind], parameter) for parameter, kind in pairs(parameters)])
@@ -101,7 +101,7 @@ def of_python(root: pathlib.Path) -> Interface:
     types = {f"c_{name.removesuffix('_t')}": name for name in ("size_t", "uint64_t", "uint32_t", "int32_t", "bool")}
     types |= {"c_size_t": "size_t", "None": "void", "c_char_p": "const char *", "POINTER(c_char)": "char *"}
     types |= {"_" + name: in_c for name, in_c in STRUCTS.items()}
-    types |= {f"POINTER(_{name})": f"{in_c} *" for name, in_c in STRUCTS.items()}
+    types |= {f"POINTER(_{name})": f"{in_c} *" for name, in_c in STRUCTS.items()} | {"POINTER(c_uint32)": "uint32_t *"}
     functions, structs = {}, {}
     for node in ast.parse((root / "bindings/python/langtag/__init__.py").read_text()).body:
         if isinstance(node, ast.AnnAssign) and ast.unparse(node.target) == "_FUNCTIONS":

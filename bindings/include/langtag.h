@@ -207,6 +207,53 @@ LANGTAG_PURE bool langtag_matches_basic(const char *range, size_t range_len, con
  */
 LANGTAG_PURE bool langtag_matches_extended(const char *range, size_t range_len, const char *tag, size_t tag_len);
 
+/*
+ * Shortens `rest`, a language range or what is left of one, to its next fallback (RFC 4647 section 3.4): without its last
+ * subtag, and without each single character that would then stand last. A look-up begins with the whole range:
+ *
+ *     langtag_span rest = {0, len};
+ *     do if (is_there(range + rest.start, rest.len)) break;
+ *     while (langtag_next_fallback(range, len, &rest));
+ *
+ * zh-Hant-CN-x-private1 is followed by zh-Hant-CN, zh-Hant and zh. False exactly where no fallback is left, or `rest` has no
+ * byte or reaches out of the text; `rest` then stays. Whether the text is a range is for langtag_range_kind to say.
+ *
+ * A look-up reads an extended range as the basic one without each "-*" (section 3.2): de-*-DE, of which the fallbacks are
+ * de-*-DE and de, finds the tag de-DE, and then de. Leave each "-*" out of a fallback before you compare it. What begins with *
+ * finds no tag.
+ */
+bool langtag_next_fallback(const char *bytes, size_t len, langtag_span *rest);
+
+/* What langtag_next_accepted returns. */
+enum langtag_accepted_answer {
+    LANGTAG_ACCEPTED_END = 0,       /* no element is left */
+    LANGTAG_ACCEPTED_RANGE = 1,     /* a language range, with its weight */
+    LANGTAG_ACCEPTED_BAD_RANGE = 2, /* an element without a basic language range: *-CH, de_CH */
+    LANGTAG_ACCEPTED_BAD_WEIGHT = 3 /* an element with a range, and a weight that is not one: de;q=2 */
+};
+
+/*
+ * Takes the first element off `rest`, the value of an Accept-Language header or what is left of one (RFC 9110 section
+ * 12.5.4), and says what it is, as an enum langtag_accepted_answer. Empty elements are passed over.
+ *
+ *     langtag_span rest = {0, len}, range;
+ *     uint32_t weight;
+ *     while (langtag_next_accepted(header, len, &rest, &range, &weight))
+ *         if (weight > 0) add(header + range.start, range.len, weight);
+ *
+ * `range` (out) is where the range stands, and `weight` (out) its weight in thousandths: 1000 where none is given, and 0
+ * for "not acceptable". Of a bad element `range` is all that stands between the commas, so that range.start tells where it
+ * begins, and `weight` is 0. The next call goes on after it: the loop above passes bad elements over, as browsers' headers
+ * want it; who is strict stops there, and refuses the header.
+ *
+ * The elements come in the order of the header. Look tags up for those of the greatest weight first, and for those of one
+ * weight in the order of the header: sort by falling weight, stably.
+ *
+ * LANGTAG_ACCEPTED_END exactly where no element is left but empty ones, or `rest` reaches out of the text; all then stays.
+ */
+uint32_t langtag_next_accepted(const char *bytes, size_t len, langtag_span *rest, langtag_span *range,
+                               uint32_t *weight);
+
 #ifdef __cplusplus
 }
 #endif

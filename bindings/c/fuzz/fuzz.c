@@ -17,7 +17,7 @@
 
 /* What is looked at, for the message where something differs. */
 static unsigned long long chosen_seed, number;
-static slice looked_at, looked_at_beside, looked_at_range;
+static slice looked_at, looked_at_beside, looked_at_range, looked_at_header;
 
 static void show(const char *name, slice text) {
     printf("%s \"", name);
@@ -30,6 +30,7 @@ static void show_all(void) {
     show("text", looked_at);
     show("neighbour", looked_at_beside);
     show("range", looked_at_range);
+    show("header", looked_at_header);
     fflush(stdout);
 }
 
@@ -130,7 +131,7 @@ static void check_lists(slice text, const langtag_parts *parts) {
 
 static bool is_span(langtag_span a, langtag_span b) { return a.start == b.start && a.len == b.len; }
 
-/* Both walks, on spans of which many do not lie within the text. */
+/* The walks, on spans of which many do not lie within the text. */
 static void check_odd_spans(slice text) {
     langtag_span odd = {below(2) ? below(40) : (size_t)0 - below(40), below(2) ? below(40) : (size_t)0 - below(40)};
     langtag_span rest = odd, got = {below(40), below(40)}, untouched = got;
@@ -142,6 +143,12 @@ static void check_odd_spans(slice text) {
     SAME(langtag_next_extension(text.at, text.len, &rest, &got) == inside);
     SAME(inside || (is_span(rest, odd) && is_span(got, untouched)));
     SAME(!inside || (got.start == odd.start && got.len <= odd.len));
+    if (inside) return;
+    uint32_t weight = 7;
+    rest = odd, got = untouched;
+    SAME(!langtag_next_fallback(text.at, text.len, &rest) && is_span(rest, odd));
+    SAME(langtag_next_accepted(text.at, text.len, &rest, &got, &weight) == 0 && weight == 7);
+    SAME(is_span(rest, odd) && is_span(got, untouched));
 }
 
 /* langtag_range_kind and both ways to match */
@@ -149,6 +156,30 @@ static void check_ranges(slice range, slice text) {
     SAME(langtag_range_kind(range.at, range.len) == range_kind(range));
     SAME(langtag_matches_basic(range.at, range.len, text.at, text.len) == matches_basic(range, text));
     SAME(langtag_matches_extended(range.at, range.len, text.at, text.len) == matches_extended(range, text));
+}
+
+/* langtag_next_fallback: of what is not a range, what is left stands before a hyphen. */
+static void check_fallbacks(slice range) {
+    size_t lengths[MAX_SUBTAGS], count = read_fallbacks(range, lengths), k = 0;
+    bool is_range = range_kind(range) != 0;
+    langtag_span rest = {0, range.len};
+    for (size_t len = rest.len; langtag_next_fallback(range.at, range.len, &rest); k++, len = rest.len) {
+        SAME(rest.start == 0 && rest.len < len && range.at[rest.len] == '-');
+        SAME(!is_range || (k < count && rest.len == lengths[k]));
+    }
+    SAME(rest.start == 0 && (!is_range || k == count));
+}
+
+/* langtag_next_accepted */
+static void check_header(slice header) {
+    element wanted[ROOM + 1];
+    size_t count = read_header(header, wanted), k = 0;
+    langtag_span rest = {0, header.len}, range = {below(40), below(40)};
+    uint32_t weight = below(2000), answer;
+    for (; (answer = langtag_next_accepted(header.at, header.len, &rest, &range, &weight)) != 0; k++)
+        SAME(k < count && answer == wanted[k].answer && is_same(at(header, range), wanted[k].range) &&
+             weight == wanted[k].weight);
+    SAME(k == count);
 }
 
 /* langtag_fold and langtag_recommend, which write */
@@ -165,13 +196,15 @@ static void check_case(char *bytes, size_t len) {
 
 /* One text through all functions; answers its kind. */
 static unsigned check_one(pages here, pages there) {
-    char text[ROOM], other[ROOM], range[ROOM];
+    char text[ROOM], other[ROOM], range[ROOM], header[ROOM];
     size_t len = make_text(text), other_len = make_neighbour(text, len, other), range_len = make_range(range);
+    size_t header_len = make_header(header);
     bool at_the_end = below(2);
     char *bytes = place(here, text, len, at_the_end);
     looked_at = (slice){text, len};
     looked_at_beside = (slice){other, other_len};
     looked_at_range = (slice){range, range_len};
+    looked_at_header = (slice){header, header_len};
     slice placed = {bytes, len}, neighbour = {place(there, other, other_len, at_the_end), other_len};
     langtag_parts parts = check_parse(placed);
     check_viable(placed);
@@ -179,7 +212,11 @@ static unsigned check_one(pages here, pages there) {
     check_lists(placed, &parts);
     check_odd_spans(placed);
     check_ranges(neighbour, placed);
+    check_fallbacks(placed);
+    check_header(placed);
     check_ranges((slice){place(there, range, range_len, at_the_end), range_len}, placed);
+    check_fallbacks((slice){place(there, range, range_len, at_the_end), range_len});
+    check_header((slice){place(there, header, header_len, at_the_end), header_len});
     unsigned kind = langtag_kind(bytes, len);
     check_case(bytes, len);
     SAME(langtag_kind(bytes, len) == kind);

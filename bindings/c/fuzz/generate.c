@@ -124,6 +124,22 @@ size_t make_range(char into[ROOM]) {
     return out;
 }
 
+/* An Accept-Language header, at times with one byte changed. */
+size_t make_header(char into[ROOM]) {
+    static const char *const words[] = {",",        ",",     ", ",   ",\t,",      ";q=0.5", " ; Q=1.000",
+                                        ";q=1.001", ";q=",   ";",    "*",         "fr-CH",  "de",
+                                        "x-a-b",    "de_CH", "*-CH", ";q=0.1234", " ",      ";q=0.07"};
+    size_t len = 0;
+    for (uint32_t left = below(16); left > 0; left--) {
+        const char *word = words[below(sizeof words / sizeof *words)];
+        memcpy(into + len, word, strlen(word));
+        len += strlen(word);
+    }
+    if (below(3) == 0 && len > 0)
+        into[below((uint32_t)len)] = (char)(below(2) ? below(256) : (uint32_t) ",; q1"[below(5)]);
+    return len;
+}
+
 size_t make_neighbour(const char *text, size_t len, char into[ROOM]) {
     uint32_t way = below(4);
     if (way == 0) return make_text(into);

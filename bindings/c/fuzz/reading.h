@@ -55,4 +55,15 @@ unsigned range_kind(slice text);
 bool matches_basic(slice range, slice tag);
 bool matches_extended(slice range, slice tag);
 
+/* An element of an Accept-Language header that is not empty. */
+typedef struct element {
+    uint32_t answer; /* 1 a range, 2 a bad range, 3 a bad weight */
+    slice range;     /* of a bad one all of it */
+    uint32_t weight;
+} element;
+
+/* The lengths of the fallbacks after the range itself, and the elements of a header, in negotiation.c. */
+size_t read_fallbacks(slice range, size_t lengths[MAX_SUBTAGS]);
+size_t read_header(slice header, element into[]);
+
 #endif

@@ -5,6 +5,7 @@
 static langtag_parts parts;
 static langtag_span rest, found;
 static langtag_repeated repeated;
+static uint32_t weight;
 
 FUNCTION(parse, result = langtag_parse(text, len, &parts))
 FUNCTION(kind, result = langtag_kind(text, len))
@@ -24,6 +25,10 @@ FUNCTION(grandfathered, result = langtag_grandfathered(text, len))
 FUNCTION(range_kind, result = langtag_range_kind(text, len))
 FUNCTION(matches_basic, result = langtag_matches_basic(text, len, other, len))
 FUNCTION(matches_extended, result = langtag_matches_extended(text, len, other, len))
+FUNCTION(next_fallback, rest = (langtag_span){0, len};
+         while (langtag_next_fallback(text, len, &rest)) result = rest.len)
+FUNCTION(next_accepted, rest = (langtag_span){0, len};
+         while (langtag_next_accepted(text, len, &rest, &found, &weight)) result = weight)
 
 static const struct function functions[] = {
     {"parse", parse},
@@ -42,6 +47,8 @@ static const struct function functions[] = {
     {"range_kind", range_kind},
     {"matches_basic", matches_basic},
     {"matches_extended", matches_extended},
+    {"next_fallback", next_fallback},
+    {"next_accepted", next_accepted},
 };
 
 int main(void) { return count(functions, sizeof functions / sizeof *functions); }

@@ -25,6 +25,8 @@ static const struct {
     {"ranges", "de", ",a-######"},
     {"weights", "de", ",a-######;q=0.#"},
     {"commas", "", ","},
+    {"elements", "de", " ;q=0.1\t, aa-bb"},
+    {"spaces", "de", " "},
 };
 
 /* The text of a call, and another that is the same where no call has changed it. */

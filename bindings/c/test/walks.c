@@ -1,4 +1,4 @@
-/* langtag_next_subtag and langtag_next_extension */
+/* The walks: langtag_next_subtag, langtag_next_extension, langtag_next_fallback and langtag_next_accepted */
 #include "check.h"
 
 static const char text[] = "de-1996-ab1cd-u-co-phonebk-t-en-x-a";
@@ -35,10 +35,64 @@ static void spans_from_elsewhere(void) {
         langtag_span rest = odd[k], got = {1, 2};
         CHECK(!langtag_next_subtag(text, len, &rest, &got) && !langtag_next_extension(text, len, &rest, &got));
         CHECK(rest.start == odd[k].start && rest.len == odd[k].len && got.start == 1 && got.len == 2);
+        uint32_t weight = 3;
+        CHECK(!langtag_next_fallback(text, len, &rest));
+        CHECK(langtag_next_accepted(text, len, &rest, &got, &weight) == LANGTAG_ACCEPTED_END && weight == 3);
+        CHECK(rest.start == odd[k].start && rest.len == odd[k].len && got.start == 1 && got.len == 2);
     }
 }
 
+/* The example of RFC 4647 section 3.4, and what ends in a single character. */
+static void fallbacks(void) {
+    static const char *const walks[][6] = {
+        {"zh-Hant-CN-x-private1-private2", "zh-Hant-CN-x-private1", "zh-Hant-CN", "zh-Hant", "zh", NULL},
+        {"de-*-DE", "de", NULL},
+        {"de-a-b-cc", "de", NULL},
+        {"x-a", NULL},
+        {"*-CH", NULL},
+        {"*", NULL},
+        {"aa--bb", "aa-", "aa", NULL},
+    };
+    for (size_t k = 0; k < sizeof walks / sizeof *walks; k++) {
+        langtag_span rest = {0, strlen(walks[k][0])};
+        size_t length = rest.len, step = 1;
+        for (; langtag_next_fallback(walks[k][0], length, &rest); step++)
+            CHECK(walks[k][step] && is(walks[k][0], rest, walks[k][step]));
+        CHECK(walks[k][step] == NULL && is(walks[k][0], rest, walks[k][step - 1]));
+    }
+}
+
+/* What each element of a header is: its answer, where it stands, and its weight. */
+static void elements(void) {
+    static const struct {
+        uint32_t answer;
+        const char *range;
+        uint32_t weight;
+    } wanted[] = {
+        {LANGTAG_ACCEPTED_RANGE, "fr", 300},
+        {LANGTAG_ACCEPTED_RANGE, "DE-ch-1996", 1000},
+        {LANGTAG_ACCEPTED_RANGE, "*", 0},
+        {LANGTAG_ACCEPTED_BAD_RANGE, " *-CH ", 0},
+        {LANGTAG_ACCEPTED_BAD_RANGE, "de_CH;q=2", 0},
+        {LANGTAG_ACCEPTED_BAD_WEIGHT, "de;q=1.001", 0},
+        {LANGTAG_ACCEPTED_BAD_WEIGHT, "de;", 0},
+        {LANGTAG_ACCEPTED_BAD_RANGE, "\xc3\xa9", 0},
+        {LANGTAG_ACCEPTED_RANGE, "q", 1},
+    };
+    static const char header[] =
+        ", fr ;\tQ=0.3,DE-ch-1996,,*;q=0, *-CH ,de_CH;q=2,de;q=1.001,de;,\xc3\xa9,q;q=0.001 ,\t,";
+    langtag_span rest = {0, sizeof header - 1}, range;
+    uint32_t weight, answer;
+    size_t k = 0;
+    for (; (answer = langtag_next_accepted(header, sizeof header - 1, &rest, &range, &weight)); k++)
+        CHECK(k < sizeof wanted / sizeof *wanted && answer == wanted[k].answer && is(header, range, wanted[k].range) &&
+              weight == wanted[k].weight);
+    CHECK(k == sizeof wanted / sizeof *wanted && rest.len == 2 && is(header, range, "q") && weight == 1);
+}
+
 void test_walks(void) {
+    fallbacks();
+    elements();
     whole_walks();
     empty_subtags();
     spans_from_elsewhere();

@@ -1,4 +1,5 @@
 pub mod Answers
+pub mod Negotiation
 pub mod Repeats
 pub mod Spans
 pub mod Walks

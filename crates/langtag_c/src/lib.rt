@@ -4,7 +4,10 @@
 //! A slice crosses as a pointer and a length. Bytes need not be UTF-8. No function asks more than its types say.
 #![tactic(auto)]
 
+mod accepted;
 mod compare;
+mod element;
+mod fallback;
 mod grandfathered;
 mod parse;
 mod range;
@@ -13,3 +16,4 @@ mod repeats;
 mod span;
 mod viable;
 mod walk;
+mod weight;

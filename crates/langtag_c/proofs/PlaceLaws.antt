@@ -1,0 +1,72 @@
+-- Where a byte first stands, and what a span of a span has.
+use Rattle.std.proofs.Common.{◌≡◌, ℕ, ◌+◌, ◌-◌, ◌<◌, ◌≤◌, ◌==◌, Bool, true, false, List, [], ◌∷◌, length, take, drop, get_or, refl, ap, sym, ◌∙◌, arith}
+use Rattle.std.specs.List.{list_any, position_or_len}
+use Rattle.std.proofs.lemmas.List.{drop_more, drop_all, drop-drop, drop-take, take-take, length-take}
+use Rattle.langtag_c.specs.Spans.{end_of, span_text}
+use Rattle.langtag_c.specs.declared.span.Span.{Span}
+
+module _ (wanted : ℕ) (text : List ℕ) (index : ℕ) where
+  pub first_is_later :
+      index < length text → (get_or text index 0 == wanted) ≡ false →
+      position_or_len (λ byte. byte == wanted) (drop index text) ≡ 1 + position_or_len (λ byte. byte == wanted) (drop (index + 1) text)
+  first_is_later below other = ap (position_or_len (λ byte. byte == wanted)) (drop_more text index 0 below) ∙ rw other refl
+
+  pub first_is_here : index < length text → (get_or text index 0 == wanted) ≡ true → position_or_len (λ byte. byte == wanted) (drop index text) ≡ 0
+  first_is_here below here = ap (position_or_len (λ byte. byte == wanted)) (drop_more text index 0 below) ∙ rw here refl
+
+  pub first_is_past : length text ≤ index → position_or_len (λ byte. byte == wanted) (drop index text) ≡ 0
+  first_is_past past = ap (position_or_len (λ byte. byte == wanted)) (drop_all index text past)
+
+-- some element passes a test where the first one that does has a place
+pub any_at_first : (p : ℕ → Bool) (xs : List ℕ) → position_or_len p xs < length xs → list_any p xs ≡ true
+any_at_first p [] below = absurd (omega (arith, below))
+any_at_first p (x ∷ xs) below = by_first (p x) refl (any_at_first p xs)
+  where
+    by_first : (here : Bool) → p x ≡ here → (position_or_len p xs < length xs → list_any p xs ≡ true) → list_any p (x ∷ xs) ≡ true
+    by_first true is others = rw is refl
+    by_first false is others =
+        let later : position_or_len p (x ∷ xs) ≡ 1 + position_or_len p xs = rw is refl in
+        rw is (others (omega (arith, below, later)))
+
+pub none_at_length : (p : ℕ → Bool) (xs : List ℕ) → position_or_len p xs ≡ length xs → list_any p xs ≡ false
+none_at_length p [] is = refl
+none_at_length p (x ∷ xs) is = by_first (p x) refl (none_at_length p xs)
+  where
+    by_first : (here : Bool) → p x ≡ here → (position_or_len p xs ≡ length xs → list_any p xs ≡ false) → list_any p (x ∷ xs) ≡ false
+    by_first true here others =
+        let first : position_or_len p (x ∷ xs) ≡ 0 = rw here refl in
+        absurd (omega (arith, is, first))
+    by_first false here others =
+        let later : position_or_len p (x ∷ xs) ≡ 1 + position_or_len p xs = rw here refl in
+        rw here (others (omega (arith, is, later)))
+
+-- a span of the first bytes
+pub front_text : (text : List ℕ) (n : ℕ) (span : Span) → end_of span ≤ n → span_text (take n text) span ≡ span_text text span
+front_text text n span few =
+    let more = n - span.start in
+    let whole : n ≡ span.start + more = omega (arith, few) in
+    let size = span.start + span.len - span.start in
+    ap (λ k. take size (drop span.start (take k text))) whole ∙ ap (take size) (drop-take span.start more text)
+    ∙ take-take size more (drop span.start text) (omega (arith, few))
+
+-- a span of a span
+pub inner_text :
+    (text : List ℕ) (outer inner : Span) → end_of inner ≤ length (span_text text outer) →
+    span_text (span_text text outer) inner ≡ span_text text (record { start = outer.start + inner.start; len = inner.len })
+inner_text text outer inner within =
+    let k = outer.start + outer.len - outer.start in
+    let few : end_of inner ≤ k = omega (arith, within, length-take k (drop outer.start text)) in
+    let size : inner.start + inner.len - inner.start ≡ outer.start + inner.start + inner.len - (outer.start + inner.start) = omega arith in
+    front_text (drop outer.start text) k inner few
+    ∙ ap (take (inner.start + inner.len - inner.start)) (drop-drop inner.start outer.start text)
+    ∙ ap (λ n. take n (drop (outer.start + inner.start) text)) size
+
+-- what stands in a span before an index in it
+pub begin_text :
+    (text : List ℕ) (outer : Span) (start : ℕ) → start ≤ length (span_text text outer) →
+    take start (span_text text outer) ≡ take (outer.start + start - outer.start) (drop outer.start text)
+begin_text text outer start within =
+    let k = outer.start + outer.len - outer.start in
+    let size : start ≡ outer.start + start - outer.start = omega arith in
+    take-take start k (drop outer.start text) (omega (arith, within, length-take k (drop outer.start text)))
+    ∙ ap (λ n. take n (drop outer.start text)) size

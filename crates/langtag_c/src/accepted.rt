@@ -1,0 +1,85 @@
+//! A walk over the elements of an Accept-Language header (RFC 9110 section 12.5.4), without memory.
+ghost use Rattle.std.specs.Prelude.{◌≡◌, ◌↔◌, ◌≤◌, [], IfSome, None, is_some};
+ghost use Rattle.std.specs.List.{filter_map, list_all};
+ghost use Rattle.langtag_match.specs.AcceptLanguage as spec;
+ghost use Rattle.langtag_match.specs.declared.accept_language_error.ElementPart.TheVariants.{Range, Weight};
+ghost use Rattle.langtag_c.specs.Negotiation.{TakesBad, TakesElement, TakesItem, filled_items};
+ghost use Rattle.langtag_c.specs.Spans.{HasBytes, IsWithin, span_text};
+
+use crate::element::{element_of, index_of, is_ows};
+use crate::span::Span;
+use langtag_match::ElementPart;
+
+/// Takes the first element off a header that is not empty, and the comma after it, and says what it is: 1 for a language range
+/// with its weight in thousandths, 2 for an element with a bad language range, 3 for one with a bad weight. Of a bad element the
+/// range is all of it, and the weight 0. 0 where no element is left, or where the span does not lie within the bytes;
+/// then all stays as it was.
+#[tactic(auto, using(crate::proofs::ReadingLaws::same_elements, crate::proofs::ReadingLaws::same_good))]
+#[unsafe(no_mangle)]
+pub extern "C" fn langtag_next_accepted(
+    bytes: &[u8],
+    rest: &mut Span,
+    range: &mut Span,
+    weight: &mut u32,
+) -> u32
+    ensures few { result ≤ 3 }
+    ensures end { result ≡ 0 ↔ (HasBytes bytes.now rest.old → filled_items (span_text bytes.now rest.old) ≡ []) }
+    ensures element { result ≡ 1 → TakesElement bytes.now rest.old rest.new range.new weight.new }
+    ensures bad_range { result ≡ 2 → TakesBad bytes.now rest.old rest.new range.new Range × (weight.new ≡ 0) }
+    ensures bad_weight { result ≡ 3 → TakesBad bytes.now rest.old rest.new range.new Weight × (weight.new ≡ 0) }
+    ensures nothing { result ≡ 0 → (rest.new ≡ rest.old) × (range.new ≡ range.old) × (weight.new ≡ weight.old) }
+
+    ensures lenient { spec.elements (spec.items bytes.now) ≡ filter_map spec.element (filled_items bytes.now) }
+    ensures strict { spec.are_good (spec.items bytes.now) ≡ list_all (λ item. is_some (spec.element item)) (filled_items bytes.now) }
+{
+    let Some(item) = next_item(bytes, rest) else {
+        return 0;
+    };
+    match element_of(&bytes[item.start..item.start + item.len]) {
+        Ok(element) => {
+            *range = Span {
+                start: item.start + element.range.start,
+                len: element.range.len,
+            };
+            *weight = element.weight;
+            1
+        }
+        Err(part) => {
+            *range = item;
+            *weight = 0;
+            number_of(&part)
+        }
+    }
+}
+
+/// Takes the first item off a list that is not empty, and the comma after it.
+fn next_item(header: &[u8], rest: &mut Span) -> Option<Span>
+    ensures within { IfSome result (IsWithin header.now) }
+    ensures taken { IfSome result (TakesItem header.now rest.old rest.new) }
+    ensures some { IfSome result (λ _. HasBytes header.now rest.old) }
+    ensures none { result ≡ None → HasBytes header.now rest.old → filled_items (span_text header.now rest.old) ≡ [] }
+    ensures nothing { result ≡ None → rest.new ≡ rest.old }
+{
+    let mut left = *rest;
+    while let Some(list) = left.of(header) {
+        let len = index_of(list, b',');
+        let item = left.take_first(len);
+        if !is_ows(&list[..len]) {
+            *rest = left;
+            return Some(item);
+        }
+    }
+    None
+}
+
+/// Returns the number that says which part is bad.
+fn number_of(part: &ElementPart) -> u32
+    ensures range { result ≡ 2 ↔ part.now ≡ Range }
+    ensures weight { result ≡ 3 ↔ part.now ≡ Weight }
+    ensures few { (2 ≤ result) × (result ≤ 3) }
+{
+    match part {
+        ElementPart::Range => 2,
+        ElementPart::Weight => 3,
+    }
+}
