@@ -24,9 +24,11 @@ import functools
 import os
 import pathlib
 from ctypes import POINTER, c_bool, c_char, c_char_p, c_int32, c_size_t, c_uint32, c_uint64
-from typing import Any, Callable, ClassVar, Iterator, Union
+from typing import Any, Callable, ClassVar, Iterable, Iterator, Mapping, Union
 
-__all__ = ["GRANDFATHERED", "InvalidRange", "InvalidTag", "Kind", "Range", "Tag", "kind", "parse", "stop", "viable"]
+__all__ = [
+    "EditError", "GRANDFATHERED", "InvalidRange", "InvalidTag", "Kind", "Range", "Tag", "kind", "parse", "stop", "viable",
+]
 __version__ = "0.1.0"
 
 Text = Union[str, bytes]
@@ -145,6 +147,18 @@ class InvalidRange(ValueError):
         return type(self), (self.text,)
 
 
+class EditError(ValueError):
+    """Why Tag.replace did not put a part into a tag: `part`, as "script", and `text`, which is not one, or None where the
+    tag is not a normal one and has no parts."""
+
+    def __init__(self, part: str, text: str | None):
+        self.part, self.text = part, text
+        super().__init__("not a normal language tag" if text is None else f"{text!r} can't be the {part} of a tag")
+
+    def __reduce__(self) -> tuple[type[EditError], tuple[str, str | None]]:
+        return type(self), (self.part, self.text)
+
+
 def kind(text: Text) -> Kind | None:
     """What a text is, as a tag; None where it is none."""
     data = _bytes(text)
@@ -208,6 +222,30 @@ class _Caseless:
         return type(self), (str(self),)
 
 
+class _Kept(enum.Enum):
+    """The value of a part that Tag.replace is not given."""
+
+    KEPT = "kept"
+
+    def __repr__(self) -> str:
+        return "..."
+
+
+_PARTS = ("language", "script", "region", "variants", "extensions", "private_use")
+
+
+def _joined(value: str | Iterable[str] | Mapping[str, Iterable[str]] | None) -> str:
+    """What Tag has as a part, as a text."""
+    if value is None:
+        return ""
+    if isinstance(value, str):
+        return str.__str__(value)  # a subclass may have an == of its own
+    if isinstance(value, Mapping):
+        value = ("-".join([singleton, *subtags]) for singleton, subtags in value.items())
+    subtags = list(value)
+    return "-".join(subtags) or "-" if subtags else ""  # one subtag that is empty is refused, as all that are
+
+
 @functools.total_ordering
 class Tag(_Caseless):
     """A language tag. It does not change, keeps its case, and ignores it in comparisons.
@@ -217,6 +255,8 @@ class Tag(_Caseless):
     """
 
     __slots__ = ("_kind", "_parts")
+    _kind: Kind
+    _parts: _Parts
 
     def __init__(self, text: Text | Tag):
         if hasattr(self, "_data"):
@@ -320,6 +360,52 @@ class Tag(_Caseless):
         """
         return Tag(_changed(_c.langtag_recommend, self._data))
 
+    def replace(
+        self,
+        *,
+        language: str | _Kept = _Kept.KEPT,
+        script: str | None | _Kept = _Kept.KEPT,
+        region: str | None | _Kept = _Kept.KEPT,
+        variants: str | Iterable[str] | _Kept = _Kept.KEPT,
+        extensions: str | Mapping[str, Iterable[str]] | _Kept = _Kept.KEPT,
+        private_use: str | None | _Kept = _Kept.KEPT,
+    ) -> Tag:
+        """A normal tag with other parts; what is not named stays. None takes a part out, and so do no variants and no
+        extensions. What can't be that part, or a tag that is not normal, is an EditError. That it does so is tested, and not
+        proved.
+
+        >>> Tag("sl-IT-rozaj-x-a").replace(script="Latn", variants=("nedis", "1994"), private_use=None)
+        Tag('sl-Latn-IT-nedis-1994')
+        >>> Tag("de-CH").replace(region="Switzerland")
+        Traceback (most recent call last):
+        ...
+        langtag.EditError: 'Switzerland' can't be the region of a tag
+        """
+        tag = self
+        for part, value in zip(_PARTS, (language, script, region, variants, extensions, private_use)):
+            if value is not _Kept.KEPT:
+                tag = tag._with_part(part, value)
+        return tag
+
+    def _texts(self) -> dict[str, str]:
+        return {part: self._part(getattr(self._parts, part)) or "" for part in _PARTS}
+
+    def _with_part(self, part: str, value: str | Iterable[str] | Mapping[str, Iterable[str]] | None) -> Tag:
+        """Where the new text has these very parts, the new part is one of its kind, since the grammar reads a text in one
+        way."""
+        if self._kind is not Kind.NORMAL:
+            raise EditError(part, None)
+        text = _joined(value)
+        texts = {**self._texts(), part: text}
+        try:
+            tag = Tag("-".join(filter(None, texts.values())))
+        except InvalidTag:
+            raise EditError(part, text) from None
+        is_lacking = isinstance(value, str) and not text and part not in ("variants", "extensions")
+        if is_lacking or tag._kind is not Kind.NORMAL or tag._texts() != texts:
+            raise EditError(part, text)
+        return tag
+
     def folded(self) -> str:
         """The text in small letters: the same for all tags that are equal, to keep where texts are compared byte by byte."""
         return _changed(_c.langtag_fold, self._data).decode("ascii")
@@ -360,6 +446,7 @@ class Range(_Caseless):
     """
 
     __slots__ = ("_is_basic",)
+    _is_basic: bool
 
     def __init__(self, text: Text | Range):
         if hasattr(self, "_data"):

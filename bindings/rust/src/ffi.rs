@@ -17,6 +17,16 @@ struct Span {
     len: usize,
 }
 
+impl Span {
+    /// All of a text.
+    fn of(text: &str) -> Self {
+        Span {
+            start: 0,
+            len: text.len(),
+        }
+    }
+}
+
 #[repr(C)]
 #[derive(Clone, Copy)]
 struct Parts {
@@ -47,6 +57,7 @@ mod c {
         pub fn langtag_cmp(a: *const u8, a_len: usize, b: *const u8, b_len: usize) -> i32;
         pub fn langtag_hash(state: u64, bytes: *const u8, len: usize) -> u64;
         pub fn langtag_fold(bytes: *mut u8, len: usize);
+        #[cfg(feature = "alloc")]
         pub fn langtag_recommend(bytes: *mut u8, len: usize);
         pub fn langtag_next_subtag(
             bytes: *const u8,
@@ -78,8 +89,8 @@ mod c {
     }
 }
 
-/// A part of a tag.
-#[derive(Clone, Copy)]
+/// A part of a tag, in the order in which the parts stand.
+#[derive(Clone, Copy, PartialEq, Eq)]
 pub(crate) enum Part {
     Language,
     Script,
@@ -241,13 +252,7 @@ pub(crate) fn fold(bytes: &mut [u8]) {
 /// The first subtag, and what stands behind the hyphen after it.
 #[inline]
 pub(crate) fn split_subtag(text: &str) -> Option<(&str, &str)> {
-    let (mut rest, mut subtag) = (
-        Span {
-            start: 0,
-            len: text.len(),
-        },
-        Span { start: 0, len: 0 },
-    );
+    let (mut rest, mut subtag) = (Span::of(text), Span::of(""));
     // SAFETY: as above.
     let found =
         unsafe { c::langtag_next_subtag(text.as_ptr(), text.len(), &mut rest, &mut subtag) };
@@ -257,13 +262,7 @@ pub(crate) fn split_subtag(text: &str) -> Option<(&str, &str)> {
 /// The first extension, and what stands behind the hyphen after it.
 #[inline]
 pub(crate) fn split_extension(text: &str) -> Option<(&str, &str)> {
-    let (mut rest, mut extension) = (
-        Span {
-            start: 0,
-            len: text.len(),
-        },
-        Span { start: 0, len: 0 },
-    );
+    let (mut rest, mut extension) = (Span::of(text), Span::of(""));
     // SAFETY: as above.
     let found =
         unsafe { c::langtag_next_extension(text.as_ptr(), text.len(), &mut rest, &mut extension) };

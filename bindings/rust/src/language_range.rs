@@ -34,6 +34,7 @@ impl<'a> LanguageRange<'a> {
         }
     }
 
+    /// A range that is known to be one, and of which kind.
     #[cfg(feature = "alloc")]
     pub(crate) fn from_read(text: &'a str, is_basic: bool) -> Self {
         LanguageRange { text, is_basic }
@@ -47,6 +48,12 @@ impl<'a> LanguageRange<'a> {
     /// Whether it is a basic range (RFC 4647 section 2.1): true of `de-CH` and of `*`, false of `*-CH`.
     pub fn is_basic(&self) -> bool {
         self.is_basic
+    }
+
+    /// The owned form.
+    #[cfg(feature = "alloc")]
+    pub fn to_buf(&self) -> crate::LanguageRangeBuf {
+        (*self).into()
     }
 
     /// Whether it matches a tag by basic filtering (RFC 4647 section 3.3.1): `de-DE` matches `de-DE-1996`, and neither

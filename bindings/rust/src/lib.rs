@@ -36,9 +36,12 @@
 //! `Borrow<str>`. A map by tags is asked by a [`CaselessStr`], without memory. Of two texts of which one begins the other,
 //! the shorter is the greater.
 //!
-//! The crate needs neither std nor, without the feature `alloc`, memory. The feature `serde` reads and writes tags as
-//! strings. It links the static library `liblangtag_c.a`, which the build script looks for in the folder that
-//! `LANGTAG_LIB_DIR` names.
+//! The setters of [`LangTagBuf`], as [`LangTagBuf::set_script`], put parts into a tag.
+//!
+//! The crate needs neither std nor, without the feature `alloc`, memory. The feature `serde`, which the same crate in the
+//! folder `serde` has, reads and writes tags and ranges as strings: cargo looks an optional dependency up even where it is
+//! off, and this crate needs no registry. It links the static library `liblangtag_c.a`, which the build script looks for in
+//! the folder that `LANGTAG_LIB_DIR` names.
 //!
 //! What a program has to see to, since neither the compiler nor the crate does: it runs on an x86-64 processor with SSE4.2
 //! (x86-64-v2), and a thread that calls [`LangTag::repeated_variant`] or [`LangTag::repeated_singleton`] has 96 KiB of free
@@ -51,6 +54,8 @@ extern crate alloc;
 
 mod caseless;
 mod caseless_str;
+#[cfg(feature = "alloc")]
+mod edit;
 mod error;
 mod extension;
 #[allow(unsafe_code)]
@@ -71,7 +76,7 @@ mod subtags;
 mod variants;
 
 pub use caseless_str::CaselessStr;
-pub use error::{InvalidLangTag, InvalidLanguageRange};
+pub use error::{EditError, InvalidLangTag, InvalidLanguageRange};
 pub use extension::{Extension, Extensions, ExtensionsIter};
 pub use kind::Kind;
 pub use lang_tag::{LangTag, GRANDFATHERED};
