@@ -86,6 +86,14 @@ mod c {
             tag: *const u8,
             tag_len: usize,
         ) -> bool;
+        pub fn langtag_next_fallback(bytes: *const u8, len: usize, rest: *mut Span) -> bool;
+        pub fn langtag_next_accepted(
+            bytes: *const u8,
+            len: usize,
+            rest: *mut Span,
+            range: *mut Span,
+            weight: *mut u32,
+        ) -> u32;
     }
 }
 
@@ -304,4 +312,40 @@ pub(crate) fn matches_basic(range: &str, tag: &str) -> bool {
 pub(crate) fn matches_extended(range: &str, tag: &str) -> bool {
     // SAFETY: as above.
     unsafe { c::langtag_matches_extended(range.as_ptr(), range.len(), tag.as_ptr(), tag.len()) }
+}
+
+/// What is left of a range without its last subtag, and without each single character that would stand last then.
+pub(crate) fn next_fallback(range: &str) -> Option<&str> {
+    let mut rest = Span::of(range);
+    // SAFETY: as above.
+    let found = unsafe { c::langtag_next_fallback(range.as_ptr(), range.len(), &mut rest) };
+    found.then(|| &range[..rest.len])
+}
+
+/// An element of a header.
+pub(crate) enum Element<'a> {
+    /// A basic range, and its weight.
+    Range(&'a str, u32),
+    /// All that stands between two commas, where there is not a basic range.
+    BadRange(&'a str),
+    /// The same, where there is not a weight.
+    BadWeight(&'a str),
+}
+
+/// The first element of a header that is not empty, and what stands behind the comma after it.
+pub(crate) fn split_element(header: &str) -> Option<(Element<'_>, &str)> {
+    let (mut rest, mut range, mut weight) = (Span::of(header), Span::of(""), 0);
+    // SAFETY: as above.
+    let answer = unsafe {
+        let (bytes, len) = (header.as_ptr(), header.len());
+        c::langtag_next_accepted(bytes, len, &mut rest, &mut range, &mut weight)
+    };
+    let text = &header[range.start..range.start + range.len];
+    let element = match answer {
+        0 => return None,
+        1 => Element::Range(text, weight),
+        2 => Element::BadRange(text),
+        _ => Element::BadWeight(text),
+    };
+    Some((element, &header[rest.start..]))
 }

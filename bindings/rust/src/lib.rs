@@ -36,7 +36,8 @@
 //! `Borrow<str>`. A map by tags is asked by a [`CaselessStr`], without memory. Of two texts of which one begins the other,
 //! the shorter is the greater.
 //!
-//! The setters of [`LangTagBuf`], as [`LangTagBuf::set_script`], put parts into a tag.
+//! [`AcceptLanguage`] reads the header of a request, and finds the tag to answer it in; [`look_up()`] takes ranges. The
+//! setters of [`LangTagBuf`], as [`LangTagBuf::set_script`], put parts into a tag.
 //!
 //! The crate needs neither std nor, without the feature `alloc`, memory. The feature `serde`, which the same crate in the
 //! folder `serde` has, reads and writes tags and ranges as strings: cargo looks an optional dependency up even where it is
@@ -52,12 +53,14 @@
 #[cfg(feature = "alloc")]
 extern crate alloc;
 
+mod accept_language;
 mod caseless;
 mod caseless_str;
 #[cfg(feature = "alloc")]
 mod edit;
 mod error;
 mod extension;
+mod fallbacks;
 #[allow(unsafe_code)]
 mod ffi;
 mod kind;
@@ -68,6 +71,7 @@ mod language;
 mod language_range;
 #[cfg(feature = "alloc")]
 mod language_range_buf;
+mod look_up;
 mod prefix;
 mod private_use;
 #[cfg(feature = "serde")]
@@ -75,9 +79,15 @@ mod serde;
 mod subtags;
 mod variants;
 
+pub use accept_language::{
+    tag_for_header, tag_for_header_lenient, AcceptLanguage, AcceptLanguageIter, WeightedRange,
+};
 pub use caseless_str::CaselessStr;
-pub use error::{EditError, InvalidLangTag, InvalidLanguageRange};
+pub use error::{
+    AcceptLanguageError, EditError, ElementPart, InvalidLangTag, InvalidLanguageRange,
+};
 pub use extension::{Extension, Extensions, ExtensionsIter};
+pub use fallbacks::Fallbacks;
 pub use kind::Kind;
 pub use lang_tag::{LangTag, GRANDFATHERED};
 #[cfg(feature = "alloc")]
@@ -86,6 +96,7 @@ pub use language::Language;
 pub use language_range::LanguageRange;
 #[cfg(feature = "alloc")]
 pub use language_range_buf::LanguageRangeBuf;
+pub use look_up::look_up;
 pub use prefix::{stop_len, viable_len};
 pub use private_use::PrivateUse;
 pub use subtags::Subtags;
