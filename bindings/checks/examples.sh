@@ -8,6 +8,12 @@ negotiate() {
 }
 check "C: the HTTP example builds" negotiate
 
+accept_language() {
+    cc $strict -fPIC -shared -I"$work/usr/include" examples/accept_language.c "$work/usr/lib/liblangtag_verified.a" \
+        -o "$work/built/accept_language.so"
+}
+check "C: the choice of a tag builds" accept_language
+
 sqlite_extension() {
     cc $strict -fPIC -shared -I"$work/usr/include" examples/sqlite_langtag.c "$work/usr/lib/liblangtag_verified.a" \
         -o "$work/built/sqlite_langtag.so"
@@ -20,5 +26,6 @@ else
     check "C: the SQLite example builds" sqlite_extension
     extension=$work/built/sqlite_langtag.so
 fi
-check "the HTTP examples in C and Python answer alike, and the SQLite one answers" \
-    env PYTHONPATH="$work/bindings/python" python3 examples/test_examples.py "$work/built/negotiate" $extension
+check "the HTTP examples in C and Python answer alike, by the rows of negotiation.txt, and the SQLite one answers" \
+    env PYTHONPATH="$work/bindings/python" python3 examples/test_examples.py "$work/built/negotiate" \
+    "$work/built/accept_language.so" $extension

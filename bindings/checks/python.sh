@@ -9,9 +9,17 @@ else
     not_run "Python: the same by Python 3.8" "it is not there"
 fi
 
-type_check() { cd python && python3 -m mypy --strict langtag; }
-if python3 -m mypy --version >/dev/null 2>&1; then
-    check "Python: types" type_check
+# mypy of this Python, or the program that Debian installs. It also reads a program of a user, whose mistake it has to see.
+mypy=
+if python3 -m mypy --version >/dev/null 2>&1; then mypy="python3 -m mypy"; elif has mypy; then mypy=mypy; fi
+type_check() { cd python && $mypy --strict langtag && $mypy --strict ../examples/parts.py ../examples/negotiate.py; }
+mistake() {
+    cd python && printf '%s\n' 'import langtag' 'langtag.Tag("de").replace(script=5)' >"$work/mistake.py"
+    ($mypy --strict "$work/mistake.py" || true) | grep 'mistake.py:2: error: Argument "script"'
+}
+if [ -n "$mypy" ]; then
+    check "Python: types" env MYPYPATH=. bash -c type_check
+    check "Python: types of a call that is wrong" env MYPYPATH=. bash -c mistake
 else
-    not_run "Python: types" "there is no mypy"
+    not_run "Python: types" "there is no mypy (in Debian: apt-get install mypy)"
 fi

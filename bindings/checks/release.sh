@@ -38,15 +38,23 @@ by_cmake() {
 if has pkg-config; then check "release: C by pkg-config" by_pkg_config; else not_run "release: C by pkg-config" "it is not there"; fi
 if has cmake; then check "release: C by find_package" by_cmake; else not_run "release: C by find_package" "there is no cmake"; fi
 
-# The crate offers serde, which cargo looks up: where there is no source of it, its lines are taken out.
+# The crate is built with no registry; and where there are sources of serde, with that feature.
 crate() {
-    away 'tar -xzf ../dist/*.crate; cargo new -q --vcs none first; cp parts.rs first/src/main.rs
-        if [ -d ../bindings-cargo ]; then cp -r ../bindings-cargo .cargo
-        else sed -i -e "s|^alloc = .*|alloc = []|" -e "/^serde = /d" langtag-verified-*/Cargo.toml; fi
-        cd first; export CARGO_TARGET_DIR=$PWD/target
+    away 'tar -xzf ../dist/*.crate; cargo new -q --vcs none first; cp parts.rs first/src/main.rs; cd first
+        export CARGO_TARGET_DIR=$PWD/target CARGO_HOME=$PWD/cargo-home
         cargo add -q --offline --path ../langtag-verified-*/; cargo run -q --offline zh-Hant-TW'
 }
-if has cargo; then check "release: the Rust crate, offline" crate; else not_run "release: the Rust crate" "there is no cargo"; fi
+crate_with_serde() {
+    away 'tar -xzf ../dist/*.crate; cargo new -q --vcs none first; cp parts.rs first/src/main.rs; cd first
+        cp -r ../../cargo-of-serde .cargo; export CARGO_TARGET_DIR=$PWD/target CARGO_HOME=$PWD/cargo-home
+        cargo add -q --offline --path ../langtag-verified-*/serde; cargo run -q --offline zh-Hant-TW'
+}
+if has cargo; then
+    check "release: the Rust crate, with no registry" crate
+else
+    not_run "release: the Rust crate" "there is no cargo"
+fi
+if [ -d "$work/cargo-of-serde" ]; then check "release: the Rust crate with serde" crate_with_serde; fi
 
 # python_package PYTHON FILE..
 python_package() {

@@ -8,33 +8,16 @@ if ! has cargo; then
     return 0
 fi
 
-# As docs/BINDINGS.md says it of the three lines with `serde`.
-take_out_serde() { sed -i -e 's|^alloc = .*|alloc = []|' -e '/^serde = /d' "$1"; }
-
-# serde comes of a folder of sources, or of crates.io; else the feature is taken out of the copy.
-if ls "$registry"/serde-1.* >/dev/null 2>&1; then
-    mkdir .cargo
-    cat >.cargo/config.toml <<END
-[source.crates-io]
-replace-with = "folder"
-[source.folder]
-directory = "$registry"
-[net]
-offline = true
-END
-    cp -r .cargo "$work/bindings-cargo"
-elif ! (cd rust && timeout 60 cargo fetch -q) >/dev/null 2>&1; then
-    not_run "Rust: the feature serde" "its source is not in $registry, and crates.io cannot be reached"
-    take_out_serde rust/Cargo.toml
-    CARGO_NET_OFFLINE=true
-fi
+# All but the feature serde is built as on a machine that has no registry.
+CARGO_HOME=$work/cargo-home
+CARGO_NET_OFFLINE=true
 
 rust() { cd rust && cargo "$@"; }
-check "Rust: tests, the examples of its documents, and C's answers to random calls" \
-    env LANGTAG_ANSWERS="$work/answers" bash -c 'cd rust && cargo test --all-features'
-check "Rust: without alloc" rust build --no-default-features
+check "Rust: tests, the examples of its documents, and C's answers to random calls, with no registry" \
+    env LANGTAG_ANSWERS="$work/answers" RUSTFLAGS=-Dwarnings bash -c 'cd rust && cargo test'
+check "Rust: without alloc" env RUSTFLAGS=-Dwarnings bash -c 'cd rust && cargo test -q --no-default-features --tests'
 under_valgrind() {
-    CARGO_TARGET_X86_64_UNKNOWN_LINUX_GNU_RUNNER="valgrind -q --error-exitcode=9" rust test --all-features --tests
+    CARGO_TARGET_X86_64_UNKNOWN_LINUX_GNU_RUNNER="valgrind -q --error-exitcode=9" rust test --tests -- --skip long_headers
 }
 if has valgrind; then
     check "Rust: tests under valgrind" under_valgrind
@@ -42,20 +25,32 @@ else
     not_run "Rust: tests under valgrind" "it is not there"
 fi
 if cargo clippy --version >/dev/null 2>&1; then
-    check "Rust: clippy" rust clippy --all-targets --all-features -- -D warnings
+    check "Rust: clippy" rust clippy --all-targets -- -D warnings
 else
     not_run "Rust: clippy" "it is not there"
 fi
-check "Rust: documents" env RUSTDOCFLAGS=-Dwarnings cargo doc --manifest-path rust/Cargo.toml --no-deps --all-features
+check "Rust: documents" env RUSTDOCFLAGS=-Dwarnings cargo doc --manifest-path rust/Cargo.toml --no-deps
 
-# A crate without dependencies is built with no registry at all, and says nothing.
-without_serde() {
-    mkdir "$work/no-registry" && cp -r rust table.txt "$work/no-registry/" && cd "$work/no-registry/rust" || return 1
-    take_out_serde Cargo.toml && ! grep -n '^ *serde' Cargo.toml || return 1
-    CARGO_HOME=$work/no-registry/home RUSTFLAGS=-Dwarnings CARGO_TARGET_DIR=$work/no-registry/target \
-        cargo test -q --offline
+# serde comes of a folder of sources, or of crates.io.
+if ls "$registry"/serde-1.* >/dev/null 2>&1; then
+    mkdir rust/serde/.cargo
+    cat >rust/serde/.cargo/config.toml <<END
+[source.crates-io]
+replace-with = "folder"
+[source.folder]
+directory = "$registry"
+END
+    cp -r rust/serde/.cargo "$work/cargo-of-serde"
+fi
+with_serde() {
+    cd rust/serde && cargo test -q --features serde --test serde && cargo build -q --no-default-features --features serde &&
+        cargo doc -q --no-deps --all-features
 }
-check "Rust: with the three lines of serde taken out of its manifest" without_serde
+if [ -d rust/serde/.cargo ] || (cd rust/serde && CARGO_NET_OFFLINE=false timeout 60 cargo fetch -q) >/dev/null 2>&1; then
+    check "Rust: the feature serde" env RUSTFLAGS=-Dwarnings RUSTDOCFLAGS=-Dwarnings bash -c with_serde
+else
+    not_run "Rust: the feature serde" "its source is not in $registry, and crates.io cannot be reached"
+fi
 
 # refused WORDS CARGO_ARGUMENTS..: that the build script refuses it in such words.
 refused() {
@@ -79,7 +74,7 @@ check "Rust: clear words where LANGTAG_LIB_DIR is not absolute" relative_folder
 check "Rust: clear words on another platform" other_platforms
 
 program() {
-    cargo new -q --vcs none tags && cd tags && cargo add -q --path ../rust || return 1
+    cargo new -q --vcs none tags && cd tags && cargo add -q --offline --path ../rust || return 1
     cp ../rust/examples/parts.rs src/main.rs
     cargo run -q zh-Hant-TW | diff - <(wanted)
 }

@@ -57,7 +57,7 @@ static void answer(int connection) {
     size_t len, chosen = COUNT;
     receive(connection, request, sizeof request);
     const char *accept = header(request, "Accept-Language", &len);
-    if (accept) chosen = choose_tag(accept, len, tags, COUNT);
+    if (accept) chosen = choose_tag_lenient(accept, len, tags, COUNT);
     if (chosen == COUNT) chosen = DEFAULT;
     int size = snprintf(reply, sizeof reply,
                         "HTTP/1.1 200 OK\r\nContent-Type: text/plain; charset=utf-8\r\nContent-Language: %s\r\nVary: "

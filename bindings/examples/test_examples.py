@@ -1,12 +1,14 @@
 #!/usr/bin/env python3
-"""The examples beside each other: test_examples.py NEGOTIATE SQLITE_EXTENSION, of which the latter may be left out.
+"""The examples beside each other: test_examples.py NEGOTIATE ACCEPT_LANGUAGE SQLITE_EXTENSION, of which the last may be left
+out.
 
-NEGOTIATE is the C program, built. Both servers get the same headers, and have to give the same answers.
+NEGOTIATE is the C program, and ACCEPT_LANGUAGE a shared library of accept_language.c. Both servers get the same headers, and
+have to give the same answers; and the library those of bindings/negotiation.txt, which says its form.
 """
 import contextlib
-import doctest
+import ctypes
 import http.client
-import itertools
+import pathlib
 import re
 import socket
 import subprocess
@@ -18,16 +20,17 @@ import negotiate
 
 # A header, and the Content-Language of the answer.
 HEADERS = [
-    (None, "en"), ("", "en"), ("de", "de"), ("DE-ch-1996", "de-CH"), ("fr;q=0.3, DE-ch-1996;q=0.9", "de-CH"),
-    ("de;q=0.5,fr;q=0.5", "de"), ("fr;q=0, de;q=0.1", "de"), ("ja, *;q=0.1", "en"), ("zh-Hant-TW", "zh-Hant"),
-    ("zh", "en"), ("zh-hant-x-a-b", "zh-Hant"), ("zh-hant-a-x-b", "zh-Hant"), ("fr;q=1.001, de;q=0.2", "de"),
-    ("fr;q=2, de", "de"), ("fr;, de", "de"), ("fr;q=, de;q=0.001", "de"), ("fr ; Q=0.9\t, de", "de"),
-    ("*-CH, fr;q=0.1", "fr"), ("fr_FR", "en"), ("fr;q=1.000, de;q=0.999", "fr"), (",,, ,de,", "de"),
-    ("fr;q=0.3;q=0.4, de;q=0.1", "de"), ("a-b, de", "de"), ("fr;q=1.", "fr"),
-    ("fr;q=0.112, de;q=0.113", "de"), ("fr;q=0.001, de;q=0.002", "de"), ("fr;q=0.5, de;q=0.501, zh-Hant;q=0.499", "de"),
-    *((f"fr;q={whole}{mark}5, de;q=0.1", "fr" if (whole, mark) == ("0", ".") else "de")
-      for whole in "01259 /:" for mark in ".>-/0:e"),
+    (None, "en"), ("", "en"), ("de", "de"), ("fr;q=0.3, DE-ch-1996;q=0.9", "de-CH"), ("de;q=0.5,fr;q=0.5", "de"),
+    ("fr;q=0, de;q=0.1", "de"), ("ja, *;q=0.1", "en"), ("zh-Hant-TW", "zh-Hant"), ("zh", "en"), ("fr_FR, de;q=0.1", "de"),
+    ("fr;q=2, de", "de"), ("fr ; Q=0.9\t, de", "de"), (",,, ,de,", "de"),
 ]
+NEGOTIATION = pathlib.Path(__file__).resolve().parent.parent / "negotiation.txt"
+PARTS = {2: "range", 3: "weight"}
+
+
+def unescape(field):
+    field = re.sub(r"\{(\d+):([^}]*)\}", lambda found: int(found[1]) * found[2], field).encode()
+    return b"" if field == b"''" else re.sub(rb"\\x(..)", lambda found: bytes([int(found[1], 16)]), field)
 
 
 # Statements for SQLite, and what it says to them.
@@ -81,30 +84,26 @@ class Examples(unittest.TestCase):
         self.assertEqual(answers([sys.executable, negotiate.__file__, "0"]), wanted)
         self.assertEqual(answers([NEGOTIATE, "0"]), wanted)
 
-    def test_weights(self):
-        """Every text of up to four bytes of these as a weight, and some longer ones, beside RFC 9110 section 12.4.2."""
-        texts = ["".join(text) for length in range(5) for text in itertools.product("01.>5", repeat=length)]
-        texts += ["0.1234", "0.0004", "0.999", "1.0000", "1.000", "0.5 5", "00.5", "+0.5", "0,5", "0.001", "0.0001"]
-        for text in texts:
-            is_weight = re.fullmatch(r"0(\.\d{0,3})?|1(\.0{0,3})?", text)
-            found = negotiate.accepted(f"fr;q={text}, de;q=0.5")
-            wanted = ["fr"] if is_weight and float(text) >= 0.5 else []
-            wanted += ["de"] + (["fr"] if is_weight and 0 < float(text) < 0.5 else [])
-            self.assertEqual([str(it) for it in found], wanted, text)
-        for a, b in ((a, b) for a in range(1, 999, 37) for b in (a, a + 1)):
-            header = f"fr;q=0.{a:03}, de;q=0.{b:03}"
-            chosen = negotiate.choose(header, negotiate.GREETINGS, negotiate.DEFAULT)
-            self.assertEqual(str(chosen), "de" if b > a else "fr", header)
-
-    def test_equal_tags(self):
-        tags = [negotiate.Tag(text) for text in ("DE", "de", "fr", "De")]
-        self.assertEqual(str(negotiate.choose("de", tags, tags[2])), "DE")
-
-    def test_a_long_header(self):
-        begun = time.monotonic()
-        for header in ("ab-" * 21_000 + "ab", "a-" * 32_000 + "b", "de-CH," * 10_000):
-            negotiate.choose(header, negotiate.GREETINGS, negotiate.DEFAULT)
-        self.assertLess(time.monotonic() - begun, 2)
+    def test_rows(self):
+        """A row of basic ranges is a header, too."""
+        library = ctypes.CDLL(ACCEPT_LANGUAGE)
+        texts = ctypes.POINTER(ctypes.c_char_p)
+        library.choose_tag_lenient.argtypes = [ctypes.c_char_p, ctypes.c_size_t, texts, ctypes.c_size_t]
+        library.choose_tag_lenient.restype = ctypes.c_size_t
+        library.choose_tag_strict.argtypes = [*library.choose_tag_lenient.argtypes, ctypes.POINTER(ctypes.c_size_t)]
+        lines = [line for line in NEGOTIATION.read_text("ascii").splitlines() if line and line[0] != "#"]
+        for call, asked, tags, *wanted in (map(unescape, line.split(" | ")) for line in lines):
+            if call == b"ranges":
+                asked, wanted = asked.replace(b" ", b","), wanted * 2
+            if call == b"ranges" and b"*" in asked:
+                continue
+            names, found = [*tags.split(), b"-"], ctypes.c_size_t()
+            arguments = asked, len(asked), (ctypes.c_char_p * len(names))(*names), len(names) - 1
+            answer = library.choose_tag_strict(*arguments, found)
+            strict = names[found.value] if answer == 0 else (
+                f"bad {asked.count(b',', 0, found.value)} {found.value} {PARTS[answer]}".encode())
+            self.assertEqual([strict, names[library.choose_tag_lenient(*arguments)]], wanted, asked)
+        self.assertGreater(len(lines), 90)
 
     def test_who_waits_and_who_sends_a_nul(self):
         with serving([NEGOTIATE, "0"]) as port, socket.create_connection(("127.0.0.1", port)):  # which sends nothing
@@ -120,11 +119,6 @@ class Examples(unittest.TestCase):
         self.assertIn("no part has that name", sqlite("SELECT langtag_part('de', 'skript');")[1])
 
 
-def load_tests(loader, tests, ignore):
-    tests.addTests(doctest.DocTestSuite(negotiate))
-    return tests
-
-
 if __name__ == "__main__":
-    NEGOTIATE, EXTENSION = (sys.argv[1:3] + [None])[:2]
+    NEGOTIATE, ACCEPT_LANGUAGE, EXTENSION = (sys.argv[1:4] + [None])[:3]
     unittest.main(argv=sys.argv[:1])

@@ -27,7 +27,15 @@ fn folders() -> Vec<PathBuf> {
     }
     let here =
         PathBuf::from(env::var_os("CARGO_MANIFEST_DIR").expect("cargo names the crate's folder"));
-    vec![here.join("lib"), here.join("../../crates/langtag_c/out")]
+    // In the crate or above serde/, as it is packed; or in the repository.
+    [
+        "lib",
+        "../lib",
+        "../../crates/langtag_c/out",
+        "../../../crates/langtag_c/out",
+    ]
+    .map(|folder| here.join(folder))
+    .into()
 }
 
 fn fail(message: &str) -> ! {

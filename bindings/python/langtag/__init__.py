@@ -24,9 +24,12 @@ import functools
 import os
 import pathlib
 from ctypes import POINTER, c_bool, c_char, c_char_p, c_int32, c_size_t, c_uint32, c_uint64
-from typing import Any, Callable, ClassVar, Iterator, Union
+from typing import Any, Callable, ClassVar, Iterable, Iterator, Mapping, NamedTuple, TypeVar, Union
 
-__all__ = ["GRANDFATHERED", "InvalidRange", "InvalidTag", "Kind", "Range", "Tag", "kind", "parse", "stop", "viable"]
+__all__ = [
+    "AcceptLanguage", "AcceptLanguageError", "EditError", "GRANDFATHERED", "InvalidRange", "InvalidTag", "Kind", "Range",
+    "Tag", "WeightedRange", "kind", "look_up", "parse", "stop", "tag_for_header", "tag_for_header_lenient", "viable",
+]
 __version__ = "0.1.0"
 
 Text = Union[str, bytes]
@@ -76,6 +79,8 @@ _FUNCTIONS: dict[str, tuple[Any, ...]] = {
     "langtag_range_kind": (c_uint32, c_char_p, c_size_t),
     "langtag_matches_basic": (c_bool, c_char_p, c_size_t, c_char_p, c_size_t),
     "langtag_matches_extended": (c_bool, c_char_p, c_size_t, c_char_p, c_size_t),
+    "langtag_next_fallback": (c_bool, c_char_p, c_size_t, POINTER(_Span)),
+    "langtag_next_accepted": (c_uint32, c_char_p, c_size_t, POINTER(_Span), POINTER(_Span), POINTER(c_uint32)),
 }
 
 
@@ -145,6 +150,30 @@ class InvalidRange(ValueError):
         return type(self), (self.text,)
 
 
+class EditError(ValueError):
+    """Why Tag.replace did not put a part into a tag: `part`, as "script", and `text`, which is not one, or None where the
+    tag is not a normal one and has no parts."""
+
+    def __init__(self, part: str, text: str | None):
+        self.part, self.text = part, text
+        super().__init__("not a normal language tag" if text is None else f"{text!r} can't be the {part} of a tag")
+
+    def __reduce__(self) -> tuple[type[EditError], tuple[str, str | None]]:
+        return type(self), (self.part, self.text)
+
+
+class AcceptLanguageError(ValueError):
+    """A header with a bad element: `header`; of its first bad element `index`, which counts the commas before it, `offset`,
+    in bytes, just after the last of these, and `part`, which is bad of it, "language range" or "weight"."""
+
+    def __init__(self, header: Text, index: int, offset: int, part: str):
+        self.header, self.index, self.offset, self.part = header, index, offset, part
+        super().__init__(f"element {index} has a bad {part}")
+
+    def __reduce__(self) -> tuple[type[AcceptLanguageError], tuple[Text, int, int, str]]:
+        return type(self), (self.header, self.index, self.offset, self.part)
+
+
 def kind(text: Text) -> Kind | None:
     """What a text is, as a tag; None where it is none."""
     data = _bytes(text)
@@ -208,6 +237,30 @@ class _Caseless:
         return type(self), (str(self),)
 
 
+class _Kept(enum.Enum):
+    """The value of a part that Tag.replace is not given."""
+
+    KEPT = "kept"
+
+    def __repr__(self) -> str:
+        return "..."
+
+
+_PARTS = ("language", "script", "region", "variants", "extensions", "private_use")
+
+
+def _joined(value: str | Iterable[str] | Mapping[str, Iterable[str]] | None) -> str:
+    """What Tag has as a part, as a text."""
+    if value is None:
+        return ""
+    if isinstance(value, str):
+        return str.__str__(value)  # a subclass may have an == of its own
+    if isinstance(value, Mapping):
+        value = ("-".join([singleton, *subtags]) for singleton, subtags in value.items())
+    subtags = list(value)
+    return "-".join(subtags) or "-" if subtags else ""  # one subtag that is empty is refused, as all that are
+
+
 @functools.total_ordering
 class Tag(_Caseless):
     """A language tag. It does not change, keeps its case, and ignores it in comparisons.
@@ -217,6 +270,8 @@ class Tag(_Caseless):
     """
 
     __slots__ = ("_kind", "_parts")
+    _kind: Kind
+    _parts: _Parts
 
     def __init__(self, text: Text | Tag):
         if hasattr(self, "_data"):
@@ -320,6 +375,52 @@ class Tag(_Caseless):
         """
         return Tag(_changed(_c.langtag_recommend, self._data))
 
+    def replace(
+        self,
+        *,
+        language: str | _Kept = _Kept.KEPT,
+        script: str | None | _Kept = _Kept.KEPT,
+        region: str | None | _Kept = _Kept.KEPT,
+        variants: str | Iterable[str] | _Kept = _Kept.KEPT,
+        extensions: str | Mapping[str, Iterable[str]] | _Kept = _Kept.KEPT,
+        private_use: str | None | _Kept = _Kept.KEPT,
+    ) -> Tag:
+        """A normal tag with other parts; what is not named stays. None takes a part out, and so do no variants and no
+        extensions. What can't be that part, or a tag that is not normal, is an EditError. That it does so is tested, and not
+        proved.
+
+        >>> Tag("sl-IT-rozaj-x-a").replace(script="Latn", variants=("nedis", "1994"), private_use=None)
+        Tag('sl-Latn-IT-nedis-1994')
+        >>> Tag("de-CH").replace(region="Switzerland")
+        Traceback (most recent call last):
+        ...
+        langtag.EditError: 'Switzerland' can't be the region of a tag
+        """
+        tag = self
+        for part, value in zip(_PARTS, (language, script, region, variants, extensions, private_use)):
+            if value is not _Kept.KEPT:
+                tag = tag._with_part(part, value)
+        return tag
+
+    def _texts(self) -> dict[str, str]:
+        return {part: self._part(getattr(self._parts, part)) or "" for part in _PARTS}
+
+    def _with_part(self, part: str, value: str | Iterable[str] | Mapping[str, Iterable[str]] | None) -> Tag:
+        """Where the new text has these very parts, the new part is one of its kind, since the grammar reads a text in one
+        way."""
+        if self._kind is not Kind.NORMAL:
+            raise EditError(part, None)
+        text = _joined(value)
+        texts = {**self._texts(), part: text}
+        try:
+            tag = Tag("-".join(filter(None, texts.values())))
+        except InvalidTag:
+            raise EditError(part, text) from None
+        is_lacking = isinstance(value, str) and not text and part not in ("variants", "extensions")
+        if is_lacking or tag._kind is not Kind.NORMAL or tag._texts() != texts:
+            raise EditError(part, text)
+        return tag
+
     def folded(self) -> str:
         """The text in small letters: the same for all tags that are equal, to keep where texts are compared byte by byte."""
         return _changed(_c.langtag_fold, self._data).decode("ascii")
@@ -360,6 +461,7 @@ class Range(_Caseless):
     """
 
     __slots__ = ("_is_basic",)
+    _is_basic: bool
 
     def __init__(self, text: Text | Range):
         if hasattr(self, "_data"):
@@ -377,6 +479,14 @@ class Range(_Caseless):
         """Whether it is a basic range (section 2.1): de-CH, or * alone."""
         return self._is_basic
 
+    def fallbacks(self) -> Iterator[Range]:
+        """What it is looked up by (section 3.4): itself, and what is left of it when subtags are taken off its end.
+
+        >>> [str(range) for range in Range("zh-Hant-CN-x-private1").fallbacks()]
+        ['zh-Hant-CN-x-private1', 'zh-Hant-CN', 'zh-Hant', 'zh']
+        """
+        return (Range(self._data[:end]) for end in _fallback_ends(self._data))
+
     def matches_basic(self, tag: Tag) -> bool:
         """Whether it matches a tag by basic filtering (section 3.3.1): de-DE matches de-DE-1996, and not de-Latn-DE."""
         data = _bytes_of_tag(tag)
@@ -389,3 +499,125 @@ class Range(_Caseless):
 
 
 Range._base = Range
+
+
+def _fallback_ends(range: bytes) -> Iterator[int]:
+    """Where the fallbacks of a range end; all of them begin where it does."""
+    rest = _Span(0, len(range))
+    yield rest.len
+    while _c.langtag_next_fallback(range, len(range), rest):
+        yield rest.len
+
+
+_Default = TypeVar("_Default")
+
+
+def look_up(ranges: Iterable[Range], tags: Iterable[Tag], default: _Default) -> Tag | _Default:
+    """The tag of the first range that finds one, or the default (RFC 4647 section 3.4). A range finds the tag that is equal
+    to it, or else to the first of its fallbacks that is one of the tags; of tags that are equal but for case the first.
+
+    An extended range is looked up as the basic one without its * (section 3.2): de-*-DE as de-DE. A range that begins with *
+    finds no tag.
+
+    >>> look_up([Range("nl"), Range("ZH-hant-CN")], [Tag("en"), Tag("zh-Hant"), Tag("zh")], None)
+    Tag('zh-Hant')
+    """
+    tags = list(tags)
+    known = {_bytes_of_tag(tag).lower(): tag for tag in reversed(tags)}
+    longest = max(map(len, known), default=0)
+    for range in ranges:
+        if not isinstance(range, Range):
+            raise TypeError(f"a Range is looked up, and not {type(range).__name__}")
+        text = range._data.replace(b"-*", b"").lower()
+        for end in _fallback_ends(text):
+            tag = known.get(text[:end]) if end <= longest else None
+            if tag is not None:
+                return tag
+    return default
+
+
+class WeightedRange(NamedTuple):
+    """A language range of a header, and its weight in thousandths, from 1 to 1000."""
+
+    range: Range
+    weight: int
+
+
+_BAD_PARTS = {2: "language range", 3: "weight"}
+
+
+def _elements(header: bytes) -> Iterator[tuple[int, _Span, int]]:
+    """The elements of a header that are not empty: the answer of the call, where the range or the bad element stands, and
+    the weight."""
+    rest, range, weight = _Span(0, len(header)), _Span(), c_uint32()
+    while True:
+        answer = int(_c.langtag_next_accepted(header, len(header), rest, range, weight))
+        if answer == 0:
+            return
+        yield answer, range, weight.value
+
+
+class AcceptLanguage:
+    """The ranges that an Accept-Language header asks for (RFC 9110 section 12.5.4): `ranges`, those of the greatest weight
+    first, without those of the weight 0. Ranges of one weight keep their order.
+
+    A header with a bad element, as de_CH or de;q=2, is an AcceptLanguageError. AcceptLanguage.lenient passes bad elements
+    over instead, as one wants it of browsers' requests. Empty elements are passed over by both.
+
+    >>> AcceptLanguage("fr;q=0.3, DE-ch-1996;q=0.9, *;q=0").ranges
+    (WeightedRange(range=Range('DE-ch-1996'), weight=900), WeightedRange(range=Range('fr'), weight=300))
+    >>> AcceptLanguage("fr;q=0.3, de_CH")
+    Traceback (most recent call last):
+    ...
+    langtag.AcceptLanguageError: element 1 has a bad language range
+    >>> AcceptLanguage.lenient("fr;q=0.3, de_CH").look_up([Tag("en"), Tag("fr")], Tag("en"))
+    Tag('fr')
+    """
+
+    __slots__ = ("ranges",)
+    ranges: tuple[WeightedRange, ...]
+
+    def __init__(self, header: Text):
+        data = _bytes(header)
+        for answer, span, _ in _elements(data):
+            if answer in _BAD_PARTS:
+                raise AcceptLanguageError(header, data.count(b",", 0, span.start), span.start, _BAD_PARTS[answer])
+        self.ranges = _by_weight(data)
+
+    @classmethod
+    def lenient(cls, header: Text) -> AcceptLanguage:
+        """The ranges of the elements that are not bad."""
+        accepted = cls("")
+        accepted.ranges = _by_weight(_bytes(header))
+        return accepted
+
+    def look_up(self, tags: Iterable[Tag], default: _Default) -> Tag | _Default:
+        """The tag that the ranges find, those of the greatest weight first, or the default, by look_up."""
+        return look_up((weighted.range for weighted in self.ranges), tags, default)
+
+    def __repr__(self) -> str:
+        return f"{type(self).__name__}({', '.join(f'{it.range};q={it.weight / 1000}' for it in self.ranges)!r})"
+
+
+def _by_weight(header: bytes) -> tuple[WeightedRange, ...]:
+    found = [WeightedRange(Range(header[span.start : span.start + span.len]), weight)
+             for answer, span, weight in _elements(header) if answer == 1 and weight > 0]
+    return tuple(sorted(found, key=lambda weighted: -weighted.weight))
+
+
+def tag_for_header(header: Text, tags: Iterable[Tag], default: _Default) -> Tag | _Default:
+    """The tag for a header: AcceptLanguage and its look_up in one call, with its AcceptLanguageError.
+
+    >>> tag_for_header("fr;q=0.3, DE-ch-1996;q=0.9", [Tag("de-CH"), Tag("fr")], None)
+    Tag('de-CH')
+    """
+    return AcceptLanguage(header).look_up(tags, default)
+
+
+def tag_for_header_lenient(header: Text, tags: Iterable[Tag], default: _Default) -> Tag | _Default:
+    """The tag for a header, in which bad elements are passed over: AcceptLanguage.lenient and its look_up in one call.
+
+    >>> tag_for_header_lenient("fr_FR, de-ch;q=0.5, *", [Tag("de-CH"), Tag("fr")], None)
+    Tag('de-CH')
+    """
+    return AcceptLanguage.lenient(header).look_up(tags, default)

@@ -6,6 +6,9 @@ use crate::{ffi, LangTag};
 /// A text that is compared, ordered and hashed without regard to the case of ASCII letters, as a tag of that text is: what a
 /// map by tags is asked by. It need not be a tag.
 ///
+/// A map whose keys are [`LangTagBuf`](crate::LangTagBuf) can't be asked by `&LangTag`: `Borrow<LangTag>` would have to lend
+/// a `LangTag` that the key does not hold. It is asked by [`LangTag::as_caseless_str`].
+///
 /// ```
 /// use langtag_verified::{CaselessStr, LangTag, LangTagBuf};
 /// use std::collections::HashMap;

@@ -17,6 +17,16 @@ struct Span {
     len: usize,
 }
 
+impl Span {
+    /// All of a text.
+    fn of(text: &str) -> Self {
+        Span {
+            start: 0,
+            len: text.len(),
+        }
+    }
+}
+
 #[repr(C)]
 #[derive(Clone, Copy)]
 struct Parts {
@@ -47,6 +57,7 @@ mod c {
         pub fn langtag_cmp(a: *const u8, a_len: usize, b: *const u8, b_len: usize) -> i32;
         pub fn langtag_hash(state: u64, bytes: *const u8, len: usize) -> u64;
         pub fn langtag_fold(bytes: *mut u8, len: usize);
+        #[cfg(feature = "alloc")]
         pub fn langtag_recommend(bytes: *mut u8, len: usize);
         pub fn langtag_next_subtag(
             bytes: *const u8,
@@ -75,11 +86,19 @@ mod c {
             tag: *const u8,
             tag_len: usize,
         ) -> bool;
+        pub fn langtag_next_fallback(bytes: *const u8, len: usize, rest: *mut Span) -> bool;
+        pub fn langtag_next_accepted(
+            bytes: *const u8,
+            len: usize,
+            rest: *mut Span,
+            range: *mut Span,
+            weight: *mut u32,
+        ) -> u32;
     }
 }
 
-/// A part of a tag.
-#[derive(Clone, Copy)]
+/// A part of a tag, in the order in which the parts stand.
+#[derive(Clone, Copy, PartialEq, Eq)]
 pub(crate) enum Part {
     Language,
     Script,
@@ -241,13 +260,7 @@ pub(crate) fn fold(bytes: &mut [u8]) {
 /// The first subtag, and what stands behind the hyphen after it.
 #[inline]
 pub(crate) fn split_subtag(text: &str) -> Option<(&str, &str)> {
-    let (mut rest, mut subtag) = (
-        Span {
-            start: 0,
-            len: text.len(),
-        },
-        Span { start: 0, len: 0 },
-    );
+    let (mut rest, mut subtag) = (Span::of(text), Span::of(""));
     // SAFETY: as above.
     let found =
         unsafe { c::langtag_next_subtag(text.as_ptr(), text.len(), &mut rest, &mut subtag) };
@@ -257,13 +270,7 @@ pub(crate) fn split_subtag(text: &str) -> Option<(&str, &str)> {
 /// The first extension, and what stands behind the hyphen after it.
 #[inline]
 pub(crate) fn split_extension(text: &str) -> Option<(&str, &str)> {
-    let (mut rest, mut extension) = (
-        Span {
-            start: 0,
-            len: text.len(),
-        },
-        Span { start: 0, len: 0 },
-    );
+    let (mut rest, mut extension) = (Span::of(text), Span::of(""));
     // SAFETY: as above.
     let found =
         unsafe { c::langtag_next_extension(text.as_ptr(), text.len(), &mut rest, &mut extension) };
@@ -305,4 +312,40 @@ pub(crate) fn matches_basic(range: &str, tag: &str) -> bool {
 pub(crate) fn matches_extended(range: &str, tag: &str) -> bool {
     // SAFETY: as above.
     unsafe { c::langtag_matches_extended(range.as_ptr(), range.len(), tag.as_ptr(), tag.len()) }
+}
+
+/// What is left of a range without its last subtag, and without each single character that would stand last then.
+pub(crate) fn next_fallback(range: &str) -> Option<&str> {
+    let mut rest = Span::of(range);
+    // SAFETY: as above.
+    let found = unsafe { c::langtag_next_fallback(range.as_ptr(), range.len(), &mut rest) };
+    found.then(|| &range[..rest.len])
+}
+
+/// An element of a header.
+pub(crate) enum Element<'a> {
+    /// A basic range, and its weight.
+    Range(&'a str, u32),
+    /// All that stands between two commas, where there is not a basic range.
+    BadRange(&'a str),
+    /// The same, where there is not a weight.
+    BadWeight(&'a str),
+}
+
+/// The first element of a header that is not empty, and what stands behind the comma after it.
+pub(crate) fn split_element(header: &str) -> Option<(Element<'_>, &str)> {
+    let (mut rest, mut range, mut weight) = (Span::of(header), Span::of(""), 0);
+    // SAFETY: as above.
+    let answer = unsafe {
+        let (bytes, len) = (header.as_ptr(), header.len());
+        c::langtag_next_accepted(bytes, len, &mut rest, &mut range, &mut weight)
+    };
+    let text = &header[range.start..range.start + range.len];
+    let element = match answer {
+        0 => return None,
+        1 => Element::Range(text, weight),
+        2 => Element::BadRange(text),
+        _ => Element::BadWeight(text),
+    };
+    Some((element, &header[rest.start..]))
 }

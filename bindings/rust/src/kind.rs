@@ -12,7 +12,7 @@ pub enum Kind {
 }
 
 impl Kind {
-    /// What some bytes are; `None` where they are no tag. They need not be UTF-8.
+    /// What some bytes are; `None` where they are not a tag. They need not be UTF-8.
     ///
     /// ```
     /// use langtag_verified::Kind;

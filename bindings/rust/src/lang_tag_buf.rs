@@ -35,6 +35,10 @@ impl LangTagBuf {
             .map_err(InvalidLangTag)
     }
 
+    pub(crate) fn from_parsed(parsed: Parsed<String>) -> Self {
+        LangTagBuf(parsed)
+    }
+
     /// The borrowed form. The text is not read again.
     #[inline]
     pub fn as_lang_tag(&self) -> LangTag<'_> {
@@ -173,6 +177,10 @@ impl PartialEq<LangTagBuf> for LangTag<'_> {
     }
 }
 
+/// ```
+/// # use langtag_verified::{LangTag, LangTagBuf};
+/// assert!(LangTagBuf::try_from("de-AT").unwrap() < LangTag::new("DE-ch").unwrap());
+/// ```
 impl PartialOrd<LangTag<'_>> for LangTagBuf {
     fn partial_cmp(&self, other: &LangTag<'_>) -> Option<Ordering> {
         self.as_lang_tag().partial_cmp(other)
@@ -191,6 +199,10 @@ impl PartialEq<Cow<'_, str>> for LangTagBuf {
     }
 }
 
+/// ```
+/// # use langtag_verified::LangTag;
+/// assert!(LangTag::new("DE-ch").unwrap() == String::from_utf8_lossy(b"de-CH"));
+/// ```
 impl PartialEq<Cow<'_, str>> for LangTag<'_> {
     fn eq(&self, other: &Cow<'_, str>) -> bool {
         *self == **other

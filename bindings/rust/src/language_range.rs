@@ -1,5 +1,5 @@
 use crate::caseless::caseless;
-use crate::{ffi, InvalidLanguageRange, LangTag};
+use crate::{ffi, Fallbacks, InvalidLanguageRange, LangTag};
 
 /// A language range over a borrowed text, basic or extended (RFC 4647 section 2): `de-CH`, `*`, `*-CH`, `de-*-DE`.
 ///
@@ -34,7 +34,7 @@ impl<'a> LanguageRange<'a> {
         }
     }
 
-    #[cfg(feature = "alloc")]
+    /// A range that is known to be one, and of which kind.
     pub(crate) fn from_read(text: &'a str, is_basic: bool) -> Self {
         LanguageRange { text, is_basic }
     }
@@ -47,6 +47,26 @@ impl<'a> LanguageRange<'a> {
     /// Whether it is a basic range (RFC 4647 section 2.1): true of `de-CH` and of `*`, false of `*-CH`.
     pub fn is_basic(&self) -> bool {
         self.is_basic
+    }
+
+    /// Returns what it is looked up by (RFC 4647 section 3.4): itself, and what is left of it when subtags are taken off its
+    /// end.
+    ///
+    /// ```
+    /// # use langtag_verified::LanguageRange;
+    /// let range = LanguageRange::new("zh-Hant-CN-x-private1")?;
+    /// let fallbacks = ["zh-Hant-CN-x-private1", "zh-Hant-CN", "zh-Hant", "zh"];
+    /// assert!(range.fallbacks().eq(fallbacks.map(|text| LanguageRange::new(text).unwrap())));
+    /// # Ok::<(), langtag_verified::InvalidLanguageRange<&str>>(())
+    /// ```
+    pub fn fallbacks(&self) -> Fallbacks<'a> {
+        Fallbacks::of(*self)
+    }
+
+    /// The owned form.
+    #[cfg(feature = "alloc")]
+    pub fn to_buf(&self) -> crate::LanguageRangeBuf {
+        (*self).into()
     }
 
     /// Whether it matches a tag by basic filtering (RFC 4647 section 3.3.1): `de-DE` matches `de-DE-1996`, and neither

@@ -36,9 +36,13 @@
 //! `Borrow<str>`. A map by tags is asked by a [`CaselessStr`], without memory. Of two texts of which one begins the other,
 //! the shorter is the greater.
 //!
-//! The crate needs neither std nor, without the feature `alloc`, memory. The feature `serde` reads and writes tags as
-//! strings. It links the static library `liblangtag_c.a`, which the build script looks for in the folder that
-//! `LANGTAG_LIB_DIR` names.
+//! [`AcceptLanguage`] reads the header of a request, and finds the tag to answer it in; [`look_up()`] takes ranges. The
+//! setters of [`LangTagBuf`], as [`LangTagBuf::set_script`], put parts into a tag.
+//!
+//! The crate needs neither std nor, without the feature `alloc`, memory. The feature `serde`, which the same crate in the
+//! folder `serde` has, reads and writes tags and ranges as strings: cargo looks an optional dependency up even where it is
+//! off, and this crate needs no registry. It links the static library `liblangtag_c.a`, which the build script looks for in
+//! the folder that `LANGTAG_LIB_DIR` names.
 //!
 //! What a program has to see to, since neither the compiler nor the crate does: it runs on an x86-64 processor with SSE4.2
 //! (x86-64-v2), and a thread that calls [`LangTag::repeated_variant`] or [`LangTag::repeated_singleton`] has 96 KiB of free
@@ -49,10 +53,14 @@
 #[cfg(feature = "alloc")]
 extern crate alloc;
 
+mod accept_language;
 mod caseless;
 mod caseless_str;
+#[cfg(feature = "alloc")]
+mod edit;
 mod error;
 mod extension;
+mod fallbacks;
 #[allow(unsafe_code)]
 mod ffi;
 mod kind;
@@ -63,6 +71,7 @@ mod language;
 mod language_range;
 #[cfg(feature = "alloc")]
 mod language_range_buf;
+mod look_up;
 mod prefix;
 mod private_use;
 #[cfg(feature = "serde")]
@@ -70,9 +79,15 @@ mod serde;
 mod subtags;
 mod variants;
 
+pub use accept_language::{
+    tag_for_header, tag_for_header_lenient, AcceptLanguage, AcceptLanguageIter, WeightedRange,
+};
 pub use caseless_str::CaselessStr;
-pub use error::{InvalidLangTag, InvalidLanguageRange};
+pub use error::{
+    AcceptLanguageError, EditError, ElementPart, InvalidLangTag, InvalidLanguageRange,
+};
 pub use extension::{Extension, Extensions, ExtensionsIter};
+pub use fallbacks::Fallbacks;
 pub use kind::Kind;
 pub use lang_tag::{LangTag, GRANDFATHERED};
 #[cfg(feature = "alloc")]
@@ -81,6 +96,7 @@ pub use language::Language;
 pub use language_range::LanguageRange;
 #[cfg(feature = "alloc")]
 pub use language_range_buf::LanguageRangeBuf;
+pub use look_up::look_up;
 pub use prefix::{stop_len, viable_len};
 pub use private_use::PrivateUse;
 pub use subtags::Subtags;

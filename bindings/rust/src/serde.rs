@@ -49,39 +49,45 @@ impl<'de: 'a, 'a> Deserialize<'de> for LanguageRange<'a> {
 #[cfg(feature = "alloc")]
 mod owned {
     use super::*;
-    use crate::LangTagBuf;
+    use crate::{LangTagBuf, LanguageRangeBuf};
     use alloc::string::String;
 
-    /// Reads a tag from a text of any kind.
-    struct Owned;
+    /// Reads what can be made of a text of any kind.
+    struct Owned<T>(&'static str, PhantomData<T>);
 
-    impl Visitor<'_> for Owned {
-        type Value = LangTagBuf;
+    /// Writes the traits of a type that owns its text.
+    macro_rules! owned {
+        ($($name:ident: $words:literal),+) => {$(
+            impl Visitor<'_> for Owned<$name> {
+                type Value = $name;
 
-        fn expecting(&self, f: &mut fmt::Formatter<'_>) -> fmt::Result {
-            f.write_str("a language tag")
-        }
+                fn expecting(&self, f: &mut fmt::Formatter<'_>) -> fmt::Result {
+                    f.write_str(self.0)
+                }
 
-        fn visit_str<E: Error>(self, text: &str) -> Result<LangTagBuf, E> {
-            text.parse()
-                .map_err(|_| E::invalid_value(Unexpected::Str(text), &self))
-        }
+                fn visit_str<E: Error>(self, text: &str) -> Result<$name, E> {
+                    text.parse()
+                        .map_err(|_| E::invalid_value(Unexpected::Str(text), &self))
+                }
 
-        fn visit_string<E: Error>(self, text: String) -> Result<LangTagBuf, E> {
-            LangTagBuf::new(text)
-                .map_err(|error| E::invalid_value(Unexpected::Str(&error.0), &self))
-        }
+                fn visit_string<E: Error>(self, text: String) -> Result<$name, E> {
+                    $name::new(text)
+                        .map_err(|error| E::invalid_value(Unexpected::Str(&error.0), &self))
+                }
+            }
+
+            impl Serialize for $name {
+                fn serialize<S: Serializer>(&self, serializer: S) -> Result<S::Ok, S::Error> {
+                    serializer.serialize_str(self.as_str())
+                }
+            }
+
+            impl<'de> Deserialize<'de> for $name {
+                fn deserialize<D: Deserializer<'de>>(deserializer: D) -> Result<Self, D::Error> {
+                    deserializer.deserialize_string(Owned::<$name>($words, PhantomData))
+                }
+            }
+        )+};
     }
-
-    impl Serialize for LangTagBuf {
-        fn serialize<S: Serializer>(&self, serializer: S) -> Result<S::Ok, S::Error> {
-            serializer.serialize_str(self.as_str())
-        }
-    }
-
-    impl<'de> Deserialize<'de> for LangTagBuf {
-        fn deserialize<D: Deserializer<'de>>(deserializer: D) -> Result<Self, D::Error> {
-            deserializer.deserialize_string(Owned)
-        }
-    }
+    owned!(LangTagBuf: "a language tag", LanguageRangeBuf: "a language range");
 }

@@ -95,10 +95,16 @@ fn are_compared_with_lent_ones() {
 fn ranges_are_stored() {
     let range = LanguageRangeBuf::new("DE-*".into()).unwrap();
     let (lent, copy) = (range.as_language_range(), range.clone());
-    assert!(!lent.is_basic() && LanguageRangeBuf::from(lent) == copy);
+    assert_eq!((lent.is_basic(), copy.is_basic()), (false, false));
+    assert_eq!(copy, lent);
+    assert_eq!(lent, copy);
     assert_eq!(
         (range.as_str(), copy.into_string()),
         ("DE-*", "DE-*".into())
+    );
+    assert_eq!(
+        String::from(LanguageRangeBuf::try_from("d-*").unwrap()),
+        "d-*"
     );
     let refused = LanguageRangeBuf::try_from(String::from("de_"));
     assert_eq!(refused, Err(InvalidLanguageRange("de_".into())));

@@ -1,6 +1,9 @@
 //! The table of calls and answers, `bindings/table.txt`, which says its form; and where `LANGTAG_ANSWERS` names a file, the
 //! C library's answers to other calls.
 #![cfg(feature = "alloc")]
+mod rows;
+
+use rows::{expand, unescape};
 use std::hash::{Hash, Hasher};
 
 use langtag_verified::{
@@ -20,27 +23,6 @@ impl Hasher for Fed {
     fn finish(&self) -> u64 {
         0
     }
-}
-
-fn expand(line: &str) -> String {
-    let mut pieces = line.split(['{', '}']);
-    let mut out = String::from(pieces.next().unwrap());
-    while let Some(repeated) = pieces.next() {
-        let (times, piece) = repeated.split_once(':').unwrap();
-        out += &piece.repeat(times.parse().unwrap());
-        out += pieces.next().unwrap();
-    }
-    out
-}
-
-fn unescape(word: &str) -> Vec<u8> {
-    let mut pieces = word.split("\\x");
-    let mut out = pieces.next().unwrap().replace("''", "").into_bytes();
-    for piece in pieces {
-        out.push(u8::from_str_radix(&piece[..2], 16).unwrap());
-        out.extend(&piece.as_bytes()[2..]);
-    }
-    out
 }
 
 fn name_of(kind: Option<Kind>) -> &'static str {
@@ -211,7 +193,15 @@ fn answer_match(range: &str, tag: &str) -> &'static str {
     let (Ok(range), Ok(tag)) = (LanguageRange::new(range), LangTag::new(tag)) else {
         return "neither";
     };
-    match (range.matches_basic(&tag), range.matches_extended(&tag)) {
+    let (matches, owned) = (
+        (range.matches_basic(&tag), range.matches_extended(&tag)),
+        range.to_buf(),
+    );
+    assert_eq!(
+        (owned.matches_basic(&tag), owned.matches_extended(&tag)),
+        matches
+    );
+    match matches {
         (true, true) => "both",
         (true, false) => "basic",
         (false, true) => "extended",
@@ -290,14 +280,7 @@ fn check(path: &str) -> usize {
 
 #[test]
 fn answers() {
-    // Beside the crate in the repository, and in it where it is packed.
-    let places =
-        ["/../table.txt", "/table.txt"].map(|it| env!("CARGO_MANIFEST_DIR").to_owned() + it);
-    let table = places
-        .iter()
-        .find(|it| std::path::Path::new(it).is_file())
-        .unwrap();
-    assert!(check(table) > 180);
+    assert!(check(&rows::path("table.txt")) > 180);
     if let Ok(path) = std::env::var("LANGTAG_ANSWERS") {
         assert!(check(&path) > 1000);
     }

@@ -2,7 +2,7 @@
 #![cfg(all(feature = "serde", feature = "alloc"))]
 use std::fmt;
 
-use langtag_verified::{LangTag, LangTagBuf, LanguageRange};
+use langtag_verified::{LangTag, LangTagBuf, LanguageRange, LanguageRangeBuf};
 use serde::de::value::{BorrowedStrDeserializer, Error, StrDeserializer, StringDeserializer};
 use serde::de::IntoDeserializer;
 use serde::{Deserialize, Serialize};
@@ -27,6 +27,10 @@ fn write() {
         Written(LanguageRange::new("de-*").unwrap()).to_string(),
         "de-*"
     );
+    assert_eq!(
+        Written("de-*".parse::<LanguageRangeBuf>().unwrap()).to_string(),
+        "de-*"
+    );
 }
 
 #[test]
@@ -49,6 +53,9 @@ fn read() {
     );
     let owned: StringDeserializer<Error> = String::from("en-US").into_deserializer();
     assert_eq!(LangTagBuf::deserialize(owned).unwrap().as_str(), "en-US");
+    let passing: StrDeserializer<Error> = "*-CH".into_deserializer();
+    let range = LanguageRangeBuf::deserialize(passing).unwrap();
+    assert_eq!((range.as_str(), range.is_basic()), ("*-CH", false));
 }
 
 #[test]
@@ -62,5 +69,12 @@ fn refuse() {
     assert_eq!(
         LangTagBuf::deserialize(owned).unwrap_err().to_string(),
         "invalid value: string \"en_US\", expected a language tag"
+    );
+    let owned: StringDeserializer<Error> = String::from("de_").into_deserializer();
+    assert_eq!(
+        LanguageRangeBuf::deserialize(owned)
+            .unwrap_err()
+            .to_string(),
+        "invalid value: string \"de_\", expected a language range"
     );
 }

@@ -1,0 +1,75 @@
+//! The rows of `bindings/edits.txt`, which says their form.
+#![cfg(feature = "alloc")]
+mod rows;
+
+use langtag_verified::{EditError, LangTag, LangTagBuf};
+
+/// Sets a part by its name; `none` takes it out.
+fn set<'a>(tag: &mut LangTagBuf, part: &str, text: &'a str) -> Result<(), EditError<&'a str>> {
+    let optional = (text != "none").then_some(text);
+    match part {
+        "language" => tag.set_language(text),
+        "script" => tag.set_script(optional),
+        "region" => tag.set_region(optional),
+        "variants" => tag.set_variants(text),
+        "extensions" => tag.set_extensions(text),
+        "private_use" => tag.set_private_use(optional),
+        _ => panic!("no part: {part}"),
+    }
+}
+
+/// Whether a tag is the one that its text is read as, part by part.
+fn is_as_read(tag: &LangTagBuf) -> bool {
+    let (kept, read) = (tag.as_lang_tag(), LangTag::new(tag.as_str()).unwrap());
+    let texts = |tag: LangTag| {
+        let language = tag.language().map(|it| it.as_str().to_owned());
+        let lists = [tag.variants().as_str(), tag.extensions().as_str()].map(str::to_owned);
+        let optional = [tag.script(), tag.region()].map(|it| it.map(str::to_owned));
+        let private_use = tag.private_use().map(|it| it.as_str().to_owned());
+        (tag.kind(), language, optional, lists, private_use)
+    };
+    texts(kept) == texts(read)
+}
+
+#[test]
+fn answers() {
+    let rows = rows::fields("edits.txt");
+    for row in &rows {
+        let row: Vec<&str> = row
+            .iter()
+            .map(|it| std::str::from_utf8(it).unwrap())
+            .collect();
+        let mut tag = LangTagBuf::try_from(row[0]).unwrap();
+        let found = match set(&mut tag, row[1], row[2]) {
+            Ok(()) => tag.as_str(),
+            Err(error) => {
+                assert_eq!(tag.as_str(), row[0]);
+                match error {
+                    EditError::NotNormal => "no parts",
+                    EditError::InvalidPart(text) if text == row[2] => "refused",
+                    EditError::InvalidPart(text) => panic!("{text:?} came back of {row:?}"),
+                }
+            }
+        };
+        assert_eq!(found, row[3], "{row:?}");
+        assert!(is_as_read(&tag), "{row:?}");
+    }
+    assert!(rows.len() > 70);
+}
+
+#[test]
+fn errors_outlive_their_text() {
+    let mut tag = LangTagBuf::try_from("de").unwrap();
+    let error = tag
+        .set_script(Some(&String::from("Latin")))
+        .map_err(EditError::into_owned);
+    assert_eq!(
+        error.unwrap_err().to_string(),
+        "invalid part of a language tag \"Latin\""
+    );
+    let mut private = LangTagBuf::try_from("x-a").unwrap();
+    assert_eq!(
+        private.set_region(Some("DE")).unwrap_err().to_string(),
+        "not a normal language tag"
+    );
+}
