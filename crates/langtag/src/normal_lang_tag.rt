@@ -220,7 +220,7 @@ impl<'a> NormalLangTag<'a> {
 
     /// Returns the first variant that is equal, but for case, to an earlier one: the second `1996` of `de-1996-1996`.
     ///
-    /// Such a tag is well formed, and is not valid (RFC 5646 section 2.2.5). No memory is taken, and less than 80 kB of the
+    /// Such a tag is well formed, and is not valid (RFC 5646 section 2.2.5). No memory is taken, and less than 92 kB of the
     /// stack. Up to 8,192 variants the time grows hardly faster than their number; past them, with its square divided by that.
     pub fn repeated_variant(&self) -> Option<Variant<'a>>
         ensures repeated { EachRecord (normal_lang_tag_text self.now) (λ r. option_map variant_text result ≡ repeat are_alike r.variants) }
