@@ -10,3 +10,5 @@ mod scan;
 mod support;
 #[cfg(test)]
 mod tags;
+#[cfg(test)]
+mod text_types;

@@ -5,5 +5,5 @@ mod languages;
 mod long;
 mod private_use;
 mod singleton;
-mod text_types;
 mod variants;
+mod walks;

@@ -1,6 +1,6 @@
 //! Tests of langtag_scan: the recognisers, the classes of subtags, and case.
 pub(crate) mod answer;
-pub(crate) mod case;
+mod case;
 mod caseless;
 mod class;
 mod hostile;

@@ -4,40 +4,9 @@ use langtag_place::{Variant, Variants, VariantsIter};
 
 const FOUR: &str = "azert-0foo-barbz-4242";
 
-const MEMBERS: [&str; 4] = ["azert", "0foo", "barbz", "4242"];
-
 /// The text of what a walk gave.
 fn text_of<'a>(item: Option<Variant<'a>>) -> Option<&'a str> {
     item.map(|variant| variant.as_str())
-}
-
-/// Each walk of six calls, one bit a call, beside the same walk over an array of the texts: four variants, and
-/// then None twice.
-#[test]
-fn all_walks_of_six_calls(rt: HostRuntime) {
-    let variants = Variants::new(FOUR).expect(&rt, "refused");
-    for walk in 0..64u8 {
-        let mut items = variants.iter();
-        let mut model = MEMBERS.iter();
-        for call in 0..6u8 {
-            let (item, text) = if walk >> call & 1 == 1 {
-                (items.next_back(), model.next_back())
-            } else {
-                (items.next(), model.next())
-            };
-            assert_same!(rt; text.is_none(), call >= 4, (call, walk));
-            assert_same!(rt; text_of(item), text.copied(), (call, walk));
-        }
-    }
-}
-
-#[test]
-fn two_variants_from_the_back(rt: HostRuntime) {
-    let mut items = Variants::new("a1b2c-1996").expect(&rt, "refused").iter();
-    assert_same!(rt; text_of(items.next_back()), Some("1996"));
-    assert_same!(rt; text_of(items.next()), Some("a1b2c"));
-    assert_that!(rt; items.next().is_none());
-    assert_that!(rt; items.next_back().is_none());
 }
 
 /// Variants, the first and the last of them, how many they are, and how many are left after one from each end.
@@ -84,13 +53,4 @@ fn empty_walks(rt: HostRuntime) {
         assert_that!(rt; items.next().is_none());
         assert_that!(rt; items.next_back().is_none());
     }
-}
-
-#[test]
-fn a_clone_of_a_walk_has_what_is_left(rt: HostRuntime) {
-    let variants = Variants::new("rozaj-1994").ok().expect(&rt, "refused");
-    let mut walk = variants.iter();
-    let _first = walk.next();
-    let clone = walk.clone().ok().expect(&rt, "no clone");
-    assert_same!(rt; clone.count(), 1);
 }

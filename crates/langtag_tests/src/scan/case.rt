@@ -10,7 +10,7 @@ use std::hash::Hasher;
 
 /// Tells each call that fed it: its length, one hexadecimal digit, and then its bytes, two for each of them.
 #[derive(Drop)]
-pub(crate) struct Calls(pub(crate) u128);
+struct Calls(u128);
 
 impl Hasher for Calls {
     ghost write = { λ calls bytes. record {

@@ -2,12 +2,9 @@
 use crate::scan::answer::{Answer, of_bytes};
 use crate::support::{assert_same, assert_that};
 use langtag_scan::{
-    case_insensitive_cmp, case_insensitive_eq, case_insensitive_hash, is_extended,
-    is_extension_subtag, is_primary, is_private_subtag, is_region, is_script, is_variant,
-    segment_end, segment_start,
+    is_extended, is_extension_subtag, is_primary, is_private_subtag, is_region, is_script,
+    is_variant, segment_end, segment_start,
 };
-use std::cmp::Ordering;
-use std::hash::{DefaultHasher, Hasher};
 
 /// Bytes that are no tag and no subtag, and how many of them decide it.
 const BYTES: [(&[u8], usize); 24] = [
@@ -59,24 +56,5 @@ fn no_call_takes_them_for_a_subtag(rt: HostRuntime) {
             start <= bytes.len() && !bytes[start..].contains(&b'-'),
             "at {bytes:?}"
         );
-    }
-}
-
-fn hash_of(bytes: &[u8]) -> u64 {
-    let mut hasher = DefaultHasher::new();
-    case_insensitive_hash(bytes, &mut hasher);
-    hasher.finish()
-}
-
-#[test]
-fn each_is_alike_itself_alone(rt: HostRuntime) {
-    for (i, (a, _)) in BYTES.iter().enumerate() {
-        for (j, (b, _)) in BYTES.iter().enumerate() {
-            let order = case_insensitive_cmp(a, b);
-            assert_same!(rt; case_insensitive_eq(a, b), i == j, (a, b));
-            assert_same!(rt; order == Ordering::Equal, i == j, (a, b));
-            assert_same!(rt; hash_of(a) == hash_of(b), i == j, (a, b));
-            assert_same!(rt; case_insensitive_cmp(b, a), order.reverse(), (a, b));
-        }
     }
 }

@@ -5,7 +5,6 @@ use langtag::{
     LangTag, LangTagBuf, NormalLangTag, NormalLangTagBuf, Region, TypedLangTag,
 };
 use std::alloc::{AllocError, Global};
-use std::collections::{BTreeMap, HashMap};
 use std::convert::TryFrom;
 use std::process::Abort;
 
@@ -117,65 +116,5 @@ fn check_choice_of_tags(rt: &impl Abort, alloc: Global) -> Result<(), AllocError
     assert_same!(rt; first_private(&private_use.as_typed()), Some("a"));
     assert_that!(rt; first_private(&chinese.as_typed()).is_none());
     assert_that!(rt; first_private(&klingon.as_typed()).is_none());
-    Ok(())
-}
-
-#[test]
-fn normal_tags_are_chosen_by_a_closure(rt: HostRuntime) {
-    with_memory!(rt, check_choice_of_normal_tags(&rt, rt.alloc()));
-}
-
-fn check_choice_of_normal_tags(rt: &impl Abort, alloc: Global) -> Result<(), AllocError> {
-    let french = tag(rt, "fr-FR").as_normal().expect(rt, "not normal");
-    let german = tag(rt, "de-1996").as_normal().expect(rt, "not normal");
-    let tags = [french, german];
-    assert_same!(rt; tags.iter().filter(|tag| tag.region().is_some()).count(), 1);
-    assert_that!(rt; tags.iter().any(|tag| tag.language().eq_str("DE")));
-    let owned = [french.try_to_owned(alloc)?, german.try_to_owned(alloc)?];
-    let place = owned
-        .iter()
-        .position(|tag| tag.as_normal_lang_tag() == german);
-    assert_same!(rt; place, Some(1));
-    Ok(())
-}
-
-#[test]
-fn owned_tags_are_keys(rt: HostRuntime) {
-    with_memory!(rt, check_keys(&rt, rt.alloc()));
-}
-
-fn check_keys(rt: &impl Abort, alloc: Global) -> Result<(), AllocError> {
-    let mut tags = HashMap::new(alloc);
-    tags.insert(tag(rt, "zh-Latn").try_to_owned(alloc)?, 7)?;
-    let capital = tag(rt, "ZH-LATN").try_to_owned(alloc)?;
-    assert_same!(rt; tags.get(&capital).copied(), Some(7));
-    let mut ordered = BTreeMap::new(alloc);
-    ordered.insert(capital, 8)?;
-    for text in ["zh", "x-Latn"] {
-        let other = tag(rt, text).try_to_owned(alloc)?;
-        assert_that!(rt; ordered.get(&other).is_none() && tags.get(&other).is_none());
-    }
-    Ok(())
-}
-
-#[test]
-fn kinds_and_grandfathered_tags_are_keys(rt: HostRuntime) {
-    with_memory!(rt, check_other_keys(&rt, rt.alloc()));
-}
-
-fn check_other_keys(rt: &impl Abort, alloc: Global) -> Result<(), AllocError> {
-    let mut kinds = HashMap::new(alloc);
-    let mut tags = BTreeMap::new(alloc);
-    for text in ["fr", "zh-min", "i-ami"] {
-        let tag = tag(rt, text);
-        kinds.insert(tag.kind(), text)?;
-        if let Some(tag) = tag.as_grandfathered() {
-            tags.insert(tag, text)?;
-        }
-    }
-    assert_same!(rt; kinds.get(&Kind::Normal).copied(), Some("zh-min"));
-    assert_that!(rt; kinds.get(&Kind::PrivateUse).is_none());
-    assert_same!(rt; tags.get(&GrandfatheredLangTag::ZhMin).copied(), Some("zh-min"));
-    assert_same!(rt; tags.len(), 2);
     Ok(())
 }

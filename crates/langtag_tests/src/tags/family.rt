@@ -1,10 +1,7 @@
 //! Ways from one tag type to another, and tags of any kind that are edited.
 use crate::support::{assert_same, assert_that, with_memory};
 use crate::tags::parts::{have_same_parts, normal};
-use langtag::{
-    EditError, Extensions, GRANDFATHERED, Kind, LangTag, LangTagBuf, PrivateUse, PrivateUseBuf,
-    Region, Script, Variants,
-};
+use langtag::{EditError, GRANDFATHERED, Kind, LangTag, LangTagBuf, PrivateUse, PrivateUseBuf};
 use std::alloc::{AllocError, Global};
 use std::process::Abort;
 
@@ -15,12 +12,6 @@ const NORMAL: [&str; 4] = [
     "art-LOJBAN",
     "en-Latn-GB-boont-r-extended-sequence-x-private",
 ];
-
-/// An owned tag whose text is one.
-fn owned(rt: &impl Abort, alloc: Global, text: &str) -> Result<LangTagBuf, AllocError> {
-    let tag = LangTagBuf::new(String::from_str(alloc, text)?);
-    Ok(tag.ok().expect(rt, "refused"))
-}
 
 /// Asserts that an edit was not refused for the tag's kind.
 pub(super) fn edited(rt: &impl Abort, answer: Result<(), EditError>) -> Result<(), AllocError> {
@@ -74,68 +65,5 @@ fn check_an_owned_private_use_part(rt: &impl Abort, alloc: Global) -> Result<(),
     let kept = LangTagBuf::from(part.ok().expect(rt, "refused"));
     assert_same!(rt; kept.as_lang_tag().kind(), Kind::PrivateUse);
     assert_same!(rt; kept.into_string().as_str(), "X-fr-CH");
-    Ok(())
-}
-
-#[test]
-fn a_tag_of_another_kind_comes_back(rt: HostRuntime) {
-    for text in ["x-a", "i-KLINGON", "sgn-BE-FR"] {
-        with_memory!(rt, refuses_edits(&rt, rt.alloc(), text));
-    }
-}
-
-fn refuses_edits(rt: &impl Abort, alloc: Global, text: &str) -> Result<(), AllocError> {
-    let mut tag = owned(rt, alloc, text)?;
-    for answer in [
-        tag.set_region(alloc, Region::new("DE").ok()),
-        tag.set_script(alloc, None),
-        tag.set_language(alloc, normal(rt, "de").language()),
-        tag.set_variants(alloc, Variants::EMPTY),
-        tag.set_extensions(alloc, Extensions::EMPTY),
-        tag.set_private_use(alloc, None),
-    ] {
-        assert_same!(rt; answer, Err(EditError::NotNormal), text);
-    }
-    let same = tag.into_normal().err().expect(rt, "taken for a normal tag");
-    assert_same!(rt; same.as_str(), text);
-    Ok(())
-}
-
-#[test]
-fn a_normal_tag_is_edited(rt: HostRuntime) {
-    with_memory!(rt, check_edits(&rt, rt.alloc()));
-}
-
-fn check_edits(rt: &impl Abort, alloc: Global) -> Result<(), AllocError> {
-    let mut tag = owned(rt, alloc, "zh-x-mine")?;
-    edited(rt, tag.set_script(alloc, Script::new("Hant").ok()))?;
-    edited(rt, tag.set_region(alloc, Region::new("TW").ok()))?;
-    assert_same!(rt; tag.as_str(), "zh-Hant-TW-x-mine");
-    let region = tag.as_lang_tag().region().expect(rt, "no region");
-    assert_same!(rt; region.as_str(), "TW");
-    edited(rt, tag.set_script(alloc, None))?;
-    assert_same!(rt; tag.into_string().as_str(), "zh-TW-x-mine");
-    Ok(())
-}
-
-#[test]
-fn the_other_parts_of_a_normal_tag_are_edited(rt: HostRuntime) {
-    with_memory!(rt, check_edits_of_other_parts(&rt, rt.alloc()));
-}
-
-fn check_edits_of_other_parts(rt: &impl Abort, alloc: Global) -> Result<(), AllocError> {
-    let other = normal(rt, "zh-yue-rozaj-u-co-eor-x-mine");
-    let mut tag = owned(rt, alloc, "de-AT")?;
-    edited(rt, tag.set_language(alloc, other.language()))?;
-    assert_same!(rt; tag.as_str(), "zh-yue-AT");
-    edited(rt, tag.set_variants(alloc, other.variants()))?;
-    edited(rt, tag.set_extensions(alloc, other.extensions()))?;
-    edited(rt, tag.set_private_use(alloc, other.private_use()))?;
-    assert_same!(rt; tag.as_str(), "zh-yue-AT-rozaj-u-co-eor-x-mine");
-    edited(rt, tag.set_variants(alloc, Variants::EMPTY))?;
-    edited(rt, tag.set_extensions(alloc, Extensions::EMPTY))?;
-    assert_same!(rt; tag.as_str(), "zh-yue-AT-x-mine");
-    edited(rt, tag.set_private_use(alloc, None))?;
-    assert_same!(rt; tag.into_string().as_str(), "zh-yue-AT");
     Ok(())
 }

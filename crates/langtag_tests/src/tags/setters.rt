@@ -1,6 +1,6 @@
 //! The parts of an owned tag put in and taken out (RFC 5646 sections 2.2.1 to 2.2.7).
 use crate::scan::rows::{self, Row};
-use crate::support::{assert_exact, assert_same, assert_that, with_memory};
+use crate::support::{assert_same, assert_that, with_memory};
 use crate::tags::family::edited;
 use crate::tags::parts::{normal, part_texts};
 use langtag::{
@@ -330,30 +330,49 @@ fn is_set_back_after_another(rt: &impl Abort, alloc: Global, text: &str) -> Resu
     Ok(())
 }
 
-/// The language, script and region of a tag, and its text.
-const MADE: [(&str, &str, &str, &str); 5] = [
-    ("zh", "Hant", "TW", "zh-Hant-TW"),
-    ("zh-yue", "", "HK", "zh-yue-HK"),
-    ("SR", "latn", "", "SR-latn"),
-    ("es", "", "419", "es-419"),
-    ("abcdefgh", "", "", "abcdefgh"),
+/// Languages of each length.
+const LANGUAGES: [&str; 11] = [
+    "zh",
+    "SRP",
+    "abcd",
+    "abcde",
+    "zh-yue",
+    "zho-YUE",
+    "abcdefgh",
+    "zh-min-nan",
+    "zho-min-nan",
+    "zh-abc-def-ghi",
+    "zho-abc-def-ghi",
+];
+
+/// Scripts and regions, of which an absent one is empty.
+const PLACES: [(&str, &str); 6] = [
+    ("", ""),
+    ("", "HK"),
+    ("", "419"),
+    ("latn", ""),
+    ("Hant", "TW"),
+    ("Latn", "001"),
 ];
 
 #[test]
 fn a_tag_is_made_of_its_parts(rt: HostRuntime) {
-    with_memory!(rt, check_a_tag_of_parts(&rt, rt.alloc()));
+    for language in LANGUAGES {
+        with_memory!(rt, are_made_of_parts(&rt, rt.alloc(), language));
+    }
 }
 
-fn check_a_tag_of_parts(rt: &impl Abort, alloc: Global) -> Result<(), AllocError> {
-    for (language, script, region, text) in MADE {
+fn are_made_of_parts(rt: &impl Abort, alloc: Global, language: &str) -> Result<(), AllocError> {
+    for (script, region) in PLACES {
         let tag = NormalLangTagBuf::from_parts(
             alloc,
             Language::new(language).ok().expect(rt, "refused"),
             Script::new(script).ok(),
             Region::new(region).ok(),
         )?;
-        assert_that!(rt; has_parts(rt, &tag, [language, script, region, "", "", ""]));
-        assert_exact(rt, tag.into_string(), text);
+        assert_that!(rt; has_parts(rt, &tag, [language, script, region, "", "", ""]), language);
+        let len = tag.as_str().len();
+        assert_same!(rt; tag.into_string().capacity(), len, language);
     }
     Ok(())
 }

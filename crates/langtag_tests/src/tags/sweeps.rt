@@ -48,29 +48,6 @@ pub(super) fn is_shown_and_copied_as_normal(
     Ok(())
 }
 
-fn come_back_drawn_out(rt: &impl Abort, alloc: Global, rows: &[Row]) -> Result<(), AllocError> {
-    for row in rows {
-        for more in ["_", "--"] {
-            let mut text = String::from_str(alloc, row.text)?;
-            text.push_str(more)?;
-            let refused = LangTag::new(text.as_str()).err().expect(rt, "accepted");
-            assert_same!(rt; refused.0, text.as_str());
-            let refused = NormalLangTag::new(text.as_str())
-                .err()
-                .expect(rt, "accepted");
-            assert_same!(rt; refused.0, text.as_str());
-        }
-    }
-    Ok(())
-}
-
-#[test]
-fn tags_with_more_after_them_come_back(rt: HostRuntime) {
-    for (rows, _) in rows::tags() {
-        with_memory!(rt, come_back_drawn_out(&rt, rt.alloc(), rows));
-    }
-}
-
 fn prefixes_are_shown_and_copied(
     rt: &impl Abort,
     alloc: Global,
