@@ -84,3 +84,16 @@ fn characters_convert(rt: HostRuntime) {
         assert_same!(rt; converted.expect_err(&rt, "accepted").0, c);
     }
 }
+
+/// The singleton of the extensions of Unicode locales: that the literal is one needs no proof.
+fn unicode() -> Singleton {
+    match Singleton::new(b'u') {
+        Ok(singleton) => singleton,
+        Err(_) => unreachable!(),
+    }
+}
+
+#[test]
+fn literals_are_singletons(rt: HostRuntime) {
+    assert_same!(rt; unicode().unwrap(), b'u');
+}
