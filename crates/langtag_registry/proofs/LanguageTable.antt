@@ -1,0 +1,109 @@
+-- The table of languages has a bit for each registered language, and no other.
+use Rattle.std.proofs.Common.{◌≡◌, ℕ, zero, suc, ◌+◌, ◌*◌, ◌-◌, ◌/◌, ◌%◌, ◌<◌, ◌≤◌, true, false, ◌==◌, leb, Bool, List, [], ◌∷◌, length, get_or, map, flat_map, refl, ap, sym, ◌∙◌, arith}
+use Prim.Native.Nat.{◌^◌}
+use Rattle.std.specs.List.{list_any, list_all}
+use Rattle.std.proofs.lemmas.Bool.{and_parts, eq-eqb, ne_eqb, leb-true, false_from_ne_true}
+use Rattle.std.proofs.lemmas.List.{get_or_append_left, get_or-append-add, length-map}
+use Rattle.std.proofs.lemmas.List.FromFn.{get_or-map-range_with_len, length-map-range_with_len}
+use Rattle.langtag_scan.specs.Case.{fold_byte, are_alike}
+use Rattle.langtag_scan.specs.CaseLaws.{are_alike-decides}
+use Rattle.langtag_scan.specs.Class.{is_letter, are_letters}
+use Rattle.langtag_registry.specs.declared.tables.TheConstants.{LANGUAGE_BITS}
+use Rattle.langtag_registry.specs.Subtags.{language_subtags}
+use Rattle.langtag_registry.specs.Numbers.{letter_number, bits, places, language_bit}
+use Rattle.langtag_registry.specs.Registered.{is_registered_language}
+use Rattle.langtag_registry.proofs.Members.{among-numbers}
+use Rattle.langtag_registry.proofs.Letters.{letter_number-tells}
+
+-- ---- by computation
+
+-- the table has exactly the numbers of the list
+same_numbers : places 27 (flat_map bits LANGUAGE_BITS) ≡ map letter_number language_subtags
+unfolding language_subtags bits places letter_number fold_byte
+same_numbers = refl
+
+all_letters : list_all are_letters language_subtags ≡ true
+unfolding language_subtags is_letter
+all_letters = refl
+
+abbrev pub is_short : List ℕ → Bool
+is_short text = leb (length text) 3
+
+all_short : list_all is_short language_subtags ≡ true
+unfolding language_subtags
+all_short = refl
+
+-- ---- a bit of the table
+
+length-bits : (word : ℕ) → length (bits word) ≡ 64
+unfolding bits
+length-bits word = length-map-range_with_len (λ k. word / 2 ^ k % 2 == 1) 0 64
+
+bit_of_word : (word k : ℕ) → k < 64 → get_or (bits word) k false ≡ (word / 2 ^ k % 2 == 1)
+unfolding bits
+bit_of_word word k below = get_or-map-range_with_len (λ k. word / 2 ^ k % 2 == 1) 0 64 k k false below (omega arith)
+
+bit_of_words : (words : List ℕ) (q k : ℕ) → q < length words → k < 64 → get_or (flat_map bits words) (q * 64 + k) false ≡ (get_or words q 0 / 2 ^ k % 2 == 1)
+bit_of_words [] q k inside below = absurd (omega arith)
+bit_of_words (word ∷ words) zero k inside below =
+    let here : k < length (bits word) = omega (arith, length-bits word, below) in
+    ap (λ i. get_or (flat_map bits (word ∷ words)) i false) (let e : 0 * 64 + k ≡ k = omega arith in e)
+    ∙ get_or_append_left (bits word) (flat_map bits words) false k here ∙ bit_of_word word k below
+bit_of_words (word ∷ words) (suc q) k inside below =
+    let at : suc q * 64 + k ≡ length (bits word) + (q * 64 + k) = omega (arith, length-bits word) in
+    ap (λ i. get_or (flat_map bits (word ∷ words)) i false) at
+    ∙ get_or-append-add (bits word) (flat_map bits words) (q * 64 + k) false
+    ∙ bit_of_words words q k (omega (arith, inside)) below
+
+pub language_bit-at : (index : ℕ) → index < 18304 → language_bit index ≡ (get_or LANGUAGE_BITS (index / 64) 0 / 2 ^ (index % 64) % 2 == 1)
+unfolding language_bit
+language_bit-at index below =
+    let at : index ≡ index / 64 * 64 + index % 64 = omega arith in
+    ap (λ i. get_or (flat_map bits LANGUAGE_BITS) i false) at
+    ∙ bit_of_words LANGUAGE_BITS (index / 64) (index % 64) (omega arith) (omega arith)
+
+-- ---- the places of the bits
+
+place_before : (m n : ℕ) (list : List Bool) → m < n → list_any (λ k. k == m) (places n list) ≡ false
+unfolding places
+place_before m n [] before = refl
+place_before m n (true ∷ list) before = rw (ne_eqb n m (λ same. absurd (omega (arith, same, before))), place_before m (n + 1) list (omega arith)) refl
+place_before m n (false ∷ list) before = place_before m (n + 1) list (omega arith)
+
+place_at : (n i : ℕ) (list : List Bool) → list_any (λ k. k == n + i) (places n list) ≡ get_or list i false
+unfolding places
+place_at n i [] = refl
+place_at n zero (true ∷ list) = rw (eq-eqb n (n + 0) (omega arith)) refl
+place_at n zero (false ∷ list) = place_before (n + 0) (n + 1) list (omega arith)
+place_at n (suc i) (true ∷ list) =
+    let on : n + suc i ≡ n + 1 + i = omega arith in
+    rw (ne_eqb n (n + suc i) (λ same. absurd (omega (arith, same)))) (ap (λ m. list_any (λ k. k == m) (places (n + 1) list)) on ∙ place_at (n + 1) i list)
+place_at n (suc i) (false ∷ list) =
+    let on : n + suc i ≡ n + 1 + i = omega arith in
+    ap (λ m. list_any (λ k. k == m) (places (n + 1) list)) on ∙ place_at (n + 1) i list
+
+-- ---- the look-up
+
+pub language-from_bit : (text : List ℕ) → are_letters text ≡ true → 27 ≤ letter_number text → language_bit (letter_number text - 27) ≡ is_registered_language text
+unfolding language_bit is_registered_language
+language-from_bit text letters from =
+    let at : 27 + (letter_number text - 27) ≡ letter_number text = omega (arith, from) in
+    sym (place_at 27 (letter_number text - 27) (flat_map bits LANGUAGE_BITS))
+    ∙ ap (λ n. list_any (λ k. k == n) (places 27 (flat_map bits LANGUAGE_BITS))) at
+    ∙ ap (list_any (λ k. k == letter_number text)) same_numbers
+    ∙ sym (among-numbers letter_number are_letters letter_number-tells text language_subtags letters all_letters)
+
+-- no registered language is longer than three letters
+pub long_apart : (text : List ℕ) (list : List (List ℕ)) → 3 < length text → list_all is_short list ≡ true → list_any (are_alike text) list ≡ false
+long_apart text [] long all = refl
+long_apart text (first ∷ list) long all =
+    let k = and_parts (is_short first) (list_all is_short list) all in
+    let short = leb-true (length first) 3 k.0 in
+    let apart : are_alike text first ≡ false = false_from_ne_true (are_alike text first) (λ yes.
+    let same = ap length ((are_alike-decides text first).0 yes) in
+    omega (arith, short, long, same, length-map text fold_byte, length-map first fold_byte)) in
+    rw (apart, long_apart text list long k.1) refl
+
+pub language-long : (text : List ℕ) → 3 < length text → is_registered_language text ≡ false
+unfolding is_registered_language
+language-long text long = long_apart text language_subtags long all_short

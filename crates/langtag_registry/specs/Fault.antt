@@ -1,0 +1,68 @@
+-- What is wrong with a tag, and with which of its subtags (RFC 5646 sections 2.2.2 and 2.2.9).
+use Rattle.std.specs.Prelude.{ℕ, Bool, not, List, [], ◌∷◌, ◌++◌, map, Option, None, Some, if◌then◌else◌}
+use Rattle.std.specs.List.{list_any}
+use Rattle.langtag_scan.specs.Case.{are_alike}
+use Rattle.langtag_scan.specs.Record.{Record}
+use Rattle.langtag_language.specs.Text.{primary_language_text, extended_lang_tag_text}
+use Rattle.langtag_place.specs.Text.{script_text, region_text, variant_text}
+use Rattle.langtag_extension.specs.Text.{singleton_byte}
+use Rattle.langtag.specs.Repeat.{are_alike_bytes}
+use Rattle.langtag_registry.specs.declared.invalid_subtag.InvalidSubtag.{InvalidSubtag}
+use Rattle.langtag_registry.specs.declared.invalid_subtag.InvalidSubtag.TheVariants.{Language, Extlang, SecondExtlang, Script, Region, Variant, RepeatedVariant, RepeatedSingleton}
+use Rattle.langtag_registry.specs.Registered.{is_registered_language, is_registered_extlang, is_registered_script, is_registered_region, is_registered_variant}
+
+-- a subtag, and what is wrong with it: it is not registered, is a second or third extended one, or is alike an earlier one
+pub data Told : Type 0 where
+  language extlang second_extlang script region variant repeated_variant repeated_singleton : List ℕ → Told
+
+-- what a fault tells
+abbrev pub told : InvalidSubtag → Told
+told (Language subtag) = language (primary_language_text subtag)
+told (Extlang subtag) = extlang (extended_lang_tag_text subtag)
+told (SecondExtlang subtag) = second_extlang (extended_lang_tag_text subtag)
+told (Script subtag) = script (script_text subtag)
+told (Region subtag) = region (region_text subtag)
+told (Variant subtag) = variant (variant_text subtag)
+told (RepeatedVariant subtag) = repeated_variant (variant_text subtag)
+told (RepeatedSingleton subtag) = repeated_singleton (singleton_byte subtag ∷ [])
+
+-- ---- all that is wrong with the members of a record, in the order in which they stand
+
+abbrev pub unless : Bool → Told → List Told
+unless holds fault = if holds then [] else fault ∷ []
+
+abbrev pub extlang_faults : List (List ℕ) → List Told
+extlang_faults [] = []
+extlang_faults (first ∷ others) = unless (is_registered_extlang first) (extlang first) ++ map second_extlang others
+
+abbrev pub language_faults : List ℕ → List (List ℕ) → List Told
+language_faults primary extended = unless (is_registered_language primary) (language primary) ++ extlang_faults extended
+
+abbrev pub script_faults : Option (List ℕ) → List Told
+script_faults None = []
+script_faults (Some subtag) = unless (is_registered_script subtag) (script subtag)
+
+abbrev pub region_faults : Option (List ℕ) → List Told
+region_faults None = []
+region_faults (Some subtag) = unless (is_registered_region subtag) (region subtag)
+
+-- of variants after those that were seen
+abbrev pub variant_faults : List (List ℕ) → List (List ℕ) → List Told
+variant_faults seen [] = []
+variant_faults seen (subtag ∷ rest) =
+    unless (is_registered_variant subtag) (variant subtag)
+    ++ (unless (not (list_any (are_alike subtag) seen)) (repeated_variant subtag) ++ variant_faults (seen ++ subtag ∷ []) rest)
+
+-- of singletons after those that were seen
+abbrev pub singleton_faults : List ℕ → List ℕ → List Told
+singleton_faults seen [] = []
+singleton_faults seen (singleton ∷ rest) =
+    unless (not (list_any (are_alike_bytes singleton) seen)) (repeated_singleton (singleton ∷ [])) ++ singleton_faults (seen ++ singleton ∷ []) rest
+
+-- all that is wrong with a record, by place in the tag
+unfoldable pub faults : Record → List Told
+faults r =
+    language_faults r.primary r.extended
+    ++ (script_faults r.script
+    ++ (region_faults r.region
+    ++ (variant_faults [] r.variants ++ singleton_faults [] (map (λ e. e.singleton) r.extensions))))

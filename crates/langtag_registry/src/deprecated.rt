@@ -1,0 +1,77 @@
+//! Deprecated subtags (RFC 5646 section 3.1.6). They stay valid.
+ghost use Rattle.std.specs.Prelude.{◌≡◌, map};
+ghost use Rattle.std.specs.List.Sorted.{IsNonDecreasing};
+ghost use Rattle.langtag_language.specs.Text.{primary_language_text, extended_lang_tag_text};
+ghost use Rattle.langtag_place.specs.Text.{region_text, variant_text};
+ghost use Rattle.langtag_registry.specs.Numbers.{letter_number, folded_number};
+ghost use Rattle.langtag_registry.specs.Subtags as list;
+ghost use Rattle.langtag_registry.specs.Fields as field;
+
+use crate::keys::{is_among, is_among_long, is_among_short, long_number, short_number};
+use crate::languages::letter_number;
+use crate::tables::{
+    DEPRECATED_EXTLANG_KEYS, DEPRECATED_LANGUAGE_KEYS, DEPRECATED_REGION_KEYS,
+    DEPRECATED_VARIANT_KEYS,
+};
+use langtag_language::{ExtendedLangTag, PrimaryLanguage};
+use langtag_place::{Region, Variant};
+
+/// Returns whether a language is deprecated: true for `iw`, false for `he` and for what is not registered.
+pub fn is_deprecated_language(language: PrimaryLanguage<'_>) -> bool
+    ensures { result ≡ field.is_deprecated_language (primary_language_text language.entry) }
+{
+    let bytes = language.as_bytes();
+    if bytes.len() > 3 {
+        return false;
+    }
+    is_among_short(deprecated_language_keys(), letter_number(bytes) as u16)
+}
+
+/// Returns whether an extended language is deprecated: true for `yds`, false for `yue` and for what is not registered.
+pub fn is_deprecated_extlang(extlang: ExtendedLangTag<'_>) -> bool
+    ensures { result ≡ field.is_deprecated_extlang (extended_lang_tag_text extlang.entry) }
+{
+    is_among(deprecated_extlang_keys(), short_number(extlang.as_bytes()))
+}
+
+/// Returns whether a region is deprecated: true for `SU`, false for `FR` and for what is not registered.
+pub fn is_deprecated_region(region: Region<'_>) -> bool
+    ensures { result ≡ field.is_deprecated_region (region_text region.entry) }
+{
+    is_among(deprecated_region_keys(), short_number(region.as_bytes()))
+}
+
+/// Returns whether a variant is deprecated: true for `heploc`, false for `rozaj` and for what is not registered.
+pub fn is_deprecated_variant(variant: Variant<'_>) -> bool
+    ensures { result ≡ field.is_deprecated_variant (variant_text variant.entry) }
+{
+    is_among_long(deprecated_variant_keys(), long_number(variant.as_bytes()))
+}
+
+fn deprecated_language_keys() -> &'static [u16]
+    ensures numbers { result.now ≡ map letter_number list.deprecated_languages }
+    ensures rises { IsNonDecreasing result.now }
+{
+    &DEPRECATED_LANGUAGE_KEYS
+}
+
+fn deprecated_extlang_keys() -> &'static [u32]
+    ensures numbers { result.now ≡ map folded_number list.deprecated_extlangs }
+    ensures rises { IsNonDecreasing result.now }
+{
+    &DEPRECATED_EXTLANG_KEYS
+}
+
+fn deprecated_region_keys() -> &'static [u32]
+    ensures numbers { result.now ≡ map folded_number list.deprecated_regions }
+    ensures rises { IsNonDecreasing result.now }
+{
+    &DEPRECATED_REGION_KEYS
+}
+
+fn deprecated_variant_keys() -> &'static [u64]
+    ensures numbers { result.now ≡ map folded_number list.deprecated_variants }
+    ensures rises { IsNonDecreasing result.now }
+{
+    &DEPRECATED_VARIANT_KEYS
+}

@@ -1,0 +1,37 @@
+//! What makes a well-formed tag invalid (RFC 5646 section 2.2.9).
+use langtag_extension::Singleton;
+use langtag_language::{ExtendedLangTag, PrimaryLanguage};
+use langtag_place::{Region, Script, Variant};
+use thiserror::Error;
+
+/// Why a tag is not valid: the subtag of it that is not registered, or that repeats an earlier one.
+///
+/// A subtag is a slice of the tag, with its case. Two values are equal where they are of one kind and their subtags
+/// are equal.
+#[derive(Clone, Copy, Debug, PartialEq, Eq, Hash, Error)]
+pub enum InvalidSubtag<'a> {
+    /// A language that is not registered: `qt` of `qt-FR`.
+    #[error("language {0} is not registered")]
+    Language(PrimaryLanguage<'a>),
+    /// An extended language that is not registered: `fra` of `zh-fra`.
+    #[error("extended language {0} is not registered")]
+    Extlang(ExtendedLangTag<'a>),
+    /// An extended language after another, which no valid tag has (section 2.2.2): `yue` of `zh-cmn-yue`.
+    #[error("extended language {0} is the second")]
+    SecondExtlang(ExtendedLangTag<'a>),
+    /// A script that is not registered: `Abcd` of `fr-Abcd`.
+    #[error("script {0} is not registered")]
+    Script(Script<'a>),
+    /// A region that is not registered: `FQ` of `fr-FQ`.
+    #[error("region {0} is not registered")]
+    Region(Region<'a>),
+    /// A variant that is not registered: `1997` of `de-1997`.
+    #[error("variant {0} is not registered")]
+    Variant(Variant<'a>),
+    /// A variant that is equal to an earlier one: the second `1996` of `de-1996-1996`.
+    #[error("variant {0} is repeated")]
+    RepeatedVariant(Variant<'a>),
+    /// A singleton that is equal, but for case, to an earlier one: the `A` of `fr-a-bb-A-cc`.
+    #[error("singleton {0} is repeated")]
+    RepeatedSingleton(Singleton),
+}

@@ -1,0 +1,76 @@
+//! What the registry says of a language (RFC 5646 sections 3.1.7, 3.1.9 and 3.1.10).
+ghost use Rattle.std.specs.Prelude.{◌≡◌};
+ghost use Rattle.std.specs.Option.{option_map};
+ghost use Rattle.langtag_language.specs.Text.{primary_language_text};
+ghost use Rattle.langtag_place.specs.Text.{script_text};
+ghost use Rattle.langtag_registry.specs.Fields as field;
+ghost use Rattle.langtag_registry.specs.Subtags.{language_preferred, language_suppress_script, language_macrolanguage};
+ghost use Rattle.langtag_registry.specs.Tables.{IsTableOf};
+
+use crate::language_table::{LanguageTable, value_of};
+use crate::tables;
+use langtag_language::PrimaryLanguage;
+use langtag_place::Script;
+
+/// Returns the language that stands for another today (the field Preferred-Value, RFC 5646 section 3.1.7): `he` for `iw`.
+/// None for `he`, and for what is not registered.
+pub fn preferred_language(language: PrimaryLanguage<'_>) -> Option<PrimaryLanguage<'static>>
+    ensures { option_map primary_language_text result ≡ field.preferred_language (primary_language_text language.entry) }
+{
+    match value_of(preferred_languages(), language) {
+        Some(text) => Some(PrimaryLanguage::from_checked(text)),
+        None => None,
+    }
+}
+
+/// Returns the script that a tag of this language leaves out (the field Suppress-Script, RFC 5646 section 3.1.9): `Latn`
+/// for `fr`. None for `sr`, which is written in two, and for what is not registered.
+pub fn suppress_script(language: PrimaryLanguage<'_>) -> Option<Script<'static>>
+    ensures { option_map script_text result ≡ field.suppress_script (primary_language_text language.entry) }
+{
+    match value_of(suppress_scripts(), language) {
+        Some(text) => Some(Script::from_checked(text)),
+        None => None,
+    }
+}
+
+/// Returns the language that encompasses another (the field Macrolanguage, RFC 5646 section 3.1.10): `zh` for `yue`. None
+/// for `zh`, and for what is not registered.
+pub fn macrolanguage(language: PrimaryLanguage<'_>) -> Option<PrimaryLanguage<'static>>
+    ensures { option_map primary_language_text result ≡ field.macrolanguage (primary_language_text language.entry) }
+{
+    match value_of(macrolanguages(), language) {
+        Some(text) => Some(PrimaryLanguage::from_checked(text)),
+        None => None,
+    }
+}
+
+fn preferred_languages() -> LanguageTable
+    ensures { IsTableOf result language_preferred }
+{
+    LanguageTable {
+        keys: &tables::PREFERRED_LANGUAGE_KEYS,
+        indices: &tables::PREFERRED_LANGUAGE_INDICES,
+        values: &tables::PREFERRED_LANGUAGE_VALUES,
+    }
+}
+
+fn suppress_scripts() -> LanguageTable
+    ensures { IsTableOf result language_suppress_script }
+{
+    LanguageTable {
+        keys: &tables::SUPPRESS_SCRIPT_KEYS,
+        indices: &tables::SUPPRESS_SCRIPT_INDICES,
+        values: &tables::SUPPRESS_SCRIPT_VALUES,
+    }
+}
+
+fn macrolanguages() -> LanguageTable
+    ensures { IsTableOf result language_macrolanguage }
+{
+    LanguageTable {
+        keys: &tables::MACROLANGUAGE_KEYS,
+        indices: &tables::MACROLANGUAGE_INDICES,
+        values: &tables::MACROLANGUAGE_VALUES,
+    }
+}

@@ -1,0 +1,55 @@
+//! Registered languages (RFC 5646 section 2.2.1).
+ghost use Rattle.std.specs.Prelude.{◌≡◌, ◌≤◌, ◌<◌, IsTrue, length};
+ghost use Rattle.langtag_scan.specs.Class as class;
+ghost use Rattle.langtag_language.specs.Text.{primary_language_text};
+ghost use Rattle.langtag_registry.specs.Numbers.{letter, letter_number, language_bit};
+ghost use Rattle.langtag_registry.specs.Registered.{is_registered_language};
+
+use crate::tables::LANGUAGE_BITS;
+use langtag_language::PrimaryLanguage;
+use langtag_scan::into_smallcase;
+
+/// Returns whether a language is registered (RFC 5646 section 2.2.1), in any case: true for `fr`, `FR` and the private use
+/// `qaa`, false for `qt`.
+pub fn is_language(language: PrimaryLanguage<'_>) -> bool
+    ensures { result ≡ is_registered_language (primary_language_text language.entry) }
+{
+    let bytes = language.as_bytes();
+    if bytes.len() > 3 {
+        return false;
+    }
+    is_set(letter_number(bytes) - 27)
+}
+
+/// Returns the letters of a text of two or three as the digits of a number in base 26.
+pub(crate) fn letter_number(bytes: &[u8]) -> usize
+    requires primary { IsTrue (class.is_primary bytes.now) }
+    requires short { length bytes.now ≤ 3 }
+    ensures number { result ≡ letter_number bytes.now }
+    ensures from_aa { 27 ≤ result }
+    ensures to_zzz { result ≤ 18278 }
+{
+    let number = place(bytes[0]) * 26 + place(bytes[1]);
+    if bytes.len() == 2 {
+        return number;
+    }
+    number * 26 + place(bytes[2])
+}
+
+/// Returns the place of a letter in the alphabet, from 1 on.
+fn place(byte: u8) -> usize
+    requires { IsTrue (class.is_letter byte) }
+    ensures place { result ≡ letter byte }
+    ensures some { 1 ≤ result }
+    ensures most { result ≤ 26 }
+{
+    usize::from(into_smallcase(byte)) - 96
+}
+
+/// Returns a bit of the table.
+fn is_set(index: usize) -> bool
+    requires { index < 18304 }
+    ensures { result ≡ language_bit index }
+{
+    (LANGUAGE_BITS[index / 64] >> (index % 64)) % 2 == 1
+}

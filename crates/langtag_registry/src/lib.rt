@@ -1,0 +1,41 @@
+//! The IANA Language Subtag Registry over language tags: which subtags are registered, what the registry says of them
+//! (RFC 5646 section 3.1), and which tags are valid (section 2.2.9).
+//!
+//! ```
+//! use langtag::LangTag;
+//! use langtag_language::PrimaryLanguage;
+//! use langtag_registry::{InvalidSubtag, is_language, preferred_language, validate};
+//!
+//! validate(LangTag::new("de-CH-1996")?)?; // valid
+//! match validate(LangTag::new("qt-FR")?) {
+//!     Err(InvalidSubtag::Language(language)) => language.as_str(), // "qt"
+//!     ..
+//! }
+//! is_language(PrimaryLanguage::new("fr")?);        // true
+//! preferred_language(PrimaryLanguage::new("iw")?); // Some(he)
+//! ```
+#![tactic(auto)]
+
+mod deprecated;
+mod invalid_subtag;
+mod keys;
+mod language_fields;
+mod language_table;
+mod languages;
+mod preferred;
+mod subtags;
+mod tables;
+#[cfg(test)]
+mod tests;
+mod validity;
+
+pub use deprecated::{
+    is_deprecated_extlang, is_deprecated_language, is_deprecated_region, is_deprecated_variant,
+};
+pub use invalid_subtag::InvalidSubtag;
+pub use language_fields::{macrolanguage, preferred_language, suppress_script};
+pub use languages::is_language;
+pub use preferred::{preferred_region, preferred_tag, preferred_variant};
+pub use subtags::{is_extlang, is_region, is_script, is_variant};
+pub use tables::FILE_DATE;
+pub use validity::validate;

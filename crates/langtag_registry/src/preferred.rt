@@ -1,0 +1,79 @@
+//! The Preferred-Value of a region, a variant or a whole tag (RFC 5646 section 3.1.7).
+ghost use Rattle.std.specs.Prelude.{◌≡◌, map};
+ghost use Rattle.std.specs.Option.{option_map};
+ghost use Rattle.langtag_place.specs.Text.{region_text, variant_text};
+ghost use Rattle.langtag.specs.Text.{lang_tag_text};
+ghost use Rattle.langtag_registry.specs.Entry.{Entry, value_for};
+ghost use Rattle.langtag_registry.specs.Fields as field;
+ghost use Rattle.langtag_registry.specs.Subtags.{region_preferred, variant_preferred, tag_preferred};
+
+use crate::tables::{PREFERRED_REGIONS, PREFERRED_TAGS, PREFERRED_VARIANTS};
+use langtag::LangTag;
+use langtag_place::{Region, Variant};
+use langtag_scan::case_insensitive_eq;
+
+/// Returns the region that stands for another today: `MM` for `BU`. None for `MM`, and for what is not registered.
+pub fn preferred_region(region: Region<'_>) -> Option<Region<'static>>
+    ensures { option_map region_text result ≡ field.preferred_region (region_text region.entry) }
+{
+    match value_beside(regions(), region.as_bytes()) {
+        Some(text) => Some(Region::from_checked(text)),
+        None => None,
+    }
+}
+
+/// Returns the variant that stands for another today: `alalc97` for `heploc`. None for `alalc97`, and for what is not
+/// registered.
+pub fn preferred_variant(variant: Variant<'_>) -> Option<Variant<'static>>
+    ensures { option_map variant_text result ≡ field.preferred_variant (variant_text variant.entry) }
+{
+    match value_beside(variants(), variant.as_bytes()) {
+        Some(text) => Some(Variant::from_checked(text)),
+        None => None,
+    }
+}
+
+/// Returns the tag that stands for a grandfathered or redundant tag as a whole today: `jbo` for `art-lojban`, `gsg` for
+/// `sgn-DE`. None for `zh-min`, which has no Preferred-Value, and for what is not registered as a whole, as `sgn-DE-x-a`.
+pub fn preferred_tag(tag: LangTag<'_>) -> Option<LangTag<'static>>
+    ensures { option_map lang_tag_text result ≡ field.preferred_tag (lang_tag_text tag.entry) }
+{
+    match value_beside(tags(), tag.as_bytes()) {
+        Some(text) => Some(LangTag::from_checked(text)),
+        None => None,
+    }
+}
+
+/// Returns the second text beside the first that is equal to these bytes but for case, if there is one.
+fn value_beside(
+    table: &'static [(&'static str, &'static str)],
+    bytes: &[u8],
+) -> Option<&'static str>
+    ensures { option_map (λ text. text.now) result
+        ≡ value_for (map (λ pair. record { subtag = pair.0.now; value = pair.1.now }) table.now) bytes.now }
+{
+    for entry in table {
+        if case_insensitive_eq(entry.0.as_bytes(), bytes) {
+            return Some(entry.1);
+        }
+    }
+    None
+}
+
+fn regions() -> &'static [(&'static str, &'static str)]
+    ensures { map (λ pair. record { subtag = pair.0.now; value = pair.1.now }) result.now ≡ region_preferred }
+{
+    &PREFERRED_REGIONS
+}
+
+fn variants() -> &'static [(&'static str, &'static str)]
+    ensures { map (λ pair. record { subtag = pair.0.now; value = pair.1.now }) result.now ≡ variant_preferred }
+{
+    &PREFERRED_VARIANTS
+}
+
+fn tags() -> &'static [(&'static str, &'static str)]
+    ensures { map (λ pair. record { subtag = pair.0.now; value = pair.1.now }) result.now ≡ tag_preferred }
+{
+    &PREFERRED_TAGS
+}

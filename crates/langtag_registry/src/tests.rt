@@ -1,0 +1,118 @@
+//! Tests of the crate: messages, callers, and what the registry says of known subtags.
+use crate::{
+    FILE_DATE, InvalidSubtag, macrolanguage, preferred_language, preferred_tag, suppress_script,
+    validate,
+};
+use langtag::{InvalidLangTag, LangTag};
+use langtag_language::PrimaryLanguage;
+use std::alloc::{AllocError, Global};
+use std::collections::HashMap;
+use std::test::Fail;
+use thiserror::Error;
+
+/// What a caller gets of a text that has to be a valid tag.
+#[derive(Debug, Drop, Error)]
+enum Refusal<'a> {
+    #[error("not a tag")]
+    NotATag(#[from] InvalidLangTag<&'a str>),
+    #[error("{0}")]
+    NotValid(#[from] InvalidSubtag<'a>),
+}
+
+fn valid_tag(text: &str) -> Result<LangTag<'_>, Refusal<'_>> {
+    let tag = LangTag::new(text)?;
+    validate(tag)?;
+    Ok(tag)
+}
+
+/// The language that is preferred to that of a valid tag.
+fn preferred(text: &str) -> Option<&'static str> {
+    let tag = LangTag::new(text).ok()?;
+    validate(tag).ok()?;
+    Some(preferred_language(tag.as_normal()?.language().primary())?.as_str())
+}
+
+fn message(alloc: Global, text: &str) -> Result<String, AllocError> {
+    match valid_tag(text) {
+        Ok(_) => String::from_str(alloc, "valid"),
+        Err(refusal) => refusal.to_string(alloc),
+    }
+}
+
+/// Texts and what is said of them: each kind of tag, each kind of fault with its case, and of two faults the first.
+const MESSAGES: [(&str, &str); 17] = [
+    ("de-CH-1996", "valid"),
+    ("x-qt", "valid"),
+    ("zh-MIN", "valid"),
+    ("i-klingon", "valid"),
+    ("qaa-Qaaa-XA", "valid"),
+    ("en-b-ccc-a-aaa", "valid"),
+    ("de--CH", "not a tag"),
+    ("Qt-FQ", "language Qt is not registered"),
+    ("german", "language german is not registered"),
+    ("zh-fra", "extended language fra is not registered"),
+    ("zh-cmn-Yue", "extended language Yue is the second"),
+    ("fr-Abcd-FQ", "script Abcd is not registered"),
+    ("fr-fq", "region fq is not registered"),
+    ("de-1996-1997", "variant 1997 is not registered"),
+    ("sl-rozaj-ROZAJ", "variant ROZAJ is repeated"),
+    ("fr-a-bb-A-cc", "singleton A is repeated"),
+    ("fr-1997-a-bb-A-cc", "variant 1997 is not registered"),
+];
+
+#[test]
+fn the_first_fault_is_told_as_it_stands(rt: HostRuntime) -> Result<(), Fail> {
+    for (text, wanted) in MESSAGES {
+        let found = message(rt.alloc(), text)?;
+        assert!(rt; found.as_str() == wanted, "of {text}");
+    }
+    Ok(())
+}
+
+#[test]
+fn callers(rt: HostRuntime) -> Result<(), Fail> {
+    assert!(rt; preferred("IW-IL") == Some("he"));
+    assert!(rt; preferred("iw-FQ") == None);
+    let mut counts = HashMap::new(rt.alloc());
+    for text in ["de-1997", "DE-1997", "fr-FQ"] {
+        if let Err(Refusal::NotValid(invalid)) = valid_tag(text) {
+            counts.insert(invalid, text)?;
+        }
+    }
+    assert!(rt; counts.len() == 2);
+    Ok(())
+}
+
+/// What the registry says of a subtag, by literals that are its texts.
+#[test]
+fn known_subtags(rt: HostRuntime) -> Result<(), Fail> {
+    assert!(rt; FILE_DATE.len() == 10);
+    for (text, script, whole) in [
+        ("fr", Some("Latn"), None),
+        ("YUE", None, Some("zh")),
+        ("sr", None, Some("sh")),
+        ("german", None, None),
+    ] {
+        let language = PrimaryLanguage::new(text).ok().ok_or(text)?;
+        assert!(rt;
+            suppress_script(language).map(|script| script.as_str()) == script,
+            "of {text}"
+        );
+        assert!(rt;
+            macrolanguage(language).map(|whole| whole.as_str()) == whole,
+            "of {text}"
+        );
+    }
+    for (text, wanted) in [
+        ("ART-lojban", Some("jbo")),
+        ("sgn-DE", Some("gsg")),
+        ("zh-min", None),
+    ] {
+        let tag = LangTag::new(text).ok().ok_or(text)?;
+        assert!(rt;
+            preferred_tag(tag).map(|tag| tag.as_str()) == wanted,
+            "of {text}"
+        );
+    }
+    Ok(())
+}

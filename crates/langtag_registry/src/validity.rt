@@ -1,0 +1,146 @@
+//! Valid tags (RFC 5646 section 2.2.9).
+ghost use Rattle.std.specs.Prelude.{◌≡◌, ◌↔◌, [], IsNone, Some, IfErr, is_ok, true, take, slice_get};
+ghost use Rattle.std.specs.List.{list_any};
+ghost use Rattle.std.specs.Option.{option_map};
+ghost use Rattle.langtag_scan.specs.Case.{are_alike};
+ghost use Rattle.langtag_scan.specs.Record.{EachRecord};
+ghost use Rattle.langtag_scan.specs.Subtags.{subtags};
+ghost use Rattle.langtag_language.specs.Language.{EachLanguageSpelling};
+ghost use Rattle.langtag_language.specs.Text.{language_text};
+ghost use Rattle.langtag_place.specs.Text.{script_text, region_text, variant_text, variants_text};
+ghost use Rattle.langtag.specs.Registered.{IsGrandfathered};
+ghost use Rattle.langtag.specs.Text.{lang_tag_text, normal_lang_tag_text};
+ghost use Rattle.langtag_registry.specs.Fault.{told, faults, language_faults, script_faults, region_faults, variant_faults};
+ghost use Rattle.langtag_registry.specs.Valid.{IsValid};
+
+use crate::invalid_subtag::InvalidSubtag;
+use crate::languages::is_language;
+use crate::subtags::{is_extlang, is_region, is_script, is_variant};
+use langtag::{LangTag, NormalLangTag};
+use langtag_language::Language;
+use langtag_place::{Region, Script, Variant, Variants};
+
+/// Returns whether a tag is valid by the registry (RFC 5646 section 2.2.9): well-formed, and either grandfathered, or with
+/// all its subtags registered and none repeated. `fr-FR`, the grandfathered `zh-min` and `x-qt` are Ok. Whether a variant
+/// stands after one of its prefixes is not asked.
+///
+/// # Errors
+///
+/// The first invalid subtag by its place in the tag: the language `qt` of `qt-FQ`.
+pub fn validate<'a>(tag: LangTag<'a>) -> Result<(), InvalidSubtag<'a>>
+    ensures valid { (is_ok result ≡ true) ↔ IsValid (lang_tag_text tag.entry) }
+    ensures first { IfErr result (λ invalid. EachRecord (lang_tag_text tag.entry)
+        (λ r. slice_get (faults r) 0 ≡ Some (told invalid))) }
+{
+    match find_fault(tag) {
+        Some(fault) => Err(fault),
+        None => Ok(()),
+    }
+}
+
+/// Returns what is wrong with a tag, if it is not valid.
+fn find_fault<'a>(tag: LangTag<'a>) -> Option<InvalidSubtag<'a>>
+    ensures valid { IsNone result ↔ IsValid (lang_tag_text tag.entry) }
+    ensures first { (IsGrandfathered (lang_tag_text tag.entry) → ⊥)
+        → EachRecord (lang_tag_text tag.entry) (λ r. option_map told result ≡ slice_get (faults r) 0) }
+{
+    let Some(normal) = tag.as_normal() else {
+        return None;
+    };
+    let Some(fault) = find_fault_of_normal(normal) else {
+        return None;
+    };
+    if tag.is_grandfathered() {
+        return None;
+    }
+    Some(fault)
+}
+
+/// Returns the first fault of a normal tag, without a look at whether it is grandfathered.
+fn find_fault_of_normal<'a>(tag: NormalLangTag<'a>) -> Option<InvalidSubtag<'a>>
+    ensures { EachRecord (normal_lang_tag_text tag.entry) (λ r. option_map told result ≡ slice_get (faults r) 0) }
+{
+    if let Some(fault) = find_language_fault(tag.language()) {
+        return Some(fault);
+    }
+    if let Some(fault) = find_script_fault(tag.script()) {
+        return Some(fault);
+    }
+    if let Some(fault) = find_region_fault(tag.region()) {
+        return Some(fault);
+    }
+    if let Some(fault) = find_variant_fault(tag.variants()) {
+        return Some(fault);
+    }
+    if let Some(singleton) = tag.repeated_singleton() {
+        return Some(InvalidSubtag::RepeatedSingleton(singleton));
+    }
+    None
+}
+
+/// Returns the first fault of a language.
+fn find_language_fault<'a>(language: Language<'a>) -> Option<InvalidSubtag<'a>>
+    ensures { EachLanguageSpelling (language_text language.entry) (λ primary extended.
+        option_map told result ≡ slice_get (language_faults primary extended) 0) }
+{
+    let primary = language.primary();
+    if !is_language(primary) {
+        return Some(InvalidSubtag::Language(primary));
+    }
+    let mut extlangs = language.extension_subtags();
+    let first = extlangs.next()?;
+    if !is_extlang(first) {
+        return Some(InvalidSubtag::Extlang(first));
+    }
+    let second = extlangs.next()?;
+    Some(InvalidSubtag::SecondExtlang(second))
+}
+
+/// Returns the fault of a script, where there is one.
+fn find_script_fault<'a>(script: Option<Script<'a>>) -> Option<InvalidSubtag<'a>>
+    ensures { option_map told result ≡ slice_get (script_faults (option_map script_text script.entry)) 0 }
+{
+    let script = script?;
+    if is_script(script) {
+        return None;
+    }
+    Some(InvalidSubtag::Script(script))
+}
+
+/// Returns the fault of a region, where there is one.
+fn find_region_fault<'a>(region: Option<Region<'a>>) -> Option<InvalidSubtag<'a>>
+    ensures { option_map told result ≡ slice_get (region_faults (option_map region_text region.entry)) 0 }
+{
+    let region = region?;
+    if is_region(region) {
+        return None;
+    }
+    Some(InvalidSubtag::Region(region))
+}
+
+/// Returns the first fault of variants.
+// Each is compared to those before it. These are registered and all different, so they are few.
+fn find_variant_fault<'a>(variants: Variants<'a>) -> Option<InvalidSubtag<'a>>
+    ensures { option_map told result ≡ slice_get (variant_faults [] (subtags (variants_text variants.entry))) 0 }
+{
+    for (index, variant) in variants.iter().enumerate() {
+        if !is_variant(variant) {
+            return Some(InvalidSubtag::Variant(variant));
+        }
+        if is_among_first(variants, index, variant) {
+            return Some(InvalidSubtag::RepeatedVariant(variant));
+        }
+    }
+    None
+}
+
+/// Returns whether a variant is equal, but for case, to one of the first `count` variants.
+fn is_among_first(variants: Variants<'_>, count: usize, variant: Variant<'_>) -> bool
+    ensures { result ≡ list_any (are_alike (variant_text variant.entry))
+        (take count (subtags (variants_text variants.entry))) }
+{
+    variants
+        .iter()
+        .take(count)
+        .any(|earlier| variant == earlier)
+}

@@ -1,0 +1,160 @@
+#!/usr/bin/env python3
+"""A plain reading of RFC 5646 sections 2.1, 2.2.9 and 3.1 over the registry's record-jar, by regular expressions.
+
+usage: oracle.py REGISTRY < LINES             prints for each line whether it is valid, and what is registered of it
+       oracle.py REGISTRY --make COUNT SEED   prints that many texts: tags of the registry's subtags, mutants, and random ones
+       oracle.py REGISTRY --each              prints each registered text, and all short languages and regions
+"""
+import random
+import re
+import sys
+
+GRAMMAR = re.compile(r"(?P<language>[a-z]{2,3}(?P<ext>(?:-[a-z]{3}){0,3})|[a-z]{4}|[a-z]{5,8})(?:-(?P<script>[a-z]{4}))?(?:-(?P<region>[a-z]{2}|[0-9]{3}))?"
+                     r"(?P<variants>(?:-(?:[a-z0-9]{5,8}|[0-9][a-z0-9]{3}))*)(?P<extensions>(?:-[a-wyz0-9](?:-[a-z0-9]{2,8})+)*)(?:-x(?:-[a-z0-9]{1,8})+)?", re.I | re.A)
+PRIVATE = re.compile(r"x(?:-[a-z0-9]{1,8})+", re.I | re.A)
+
+
+class Registry:
+    def __init__(self, path):
+        self.kinds, self.fields, self.ranges, self.names = {}, {}, [], {}
+        for block in open(path, encoding="utf-8").read().split("%%\n"):
+            fields = {}
+            for line in block.splitlines():
+                name, _, value = line.partition(": ")
+                fields.setdefault(name, value)
+            if "Type" not in fields:
+                continue
+            kind, name = fields["Type"], (fields.get("Subtag") or fields["Tag"])
+            if ".." in name:
+                low, high = name.lower().split("..")
+                self.ranges.append((kind, low, high))
+            else:
+                self.kinds.setdefault(kind, set()).add(name.lower())
+                self.names.setdefault(kind, []).append(name)
+            self.fields[kind, name.lower()] = fields
+
+    def has(self, kind, text):
+        text = text.lower()
+        return text in self.kinds[kind] or any(k == kind and len(text) == len(low) and low <= text <= high for k, low, high in self.ranges)
+
+    def whole(self, text):
+        return self.field("grandfathered", "Preferred-Value", text) or self.field("redundant", "Preferred-Value", text)
+
+    def field(self, kind, name, text):
+        return self.fields.get((kind, text.lower()), {}).get(name)
+
+    def answer(self, text):
+        grandfathered = text.lower() in self.kinds["grandfathered"]
+        found = GRAMMAR.fullmatch(text)
+        if not (grandfathered or found or PRIVATE.fullmatch(text)):
+            return "refused"
+        fault = None if grandfathered or not found else self.fault(found)
+        out = ["invalid " + fault if fault else "valid", "whole=" + (self.whole(text) or "-")]
+        return " ".join(out + (self.parts(found) if found else []))
+
+    def fault(self, found):
+        primary, *extended = found["language"].split("-")
+        if not self.has("language", primary):
+            return "language=" + primary
+        if extended and not self.has("extlang", extended[0]):
+            return "extlang=" + extended[0]
+        if len(extended) > 1:
+            return "second-extlang=" + extended[1]
+        for kind in ("script", "region"):
+            if found[kind] and not self.has(kind, found[kind]):
+                return f"{kind}={found[kind]}"
+        seen = set()
+        for variant in filter(None, found["variants"].split("-")):
+            if not self.has("variant", variant):
+                return "variant=" + variant
+            if variant.lower() in seen:
+                return "repeated-variant=" + variant
+            seen.add(variant.lower())
+        for subtag in found["extensions"].split("-"):
+            if len(subtag) == 1:
+                if subtag.lower() in seen:
+                    return "repeated-singleton=" + subtag
+                seen.add(subtag.lower())
+        return None
+
+    def parts(self, found):
+        """What the registry says of each subtag: registered or not, its fields, deprecated or not."""
+        primary, *extended = found["language"].split("-")
+        rows = [("language", primary, ["Preferred-Value", "Suppress-Script", "Macrolanguage"])]
+        rows += [("extlang", text, []) for text in extended]
+        rows += [(kind, found[kind], names) for kind, names in (("script", None), ("region", ["Preferred-Value"])) if found[kind]]
+        rows += [("variant", text, ["Preferred-Value"]) for text in found["variants"].split("-") if text]
+        out = []
+        for kind, text, names in rows:
+            told = ["+" if self.has(kind, text) else "-"]
+            if names is not None:
+                told += [self.field(kind, name, text) or "-" for name in names]
+                told.append("old" if self.field(kind, "Deprecated", text) else "-")
+            out.append(f"{kind}=" + ",".join(told))
+        return out
+
+
+def make(registry, count, seed):
+    rng = random.Random(seed)
+    letters = "abcdefghijklmnopqrstuvwxyz"
+
+    def some(kind):
+        pool = registry.names[kind]
+        if rng.random() < 0.15:
+            size = {"language": rng.choice([2, 3, 3, 4, 5]), "extlang": 3, "script": 4, "region": rng.choice([2, 3]), "variant": rng.choice([4, 5, 8])}[kind]
+            text = "".join(rng.choice(letters) for _ in range(size))
+            if kind == "region" and size == 3 or kind == "variant" and size == 4:
+                text = "".join(rng.choice("0123456789") for _ in range(size))
+            return text
+        if rng.random() < 0.2:
+            replaced = [n for (k, n), fields in registry.fields.items() if k == kind and "Preferred-Value" in fields]
+            return rng.choice(replaced or pool)
+        return rng.choice(pool)
+
+    def cased(text):
+        how = rng.random()
+        return text if how < 0.5 else text.upper() if how < 0.7 else "".join(rng.choice([c.upper(), c.lower()]) for c in text)
+
+    for _ in range(count):
+        how = rng.random()
+        if how < 0.12:
+            text = rng.choice(registry.names["grandfathered"] + registry.names["redundant"]) + rng.choice(["", "", "", "-x-a", "-DD"])
+        elif how < 0.17:
+            text = rng.choice(["sgn-", "sgn-", "SGN-"]) + rng.choice(["DD", "FX", "BR", "BU", "ZR", "US"])
+        else:
+            parts = [some("language")]
+            for kind, odds in (("extlang", 0.25), ("extlang", 0.05), ("script", 0.3), ("region", 0.4), ("variant", 0.3), ("variant", 0.2), ("variant", 0.1)):
+                if rng.random() < odds:
+                    parts.append(parts[-1] if kind == "variant" and rng.random() < 0.2 else some(kind))
+            for _ in range(rng.choice([0, 0, 0, 1, 2, 3])):
+                parts += [rng.choice("abcABCu01"), rng.choice(["aaa", "bb", "phonebk"])]
+            if rng.random() < 0.1:
+                parts += ["x", rng.choice(["a", "iw", "mine"])]
+            text = "-".join(parts)
+        text = cased(text)
+        if rng.random() < 0.08 and text:
+            place = rng.randrange(len(text))
+            text = text[:place] + rng.choice("-_ax19") + text[place + rng.choice([0, 1]):]
+        print(text)
+
+
+def each(registry):
+    letters, digits = "abcdefghijklmnopqrstuvwxyz", "0123456789"
+    pairs = [a + b for a in letters for b in letters]
+    for language in pairs + [pair + c for pair in pairs for c in letters]:
+        print(language)
+    for region in pairs + [a + b + c for a in digits for b in digits for c in digits]:
+        print("fr-" + region)
+    for kind, before in (("extlang", "zh-"), ("script", "fr-"), ("region", "fr-"), ("variant", "fr-"), ("grandfathered", ""), ("redundant", "")):
+        for name in registry.names[kind]:
+            print(before + name)
+
+
+registry = Registry(sys.argv[1])
+if sys.argv[2:3] == ["--each"]:
+    each(registry)
+elif sys.argv[2:3] == ["--make"]:
+    make(registry, int(sys.argv[3]), int(sys.argv[4]))
+else:
+    for line in sys.stdin:
+        print(registry.answer(line.rstrip("\n")))
