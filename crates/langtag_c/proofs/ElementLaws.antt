@@ -1,7 +1,7 @@
 -- What an element is by its range and its weight (RFC 9110 section 12.5.4).
 use Rattle.std.proofs.Common.{◌≡◌, ℕ, true, false, List, Some, None, take, ap, sym, ◌∙◌, refl}
 use Rattle.std.specs.List.{position_or_len}
-use Rattle.langtag_match.specs.AcceptLanguage.{Element, bad_part, element, is_semicolon, range_of, trimmed, weight_of}
+use Rattle.langtag_match.specs.AcceptLanguage.{bad_part, element, is_semicolon, range_of, trimmed, weight_of}
 use Rattle.langtag_match.specs.Range.{is_basic_range}
 use Rattle.langtag_match.specs.declared.accept_language_error.ElementPart.TheVariants.{Range, Weight}
 use Rattle.langtag_c.specs.Spans.{span_text}

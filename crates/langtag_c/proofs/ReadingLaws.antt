@@ -1,9 +1,8 @@
 -- What AcceptLanguage reads of a list is what it reads of the items that are not empty.
-use Rattle.std.proofs.Common.{◌≡◌, ℕ, zero, suc, Bool, true, false, not, List, [], ◌∷◌, Option, Some, None, is_some, filter, take, length, reverse, refl, ap, sym, ◌∙◌}
+use Rattle.std.proofs.Common.{◌≡◌, ℕ, zero, suc, Bool, true, false, not, List, [], ◌∷◌, Option, Some, None, is_some, filter, take, reverse, refl, ap}
 use Rattle.std.specs.List.{before_first, filter_map, list_all, position_or_len}
 use Rattle.std.proofs.lemmas.Bool.{and_parts}
 use Rattle.langtag_match.specs.AcceptLanguage.{Element, are_good, element, elements, from_first, is_ows, is_semicolon, is_space, items, range_of}
-use Rattle.langtag_c.specs.Negotiation.{filled_items}
 
 -- an empty item is not an element
 spaces_trimmed : (text : List ℕ) → is_ows text ≡ true → from_first text ≡ []

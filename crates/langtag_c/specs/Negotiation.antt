@@ -1,7 +1,7 @@
 -- What a walk takes off a language range (RFC 4647 section 3.4) and off an Accept-Language header (RFC 9110 section 12.5.4).
-use Rattle.std.specs.Prelude.{◌≡◌, ℕ, ◌+◌, ◌≤◌, IsTrue, Bool, false, not, List, [], ◌∷◌, Some, None, filter, if◌then◌else◌}
+use Rattle.std.specs.Prelude.{◌≡◌, ℕ, ◌≤◌, IsTrue, Bool, not, List, [], ◌∷◌, Some, None, filter, if◌then◌else◌}
 use Rattle.std.specs.List.{slice_range}
-use Rattle.langtag_match.specs.AcceptLanguage.{Element, bad_part, element, is_ows, items}
+use Rattle.langtag_match.specs.AcceptLanguage.{bad_part, element, is_ows, items}
 use Rattle.langtag_match.specs.Fallback.{fallbacks}
 use Rattle.langtag_match.specs.declared.accept_language_error.ElementPart.{ElementPart}
 use Rattle.langtag_c.specs.Spans.{HasBytes, end_of, span_between, span_text}

@@ -1,10 +1,9 @@
 -- The tables of fields have what the lists say: by computation.
-use Rattle.std.proofs.Common.{◌≡◌, ℕ, true, ltb, List, length, get_or, map, [], refl}
+use Rattle.std.proofs.Common.{◌≡◌, true, ltb, length, get_or, map, [], refl}
 use Rattle.std.specs.List.{list_all}
 use Rattle.langtag_scan.specs.Case.{fold_byte}
 use Rattle.langtag_scan.specs.Class.{is_letter, is_digit, are_letters, is_primary, is_script, is_region, is_variant}
 use Rattle.langtag_registry.specs.declared.tables.TheConstants as table
-use Rattle.langtag_registry.specs.Entry.{Entry}
 use Rattle.langtag_registry.specs.Numbers.{letter_number, climbs_from}
 use Rattle.langtag_registry.specs.Subtags.{language_preferred, language_suppress_script, language_macrolanguage, region_preferred, variant_preferred, tag_preferred}
 use Rattle.langtag_registry.proofs.Rising.{rises_from}

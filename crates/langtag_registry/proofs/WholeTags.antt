@@ -1,12 +1,11 @@
 -- The Preferred-Value of a whole tag is a normal tag of a simple record: by computation.
-use Rattle.std.proofs.Common.{◌≡◌, ℕ, true, Bool, not, List, [], ◌∷◌, map, Option, None, Some, IsTrue, inl, inr, refl, arith}
-use Rattle.std.specs.Prelude.{◌&&◌, is_some, IfSome}
+use Rattle.std.proofs.Common.{◌≡◌, ℕ, true, Bool, List, [], ◌∷◌, map, Option, None, Some, IsTrue, inl, inr, refl, arith}
+use Rattle.std.specs.Prelude.{◌&&◌, IfSome}
 use Rattle.std.specs.List.{list_all}
 use Rattle.std.specs.Option.{option_map_or}
 use Rattle.std.specs.Str.{bytes_eq}
 use Rattle.std.specs.Cmp.Lexicographic.{bytes_decides}
 use Rattle.std.proofs.lemmas.Bool.{and_parts}
-use Rattle.langtag_scan.specs.Case.{fold_byte}
 use Rattle.langtag_scan.specs.Class.{is_letter, is_digit, is_primary, is_script, is_region, is_variant}
 use Rattle.langtag_scan.specs.Record.{Record, IsWellFormed, spell}
 use Rattle.langtag_scan.specs.Subtags.{subtags}

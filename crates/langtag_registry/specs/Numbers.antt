@@ -1,7 +1,7 @@
 -- The numbers by which the tables know texts. Contracts of private functions alone speak of this page.
 use Rattle.std.specs.Prelude.{ℕ, ◌+◌, ◌*◌, ◌-◌, ◌/◌, ◌%◌, ◌^◌, ◌==◌, ◌&&◌, nat_lt, Bool, true, false, List, [], ◌∷◌, fold, map, slice_index_or, Option, None, Some, if◌then◌else◌}
 use Rattle.std.specs.List.{flat_map, range_with_len}
-use Rattle.langtag_scan.specs.Case.{fold_byte, are_alike}
+use Rattle.langtag_scan.specs.Case.{fold_byte}
 use Rattle.langtag_registry.specs.declared.tables.TheConstants.{LANGUAGE_BITS}
 
 -- the place of a letter in the alphabet, from 1 on

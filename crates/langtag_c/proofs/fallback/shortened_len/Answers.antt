@@ -1,4 +1,4 @@
-use Rattle.std.proofs.Common.{◌≡◌, ◌∷◌, List, ℕ, Bool, false, arith, not, filter, length, take, refl, sym, ap, ◌∙◌}
+use Rattle.std.proofs.Common.{◌≡◌, ◌∷◌, false, arith, not, filter, length, take, refl, sym, ap, ◌∙◌}
 use Rattle.std.proofs.lemmas.List.{take-take}
 use Rattle.langtag_match.specs.Fallback.{before_hyphens, ends_in_single, fallbacks}
 use Rattle.langtag_c.proofs.fallback.shortened_len.Goals as goal

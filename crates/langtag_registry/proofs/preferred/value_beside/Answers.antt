@@ -1,4 +1,4 @@
-use Rattle.std.proofs.Common.{map, Some, sym, ap, ◌∙◌, arith}
+use Rattle.std.proofs.Common.{Some, sym, ap, ◌∙◌, arith}
 use Rattle.std.proofs.lemmas.List.{get_or-map, length-map}
 use Rattle.langtag_scan.specs.Case.{are_alike}
 use Rattle.langtag_registry.specs.Entry.{Entry}

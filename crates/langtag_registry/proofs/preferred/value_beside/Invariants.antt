@@ -1,5 +1,4 @@
 use Rattle.std.proofs.Common.{map}
-use Rattle.langtag_registry.specs.Entry.{Entry}
 use Rattle.langtag_registry.proofs.Values.{IsFoundFrom}
 use Rattle.langtag_registry.proofs.preferred.value_beside.Given as goal
 
