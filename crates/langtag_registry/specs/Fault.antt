@@ -11,7 +11,8 @@ use Rattle.langtag_registry.specs.declared.invalid_subtag.InvalidSubtag.{Invalid
 use Rattle.langtag_registry.specs.declared.invalid_subtag.InvalidSubtag.TheVariants.{Language, Extlang, SecondExtlang, Script, Region, Variant, RepeatedVariant, RepeatedSingleton}
 use Rattle.langtag_registry.specs.Registered.{is_registered_language, is_registered_extlang, is_registered_script, is_registered_region, is_registered_variant}
 
--- a subtag, and what is wrong with it: it is not registered, is a second or third extended one, or is alike an earlier one
+-- a subtag, and what is wrong with it: it is not registered, is a second or third extended one, or equals an earlier one,
+-- ignoring case
 pub data Told : Type 0 where
   language extlang second_extlang script region variant repeated_variant repeated_singleton : List ℕ → Told
 
