@@ -2,4 +2,5 @@ pub mod Answers
 pub mod Negotiation
 pub mod Repeats
 pub mod Spans
+pub mod Validity
 pub mod Walks

@@ -14,6 +14,7 @@ mod range;
 mod recommend;
 mod repeats;
 mod span;
+mod validity;
 mod viable;
 mod walk;
 mod weight;

@@ -1,5 +1,5 @@
 //! Variants and singletons that stand in a tag twice (RFC 5646 section 2.2.9).
-ghost use Rattle.std.specs.Prelude.{◌≡◌, ◌<◌, ◌^◌, MatchOption, is_some, length, map, unwrap_or};
+ghost use Rattle.std.specs.Prelude.{◌≡◌, ◌<◌, ◌^◌, MatchOption, Some, is_some, length, map, unwrap_or};
 ghost use Rattle.langtag_scan.specs.Case.{are_alike};
 ghost use Rattle.langtag_scan.specs.Record.{EachRecord};
 ghost use Rattle.langtag_scan.specs.Tag.{IsNormal};
@@ -62,17 +62,25 @@ fn normal_tag_of<'a>(bytes: &'a [u8]) -> Option<NormalLangTag<'a>>
 }
 
 /// Where the first repeated variant stands in a tag.
-fn repeated_variant(tag: &NormalLangTag<'_>) -> Option<Span>
+pub(crate) fn repeated_variant(tag: &NormalLangTag<'_>) -> Option<Span>
     requires normal { IsNormal (normal_lang_tag_text tag.now) }
     requires room { length (normal_lang_tag_text tag.now) < 2 ^ 64 }
     ensures { EachRecord (normal_lang_tag_text tag.now) (λ r. result ≡ member_span (variant_place r) r.variants (repeat_index are_alike r.variants)) }
 {
-    let repeated = tag.repeated_variant_index()?;
+    variant_at(tag, tag.repeated_variant_index()?)
+}
+
+/// Where the variant at an index stands in a tag.
+pub(crate) fn variant_at(tag: &NormalLangTag<'_>, wanted: usize) -> Option<Span>
+    requires normal { IsNormal (normal_lang_tag_text tag.now) }
+    requires room { length (normal_lang_tag_text tag.now) < 2 ^ 64 }
+    ensures { EachRecord (normal_lang_tag_text tag.now) (λ r. result ≡ member_span (variant_place r) r.variants (Some wanted)) }
+{
     let mut end = tag.ends().region;
     for (index, variant) in tag.variants().iter().enumerate() {
         let start = end + 1;
         let len = variant.as_str().len();
-        if index == repeated {
+        if index == wanted {
             return Some(Span { start, len });
         }
         end = start + len;
@@ -81,7 +89,7 @@ fn repeated_variant(tag: &NormalLangTag<'_>) -> Option<Span>
 }
 
 /// Where the first repeated singleton stands in a tag.
-fn repeated_singleton(tag: &NormalLangTag<'_>) -> Option<Span>
+pub(crate) fn repeated_singleton(tag: &NormalLangTag<'_>) -> Option<Span>
     requires normal { IsNormal (normal_lang_tag_text tag.now) }
     requires room { length (normal_lang_tag_text tag.now) < 2 ^ 64 }
     ensures { EachRecord (normal_lang_tag_text tag.now) (λ r.

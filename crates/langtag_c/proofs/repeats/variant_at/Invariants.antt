@@ -5,9 +5,9 @@ use Rattle.langtag_scan.specs.Record.{EachRecord}
 use Rattle.langtag_scan.specs.Subtags.{join}
 use Rattle.langtag.specs.Text.{normal_lang_tag_text}
 use Rattle.langtag.specs.PlaceText.{variants_left}
-use Rattle.langtag_c.proofs.repeats.repeated_variant.Given as goal
+use Rattle.langtag_c.proofs.repeats.variant_at.Given as goal
 
--- the repeat is still to come, as the walk has it, and the variants before it end there
+-- the wanted one is still to come, as the walk has it, and the variants before it end there
 abbrev pub invariant-loop-index : goal.invariant-loop-index
 invariant-loop-index l =
     let text = normal_lang_tag_text l.fn.tag in
@@ -15,7 +15,7 @@ invariant-loop-index l =
       can_next : (goal.iterator-loop-index).can_next l.variant-iterator;
       is_finite : (goal.iterator-loop-index).is_finite l.variant-iterator;
       counter : l.index + (goal.iterator-loop-index).remaining l.variant-iterator < 2 ^ 64;
-      before : l.index ≤ l.repeated;
+      before : l.index ≤ l.fn.wanted;
       left : EachRecord text (λ r. drop l.index r.variants ≡ variants_left l.variant-iterator);
       end : EachRecord text (λ r. l.end ≡ length (join (to_region r ++ take l.index r.variants)));
     }

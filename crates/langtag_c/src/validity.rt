@@ -1,0 +1,113 @@
+//! Whether a tag is valid by the registry (RFC 5646 section 2.2.9).
+ghost use Rattle.std.specs.Prelude.{◌≡◌, ◌↔◌, ◌≤◌, ◌<◌, ◌^◌, Some, length, not, slice_get};
+ghost use Rattle.std.specs.List.{position};
+ghost use Rattle.langtag_scan.specs.Record.{EachRecord};
+ghost use Rattle.langtag_scan.specs.Tag.{IsNormal, IsTag};
+ghost use Rattle.langtag.specs.Text.{normal_lang_tag_text};
+ghost use Rattle.langtag_registry.specs.Fault.{Told, faults, told};
+ghost use Rattle.langtag_registry.specs.Registered.{is_registered_variant};
+ghost use Rattle.langtag_registry.specs.Valid.{IsValid};
+ghost use Rattle.langtag_c.specs.Repeats.{member_span, variant_place};
+ghost use Rattle.langtag_c.specs.Spans.{empty_at};
+ghost use Rattle.langtag_c.specs.Validity.{number_of, place_of};
+
+use crate::range::tag_of;
+use crate::repeats::{repeated_singleton, repeated_variant, variant_at};
+use crate::span::Span;
+use langtag::NormalLangTag;
+use langtag_registry::{InvalidSubtag, is_variant, validate};
+
+/// Returns 1 where the bytes are a valid tag, 0 where they are no tag, and else what is wrong first: 2 and 3 for a
+/// language and an extended language that is not registered, 4 for a second extended one, 5, 6 and 7 for a script, a
+/// region and a variant that is not registered, 8 and 9 for a repeated variant and singleton. `invalid` is where that
+/// subtag stands; it has no byte where the answer is 0 or 1.
+#[unsafe(no_mangle)]
+pub extern "C" fn langtag_validity(bytes: &[u8], invalid: &mut Span) -> u32
+    ensures no_tag { result ≡ 0 ↔ (IsTag bytes.now → ⊥) }
+    ensures valid { result ≡ 1 ↔ IsValid bytes.now }
+    ensures first { EachRecord bytes.now (λ r. (fault : Told) → (IsValid bytes.now → ⊥) → slice_get (faults r) 0 ≡ Some fault →
+        (result ≡ number_of fault) × (invalid.new ≡ place_of r fault)) }
+    ensures nothing { result ≤ 1 → invalid.new ≡ empty_at 0 }
+{
+    *invalid = Span { start: 0, len: 0 };
+    let Some(tag) = tag_of(bytes) else {
+        return 0;
+    };
+    let (Some(normal), Err(fault)) = (tag.as_normal(), validate(tag)) else {
+        return 1;
+    };
+    *invalid = place(&normal, fault);
+    number(fault)
+}
+
+/// The number that tells what is wrong.
+fn number(fault: InvalidSubtag<'_>) -> u32
+    ensures { result ≡ number_of (told fault.entry) }
+{
+    match fault {
+        InvalidSubtag::Language(_) => 2,
+        InvalidSubtag::Extlang(_) => 3,
+        InvalidSubtag::SecondExtlang(_) => 4,
+        InvalidSubtag::Script(_) => 5,
+        InvalidSubtag::Region(_) => 6,
+        InvalidSubtag::Variant(_) => 7,
+        InvalidSubtag::RepeatedVariant(_) => 8,
+        InvalidSubtag::RepeatedSingleton(_) => 9,
+    }
+}
+
+/// Where the subtag that is wrong stands in its tag.
+fn place(tag: &NormalLangTag<'_>, fault: InvalidSubtag<'_>) -> Span
+    requires normal { IsNormal (normal_lang_tag_text tag.now) }
+    requires room { length (normal_lang_tag_text tag.now) < 2 ^ 64 }
+    ensures { EachRecord (normal_lang_tag_text tag.now) (λ r. result ≡ place_of r (told fault.entry)) }
+{
+    let ends = tag.ends();
+    let none = Span { start: 0, len: 0 };
+    match fault {
+        InvalidSubtag::Language(language) => Span {
+            start: 0,
+            len: language.as_str().len(),
+        },
+        InvalidSubtag::Extlang(extlang) => Span {
+            start: primary_len(tag) + 1,
+            len: extlang.as_str().len(),
+        },
+        InvalidSubtag::SecondExtlang(extlang) => Span {
+            start: primary_len(tag) + 5,
+            len: extlang.as_str().len(),
+        },
+        InvalidSubtag::Script(_) => Span::between(ends.language, ends.script),
+        InvalidSubtag::Region(_) => Span::between(ends.script, ends.region),
+        InvalidSubtag::Variant(_) => unregistered_variant(tag).unwrap_or(none),
+        InvalidSubtag::RepeatedVariant(_) => repeated_variant(tag).unwrap_or(none),
+        InvalidSubtag::RepeatedSingleton(_) => repeated_singleton(tag).unwrap_or(none),
+    }
+}
+
+/// The number of bytes of the primary language of a tag.
+fn primary_len(tag: &NormalLangTag<'_>) -> usize
+    ensures len { EachRecord (normal_lang_tag_text tag.now) (λ r. result ≡ length r.primary) }
+    ensures few { result ≤ 8 }
+{
+    tag.language().primary().as_str().len()
+}
+
+/// Where the first variant of a tag stands that is not registered.
+fn unregistered_variant(tag: &NormalLangTag<'_>) -> Option<Span>
+    requires normal { IsNormal (normal_lang_tag_text tag.now) }
+    requires room { length (normal_lang_tag_text tag.now) < 2 ^ 64 }
+    ensures { EachRecord (normal_lang_tag_text tag.now) (λ r.
+        result ≡ member_span (variant_place r) r.variants (position (λ v. not (is_registered_variant v)) r.variants)) }
+{
+    variant_at(tag, unregistered_index(tag)?)
+}
+
+/// Its index among the variants.
+fn unregistered_index(tag: &NormalLangTag<'_>) -> Option<usize>
+    ensures { EachRecord (normal_lang_tag_text tag.now) (λ r. result ≡ position (λ v. not (is_registered_variant v)) r.variants) }
+{
+    tag.variants()
+        .iter()
+        .position(|variant| !is_variant(variant))
+}
