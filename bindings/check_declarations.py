@@ -155,9 +155,15 @@ NUMBERS = [
     ("bindings/python/langtag/__init__.py", r"\.so\.([0-9]+)"), ("bindings/python/setup.py", r"\.so\.([0-9]+)"),
 ]
 
+DATES = [
+    ("crates/langtag_registry/src/tables.rt", r'FILE_DATE: &str = "([0-9-]+)"'),
+    ("bindings/rust/src/invalid_subtag.rs", r'REGISTRY_DATE: &str = "([0-9-]+)"'),
+    ("bindings/python/langtag/__init__.py", r'^REGISTRY_DATE = "([0-9-]+)"'),
+]
+
 
 def wrong_numbers(root: pathlib.Path) -> list[str]:
-    """Where a number of the header differs from the table, or one of another file from the header."""
+    """Where a number of the header differs from the table, one of another file from the header, or the registry's date."""
     source = (root / "bindings/include/langtag.h").read_text()
     comment = re.search(r"in RFC 5646 section 2\.1, or(.*?)\*/", source, flags=re.S)
     said = sorted((int(number), tag) for number, tag in re.findall(r" (\d+) ([a-z]+-[\w-]+)", comment[1] if comment else ""))
@@ -166,8 +172,9 @@ def wrong_numbers(root: pathlib.Path) -> list[str]:
     found = [] if said == wanted else [f"grandfathered tags: the header has {sorted(set(said) ^ set(wanted))}"]
     if "#define LANGTAG_PURE __attribute__((pure, warn_unused_result))\n" not in source:
         found.append("LANGTAG_PURE: the header's word is not pure")
-    for name, places in (("LANGTAG_VERSION", VERSIONS), ("LANGTAG_ABI_VERSION", NUMBERS)):
-        number = re.search(rf'#define {name} "?([0-9.]+)', source)
+    dates = ("LANGTAG_REGISTRY_DATE", DATES)
+    for name, places in (("LANGTAG_VERSION", VERSIONS), ("LANGTAG_ABI_VERSION", NUMBERS), dates):
+        number = re.search(rf'#define {name} "?([0-9.-]+)', source)
         for file, around in places:
             others = set(re.findall(around, (root / file).read_text(), flags=re.M))
             if not number or others != {number[1]}:

@@ -36,7 +36,7 @@ def main(seed):
         if numbers.random() < 0.3:
             other = one.swapcase().replace("\\X", "\\x")
         beside = one[: numbers.randrange(len(one))] if numbers.random() < 0.4 and "\\" not in one else text(numbers)
-        print(f"tag {one}\nviable {one}\ngrandfathered {one}\nrange {other}")
+        print(f"tag {one}\nviable {one}\ngrandfathered {one}\nvalidity {one}\nrange {other}")
         print(f"order {one} {other}\nmatch {beside or '*'} {one}")
 
 

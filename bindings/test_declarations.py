@@ -16,7 +16,8 @@ import check_declarations
 ROOT = pathlib.Path(__file__).resolve().parent.parent
 HEADER, RUST, PYTHON = "bindings/include/langtag.h", "bindings/rust/src/ffi.rs", "bindings/python/langtag/__init__.py"
 CRATE = "crates/langtag_c/src"
-FILES = {HEADER, RUST, PYTHON, "bindings/table.txt", *(name for name, _ in check_declarations.VERSIONS + check_declarations.NUMBERS)}
+NUMBERED = check_declarations.VERSIONS + check_declarations.NUMBERS + check_declarations.DATES
+FILES = {HEADER, RUST, PYTHON, "bindings/table.txt", *(name for name, _ in NUMBERED)}
 
 # A file, a text that stands in it, what is put in its place, and what the message has to name.
 PLANTED = [
@@ -44,6 +45,7 @@ PLANTED = [
     ("bindings/c/Makefile", "soname,$(NAME).so.1", "soname,$(NAME).so.2", "Makefile"),
     ("bindings/rust/Cargo.toml", 'version = "0.1.0"', 'version = "0.1.1"', "Cargo.toml"),
     (PYTHON, '__version__ = "0.1.0"', '__version__ = "0.2.0"', "LANGTAG_VERSION"),
+    (PYTHON, 'REGISTRY_DATE = "2022', 'REGISTRY_DATE = "2023', "LANGTAG_REGISTRY_DATE"),
     (CRATE, "fn langtag_eq(a: &[u8], b: &[u8])", "fn langtag_eq(b: &[u8], a: &[u8])", "langtag_eq"),
     (CRATE, "pub singleton: Span", "pub singletons: Span", "langtag_repeated"),
 ]

@@ -59,6 +59,15 @@ def as_in_python(line):
     return [" ".join(["  extensions", *first.values()])]
 
 
+def answer_validity(text):
+    tag = made(Tag, text)
+    if tag is None or tag.is_valid:
+        return "none" if tag is None else "valid"
+    wrong = tag.invalid_subtag
+    assert text[wrong.offset :].decode().startswith(wrong.subtag) and wrong.subtag in str(wrong)
+    return f"{wrong.fault} {wrong.offset} {wrong.subtag}"
+
+
 def answer_grandfathered(text):
     tag = made(Tag, text)
     found = tag.grandfathered if tag else None
@@ -90,7 +99,7 @@ def answer_order(a, b):
 ANSWERS = {
     "tag": (1, answer_tag), "grandfathered": (1, answer_grandfathered), "range": (1, answer_range),
     "viable": (1, lambda text: f"{langtag.viable(text)} {langtag.stop(text)}"),
-    "match": (2, answer_match), "order": (2, answer_order),
+    "match": (2, answer_match), "order": (2, answer_order), "validity": (1, answer_validity),
 }
 
 
@@ -111,7 +120,7 @@ class Table(unittest.TestCase):
         return calls
 
     def test_answers(self):
-        self.assertGreater(self.check(TABLE), 170)
+        self.assertGreater(self.check(TABLE), 220)
         if "LANGTAG_ANSWERS" in os.environ:
             self.assertGreater(self.check(pathlib.Path(os.environ["LANGTAG_ANSWERS"])), 1000)
 

@@ -21,6 +21,7 @@ FUNCTION(next_subtag, rest = (langtag_span){0, len};
 FUNCTION(next_extension, rest = (langtag_span){0, len};
          while (langtag_next_extension(text, len, &rest, &found)) result = found.len)
 FUNCTION(repeats, result = langtag_repeats(text, len, &repeated))
+FUNCTION(validity, result = langtag_validity(text, len, &found))
 FUNCTION(grandfathered, result = langtag_grandfathered(text, len))
 FUNCTION(range_kind, result = langtag_range_kind(text, len))
 FUNCTION(matches_basic, result = langtag_matches_basic(text, len, other, len))
@@ -43,6 +44,7 @@ static const struct function functions[] = {
     {"next_subtag", next_subtag},
     {"next_extension", next_extension},
     {"repeats", repeats},
+    {"validity", validity},
     {"grandfathered", grandfathered},
     {"range_kind", range_kind},
     {"matches_basic", matches_basic},

@@ -107,6 +107,22 @@ static void answer_tag(text *to, text a, text b) {
     put_word(to, hash);
 }
 
+static void answer_validity(text *to, text a, text b) {
+    static const char *const names[] = {"none",   "valid",  "language", "extlang",          "second-extlang",
+                                        "script", "region", "variant",  "repeated-variant", "repeated-singleton"};
+    langtag_span invalid = {1, 2}; /* what is out is not read */
+    uint32_t answer = langtag_validity(a.at, a.len, &invalid);
+    (void)b;
+    put_word(to, " ");
+    put_word(to, answer <= LANGTAG_INVALID_REPEATED_SINGLETON ? names[answer] : "unknown");
+    if (answer <= LANGTAG_VALID) {
+        if (invalid.start != 0 || invalid.len != 0) put_word(to, " with a span");
+        return;
+    }
+    put_number(to, "", invalid.start);
+    put_bytes(to, a.at + invalid.start, invalid.len);
+}
+
 static void answer_grandfathered(text *to, text a, text b) {
     (void)b;
     put_number(to, "", langtag_grandfathered(a.at, a.len));
@@ -149,6 +165,7 @@ static const struct {
     {"tag", 1, answer_tag},       {"grandfathered", 1, answer_grandfathered},
     {"viable", 1, answer_viable}, {"range", 1, answer_range},
     {"match", 2, answer_match},   {"order", 2, answer_order},
+    {"validity", 1, answer_validity},
 };
 enum { CALLS = sizeof calls / sizeof *calls };
 

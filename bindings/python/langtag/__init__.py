@@ -1,6 +1,6 @@
 """Language tags and language ranges by BCP 47 (RFC 5646, RFC 4647), over a C library whose code is proved against the grammar.
 
-It looks at what is well formed, and not at the registry of subtags. Texts are str, or bytes.
+What is registered Tag.is_valid and Tag.invalid_subtag alone ask. Texts are str, or bytes.
 
 >>> tag = parse("zh-yue-Hant-HK-u-co-pinyin-x-mine")
 >>> tag.primary_language, tag.extended_language, tag.script, tag.region
@@ -27,8 +27,8 @@ from ctypes import POINTER, c_bool, c_char, c_char_p, c_int32, c_size_t, c_uint3
 from typing import Any, Callable, ClassVar, Iterable, Iterator, Mapping, NamedTuple, TypeVar, Union
 
 __all__ = [
-    "AcceptLanguage", "AcceptLanguageError", "EditError", "GRANDFATHERED", "InvalidRange", "InvalidTag", "Kind", "Range",
-    "Tag", "WeightedRange", "kind", "look_up", "parse", "stop", "tag_for_header", "tag_for_header_lenient", "viable",
+    "AcceptLanguage", "AcceptLanguageError", "EditError", "GRANDFATHERED", "InvalidRange", "InvalidSubtag", "InvalidTag",
+    "Kind", "REGISTRY_DATE", "Range", "Tag", "WeightedRange", "kind", "look_up", "parse", "stop", "tag_for_header", "tag_for_header_lenient", "viable",
 ]
 __version__ = "0.1.0"
 
@@ -40,6 +40,9 @@ GRANDFATHERED = (
     "i-tao", "i-tay", "i-tsu", "sgn-BE-FR", "sgn-BE-NL", "sgn-CH-DE", "art-lojban", "cel-gaulish", "no-bok", "no-nyn",
     "zh-guoyu", "zh-hakka", "zh-min", "zh-min-nan", "zh-xiang",
 )
+
+#: The date of the registry that Tag.is_valid and Tag.invalid_subtag go by.
+REGISTRY_DATE = "2022-06-28"
 
 
 class _Span(ctypes.Structure):
@@ -75,6 +78,7 @@ _FUNCTIONS: dict[str, tuple[Any, ...]] = {
     "langtag_next_subtag": (c_bool, c_char_p, c_size_t, POINTER(_Span), POINTER(_Span)),
     "langtag_next_extension": (c_bool, c_char_p, c_size_t, POINTER(_Span), POINTER(_Span)),
     "langtag_repeats": (c_uint32, c_char_p, c_size_t, POINTER(_Repeated)),
+    "langtag_validity": (c_uint32, c_char_p, c_size_t, POINTER(_Span)),
     "langtag_grandfathered": (c_uint32, c_char_p, c_size_t),
     "langtag_range_kind": (c_uint32, c_char_p, c_size_t),
     "langtag_matches_basic": (c_bool, c_char_p, c_size_t, c_char_p, c_size_t),
@@ -137,6 +141,26 @@ class InvalidTag(ValueError):
 
     def __reduce__(self) -> tuple[type[InvalidTag], tuple[Text]]:
         return type(self), (self.text,)
+
+
+_FAULTS = (
+    "language", "extlang", "second-extlang", "script", "region", "variant", "repeated-variant", "repeated-singleton",
+)
+
+
+class InvalidSubtag(NamedTuple):
+    """The first subtag that makes a tag invalid (RFC 5646 section 2.2.9): `fault`, what is wrong with it, `subtag` itself, and
+    the `offset` at which it begins. A "language", "extlang", "script", "region" or "variant" is not registered; a
+    "second-extlang" follows another one; a "repeated-variant" or "repeated-singleton" equals an earlier one but for case."""
+
+    fault: str
+    subtag: str
+    offset: int
+
+    def __str__(self) -> str:
+        first, _, kind = self.fault.rpartition("-")
+        how = {"": "is not registered", "second": "is the second", "repeated": "is repeated"}[first]
+        return f"{kind.replace('extlang', 'extended language')} {self.subtag!r} {how}"
 
 
 class InvalidRange(ValueError):
@@ -366,6 +390,25 @@ class Tag(_Caseless):
     def repeated_singleton(self) -> str | None:
         """The first singleton that equals an earlier one but for case. A tag with one is well formed, and not valid."""
         return self._part(self._repeated().singleton)
+
+    @property
+    def is_valid(self) -> bool:
+        """Whether it is valid (RFC 5646 section 2.2.9) by IANA's registry of REGISTRY_DATE: grandfathered, or with registered
+        subtags alone, none of them repeated. Deprecated subtags are valid."""
+        return self.invalid_subtag is None
+
+    @property
+    def invalid_subtag(self) -> InvalidSubtag | None:
+        """The first subtag that makes it invalid; None of a valid tag.
+
+        >>> str(Tag("qt-FR").invalid_subtag)
+        "language 'qt' is not registered"
+        """
+        span = _Span()
+        answer = _c.langtag_validity(self._data, len(self._data), span)
+        if answer < 2:
+            return None
+        return InvalidSubtag(_FAULTS[answer - 2], self._part(span) or "", int(span.start))
 
     def recommended(self) -> Tag:
         """The equal tag in the case that RFC 5646 section 2.1.1 recommends.

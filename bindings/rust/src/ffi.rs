@@ -72,6 +72,7 @@ mod c {
             extension: *mut Span,
         ) -> bool;
         pub fn langtag_repeats(bytes: *const u8, len: usize, repeated: *mut Repeated) -> u32;
+        pub fn langtag_validity(bytes: *const u8, len: usize, invalid: *mut Span) -> u32;
         pub fn langtag_grandfathered(bytes: *const u8, len: usize) -> u32;
         pub fn langtag_range_kind(bytes: *const u8, len: usize) -> u32;
         pub fn langtag_matches_basic(
@@ -290,6 +291,17 @@ pub(crate) fn repeats(text: &str) -> (Option<&str>, Option<&str>) {
         (flags & 1 != 0).then(|| cut(repeated.variant)),
         (flags & 2 != 0).then(|| cut(repeated.singleton)),
     )
+}
+
+/// 0 for no tag, 1 for a valid one, and else what is wrong with the subtag at this offset.
+pub(crate) fn validity(text: &str) -> (u32, usize, &str) {
+    let mut invalid = MaybeUninit::uninit();
+    // SAFETY: as above; `invalid` may be uninitialised, and all of it is written.
+    let (answer, span): (u32, Span) = unsafe {
+        let answer = c::langtag_validity(text.as_ptr(), text.len(), invalid.as_mut_ptr());
+        (answer, invalid.assume_init())
+    };
+    (answer, span.start, &text[span.start..span.start + span.len])
 }
 
 /// The index of a grandfathered tag, or 26.

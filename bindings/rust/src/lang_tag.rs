@@ -1,7 +1,8 @@
 use crate::caseless::caseless;
 use crate::ffi::{self, Parsed, Part};
 use crate::{
-    CaselessStr, Extensions, InvalidLangTag, Kind, Language, PrivateUse, Subtags, Variants,
+    CaselessStr, Extensions, InvalidLangTag, InvalidSubtag, Kind, Language, PrivateUse, Subtags,
+    Variants,
 };
 
 /// The 26 grandfathered tags as they are registered, in the order of RFC 5646 section 2.1: first the seventeen irregular ones.
@@ -180,6 +181,25 @@ impl<'a> LangTag<'a> {
         ffi::repeats(self.as_str())
             .1
             .and_then(|singleton| singleton.chars().next())
+    }
+
+    /// Whether the tag is valid (RFC 5646 section 2.2.9) by IANA's registry of [`REGISTRY_DATE`](crate::REGISTRY_DATE): Ok
+    /// of a grandfathered tag, and of one with registered subtags alone, none of them repeated. Deprecated ones are valid.
+    ///
+    /// # Errors
+    ///
+    /// The first subtag that is wrong.
+    ///
+    /// ```
+    /// # use langtag_verified::{InvalidSubtag, LangTag, SubtagFault};
+    /// assert_eq!(LangTag::new("de-CH-1996")?.validate(), Ok(()));
+    /// let error = LangTag::new("qt-FR")?.validate().unwrap_err();
+    /// assert_eq!((error.subtag, error.offset, error.fault), ("qt", 0, SubtagFault::Language));
+    /// assert_eq!(error.to_string(), "language qt is not registered");
+    /// # Ok::<(), langtag_verified::InvalidLangTag<&str>>(())
+    /// ```
+    pub fn validate(&self) -> Result<(), InvalidSubtag<&'a str>> {
+        InvalidSubtag::of(self.as_str()).map_or(Ok(()), Err)
     }
 
     /// FNV-1a of 64 bits over the text in small letters: the same number in every program and at every time, to keep or send.

@@ -1,5 +1,5 @@
 //! Language tags and language ranges by BCP 47 (RFC 5646, RFC 4647): a safe wrapper over a static library whose code is
-//! proved against the grammar. It looks at what is well formed, and not at the registry of subtags.
+//! proved against the grammar. What is registered only [`LangTag::validate`] asks.
 //!
 //! ```
 //! use langtag_verified::{LangTag, LanguageRange};
@@ -45,8 +45,8 @@
 //! the folder that `LANGTAG_LIB_DIR` names.
 //!
 //! What a program has to see to, since neither the compiler nor the crate does: it runs on an x86-64 processor with SSE4.2
-//! (x86-64-v2), and a thread that calls [`LangTag::repeated_variant`] or [`LangTag::repeated_singleton`] has 96 KiB of free
-//! stack, and 1 KiB for all else.
+//! (x86-64-v2), and a thread that calls [`LangTag::repeated_variant`], [`LangTag::repeated_singleton`] or
+//! [`LangTag::validate`] has 96 KiB of free stack, and 1 KiB for all else.
 #![no_std]
 #![deny(unsafe_code, missing_docs)]
 
@@ -63,6 +63,7 @@ mod extension;
 mod fallbacks;
 #[allow(unsafe_code)]
 mod ffi;
+mod invalid_subtag;
 mod kind;
 mod lang_tag;
 #[cfg(feature = "alloc")]
@@ -88,6 +89,7 @@ pub use error::{
 };
 pub use extension::{Extension, Extensions, ExtensionsIter};
 pub use fallbacks::Fallbacks;
+pub use invalid_subtag::{InvalidSubtag, SubtagFault, REGISTRY_DATE};
 pub use kind::Kind;
 pub use lang_tag::{LangTag, GRANDFATHERED};
 #[cfg(feature = "alloc")]

@@ -7,7 +7,7 @@ use rows::{expand, unescape};
 use std::hash::{Hash, Hasher};
 
 use langtag_verified::{
-    stop_len, viable_len, CaselessStr, Kind, LangTag, LanguageRange, LanguageRangeBuf,
+    stop_len, viable_len, CaselessStr, Kind, LangTag, LanguageRange, LanguageRangeBuf, SubtagFault,
     GRANDFATHERED,
 };
 
@@ -150,6 +150,30 @@ fn answer_tag(bytes: &[u8]) -> String {
     lines.join("\n")
 }
 
+fn answer_validity(text: &str) -> String {
+    let Ok(tag) = LangTag::new(text) else {
+        return "none".into();
+    };
+    let Err(error) = tag.validate() else {
+        return "valid".into();
+    };
+    let end = error.offset + error.subtag.len();
+    assert_eq!(&text[error.offset..end], error.subtag);
+    assert!(error.to_string().contains(error.subtag));
+    assert_eq!(error.into_owned().to_string(), error.to_string());
+    let fault = match error.fault {
+        SubtagFault::Language => "language",
+        SubtagFault::Extlang => "extlang",
+        SubtagFault::SecondExtlang => "second-extlang",
+        SubtagFault::Script => "script",
+        SubtagFault::Region => "region",
+        SubtagFault::Variant => "variant",
+        SubtagFault::RepeatedVariant => "repeated-variant",
+        SubtagFault::RepeatedSingleton => "repeated-singleton",
+    };
+    format!("{fault} {} {}", error.offset, error.subtag)
+}
+
 fn answer_grandfathered(text: &[u8]) -> String {
     let tag = std::str::from_utf8(text)
         .ok()
@@ -238,6 +262,7 @@ fn answer(call: &str, arguments: &[Vec<u8>]) -> Option<String> {
             viable_len(&arguments[0]),
             stop_len(&arguments[0])
         )),
+        "validity" => Some(text(0).map_or("none".into(), answer_validity)),
         "range" => Some(answer_range(text(0)?).into()),
         "match" => Some(answer_match(text(0)?, text(1)?).into()),
         "order" => Some(answer_order(text(0)?, text(1)?).into()),
@@ -280,7 +305,7 @@ fn check(path: &str) -> usize {
 
 #[test]
 fn answers() {
-    assert!(check(&rows::path("table.txt")) > 180);
+    assert!(check(&rows::path("table.txt")) > 230);
     if let Ok(path) = std::env::var("LANGTAG_ANSWERS") {
         assert!(check(&path) > 1000);
     }

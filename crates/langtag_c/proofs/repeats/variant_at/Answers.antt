@@ -7,7 +7,7 @@ use Rattle.langtag_scan.proofs.SubtagFacts.{of_variant}
 use Rattle.langtag_scan.proofs.SubtagLists.{each_subtag, subtags-joined}
 use Rattle.langtag.specs.PlaceText.{variant_text}
 use Rattle.langtag.proofs.RepeatLaws.{IsAt-drop}
-use Rattle.langtag_c.specs.Repeats.{member_span, variant_place}
+use Rattle.langtag_c.specs.Repeats.{variant_place}
 use Rattle.langtag_c.proofs.RepeatSpans.{variant_member, variant_stands, span_past}
 use Rattle.langtag_c.proofs.repeats.variant_at.Goals as goal
 

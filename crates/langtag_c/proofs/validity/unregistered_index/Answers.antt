@@ -1,5 +1,4 @@
-use Rattle.std.proofs.Common.{ap, ◌∙◌, not, rules}
-use Rattle.std.specs.List.{position}
+use Rattle.std.proofs.Common.{◌∙◌, not, rules}
 use Rattle.std.proofs.lemmas.Iterator.Search.{position_from_yields_List}
 use Rattle.std.proofs.lemmas.Iterator.Consumers.{YieldsList-from_first}
 use Rattle.langtag.specs.PlaceText.{variant_text, variants_left}
