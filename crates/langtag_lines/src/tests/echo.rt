@@ -1,5 +1,6 @@
 //! An answerer of the tests.
-ghost use Rattle.std.specs.Prelude.{◌≡◌, ◌++◌, ◌⊎◌, ¬◌, inl, inr, sym, ◌∙◌, codes};
+ghost use Rattle.std.specs.Prelude.{◌≡◌, ◌++◌, ◌⊎◌, codes};
+ghost use Rattle.std.proofs.Common.{inl, inr, sym, ◌∙◌};
 ghost use Rattle.std.specs.Str.{IsUtf8};
 
 use crate::answerer::Answerer;
