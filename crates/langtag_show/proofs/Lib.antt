@@ -1,6 +1,1 @@
-pub mod Examples
-pub mod Lines
-pub mod OneReport
-pub mod Outcomes
-pub mod Written
 pub mod KindAnswers

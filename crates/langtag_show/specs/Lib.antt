@@ -1,3 +1,2 @@
-pub mod Lines
+pub mod AnswerLaws
 pub mod Report
-pub mod ShowError

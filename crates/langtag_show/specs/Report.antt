@@ -1,13 +1,12 @@
 -- The report of an input: the answer to each of its lines.
-use Rattle.std.specs.Prelude.{◌≡◌, ℕ, Bool, ◌||◌, if◌then◌else◌, Option, Some, is_some, unwrap_or, List, [], ◌∷◌, ◌++◌, map, slice_get, codes}
-use Rattle.std.specs.Io.KnownBytes.{Consumes, Appends}
+use Rattle.std.specs.Prelude.{◌≡◌, ℕ, Bool, ◌||◌, if◌then◌else◌, Option, Some, is_some, unwrap_or, List, [], ◌++◌, map, slice_get, codes}
 use Rattle.langtag_scan.specs.Case.{are_alike}
 use Rattle.langtag_scan.specs.Grandfathered.{irregular_texts}
 use Rattle.langtag_scan.specs.Parts.{language_part, variants_part, extensions_part, private_use_part}
 use Rattle.langtag_scan.specs.Record.{Record, Spells}
 use Rattle.langtag_scan.specs.Tag.{IsPrivate, IsIrregularAt, IsTag}
 use Rattle.langtag.specs.Repeat.{repeat, are_alike_bytes}
-use Rattle.langtag_show.specs.Lines.{ended}
+use Rattle.langtag_lines.specs.Report.{AreAnswersBy, AnswersBy}
 
 -- a part that is absent is printed as nothing
 abbrev pub part_or_nothing : Option (List ℕ) → List ℕ
@@ -42,15 +41,9 @@ pub data IsAnswer (line : List ℕ) (text : List ℕ) : Type 0 where
   refused : ¬ (IsTag line) → text ≡ codes "refused" → IsAnswer line text
 
 -- the answers to lines, in order, each followed by LF
-pub data AreAnswers : List (List ℕ) → List ℕ → Type 0 where
-  none : AreAnswers [] []
-  one_more : (line text : List ℕ) (lines : List (List ℕ)) (texts : List ℕ) → IsAnswer line text → AreAnswers lines texts
-      → AreAnswers (line ∷ lines) (ended text ++ texts)
+abbrev pub AreAnswers : List (List ℕ) → List ℕ → Type 0
+AreAnswers = AreAnswersBy IsAnswer
 
 -- a writer gained the answers to lines, and nothing else
 abbrev pub Answers : Option (List ℕ) → Option (List ℕ) → List (List ℕ) → Type 0
-Answers old new lines = (texts : List ℕ) × AreAnswers lines texts × Appends old new texts
-
--- a reader gave some bytes, and P holds of them
-abbrev pub HavingRead : Option (List ℕ) → Option (List ℕ) → (List ℕ → Type 0) → Type 0
-HavingRead old new P = (input : List ℕ) × Consumes old new input × P input
+Answers = AnswersBy IsAnswer

@@ -1,6 +1,5 @@
 //! The answer to one line.
-ghost use Rattle.std.specs.Prelude.{◌≡◌, [], ◌∷◌, OnOk, IsOkUnless, MatchOption, unwrap_or};
-ghost use Rattle.std.specs.Io.KnownBytes.{Appends, append_known};
+ghost use Rattle.std.specs.Prelude.{◌≡◌, [], MatchOption, unwrap_or};
 ghost use Rattle.std.specs.List.{flat_map};
 ghost use Rattle.std.specs.Option.{option_map};
 ghost use Rattle.langtag_scan.specs.Record.{EachRecord};
@@ -8,34 +7,36 @@ ghost use Rattle.langtag_scan.specs.Tag.{IsTag};
 ghost use Rattle.langtag.specs.PlaceText.{script_text, region_text};
 ghost use Rattle.langtag.specs.PrivateText.{private_use_text};
 ghost use Rattle.langtag.specs.Text.{normal_lang_tag_text, lang_tag_text};
-ghost use Rattle.langtag_show.specs.Lines.{ended};
-ghost use Rattle.langtag_show.specs.Report.{IsAnswer, Answers, has_repeats};
+ghost use Rattle.langtag_show.specs.Report.{IsAnswer, has_repeats};
+ghost use Rattle.langtag_show.specs.AnswerLaws.{one_answer};
 
-use crate::page::Page;
-use crate::show_error::ShowError;
 use langtag::{LangTag, NormalLangTag, PrivateUse, Region, Script, TypedLangTag};
+use langtag_lines::{Answerer, Page, RunError};
 use std::io::Write;
 
-/// Adds the answer to a line, and an LF, to the page.
-pub(crate) fn put_answer<W: Write>(
-    line: &[u8],
-    page: &mut Page,
-    output: &mut W,
-) -> Result<(), ShowError>
-    ensures ok { OnOk result (Answers (append_known (W.contents output.old) page.old) (append_known (W.contents output.new) page.new)
-        (line.now ∷ [])) }
-    ensures err { IsOkUnless result ShowError.Write }
-{
-    let Some(tag) = tag_of(line) else {
-        return put_pieces(&["refused"], page, output);
-    };
-    match tag.as_typed() {
-        TypedLangTag::Normal(tag) => put_pieces(&normal_answer(&tag), page, output),
-        TypedLangTag::PrivateUse(tag) => put_pieces(&["private ", tag.as_str()], page, output),
-        TypedLangTag::Grandfathered(tag) => {
-            put_pieces(&["irregular ", tag.as_str()], page, output)
+/// Answers a line with the kind and the parts of the tag that it is.
+pub(crate) struct Show;
+
+impl Answerer for Show {
+    ghost is_answer = { IsAnswer };
+
+    fn put_answer<W: Write>(
+        &self,
+        line: &[u8],
+        page: &mut Page,
+        output: &mut W,
+    ) -> Result<(), RunError> {
+        let Some(tag) = tag_of(line) else {
+            return page.put_line(&["refused"], output);
+        };
+        match tag.as_typed() {
+            TypedLangTag::Normal(tag) => page.put_line(&normal_answer(&tag), output),
+            TypedLangTag::PrivateUse(tag) => page.put_line(&["private ", tag.as_str()], output),
+            TypedLangTag::Grandfathered(tag) => page.put_line(&["irregular ", tag.as_str()], output),
         }
     }
+
+    ghost one_answer = { one_answer };
 }
 
 /// The tag that a line consists of, if it is one. A tag is ASCII, so a line that is not UTF-8 is not a tag.
@@ -91,16 +92,4 @@ fn has_repeats(tag: &NormalLangTag<'_>) -> bool
     ensures { EachRecord (normal_lang_tag_text tag.now) (λ r. result ≡ has_repeats r) }
 {
     tag.repeated_variant().is_some() || tag.repeated_singleton().is_some()
-}
-
-/// Adds the pieces of an answer, and an LF, to the page.
-fn put_pieces<W: Write>(pieces: &[&str], page: &mut Page, output: &mut W) -> Result<(), ShowError>
-    ensures ok { OnOk result (Appends (append_known (W.contents output.old) page.old) (append_known (W.contents output.new) page.new)
-        (ended (flat_map (λ piece. piece.now) pieces.now))) }
-    ensures err { IsOkUnless result ShowError.Write }
-{
-    for piece in pieces {
-        page.put(piece, output)?;
-    }
-    page.put("\n", output)
 }

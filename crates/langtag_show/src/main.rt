@@ -13,18 +13,15 @@
 #![tactic(auto)]
 
 mod answer;
-mod gathered_line;
-mod outcome;
-mod page;
 mod run;
-mod show_error;
 #[cfg(test)]
 mod tests;
 
+use langtag_lines::conclude;
 use std::io;
 use std::process::ExitCode;
 
 fn main(rt: HostRuntime) -> ExitCode {
     let ended = run::run(rt.alloc(), &mut rt.stdin(), &mut io::writer(&rt));
-    outcome::conclude(ended, &mut rt.stderr())
+    conclude(ended, &mut rt.stderr())
 }

@@ -1,9 +1,12 @@
 //! Tests of the program: what no clause says.
+ghost use Rattle.std.specs.Prelude.{[], Some, IfOk};
+ghost use Rattle.langtag_lines.specs.Lines.{lines_of};
+ghost use Rattle.langtag_show.specs.Report.{Answers};
+
 use crate::run::run;
-use crate::show_error::ShowError;
+use langtag_lines::RunError;
 use std::alloc::Global;
 use std::fmt::Debug;
-use std::io::{Read, Write};
 use std::process::Abort;
 
 // A call, made again where it fails. `rt try --test --fail-alloc N` has one growth of each test refused: a test that is not
@@ -51,16 +54,9 @@ macro_rules! assert_same {
     };
 }
 
-mod faults;
-mod feed;
 mod hostile;
-mod memory;
-mod outcome;
-mod page;
-mod progress;
+mod long;
 mod report;
-mod sheet;
-mod small;
 
 const REFUSED: &str = "refused";
 
@@ -72,21 +68,15 @@ const FR_FR: &str =
 const DE_CH_1996: &str =
     "normal language=de script= region=CH variants=1996 extensions= private= repeats=no";
 
-/// `run`, made again from the start where a growth was refused.
-fn run_again<R: Read + Copy, W: Write + Copy>(
-    alloc: Global,
-    input: &mut R,
-    output: &mut W,
-) -> Result<(), ShowError> {
-    let (unread, unwritten) = (*input, *output);
-    match run(alloc, input, output) {
-        Err(ShowError::Memory) => {
-            *input = unread;
-            *output = unwritten;
-            run(alloc, input, output)
-        }
-        outcome => outcome,
-    }
+/// The report of a text in memory. What a caller knows of `run`: its premise, that reader and writer tell their bytes, can
+/// be met.
+fn report_of(alloc: Global, text: &[u8]) -> Result<Vec<u8>, RunError>
+    ensures { IfOk result (λ report. Answers (Some []) (Some report.items) (lines_of text.now)) }
+{
+    let mut input = text;
+    let mut output = Vec::new(alloc);
+    run(alloc, &mut input, &mut output)?;
+    Ok(output)
 }
 
 /// Whether a text is these lines, each followed by LF.
@@ -102,8 +92,4 @@ fn is_report(text: &[u8], lines: &[&str]) -> bool {
         rest = after;
     }
     rest.is_empty()
-}
-
-fn line_feeds(text: &[u8]) -> u64 {
-    text.iter().filter(|byte| **byte == b'\n').count() as u64
 }

@@ -1,7 +1,5 @@
 //! Texts that mean harm: each call that takes a text, on each of them.
-use super::feed::Feed;
-use super::sheet::Sheet;
-use super::{REFUSED, is_report, run_again};
+use super::{REFUSED, is_report, report_of};
 use langtag::{
     ByteSource, ExtendedLangTag, ExtendedLangTagBuf, Extension, ExtensionBuf, ExtensionSubtag,
     ExtensionSubtagBuf, Extensions, ExtensionsBuf, GrandfatheredLangTag, LangTag, LangTagBuf,
@@ -232,14 +230,9 @@ fn is_as_stated(
 
 /// What the program answers to the text as a line.
 fn is_answered(rt: &impl Abort, alloc: Global, text: &str, answer: &str) {
-    let mut input = Feed::new(text.as_bytes(), 100);
-    let mut output = Sheet::new();
-    assert_same!(rt; run_again(alloc, &mut input, &mut output), Ok(()));
-    if text.is_empty() {
-        assert_that!(rt; output.text().is_empty());
-    } else {
-        assert_that!(rt; is_report(output.text(), &[answer]), text);
-    }
+    let want: &[&str] = if text.is_empty() { &[] } else { &[answer] };
+    let answered = once_more!(report_of(alloc, text.as_bytes()));
+    assert_that!(rt; answered.is_ok_and(|report| is_report(&report, want)), text);
 }
 
 #[test]

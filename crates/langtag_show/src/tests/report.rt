@@ -1,14 +1,5 @@
-//! The report of an input that meets no fault.
-ghost use Rattle.std.specs.Prelude.{[], Some, IfOk};
-ghost use Rattle.langtag_show.specs.Lines.{lines_of};
-ghost use Rattle.langtag_show.specs.Report.{Answers};
-
-use super::feed::Feed;
-use super::sheet::Sheet;
-use super::{DE_CH_1996, FR, FR_FR, REFUSED, is_report, run_again};
-use crate::run::run;
-use crate::show_error::ShowError;
-use std::alloc::Global;
+//! The report of an input.
+use super::{DE_CH_1996, FR, FR_FR, REFUSED, is_report, report_of};
 use std::test::Fail;
 
 // An input, and the answers to its lines.
@@ -66,44 +57,12 @@ const REPORTS: &[(&[u8], &[&str])] = &[
 ];
 
 #[test]
-fn answers_each_line(rt: HostRuntime) {
+fn answers_each_line(rt: HostRuntime) -> Result<(), Fail> {
     for (text, want) in REPORTS {
-        for step in [1, 2, 3, 100] {
-            let mut input = Feed::new(text, step);
-            let mut output = Sheet::new();
-            assert_same!(rt; run_again(rt.alloc(), &mut input, &mut output), Ok(()));
-            assert_that!(rt; is_report(output.text(), want), text);
-            assert_same!(rt; output.flushes, 1);
-            assert_same!(rt; input.ends, 1, "no read follows the one that met the end");
-        }
+        let Ok(report) = once_more!(report_of(rt.alloc(), text)) else {
+            return Err(Fail::from("no report"));
+        };
+        assert_that!(rt; is_report(&report, want), text);
     }
-}
-
-// 16,384 bytes a read: 40,000 take three, and one more meets the end.
-#[test]
-fn a_read_asks_for_many_bytes(rt: HostRuntime) {
-    let mut input = Feed::new(&[b'-'; 40_000], 40_000);
-    let mut output = Sheet::new();
-    assert_same!(rt; run_again(rt.alloc(), &mut input, &mut output), Ok(()));
-    assert_that!(rt; is_report(output.text(), &[REFUSED]));
-    assert_same!(rt; input.reads, 4);
-}
-
-// What a caller over memory knows of `run`: its premise, that reader and writer tell their bytes, can be met.
-fn report_of(alloc: Global, text: &[u8]) -> Result<Vec<u8>, ShowError>
-    ensures { IfOk result (λ report. Answers (Some []) (Some report.items) (lines_of text.now)) }
-{
-    let mut input = text;
-    let mut output = Vec::new(alloc);
-    run(alloc, &mut input, &mut output)?;
-    Ok(output)
-}
-
-#[test]
-fn reports_what_memory_holds(rt: HostRuntime) -> Result<(), Fail> {
-    let Ok(report) = once_more!(report_of(rt.alloc(), b"fr\nx")) else {
-        return Err(Fail::from("no report"));
-    };
-    assert_that!(rt; is_report(&report, &[FR, REFUSED]));
     Ok(())
 }

@@ -1,0 +1,158 @@
+-- How the answers that a writer holds grow as bytes are taken.
+use Rattle.std.proofs.Common.{◌≡◌, ◌∙◌, ℕ, ◌+◌, false, Option, None, Some, ◌<◌, arith, List, [], ◌∷◌, ◌++◌, length, take, refl, sym, ap, append_assoc, append-nil, subst}
+use Rattle.std.specs.Io.KnownBytes.{Appends, Keeps, append_known}
+use Rattle.std.proofs.KnownBytes.{Appends-nil, Appends-trans, Appends-kept}
+use Rattle.std.proofs.Math.Seq.{take-append_seam, take-append-add}
+use Rattle.langtag_lines.specs.Lines.{is_line_feed, complete_lines, rest_of, last_line, lines_of, ended, NoLineFeed}
+use Rattle.langtag_lines.specs.Report.{AreAnswersBy, none, one_more, AnswersBy}
+use Rattle.std.proofs.lemmas.List.Elements.{All-append}
+use Rattle.langtag_lines.proofs.Lines.{complete_lines-append, rest_of-append, lines_cut, complete_lines-ended, rest_of-ended, complete_lines-free, rest_of-free_text}
+
+-- ---- bytes that wait on a page
+
+-- the bytes before an empty page
+append_known-empty : (a : Option (List ℕ)) (page : List ℕ) → page ≡ [] → append_known a page ≡ a
+append_known-empty None page empty = refl
+append_known-empty (Some x) page empty = ap Some (ap (λ l. x ++ l) empty ∙ append-nil x)
+
+Appends-written :
+    (a b c : Option (List ℕ)) (page taken : List ℕ) → Appends a (append_known b page) taken → Appends b c page → Appends a c taken
+Appends-written None b c page taken took gained = tt
+Appends-written (Some x) None c page taken took gained = absurd took
+Appends-written (Some x) (Some y) None page taken took gained = absurd gained
+Appends-written (Some x) (Some y) (Some z) page taken took gained = gained ∙ took
+
+-- what waits on the page stands where it is written out, if a call before that added nothing
+pub Appends-waited :
+    (a b c : Option (List ℕ)) (page later : List ℕ) → append_known b later ≡ append_known a page → Appends b c later → Appends a c page
+Appends-waited None b c page later same gained = tt
+Appends-waited (Some x) None c page later same gained = absurd cc
+Appends-waited (Some x) (Some y) None page later same gained = absurd gained
+Appends-waited (Some x) (Some y) (Some z) page later same gained =
+    let joined : y ++ later ≡ x ++ page = cc in
+    gained ∙ joined
+
+-- an empty page adds nothing where it is written out
+pub Keeps-empty : (a b : Option (List ℕ)) (page : List ℕ) → page ≡ [] → Appends a b page → Keeps a b
+Keeps-empty None b page empty gained = tt
+Keeps-empty (Some x) None page empty gained = gained
+Keeps-empty (Some x) (Some y) page empty gained = gained ∙ ap (λ l. x ++ l) empty ∙ append-nil x
+
+-- ---- the line in hand, as bytes come
+
+pub rest_more : (input rest more : List ℕ) → rest ≡ rest_of input → rest_of (rest ++ more) ≡ rest_of (input ++ more)
+rest_more input rest more is = ap (λ r. rest_of (r ++ more)) is ∙ sym (rest_of-append input more)
+
+lines_more :
+    (input rest more : List ℕ) → rest ≡ rest_of input →
+    complete_lines (input ++ more) ≡ complete_lines input ++ complete_lines (rest ++ more)
+lines_more input rest more is = complete_lines-append input more ∙ ap (λ r. complete_lines input ++ complete_lines (r ++ more)) (sym is)
+
+pub free_rest : (input rest : List ℕ) → rest ≡ rest_of input → NoLineFeed rest
+free_rest input rest is = subst NoLineFeed (sym is) (lines_cut input).rest_free
+
+pub last_line-none : (rest : List ℕ) → length rest ≡ 0 → last_line rest ≡ []
+last_line-none [] empty = refl
+last_line-none (b ∷ bs) empty = absurd (omega arith)
+
+pub last_line-some : (rest : List ℕ) → 0 < length rest → last_line rest ≡ rest ∷ []
+last_line-some [] full = absurd (omega arith)
+last_line-some (b ∷ bs) full = refl
+
+-- a text that ends the line in hand, and its LF
+pub record EndsLine (line end : List ℕ) : Type 0 where
+  pub lines : complete_lines (line ++ ended end) ≡ (line ++ end) ∷ []
+  pub rest : rest_of (line ++ ended end) ≡ []
+
+pub ends_line : (line end : List ℕ) → NoLineFeed line → NoLineFeed end → EndsLine line end
+ends_line line end line_free end_free =
+    let free = All-append (λ x. is_line_feed x ≡ false) line end line_free end_free in
+    let same : (line ++ end) ++ 10 ∷ [] ≡ line ++ ended end = append_assoc line end (10 ∷ []) in
+    record {
+      lines = ap complete_lines (sym same) ∙ complete_lines-ended (line ++ end) 10 free refl;
+      rest = ap rest_of (sym same) ∙ rest_of-ended (line ++ end) 10 free refl;
+    }
+
+-- and one that does not
+pub record LeavesLine (line more : List ℕ) : Type 0 where
+  pub lines : complete_lines (line ++ more) ≡ []
+  pub rest : rest_of (line ++ more) ≡ line ++ more
+
+pub leaves_line : (line more : List ℕ) → NoLineFeed line → NoLineFeed more → LeavesLine line more
+leaves_line line more line_free more_free =
+    let free = All-append (λ x. is_line_feed x ≡ false) line more line_free more_free in
+    record { lines = complete_lines-free (line ++ more) free; rest = rest_of-free_text (line ++ more) free }
+
+-- ---- answers, whatever the answer to a line is
+
+module _ {IsAnswer : List ℕ → List ℕ → Type 0} where
+  AreAnswers-append : (xs ys : List (List ℕ)) (a b : List ℕ) → AreAnswersBy IsAnswer xs a → AreAnswersBy IsAnswer ys b → AreAnswersBy IsAnswer (xs ++ ys) (a ++ b)
+  AreAnswers-append _ ys _ b none q = q
+  AreAnswers-append _ ys _ b (one_more line text lines texts is p) q =
+      subst (AreAnswersBy IsAnswer (line ∷ (lines ++ ys))) (sym (append_assoc (ended text) texts b)) (one_more line text (lines ++ ys) (texts ++ b) is (AreAnswers-append lines ys texts b p q))
+
+  pub Answers-nil : (a : Option (List ℕ)) → AnswersBy IsAnswer a a []
+  Answers-nil a = ([], none, Appends-nil a)
+
+  pub Answers-one : (a b : Option (List ℕ)) (line text : List ℕ) → IsAnswer line text → Appends a b (ended text) → AnswersBy IsAnswer a b (line ∷ [])
+  Answers-one a b line text is p = (ended text ++ [], one_more line text [] [] is none, subst (Appends a b) (sym (append-nil (ended text))) p)
+
+  -- an empty page holds no answer
+  pub Answers-empty : (a : Option (List ℕ)) (page : List ℕ) → page ≡ [] → AnswersBy IsAnswer a (append_known a page) []
+  Answers-empty a page empty = subst (λ b. AnswersBy IsAnswer a b []) (sym (append_known-empty a page empty)) (Answers-nil a)
+
+  -- and takes nothing from those that come on it
+  pub Answers-from_empty :
+      (a b : Option (List ℕ)) (page : List ℕ) (xs : List (List ℕ)) → page ≡ [] → AnswersBy IsAnswer (append_known a page) b xs → AnswersBy IsAnswer a b xs
+  Answers-from_empty a b page xs empty = subst (λ x. AnswersBy IsAnswer x b xs) (append_known-empty a page empty)
+
+  -- the answers on a page stand where it is written out
+  pub Answers-written :
+      (a b c : Option (List ℕ)) (page : List ℕ) (xs : List (List ℕ)) → AnswersBy IsAnswer a (append_known b page) xs → Appends b c page →
+      AnswersBy IsAnswer a c xs
+  Answers-written a b c page xs (s, p, q) gained = (s, p, Appends-written a b c page s q gained)
+
+  pub Answers-trans : (a b c : Option (List ℕ)) (xs ys : List (List ℕ)) → AnswersBy IsAnswer a b xs → AnswersBy IsAnswer b c ys → AnswersBy IsAnswer a c (xs ++ ys)
+  Answers-trans a b c xs ys (s, p, q) (t, p', q') = (s ++ t, AreAnswers-append xs ys s t p p', Appends-trans a b c s t q q')
+
+  pub Answers-kept : (a b c : Option (List ℕ)) (xs : List (List ℕ)) → AnswersBy IsAnswer a b xs → Keeps b c → AnswersBy IsAnswer a c xs
+  Answers-kept a b c xs (s, p, q) kept = (s, p, Appends-kept a b c s q kept)
+
+  pub Answers-same : (a b : Option (List ℕ)) (xs ys : List (List ℕ)) → xs ≡ ys → AnswersBy IsAnswer a b xs → AnswersBy IsAnswer a b ys
+  Answers-same a b xs ys same p = subst (AnswersBy IsAnswer a b) same p
+
+  -- a writer that holds the same holds the same answers
+  pub Answers-held : (a b c : Option (List ℕ)) (xs : List (List ℕ)) → b ≡ c → AnswersBy IsAnswer a c xs → AnswersBy IsAnswer a b xs
+  Answers-held a b c xs same = subst (λ held. AnswersBy IsAnswer a held xs) (sym same)
+
+  -- the answers to what stood, and then to what more bytes complete
+  pub written_more :
+      (a b c : Option (List ℕ)) (input rest more : List ℕ) → rest ≡ rest_of input → AnswersBy IsAnswer a b (complete_lines input) →
+      AnswersBy IsAnswer b c (complete_lines (rest ++ more))
+      → AnswersBy IsAnswer a c (complete_lines (input ++ more))
+  written_more a b c input rest more is p q = Answers-same a c _ _ (sym (lines_more input rest more is)) (Answers-trans a b c _ _ p q)
+
+  -- a run that stops keeps the answers to the first k lines
+  pub written_prefix : (a b c : Option (List ℕ)) (input rest more : List ℕ) → rest ≡ rest_of input → AnswersBy IsAnswer a b (complete_lines input)
+      → ((k : ℕ) × AnswersBy IsAnswer b c (take k (complete_lines (rest ++ more)))) → (k : ℕ) × AnswersBy IsAnswer a c (take k (complete_lines (input ++ more)))
+  written_prefix a b c input rest more is p (k, q) =
+      let lines = complete_lines input in
+      let later = complete_lines (rest ++ more) in
+      let prefix : take (length lines + k) (complete_lines (input ++ more)) ≡ lines ++ take k later =
+      ap (take (length lines + k)) (lines_more input rest more is) ∙ take-append-add lines later k in
+      (length lines + k, Answers-same a c _ _ (sym prefix) (Answers-trans a b c _ _ p q))
+
+  pub written_before :
+      (a b : Option (List ℕ)) (input more : List ℕ) → AnswersBy IsAnswer a b (complete_lines input) →
+      (k : ℕ) × AnswersBy IsAnswer a b (take k (complete_lines (input ++ more)))
+  written_before a b input more p =
+      let lines = complete_lines input in
+      let prefix : take (length lines) (complete_lines (input ++ more)) ≡ lines =
+      ap (take (length lines)) (complete_lines-append input more) ∙ take-append_seam lines (complete_lines (rest_of input ++ more)) in
+      (length lines, Answers-same a b _ _ (sym prefix) p)
+
+  -- the answers to the complete lines, and then to the last one
+  pub written_all :
+      (a b c : Option (List ℕ)) (input rest : List ℕ) → rest ≡ rest_of input → AnswersBy IsAnswer a b (complete_lines input) →
+      AnswersBy IsAnswer b c (last_line rest) → AnswersBy IsAnswer a c (lines_of input)
+  written_all a b c input rest is p q = Answers-same a c _ _ (ap (λ r. complete_lines input ++ last_line r) is) (Answers-trans a b c _ _ p q)

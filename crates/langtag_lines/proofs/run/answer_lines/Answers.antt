@@ -1,0 +1,12 @@
+use Rattle.langtag_lines.proofs.Lines.{lines_cut, one_cut}
+use Rattle.langtag_lines.proofs.OneReport.{one_report}
+use Rattle.langtag_lines.proofs.run.answer_lines.Goals as goal
+
+pub returns-clause-cut : goal.returns-clause-cut
+returns-clause-cut g c = lines_cut
+
+pub returns-clause-one_cut : goal.returns-clause-one_cut
+returns-clause-one_cut g c = one_cut
+
+pub returns-clause-one_report : goal.returns-clause-one_report
+returns-clause-one_report g c = one_report g.A.Answerer.is_answer g.met.A.Answerer.one_answer

@@ -1,0 +1,21 @@
+-- What the program says of a fault, and the status that it ends with.
+use Rattle.std.specs.Prelude.{ℕ, List, Result, Ok, Err, codes}
+use Rattle.langtag_lines.specs.declared.run_error.RunError.{RunError}
+use Rattle.langtag_lines.specs.declared.run_error.RunError.TheVariants.{Memory, Read, Write}
+
+-- the message on standard error
+abbrev pub message_of : RunError → List ℕ
+message_of Memory = codes "out of memory"
+message_of Read = codes "read failed"
+message_of Write = codes "write failed"
+
+-- the exit status that tells the fault
+abbrev pub status_of : RunError → ℕ
+status_of Memory = 3
+status_of Read = 4
+status_of Write = 5
+
+-- the status that the program ends with: 0 without a fault
+abbrev pub status_after : Result (Unit {0}) RunError → ℕ
+status_after (Ok done) = 0
+status_after (Err error) = status_of error

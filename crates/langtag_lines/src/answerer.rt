@@ -1,0 +1,34 @@
+//! What answers a line.
+ghost use Rattle.std.specs.Prelude.{◌≡◌, ◌≢◌, ℕ, List, [], ◌∷◌, OnOk, IfErr, IsErrOf};
+ghost use Rattle.std.specs.Io.KnownBytes.{append_known};
+ghost use Rattle.langtag_lines.specs.Report.{AnswersBy};
+
+use crate::page::Page;
+use crate::run_error::RunError;
+use std::io::Write;
+
+/// What answers a line: the text that [`answer_lines`](crate::answer_lines) writes for it, which the line alone determines.
+pub trait Answerer {
+    /// Whether a text is the answer to a line.
+    ghost is_answer: { List ℕ → List ℕ → Type 0 };
+
+    /// Adds the answer to a line, and an LF, to the page.
+    ///
+    /// # Errors
+    ///
+    /// `Memory` if there is not enough memory for the answer: nothing of it is added then. `Write` if a write fails.
+    fn put_answer<W: Write>(
+        &self,
+        line: &[u8],
+        page: &mut Page,
+        output: &mut W,
+    ) -> Result<(), RunError>
+        ensures ok { OnOk result (AnswersBy is_answer (append_known (W.contents output.old) page.old)
+            (append_known (W.contents output.new) page.new) (line.now ∷ [])) }
+        ensures memory { IsErrOf result RunError.Memory →
+            append_known (W.contents output.new) page.new ≡ append_known (W.contents output.old) page.old }
+        ensures other { IfErr result (λ e. e ≢ RunError.Read) };
+
+    /// A line has one answer.
+    ghost one_answer: { (line text other : List ℕ) → is_answer line text → is_answer line other → text ≡ other };
+}

@@ -1,0 +1,39 @@
+//! Lines of an input, and what answers them: reads each line, and writes its answer in order.
+//!
+//! A line ends at LF. A last line without LF is answered if it is not empty. CR is an ordinary byte. What the answer to a
+//! line is, is up to an [`Answerer`]:
+//!
+//! ```
+//! use langtag_lines::{Answerer, Page, RunError, answer_lines, conclude};
+//!
+//! struct Lengths;
+//!
+//! impl Answerer for Lengths {
+//!     ghost is_answer = { λ line text. text ≡ if length line == 0 then codes "empty" else codes "full" };
+//!
+//!     fn put_answer<W: Write>(&self, line: &[u8], page: &mut Page, output: &mut W) -> Result<(), RunError> {
+//!         page.put_line(&[if line.is_empty() { "empty" } else { "full" }], output)
+//!     }
+//!
+//!     ghost one_answer = { λ line text other is also. is ∙ sym also };
+//! }
+//!
+//! let ended = answer_lines(rt.alloc(), &Lengths, &mut rt.stdin(), &mut io::writer(&rt));
+//! conclude(ended, &mut rt.stderr()) // the exit status
+//! ```
+#![tactic(auto)]
+
+mod answerer;
+mod gathered_line;
+mod outcome;
+mod page;
+mod run;
+mod run_error;
+#[cfg(test)]
+mod tests;
+
+pub use answerer::Answerer;
+pub use outcome::conclude;
+pub use page::Page;
+pub use run::answer_lines;
+pub use run_error::RunError;

@@ -1,0 +1,210 @@
+//! A run: reads the input, and writes the answer to each line.
+ghost use Rattle.std.specs.Prelude.{◌≡◌, ◌≢◌, ℕ, List, [], ◌∷◌, ◌++◌, take, OnOk, IfErr, IfSome, IsErrOf};
+ghost use Rattle.std.specs.Io.KnownBytes.{Appends, Keeps, IsAtEnd, append_known};
+ghost use Rattle.std.specs.List.{position};
+ghost use Rattle.langtag_lines.specs.Lines.{IsCutInto, NoLineFeed, is_line_feed, complete_lines, rest_of, last_line, lines_of};
+ghost use Rattle.langtag_lines.specs.Report.{AreAnswersBy, AnswersBy, HavingRead};
+
+use crate::answerer::Answerer;
+use crate::gathered_line::GatheredLine;
+use crate::page::Page;
+use crate::run_error::RunError;
+use std::alloc::Global;
+use std::io::{Read, Write};
+
+/// The number of bytes that a read asks for.
+const BUFFER_LEN: usize = 16_384;
+
+const LINE_FEED: u8 = b'\n';
+
+/// Writes the answer to each line of the input, each followed by LF, and flushes once at the end.
+///
+/// Answers are gathered on a page, which is written out when it is full and before the next read. The page and the buffer
+/// for reads have fixed sizes. Memory is allocated only for a line that does not lie within one read, and by the answerer.
+///
+/// # Errors
+///
+/// `Memory` if there is not enough memory for such a line, or for an answer. `Read` at the first error of the reader, also
+/// an interruption, and if the input has not ended after 2^64 - 1 reads. `Write` if `write_all` or the flush fails.
+pub fn answer_lines<A: Answerer, R: Read, W: Write>(
+    alloc: Global,
+    answerer: &A,
+    input: &mut R,
+    output: &mut W,
+) -> Result<(), RunError>
+    ensures whole { OnOk result (IsAtEnd (R.remaining input.new)) }
+    ensures report { OnOk result (IfSome (R.remaining input.old) (λ i.
+        AnswersBy A.is_answer (W.contents output.old) (W.contents output.new) (lines_of i))) }
+    ensures after_read { IsErrOf result RunError.Read → HavingRead (R.remaining input.old) (R.remaining input.new)
+        (λ i. AnswersBy A.is_answer (W.contents output.old) (W.contents output.new) (complete_lines i)) }
+    ensures after_memory { IsErrOf result RunError.Memory → HavingRead (R.remaining input.old) (R.remaining input.new)
+        (λ i. (k : ℕ) × AnswersBy A.is_answer (W.contents output.old) (W.contents output.new) (take k (complete_lines i))) }
+
+    // These words have one meaning: there is one way to cut an input into lines, and one report of them.
+    ensures cut { (i : List ℕ) → IsCutInto i (complete_lines i) (rest_of i) }
+    ensures one_cut { (i : List ℕ) (lines others : List (List ℕ)) (rest other : List ℕ) →
+        IsCutInto i lines rest → IsCutInto i others other → (lines ≡ others) × (rest ≡ other) }
+    ensures one_report { (lines : List (List ℕ)) (texts others : List ℕ) →
+        AreAnswersBy A.is_answer lines texts → AreAnswersBy A.is_answer lines others → texts ≡ others }
+{
+    answer_lines_in(answerer, Vec::new(alloc), input, output)
+}
+
+/// Does what [`answer_lines`] does, and gathers lines in the given one, which is empty.
+pub(crate) fn answer_lines_in<A: Answerer, L: GatheredLine + Drop, R: Read, W: Write>(
+    answerer: &A,
+    mut line: L,
+    input: &mut R,
+    output: &mut W,
+) -> Result<(), RunError>
+    requires { L.bytes line ≡ [] }
+    ensures whole { OnOk result (IsAtEnd (R.remaining input.new)) }
+    ensures report { OnOk result (IfSome (R.remaining input.old) (λ i.
+        AnswersBy A.is_answer (W.contents output.old) (W.contents output.new) (lines_of i))) }
+    ensures after_read { IsErrOf result RunError.Read → HavingRead (R.remaining input.old) (R.remaining input.new)
+        (λ i. AnswersBy A.is_answer (W.contents output.old) (W.contents output.new) (complete_lines i)) }
+    ensures after_memory { IsErrOf result RunError.Memory → HavingRead (R.remaining input.old) (R.remaining input.new)
+        (λ i. (k : ℕ) × AnswersBy A.is_answer (W.contents output.old) (W.contents output.new) (take k (complete_lines i))) }
+{
+    let mut page = Page::new();
+    let mut buffer = [0; BUFFER_LEN];
+    for _ in 0..u64::MAX {
+        let Ok(count) = input.read(&mut buffer) else {
+            return Err(RunError::Read);
+        };
+        if count == 0 {
+            return finish(answerer, line.as_bytes(), &mut page, output);
+        }
+        take_bytes(answerer, &mut line, &buffer[..count], &mut page, output)?;
+    }
+    Err(RunError::Read)
+}
+
+/// Adds bytes to the line that is gathered, and writes the answer to each line that they complete.
+///
+/// If it returns Ok, the page is empty again, so no answer waits for the next bytes.
+fn take_bytes<A: Answerer, L: GatheredLine, W: Write>(
+    answerer: &A,
+    line: &mut L,
+    bytes: &[u8],
+    page: &mut Page,
+    output: &mut W,
+) -> Result<(), RunError>
+    requires free { NoLineFeed (L.bytes line.old) }
+    requires written { page.old ≡ [] }
+    ensures ok { OnOk result (AnswersBy A.is_answer (W.contents output.old) (W.contents output.new) (complete_lines (L.bytes line.old ++ bytes.now))) }
+    ensures rest { OnOk result (L.bytes line.new ≡ rest_of (L.bytes line.old ++ bytes.now)) }
+    ensures empty { OnOk result (page.new ≡ []) }
+    ensures memory { IsErrOf result RunError.Memory → (k : ℕ) ×
+        AnswersBy A.is_answer (W.contents output.old) (W.contents output.new) (take k (complete_lines (L.bytes line.old ++ bytes.now))) }
+    ensures other { IfErr result (λ e. e ≢ RunError.Read) }
+{
+    let mut left = bytes;
+    while let Some(len) = line_len(left) {
+        end_line(answerer, line, &left[..len], page, output)?;
+        left = &left[len + 1..];
+    }
+    gather(line, left, page, output)?;
+    page.write_out(output)
+}
+
+/// The number of bytes before the first LF, if there is one.
+fn line_len(bytes: &[u8]) -> Option<usize>
+    ensures { result ≡ position is_line_feed bytes.now }
+{
+    bytes.iter().position(|byte| *byte == LINE_FEED)
+}
+
+/// Ends the line that is gathered with these bytes, and adds the answer to it to the page. If all of the line is in these
+/// bytes, it is not copied.
+fn end_line<A: Answerer, L: GatheredLine, W: Write>(
+    answerer: &A,
+    line: &mut L,
+    end: &[u8],
+    page: &mut Page,
+    output: &mut W,
+) -> Result<(), RunError>
+    ensures ok { OnOk result (AnswersBy A.is_answer (append_known (W.contents output.old) page.old) (append_known (W.contents output.new) page.new)
+        ((L.bytes line.old ++ end.now) ∷ [])) }
+    ensures cleared { OnOk result (L.bytes line.new ≡ []) }
+    ensures memory { IsErrOf result RunError.Memory → Appends (W.contents output.old) (W.contents output.new) page.old }
+    ensures other { IfErr result (λ e. e ≢ RunError.Read) }
+{
+    if line.as_bytes().is_empty() {
+        return answer(answerer, end, page, output);
+    }
+    gather(line, end, page, output)?;
+    answer(answerer, line.as_bytes(), page, output)?;
+    line.clear();
+    Ok(())
+}
+
+/// Adds bytes to the line that is gathered.
+///
+/// If there is not enough memory, the page is written out, so that the answers to the lines before it are not lost.
+fn gather<L: GatheredLine, W: Write>(
+    line: &mut L,
+    bytes: &[u8],
+    page: &mut Page,
+    output: &mut W,
+) -> Result<(), RunError>
+    ensures gathered { OnOk result (L.bytes line.new ≡ L.bytes line.old ++ bytes.now) }
+    ensures kept { OnOk result (append_known (W.contents output.new) page.new ≡ append_known (W.contents output.old) page.old) }
+    ensures memory { IsErrOf result RunError.Memory → Appends (W.contents output.old) (W.contents output.new) page.old }
+    ensures other { IfErr result (λ e. e ≢ RunError.Read) }
+{
+    if line.extend(bytes).is_err() {
+        return Err(out_of_memory(page, output));
+    }
+    Ok(())
+}
+
+/// Adds the answer to a line to the page.
+///
+/// If there is not enough memory, the page is written out, so that the answers to the lines before it are not lost.
+fn answer<A: Answerer, W: Write>(
+    answerer: &A,
+    line: &[u8],
+    page: &mut Page,
+    output: &mut W,
+) -> Result<(), RunError>
+    ensures ok { OnOk result (AnswersBy A.is_answer (append_known (W.contents output.old) page.old)
+        (append_known (W.contents output.new) page.new) (line.now ∷ [])) }
+    ensures memory { IsErrOf result RunError.Memory → Appends (W.contents output.old) (W.contents output.new) page.old }
+    ensures other { IfErr result (λ e. e ≢ RunError.Read) }
+{
+    match answerer.put_answer(line, page, output) {
+        Err(RunError::Memory) => Err(out_of_memory(page, output)),
+        outcome => outcome,
+    }
+}
+
+/// Writes the page out where memory is refused, and returns the error that ends the run.
+fn out_of_memory<W: Write>(page: &mut Page, output: &mut W) -> RunError
+    ensures written { result ≡ RunError.Memory → Appends (W.contents output.old) (W.contents output.new) page.old }
+    ensures other { result ≢ RunError.Read }
+{
+    match page.write_out(output) {
+        Ok(()) => RunError::Memory,
+        Err(error) => error,
+    }
+}
+
+/// Writes the answer to the rest if it is not empty, and flushes.
+fn finish<A: Answerer, W: Write>(
+    answerer: &A,
+    rest: &[u8],
+    page: &mut Page,
+    output: &mut W,
+) -> Result<(), RunError>
+    requires { page.old ≡ [] }
+    ensures ok { OnOk result (AnswersBy A.is_answer (W.contents output.old) (W.contents output.new) (last_line rest.now)) }
+    ensures memory { IsErrOf result RunError.Memory → Keeps (W.contents output.old) (W.contents output.new) }
+    ensures other { IfErr result (λ e. e ≢ RunError.Read) }
+{
+    if !rest.is_empty() {
+        answer(answerer, rest, page, output)?;
+        page.write_out(output)?;
+    }
+    output.flush().map_err(|_| RunError::Write)
+}
