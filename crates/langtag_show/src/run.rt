@@ -6,9 +6,12 @@ ghost use Rattle.langtag_lines.specs.Report.{HavingRead};
 ghost use Rattle.langtag_show.specs.Report.{IsAnswer, AreAnswers, Answers};
 
 use crate::answer::Show;
-use langtag_lines::{RunError, answer_lines};
+use langtag_lines::answer_lines;
 use std::alloc::Global;
 use std::io::{Read, Write};
+
+/// What ends a run early.
+pub use langtag_lines::RunError as ShowError;
 
 /// Writes the answer to each line of the input, each followed by LF, and flushes once at the end, as [`answer_lines`] does.
 ///
@@ -16,13 +19,13 @@ use std::io::{Read, Write};
 ///
 /// `Memory` if there is not enough memory for a line. `Read` at the first error of the reader, also an interruption, and
 /// if the input has not ended after 2^64 - 1 reads. `Write` if `write_all` or the flush fails.
-pub fn run<R: Read, W: Write>(alloc: Global, input: &mut R, output: &mut W) -> Result<(), RunError>
+pub fn run<R: Read, W: Write>(alloc: Global, input: &mut R, output: &mut W) -> Result<(), ShowError>
     ensures whole { OnOk result (IsAtEnd (R.remaining input.new)) }
     ensures report { OnOk result (IfSome (R.remaining input.old) (λ i.
         Answers (W.contents output.old) (W.contents output.new) (lines_of i))) }
-    ensures after_read { IsErrOf result RunError.Read → HavingRead (R.remaining input.old) (R.remaining input.new)
+    ensures after_read { IsErrOf result ShowError.Read → HavingRead (R.remaining input.old) (R.remaining input.new)
         (λ i. Answers (W.contents output.old) (W.contents output.new) (complete_lines i)) }
-    ensures after_memory { IsErrOf result RunError.Memory → HavingRead (R.remaining input.old) (R.remaining input.new)
+    ensures after_memory { IsErrOf result ShowError.Memory → HavingRead (R.remaining input.old) (R.remaining input.new)
         (λ i. (k : ℕ) × Answers (W.contents output.old) (W.contents output.new) (take k (complete_lines i))) }
 
     // These words have one meaning: there is one way to cut an input into lines, and one answer to a line.
