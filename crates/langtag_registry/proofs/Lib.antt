@@ -11,3 +11,7 @@ pub mod ValidLaws
 pub mod Values
 pub mod FieldTables
 pub mod WholeTags
+pub mod PreferredValues
+pub mod CanonicalLanguages
+pub mod CanonicalVariants
+pub mod ExtensionOrder

@@ -24,7 +24,10 @@ pub(crate) fn is_canonical_language(language: Language<'_>) -> bool
     let None = extlangs.next() else {
         return true;
     };
-    !is_extlang(extlang) && preferred_language(language.primary()).is_none()
+    if is_extlang(extlang) {
+        return false;
+    }
+    preferred_language(language.primary()).is_none()
 }
 
 /// Returns the text of a language's canonical form, where it is another: `he` of `iw`, `yue` of `zh-YUE`, and `he-fra` of
