@@ -1,7 +1,7 @@
 -- Extensions in the order of their singletons: they are the same ones, in order, and those that stand in order stay.
 use Rattle.std.proofs.Common.{◌≡◌, ◌≢◌, ℕ, ◌<◌, ◌≤◌, true, false, ◌==◌, ◌||◌, not, Bool, leb, ltb, cond, List, [], ◌∷◌, ◌++◌, map, filter, append-nil, refl, sym, ap, ◌∙◌, arith, inl, inr, IsTrue}
 use Rattle.std.specs.List.{list_any, list_all, flat_map, AllByRecursion}
-use Rattle.std.proofs.lemmas.Bool.{and_parts, leb-true, le-leb, ltb-true, eqb-true, ne_eqb, agree_below_at}
+use Rattle.std.proofs.lemmas.Bool.{and_parts, leb-true, le-leb, ltb-true, eqb-true, eq-eqb, ne_eqb, or_parts, both_ways, agree_below_at}
 use Rattle.std.proofs.lemmas.Bool.Decides.{eqb_tells}
 use Rattle.std.proofs.lemmas.List.Elements.{filter-append}
 use Rattle.std.proofs.lemmas.List.Folds.{flat_map-map}
@@ -10,6 +10,7 @@ use Rattle.langtag_scan.specs.Class.{is_letter, is_digit, is_mark, is_singleton}
 use Rattle.langtag_scan.specs.Record.{Extension, IsWellFormedExtension}
 use Rattle.langtag_scan.proofs.Ascii.{alphanumeric_below}
 use Rattle.langtag_scan.proofs.SubtagFacts.{singleton_alphanumeric}
+use Rattle.langtag.specs.Repeat.{are_alike_bytes}
 use Rattle.langtag_registry.specs.Canonical.{singletons, in_order}
 use Rattle.langtag_registry.specs.Numbers.{climbs_from}
 use Rattle.langtag_registry.proofs.Rising.{rises_from}
@@ -83,6 +84,15 @@ module _ {A : Type 0} (key : A → ℕ) where
             ∙ gather-keeps j k keys xs parts.1 (rw other.0 at among)
       ]
 
+  -- a key that is not asked for has none
+  gather-absent : (k : ℕ) (keys : List ℕ) (xs : List A) → list_any (λ j. j == k) keys ≡ false → filter (has k) (gather keys xs) ≡ []
+  gather-absent k [] xs absent = refl
+  gather-absent k (j ∷ keys) xs absent =
+      let parts = or_parts (j == k) (list_any (λ i. i == k) keys) absent in
+      filter-append (has k) (filter (has j) xs) (gather keys xs)
+      ∙ ap (λ ys. ys ++ filter (has k) (gather keys xs)) (filter-other j k (λ same. both_ways (j == k) parts.0 (eq-eqb j k (sym same))) xs)
+      ∙ gather-absent k keys xs parts.1
+
   gather-twice_of :
       (low : ℕ) (keys js : List ℕ) (xs : List A) → climbs_from low keys ≡ true → list_all (λ k. list_any (λ j. j == k) keys) js ≡ true →
       gather js (gather keys xs) ≡ gather js xs
@@ -96,6 +106,24 @@ module _ {A : Type 0} (key : A → ℕ) where
 
   abbrev IsAmong : List ℕ → A → Type 0
   IsAmong keys x = IsTrue (list_any (λ j. j == key x) keys)
+
+  filter-absent : (k : ℕ) (keys : List ℕ) (xs : List A) → list_any (λ j. j == k) keys ≡ false → AllByRecursion (IsAmong keys) xs → filter (has k) xs ≡ []
+  filter-absent k keys [] absent among = refl
+  filter-absent k keys (x ∷ xs) absent among =
+      elim (eqb_tells k (key x)) [
+        | inl same ↦ absurd (both_ways (list_any (λ j. j == k) keys) absent (rw (sym same.1) at among.0))
+        | inr other ↦ rw other.0 (filter-absent k keys xs absent among.1)
+      ]
+
+  -- where the keys of all are asked for, each key has the same ones, in the same order
+  gather-same :
+      (low k : ℕ) (keys : List ℕ) (xs : List A) → climbs_from low keys ≡ true → AllByRecursion (IsAmong keys) xs →
+      filter (has k) (gather keys xs) ≡ filter (has k) xs
+  gather-same low k keys xs climbs among = by_test (list_any (λ j. j == k) keys) refl
+    where
+      by_test : (b : Bool) → list_any (λ j. j == k) keys ≡ b → filter (has k) (gather keys xs) ≡ filter (has k) xs
+      by_test true is = gather-keeps low k keys xs climbs is
+      by_test false is = gather-absent k keys xs is ∙ sym (filter-absent k keys xs is among)
 
   -- a first one of a key below those that are asked for goes unseen
   gather-below : (low : ℕ) (keys : List ℕ) (x : A) (xs : List A) → climbs_from low keys ≡ true → key x ≤ low → gather keys (x ∷ xs) ≡ gather keys xs
@@ -233,6 +261,14 @@ in_order-risen es well rises = in_order-gather es ∙ gather-risen key 0 0 folde
 -- only there
 pub rises_from_in_order : (es : List Extension) → in_order es ≡ es → rises_from 0 (keys_of es) ≡ true
 rises_from_in_order es stays = ap (λ z. rises_from 0 (keys_of z)) (sym stays) ∙ in_order-rises es
+
+-- each singleton has the same extensions, in the same order
+pub in_order-same :
+    (es : List Extension) → AllByRecursion IsWellFormedExtension es → (singleton : ℕ) →
+    filter (λ e. are_alike_bytes singleton e.singleton) (in_order es) ≡ filter (λ e. are_alike_bytes singleton e.singleton) es
+in_order-same es well singleton =
+    ap (filter (λ e. are_alike_bytes singleton e.singleton)) (in_order-gather es)
+    ∙ gather-same key 0 (fold_byte singleton) folded_singletons es singletons_climb (known_each es well)
 
 pub in_order-twice : (es : List Extension) → in_order (in_order es) ≡ in_order es
 in_order-twice es =
