@@ -14,3 +14,5 @@ pub mod WholeTags
 pub mod OrderLaws
 pub mod ReplacedSubtags
 pub mod WellFormedForms
+pub mod TwiceLaws
+pub mod AlikeForms
