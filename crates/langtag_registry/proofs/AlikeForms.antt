@@ -139,7 +139,7 @@ spelled_alike r q alike =
 
 -- ---- alike texts
 
-preferred_tag-alike : IgnoresCase preferred_tag
+pub preferred_tag-alike : IgnoresCase preferred_tag
 unfolding preferred_tag
 preferred_tag-alike a b alike = value_for-alike tag_preferred a b alike
 

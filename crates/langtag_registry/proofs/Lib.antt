@@ -16,3 +16,6 @@ pub mod ReplacedSubtags
 pub mod WellFormedForms
 pub mod TwiceLaws
 pub mod AlikeForms
+pub mod SingletonsOnce
+pub mod ValidForms
+pub mod NoExtlang

@@ -143,7 +143,7 @@ unfolding extlang_subtags language_preferred preferred_language fold_byte
 extlangs_stay = refl
 
 -- what holds of each member holds of the one that is found
-found_good :
+pub found_good :
     (p is_good : List ℕ → Bool) (list : List (List ℕ)) (x : List ℕ) → list_all is_good list ≡ true → find p list ≡ Some x → is_good x ≡ true
 found_good p is_good [] x all found = absurd cc
 found_good p is_good (y ∷ list) x all found =

@@ -40,9 +40,9 @@ all_spelled : list_all is_spelled (map (λ e. e.value) tag_preferred) ≡ true
 unfolding tag_preferred is_primary is_script is_region is_variant is_letter is_digit
 all_spelled = refl
 
-if_some : (test : List ℕ → Bool) (o : Option (List ℕ)) → option_map_or test o true ≡ true → IfSome o (λ s. IsTrue (test s))
-if_some test None h = tt
-if_some test (Some x) h = h
+pub if_some_from_test : (test : List ℕ → Bool) (o : Option (List ℕ)) → option_map_or test o true ≡ true → IfSome o (λ s. IsTrue (test s))
+if_some_from_test test None h = tt
+if_some_from_test test (Some x) h = h
 
 -- ---- the record of such a text
 
@@ -69,8 +69,8 @@ well_formed r simple p s g v = record {
   extended = rw simple.extended tt;
   few = rw simple.extended (omega arith);
   short = inr simple.extended;
-  script = if_some is_script r.script s;
-  region = if_some is_region r.region g;
+  script = if_some_from_test is_script r.script s;
+  region = if_some_from_test is_region r.region g;
   variants = each_from_test is_variant r.variants v;
   extensions = rw simple.extensions tt;
   private_use = rw simple.private_use tt;
