@@ -19,3 +19,4 @@ pub mod AlikeForms
 pub mod SingletonsOnce
 pub mod ValidForms
 pub mod NoExtlang
+pub mod FormLaws
