@@ -15,3 +15,12 @@ pub mod PreferredValues
 pub mod CanonicalLanguages
 pub mod CanonicalVariants
 pub mod ExtensionOrder
+pub mod OrderLaws
+pub mod ReplacedSubtags
+pub mod WellFormedForms
+pub mod TwiceLaws
+pub mod AlikeForms
+pub mod SingletonsOnce
+pub mod ValidForms
+pub mod NoExtlang
+pub mod FormLaws

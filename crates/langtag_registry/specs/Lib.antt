@@ -7,3 +7,4 @@ pub mod Tables
 pub mod Fault
 pub mod Valid
 pub mod Canonical
+pub mod CanonicalLaws
