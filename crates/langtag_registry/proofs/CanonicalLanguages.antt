@@ -1,5 +1,5 @@
 -- The canonical form of a language with its extended subtags.
-use Rattle.std.proofs.Common.{◌≡◌, ◌↔◌, ℕ, ◌≤◌, true, false, ◌&&◌, not, Bool, List, [], ◌∷◌, ◌++◌, length, map, cond, Option, None, Some, IsTrue, inl, inr, refl, sym, ap, ◌∙◌, arith}
+use Rattle.std.proofs.Common.{◌≡◌, ◌↔◌, ℕ, ◌≤◌, true, false, ◌&&◌, ◌||◌, ◌==◌, not, Bool, List, [], ◌∷◌, ◌++◌, length, map, cond, Option, None, Some, IsTrue, inl, inr, refl, sym, ap, ◌∙◌, arith}
 use Rattle.std.specs.Prelude.{is_some, unwrap_or, find}
 use Rattle.std.specs.List.{list_all, list_any}
 use Rattle.std.specs.Str.{bytes_eq}
@@ -15,7 +15,7 @@ use Rattle.langtag_registry.specs.Fields.{preferred_language}
 use Rattle.langtag_registry.specs.Registered.{is_registered_extlang}
 use Rattle.langtag_registry.specs.Subtags.{extlang_subtags}
 use Rattle.langtag_registry.specs.Canonical.{preferred_extlang, canonical_primary, canonical_extended}
-use Rattle.langtag_registry.proofs.PreferredValues.{language_primary, language_short}
+use Rattle.langtag_registry.proofs.ReplacedSubtags.{new_language_primary, new_language_short}
 
 -- ---- extended subtags are registered in small letters
 
@@ -32,7 +32,7 @@ found_small (t ∷ list) text small known =
     by_test (are_alike text t) refl k.0 known (λ later. found_small list text k.1 later)
   where
     by_test :
-        (b : Bool) → are_alike text t ≡ b → bytes_eq (fold_text t) t ≡ true → cond b true (list_any (are_alike text) list) ≡ true →
+        (b : Bool) → are_alike text t ≡ b → bytes_eq (fold_text t) t ≡ true → (b || list_any (are_alike text) list) ≡ true →
         (list_any (are_alike text) list ≡ true → find (are_alike text) list ≡ Some (fold_text text)) →
         cond b (Some t) (find (are_alike text) list) ≡ Some (fold_text text)
     by_test true alike same here later =
@@ -49,7 +49,7 @@ not_found (t ∷ list) text other =
     by_test (are_alike text t) other (λ later. not_found list text later)
   where
     by_test :
-        (b : Bool) → cond b true (list_any (are_alike text) list) ≡ false →
+        (b : Bool) → (b || list_any (are_alike text) list) ≡ false →
         (list_any (are_alike text) list ≡ false → find (are_alike text) list ≡ None) → cond b (Some t) (find (are_alike text) list) ≡ None
     by_test true other later = absurd cc
     by_test false other later = later other
@@ -72,7 +72,7 @@ extended_primary text h = grind (arith, nat_tests)
 extended_small : (text : List ℕ) → is_extended text ≡ true → is_extended (fold_text text) ≡ true
 unfolding is_extended
 extended_small text h =
-    let k = and_parts _ _ h in rw (length-fold text, k.0) (letters_small text k.1)
+    let k = and_parts (length text == 3) (are_letters text) h in rw (length-fold text, k.0) (letters_small text k.1)
 
 -- ---- what each language becomes
 
@@ -83,7 +83,7 @@ language_alone primary h = record { first = h; others = tt; few = omega arith; s
 pub alone_becomes :
     (primary value : List ℕ) (extended : List (List ℕ)) (text : List ℕ) → extended ≡ [] → preferred_language primary ≡ Some value → text ≡ value →
     SpellsLanguage (canonical_primary primary extended) (canonical_extended extended) text
-alone_becomes primary value extended text none is same = rw (none, is, same) (language_alone value (language_primary primary value is))
+alone_becomes primary value extended text none is same = rw (none, is, same) (language_alone value (new_language_primary primary value is))
 
 -- one with a registered extended subtag
 pub extlang_becomes :
@@ -100,7 +100,7 @@ pub other_becomes :
     SpellsLanguage (canonical_primary primary extended) (canonical_extended extended) text
 other_becomes primary value extlang extended text one class other is same =
     rw (one, extlang_none extlang other, other, is, same)
-    (record { first = language_primary primary value is; others = (class, tt); few = omega arith; short = inl (language_short primary value is); joined = refl })
+    (record { first = new_language_primary primary value is; others = (class, tt); few = omega arith; short = inl (new_language_short primary value is); joined = refl })
 
 -- ---- where it stays: `none` says that the primary subtag does
 

@@ -1,6 +1,7 @@
 -- The canonical forms of variants, in a list and in its text.
 use Rattle.std.proofs.Common.{◌≡◌, ◌↔◌, ℕ, ◌≤◌, true, false, ◌&&◌, not, Bool, List, [], ◌∷◌, ◌++◌, length, map, Option, None, Some, IsTrue, refl, sym, ap, subst, ◌∙◌, append_assoc, append-nil}
 use Rattle.std.specs.Prelude.{is_some, unwrap_or}
+use Rattle.std.specs.Option.{option_map}
 use Rattle.std.specs.List.{list_all, AllByRecursion}
 use Rattle.std.proofs.lemmas.Bool.{and_parts}
 use Rattle.langtag_scan.specs.Class.{is_variant}
@@ -9,7 +10,7 @@ use Rattle.langtag_scan.proofs.SubtagFacts.{of_variant}
 use Rattle.langtag_place.specs.Variants.{SpellsVariants}
 use Rattle.langtag_registry.specs.Fields.{preferred_variant}
 use Rattle.langtag_registry.specs.Canonical.{canonical_variants}
-use Rattle.langtag_registry.proofs.PreferredValues.{variant_other, variant_variant}
+use Rattle.langtag_registry.proofs.ReplacedSubtags.{replaced-holds, new_variant_variant, variant_settled}
 
 -- ---- where they stay
 
@@ -21,7 +22,8 @@ variant_stays v = by_option (preferred_variant v) refl
   where
     by_option : (o : Option (List ℕ)) → preferred_variant v ≡ o → (not (is_some o) ≡ true) ↔ (unwrap_or o v ≡ v)
     by_option None is = (λ _. refl, λ _. refl)
-    by_option (Some w) is = (λ h. absurd cc, λ same. absurd (variant_other v w is same))
+    by_option (Some w) is =
+        (λ h. absurd cc, λ same. let none : preferred_variant v ≡ None = ap preferred_variant (sym same) ∙ variant_settled v w is in absurd cc)
 
 pub variants_stay : (vs : List (List ℕ)) → (list_all has_none vs ≡ true) ↔ (canonical_variants vs ≡ vs)
 variants_stay [] = (λ _. refl, λ _. refl)
@@ -48,14 +50,10 @@ all_replaced all rest text none so_far =
     let whole : so_far.done ≡ all = sym (append-nil so_far.done) ∙ ap (λ vs. so_far.done ++ vs) (sym none) ∙ so_far.split in
     subst (λ vs. SpellsVariants (canonical_variants vs) text) whole so_far.spells
 
-pub canonical_variant : (v : List ℕ) → is_variant v ≡ true → is_variant (unwrap_or (preferred_variant v) v) ≡ true
-canonical_variant v h = by_option (preferred_variant v) refl
-  where
-    by_option : (o : Option (List ℕ)) → preferred_variant v ≡ o → is_variant (unwrap_or o v) ≡ true
-    by_option None is = h
-    by_option (Some w) is = variant_variant v w is
+canonical_variant : (v : List ℕ) → is_variant v ≡ true → is_variant (unwrap_or (preferred_variant v) v) ≡ true
+canonical_variant v h = replaced-holds preferred_variant (λ s. IsTrue (is_variant s)) v h (new_variant_variant v)
 
-pub nonempty_variants : (vs : List (List ℕ)) → AllByRecursion (λ s. IsTrue (is_variant s)) vs → AllByRecursion (λ s. 1 ≤ length s) vs
+nonempty_variants : (vs : List (List ℕ)) → AllByRecursion (λ s. IsTrue (is_variant s)) vs → AllByRecursion (λ s. 1 ≤ length s) vs
 nonempty_variants [] h = tt
 nonempty_variants (v ∷ vs) h = ((of_variant v h.0).some, nonempty_variants vs h.1)
 
@@ -84,3 +82,15 @@ one_replaced all rest left v text longer first class so_far pushed =
         joined = ap join (sym more) ∙ sym (pushed (canonical_variants so_far.done) (nonempty_variants _ members) so_far.spells.joined);
       };
     }
+
+-- ---- whether one after the other has none
+
+pub first_has_none :
+    {A : Type 0} (view : A → List ℕ) (found : Option A) (v : List ℕ) (rest left : List (List ℕ)) → option_map view found ≡ preferred_variant v →
+    rest ≡ v ∷ left → list_all has_none rest ≡ (not (is_some found) && list_all has_none left)
+first_has_none view found v rest left same first =
+    ap (list_all has_none) first ∙ ap (λ b. not b && list_all has_none left) (ap is_some (sym same) ∙ by_found found)
+  where
+    by_found : (o : Option A) → is_some (option_map view o) ≡ is_some o
+    by_found None = refl
+    by_found (Some x) = refl

@@ -1,18 +1,17 @@
 -- The extensions in the order of their singletons: where they stand so, and their text.
 use Rattle.std.proofs.Common.{◌≡◌, ◌↔◌, ℕ, ◌+◌, ◌<◌, ◌≤◌, true, false, ◌&&◌, ◌==◌, leb, eqb, Bool, List, [], ◌∷◌, ◌++◌, length, map, take, filter, cond, IsTrue, inl, inr, ◌⊎◌, refl, sym, ap, subst, ◌∙◌, arith, append_assoc, append-nil}
 use Rattle.std.specs.List.{AllByRecursion, flat_map}
-use Rattle.std.proofs.lemmas.Bool.{and_parts, leb-true, le-leb, eq-eqb, ne_eqb, eqb-true}
+use Rattle.std.proofs.lemmas.Bool.{and_parts, leb-true, le-leb, eq-eqb, ne_eqb, both_ways}
 use Rattle.std.proofs.lemmas.Bool.Decides.{nat_tests}
 use Rattle.std.proofs.lemmas.List.Concat.{flat_map-append}
 use Rattle.langtag_scan.specs.Case.{fold_byte}
-use Rattle.langtag_scan.specs.Class.{is_letter, is_digit, is_mark, is_singleton}
-use Rattle.langtag_scan.specs.Record.{Extension, IsWellFormedExtension, extension_flat}
+use Rattle.langtag_scan.specs.Record.{Extension, IsWellFormedExtension}
 use Rattle.langtag_scan.specs.Subtags.{join}
-use Rattle.langtag_scan.proofs.Joins.{join-append}
 use Rattle.langtag_extension.specs.Spelling.{extension_spelling, SpellsExtension, SpellsExtensions}
 use Rattle.langtag_extension.proofs.Joins.{join-spellings}
 use Rattle.langtag.specs.Repeat.{are_alike_bytes}
 use Rattle.langtag_registry.specs.Canonical.{singletons, in_order}
+use Rattle.langtag_registry.proofs.OrderLaws.{keys_of, in_order-each, in_order-risen, rises_from_in_order}
 use Rattle.langtag_registry.proofs.Rising.{rises_from}
 
 abbrev pub of_singleton : ℕ → List Extension → List Extension
@@ -22,35 +21,8 @@ of_singleton singleton es = filter (λ e. are_alike_bytes singleton e.singleton)
 abbrev pub by_singletons : List ℕ → List Extension → List Extension
 by_singletons ss es = flat_map (λ singleton. of_singleton singleton es) ss
 
-pub in_order-by_singletons : (es : List Extension) → in_order es ≡ by_singletons singletons es
-unfolding in_order
-in_order-by_singletons es = refl
-
--- ---- each extension of the list in order is one of the list
-
 abbrev pub AreWellFormed : List Extension → Type 0
 AreWellFormed es = AllByRecursion IsWellFormedExtension es
-
-well_formed-append : (es fs : List Extension) → AreWellFormed es → AreWellFormed fs → AreWellFormed (es ++ fs)
-well_formed-append [] fs a b = b
-well_formed-append (e ∷ es) fs a b = (a.0, well_formed-append es fs a.1 b)
-
-well_formed-filter : (p : Extension → Bool) (es : List Extension) → AreWellFormed es → AreWellFormed (filter p es)
-well_formed-filter p [] h = tt
-well_formed-filter p (e ∷ es) h = by_test (p e) (well_formed-filter p es h.1)
-  where
-    by_test : (b : Bool) → AreWellFormed (filter p es) → AreWellFormed (cond b (e ∷ filter p es) (filter p es))
-    by_test true others = (h.0, others)
-    by_test false others = others
-
-well_formed-by_singletons : (ss : List ℕ) (es : List Extension) → AreWellFormed es → AreWellFormed (by_singletons ss es)
-well_formed-by_singletons [] es h = tt
-well_formed-by_singletons (s ∷ ss) es h =
-    well_formed-append (of_singleton s es) (by_singletons ss es) (well_formed-filter _ es h) (well_formed-by_singletons ss es h)
-
-pub well_formed-in_order : (es : List Extension) → AreWellFormed es → AreWellFormed (in_order es)
-unfolding in_order
-well_formed-in_order es h = well_formed-by_singletons singletons es h
 
 -- ---- the text
 
@@ -61,7 +33,7 @@ spelling_nonempty e = by_subtags e.subtags
     by_subtags [] = omega arith
     by_subtags (s ∷ ss) = omega arith
 
-pub nonempty_spellings : (es : List Extension) → AllByRecursion (λ s. 1 ≤ length s) (map extension_spelling es)
+nonempty_spellings : (es : List Extension) → AllByRecursion (λ s. 1 ≤ length s) (map extension_spelling es)
 nonempty_spellings [] = tt
 nonempty_spellings (e ∷ es) = (spelling_nonempty e, nonempty_spellings es)
 
@@ -204,30 +176,27 @@ pub spelled_in_order :
     (es : List Extension) (text : List ℕ) → AreWellFormed es → join (map extension_spelling (by_singletons singletons es)) ≡ text → SpellsExtensions (in_order es) text
 unfolding in_order
 spelled_in_order es text fits joined = record {
-  members = well_formed-by_singletons singletons es fits;
+  members = in_order-each IsWellFormedExtension es fits;
   joined = sym (join-spellings (by_singletons singletons es)) ∙ joined;
 }
 
 -- ---- where they stand in order
 
-abbrev pub folds : List Extension → List ℕ
-folds es = map (λ e. fold_byte e.singleton) es
-
 pub record AreRising (es : List Extension) (texts : List (List ℕ)) (last : ℕ) : Type 0 where
   pub rest : AreLeft es texts
-  pub same : rises_from 0 (folds es) ≡ rises_from last (folds rest.left)
+  pub same : rises_from 0 (keys_of es) ≡ rises_from last (keys_of rest.left)
 
 pub none_yet : (es : List Extension) (texts : List (List ℕ)) → texts ≡ map extension_spelling es → AreRising es texts 0
 none_yet es texts all = record { rest = all_left es texts all; same = refl }
 
-pub one_below :
+one_below :
     (es : List Extension) (texts rest : List (List ℕ)) (x : List ℕ) (last folded : ℕ) → AreWellFormed es → texts ≡ x ∷ rest →
-    ((e : Extension) → SpellsExtension e x → folded ≡ fold_byte e.singleton) → folded < last → AreRising es texts last → rises_from 0 (folds es) ≡ false
+    ((e : Extension) → SpellsExtension e x → folded ≡ fold_byte e.singleton) → folded < last → AreRising es texts last → rises_from 0 (keys_of es) ≡ false
 one_below es texts rest x last folded fits first key below so_far =
     let next = next_of es so_far.rest.done so_far.rest.left x rest fits so_far.rest.split (so_far.rest.texts ∙ first) in
     let small = key next.next next.spells in
     let falls : leb last (fold_byte next.next.singleton) ≡ false = grind (arith, nat_tests, small, below) in
-    so_far.same ∙ ap (λ fs. rises_from last (folds fs)) next.first ∙ ap (λ b. b && rises_from (fold_byte next.next.singleton) (folds next.others)) falls
+    so_far.same ∙ ap (λ fs. rises_from last (keys_of fs)) next.first ∙ ap (λ b. b && rises_from (fold_byte next.next.singleton) (keys_of next.others)) falls
 
 pub one_above :
     (es : List Extension) (texts rest : List (List ℕ)) (x : List ℕ) (last folded : ℕ) → AreWellFormed es → texts ≡ x ∷ rest →
@@ -238,11 +207,21 @@ one_above es texts rest x last folded fits first key above so_far =
     let rises : leb last (fold_byte next.next.singleton) ≡ true = le-leb _ _ (omega (arith, small, above)) in
     record {
       rest = record { done = so_far.rest.done ++ next.next ∷ []; left = next.others; split = next.split; texts = next.texts };
-      same = so_far.same ∙ ap (λ fs. rises_from last (folds fs)) next.first
-          ∙ ap (λ b. b && rises_from (fold_byte next.next.singleton) (folds next.others)) rises
-          ∙ ap (λ k. rises_from k (folds next.others)) (sym small);
+      same = so_far.same ∙ ap (λ fs. rises_from last (keys_of fs)) next.first
+          ∙ ap (λ b. b && rises_from (fold_byte next.next.singleton) (keys_of next.others)) rises
+          ∙ ap (λ k. rises_from k (keys_of next.others)) (sym small);
     }
 
-pub none_below : (es : List Extension) (texts : List (List ℕ)) (last : ℕ) → texts ≡ [] → AreRising es texts last → rises_from 0 (folds es) ≡ true
+none_below : (es : List Extension) (texts : List (List ℕ)) (last : ℕ) → texts ≡ [] → AreRising es texts last → rises_from 0 (keys_of es) ≡ true
 none_below es texts last none so_far =
-    so_far.same ∙ ap (λ fs. rises_from last (folds fs)) (no_next so_far.rest.left (so_far.rest.texts ∙ none))
+    so_far.same ∙ ap (λ fs. rises_from last (keys_of fs)) (no_next so_far.rest.left (so_far.rest.texts ∙ none))
+
+-- and then they stay
+pub falls_change :
+    (es : List Extension) (texts rest : List (List ℕ)) (x : List ℕ) (last folded : ℕ) → AreWellFormed es → texts ≡ x ∷ rest →
+    ((e : Extension) → SpellsExtension e x → folded ≡ fold_byte e.singleton) → folded < last → AreRising es texts last → in_order es ≡ es → ⊥
+falls_change es texts rest x last folded fits first key below so_far stays =
+    both_ways _ (one_below es texts rest x last folded fits first key below so_far) (rises_from_in_order es stays)
+
+pub rising_stay : (es : List Extension) (texts : List (List ℕ)) (last : ℕ) → AreWellFormed es → texts ≡ [] → AreRising es texts last → in_order es ≡ es
+rising_stay es texts last fits none so_far = in_order-risen es fits (none_below es texts last none so_far)

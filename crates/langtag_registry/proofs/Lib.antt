@@ -11,10 +11,6 @@ pub mod ValidLaws
 pub mod Values
 pub mod FieldTables
 pub mod WholeTags
-pub mod PreferredValues
-pub mod CanonicalLanguages
-pub mod CanonicalVariants
-pub mod ExtensionOrder
 pub mod OrderLaws
 pub mod ReplacedSubtags
 pub mod WellFormedForms
@@ -24,3 +20,8 @@ pub mod SingletonsOnce
 pub mod ValidForms
 pub mod NoExtlang
 pub mod FormLaws
+pub mod PreferredValues
+pub mod Pushed
+pub mod CanonicalLanguages
+pub mod CanonicalVariants
+pub mod ExtensionOrder

@@ -95,7 +95,7 @@ record_stays r alone none language region variants =
 
 -- ---- a text that is its own canonical form
 
-itself : (text : List ℕ) (r : Record) → preferred_tag text ≡ None → Spells r text → canonical_record r ≡ r → IsCanonicalForm text text
+pub itself : (text : List ℕ) (r : Record) → preferred_tag text ≡ None → Spells r text → canonical_record r ≡ r → IsCanonicalForm text text
 itself text r none spells same = record {
   whole = λ w is. absurd cc;
   kept = λ _ _. refl;
@@ -109,16 +109,23 @@ stays_of : (text new : List ℕ) → preferred_tag text ≡ Some new → stays n
 unfolding preferred_tag
 stays_of text new is = value_good stays tag_preferred text new all_stay is
 
-pub preferred_itself : (text new : List ℕ) → preferred_tag text ≡ Some new → IsCanonicalForm new new
-preferred_itself text new is =
+-- it has no Preferred-Value itself
+pub whole_settled : (text new : List ℕ) → preferred_tag text ≡ Some new → preferred_tag new ≡ None
+whole_settled text new is = none_from_test (preferred_tag new) (and_parts _ _ (stays_of text new is)).0
+
+-- nor do its subtags
+pub preferred_record_stays : (text new : List ℕ) → preferred_tag text ≡ Some new → canonical_record (record_of new) ≡ record_of new
+preferred_record_stays text new is =
     let r = record_of new in
     let simple = simple_record new in
-    let spells = preferred_spelled text new is in
     let a = and_parts _ _ (stays_of text new is) in
     let b = and_parts _ _ a.1 in
     let c = and_parts _ _ b.1 in
-    itself new r (none_from_test (preferred_tag new) a.0) spells
-    (record_stays r simple.extended simple.extensions (none_from_test (preferred_language r.primary) b.0) (region_stays r.region c.0) (variants_stay r.variants c.1))
+    record_stays r simple.extended simple.extensions (none_from_test (preferred_language r.primary) b.0) (region_stays r.region c.0) (variants_stay r.variants c.1)
+
+pub preferred_itself : (text new : List ℕ) → preferred_tag text ≡ Some new → IsCanonicalForm new new
+preferred_itself text new is =
+    itself new (record_of new) (whole_settled text new is) (preferred_spelled text new is) (preferred_record_stays text new is)
 
 -- ---- every text
 

@@ -61,6 +61,7 @@ pub(crate) fn canonical_language(alloc: Global, language: Language<'_>) -> Resul
 }
 
 /// Returns a text in small letters, as the registry has languages.
+#[tactic(auto, unfolding(langtag_scan::specs::Case::fold_byte))]
 fn lowercase(alloc: Global, text: &str) -> Result<String, AllocError>
     ensures { IfOk result (λ lower. string_bytes lower ≡ fold_text text.now) }
 {

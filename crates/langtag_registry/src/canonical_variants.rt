@@ -1,7 +1,8 @@
 //! The canonical forms of variants (RFC 5646 section 4.5).
 ghost use Rattle.std.specs.Prelude.{◌≡◌, ◌↔◌, ℕ, List, true, IfOk};
 ghost use Rattle.std.specs.String.{string_bytes};
-ghost use Rattle.langtag_scan.specs.Subtags.{subtags, join};
+ghost use Rattle.langtag_scan.specs.Subtags.{subtags};
+ghost use Rattle.langtag_place.specs.Variants.{SpellsVariants};
 ghost use Rattle.langtag_place.specs.Text.{variants_text};
 ghost use Rattle.langtag_registry.specs.Canonical.{canonical_variants};
 
@@ -25,7 +26,7 @@ pub(crate) fn are_canonical_variants(variants: Variants<'_>) -> bool
 /// Returns the text of the variants with what is preferred in the place of each: `ja-Latn-alalc97` has that of
 /// `heploc`.
 pub(crate) fn canonical_variants(alloc: Global, variants: Variants<'_>) -> Result<String, AllocError>
-    ensures { IfOk result (λ text. string_bytes text ≡ join (canonical_variants (subtags (variants_text variants.entry)))) }
+    ensures { IfOk result (λ text. SpellsVariants (canonical_variants (subtags (variants_text variants.entry))) (string_bytes text)) }
 {
     let mut text = String::new(alloc);
     for variant in variants.iter() {

@@ -1,15 +1,14 @@
 //! The order of extensions (RFC 5646 section 4.5): by their singletons, whatever their case.
 ghost use Rattle.std.specs.Prelude.{◌≡◌, ◌↔◌, ◌≤◌, ◌++◌, ℕ, List, true, IfOk, OnOk, length, map, filter};
-ghost use Rattle.std.specs.List.{AllByRecursion, flat_map};
+ghost use Rattle.std.specs.List.{AllByRecursion};
 ghost use Rattle.std.specs.String.{string_bytes};
 ghost use Rattle.langtag_scan.specs.Case.{fold_byte};
 ghost use Rattle.langtag_scan.specs.Record as model;
-ghost use Rattle.langtag_scan.specs.Record.{extension_flat};
 ghost use Rattle.langtag_scan.specs.Subtags.{join};
-ghost use Rattle.langtag_extension.specs.Spelling.{SpellsExtension, SpellsExtensions, extension_spelling};
+ghost use Rattle.langtag_extension.specs.Spelling.{IsExtensions, SpellsExtension, SpellsExtensions, extension_spelling};
 ghost use Rattle.langtag_extension.specs.Text.{extension_text, extensions_text};
 ghost use Rattle.langtag.specs.Repeat.{are_alike_bytes};
-ghost use Rattle.langtag_registry.specs.Canonical.{in_order, singletons};
+ghost use Rattle.langtag_registry.specs.Canonical.{in_order};
 
 use crate::push_subtag::push_subtag;
 use langtag_extension::{Extension, Extensions};
@@ -36,8 +35,9 @@ pub(crate) fn are_in_order(extensions: Extensions<'_>) -> bool
 
 /// Returns the text of the extensions in order. Those of one singleton, which no valid tag has, keep theirs.
 pub(crate) fn extensions_in_order(alloc: Global, extensions: Extensions<'_>) -> Result<String, AllocError>
-    ensures { IfOk result (λ text. (es : List model.Extension) → SpellsExtensions es (extensions_text extensions.entry)
-        → string_bytes text ≡ join (flat_map extension_flat (in_order es))) }
+    ensures in_class { IfOk result (λ text. IsExtensions (string_bytes text)) }
+    ensures ordered { IfOk result (λ text. (es : List model.Extension) → SpellsExtensions es (extensions_text extensions.entry)
+        → SpellsExtensions (in_order es) (string_bytes text)) }
 {
     let mut text = String::with_capacity(alloc, extensions.as_str().len())?;
     for singleton in SINGLETONS {

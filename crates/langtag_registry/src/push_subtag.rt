@@ -11,8 +11,9 @@ pub(crate) fn push_subtag(text: &mut String, subtag: &str) -> Result<(), AllocEr
     ensures { OnOk result ((before : List (List ℕ)) → AllByRecursion (λ s. 1 ≤ length s) before → join before ≡ string_bytes text.old
         → string_bytes text.new ≡ join (before ++ subtag.now ∷ [])) }
 {
-    if !text.is_empty() {
-        text.push_str("-")?;
+    if text.as_str().is_empty() {
+        return text.push_str(subtag);
     }
+    text.push_str("-")?;
     text.push_str(subtag)
 }
