@@ -88,9 +88,13 @@ one_replaced all rest left v text longer first class so_far pushed =
 pub first_has_none :
     {A : Type 0} (view : A → List ℕ) (found : Option A) (v : List ℕ) (rest left : List (List ℕ)) → option_map view found ≡ preferred_variant v →
     rest ≡ v ∷ left → list_all has_none rest ≡ (not (is_some found) && list_all has_none left)
-first_has_none view found v rest left same first =
+first_has_none {A = A} view found v rest left same first =
     ap (list_all has_none) first ∙ ap (λ b. not b && list_all has_none left) (ap is_some (sym same) ∙ by_found found)
   where
     by_found : (o : Option A) → is_some (option_map view o) ≡ is_some o
     by_found None = refl
     by_found (Some x) = refl
+
+pub view_of : {A : Type 0} (view : A → List ℕ) (found : Option A) (x : A) → view (unwrap_or found x) ≡ unwrap_or (option_map view found) (view x)
+view_of view None x = refl
+view_of view (Some y) x = refl

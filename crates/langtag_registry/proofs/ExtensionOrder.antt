@@ -60,10 +60,10 @@ pub record AreLeft (es : List Extension) (texts : List (List ℕ)) : Type 0 wher
   pub done : List Extension
   pub left : List Extension
   pub split : done ++ left ≡ es
-  pub texts : map extension_spelling left ≡ texts
+  pub items : map extension_spelling left ≡ texts
 
 pub all_left : (es : List Extension) (texts : List (List ℕ)) → texts ≡ map extension_spelling es → AreLeft es texts
-all_left es texts all = record { done = []; left = es; split = refl; texts = sym all }
+all_left es texts all = record { done = []; left = es; split = refl; items = sym all }
 
 -- the next one
 record IsNext (es done left : List Extension) (text : List ℕ) (rest : List (List ℕ)) : Type 0 where
@@ -72,7 +72,7 @@ record IsNext (es done left : List Extension) (text : List ℕ) (rest : List (Li
   first : left ≡ next ∷ others
   split : (done ++ next ∷ []) ++ others ≡ es
   spells : SpellsExtension next text
-  texts : map extension_spelling others ≡ rest
+  items : map extension_spelling others ≡ rest
 
 well_formed-member : (done : List Extension) (e : Extension) (others : List Extension) → AreWellFormed (done ++ e ∷ others) → IsWellFormedExtension e
 well_formed-member [] e others h = h.0
@@ -88,7 +88,7 @@ next_of es done (e ∷ others) text rest fits split texts = record {
   first = refl;
   split = append_assoc done (e ∷ []) others ∙ split;
   spells = record { member = well_formed-member done e others (subst AreWellFormed (sym split) fits); joined = cc };
-  texts = cc;
+  items = cc;
 }
 
 no_next : (left : List Extension) → map extension_spelling left ≡ [] → left ≡ []
@@ -117,7 +117,7 @@ pub one_pushed :
     ArePushed s es before rest longer
 one_pushed s es before texts rest x text longer folded small fits some first key is_small same so_far pushed =
     let done = so_far.rest.done in
-    let next = next_of es done so_far.rest.left x rest fits so_far.rest.split (so_far.rest.texts ∙ first) in
+    let next = next_of es done so_far.rest.left x rest fits so_far.rest.split (so_far.rest.items ∙ first) in
     let e = next.next in
     let alike : are_alike_bytes s e.singleton ≡ true = eq-eqb _ _ (sym is_small ∙ sym same ∙ key e next.spells) in
     let old = map extension_spelling (of_singleton s done) in
@@ -126,7 +126,7 @@ one_pushed s es before texts rest x text longer folded small fits some first key
     let texts_more : map extension_spelling (of_singleton s (done ++ e ∷ [])) ≡ old ++ x ∷ [] =
     ap (map extension_spelling) more ∙ spellings-append (of_singleton s done) (e ∷ []) ∙ ap (λ t. old ++ t ∷ []) next.spells.joined in
     record {
-      rest = record { done = done ++ e ∷ []; left = next.others; split = next.split; texts = next.texts };
+      rest = record { done = done ++ e ∷ []; left = next.others; split = next.split; items = next.items };
       joined = ap (λ ts. join (before ++ ts)) texts_more ∙ ap join (sym (append_assoc before old (x ∷ [])))
           ∙ sym (pushed (before ++ old) (nonempty-append before old some (nonempty_spellings (of_singleton s done))) so_far.joined);
     }
@@ -137,13 +137,13 @@ pub none_more :
     ArePushed s es before texts text → ArePushed s es before rest text
 none_more s es before texts rest x text folded small fits first key is_small other so_far =
     let done = so_far.rest.done in
-    let next = next_of es done so_far.rest.left x rest fits so_far.rest.split (so_far.rest.texts ∙ first) in
+    let next = next_of es done so_far.rest.left x rest fits so_far.rest.split (so_far.rest.items ∙ first) in
     let e = next.next in
     let apart : are_alike_bytes s e.singleton ≡ false = ne_eqb _ _ (λ same. other (key e next.spells ∙ sym same ∙ sym is_small)) in
     let more : of_singleton s (done ++ e ∷ []) ≡ of_singleton s done =
     of_singleton-append s done (e ∷ []) ∙ ap (λ fs. of_singleton s done ++ fs) (of_singleton-one s e false apart) ∙ append-nil (of_singleton s done) in
     record {
-      rest = record { done = done ++ e ∷ []; left = next.others; split = next.split; texts = next.texts };
+      rest = record { done = done ++ e ∷ []; left = next.others; split = next.split; items = next.items };
       joined = ap (λ fs. join (before ++ map extension_spelling fs)) more ∙ so_far.joined;
     }
 
@@ -151,7 +151,7 @@ pub all_pushed :
     (s : ℕ) (es : List Extension) (before texts : List (List ℕ)) (text : List ℕ) → texts ≡ [] → ArePushed s es before texts text →
     text ≡ join (before ++ map extension_spelling (of_singleton s es))
 all_pushed s es before texts text none so_far =
-    let left = no_next so_far.rest.left (so_far.rest.texts ∙ none) in
+    let left = no_next so_far.rest.left (so_far.rest.items ∙ none) in
     let whole : so_far.rest.done ≡ es = sym (append-nil so_far.rest.done) ∙ ap (λ fs. so_far.rest.done ++ fs) (sym left) ∙ so_far.rest.split in
     sym so_far.joined ∙ ap (λ fs. join (before ++ map extension_spelling (of_singleton s fs))) whole
 
@@ -193,7 +193,7 @@ one_below :
     (es : List Extension) (texts rest : List (List ℕ)) (x : List ℕ) (last folded : ℕ) → AreWellFormed es → texts ≡ x ∷ rest →
     ((e : Extension) → SpellsExtension e x → folded ≡ fold_byte e.singleton) → folded < last → AreRising es texts last → rises_from 0 (keys_of es) ≡ false
 one_below es texts rest x last folded fits first key below so_far =
-    let next = next_of es so_far.rest.done so_far.rest.left x rest fits so_far.rest.split (so_far.rest.texts ∙ first) in
+    let next = next_of es so_far.rest.done so_far.rest.left x rest fits so_far.rest.split (so_far.rest.items ∙ first) in
     let small = key next.next next.spells in
     let falls : leb last (fold_byte next.next.singleton) ≡ false = grind (arith, nat_tests, small, below) in
     so_far.same ∙ ap (λ fs. rises_from last (keys_of fs)) next.first ∙ ap (λ b. b && rises_from (fold_byte next.next.singleton) (keys_of next.others)) falls
@@ -202,11 +202,11 @@ pub one_above :
     (es : List Extension) (texts rest : List (List ℕ)) (x : List ℕ) (last folded : ℕ) → AreWellFormed es → texts ≡ x ∷ rest →
     ((e : Extension) → SpellsExtension e x → folded ≡ fold_byte e.singleton) → last ≤ folded → AreRising es texts last → AreRising es rest folded
 one_above es texts rest x last folded fits first key above so_far =
-    let next = next_of es so_far.rest.done so_far.rest.left x rest fits so_far.rest.split (so_far.rest.texts ∙ first) in
+    let next = next_of es so_far.rest.done so_far.rest.left x rest fits so_far.rest.split (so_far.rest.items ∙ first) in
     let small = key next.next next.spells in
     let rises : leb last (fold_byte next.next.singleton) ≡ true = le-leb _ _ (omega (arith, small, above)) in
     record {
-      rest = record { done = so_far.rest.done ++ next.next ∷ []; left = next.others; split = next.split; texts = next.texts };
+      rest = record { done = so_far.rest.done ++ next.next ∷ []; left = next.others; split = next.split; items = next.items };
       same = so_far.same ∙ ap (λ fs. rises_from last (keys_of fs)) next.first
           ∙ ap (λ b. b && rises_from (fold_byte next.next.singleton) (keys_of next.others)) rises
           ∙ ap (λ k. rises_from k (keys_of next.others)) (sym small);
@@ -214,7 +214,7 @@ one_above es texts rest x last folded fits first key above so_far =
 
 none_below : (es : List Extension) (texts : List (List ℕ)) (last : ℕ) → texts ≡ [] → AreRising es texts last → rises_from 0 (keys_of es) ≡ true
 none_below es texts last none so_far =
-    so_far.same ∙ ap (λ fs. rises_from last (keys_of fs)) (no_next so_far.rest.left (so_far.rest.texts ∙ none))
+    so_far.same ∙ ap (λ fs. rises_from last (keys_of fs)) (no_next so_far.rest.left (so_far.rest.items ∙ none))
 
 -- and then they stay
 pub falls_change :
