@@ -10,7 +10,7 @@ use Rattle.langtag_scan.specs.Case.{fold_byte, fold_text, are_alike}
 use Rattle.langtag_scan.specs.CaseLaws.{are_alike-decides}
 use Rattle.langtag_scan.specs.Class.{is_letter, are_letters, is_primary, is_extended}
 use Rattle.langtag_scan.proofs.CaseLaw.{is_letter-fold, length-fold}
-use Rattle.langtag_language.specs.Language.{SpellsLanguage}
+use Rattle.langtag_language.specs.Language.{SpellsLanguage, IsLanguage}
 use Rattle.langtag_registry.specs.Fields.{preferred_language}
 use Rattle.langtag_registry.specs.Registered.{is_registered_extlang}
 use Rattle.langtag_registry.specs.Subtags.{extlang_subtags}
@@ -101,6 +101,19 @@ pub other_becomes :
 other_becomes primary value extlang extended text one class other is same =
     rw (one, extlang_none extlang other, other, is, same)
     (record { first = new_language_primary primary value is; others = (class, tt); few = omega arith; short = inl (new_language_short primary value is); joined = refl })
+
+pub alone_language : (primary value text : List ℕ) → preferred_language primary ≡ Some value → text ≡ value → IsLanguage text
+alone_language primary value text is same = (value, [], rw same (language_alone value (new_language_primary primary value is)))
+
+pub extlang_language : (extlang text : List ℕ) → is_extended extlang ≡ true → text ≡ fold_text extlang → IsLanguage text
+extlang_language extlang text class same =
+    (fold_text extlang, [], rw same (language_alone (fold_text extlang) (extended_primary (fold_text extlang) (extended_small extlang class))))
+
+pub other_language :
+    (primary value extlang text : List ℕ) → is_extended extlang ≡ true → preferred_language primary ≡ Some value → text ≡ value ++ 45 ∷ extlang → IsLanguage text
+other_language primary value extlang text class is same =
+    (value, extlang ∷ [],
+    record { first = new_language_primary primary value is; others = (class, tt); few = omega arith; short = inl (new_language_short primary value is); joined = sym same })
 
 -- ---- where it stays: `none` says that the primary subtag does
 

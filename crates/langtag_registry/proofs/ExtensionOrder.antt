@@ -62,7 +62,7 @@ pub record AreLeft (es : List Extension) (texts : List (List ℕ)) : Type 0 wher
   pub split : done ++ left ≡ es
   pub items : map extension_spelling left ≡ texts
 
-pub all_left : (es : List Extension) (texts : List (List ℕ)) → texts ≡ map extension_spelling es → AreLeft es texts
+abbrev pub all_left : (es : List Extension) (texts : List (List ℕ)) → texts ≡ map extension_spelling es → AreLeft es texts
 all_left es texts all = record { done = []; left = es; split = refl; items = sym all }
 
 -- the next one

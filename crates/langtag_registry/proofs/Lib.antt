@@ -25,3 +25,4 @@ pub mod Pushed
 pub mod CanonicalLanguages
 pub mod CanonicalVariants
 pub mod ExtensionOrder
+pub mod CanonicalParts

@@ -8,6 +8,7 @@ ghost use Rattle.langtag_place.specs.Text.{region_text, variants_text};
 ghost use Rattle.langtag_extension.specs.Text.{extensions_text};
 ghost use Rattle.langtag.specs.Edit.{with_language, with_region, with_variants, with_extensions};
 ghost use Rattle.langtag.specs.Text.{lang_tag_text, lang_tag_buf_text, normal_lang_tag_text, normal_lang_tag_buf_text};
+ghost use Rattle.langtag_registry.specs.CanonicalLaws.{IsOnlyForm, IsAlikeForm, IsValidForm, HasNoExtlang};
 ghost use Rattle.langtag_registry.specs.Canonical.{IsCanonicalForm, canonical_record, canonical_primary, canonical_extended, canonical_region, canonical_variants, in_order};
 
 use crate::canonical_language::{canonical_language, is_canonical_language};
@@ -31,6 +32,36 @@ use std::alloc::{AllocError, Global};
 /// Out of memory.
 pub fn canonical(alloc: Global, tag: LangTag<'_>) -> Result<LangTagBuf, AllocError>
     ensures canonical { IfOk result (λ form. IsCanonicalForm (lang_tag_text tag.entry) (lang_tag_buf_text form)) }
+
+    ensures one { IfOk result (λ form. IsOnlyForm (lang_tag_text tag.entry) (lang_tag_buf_text form)) }
+    ensures settled { IfOk result (λ form. IsCanonicalForm (lang_tag_buf_text form) (lang_tag_buf_text form)) }
+    ensures alike { IfOk result (λ form. IsAlikeForm (lang_tag_text tag.entry) (lang_tag_buf_text form)) }
+    ensures valid { IfOk result (λ form. IsValidForm (lang_tag_text tag.entry) (lang_tag_buf_text form)) }
+    ensures no_extlang { IfOk result (λ form. HasNoExtlang (lang_tag_text tag.entry) (lang_tag_buf_text form)) }
+{
+    canonical_form(alloc, tag)
+}
+
+/// Returns whether a tag is its own canonical form (RFC 5646 section 4.5), to the letter: true of `he`, `zh-min` and
+/// `x-iw`, false of `iw` and of `en-b-ccc-a-aaa`. No memory is taken.
+pub fn is_canonical(tag: LangTag<'_>) -> bool
+    ensures { (result ≡ true) ↔ IsCanonicalForm (lang_tag_text tag.entry) (lang_tag_text tag.entry) }
+{
+    if preferred_tag(tag).is_some() {
+        return false;
+    }
+    let Some(normal) = tag.as_normal() else {
+        return true;
+    };
+    if tag.is_grandfathered() {
+        return true;
+    }
+    has_canonical_parts(normal)
+}
+
+/// Returns the canonical form of a tag.
+fn canonical_form(alloc: Global, tag: LangTag<'_>) -> Result<LangTagBuf, AllocError>
+    ensures { IfOk result (λ form. IsCanonicalForm (lang_tag_text tag.entry) (lang_tag_buf_text form)) }
 {
     if let Some(preferred) = preferred_tag(tag) {
         return preferred.try_to_owned(alloc);
@@ -46,20 +77,6 @@ pub fn canonical(alloc: Global, tag: LangTag<'_>) -> Result<LangTagBuf, AllocErr
         Some(preferred) => preferred.try_to_owned(alloc),
         None => Ok(form),
     }
-}
-
-/// Returns whether a tag is its own canonical form (RFC 5646 section 4.5), to the letter: true of `he`, `zh-min` and
-/// `x-iw`, false of `iw` and of `en-b-ccc-a-aaa`. No memory is taken.
-pub fn is_canonical(tag: LangTag<'_>) -> bool
-    ensures { (result ≡ true) ↔ IsCanonicalForm (lang_tag_text tag.entry) (lang_tag_text tag.entry) }
-{
-    if preferred_tag(tag).is_some() {
-        return false;
-    }
-    let Some(normal) = tag.as_normal() else {
-        return true;
-    };
-    tag.is_grandfathered() || has_canonical_parts(normal)
 }
 
 /// Returns the tag with its parts in their canonical forms.
