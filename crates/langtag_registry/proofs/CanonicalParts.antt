@@ -1,6 +1,5 @@
 -- The canonical record, part by part, and what a tag becomes by it.
-use Rattle.std.proofs.Common.{◌≡◌, ◌↔◌, ℕ, true, false, ◌&&◌, Bool, List, [], ◌∷◌, map, Option, None, Some, is_some, option_map, unwrap_or, inl, inr, ◌⊎◌, refl, sym, ap, subst, ◌∙◌}
-use Rattle.std.proofs.lemmas.Bool.{and_parts}
+use Rattle.std.proofs.Common.{◌≡◌, ◌↔◌, ℕ, true, false, Bool, List, [], ◌∷◌, map, Option, None, Some, is_some, option_map, unwrap_or, inl, inr, ◌⊎◌, refl, sym, ap, subst, ◌∙◌}
 use Rattle.langtag_scan.specs.Record.{Extension, Record, EachRecord, Spells, spell}
 use Rattle.langtag_scan.specs.Tag.{IsNormal}
 use Rattle.langtag_scan.proofs.NormalTexts.{spelled_once}
@@ -37,7 +36,7 @@ pub record DoPartsStay (r : Record) : Type 0 where
   pub variants : canonical_variants r.variants ≡ r.variants
   pub extensions : in_order r.extensions ≡ r.extensions
 
-record_stays : (r : Record) → DoPartsStay r → canonical_record r ≡ r
+pub record_stays : (r : Record) → DoPartsStay r → canonical_record r ≡ r
 unfolding canonical_record
 record_stays r stay =
     ap (λ p. record r { primary = p; extended = canonical_extended r.extended; region = canonical_region r.region; variants = canonical_variants r.variants; extensions = in_order r.extensions }) stay.language.0
@@ -46,7 +45,7 @@ record_stays r stay =
     ∙ ap (λ vs. record r { variants = vs; extensions = in_order r.extensions }) stay.variants
     ∙ ap (λ es. record r { extensions = es }) stay.extensions
 
-parts_stay : (r : Record) → canonical_record r ≡ r → DoPartsStay r
+pub parts_stay : (r : Record) → canonical_record r ≡ r → DoPartsStay r
 unfolding canonical_record
 parts_stay r same = record {
   language = (ap (λ q. q.primary) same, ap (λ q. q.extended) same);
@@ -54,19 +53,6 @@ parts_stay r same = record {
   variants = ap (λ q. q.variants) same;
   extensions = ap (λ q. q.extensions) same;
 }
-
--- the answer of four tests
-pub parts_decide :
-    (r : Record) (a b c d : Bool) → (a ≡ true) ↔ ((canonical_primary r.primary r.extended ≡ r.primary) × (canonical_extended r.extended ≡ r.extended)) →
-    (b ≡ true) ↔ (canonical_region r.region ≡ r.region) → (c ≡ true) ↔ (canonical_variants r.variants ≡ r.variants) → (d ≡ true) ↔ (in_order r.extensions ≡ r.extensions) →
-    ((a && (b && (c && d))) ≡ true) ↔ (canonical_record r ≡ r)
-parts_decide r a b c d language region variants extensions =
-    (λ h. let p = and_parts a (b && (c && d)) h in
-    let q = and_parts b (c && d) p.1 in
-    let s = and_parts c d q.1 in
-    record_stays r (record { language = language.0 p.0; region = region.0 q.0; variants = variants.0 s.0; extensions = extensions.0 s.1 }),
-    λ same. let stay = parts_stay r same in
-    rw (language.1 stay.language, region.1 stay.region, variants.1 stay.variants, extensions.1 stay.extensions) refl)
 
 -- ---- what a tag becomes
 
@@ -86,11 +72,11 @@ kept_form old new none why same = record {
 }
 
 pub parts_form :
-    (old form new : List ℕ) → preferred_tag old ≡ None → (IsGrandfathered old → ⊥) → EachRecord old (λ r. Spells (canonical_record r) form) →
+    (old form new : List ℕ) → preferred_tag old ≡ None → IsNormal old → (IsGrandfathered old → ⊥) → EachRecord old (λ r. Spells (canonical_record r) form) →
     new ≡ unwrap_or (preferred_tag form) form → IsCanonicalForm old new
-parts_form old form new none other each same = record {
+parts_form old form new none normal other each same = record {
   whole = λ w is. absurd cc;
-  kept = λ _ why. ?;
+  kept = λ _ why. elim why [ | inl is ↦ absurd (other is) | inr no_record ↦ absurd (no_record normal) ];
   parts = λ _ _ r spells. same ∙ ap (λ t. unwrap_or (preferred_tag t) t) (sym (each r spells).1);
 }
 

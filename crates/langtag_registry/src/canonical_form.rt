@@ -96,10 +96,16 @@ fn canonical_parts(alloc: Global, tag: NormalLangTag<'_>) -> Result<NormalLangTa
 fn has_canonical_parts(tag: NormalLangTag<'_>) -> bool
     ensures { EachRecord (normal_lang_tag_text tag.entry) (λ r. (result ≡ true) ↔ (canonical_record r ≡ r)) }
 {
-    is_canonical_language(tag.language())
-        && is_canonical_region(tag.region())
-        && are_canonical_variants(tag.variants())
-        && are_in_order(tag.extensions())
+    if !is_canonical_language(tag.language()) {
+        return false;
+    }
+    if !is_canonical_region(tag.region()) {
+        return false;
+    }
+    if !are_canonical_variants(tag.variants()) {
+        return false;
+    }
+    are_in_order(tag.extensions())
 }
 
 /// Puts the canonical form of a tag's language in its place.
