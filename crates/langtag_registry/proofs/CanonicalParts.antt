@@ -1,5 +1,5 @@
 -- The canonical record, part by part, and what a tag becomes by it.
-use Rattle.std.proofs.Common.{◌≡◌, ◌↔◌, ℕ, true, false, Bool, List, [], ◌∷◌, map, Option, None, Some, is_some, option_map, unwrap_or, inl, inr, ◌⊎◌, refl, sym, ap, subst, ◌∙◌}
+use Rattle.std.proofs.Common.{◌≡◌, ◌↔◌, ℕ, true, false, Bool, List, Option, None, Some, is_some, option_map, unwrap_or, inl, inr, ◌⊎◌, refl, sym, ap, subst, ◌∙◌}
 use Rattle.langtag_scan.specs.Record.{Extension, Record, EachRecord, Spells, spell}
 use Rattle.langtag_scan.specs.Tag.{IsNormal}
 use Rattle.langtag_scan.proofs.NormalTexts.{spelled_once}

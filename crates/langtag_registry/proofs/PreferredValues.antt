@@ -1,5 +1,5 @@
 -- A subtag stays where it has no Preferred-Value, and only there.
-use Rattle.std.proofs.Common.{◌≡◌, ◌↔◌, ℕ, true, false, not, Bool, List, map, Option, None, Some, is_some, unwrap_or, refl, sym, ap, ◌∙◌}
+use Rattle.std.proofs.Common.{◌≡◌, ◌↔◌, ℕ, true, false, not, Bool, List, Option, None, Some, is_some, unwrap_or, refl, sym, ap, ◌∙◌}
 use Rattle.std.specs.Option.{option_map}
 use Rattle.langtag_registry.specs.Canonical.{canonical_region}
 use Rattle.langtag_registry.specs.Fields.{preferred_region}

@@ -1,6 +1,6 @@
 use Rattle.std.proofs.Common.{◌≡◌, ◌↔◌, true, sym, subst}
 use Rattle.std.proofs.lemmas.Bool.{both_ways}
-use Rattle.langtag_registry.specs.Canonical.{canonical_primary, canonical_extended, canonical_region, canonical_variants, in_order}
+use Rattle.langtag_registry.specs.Canonical.{canonical_region, canonical_variants}
 use Rattle.langtag_registry.proofs.CanonicalParts.{parts_stay, record_stays}
 use Rattle.langtag_registry.proofs.FaultLaws.{language_spelled, variants_listed}
 use Rattle.langtag_registry.proofs.canonical_form.has_canonical_parts.Goals as goal

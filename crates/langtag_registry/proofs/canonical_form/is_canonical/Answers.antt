@@ -1,7 +1,6 @@
-use Rattle.std.proofs.Common.{inr, sym, subst, ap, ◌∙◌, refl, ◌≡◌}
+use Rattle.std.proofs.Common.{inr, sym, ◌∙◌, refl}
 use Rattle.std.proofs.lemmas.Bool.{both_ways}
 use Rattle.langtag.specs.Text.{lang_tag_text}
-use Rattle.langtag_scan.specs.Tag.{IsNormal}
 use Rattle.langtag_registry.proofs.CanonicalParts.{kept_form, none_preferred, preferred_goes, parts_itself}
 use Rattle.langtag_registry.proofs.canonical_form.is_canonical.Goals as goal
 

@@ -1,10 +1,9 @@
 use Rattle.std.proofs.Common.{◌≡◌, true, is_some, refl, ◌∷◌, ◌++◌, [], ap, sym, ◌∙◌, append_assoc}
-use Rattle.std.specs.Option.{option_map}
 use Rattle.std.specs.String.{string_bytes}
 use Rattle.langtag_scan.specs.Case.{fold_text}
 use Rattle.langtag_language.specs.Text.{primary_language_text, extended_lang_tag_text}
 use Rattle.langtag_registry.specs.Fields.{preferred_language}
-use Rattle.langtag_registry.proofs.CanonicalLanguages.{alone_stays, alone_becomes, extlang_becomes, extlang_language, other_becomes, other_language, other_stays}
+use Rattle.langtag_registry.proofs.CanonicalLanguages.{extlang_becomes, extlang_language, other_becomes, other_language, other_stays}
 use Rattle.langtag_registry.proofs.PreferredValues.{stays_without}
 use Rattle.langtag_registry.proofs.ReplacedSubtags.{language_settled}
 use Rattle.langtag_registry.proofs.canonical_language.canonical_language.Goals as goal

@@ -1,4 +1,4 @@
-use Rattle.std.proofs.Common.{◌≡◌, refl, sym, ap, ◌∙◌}
+use Rattle.std.proofs.Common.{refl, ap, ◌∙◌}
 use Rattle.langtag_extension.specs.Text.{extensions_left}
 use Rattle.langtag_registry.proofs.ExtensionOrder.{none_yet, falls_change, one_above, rising_stay}
 use Rattle.langtag_registry.proofs.extension_order.are_in_order.Goals as goal
