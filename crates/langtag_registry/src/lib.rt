@@ -23,6 +23,7 @@ mod language_fields;
 mod language_table;
 mod languages;
 mod preferred;
+mod prefixes;
 mod subtags;
 mod tables;
 #[cfg(test)]
@@ -36,6 +37,7 @@ pub use invalid_subtag::InvalidSubtag;
 pub use language_fields::{macrolanguage, preferred_language, suppress_script};
 pub use languages::is_language;
 pub use preferred::{preferred_region, preferred_tag, preferred_variant};
+pub use prefixes::extlang_prefix;
 pub use subtags::{is_extlang, is_region, is_script, is_variant};
 pub use tables::FILE_DATE;
 pub use validity::validate;
