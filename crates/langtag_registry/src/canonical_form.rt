@@ -53,10 +53,7 @@ pub fn is_canonical(tag: LangTag<'_>) -> bool
     let Some(normal) = tag.as_normal() else {
         return true;
     };
-    if tag.is_grandfathered() {
-        return true;
-    }
-    has_canonical_parts(normal)
+    tag.is_grandfathered() || has_canonical_parts(normal)
 }
 
 /// Returns the canonical form of a tag.
