@@ -4,7 +4,7 @@ use Rattle.std.specs.List.{list_all, position}
 use Rattle.std.specs.Option.{option_map_or}
 use Rattle.std.proofs.lemmas.Bool.{and_parts, both_ways}
 use Rattle.langtag_scan.specs.Case.{fold_byte, are_alike}
-use Rattle.langtag_scan.specs.Record.{Record, Spells, spell}
+use Rattle.langtag_scan.specs.Record.{Record, Spells, EachRecord, spell}
 use Rattle.langtag_scan.specs.Tag.{IsNormal}
 use Rattle.langtag_scan.proofs.NormalTexts.{normal_from_runs, runs_from_normal, spelled_once}
 use Rattle.langtag.specs.Registered.{IsGrandfathered, text_of}
@@ -95,7 +95,7 @@ record_stays r alone none language region variants =
 
 -- ---- a text that is its own canonical form
 
-itself : (text : List ℕ) (r : Record) → preferred_tag text ≡ None → Spells r text → canonical_record r ≡ r → IsCanonicalForm text text
+pub itself : (text : List ℕ) (r : Record) → preferred_tag text ≡ None → Spells r text → canonical_record r ≡ r → IsCanonicalForm text text
 itself text r none spells same = record {
   whole = λ w is. absurd cc;
   kept = λ _ _. refl;
@@ -109,16 +109,22 @@ stays_of : (text new : List ℕ) → preferred_tag text ≡ Some new → stays n
 unfolding preferred_tag
 stays_of text new is = value_good stays tag_preferred text new all_stay is
 
-pub preferred_itself : (text new : List ℕ) → preferred_tag text ≡ Some new → IsCanonicalForm new new
-preferred_itself text new is =
+-- the Preferred-Value has none, and its record stays
+pub preferred_none : (text new : List ℕ) → preferred_tag text ≡ Some new → preferred_tag new ≡ None
+preferred_none text new is = none_from_test (preferred_tag new) (and_parts _ _ (stays_of text new is)).0
+
+pub preferred_record : (text new : List ℕ) → preferred_tag text ≡ Some new → canonical_record (record_of new) ≡ record_of new
+preferred_record text new is =
     let r = record_of new in
     let simple = simple_record new in
-    let spells = preferred_spelled text new is in
     let a = and_parts _ _ (stays_of text new is) in
     let b = and_parts _ _ a.1 in
     let c = and_parts _ _ b.1 in
-    itself new r (none_from_test (preferred_tag new) a.0) spells
-    (record_stays r simple.extended simple.extensions (none_from_test (preferred_language r.primary) b.0) (region_stays r.region c.0) (variants_stay r.variants c.1))
+    record_stays r simple.extended simple.extensions (none_from_test (preferred_language r.primary) b.0) (region_stays r.region c.0) (variants_stay r.variants c.1)
+
+preferred_itself : (text new : List ℕ) → preferred_tag text ≡ Some new → IsCanonicalForm new new
+preferred_itself text new is =
+    itself new (record_of new) (preferred_none text new is) (preferred_spelled text new is) (preferred_record text new is)
 
 -- ---- every text
 
@@ -182,3 +188,32 @@ form_twice old new p = by_way (way_of old)
     by_way (as_whole w is) = subst (λ z. IsCanonicalForm z z) (sym (p.whole w is)) (preferred_itself old w is)
     by_way (as_it_is none why) = subst (λ z. IsCanonicalForm old z → IsCanonicalForm z z) (sym (p.kept none why)) (λ same. same) p
     by_way (by_parts none new r spells) = by_text r spells (preferred_tag (spell (canonical_record r))) refl (p.parts none new r spells)
+
+-- ---- a text is its own canonical form where its record is, and only there
+
+-- it has no Preferred-Value
+pub none_of_itself : (text : List ℕ) → IsCanonicalForm text text → preferred_tag text ≡ None
+none_of_itself text p = by_option (preferred_tag text) refl
+  where
+    by_option : (o : Option (List ℕ)) → preferred_tag text ≡ o → preferred_tag text ≡ None
+    by_option None none = none
+    by_option (Some w) is = ap preferred_tag (p.whole w is) ∙ preferred_none text w is
+
+pub record_of_itself : (text : List ℕ) → IsCanonicalForm text text → (IsGrandfathered text → ⊥) → EachRecord text (λ r. canonical_record r ≡ r)
+record_of_itself text p new r spells = by_text (preferred_tag (spell (canonical_record r))) refl (p.parts (none_of_itself text p) new r spells)
+  where
+    by_text :
+        (o : Option (List ℕ)) → preferred_tag (spell (canonical_record r)) ≡ o → text ≡ unwrap_or o (spell (canonical_record r)) → canonical_record r ≡ r
+    by_text None none same = spelled_once (canonical_record r) r (canonical_record_well_formed r spells.0) spells.0 (sym same ∙ sym spells.1)
+    by_text (Some w) found same =
+        let spelled = preferred_spelled (spell (canonical_record r)) w found in
+        let one : r ≡ record_of w = spelled_once r (record_of w) spells.0 spelled.0 (spells.1 ∙ same ∙ sym spelled.1) in
+        ap canonical_record one ∙ preferred_record (spell (canonical_record r)) w found ∙ sym one
+
+pub kept_itself : (text : List ℕ) → preferred_tag text ≡ None → IsGrandfathered text ⊎ (IsNormal text → ⊥) → IsCanonicalForm text text
+unfolding IsNormal
+kept_itself text none why = record {
+  whole = λ w is. absurd cc;
+  kept = λ _ _. refl;
+  parts = λ _ new r spells. elim why [ inl old ↦ absurd (new old) | inr other ↦ absurd (other (r, spells)) ];
+}
