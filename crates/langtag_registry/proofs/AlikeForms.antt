@@ -116,8 +116,6 @@ in_order-fold es = of_singletons-fold singletons es
 canonical_record-fold : (r : Record) → AlikeRecords (canonical_record (fold_record r)) (canonical_record r)
 unfolding canonical_record
 canonical_record-fold r =
-    let s = option_map fold_text r.script in
-    let p = option_map fold_private_use r.private_use in
     simp (primary-fold, extended-fold, region-fold, variants-fold, in_order-fold, option_map-twice fold_text fold_text-twice, option_map-twice fold_private_use fold_private_use-twice)
 
 -- alike records have alike canonical records

@@ -1,5 +1,5 @@
 -- The laws of canonical forms, for a call that may give one.
-use Rattle.std.proofs.Common.{◌≡◌, ℕ, List, Result, Ok, Err, IfOk, sym}
+use Rattle.std.proofs.Common.{ℕ, List, Result, Ok, Err, IfOk}
 use Rattle.langtag_registry.specs.Canonical.{IsCanonicalForm}
 use Rattle.langtag_registry.specs.CanonicalLaws.{IsOnlyForm, IsAlikeForm, IsValidForm, HasNoExtlang}
 use Rattle.langtag_registry.proofs.TwiceLaws.{one_form, form_twice}

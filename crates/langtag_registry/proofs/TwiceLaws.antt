@@ -109,12 +109,13 @@ stays_of : (text new : List ℕ) → preferred_tag text ≡ Some new → stays n
 unfolding preferred_tag
 stays_of text new is = value_good stays tag_preferred text new all_stay is
 
--- the Preferred-Value has none, and its record stays
-pub preferred_none : (text new : List ℕ) → preferred_tag text ≡ Some new → preferred_tag new ≡ None
-preferred_none text new is = none_from_test (preferred_tag new) (and_parts _ _ (stays_of text new is)).0
+-- it has no Preferred-Value itself
+pub whole_settled : (text new : List ℕ) → preferred_tag text ≡ Some new → preferred_tag new ≡ None
+whole_settled text new is = none_from_test (preferred_tag new) (and_parts _ _ (stays_of text new is)).0
 
-pub preferred_record : (text new : List ℕ) → preferred_tag text ≡ Some new → canonical_record (record_of new) ≡ record_of new
-preferred_record text new is =
+-- nor do its subtags
+pub preferred_record_stays : (text new : List ℕ) → preferred_tag text ≡ Some new → canonical_record (record_of new) ≡ record_of new
+preferred_record_stays text new is =
     let r = record_of new in
     let simple = simple_record new in
     let a = and_parts _ _ (stays_of text new is) in
@@ -122,9 +123,9 @@ preferred_record text new is =
     let c = and_parts _ _ b.1 in
     record_stays r simple.extended simple.extensions (none_from_test (preferred_language r.primary) b.0) (region_stays r.region c.0) (variants_stay r.variants c.1)
 
-preferred_itself : (text new : List ℕ) → preferred_tag text ≡ Some new → IsCanonicalForm new new
+pub preferred_itself : (text new : List ℕ) → preferred_tag text ≡ Some new → IsCanonicalForm new new
 preferred_itself text new is =
-    itself new (record_of new) (preferred_none text new is) (preferred_spelled text new is) (preferred_record text new is)
+    itself new (record_of new) (whole_settled text new is) (preferred_spelled text new is) (preferred_record_stays text new is)
 
 -- ---- every text
 
@@ -197,7 +198,7 @@ none_of_itself text p = by_option (preferred_tag text) refl
   where
     by_option : (o : Option (List ℕ)) → preferred_tag text ≡ o → preferred_tag text ≡ None
     by_option None none = none
-    by_option (Some w) is = ap preferred_tag (p.whole w is) ∙ preferred_none text w is
+    by_option (Some w) is = ap preferred_tag (p.whole w is) ∙ whole_settled text w is
 
 pub record_of_itself : (text : List ℕ) → IsCanonicalForm text text → (IsGrandfathered text → ⊥) → EachRecord text (λ r. canonical_record r ≡ r)
 record_of_itself text p new r spells = by_text (preferred_tag (spell (canonical_record r))) refl (p.parts (none_of_itself text p) new r spells)
@@ -208,7 +209,7 @@ record_of_itself text p new r spells = by_text (preferred_tag (spell (canonical_
     by_text (Some w) found same =
         let spelled = preferred_spelled (spell (canonical_record r)) w found in
         let one : r ≡ record_of w = spelled_once r (record_of w) spells.0 spelled.0 (spells.1 ∙ same ∙ sym spelled.1) in
-        ap canonical_record one ∙ preferred_record (spell (canonical_record r)) w found ∙ sym one
+        ap canonical_record one ∙ preferred_record_stays (spell (canonical_record r)) w found ∙ sym one
 
 pub kept_itself : (text : List ℕ) → preferred_tag text ≡ None → IsGrandfathered text ⊎ (IsNormal text → ⊥) → IsCanonicalForm text text
 unfolding IsNormal
