@@ -4,7 +4,7 @@ use Rattle.langtag_registry.specs.Canonical.{IsCanonicalForm}
 use Rattle.langtag_registry.specs.CanonicalLaws.{IsOnlyForm, IsAlikeForm, IsValidForm, HasNoExtlang}
 use Rattle.langtag_registry.proofs.TwiceLaws.{one_form, form_twice}
 use Rattle.langtag_registry.proofs.AlikeForms.{alike_forms}
-use Rattle.langtag_registry.proofs.ValidForms.{valid_form}
+use Rattle.langtag_registry.proofs.ValidForms.{valid_form, apart_form}
 use Rattle.langtag_registry.proofs.NoExtlang.{no_extlang_form}
 
 module _ {F E : Type 0} (text : F → List ℕ) (old : List ℕ) (result : Result F E) where
@@ -28,7 +28,7 @@ module _ {F E : Type 0} (text : F → List ℕ) (old : List ℕ) (result : Resul
   alike_form = if_ok (IsAlikeForm old) (λ new is other form alike p. alike_forms old other new form alike is p)
 
   pub form_valid : IsForm → IfOk result (λ form. IsValidForm old (text form))
-  form_valid = if_ok (IsValidForm old) (λ new is valid apart. valid_form old new valid apart is)
+  form_valid = if_ok (IsValidForm old) (λ new is valid. (apart_form old new is, λ apart. valid_form old new valid apart is))
 
   pub form_no_extlang : IsForm → IfOk result (λ form. HasNoExtlang old (text form))
   form_no_extlang = if_ok (HasNoExtlang old) (λ new is valid other. no_extlang_form old new valid other is)

@@ -17,6 +17,7 @@ pub mod WellFormedForms
 pub mod TwiceLaws
 pub mod AlikeForms
 pub mod SingletonsOnce
+pub mod FewVariants
 pub mod ValidForms
 pub mod NoExtlang
 pub mod FormLaws
