@@ -4,7 +4,7 @@ use Rattle.std.specs.List.{list_all, position}
 use Rattle.std.specs.Option.{option_map_or}
 use Rattle.std.proofs.lemmas.Bool.{and_parts, both_ways}
 use Rattle.langtag_scan.specs.Case.{fold_byte, are_alike}
-use Rattle.langtag_scan.specs.Record.{Record, Spells, EachRecord, spell}
+use Rattle.langtag_scan.specs.Record.{Extension, Record, Spells, EachRecord, spell}
 use Rattle.langtag_scan.specs.Tag.{IsNormal}
 use Rattle.langtag_scan.proofs.NormalTexts.{normal_from_runs, runs_from_normal, spelled_once}
 use Rattle.langtag.specs.Registered.{IsGrandfathered, text_of}
@@ -40,7 +40,14 @@ region_twice (Some g) = ap Some (replaced-twice preferred_region region_settled 
 
 variants_twice : (vs : List (List ℕ)) → canonical_variants (canonical_variants vs) ≡ canonical_variants vs
 variants_twice [] = refl
-variants_twice (v ∷ vs) = ap (λ z. z ∷ canonical_variants (canonical_variants vs)) (replaced-twice preferred_variant variant_settled v) ∙ ap (λ zs. replaced preferred_variant v ∷ zs) (variants_twice vs)
+variants_twice (v ∷ vs) =
+    ap (λ z. z ∷ canonical_variants (canonical_variants vs)) (replaced-twice preferred_variant variant_settled v)
+    ∙ ap (λ zs. replaced preferred_variant v ∷ zs) (variants_twice vs)
+
+-- a record with other members than its script and private use
+abbrev with_members : Record → List ℕ → List (List ℕ) → Option (List ℕ) → List (List ℕ) → List Extension → Record
+with_members r primary extended region variants extensions =
+    record r { primary = primary; extended = extended; region = region; variants = variants; extensions = extensions }
 
 pub canonical_record-twice : (r : Record) → canonical_record (canonical_record r) ≡ canonical_record r
 unfolding canonical_record
@@ -51,11 +58,24 @@ canonical_record-twice r =
     let g = canonical_region r.region in
     let vs = canonical_variants r.variants in
     let xs = in_order r.extensions in
-    ap (λ z. record r { primary = z; extended = canonical_extended es; region = canonical_region g; variants = canonical_variants vs; extensions = in_order xs }) twice.first
-    ∙ ap (λ z. record r { primary = p; extended = z; region = canonical_region g; variants = canonical_variants vs; extensions = in_order xs }) twice.others
-    ∙ ap (λ z. record r { primary = p; extended = es; region = z; variants = canonical_variants vs; extensions = in_order xs }) (region_twice r.region)
-    ∙ ap (λ z. record r { primary = p; extended = es; region = g; variants = z; extensions = in_order xs }) (variants_twice r.variants)
-    ∙ ap (λ z. record r { primary = p; extended = es; region = g; variants = vs; extensions = z }) (in_order-twice r.extensions)
+    ap (λ z. with_members r z (canonical_extended es) (canonical_region g) (canonical_variants vs) (in_order xs)) twice.first
+    ∙ ap (λ z. with_members r p z (canonical_region g) (canonical_variants vs) (in_order xs)) twice.others
+    ∙ ap (λ z. with_members r p es z (canonical_variants vs) (in_order xs)) (region_twice r.region)
+    ∙ ap (λ z. with_members r p es g z (in_order xs)) (variants_twice r.variants)
+    ∙ ap (with_members r p es g vs) (in_order-twice r.extensions)
+
+-- a record of which each member stays
+pub record_stays :
+    (r : Record) → canonical_primary r.primary r.extended ≡ r.primary → canonical_extended r.extended ≡ r.extended →
+    canonical_region r.region ≡ r.region → canonical_variants r.variants ≡ r.variants → in_order r.extensions ≡ r.extensions →
+    canonical_record r ≡ r
+unfolding canonical_record
+record_stays r primary extended region variants extensions =
+    ap (λ z. with_members r z (canonical_extended r.extended) (canonical_region r.region) (canonical_variants r.variants) (in_order r.extensions)) primary
+    ∙ ap (λ z. with_members r r.primary z (canonical_region r.region) (canonical_variants r.variants) (in_order r.extensions)) extended
+    ∙ ap (λ z. with_members r r.primary r.extended z (canonical_variants r.variants) (in_order r.extensions)) region
+    ∙ ap (λ z. with_members r r.primary r.extended r.region z (in_order r.extensions)) variants
+    ∙ ap (with_members r r.primary r.extended r.region r.variants) extensions
 
 -- ---- the Preferred-Value of a whole tag stays: by computation
 
@@ -80,18 +100,14 @@ variants_stay (v ∷ vs) h =
     let k = and_parts (not (is_some (preferred_variant v))) (list_all (λ w. not (is_some (preferred_variant w))) vs) h in
     ap (λ o. unwrap_or o v ∷ canonical_variants vs) (none_from_test (preferred_variant v) k.0) ∙ ap (λ ws. v ∷ ws) (variants_stay vs k.1)
 
-record_stays :
-    (r : Record) → r.extended ≡ [] → r.extensions ≡ [] → preferred_language r.primary ≡ None → canonical_region r.region ≡ r.region →
-    canonical_variants r.variants ≡ r.variants → canonical_record r ≡ r
-unfolding canonical_record
-record_stays r alone none language region variants =
-    ap (λ es. record r { primary = canonical_primary r.primary es; extended = canonical_extended es; region = canonical_region r.region; variants = canonical_variants r.variants; extensions = in_order r.extensions }) alone
-    ∙ ap (λ o. record r { primary = unwrap_or o r.primary; extended = []; region = canonical_region r.region; variants = canonical_variants r.variants; extensions = in_order r.extensions }) language
-    ∙ ap (λ g. record r { extended = []; region = g; variants = canonical_variants r.variants; extensions = in_order r.extensions }) region
-    ∙ ap (λ vs. record r { extended = []; variants = vs; extensions = in_order r.extensions }) variants
-    ∙ ap (λ xs. record r { extended = []; extensions = in_order xs }) none
-    ∙ ap (λ xs. record r { extended = []; extensions = xs }) (in_order-risen [] tt refl ∙ sym none)
-    ∙ ap (λ es. record r { extended = es }) (sym alone)
+-- a language alone
+alone_stays :
+    (p : List ℕ) (es : List (List ℕ)) → es ≡ [] → preferred_language p ≡ None →
+    (canonical_primary p es ≡ p) × (canonical_extended es ≡ es)
+alone_stays p es none language = rw none (ap (λ o. unwrap_or o p) language, refl)
+
+none_stay : (xs : List Extension) → xs ≡ [] → in_order xs ≡ xs
+none_stay xs none = rw none (in_order-risen [] tt refl)
 
 -- ---- a text that is its own canonical form
 
@@ -121,7 +137,8 @@ preferred_record_stays text new is =
     let a = and_parts _ _ (stays_of text new is) in
     let b = and_parts _ _ a.1 in
     let c = and_parts _ _ b.1 in
-    record_stays r simple.extended simple.extensions (none_from_test (preferred_language r.primary) b.0) (region_stays r.region c.0) (variants_stay r.variants c.1)
+    let language = alone_stays r.primary r.extended simple.extended (none_from_test (preferred_language r.primary) b.0) in
+    record_stays r language.0 language.1 (region_stays r.region c.0) (variants_stay r.variants c.1) (none_stay r.extensions simple.extensions)
 
 pub preferred_itself : (text new : List ℕ) → preferred_tag text ≡ Some new → IsCanonicalForm new new
 preferred_itself text new is =
@@ -179,7 +196,9 @@ one_form old new other p q = by_way (way_of old)
 pub form_twice : (old new : List ℕ) → IsCanonicalForm old new → IsCanonicalForm new new
 form_twice old new p = by_way (way_of old)
   where
-    by_text : (r : Record) → Spells r old → (o : Option (List ℕ)) → preferred_tag (spell (canonical_record r)) ≡ o → new ≡ unwrap_or o (spell (canonical_record r)) → IsCanonicalForm new new
+    by_text :
+        (r : Record) → Spells r old → (o : Option (List ℕ)) → preferred_tag (spell (canonical_record r)) ≡ o →
+        new ≡ unwrap_or o (spell (canonical_record r)) → IsCanonicalForm new new
     by_text r spells None none is =
         subst (λ z. IsCanonicalForm z z) (sym is)
         (itself (spell (canonical_record r)) (canonical_record r) none (canonical_record_well_formed r spells.0, refl) (canonical_record-twice r))

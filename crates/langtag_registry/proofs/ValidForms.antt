@@ -102,7 +102,9 @@ no_extended [] known one = refl
 no_extended (e ∷ []) known one = rw known.0 refl
 no_extended (e ∷ f ∷ es) known one = absurd (omega (arith, one))
 
-canonical_record_valid : (r : Record) → IsWellFormed r → IsValidRecord r → repeat are_alike (canonical_variants r.variants) ≡ None → IsValidRecord (canonical_record r)
+canonical_record_valid :
+    (r : Record) → IsWellFormed r → IsValidRecord r → repeat are_alike (canonical_variants r.variants) ≡ None →
+    IsValidRecord (canonical_record r)
 unfolding canonical_record
 canonical_record_valid r well valid once =
     let none = no_extended r.extended valid.extended valid.one_extended in
@@ -183,8 +185,9 @@ valid_form old new valid once p = by_way (way_of old)
         (r : Record) → Spells r old → IsValidRecord r → (o : Option (List ℕ)) → preferred_tag (spell (canonical_record r)) ≡ o →
         new ≡ unwrap_or o (spell (canonical_record r)) → IsValid new
     by_text r spells is None none same =
-        subst IsValid (sym same)
-        (valid_spelled (spell (canonical_record r)) (canonical_record r) (canonical_record_well_formed r spells.0, refl) (canonical_record_valid r spells.0 is (once r spells)))
+        let q = canonical_record r in
+        let well = canonical_record_well_formed r spells.0 in
+        subst IsValid (sym same) (valid_spelled (spell q) q (well, refl) (canonical_record_valid r spells.0 is (once r spells)))
     by_text r spells is (Some w) found same = subst IsValid (sym same) (preferred_valid (spell (canonical_record r)) w found)
 
     by_way : Way old → IsValid new
@@ -199,7 +202,9 @@ valid_form old new valid once p = by_way (way_of old)
 -- ---- only where no two variants become the same
 
 -- the variants of the canonical record stay
-same_variants : (r : Record) → repeat are_alike (canonical_variants (canonical_record r).variants) ≡ None → repeat are_alike (canonical_variants r.variants) ≡ None
+same_variants :
+    (r : Record) → repeat are_alike (canonical_variants (canonical_record r).variants) ≡ None →
+    repeat are_alike (canonical_variants r.variants) ≡ None
 unfolding canonical_record
 same_variants r none = ap (λ z. repeat are_alike z.variants) (sym (canonical_record-twice r)) ∙ none
 
