@@ -4,7 +4,7 @@ use Rattle.std.specs.List.{list_all, position}
 use Rattle.std.specs.Option.{option_map_or}
 use Rattle.std.proofs.lemmas.Bool.{and_parts, both_ways}
 use Rattle.langtag_scan.specs.Case.{fold_byte, are_alike}
-use Rattle.langtag_scan.specs.Record.{Extension, Record, Spells, EachRecord, spell}
+use Rattle.langtag_scan.specs.Record.{Extension, Record, Spells, spell}
 use Rattle.langtag_scan.specs.Tag.{IsNormal}
 use Rattle.langtag_scan.proofs.NormalTexts.{normal_from_runs, runs_from_normal, spelled_once}
 use Rattle.langtag.specs.Registered.{IsGrandfathered, text_of}
@@ -64,19 +64,6 @@ canonical_record-twice r =
     ∙ ap (λ z. with_members r p es g z (in_order xs)) (variants_twice r.variants)
     ∙ ap (with_members r p es g vs) (in_order-twice r.extensions)
 
--- a record of which each member stays
-pub record_stays :
-    (r : Record) → canonical_primary r.primary r.extended ≡ r.primary → canonical_extended r.extended ≡ r.extended →
-    canonical_region r.region ≡ r.region → canonical_variants r.variants ≡ r.variants → in_order r.extensions ≡ r.extensions →
-    canonical_record r ≡ r
-unfolding canonical_record
-record_stays r primary extended region variants extensions =
-    ap (λ z. with_members r z (canonical_extended r.extended) (canonical_region r.region) (canonical_variants r.variants) (in_order r.extensions)) primary
-    ∙ ap (λ z. with_members r r.primary z (canonical_region r.region) (canonical_variants r.variants) (in_order r.extensions)) extended
-    ∙ ap (λ z. with_members r r.primary r.extended z (canonical_variants r.variants) (in_order r.extensions)) region
-    ∙ ap (λ z. with_members r r.primary r.extended r.region z (in_order r.extensions)) variants
-    ∙ ap (with_members r r.primary r.extended r.region r.variants) extensions
-
 -- ---- the Preferred-Value of a whole tag stays: by computation
 
 abbrev stays : List ℕ → Bool
@@ -100,14 +87,21 @@ variants_stay (v ∷ vs) h =
     let k = and_parts (not (is_some (preferred_variant v))) (list_all (λ w. not (is_some (preferred_variant w))) vs) h in
     ap (λ o. unwrap_or o v ∷ canonical_variants vs) (none_from_test (preferred_variant v) k.0) ∙ ap (λ ws. v ∷ ws) (variants_stay vs k.1)
 
--- a language alone
-alone_stays :
-    (p : List ℕ) (es : List (List ℕ)) → es ≡ [] → preferred_language p ≡ None →
-    (canonical_primary p es ≡ p) × (canonical_extended es ≡ es)
-alone_stays p es none language = rw none (ap (λ o. unwrap_or o p) language, refl)
-
-none_stay : (xs : List Extension) → xs ≡ [] → in_order xs ≡ xs
-none_stay xs none = rw none (in_order-risen [] tt refl)
+record_stays :
+    (r : Record) → r.extended ≡ [] → r.extensions ≡ [] → preferred_language r.primary ≡ None → canonical_region r.region ≡ r.region →
+    canonical_variants r.variants ≡ r.variants → canonical_record r ≡ r
+unfolding canonical_record
+record_stays r alone none language region variants =
+    let g = canonical_region r.region in
+    let vs = canonical_variants r.variants in
+    let xs = in_order r.extensions in
+    ap (λ es. with_members r (canonical_primary r.primary es) (canonical_extended es) g vs xs) alone
+    ∙ ap (λ o. with_members r (unwrap_or o r.primary) [] g vs xs) language
+    ∙ ap (λ z. with_members r r.primary [] z vs xs) region
+    ∙ ap (λ z. with_members r r.primary [] r.region z xs) variants
+    ∙ ap (λ z. with_members r r.primary [] r.region r.variants (in_order z)) none
+    ∙ ap (with_members r r.primary [] r.region r.variants) (in_order-risen [] tt refl ∙ sym none)
+    ∙ ap (λ es. with_members r r.primary es r.region r.variants r.extensions) (sym alone)
 
 -- ---- a text that is its own canonical form
 
@@ -137,8 +131,7 @@ preferred_record_stays text new is =
     let a = and_parts _ _ (stays_of text new is) in
     let b = and_parts _ _ a.1 in
     let c = and_parts _ _ b.1 in
-    let language = alone_stays r.primary r.extended simple.extended (none_from_test (preferred_language r.primary) b.0) in
-    record_stays r language.0 language.1 (region_stays r.region c.0) (variants_stay r.variants c.1) (none_stay r.extensions simple.extensions)
+    record_stays r simple.extended simple.extensions (none_from_test (preferred_language r.primary) b.0) (region_stays r.region c.0) (variants_stay r.variants c.1)
 
 pub preferred_itself : (text new : List ℕ) → preferred_tag text ≡ Some new → IsCanonicalForm new new
 preferred_itself text new is =
@@ -208,32 +201,3 @@ form_twice old new p = by_way (way_of old)
     by_way (as_whole w is) = subst (λ z. IsCanonicalForm z z) (sym (p.whole w is)) (preferred_itself old w is)
     by_way (as_it_is none why) = subst (λ z. IsCanonicalForm old z → IsCanonicalForm z z) (sym (p.kept none why)) (λ same. same) p
     by_way (by_parts none new r spells) = by_text r spells (preferred_tag (spell (canonical_record r))) refl (p.parts none new r spells)
-
--- ---- a text is its own canonical form where its record is, and only there
-
--- it has no Preferred-Value
-pub none_of_itself : (text : List ℕ) → IsCanonicalForm text text → preferred_tag text ≡ None
-none_of_itself text p = by_option (preferred_tag text) refl
-  where
-    by_option : (o : Option (List ℕ)) → preferred_tag text ≡ o → preferred_tag text ≡ None
-    by_option None none = none
-    by_option (Some w) is = ap preferred_tag (p.whole w is) ∙ whole_settled text w is
-
-pub record_of_itself : (text : List ℕ) → IsCanonicalForm text text → (IsGrandfathered text → ⊥) → EachRecord text (λ r. canonical_record r ≡ r)
-record_of_itself text p new r spells = by_text (preferred_tag (spell (canonical_record r))) refl (p.parts (none_of_itself text p) new r spells)
-  where
-    by_text :
-        (o : Option (List ℕ)) → preferred_tag (spell (canonical_record r)) ≡ o → text ≡ unwrap_or o (spell (canonical_record r)) → canonical_record r ≡ r
-    by_text None none same = spelled_once (canonical_record r) r (canonical_record_well_formed r spells.0) spells.0 (sym same ∙ sym spells.1)
-    by_text (Some w) found same =
-        let spelled = preferred_spelled (spell (canonical_record r)) w found in
-        let one : r ≡ record_of w = spelled_once r (record_of w) spells.0 spelled.0 (spells.1 ∙ same ∙ sym spelled.1) in
-        ap canonical_record one ∙ preferred_record_stays (spell (canonical_record r)) w found ∙ sym one
-
-pub kept_itself : (text : List ℕ) → preferred_tag text ≡ None → IsGrandfathered text ⊎ (IsNormal text → ⊥) → IsCanonicalForm text text
-unfolding IsNormal
-kept_itself text none why = record {
-  whole = λ w is. absurd cc;
-  kept = λ _ _. refl;
-  parts = λ _ new r spells. elim why [ inl old ↦ absurd (new old) | inr other ↦ absurd (other (r, spells)) ];
-}
