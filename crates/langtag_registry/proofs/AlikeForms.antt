@@ -144,7 +144,7 @@ pub preferred_tag-alike : IgnoresCase preferred_tag
 unfolding preferred_tag
 preferred_tag-alike a b alike = value_for-alike tag_preferred a b alike
 
-grandfathered_alike : (a b : List ℕ) → Alike a b → IsGrandfathered a → IsGrandfathered b
+pub grandfathered_alike : (a b : List ℕ) → Alike a b → IsGrandfathered a → IsGrandfathered b
 unfolding IsGrandfathered IsGrandfatheredAt
 grandfathered_alike a b alike (k, (entry, at, same)) = (k, (entry, at, same ∙ alike))
 

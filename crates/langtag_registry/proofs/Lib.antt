@@ -20,4 +20,5 @@ pub mod SingletonsOnce
 pub mod FewVariants
 pub mod ValidForms
 pub mod NoExtlang
+pub mod CanonicalCase
 pub mod FormLaws

@@ -1,0 +1,139 @@
+-- The case of letters changes nothing in whether a tag is its own canonical form.
+use Rattle.std.proofs.Common.{◌≡◌, ℕ, List, [], ◌∷◌, map, Option, None, Some, option_map, unwrap_or, inl, inr, refl, sym, ap, ◌∙◌}
+use Rattle.std.specs.List.{AllByRecursion}
+use Rattle.langtag_scan.specs.AlikeRecords.{fold_extension, AlikeRecords}
+use Rattle.langtag_scan.specs.Case.{fold_byte, fold_text, Alike}
+use Rattle.langtag_scan.specs.Record.{Extension, Record, IsWellFormed, IsWellFormedExtension, Spells, spell}
+use Rattle.langtag_scan.specs.Tag.{IsNormal}
+use Rattle.langtag_scan.proofs.CaseLaw.{alike_parts}
+use Rattle.langtag_scan.proofs.NormalTexts.{spelled_once}
+use Rattle.langtag_registry.specs.Canonical.{canonical_primary, canonical_extended, canonical_region, canonical_variants, in_order, canonical_record, IsCanonicalForm}
+use Rattle.langtag_registry.specs.Fields.{preferred_language, preferred_region, preferred_variant, preferred_tag}
+use Rattle.langtag_registry.proofs.AlikeForms.{preferred_tag-alike, grandfathered_alike}
+use Rattle.langtag_registry.proofs.OrderLaws.{keys_of, in_order-risen, rises_from_in_order}
+use Rattle.langtag_registry.proofs.ReplacedSubtags.{replaced, IsSettled, IgnoresCase, language_settled, language-alike, region_settled, region-alike, variant_settled, variant-alike, extlang_cases, extlang-alike, registered_extlang-alike}
+use Rattle.langtag_registry.proofs.Rising.{rises_from}
+use Rattle.langtag_registry.proofs.TwiceLaws.{with_members, itself, whole_settled, preferred_record_stays, Way, as_whole, as_it_is, by_parts, way_of}
+use Rattle.langtag_registry.proofs.WellFormedForms.{canonical_record_well_formed}
+use Rattle.langtag_registry.proofs.WholeTags.{record_of, preferred_spelled}
+
+-- ---- a subtag that stays, and one that is alike
+
+module _ (preferred : List ℕ → Option (List ℕ)) (settled : IsSettled preferred) (ignores : IgnoresCase preferred) where
+  -- it has no Preferred-Value
+  none_of_staying : (s : List ℕ) → replaced preferred s ≡ s → preferred s ≡ None
+  none_of_staying s stays = by_option (preferred s) refl stays
+    where
+      by_option : (o : Option (List ℕ)) → preferred s ≡ o → unwrap_or o s ≡ s → preferred s ≡ None
+      by_option None none same = none
+      by_option (Some new) is same = ap preferred (sym same) ∙ settled s new is
+
+  alike_stays : (s t : List ℕ) → Alike s t → replaced preferred s ≡ s → replaced preferred t ≡ t
+  alike_stays s t alike stays = ap (λ o. unwrap_or o t) (sym (ignores s t alike) ∙ none_of_staying s stays)
+
+-- ---- each part
+
+record LanguageStays (primary : List ℕ) (extended : List (List ℕ)) : Type 0 where
+  first : canonical_primary primary extended ≡ primary
+  others : canonical_extended extended ≡ extended
+
+language_stays : (p q : List ℕ) (es fs : List (List ℕ)) → Alike p q → map fold_text es ≡ map fold_text fs → LanguageStays p es → LanguageStays q fs
+language_stays p q [] [] alike same stays = record { first = alike_stays preferred_language language_settled language-alike p q alike stays.first; others = refl }
+language_stays p q [] (f ∷ fs) alike same stays = absurd cc
+language_stays p q (e ∷ es) [] alike same stays = absurd cc
+language_stays p q (e ∷ []) (f ∷ []) alike same stays =
+    let one : Alike e f = cc in
+    elim (extlang_cases e) [
+      | inl (new, found, known) ↦ let gone = rw known at stays.others in absurd cc
+      | inr (none, other) ↦
+          let first = rw none at stays.first in
+          let no_value = sym (extlang-alike e f one) ∙ none in
+          let unknown = sym (registered_extlang-alike e f one) ∙ other in
+          record { first = rw no_value (alike_stays preferred_language language_settled language-alike p q alike first); others = rw unknown refl }
+    ]
+language_stays p q (e ∷ []) (f ∷ g ∷ fs) alike same stays = absurd cc
+language_stays p q (e ∷ d ∷ es) (f ∷ []) alike same stays = absurd cc
+language_stays p q (e ∷ d ∷ es) (f ∷ g ∷ fs) alike same stays = record { first = refl; others = refl }
+
+region_stays : (o u : Option (List ℕ)) → option_map fold_text o ≡ option_map fold_text u → canonical_region o ≡ o → canonical_region u ≡ u
+region_stays None None same stays = refl
+region_stays None (Some h) same stays = absurd cc
+region_stays (Some g) None same stays = absurd cc
+region_stays (Some g) (Some h) same stays =
+    let alike : Alike g h = cc in
+    let first : replaced preferred_region g ≡ g = cc in
+    ap Some (alike_stays preferred_region region_settled region-alike g h alike first)
+
+variants_stay : (vs ws : List (List ℕ)) → map fold_text vs ≡ map fold_text ws → canonical_variants vs ≡ vs → canonical_variants ws ≡ ws
+variants_stay [] [] same stays = refl
+variants_stay [] (w ∷ ws) same stays = absurd cc
+variants_stay (v ∷ vs) [] same stays = absurd cc
+variants_stay (v ∷ vs) (w ∷ ws) same stays =
+    let alike : Alike v w = cc in
+    let rest : map fold_text vs ≡ map fold_text ws = cc in
+    let first : replaced preferred_variant v ≡ v = cc in
+    let others : canonical_variants vs ≡ vs = cc in
+    ap (λ z. z ∷ canonical_variants ws) (alike_stays preferred_variant variant_settled variant-alike v w alike first)
+    ∙ ap (λ zs. w ∷ zs) (variants_stay vs ws rest others)
+
+keys_folded : (es : List Extension) → map (λ e. e.singleton) (map fold_extension es) ≡ keys_of es
+keys_folded [] = refl
+keys_folded (e ∷ es) = ap (λ ns. fold_byte e.singleton ∷ ns) (keys_folded es)
+
+order_stays :
+    (es fs : List Extension) → AllByRecursion IsWellFormedExtension fs → map fold_extension es ≡ map fold_extension fs → in_order es ≡ es → in_order fs ≡ fs
+order_stays es fs well same stays =
+    let keys : keys_of fs ≡ keys_of es = sym (keys_folded fs) ∙ ap (map (λ e. e.singleton)) (sym same) ∙ keys_folded es in
+    in_order-risen fs well (ap (rises_from 0) keys ∙ rises_from_in_order es stays)
+
+-- ---- the record
+
+record_stays : (r q : Record) → IsWellFormed q → AlikeRecords r q → canonical_record r ≡ r → canonical_record q ≡ q
+unfolding canonical_record
+record_stays r q well alike stays =
+    let g = canonical_region q.region in
+    let vs = canonical_variants q.variants in
+    let xs = in_order q.extensions in
+    let language = language_stays r.primary q.primary r.extended q.extended (ap (λ z. z.primary) alike) (ap (λ z. z.extended) alike)
+    record { first = ap (λ z. z.primary) stays; others = ap (λ z. z.extended) stays } in
+    ap (λ z. with_members q z (canonical_extended q.extended) g vs xs) language.first
+    ∙ ap (λ z. with_members q q.primary z g vs xs) language.others
+    ∙ ap (λ z. with_members q q.primary q.extended z vs xs) (region_stays r.region q.region (ap (λ z. z.region) alike) (ap (λ z. z.region) stays))
+    ∙ ap (λ z. with_members q q.primary q.extended q.region z xs) (variants_stay r.variants q.variants (ap (λ z. z.variants) alike) (ap (λ z. z.variants) stays))
+    ∙ ap (with_members q q.primary q.extended q.region q.variants)
+    (order_stays r.extensions q.extensions well.extensions (ap (λ z. z.extensions) alike) (ap (λ z. z.extensions) stays))
+
+own_record : (text : List ℕ) (r : Record) → Spells r text → text ≡ unwrap_or (preferred_tag (spell (canonical_record r))) (spell (canonical_record r)) → canonical_record r ≡ r
+own_record text r spells same = by_option (preferred_tag (spell (canonical_record r))) refl same
+  where
+    by_option : (o : Option (List ℕ)) → preferred_tag (spell (canonical_record r)) ≡ o → text ≡ unwrap_or o (spell (canonical_record r)) → canonical_record r ≡ r
+    by_option None is own = spelled_once (canonical_record r) r (canonical_record_well_formed r spells.0) spells.0 (sym own ∙ sym spells.1)
+    by_option (Some w) is own =
+        let s = preferred_spelled (spell (canonical_record r)) w is in
+        let one : r ≡ record_of w = spelled_once r (record_of w) spells.0 s.0 (spells.1 ∙ own ∙ sym s.1) in
+        ap canonical_record one ∙ preferred_record_stays (spell (canonical_record r)) w is ∙ sym one
+
+-- ---- the text
+
+pub canonical_in_any_case : (text other : List ℕ) → Alike text other → IsCanonicalForm text text → IsCanonicalForm other other
+unfolding IsNormal
+canonical_in_any_case text other alike p = by_way (way_of other)
+  where
+    same : preferred_tag text ≡ preferred_tag other
+    same = preferred_tag-alike text other alike
+
+    by_way : Way other → IsCanonicalForm other other
+    by_way (as_whole w is) =
+        let found : preferred_tag text ≡ Some w = same ∙ is in
+        let none : preferred_tag text ≡ None = ap preferred_tag (p.whole w found) ∙ whole_settled text w found in
+        absurd cc
+    by_way (as_it_is none why) = record {
+      whole = λ w is. absurd cc;
+      kept = λ _ _. refl;
+      parts = λ _ new r spells. elim why [ inl old ↦ absurd (new old) | inr no_normal ↦ absurd (no_normal (r, spells)) ];
+    }
+    by_way (by_parts none new q spells) =
+        let like = alike_parts other text (sym alike) q spells in
+        let r = like.0 in
+        let own = p.parts (same ∙ none) (λ old. new (grandfathered_alike text other alike old)) r like.1 in
+        itself other q none spells (record_stays r q spells.0 (sym like.2) (own_record text r like.1 own))
