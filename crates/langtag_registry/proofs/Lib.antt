@@ -22,3 +22,9 @@ pub mod ValidForms
 pub mod NoExtlang
 pub mod CanonicalCase
 pub mod FormLaws
+pub mod PreferredValues
+pub mod Pushed
+pub mod CanonicalLanguages
+pub mod CanonicalVariants
+pub mod ExtensionOrder
+pub mod CanonicalParts
