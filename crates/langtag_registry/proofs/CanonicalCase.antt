@@ -3,19 +3,16 @@ use Rattle.std.proofs.Common.{◌≡◌, ℕ, List, [], ◌∷◌, map, Option, 
 use Rattle.std.specs.List.{AllByRecursion}
 use Rattle.langtag_scan.specs.AlikeRecords.{fold_extension, AlikeRecords}
 use Rattle.langtag_scan.specs.Case.{fold_byte, fold_text, Alike}
-use Rattle.langtag_scan.specs.Record.{Extension, Record, IsWellFormed, IsWellFormedExtension, Spells, spell}
-use Rattle.langtag_scan.specs.Tag.{IsNormal}
+use Rattle.langtag_scan.specs.Record.{Extension, Record, IsWellFormed, IsWellFormedExtension}
 use Rattle.langtag_scan.proofs.CaseLaw.{alike_parts}
-use Rattle.langtag_scan.proofs.NormalTexts.{spelled_once}
 use Rattle.langtag_registry.specs.Canonical.{canonical_primary, canonical_extended, canonical_region, canonical_variants, in_order, canonical_record, IsCanonicalForm}
 use Rattle.langtag_registry.specs.Fields.{preferred_language, preferred_region, preferred_variant, preferred_tag}
 use Rattle.langtag_registry.proofs.AlikeForms.{preferred_tag-alike, grandfathered_alike}
 use Rattle.langtag_registry.proofs.OrderLaws.{keys_of, in_order-risen, rises_from_in_order}
+use Rattle.langtag_registry.proofs.CanonicalParts.{record_stays, parts_stay, own_record, kept_form}
 use Rattle.langtag_registry.proofs.ReplacedSubtags.{replaced, IsSettled, IgnoresCase, language_settled, language-alike, region_settled, region-alike, variant_settled, variant-alike, extlang_cases, extlang-alike, registered_extlang-alike}
 use Rattle.langtag_registry.proofs.Rising.{rises_from}
-use Rattle.langtag_registry.proofs.TwiceLaws.{with_members, itself, whole_settled, preferred_record_stays, Way, as_whole, as_it_is, by_parts, way_of}
-use Rattle.langtag_registry.proofs.WellFormedForms.{canonical_record_well_formed}
-use Rattle.langtag_registry.proofs.WholeTags.{record_of, preferred_spelled}
+use Rattle.langtag_registry.proofs.TwiceLaws.{itself, whole_settled, Way, as_whole, as_it_is, by_parts, way_of}
 
 -- ---- a subtag that stays, and one that is alike
 
@@ -33,27 +30,27 @@ module _ (preferred : List ℕ → Option (List ℕ)) (settled : IsSettled prefe
 
 -- ---- each part
 
-record LanguageStays (primary : List ℕ) (extended : List (List ℕ)) : Type 0 where
-  first : canonical_primary primary extended ≡ primary
-  others : canonical_extended extended ≡ extended
+abbrev StaysLanguage : List ℕ → List (List ℕ) → Type 0
+StaysLanguage primary extended = (canonical_primary primary extended ≡ primary) × (canonical_extended extended ≡ extended)
 
-language_stays : (p q : List ℕ) (es fs : List (List ℕ)) → Alike p q → map fold_text es ≡ map fold_text fs → LanguageStays p es → LanguageStays q fs
-language_stays p q [] [] alike same stays = record { first = alike_stays preferred_language language_settled language-alike p q alike stays.first; others = refl }
+language_stays :
+    (p q : List ℕ) (es fs : List (List ℕ)) → Alike p q → map fold_text es ≡ map fold_text fs → StaysLanguage p es → StaysLanguage q fs
+language_stays p q [] [] alike same stays = (alike_stays preferred_language language_settled language-alike p q alike stays.0, refl)
 language_stays p q [] (f ∷ fs) alike same stays = absurd cc
 language_stays p q (e ∷ es) [] alike same stays = absurd cc
 language_stays p q (e ∷ []) (f ∷ []) alike same stays =
     let one : Alike e f = cc in
     elim (extlang_cases e) [
-      | inl (new, found, known) ↦ let gone = rw known at stays.others in absurd cc
+      | inl (new, found, known) ↦ let gone = rw known at stays.1 in absurd cc
       | inr (none, other) ↦
-          let first = rw none at stays.first in
+          let first = rw none at stays.0 in
           let no_value = sym (extlang-alike e f one) ∙ none in
           let unknown = sym (registered_extlang-alike e f one) ∙ other in
-          record { first = rw no_value (alike_stays preferred_language language_settled language-alike p q alike first); others = rw unknown refl }
+          (rw no_value (alike_stays preferred_language language_settled language-alike p q alike first), rw unknown refl)
     ]
 language_stays p q (e ∷ []) (f ∷ g ∷ fs) alike same stays = absurd cc
 language_stays p q (e ∷ d ∷ es) (f ∷ []) alike same stays = absurd cc
-language_stays p q (e ∷ d ∷ es) (f ∷ g ∷ fs) alike same stays = record { first = refl; others = refl }
+language_stays p q (e ∷ d ∷ es) (f ∷ g ∷ fs) alike same stays = (refl, refl)
 
 region_stays : (o u : Option (List ℕ)) → option_map fold_text o ≡ option_map fold_text u → canonical_region o ≡ o → canonical_region u ≡ u
 region_stays None None same stays = refl
@@ -88,35 +85,20 @@ order_stays es fs well same stays =
 
 -- ---- the record
 
-record_stays : (r q : Record) → IsWellFormed q → AlikeRecords r q → canonical_record r ≡ r → canonical_record q ≡ q
-unfolding canonical_record
-record_stays r q well alike stays =
-    let g = canonical_region q.region in
-    let vs = canonical_variants q.variants in
-    let xs = in_order q.extensions in
-    let language = language_stays r.primary q.primary r.extended q.extended (ap (λ z. z.primary) alike) (ap (λ z. z.extended) alike)
-    record { first = ap (λ z. z.primary) stays; others = ap (λ z. z.extended) stays } in
-    ap (λ z. with_members q z (canonical_extended q.extended) g vs xs) language.first
-    ∙ ap (λ z. with_members q q.primary z g vs xs) language.others
-    ∙ ap (λ z. with_members q q.primary q.extended z vs xs) (region_stays r.region q.region (ap (λ z. z.region) alike) (ap (λ z. z.region) stays))
-    ∙ ap (λ z. with_members q q.primary q.extended q.region z xs) (variants_stay r.variants q.variants (ap (λ z. z.variants) alike) (ap (λ z. z.variants) stays))
-    ∙ ap (with_members q q.primary q.extended q.region q.variants)
-    (order_stays r.extensions q.extensions well.extensions (ap (λ z. z.extensions) alike) (ap (λ z. z.extensions) stays))
-
-own_record : (text : List ℕ) (r : Record) → Spells r text → text ≡ unwrap_or (preferred_tag (spell (canonical_record r))) (spell (canonical_record r)) → canonical_record r ≡ r
-own_record text r spells same = by_option (preferred_tag (spell (canonical_record r))) refl same
-  where
-    by_option : (o : Option (List ℕ)) → preferred_tag (spell (canonical_record r)) ≡ o → text ≡ unwrap_or o (spell (canonical_record r)) → canonical_record r ≡ r
-    by_option None is own = spelled_once (canonical_record r) r (canonical_record_well_formed r spells.0) spells.0 (sym own ∙ sym spells.1)
-    by_option (Some w) is own =
-        let s = preferred_spelled (spell (canonical_record r)) w is in
-        let one : r ≡ record_of w = spelled_once r (record_of w) spells.0 s.0 (spells.1 ∙ own ∙ sym s.1) in
-        ap canonical_record one ∙ preferred_record_stays (spell (canonical_record r)) w is ∙ sym one
+alike_record_stays : (r q : Record) → IsWellFormed q → AlikeRecords r q → canonical_record r ≡ r → canonical_record q ≡ q
+alike_record_stays r q well alike stays =
+    let stay = parts_stay r stays in
+    record_stays q
+    record {
+      language = language_stays r.primary q.primary r.extended q.extended (ap (λ z. z.primary) alike) (ap (λ z. z.extended) alike) stay.language;
+      region = region_stays r.region q.region (ap (λ z. z.region) alike) stay.region;
+      variants = variants_stay r.variants q.variants (ap (λ z. z.variants) alike) stay.variants;
+      extensions = order_stays r.extensions q.extensions well.extensions (ap (λ z. z.extensions) alike) stay.extensions;
+    }
 
 -- ---- the text
 
 pub canonical_in_any_case : (text other : List ℕ) → Alike text other → IsCanonicalForm text text → IsCanonicalForm other other
-unfolding IsNormal
 canonical_in_any_case text other alike p = by_way (way_of other)
   where
     same : preferred_tag text ≡ preferred_tag other
@@ -127,13 +109,9 @@ canonical_in_any_case text other alike p = by_way (way_of other)
         let found : preferred_tag text ≡ Some w = same ∙ is in
         let none : preferred_tag text ≡ None = ap preferred_tag (p.whole w found) ∙ whole_settled text w found in
         absurd cc
-    by_way (as_it_is none why) = record {
-      whole = λ w is. absurd cc;
-      kept = λ _ _. refl;
-      parts = λ _ new r spells. elim why [ inl old ↦ absurd (new old) | inr no_normal ↦ absurd (no_normal (r, spells)) ];
-    }
+    by_way (as_it_is none why) = kept_form other other none why refl
     by_way (by_parts none new q spells) =
         let like = alike_parts other text (sym alike) q spells in
         let r = like.0 in
         let own = p.parts (same ∙ none) (λ old. new (grandfathered_alike text other alike old)) r like.1 in
-        itself other q none spells (record_stays r q spells.0 (sym like.2) (own_record text r like.1 own))
+        itself other q none spells (alike_record_stays r q spells.0 (sym like.2) (own_record text r like.1 own))

@@ -45,7 +45,7 @@ variants_twice (v ∷ vs) =
     ∙ ap (λ zs. replaced preferred_variant v ∷ zs) (variants_twice vs)
 
 -- a record with other members than its script and private use
-abbrev pub with_members : Record → List ℕ → List (List ℕ) → Option (List ℕ) → List (List ℕ) → List Extension → Record
+abbrev with_members : Record → List ℕ → List (List ℕ) → Option (List ℕ) → List (List ℕ) → List Extension → Record
 with_members r primary extended region variants extensions =
     record r { primary = primary; extended = extended; region = region; variants = variants; extensions = extensions }
 
