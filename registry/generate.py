@@ -18,11 +18,12 @@ SUBTAGS = ["language", "extlang", "script", "region", "variant"]
 DEPRECATED = ["language", "extlang", "region", "variant"]
 KEY_BITS = {"language": 16, "extlang": 32, "script": 32, "region": 32, "variant": 64}
 
-# Of a language: the field, the list of specs/, and the tables.
+# Of a language or an extended one: the Type, the field, the list of specs/, and the tables.
 LANGUAGE_FIELDS = [
-    ("Preferred-Value", "language_preferred", "PREFERRED_LANGUAGE"),
-    ("Suppress-Script", "language_suppress_script", "SUPPRESS_SCRIPT"),
-    ("Macrolanguage", "language_macrolanguage", "MACROLANGUAGE"),
+    ("language", "Preferred-Value", "language_preferred", "PREFERRED_LANGUAGE"),
+    ("language", "Suppress-Script", "language_suppress_script", "SUPPRESS_SCRIPT"),
+    ("language", "Macrolanguage", "language_macrolanguage", "MACROLANGUAGE"),
+    ("extlang", "Prefix", "extlang_prefixes", "EXTLANG_PREFIX"),
 ]
 # Of a few texts: the Types with a Preferred-Value, the list of specs/, the tables, and what they have.
 PREFERRED = [
@@ -33,12 +34,16 @@ PREFERRED = [
 
 
 def records(text):
+    """The records: of each field its values, as they stand."""
     for block in re.split(r"(?m)^%%[ \t]*\n", text):
         unfolded = re.sub(r"\n[ \t]+", " ", block)
         fields = [re.match(r"([A-Za-z][A-Za-z0-9-]*)[ \t]*:[ \t]*(.*)", line) for line in unfolded.splitlines() if line.strip()]
         if not all(fields):
             sys.exit("a line without a field: " + block)
-        yield {f.group(1): f.group(2).strip() for f in fields}
+        record = {}
+        for field in fields:
+            record.setdefault(field.group(1), []).append(field.group(2).strip())
+        yield record
 
 
 def next_text(text):
@@ -84,20 +89,22 @@ class Registry:
         seen = set()
         for record in records(path.read_text(encoding="utf-8")):
             if "File-Date" in record:
-                self.date = record["File-Date"]
+                self.date = record["File-Date"][0]
                 continue
-            kind = self.fields.setdefault(record["Type"], {})
-            for text in written_out(record.get("Subtag") or record["Tag"]):
-                if (record["Type"], text.lower()) in seen:
-                    sys.exit(f"twice in the registry: {record['Type']} {text}")
-                seen.add((record["Type"], text.lower()))
-                kind[text] = record
+            kind = record["Type"][0]
+            for text in written_out((record.get("Subtag") or record["Tag"])[0]):
+                if (kind, text.lower()) in seen:
+                    sys.exit(f"twice in the registry: {kind} {text}")
+                seen.add((kind, text.lower()))
+                self.fields.setdefault(kind, {})[text] = record
         for text in self.fields["language"]:
             if len(text) not in (2, 3):
                 sys.exit(f"the tables have languages of two and three letters alone: {text}")
         for text, record in self.fields["extlang"].items():
-            if record.get("Preferred-Value", "").lower() != text.lower():
+            if [value.lower() for value in record.get("Preferred-Value", [])] != [text.lower()]:
                 sys.exit(f"an extended language whose Preferred-Value is not itself: {text}")
+            if len(record.get("Prefix", [])) != 1:
+                sys.exit(f"an extended language without one Prefix: {text}")
 
     def subtags(self, kind, field=None):
         """The subtags of a Type, or those with a field, in the order of their numbers."""
@@ -105,7 +112,7 @@ class Registry:
         return sorted(found, key=lambda text: number(kind, text))
 
     def values(self, kind, field):
-        return [(text, self.fields[kind][text][field]) for text in self.subtags(kind, field)]
+        return [(text, self.fields[kind][text][field][0]) for text in self.subtags(kind, field)]
 
 
 def in_lines(items, width=116):
@@ -148,12 +155,12 @@ def tables(registry):
         digits = "letters" if kind == "language" else "lowercase bytes"
         out.append(keys(f"DEPRECATED_{kind.upper()}_KEYS", f"The deprecated {kind}s: their {digits} as the digits of a number, in rising order.", kind,
                         registry.subtags(kind, "Deprecated")))
-    for field, _, name in LANGUAGE_FIELDS:
-        pairs = registry.values("language", field)
+    for kind, field, _, name in LANGUAGE_FIELDS:
+        pairs = registry.values(kind, field)
         values = sorted({value for _, value in pairs})
         if len(values) > 256:
             sys.exit(f"more values than a byte tells: {field}")
-        out.append(keys(f"{name}_KEYS", f"The languages with a {field}: their letters as the digits of a number, in rising order.", "language",
+        out.append(keys(f"{name}_KEYS", f"The {kind}s with a {field}: their letters as the digits of a number, in rising order.", "language",
                         [text for text, _ in pairs]))
         out.append(table(f"{name}_INDICES", "Where the value of each of them stands.", "u8", [str(values.index(value)) for _, value in pairs]))
         out.append(table(f"{name}_VALUES", "The values, each once.", "&str", quoted(values)))
@@ -188,8 +195,8 @@ def lists(registry):
         out.append(text_list(f"{kind}_subtags", f"the Subtag fields of the records of Type {kind}, ranges written out", registry.subtags(kind)))
     for kind in DEPRECATED:
         out.append(text_list(f"deprecated_{kind}s", f"those of the records of Type {kind} with a Deprecated field", registry.subtags(kind, "Deprecated")))
-    for field, name, _ in LANGUAGE_FIELDS:
-        out.append(entry_list(name, f"the records of Type language with a {field} field: each Subtag before that value", registry.values("language", field)))
+    for kind, field, name, _ in LANGUAGE_FIELDS:
+        out.append(entry_list(name, f"the records of Type {kind} with a {field} field: each Subtag before that value", registry.values(kind, field)))
     for kinds, name, _, _ in PREFERRED:
         pairs = [pair for kind in kinds for pair in registry.values(kind, "Preferred-Value")]
         label = "Tag" if len(kinds) > 1 else "Subtag"

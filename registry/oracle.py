@@ -1,27 +1,34 @@
 #!/usr/bin/env python3
-"""A plain reading of RFC 5646 sections 2.1, 2.2.9 and 3.1 over the registry's record-jar, by regular expressions.
+"""A plain reading of RFC 5646 sections 2.1, 2.2.9, 3.1 and 4.5 over the registry's record-jar, by regular expressions.
 
-usage: oracle.py REGISTRY < LINES             prints for each line whether it is valid, and what is registered of it
-       oracle.py REGISTRY --make COUNT SEED   prints that many texts: tags of the registry's subtags, mutants, and random ones
-       oracle.py REGISTRY --each              prints each registered text, and all short languages and regions
+usage: oracle.py REGISTRY [COLUMN..] < LINES   prints for each line the columns: validity, whole, parts, canonical,
+                                               is-canonical, extlang-form, misplaced (without any: the first three)
+       oracle.py REGISTRY [COLUMN..] --compare ANSWERS < LINES
+                                               counts the lines whose columns differ from the answers of a program
+       oracle.py REGISTRY --make COUNT SEED    prints that many texts: tags of the registry's subtags, mutants, and random ones
+       oracle.py REGISTRY --each               prints each registered text, and all short languages and regions
 """
 import random
 import re
 import sys
 
 GRAMMAR = re.compile(r"(?P<language>[a-z]{2,3}(?P<ext>(?:-[a-z]{3}){0,3})|[a-z]{4}|[a-z]{5,8})(?:-(?P<script>[a-z]{4}))?(?:-(?P<region>[a-z]{2}|[0-9]{3}))?"
-                     r"(?P<variants>(?:-(?:[a-z0-9]{5,8}|[0-9][a-z0-9]{3}))*)(?P<extensions>(?:-[a-wyz0-9](?:-[a-z0-9]{2,8})+)*)(?:-x(?:-[a-z0-9]{1,8})+)?", re.I | re.A)
+                     r"(?P<variants>(?:-(?:[a-z0-9]{5,8}|[0-9][a-z0-9]{3}))*)(?P<extensions>(?:-[a-wyz0-9](?:-[a-z0-9]{2,8})+)*)(?P<private>(?:-x(?:-[a-z0-9]{1,8})+)?)", re.I | re.A)
 PRIVATE = re.compile(r"x(?:-[a-z0-9]{1,8})+", re.I | re.A)
+EXTENSION = re.compile(r"-[a-z0-9](?:-[a-z0-9]{2,8})+", re.I | re.A)
+COLUMNS = ["validity", "whole", "parts", "canonical", "is-canonical", "extlang-form", "misplaced"]
 
 
 class Registry:
     def __init__(self, path):
-        self.kinds, self.fields, self.ranges, self.names = {}, {}, [], {}
+        self.kinds, self.fields, self.ranges, self.names, self.prefixes = {}, {}, [], {}, {}
         for block in open(path, encoding="utf-8").read().split("%%\n"):
             fields = {}
             for line in block.splitlines():
                 name, _, value = line.partition(": ")
                 fields.setdefault(name, value)
+                if name == "Prefix":
+                    self.prefixes.setdefault((fields["Type"], fields["Subtag"].lower()), []).append(value)
             if "Type" not in fields:
                 continue
             kind, name = fields["Type"], (fields.get("Subtag") or fields["Tag"])
@@ -43,14 +50,70 @@ class Registry:
     def field(self, kind, name, text):
         return self.fields.get((kind, text.lower()), {}).get(name)
 
-    def answer(self, text):
+    def answer(self, text, columns):
         grandfathered = text.lower() in self.kinds["grandfathered"]
         found = GRAMMAR.fullmatch(text)
         if not (grandfathered or found or PRIVATE.fullmatch(text)):
             return "refused"
-        fault = None if grandfathered or not found else self.fault(found)
-        out = ["invalid " + fault if fault else "valid", "whole=" + (self.whole(text) or "-")]
-        return " ".join(out + (self.parts(found) if found else []))
+        out = []
+        for column in columns:
+            if column == "validity":
+                fault = None if grandfathered or not found else self.fault(found)
+                out.append("invalid " + fault if fault else "valid")
+            elif column == "whole":
+                out.append("whole=" + (self.whole(text) or "-"))
+            elif column == "parts":
+                out += self.parts(found) if found else []
+            elif column == "canonical":
+                out.append("canonical=" + self.canonical(text))
+            elif column == "is-canonical":
+                out.append("is-canonical" if self.canonical(text) == text else "is-not-canonical")
+            elif column == "extlang-form":
+                out.append("extlang-form=" + self.extlang_form(text))
+            else:
+                out.append("misplaced=" + (self.misplaced(found) if found else "-"))
+        return " ".join(out)
+
+    def canonical(self, text):
+        """Section 4.5: a whole tag (step 2), or else the parts (1 and 3) and step 2 once more."""
+        if self.whole(text):
+            return self.whole(text)
+        found = GRAMMAR.fullmatch(text)
+        if not found or text.lower() in self.kinds["grandfathered"]:
+            return text
+        replaced = self.replaced(found)
+        return self.whole(replaced) or replaced
+
+    def replaced(self, found):
+        primary, *extended = found["language"].split("-")
+        if len(extended) < 2:
+            primary = self.field("language", "Preferred-Value", primary) or primary
+        if len(extended) == 1 and self.has("extlang", extended[0]):
+            primary, extended = self.field("extlang", "Preferred-Value", extended[0]), []
+        subtags = [primary, *extended]
+        subtags += [self.field(kind, "Preferred-Value", found[kind]) or found[kind] for kind in ("script", "region") if found[kind]]
+        subtags += [self.field("variant", "Preferred-Value", variant) or variant for variant in found["variants"].split("-")[1:]]
+        extensions = sorted(EXTENSION.findall(found["extensions"]), key=lambda extension: extension[1].lower())
+        return "-".join(subtags) + "".join(extensions) + found["private"]
+
+    def extlang_form(self, text):
+        """Section 4.5's other form: the Prefix stands before a language that is an extended one, too."""
+        text = self.canonical(text)
+        found = GRAMMAR.fullmatch(text)
+        prefix = self.prefixes.get(("extlang", found["language"].lower())) if found and text.lower() not in self.kinds["grandfathered"] else None
+        return prefix[0] + "-" + text if prefix else text
+
+    def misplaced(self, found):
+        """The first variant before which none of its prefixes stands (section 3.1.8), by extended filtering (RFC 4647
+        section 3.3.2). There is no singleton before a variant, so that any subtags may be left out."""
+        before = found.string[:found.start("variants")]
+        for variant in found["variants"].split("-")[1:]:
+            prefixes = self.prefixes.get(("variant", variant.lower()), [])
+            ranges = [prefix.replace("-", "(?:-[a-z0-9]+)*-") + "(?:-[a-z0-9]+)*" for prefix in prefixes]
+            if ranges and not any(re.fullmatch(pattern, before, re.I | re.A) for pattern in ranges):
+                return variant
+            before += "-" + variant
+        return "-"
 
     def fault(self, found):
         primary, *extended = found["language"].split("-")
@@ -150,11 +213,29 @@ def each(registry):
             print(before + name)
 
 
+def compare(registry, columns, path):
+    count = differ = 0
+    answers = open(path, encoding="utf-8", newline="\n").read().split("\n")
+    for line, got in zip(sys.stdin, answers):
+        count += 1
+        wanted = registry.answer(line.rstrip("\n"), columns)
+        if wanted != got:
+            differ += 1
+            if differ <= 20:
+                print(f"{line.rstrip()}: {got}, and not {wanted}")
+    print(f"{differ} of {count} lines differ")
+    return differ > 0 or len(answers) != count + 1
+
+
 registry = Registry(sys.argv[1])
-if sys.argv[2:3] == ["--each"]:
+words = sys.argv[2:]
+if words[:1] == ["--each"]:
     each(registry)
-elif sys.argv[2:3] == ["--make"]:
-    make(registry, int(sys.argv[3]), int(sys.argv[4]))
+elif words[:1] == ["--make"]:
+    make(registry, int(words[1]), int(words[2]))
 else:
+    columns = [word for word in words if word in COLUMNS] or COLUMNS[:3]
+    if words[-2:-1] == ["--compare"]:
+        sys.exit(compare(registry, columns, words[-1]))
     for line in sys.stdin:
-        print(registry.answer(line.rstrip("\n")))
+        print(registry.answer(line.rstrip("\n"), columns))

@@ -5,7 +5,7 @@ use Rattle.langtag_scan.specs.Case.{fold_byte}
 use Rattle.langtag_scan.specs.Class.{is_letter, is_digit, are_letters, is_primary, is_script, is_region, is_variant}
 use Rattle.langtag_registry.specs.declared.tables.TheConstants as table
 use Rattle.langtag_registry.specs.Numbers.{letter_number, climbs_from}
-use Rattle.langtag_registry.specs.Subtags.{language_preferred, language_suppress_script, language_macrolanguage, region_preferred, variant_preferred, tag_preferred}
+use Rattle.langtag_registry.specs.Subtags.{language_preferred, language_suppress_script, language_macrolanguage, extlang_prefixes, region_preferred, variant_preferred, tag_preferred}
 use Rattle.langtag_registry.proofs.Rising.{rises_from}
 
 -- ---- language_preferred
@@ -112,6 +112,41 @@ macro_short = refl
 pub macro_good : list_all is_primary (map (λ e. e.value) language_macrolanguage) ≡ true
 unfolding language_macrolanguage is_primary is_letter
 macro_good = refl
+
+-- ---- extlang_prefixes
+
+pub prefix_keys : table.EXTLANG_PREFIX_KEYS ≡ map (λ e. letter_number e.subtag) extlang_prefixes
+unfolding extlang_prefixes letter_number fold_byte
+prefix_keys = refl
+
+pub prefix_values :
+    map (λ i. get_or (map (λ text. text.now) table.EXTLANG_PREFIX_VALUES) i []) table.EXTLANG_PREFIX_INDICES ≡ map (λ e. e.value) extlang_prefixes
+unfolding extlang_prefixes
+prefix_values = refl
+
+pub prefix_climb : climbs_from 0 table.EXTLANG_PREFIX_KEYS ≡ true
+prefix_climb = refl
+
+pub prefix_rise : rises_from 0 table.EXTLANG_PREFIX_KEYS ≡ true
+prefix_rise = refl
+
+pub prefix_beside : length table.EXTLANG_PREFIX_INDICES ≡ length table.EXTLANG_PREFIX_KEYS
+prefix_beside = refl
+
+pub prefix_inside : list_all (λ i. ltb i (length table.EXTLANG_PREFIX_VALUES)) table.EXTLANG_PREFIX_INDICES ≡ true
+prefix_inside = refl
+
+pub prefix_letters : list_all (λ e. are_letters e.subtag) extlang_prefixes ≡ true
+unfolding extlang_prefixes is_letter
+prefix_letters = refl
+
+pub prefix_short : list_all (λ e. ltb (length e.subtag) 4) extlang_prefixes ≡ true
+unfolding extlang_prefixes
+prefix_short = refl
+
+pub prefix_good : list_all is_primary (map (λ e. e.value) extlang_prefixes) ≡ true
+unfolding extlang_prefixes is_primary is_letter
+prefix_good = refl
 
 -- ---- the few
 

@@ -43,3 +43,7 @@ suppress_script text = value_for list.language_suppress_script text
 -- the Macrolanguage of a language (section 3.1.10)
 unfoldable pub macrolanguage : List ℕ → Option (List ℕ)
 macrolanguage text = value_for list.language_macrolanguage text
+
+-- the Prefix of an extended language, which has one (section 3.1.8)
+unfoldable pub extlang_prefix : List ℕ → Option (List ℕ)
+extlang_prefix text = value_for list.extlang_prefixes text

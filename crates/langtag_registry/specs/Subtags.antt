@@ -84,6 +84,10 @@ language_suppress_script = entries (words (codes "ab Cyrl af Latn am Ethi ar Ara
 unfoldable pub language_macrolanguage : List Entry
 language_macrolanguage = entries (words (codes "bs sh hr sh id ms in ms nb no nn no sr sh tw ak aae sq aao ar aat sq abh ar abv ar acm ar acq ar acw ar acx ar acy ar adf ar aeb ar aec ar afb ar aii syr ajp ar ajt jrb aju jrb aln sq als sq apc ar apd ar arb ar arq ar ars ar ary ar arz ar auz ar avl ar ayc ay ayh ar ayl ar ayn ar ayp ar ayr ay azb az azj az bbz ar bcc bal bcl bik bdt gba bgn bal bgp bal bgq raj bhk bik bhr mg bjn ms bjq mg bln bik bmm mg btj ms bto bik bve ms bvu ms bxk luy bxm bua bxr bua bxu bua bzc mg cdo zh ciw oj cjy zh ckb ku cld syr cmn zh cnp zh cnr sh coa ms cpx zh cqd hmn cqu qu crj cr crk cr crl cr crm cr csp zh csw cr cts bik cwd cr czh zh czo zh dgo doi dhd mwr dib din dik din dip din diq zza diw din dks din dty ne dup ms ebk bnc ekk et emk man enb kln esg gon esi ik esk ik eyo kln fat ak fbl bik ffm ff fub ff fuc ff fue ff fuf ff fuh ff fui ff fuq ff fuv ff gan zh gax om gaz om gbo grb gbp gba gbq gba gda raj gec grb gju raj gkp kpe gmm gba gno gon gnw gn gom kok grj grb grv grb gry grb gso gba gug gn gui gn gun gn gya gba hae om hak zh hax hai hdn hai hea hmn hji ms hma hmn hmc hmn hmd hmn hme hmn hmg hmn hmh hmn hmi hmn hmj hmn hml hmn hmm hmn hmp hmn hmq hmn hms hmn hmw hmn hmy hmn hmz hmn hnd lah hnj hmn hno lah hoj raj hrm hmn hsn zh huj hmn ida luy ike iu ikt iu jak ms jat lah jax ms jye jrb kby kr khk mn kiu zza kmr ku knc kr kng kg knn kok koi kv kpv kv krt kr kvb ms kvr ms kwy kg kxd ms lbk bnc lbl bik lce ms lcf ms ldi kg liw ms lkb luy lko luy lks luy lri luy lrm luy lsm luy ltg lv lto luy lts luy lvs lv lwg luy lzh zh max ms meo ms mfa ms mfb ms mhr chm min ms mku man mlq man mmr hmn mnk man mnp zh mqg ms mrj chm msc man msh mg msi ms mtr mwr mui ms mup raj muq hmn mve mwr mvf mn mwk man mww hmn myq man nan zh nhd gn niq kln nle luy npi ne nyd luy obk bnc ojb oj ojc oj ojg oj ojs oj ojw oj oki kln orc om orn ms ors ms ory or otw oj pbt ps pbu ps pel ms pes fa pga ar phr lah pko kln plt mg pmu lah pnb lah prs fa pse ms pst ps qub qu qud qu quf qu qug qu quh qu quk qu qul qu qup qu qur qu qus qu quw qu qux qu quy qu quz qu qva qu qvc qu qve qu qvh qu qvi qu qvj qu qvl qu qvm qu qvn qu qvo qu qvp qu qvs qu qvw qu qvz qu qwa qu qwc qu qwh qu qws qu qxa qu qxc qu qxh qu qxl qu qxn qu qxo qu qxp qu qxr qu qxt qu qxu qu qxw qu rag luy rbk bnc rbl bik rmc rom rmf rom rml rom rmn rom rmo rom rmw rom rmy rom rwr mwr scs den sdc sc sdh ku sdn sc sfm hmn sgc kln shu ar skg mg skr lah spv or spy kln src sc sro sc ssh ar swc sw swh sw swv mwr taq tmh tdx mg tec kln thv tmh thz tmh tkg mg tmw ms ttq tmh tuy kln txy mg ubl bik umu del unm del urk ms uzn uz uzs uz vbk bnc vkk ms vkt ms vro et wbr raj wry mwr wsg gon wuu zh xhe lah xmm ms xmv mg xmw mg xnr doi xpe kpe xsl den ydd yi yhd jrb yih yi yud jrb yue zh zaa zap zab zap zac zap zad zap zae zap zaf zap zai zap zam zap zao zap zaq zap zar zap zas zap zat zap zav zap zaw zap zax zap zca zap zcd zap zch za zeh za zgb za zgm za zgn za zhd za zhn za zlj za zlm ms zln za zlq za zmi ms zoo zap zpa zap zpb zap zpc zap zpd zap zpe zap zpf zap zpg zap zph zap zpi zap zpj zap zpk zap zpl zap zpm zap zpn zap zpo zap zpp zap zpq zap zpr zap zps zap zpt zap zpu zap zpv zap zpw zap zpx zap zpy zap zpz zap zqe za zsm ms zsr zap zte zap ztg zap ztl zap ztm zap ztn zap ztp zap ztq zap zts zap ztt zap ztu zap ztx zap zty zap zyb za zyg za zyj za zyn za zzj za"))
 
+-- the records of Type extlang with a Prefix field: each Subtag before that value
+unfoldable pub extlang_prefixes : List Entry
+extlang_prefixes = entries (words (codes "aao ar abh ar abv ar acm ar acq ar acw ar acx ar acy ar adf ar ads sgn aeb ar aec ar aed sgn aen sgn afb ar afg sgn ajp ar ajs sgn apc ar apd ar arb ar arq ar ars ar ary ar arz ar ase sgn asf sgn asp sgn asq sgn asw sgn auz ar avl ar ayh ar ayl ar ayn ar ayp ar bbz ar bfi sgn bfk sgn bjn ms bog sgn bqn sgn bqy sgn btj ms bve ms bvl sgn bvu ms bzs sgn cdo zh cds sgn cjy zh cmn zh cnp zh coa ms cpx zh csc sgn csd sgn cse sgn csf sgn csg sgn csl sgn csn sgn csp zh csq sgn csr sgn csx sgn czh zh czo zh doq sgn dse sgn dsl sgn dsz sgn dup ms ecs sgn ehs sgn esl sgn esn sgn eso sgn eth sgn fcs sgn fse sgn fsl sgn fss sgn gan zh gds sgn gom kok gse sgn gsg sgn gsm sgn gss sgn gus sgn hab sgn haf sgn hak zh hds sgn hji ms hks sgn hos sgn hps sgn hsh sgn hsl sgn hsn zh icl sgn iks sgn ils sgn inl sgn ins sgn ise sgn isg sgn isr sgn jak ms jax ms jcs sgn jhs sgn jks sgn jls sgn jos sgn jsl sgn jus sgn kgi sgn knn kok kvb ms kvk sgn kvr ms kxd ms lbs sgn lce ms lcf ms liw ms lls sgn lsb sgn lsc sgn lsg sgn lsl sgn lsn sgn lso sgn lsp sgn lst sgn lsv sgn lsw sgn lsy sgn ltg lv lvs lv lws sgn lzh zh max ms mdl sgn meo ms mfa ms mfb ms mfs sgn min ms mnp zh mqg ms mre sgn msd sgn msi ms msr sgn mui ms mzc sgn mzg sgn mzy sgn nan zh nbs sgn ncs sgn nsi sgn nsl sgn nsp sgn nsr sgn nzs sgn okl sgn orn ms ors ms pel ms pga ar pgz sgn pks sgn prl sgn prz sgn psc sgn psd sgn pse ms psg sgn psl sgn pso sgn psp sgn psr sgn pys sgn rib sgn rms sgn rnb sgn rsi sgn rsl sgn rsm sgn rsn sgn sdl sgn sfb sgn sfs sgn sgg sgn sgx sgn shu ar slf sgn sls sgn sqk sgn sqs sgn sqx sgn ssh ar ssp sgn ssr sgn svk sgn swc sw swh sw swl sgn syy sgn szs sgn tmw ms tse sgn tsm sgn tsq sgn tss sgn tsy sgn tza sgn ugn sgn ugy sgn ukl sgn uks sgn urk ms uzn uz uzs uz vgt sgn vkk ms vkt ms vsi sgn vsl sgn vsv sgn wbs sgn wuu zh xki sgn xml sgn xmm ms xms sgn yds sgn ygs sgn yhs sgn ysl sgn ysm sgn yue zh zib sgn zlm ms zmi ms zsl sgn zsm ms"))
+
 -- the records of Type region with a Preferred-Value field: each Subtag before that value
 unfoldable pub region_preferred : List Entry
 region_preferred = entries (words (codes "BU MM DD DE FX FR TP TL YD YE ZR CD"))

@@ -82,10 +82,7 @@ fn is_canonical_form(tag: LangTag<'_>) -> bool
     let Some(normal) = tag.as_normal() else {
         return true;
     };
-    if tag.is_grandfathered() {
-        return true;
-    }
-    has_canonical_parts(normal)
+    tag.is_grandfathered() || has_canonical_parts(normal)
 }
 
 /// Returns the tag with its parts in their canonical forms.

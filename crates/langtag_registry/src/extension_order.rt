@@ -60,9 +60,10 @@ fn push_extensions(
         → string_bytes text.new ≡ join (before ++ map extension_spelling (filter (λ e. are_alike_bytes singleton e.singleton) es))) }
 {
     for extension in extensions.iter() {
-        if folded_singleton(extension) == into_smallcase(singleton) {
-            push_subtag(text, extension.as_str())?;
+        if folded_singleton(extension) != into_smallcase(singleton) {
+            continue;
         }
+        push_subtag(text, extension.as_str())?;
     }
     Ok(())
 }

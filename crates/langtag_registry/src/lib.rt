@@ -1,10 +1,10 @@
 //! The IANA Language Subtag Registry over language tags: which subtags are registered, what the registry says of them
-//! (RFC 5646 section 3.1), and which tags are valid (section 2.2.9).
+//! (RFC 5646 section 3.1), which tags are valid (section 2.2.9), and the canonical form of a tag (section 4.5).
 //!
 //! ```
 //! use langtag::LangTag;
 //! use langtag_language::PrimaryLanguage;
-//! use langtag_registry::{InvalidSubtag, is_language, preferred_language, validate};
+//! use langtag_registry::{InvalidSubtag, canonical, is_language, preferred_language, validate};
 //!
 //! validate(LangTag::new("de-CH-1996")?)?; // valid
 //! match validate(LangTag::new("qt-FR")?) {
@@ -13,6 +13,7 @@
 //! }
 //! is_language(PrimaryLanguage::new("fr")?);        // true
 //! preferred_language(PrimaryLanguage::new("iw")?); // Some(he)
+//! canonical(alloc, LangTag::new("iw-BU")?)?;       // he-MM
 //! ```
 #![tactic(auto)]
 
@@ -27,6 +28,7 @@ mod language_fields;
 mod language_table;
 mod languages;
 mod preferred;
+mod prefixes;
 mod push_subtag;
 mod subtags;
 mod tables;
@@ -42,6 +44,7 @@ pub use invalid_subtag::InvalidSubtag;
 pub use language_fields::{macrolanguage, preferred_language, suppress_script};
 pub use languages::is_language;
 pub use preferred::{preferred_region, preferred_tag, preferred_variant};
+pub use prefixes::extlang_prefix;
 pub use subtags::{is_extlang, is_region, is_script, is_variant};
 pub use tables::FILE_DATE;
 pub use validity::validate;
