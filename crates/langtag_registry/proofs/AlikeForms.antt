@@ -82,32 +82,33 @@ variants-fold (v ∷ vs) =
     ap (λ z. z ∷ map fold_text (canonical_variants (map fold_text vs))) (replaced-alike preferred_variant variant-alike (fold_text v) v (fold_text-twice v))
     ∙ ap (λ zs. fold_text (replaced preferred_variant v) ∷ zs) (variants-fold vs)
 
-filter-fold :
-    (b : ℕ) (es : List Extension) →
-    map fold_extension (filter (λ e. are_alike_bytes b e.singleton) (map fold_extension es)) ≡ map fold_extension (filter (λ e. are_alike_bytes b e.singleton) es)
-filter-fold b [] = refl
-filter-fold b (e ∷ es) =
-    ap (λ c. map fold_extension (cond (fold_byte b == c) (fold_extension e ∷ filter (λ e. are_alike_bytes b e.singleton) (map fold_extension es)) (filter (λ e. are_alike_bytes b e.singleton) (map fold_extension es)))) (fold_byte-twice e.singleton)
-    ∙ by_test (are_alike_bytes b e.singleton) (filter-fold b es)
+abbrev of_singleton : ℕ → List Extension → List Extension
+of_singleton b es = filter (λ e. are_alike_bytes b e.singleton) es
+
+of_singleton-fold :
+    (b : ℕ) (es : List Extension) → map fold_extension (of_singleton b (map fold_extension es)) ≡ map fold_extension (of_singleton b es)
+of_singleton-fold b [] = refl
+of_singleton-fold b (e ∷ es) =
+    let folded = of_singleton b (map fold_extension es) in
+    ap (λ c. map fold_extension (cond (fold_byte b == c) (fold_extension e ∷ folded) folded)) (fold_byte-twice e.singleton)
+    ∙ by_test (are_alike_bytes b e.singleton) folded (of_singleton b es) (of_singleton-fold b es)
   where
     by_test :
-        (t : Bool) →
-        map fold_extension (filter (λ e. are_alike_bytes b e.singleton) (map fold_extension es)) ≡ map fold_extension (filter (λ e. are_alike_bytes b e.singleton) es) →
-        map fold_extension (cond t (fold_extension e ∷ filter (λ e. are_alike_bytes b e.singleton) (map fold_extension es)) (filter (λ e. are_alike_bytes b e.singleton) (map fold_extension es)))
-        ≡ map fold_extension (cond t (e ∷ filter (λ e. are_alike_bytes b e.singleton) es) (filter (λ e. are_alike_bytes b e.singleton) es))
-    by_test true later = ap (λ z. z ∷ map fold_extension (filter (λ e. are_alike_bytes b e.singleton) (map fold_extension es))) (fold_extension-twice e) ∙ ap (λ zs. fold_extension e ∷ zs) later
-    by_test false later = later
+        (t : Bool) (folded others : List Extension) → map fold_extension folded ≡ map fold_extension others →
+        map fold_extension (cond t (fold_extension e ∷ folded) folded) ≡ map fold_extension (cond t (e ∷ others) others)
+    by_test true folded others later =
+        ap (λ z. z ∷ map fold_extension folded) (fold_extension-twice e) ∙ ap (λ zs. fold_extension e ∷ zs) later
+    by_test false folded others later = later
 
 of_singletons-fold :
     (bs : List ℕ) (es : List Extension) →
-    map fold_extension (flat_map (λ b. filter (λ e. are_alike_bytes b e.singleton) (map fold_extension es)) bs)
-    ≡ map fold_extension (flat_map (λ b. filter (λ e. are_alike_bytes b e.singleton) es) bs)
+    map fold_extension (flat_map (λ b. of_singleton b (map fold_extension es)) bs) ≡ map fold_extension (flat_map (λ b. of_singleton b es) bs)
 of_singletons-fold [] es = refl
 of_singletons-fold (b ∷ bs) es =
-    map-append fold_extension (filter (λ e. are_alike_bytes b e.singleton) (map fold_extension es)) _
-    ∙ ap (λ z. z ++ map fold_extension (flat_map (λ b. filter (λ e. are_alike_bytes b e.singleton) (map fold_extension es)) bs)) (filter-fold b es)
-    ∙ ap (λ z. map fold_extension (filter (λ e. are_alike_bytes b e.singleton) es) ++ z) (of_singletons-fold bs es)
-    ∙ sym (map-append fold_extension (filter (λ e. are_alike_bytes b e.singleton) es) _)
+    map-append fold_extension (of_singleton b (map fold_extension es)) _
+    ∙ ap (λ z. z ++ map fold_extension (flat_map (λ c. of_singleton c (map fold_extension es)) bs)) (of_singleton-fold b es)
+    ∙ ap (λ z. map fold_extension (of_singleton b es) ++ z) (of_singletons-fold bs es)
+    ∙ sym (map-append fold_extension (of_singleton b es) _)
 
 in_order-fold : (es : List Extension) → map fold_extension (in_order (map fold_extension es)) ≡ map fold_extension (in_order es)
 unfolding in_order
@@ -116,9 +117,9 @@ in_order-fold es = of_singletons-fold singletons es
 canonical_record-fold : (r : Record) → AlikeRecords (canonical_record (fold_record r)) (canonical_record r)
 unfolding canonical_record
 canonical_record-fold r =
-    let s = option_map fold_text r.script in
-    let p = option_map fold_private_use r.private_use in
-    simp (primary-fold, extended-fold, region-fold, variants-fold, in_order-fold, option_map-twice fold_text fold_text-twice, option_map-twice fold_private_use fold_private_use-twice)
+    let script = option_map-twice fold_text fold_text-twice in
+    let private_use = option_map-twice fold_private_use fold_private_use-twice in
+    simp (primary-fold, extended-fold, script, region-fold, variants-fold, in_order-fold, private_use)
 
 -- alike records have alike canonical records
 canonical_record-alike : (r q : Record) → AlikeRecords r q → AlikeRecords (canonical_record r) (canonical_record q)
@@ -143,7 +144,7 @@ pub preferred_tag-alike : IgnoresCase preferred_tag
 unfolding preferred_tag
 preferred_tag-alike a b alike = value_for-alike tag_preferred a b alike
 
-grandfathered_alike : (a b : List ℕ) → Alike a b → IsGrandfathered a → IsGrandfathered b
+pub grandfathered_alike : (a b : List ℕ) → Alike a b → IsGrandfathered a → IsGrandfathered b
 unfolding IsGrandfathered IsGrandfatheredAt
 grandfathered_alike a b alike (k, (entry, at, same)) = (k, (entry, at, same ∙ alike))
 

@@ -68,7 +68,7 @@ unfolding IsNormal
 kept_form old new none why same = record {
   whole = λ w is. absurd cc;
   kept = λ _ _. same;
-  parts = λ _ other r spells. elim why [ | inl is ↦ absurd (other is) | inr no_record ↦ absurd (no_record (r, spells)) ];
+  parts = λ _ other r spells. elim why [ inl is ↦ absurd (other is) | inr no_record ↦ absurd (no_record (r, spells)) ];
 }
 
 pub parts_form :
@@ -76,7 +76,7 @@ pub parts_form :
     new ≡ unwrap_or (preferred_tag form) form → IsCanonicalForm old new
 parts_form old form new none normal other each same = record {
   whole = λ w is. absurd cc;
-  kept = λ _ why. elim why [ | inl is ↦ absurd (other is) | inr no_record ↦ absurd (no_record normal) ];
+  kept = λ _ why. elim why [ inl is ↦ absurd (other is) | inr no_record ↦ absurd (no_record normal) ];
   parts = λ _ _ r spells. same ∙ ap (λ t. unwrap_or (preferred_tag t) t) (sym (each r spells).1);
 }
 
@@ -94,7 +94,8 @@ preferred_goes view (Some x) text same some is =
     let none : preferred_tag text ≡ None = ap preferred_tag here ∙ whole_settled text (view x) (sym same) in
     absurd cc
 
-own_record : (text : List ℕ) (r : Record) → Spells r text → text ≡ unwrap_or (preferred_tag (spell (canonical_record r))) (spell (canonical_record r)) → canonical_record r ≡ r
+-- a text that is its own canonical form has a record that stays
+pub own_record : (text : List ℕ) (r : Record) → Spells r text → text ≡ unwrap_or (preferred_tag (spell (canonical_record r))) (spell (canonical_record r)) → canonical_record r ≡ r
 own_record text r spells same = by_option (preferred_tag (spell (canonical_record r))) refl same
   where
     by_option : (o : Option (List ℕ)) → preferred_tag (spell (canonical_record r)) ≡ o → text ≡ unwrap_or o (spell (canonical_record r)) → canonical_record r ≡ r

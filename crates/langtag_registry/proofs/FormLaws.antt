@@ -1,10 +1,12 @@
 -- The laws of canonical forms, for a call that may give one.
-use Rattle.std.proofs.Common.{ℕ, List, Result, Ok, Err, IfOk}
+use Rattle.std.proofs.Common.{◌≡◌, ◌↔◌, true, Bool, sym, ℕ, List, Result, Ok, Err, IfOk}
+use Rattle.langtag_scan.specs.Case.{Alike}
 use Rattle.langtag_registry.specs.Canonical.{IsCanonicalForm}
 use Rattle.langtag_registry.specs.CanonicalLaws.{IsOnlyForm, IsAlikeForm, IsValidForm, HasNoExtlang}
 use Rattle.langtag_registry.proofs.TwiceLaws.{one_form, form_twice}
 use Rattle.langtag_registry.proofs.AlikeForms.{alike_forms}
-use Rattle.langtag_registry.proofs.ValidForms.{valid_form}
+use Rattle.langtag_registry.proofs.CanonicalCase.{canonical_in_any_case}
+use Rattle.langtag_registry.proofs.ValidForms.{valid_form, apart_form}
 use Rattle.langtag_registry.proofs.NoExtlang.{no_extlang_form}
 
 module _ {F E : Type 0} (text : F → List ℕ) (old : List ℕ) (result : Result F E) where
@@ -28,7 +30,14 @@ module _ {F E : Type 0} (text : F → List ℕ) (old : List ℕ) (result : Resul
   alike_form = if_ok (IsAlikeForm old) (λ new is other form alike p. alike_forms old other new form alike is p)
 
   pub form_valid : IsForm → IfOk result (λ form. IsValidForm old (text form))
-  form_valid = if_ok (IsValidForm old) (λ new is valid apart. valid_form old new valid apart is)
+  form_valid = if_ok (IsValidForm old) (λ new is valid. (apart_form old new is, λ apart. valid_form old new valid apart is))
 
   pub form_no_extlang : IsForm → IfOk result (λ form. HasNoExtlang old (text form))
   form_no_extlang = if_ok (HasNoExtlang old) (λ new is valid other. no_extlang_form old new valid other is)
+
+-- what says whether a text is its own canonical form says so of each that is alike
+pub in_any_case :
+    (text : List ℕ) (canonical : Bool) → (canonical ≡ true) ↔ IsCanonicalForm text text → (other : List ℕ) → Alike text other →
+    (canonical ≡ true) ↔ IsCanonicalForm other other
+in_any_case text canonical decides other alike =
+    (λ yes. canonical_in_any_case text other alike (decides.0 yes), λ is. decides.1 (canonical_in_any_case other text (sym alike) is))

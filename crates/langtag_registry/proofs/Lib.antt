@@ -17,8 +17,10 @@ pub mod WellFormedForms
 pub mod TwiceLaws
 pub mod AlikeForms
 pub mod SingletonsOnce
+pub mod FewVariants
 pub mod ValidForms
 pub mod NoExtlang
+pub mod CanonicalCase
 pub mod FormLaws
 pub mod PreferredValues
 pub mod Pushed

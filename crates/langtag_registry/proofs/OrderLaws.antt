@@ -45,7 +45,7 @@ module _ {A : Type 0} (key : A → ℕ) where
       by_test true is later = rw (ne_eqb k (key x) (λ same. apart (same ∙ sym (eqb-true j (key x) is)))) later
       by_test false is later = later
 
-  -- a key that is above each of those before a list that climbs is not one of it
+  -- each key of a list that climbs is above what it climbs from
   below_climb : (low k : ℕ) (keys : List ℕ) → climbs_from low keys ≡ true → list_any (λ j. j == k) keys ≡ true → low < k
   below_climb low k [] climbs among = absurd cc
   below_climb low k (j ∷ keys) climbs among =
@@ -56,6 +56,7 @@ module _ {A : Type 0} (key : A → ℕ) where
         | inr other ↦ let later = below_climb j k keys parts.1 (rw other.0 at among) in omega (arith, above, later)
       ]
 
+  -- none of a key that is not above that
   gather-none : (low k : ℕ) (keys : List ℕ) (xs : List A) → climbs_from low keys ≡ true → k ≤ low → filter (has k) (gather keys xs) ≡ []
   gather-none low k [] xs climbs le = refl
   gather-none low k (j ∷ keys) xs climbs le =
@@ -93,6 +94,7 @@ module _ {A : Type 0} (key : A → ℕ) where
       ∙ ap (λ ys. ys ++ filter (has k) (gather keys xs)) (filter-other j k (λ same. both_ways (j == k) parts.0 (eq-eqb j k (sym same))) xs)
       ∙ gather-absent k keys xs parts.1
 
+  -- gathered by keys that are asked for, what was gathered is what the list gives
   gather-twice_of :
       (low : ℕ) (keys js : List ℕ) (xs : List A) → climbs_from low keys ≡ true → list_all (λ k. list_any (λ j. j == k) keys) js ≡ true →
       gather js (gather keys xs) ≡ gather js xs
@@ -125,7 +127,7 @@ module _ {A : Type 0} (key : A → ℕ) where
       by_test true is = gather-keeps low k keys xs climbs is
       by_test false is = gather-absent k keys xs is ∙ sym (filter-absent k keys xs is among)
 
-  -- a first one of a key below those that are asked for goes unseen
+  -- one of a key below those that are asked for goes unseen
   gather-below : (low : ℕ) (keys : List ℕ) (x : A) (xs : List A) → climbs_from low keys ≡ true → key x ≤ low → gather keys (x ∷ xs) ≡ gather keys xs
   gather-below low [] x xs climbs le = refl
   gather-below low (j ∷ keys) x xs climbs le =
@@ -134,6 +136,7 @@ module _ {A : Type 0} (key : A → ℕ) where
       rw (ne_eqb j (key x) (λ same. absurd (omega (arith, same, above, le))))
       (ap (λ ys. filter (has j) xs ++ ys) (gather-below j keys x xs parts.1 (omega (arith, above, le))))
 
+  -- a list whose keys rise from a number has none of a key below it
   rises_above : (low k : ℕ) (xs : List A) → rises_from low (map key xs) ≡ true → k < low → filter (has k) xs ≡ []
   rises_above low k [] rises lt = refl
   rises_above low k (x ∷ xs) rises lt =
@@ -141,6 +144,7 @@ module _ {A : Type 0} (key : A → ℕ) where
       let le = leb-true low (key x) parts.0 in
       rw (ne_eqb k (key x) (λ same. absurd (omega (arith, same, le, lt)))) (rises_above (key x) k xs parts.1 (omega (arith, le, lt)))
 
+  -- the first of a list whose keys rise comes first
   gather-first :
       (low : ℕ) (keys : List ℕ) (x : A) (xs : List A) → climbs_from low keys ≡ true → IsAmong keys x → rises_from (key x) (map key xs) ≡ true →
       gather keys (x ∷ xs) ≡ x ∷ gather keys xs

@@ -72,6 +72,10 @@ value_for-alike (e ∷ list) a b same =
     ap (λ t. cond (bytes_eq (fold_text e.subtag) t) (Some e.value) (value_for list a)) same
     ∙ ap (cond (are_alike e.subtag b) (Some e.value)) (value_for-alike list a b same)
 
+-- no value has one itself, where a test says so
+values_settled : (list : List Entry) → list_all (λ n. not (is_some (value_for list n))) (map (λ e. e.value) list) ≡ true → IsSettled (value_for list)
+values_settled list none s new is = none_from_test (value_for list new) (value_good (λ n. not (is_some (value_for list n))) list s new none is)
+
 new_languages_stay : list_all (λ n. not (is_some (preferred_language n))) (map (λ e. e.value) language_preferred) ≡ true
 unfolding language_preferred preferred_language fold_byte
 new_languages_stay = refl
@@ -92,7 +96,7 @@ new_variants_stay = refl
 
 pub language_settled : IsSettled preferred_language
 unfolding preferred_language
-language_settled s new is = none_from_test (value_for language_preferred new) (value_good (λ n. not (is_some (value_for language_preferred n))) language_preferred s new new_languages_stay is)
+language_settled = values_settled language_preferred new_languages_stay
 
 pub language-alike : IgnoresCase preferred_language
 unfolding preferred_language
@@ -110,7 +114,7 @@ new_language_short s new is = leb-true (length new) 3 (value_good (λ n. leb (le
 
 pub region_settled : IsSettled preferred_region
 unfolding preferred_region
-region_settled s new is = none_from_test (value_for region_preferred new) (value_good (λ n. not (is_some (value_for region_preferred n))) region_preferred s new new_regions_stay is)
+region_settled = values_settled region_preferred new_regions_stay
 
 pub region-alike : IgnoresCase preferred_region
 unfolding preferred_region
@@ -122,7 +126,7 @@ new_region_region s new is = value_good is_region region_preferred s new regions
 
 pub variant_settled : IsSettled preferred_variant
 unfolding preferred_variant
-variant_settled s new is = none_from_test (value_for variant_preferred new) (value_good (λ n. not (is_some (value_for variant_preferred n))) variant_preferred s new new_variants_stay is)
+variant_settled = values_settled variant_preferred new_variants_stay
 
 pub variant-alike : IgnoresCase preferred_variant
 unfolding preferred_variant
@@ -150,7 +154,9 @@ found_good p is_good (y ∷ list) x all found =
     let k = and_parts (is_good y) (list_all is_good list) all in
     by_test (p y) (find p list) found k.0 (found_good p is_good list x k.1)
   where
-    by_test : (b : Bool) (later : Option (List ℕ)) → cond b (Some y) later ≡ Some x → is_good y ≡ true → (later ≡ Some x → is_good x ≡ true) → is_good x ≡ true
+    by_test :
+        (b : Bool) (later : Option (List ℕ)) → cond b (Some y) later ≡ Some x → is_good y ≡ true →
+        (later ≡ Some x → is_good x ≡ true) → is_good x ≡ true
     by_test true later is first other = let same : y ≡ x = cc in rw (← same) first
     by_test false later is first other = other is
 
@@ -164,7 +170,9 @@ is_some-find p (y ∷ list) = by_test (p y) (is_some-find p list)
 
 -- an extended language is registered and becomes a language, or it is not and stays
 pub extlang_cases :
-    (s : List ℕ) → ((new : List ℕ) × (preferred_extlang s ≡ Some new) × (is_registered_extlang s ≡ true)) ⊎ ((preferred_extlang s ≡ None) × (is_registered_extlang s ≡ false))
+    (s : List ℕ) →
+    ((new : List ℕ) × (preferred_extlang s ≡ Some new) × (is_registered_extlang s ≡ true))
+    ⊎ ((preferred_extlang s ≡ None) × (is_registered_extlang s ≡ false))
 unfolding preferred_extlang is_registered_extlang
 extlang_cases s = by_option (find (are_alike s) extlang_subtags) refl (is_some-find (are_alike s) extlang_subtags)
   where

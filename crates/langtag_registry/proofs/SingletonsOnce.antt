@@ -107,7 +107,7 @@ in_order-once es well none =
     let once = once_from_none [] (singletons_of es) (λ b. omega arith) (sym (repeat-after are_alike_bytes (singletons_of es)) ∙ none) in
     repeat-after are_alike_bytes (singletons_of (in_order es))
     ∙ none_from_once [] (singletons_of (in_order es)) (λ b.
-        let same : times b (singletons_of (in_order es)) ≡ times b (singletons_of es) =
-        times-singletons b (in_order es) ∙ ap length (in_order-same es well b) ∙ sym (times-singletons b es) in
-        let before = once b in
-        omega (arith, same, before))
+    let same : times b (singletons_of (in_order es)) ≡ times b (singletons_of es) =
+    times-singletons b (in_order es) ∙ ap length (in_order-same es well b) ∙ sym (times-singletons b es) in
+    let before = once b in
+    omega (arith, same, before))

@@ -4,7 +4,7 @@ use Rattle.std.specs.List.{list_all, position}
 use Rattle.std.specs.Option.{option_map_or}
 use Rattle.std.proofs.lemmas.Bool.{and_parts, both_ways}
 use Rattle.langtag_scan.specs.Case.{fold_byte, are_alike}
-use Rattle.langtag_scan.specs.Record.{Record, Spells, spell}
+use Rattle.langtag_scan.specs.Record.{Extension, Record, Spells, spell}
 use Rattle.langtag_scan.specs.Tag.{IsNormal}
 use Rattle.langtag_scan.proofs.NormalTexts.{normal_from_runs, runs_from_normal, spelled_once}
 use Rattle.langtag.specs.Registered.{IsGrandfathered, text_of}
@@ -40,7 +40,14 @@ region_twice (Some g) = ap Some (replaced-twice preferred_region region_settled 
 
 variants_twice : (vs : List (List ℕ)) → canonical_variants (canonical_variants vs) ≡ canonical_variants vs
 variants_twice [] = refl
-variants_twice (v ∷ vs) = ap (λ z. z ∷ canonical_variants (canonical_variants vs)) (replaced-twice preferred_variant variant_settled v) ∙ ap (λ zs. replaced preferred_variant v ∷ zs) (variants_twice vs)
+variants_twice (v ∷ vs) =
+    ap (λ z. z ∷ canonical_variants (canonical_variants vs)) (replaced-twice preferred_variant variant_settled v)
+    ∙ ap (λ zs. replaced preferred_variant v ∷ zs) (variants_twice vs)
+
+-- a record with other members than its script and private use
+abbrev with_members : Record → List ℕ → List (List ℕ) → Option (List ℕ) → List (List ℕ) → List Extension → Record
+with_members r primary extended region variants extensions =
+    record r { primary = primary; extended = extended; region = region; variants = variants; extensions = extensions }
 
 pub canonical_record-twice : (r : Record) → canonical_record (canonical_record r) ≡ canonical_record r
 unfolding canonical_record
@@ -51,11 +58,11 @@ canonical_record-twice r =
     let g = canonical_region r.region in
     let vs = canonical_variants r.variants in
     let xs = in_order r.extensions in
-    ap (λ z. record r { primary = z; extended = canonical_extended es; region = canonical_region g; variants = canonical_variants vs; extensions = in_order xs }) twice.first
-    ∙ ap (λ z. record r { primary = p; extended = z; region = canonical_region g; variants = canonical_variants vs; extensions = in_order xs }) twice.others
-    ∙ ap (λ z. record r { primary = p; extended = es; region = z; variants = canonical_variants vs; extensions = in_order xs }) (region_twice r.region)
-    ∙ ap (λ z. record r { primary = p; extended = es; region = g; variants = z; extensions = in_order xs }) (variants_twice r.variants)
-    ∙ ap (λ z. record r { primary = p; extended = es; region = g; variants = vs; extensions = z }) (in_order-twice r.extensions)
+    ap (λ z. with_members r z (canonical_extended es) (canonical_region g) (canonical_variants vs) (in_order xs)) twice.first
+    ∙ ap (λ z. with_members r p z (canonical_region g) (canonical_variants vs) (in_order xs)) twice.others
+    ∙ ap (λ z. with_members r p es z (canonical_variants vs) (in_order xs)) (region_twice r.region)
+    ∙ ap (λ z. with_members r p es g z (in_order xs)) (variants_twice r.variants)
+    ∙ ap (with_members r p es g vs) (in_order-twice r.extensions)
 
 -- ---- the Preferred-Value of a whole tag stays: by computation
 
@@ -85,13 +92,16 @@ record_stays :
     canonical_variants r.variants ≡ r.variants → canonical_record r ≡ r
 unfolding canonical_record
 record_stays r alone none language region variants =
-    ap (λ es. record r { primary = canonical_primary r.primary es; extended = canonical_extended es; region = canonical_region r.region; variants = canonical_variants r.variants; extensions = in_order r.extensions }) alone
-    ∙ ap (λ o. record r { primary = unwrap_or o r.primary; extended = []; region = canonical_region r.region; variants = canonical_variants r.variants; extensions = in_order r.extensions }) language
-    ∙ ap (λ g. record r { extended = []; region = g; variants = canonical_variants r.variants; extensions = in_order r.extensions }) region
-    ∙ ap (λ vs. record r { extended = []; variants = vs; extensions = in_order r.extensions }) variants
-    ∙ ap (λ xs. record r { extended = []; extensions = in_order xs }) none
-    ∙ ap (λ xs. record r { extended = []; extensions = xs }) (in_order-risen [] tt refl ∙ sym none)
-    ∙ ap (λ es. record r { extended = es }) (sym alone)
+    let g = canonical_region r.region in
+    let vs = canonical_variants r.variants in
+    let xs = in_order r.extensions in
+    ap (λ es. with_members r (canonical_primary r.primary es) (canonical_extended es) g vs xs) alone
+    ∙ ap (λ o. with_members r (unwrap_or o r.primary) [] g vs xs) language
+    ∙ ap (λ z. with_members r r.primary [] z vs xs) region
+    ∙ ap (λ z. with_members r r.primary [] r.region z xs) variants
+    ∙ ap (λ z. with_members r r.primary [] r.region r.variants (in_order z)) none
+    ∙ ap (with_members r r.primary [] r.region r.variants) (in_order-risen [] tt refl ∙ sym none)
+    ∙ ap (λ es. with_members r r.primary es r.region r.variants r.extensions) (sym alone)
 
 -- ---- a text that is its own canonical form
 
@@ -179,7 +189,9 @@ one_form old new other p q = by_way (way_of old)
 pub form_twice : (old new : List ℕ) → IsCanonicalForm old new → IsCanonicalForm new new
 form_twice old new p = by_way (way_of old)
   where
-    by_text : (r : Record) → Spells r old → (o : Option (List ℕ)) → preferred_tag (spell (canonical_record r)) ≡ o → new ≡ unwrap_or o (spell (canonical_record r)) → IsCanonicalForm new new
+    by_text :
+        (r : Record) → Spells r old → (o : Option (List ℕ)) → preferred_tag (spell (canonical_record r)) ≡ o →
+        new ≡ unwrap_or o (spell (canonical_record r)) → IsCanonicalForm new new
     by_text r spells None none is =
         subst (λ z. IsCanonicalForm z z) (sym is)
         (itself (spell (canonical_record r)) (canonical_record r) none (canonical_record_well_formed r spells.0, refl) (canonical_record-twice r))

@@ -1,5 +1,5 @@
--- The canonical form of a valid tag is valid, where no two variants become the same.
-use Rattle.std.proofs.Common.{◌≡◌, ℕ, ◌-◌, ◌/◌, ◌%◌, ◌≤◌, ◌==◌, true, Bool, ◌&&◌, leb, ltb, List, [], ◌∷◌, length, get_or, map, Option, None, Some, is_none, unwrap_or, IsTrue, inl, inr, refl, sym, subst, ◌∙◌, arith}
+-- The canonical form of a valid tag is valid where no two variants become the same, and only there.
+use Rattle.std.proofs.Common.{◌≡◌, ℕ, ◌-◌, ◌/◌, ◌%◌, ◌≤◌, ◌==◌, true, Bool, ◌&&◌, leb, ltb, List, [], ◌∷◌, length, get_or, map, Option, None, Some, is_none, unwrap_or, IsTrue, inl, inr, refl, sym, ap, subst, ◌∙◌, arith}
 use Prim.Native.Nat.{◌^◌}
 use Rattle.std.specs.List.{list_all, AllByRecursion}
 use Rattle.std.specs.Option.{option_map_or}
@@ -18,10 +18,11 @@ use Rattle.langtag_registry.specs.Numbers.{letter_number}
 use Rattle.langtag_registry.specs.Registered.{is_registered_language, is_registered_extlang, is_registered_script, is_registered_region, is_registered_variant}
 use Rattle.langtag_registry.specs.Subtags.{language_preferred, region_preferred, variant_preferred, tag_preferred, extlang_subtags, script_subtags, region_subtags, variant_subtags}
 use Rattle.langtag_registry.specs.Valid.{IsValidRecord, IsValid}
+use Rattle.langtag_registry.proofs.FewVariants.{preferred_apart, grandfathered_apart}
 use Rattle.langtag_registry.proofs.LanguageTable.{language_bit-at, language-from_bit}
 use Rattle.langtag_registry.proofs.ReplacedSubtags.{replaced, replaced-holds, if_some-map, each-map, extlang_cases, found_good}
 use Rattle.langtag_registry.proofs.SingletonsOnce.{in_order-once}
-use Rattle.langtag_registry.proofs.TwiceLaws.{Way, as_whole, as_it_is, by_parts, way_of}
+use Rattle.langtag_registry.proofs.TwiceLaws.{canonical_record-twice, Way, as_whole, as_it_is, by_parts, way_of}
 use Rattle.langtag_registry.proofs.Values.{value_good}
 use Rattle.langtag_registry.proofs.WellFormedForms.{canonical_record_well_formed}
 use Rattle.langtag_registry.proofs.WholeTags.{record_of, simple_record, preferred_spelled, if_some_from_test}
@@ -101,7 +102,9 @@ no_extended [] known one = refl
 no_extended (e ∷ []) known one = rw known.0 refl
 no_extended (e ∷ f ∷ es) known one = absurd (omega (arith, one))
 
-canonical_record_valid : (r : Record) → IsWellFormed r → IsValidRecord r → repeat are_alike (canonical_variants r.variants) ≡ None → IsValidRecord (canonical_record r)
+canonical_record_valid :
+    (r : Record) → IsWellFormed r → IsValidRecord r → repeat are_alike (canonical_variants r.variants) ≡ None →
+    IsValidRecord (canonical_record r)
 unfolding canonical_record
 canonical_record_valid r well valid once =
     let none = no_extended r.extended valid.extended valid.one_extended in
@@ -182,8 +185,9 @@ valid_form old new valid once p = by_way (way_of old)
         (r : Record) → Spells r old → IsValidRecord r → (o : Option (List ℕ)) → preferred_tag (spell (canonical_record r)) ≡ o →
         new ≡ unwrap_or o (spell (canonical_record r)) → IsValid new
     by_text r spells is None none same =
-        subst IsValid (sym same)
-        (valid_spelled (spell (canonical_record r)) (canonical_record r) (canonical_record_well_formed r spells.0, refl) (canonical_record_valid r spells.0 is (once r spells)))
+        let q = canonical_record r in
+        let well = canonical_record_well_formed r spells.0 in
+        subst IsValid (sym same) (valid_spelled (spell q) q (well, refl) (canonical_record_valid r spells.0 is (once r spells)))
     by_text r spells is (Some w) found same = subst IsValid (sym same) (preferred_valid (spell (canonical_record r)) w found)
 
     by_way : Way old → IsValid new
@@ -194,3 +198,38 @@ valid_form old new valid once p = by_way (way_of old)
           | inl old_one ↦ absurd (new_one old_one)
           | inr each ↦ by_text r spells (each r spells) (preferred_tag (spell (canonical_record r))) refl (p.parts none new_one r spells)
         ]
+
+-- ---- only where no two variants become the same
+
+-- the variants of the canonical record stay
+same_variants :
+    (r : Record) → repeat are_alike (canonical_variants (canonical_record r).variants) ≡ None →
+    repeat are_alike (canonical_variants r.variants) ≡ None
+unfolding canonical_record
+same_variants r none = ap (λ z. repeat are_alike z.variants) (sym (canonical_record-twice r)) ∙ none
+
+apart_where_valid : (r : Record) (text : List ℕ) → Spells (canonical_record r) text → IsValid text → repeat are_alike (canonical_variants r.variants) ≡ None
+unfolding IsValid canonical_record
+apart_where_valid r text spells valid =
+    elim valid.1 [
+      | inl old ↦ same_variants r (grandfathered_apart text old (canonical_record r) spells)
+      | inr each ↦ (each (canonical_record r) spells).no_repeated_variant
+    ]
+
+pub apart_form :
+    (old new : List ℕ) → IsCanonicalForm old new → IsValid new → EachRecord old (λ r. repeat are_alike (canonical_variants r.variants) ≡ None)
+unfolding IsNormal
+apart_form old new p valid r spells = by_way (way_of old)
+  where
+    by_text :
+        (o : Option (List ℕ)) → preferred_tag (spell (canonical_record r)) ≡ o → new ≡ unwrap_or o (spell (canonical_record r)) →
+        repeat are_alike (canonical_variants r.variants) ≡ None
+    by_text None none same = apart_where_valid r new (canonical_record_well_formed r spells.0, sym same) valid
+    by_text (Some w) found same =
+        same_variants r (preferred_apart (spell (canonical_record r)) w found (canonical_record r) (canonical_record_well_formed r spells.0, refl))
+
+    by_way : Way old → repeat are_alike (canonical_variants r.variants) ≡ None
+    by_way (as_whole w is) = preferred_apart old w is r spells
+    by_way (as_it_is none (inl old_one)) = grandfathered_apart old old_one r spells
+    by_way (as_it_is none (inr no_normal)) = absurd (no_normal (r, spells))
+    by_way (by_parts none new_one q other) = by_text (preferred_tag (spell (canonical_record r))) refl (p.parts none new_one r spells)

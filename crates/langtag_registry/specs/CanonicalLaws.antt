@@ -1,5 +1,5 @@
 -- What is true of the canonical form of a text, beside its definition (RFC 5646 section 4.5).
-use Rattle.std.specs.Prelude.{◌≡◌, ℕ, List, [], None, codes}
+use Rattle.std.specs.Prelude.{◌≡◌, ◌↔◌, ℕ, List, [], None, codes}
 use Rattle.langtag_scan.specs.Case.{Alike, are_alike}
 use Rattle.langtag_scan.specs.Record.{EachRecord}
 use Rattle.langtag.specs.Repeat.{repeat}
@@ -18,9 +18,9 @@ IsAlikeForm old new = (other form : List ℕ) → Alike old other → IsCanonica
 abbrev pub StayApart : List ℕ → Type 0
 StayApart text = EachRecord text (λ r. repeat are_alike (canonical_variants r.variants) ≡ None)
 
--- from a valid tag whose variants stay apart, a valid one
+-- from a valid tag, a valid one, unless two variants become the same
 abbrev pub IsValidForm : List ℕ → List ℕ → Type 0
-IsValidForm old new = IsValid old → StayApart old → IsValid new
+IsValidForm old new = IsValid old → IsValid new ↔ StayApart old
 
 -- from a valid tag, one without an extended language (section 4.5), unless it is the grandfathered `zh-min`
 abbrev pub HasNoExtlang : List ℕ → List ℕ → Type 0

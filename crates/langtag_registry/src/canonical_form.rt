@@ -1,6 +1,7 @@
 //! The canonical form of a tag (RFC 5646 section 4.5).
 ghost use Rattle.std.specs.Prelude.{◌≡◌, ◌↔◌, ℕ, List, true, IfOk, OnOk};
 ghost use Rattle.std.specs.Option.{option_map};
+ghost use Rattle.langtag_scan.specs.Case.{Alike};
 ghost use Rattle.langtag_scan.specs.Parts.{variants_part, extensions_part, language_part};
 ghost use Rattle.langtag_scan.specs.Record.{EachRecord, Spells};
 ghost use Rattle.langtag_language.specs.Text.{language_text};
@@ -43,17 +44,12 @@ pub fn canonical(alloc: Global, tag: LangTag<'_>) -> Result<LangTagBuf, AllocErr
 }
 
 /// Returns whether a tag is its own canonical form (RFC 5646 section 4.5), to the letter: true of `he`, `zh-min` and
-/// `x-iw`, false of `iw` and of `en-b-ccc-a-aaa`. No memory is taken.
+/// `x-iw`, false of `iw` and of `en-b-ccc-a-aaa`. The case of letters changes nothing: true of `HE`. No memory is taken.
 pub fn is_canonical(tag: LangTag<'_>) -> bool
-    ensures { (result ≡ true) ↔ IsCanonicalForm (lang_tag_text tag.entry) (lang_tag_text tag.entry) }
+    ensures canonical { (result ≡ true) ↔ IsCanonicalForm (lang_tag_text tag.entry) (lang_tag_text tag.entry) }
+    ensures any_case { (other : List ℕ) → Alike (lang_tag_text tag.entry) other → (result ≡ true) ↔ IsCanonicalForm other other }
 {
-    if preferred_tag(tag).is_some() {
-        return false;
-    }
-    let Some(normal) = tag.as_normal() else {
-        return true;
-    };
-    tag.is_grandfathered() || has_canonical_parts(normal)
+    is_canonical_form(tag)
 }
 
 /// Returns the canonical form of a tag.
@@ -74,6 +70,19 @@ fn canonical_form(alloc: Global, tag: LangTag<'_>) -> Result<LangTagBuf, AllocEr
         Some(preferred) => preferred.try_to_owned(alloc),
         None => Ok(form),
     }
+}
+
+/// Returns whether a tag is its own canonical form.
+fn is_canonical_form(tag: LangTag<'_>) -> bool
+    ensures { (result ≡ true) ↔ IsCanonicalForm (lang_tag_text tag.entry) (lang_tag_text tag.entry) }
+{
+    if preferred_tag(tag).is_some() {
+        return false;
+    }
+    let Some(normal) = tag.as_normal() else {
+        return true;
+    };
+    tag.is_grandfathered() || has_canonical_parts(normal)
 }
 
 /// Returns the tag with its parts in their canonical forms.

@@ -1,0 +1,117 @@
+-- The case of letters changes nothing in whether a tag is its own canonical form.
+use Rattle.std.proofs.Common.{◌≡◌, ℕ, List, [], ◌∷◌, map, Option, None, Some, option_map, unwrap_or, inl, inr, refl, sym, ap, ◌∙◌}
+use Rattle.std.specs.List.{AllByRecursion}
+use Rattle.langtag_scan.specs.AlikeRecords.{fold_extension, AlikeRecords}
+use Rattle.langtag_scan.specs.Case.{fold_byte, fold_text, Alike}
+use Rattle.langtag_scan.specs.Record.{Extension, Record, IsWellFormed, IsWellFormedExtension}
+use Rattle.langtag_scan.proofs.CaseLaw.{alike_parts}
+use Rattle.langtag_registry.specs.Canonical.{canonical_primary, canonical_extended, canonical_region, canonical_variants, in_order, canonical_record, IsCanonicalForm}
+use Rattle.langtag_registry.specs.Fields.{preferred_language, preferred_region, preferred_variant, preferred_tag}
+use Rattle.langtag_registry.proofs.AlikeForms.{preferred_tag-alike, grandfathered_alike}
+use Rattle.langtag_registry.proofs.OrderLaws.{keys_of, in_order-risen, rises_from_in_order}
+use Rattle.langtag_registry.proofs.CanonicalParts.{record_stays, parts_stay, own_record, kept_form}
+use Rattle.langtag_registry.proofs.ReplacedSubtags.{replaced, IsSettled, IgnoresCase, language_settled, language-alike, region_settled, region-alike, variant_settled, variant-alike, extlang_cases, extlang-alike, registered_extlang-alike}
+use Rattle.langtag_registry.proofs.Rising.{rises_from}
+use Rattle.langtag_registry.proofs.TwiceLaws.{itself, whole_settled, Way, as_whole, as_it_is, by_parts, way_of}
+
+-- ---- a subtag that stays, and one that is alike
+
+module _ (preferred : List ℕ → Option (List ℕ)) (settled : IsSettled preferred) (ignores : IgnoresCase preferred) where
+  -- it has no Preferred-Value
+  none_of_staying : (s : List ℕ) → replaced preferred s ≡ s → preferred s ≡ None
+  none_of_staying s stays = by_option (preferred s) refl stays
+    where
+      by_option : (o : Option (List ℕ)) → preferred s ≡ o → unwrap_or o s ≡ s → preferred s ≡ None
+      by_option None none same = none
+      by_option (Some new) is same = ap preferred (sym same) ∙ settled s new is
+
+  alike_stays : (s t : List ℕ) → Alike s t → replaced preferred s ≡ s → replaced preferred t ≡ t
+  alike_stays s t alike stays = ap (λ o. unwrap_or o t) (sym (ignores s t alike) ∙ none_of_staying s stays)
+
+-- ---- each part
+
+abbrev StaysLanguage : List ℕ → List (List ℕ) → Type 0
+StaysLanguage primary extended = (canonical_primary primary extended ≡ primary) × (canonical_extended extended ≡ extended)
+
+language_stays :
+    (p q : List ℕ) (es fs : List (List ℕ)) → Alike p q → map fold_text es ≡ map fold_text fs → StaysLanguage p es → StaysLanguage q fs
+language_stays p q [] [] alike same stays = (alike_stays preferred_language language_settled language-alike p q alike stays.0, refl)
+language_stays p q [] (f ∷ fs) alike same stays = absurd cc
+language_stays p q (e ∷ es) [] alike same stays = absurd cc
+language_stays p q (e ∷ []) (f ∷ []) alike same stays =
+    let one : Alike e f = cc in
+    elim (extlang_cases e) [
+      | inl (new, found, known) ↦ let gone = rw known at stays.1 in absurd cc
+      | inr (none, other) ↦
+          let first = rw none at stays.0 in
+          let no_value = sym (extlang-alike e f one) ∙ none in
+          let unknown = sym (registered_extlang-alike e f one) ∙ other in
+          (rw no_value (alike_stays preferred_language language_settled language-alike p q alike first), rw unknown refl)
+    ]
+language_stays p q (e ∷ []) (f ∷ g ∷ fs) alike same stays = absurd cc
+language_stays p q (e ∷ d ∷ es) (f ∷ []) alike same stays = absurd cc
+language_stays p q (e ∷ d ∷ es) (f ∷ g ∷ fs) alike same stays = (refl, refl)
+
+region_stays : (o u : Option (List ℕ)) → option_map fold_text o ≡ option_map fold_text u → canonical_region o ≡ o → canonical_region u ≡ u
+region_stays None None same stays = refl
+region_stays None (Some h) same stays = absurd cc
+region_stays (Some g) None same stays = absurd cc
+region_stays (Some g) (Some h) same stays =
+    let alike : Alike g h = cc in
+    let first : replaced preferred_region g ≡ g = cc in
+    ap Some (alike_stays preferred_region region_settled region-alike g h alike first)
+
+variants_stay : (vs ws : List (List ℕ)) → map fold_text vs ≡ map fold_text ws → canonical_variants vs ≡ vs → canonical_variants ws ≡ ws
+variants_stay [] [] same stays = refl
+variants_stay [] (w ∷ ws) same stays = absurd cc
+variants_stay (v ∷ vs) [] same stays = absurd cc
+variants_stay (v ∷ vs) (w ∷ ws) same stays =
+    let alike : Alike v w = cc in
+    let rest : map fold_text vs ≡ map fold_text ws = cc in
+    let first : replaced preferred_variant v ≡ v = cc in
+    let others : canonical_variants vs ≡ vs = cc in
+    ap (λ z. z ∷ canonical_variants ws) (alike_stays preferred_variant variant_settled variant-alike v w alike first)
+    ∙ ap (λ zs. w ∷ zs) (variants_stay vs ws rest others)
+
+keys_folded : (es : List Extension) → map (λ e. e.singleton) (map fold_extension es) ≡ keys_of es
+keys_folded [] = refl
+keys_folded (e ∷ es) = ap (λ ns. fold_byte e.singleton ∷ ns) (keys_folded es)
+
+order_stays :
+    (es fs : List Extension) → AllByRecursion IsWellFormedExtension fs → map fold_extension es ≡ map fold_extension fs → in_order es ≡ es → in_order fs ≡ fs
+order_stays es fs well same stays =
+    let keys : keys_of fs ≡ keys_of es = sym (keys_folded fs) ∙ ap (map (λ e. e.singleton)) (sym same) ∙ keys_folded es in
+    in_order-risen fs well (ap (rises_from 0) keys ∙ rises_from_in_order es stays)
+
+-- ---- the record
+
+alike_record_stays : (r q : Record) → IsWellFormed q → AlikeRecords r q → canonical_record r ≡ r → canonical_record q ≡ q
+alike_record_stays r q well alike stays =
+    let stay = parts_stay r stays in
+    record_stays q
+    record {
+      language = language_stays r.primary q.primary r.extended q.extended (ap (λ z. z.primary) alike) (ap (λ z. z.extended) alike) stay.language;
+      region = region_stays r.region q.region (ap (λ z. z.region) alike) stay.region;
+      variants = variants_stay r.variants q.variants (ap (λ z. z.variants) alike) stay.variants;
+      extensions = order_stays r.extensions q.extensions well.extensions (ap (λ z. z.extensions) alike) stay.extensions;
+    }
+
+-- ---- the text
+
+pub canonical_in_any_case : (text other : List ℕ) → Alike text other → IsCanonicalForm text text → IsCanonicalForm other other
+canonical_in_any_case text other alike p = by_way (way_of other)
+  where
+    same : preferred_tag text ≡ preferred_tag other
+    same = preferred_tag-alike text other alike
+
+    by_way : Way other → IsCanonicalForm other other
+    by_way (as_whole w is) =
+        let found : preferred_tag text ≡ Some w = same ∙ is in
+        let none : preferred_tag text ≡ None = ap preferred_tag (p.whole w found) ∙ whole_settled text w found in
+        absurd cc
+    by_way (as_it_is none why) = kept_form other other none why refl
+    by_way (by_parts none new q spells) =
+        let like = alike_parts other text (sym alike) q spells in
+        let r = like.0 in
+        let own = p.parts (same ∙ none) (λ old. new (grandfathered_alike text other alike old)) r like.1 in
+        itself other q none spells (alike_record_stays r q spells.0 (sym like.2) (own_record text r like.1 own))

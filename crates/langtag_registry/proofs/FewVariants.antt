@@ -1,0 +1,115 @@
+-- A tag that is registered as a whole has at most one variant.
+use Rattle.std.proofs.Common.{◌≡◌, ℕ, ◌≤◌, true, false, Bool, leb, cond, List, [], ◌∷◌, ◌++◌, length, map, filter, None, Some, slice_get, IsTrue, refl, sym, ap, ◌∙◌, arith, zero, suc, length-append}
+use Rattle.std.specs.List.{list_all, AllByRecursion, flat_map}
+use Rattle.std.proofs.lemmas.Bool.{and_parts, leb-true}
+use Rattle.std.proofs.lemmas.List.{length-map}
+use Rattle.std.proofs.lemmas.List.Elements.{filter-append}
+use Rattle.langtag_scan.specs.Case.{fold_text, Alike, are_alike}
+use Rattle.langtag_scan.specs.CaseLaws.{are_alike-decides}
+use Rattle.langtag_scan.specs.Class.{is_letter, is_digit, is_variant}
+use Rattle.langtag_scan.specs.Grandfathered.{Grandfathered, grandfathered_tags}
+use Rattle.langtag_scan.specs.Record.{Record, EachRecord, extension_flat, one_flat, private_part_flat, flat}
+use Rattle.langtag_scan.specs.Subtags.{segments}
+use Rattle.langtag_scan.proofs.CaseLaw.{alike_parts}
+use Rattle.langtag_scan.proofs.NormalTexts.{spelled_segments}
+use Rattle.langtag.specs.Registered.{IsGrandfathered, IsGrandfatheredAt}
+use Rattle.langtag.specs.Repeat.{repeat}
+use Rattle.langtag_registry.specs.Canonical.{canonical_variants}
+use Rattle.langtag_registry.specs.Entry.{Entry, value_for}
+use Rattle.langtag_registry.specs.Fields.{preferred_tag}
+use Rattle.langtag_registry.specs.Subtags.{tag_preferred}
+
+-- ---- by computation
+
+-- at most one subtag is of the class of variants
+abbrev has_few : List ℕ → Bool
+has_few text = leb (length (filter is_variant (segments text))) 1
+
+preferred_few : list_all has_few (map (λ e. e.subtag) tag_preferred) ≡ true
+unfolding tag_preferred is_variant is_letter is_digit
+preferred_few = refl
+
+grandfathered_few : list_all has_few (map (λ entry. entry.text) grandfathered_tags) ≡ true
+unfolding grandfathered_tags is_variant is_letter is_digit
+grandfathered_few = refl
+
+-- ---- the registered text that a text is alike
+
+abbrev IsAlikeOne : (List ℕ → Bool) → List ℕ → Type 0
+IsAlikeOne is_good text = (one : List ℕ) × IsTrue (is_good one) × Alike one text
+
+alike_subtag :
+    (is_good : List ℕ → Bool) (list : List Entry) (text value : List ℕ) → list_all is_good (map (λ e. e.subtag) list) ≡ true →
+    value_for list text ≡ Some value → IsAlikeOne is_good text
+alike_subtag is_good [] text value all is = absurd cc
+alike_subtag is_good (e ∷ list) text value all is =
+    let k = and_parts (is_good e.subtag) (list_all is_good (map (λ q. q.subtag) list)) all in
+    by_test (are_alike e.subtag text) refl is k.0 (alike_subtag is_good list text value k.1)
+  where
+    by_test :
+        (b : Bool) → are_alike e.subtag text ≡ b → cond b (Some e.value) (value_for list text) ≡ Some value → is_good e.subtag ≡ true →
+        (value_for list text ≡ Some value → IsAlikeOne is_good text) → IsAlikeOne is_good text
+    by_test true alike is first later = (e.subtag, first, (are_alike-decides e.subtag text).0 alike)
+    by_test false other is first later = later is
+
+entry_good :
+    (is_good : List ℕ → Bool) (list : List Grandfathered) (k : ℕ) (entry : Grandfathered) → list_all is_good (map (λ e. e.text) list) ≡ true →
+    slice_get list k ≡ Some entry → is_good entry.text ≡ true
+entry_good is_good [] k entry all at = absurd cc
+entry_good is_good (e ∷ list) zero entry all at =
+    let same : e ≡ entry = cc in
+    rw (← same) (and_parts (is_good e.text) (list_all is_good (map (λ q. q.text) list)) all).0
+entry_good is_good (e ∷ list) (suc k) entry all at = entry_good is_good list k entry (and_parts (is_good e.text) (list_all is_good (map (λ q. q.text) list)) all).1 at
+
+-- ---- its variants
+
+filter-all : (vs : List (List ℕ)) → AllByRecursion (λ s. IsTrue (is_variant s)) vs → filter is_variant vs ≡ vs
+filter-all [] all = refl
+filter-all (v ∷ vs) all = rw all.0 (ap (λ ws. v ∷ ws) (filter-all vs all.1))
+
+later_count : (before after : List (List ℕ)) → length (filter is_variant after) ≤ length (filter is_variant (before ++ after))
+later_count before after =
+    let sum = ap length (filter-append is_variant before after) ∙ length-append (filter is_variant before) (filter is_variant after) in
+    omega (arith, sum)
+
+-- they are among the subtags of the class
+variants_counted : (r : Record) → AllByRecursion (λ s. IsTrue (is_variant s)) r.variants → length r.variants ≤ length (filter is_variant (flat r))
+variants_counted r all =
+    let last = flat_map extension_flat r.extensions ++ private_part_flat r.private_use in
+    let from_variants = r.variants ++ last in
+    let from_region = one_flat r.region ++ from_variants in
+    let from_script = one_flat r.script ++ from_region in
+    let a = later_count (r.primary ∷ r.extended) from_script in
+    let b = later_count (one_flat r.script) from_region in
+    let c = later_count (one_flat r.region) from_variants in
+    let d = ap length (filter-append is_variant r.variants last) ∙ length-append (filter is_variant r.variants) (filter is_variant last) in
+    let e = ap length (filter-all r.variants all) in
+    omega (arith, a, b, c, d, e)
+
+few_variants : (text : List ℕ) → IsAlikeOne has_few text → EachRecord text (λ r. length r.variants ≤ 1)
+few_variants text (one, few, alike) = λ r spells.
+    let like = alike_parts text one (sym alike) r spells in
+    let q = like.0 in
+    let same : length r.variants ≡ length q.variants =
+    sym (length-map r.variants fold_text) ∙ ap (λ z. length z.variants) like.2 ∙ length-map q.variants fold_text in
+    let count = variants_counted q like.1.0.variants in
+    let all : filter is_variant (segments one) ≡ filter is_variant (flat q) =
+    ap (λ t. filter is_variant (segments t)) (sym like.1.1) ∙ ap (filter is_variant) (spelled_segments q like.1.0) in
+    let most = leb-true (length (filter is_variant (segments one))) 1 few in
+    let counts = ap length all in
+    omega (arith, same, count, most, counts)
+
+one_apart : (vs : List (List ℕ)) → length vs ≤ 1 → repeat are_alike (canonical_variants vs) ≡ None
+one_apart [] few = refl
+one_apart (v ∷ []) few = refl
+one_apart (v ∷ w ∷ vs) few = absurd (omega (arith, few))
+
+-- so they stay apart
+pub preferred_apart : (text new : List ℕ) → preferred_tag text ≡ Some new → EachRecord text (λ r. repeat are_alike (canonical_variants r.variants) ≡ None)
+unfolding preferred_tag
+preferred_apart text new is = λ r spells. one_apart r.variants (few_variants text (alike_subtag has_few tag_preferred text new preferred_few is) r spells)
+
+pub grandfathered_apart : (text : List ℕ) → IsGrandfathered text → EachRecord text (λ r. repeat are_alike (canonical_variants r.variants) ≡ None)
+unfolding IsGrandfathered IsGrandfatheredAt
+grandfathered_apart text (k, (entry, at, alike)) = λ r spells.
+    one_apart r.variants (few_variants text (entry.text, entry_good has_few grandfathered_tags k entry grandfathered_few at, alike) r spells)
