@@ -6,3 +6,5 @@ pub mod Fields
 pub mod Tables
 pub mod Fault
 pub mod Valid
+pub mod Canonical
+pub mod CanonicalLaws

@@ -16,19 +16,25 @@
 //! ```
 #![tactic(auto)]
 
+mod canonical_form;
+mod canonical_language;
+mod canonical_variants;
 mod deprecated;
+mod extension_order;
 mod invalid_subtag;
 mod keys;
 mod language_fields;
 mod language_table;
 mod languages;
 mod preferred;
+mod push_subtag;
 mod subtags;
 mod tables;
 #[cfg(test)]
 mod tests;
 mod validity;
 
+pub use canonical_form::{canonical, is_canonical};
 pub use deprecated::{
     is_deprecated_extlang, is_deprecated_language, is_deprecated_region, is_deprecated_variant,
 };

@@ -1,6 +1,6 @@
 //! Tests of the crate: messages, callers, and what the registry says of known subtags.
 use crate::{
-    FILE_DATE, InvalidSubtag, macrolanguage, preferred_language, preferred_tag, suppress_script,
+    FILE_DATE, InvalidSubtag, canonical, is_canonical, macrolanguage, preferred_language, preferred_tag, suppress_script,
     validate,
 };
 use langtag::{InvalidLangTag, LangTag};
@@ -113,6 +113,45 @@ fn known_subtags(rt: HostRuntime) -> Result<(), Fail> {
             preferred_tag(tag).map(|tag| tag.as_str()) == wanted,
             "of {text}"
         );
+    }
+    Ok(())
+}
+
+/// Tags and their canonical forms: each step, each part, and what stays.
+const CANONICAL_FORMS: [(&str, &str); 24] = [
+    ("iw", "he"),
+    ("IW-fra-Latn", "he-fra-Latn"),
+    ("zh-YUE-hk", "yue-hk"),
+    ("de-yue", "yue"),
+    ("zh-cmn-yue", "zh-cmn-yue"),
+    ("iw-cmn-yue", "iw-cmn-yue"),
+    ("en-bu", "en-MM"),
+    ("ja-Latn-hepburn-HEPLOC", "ja-Latn-hepburn-alalc97"),
+    ("ja-heploc-alalc97", "ja-alalc97-alalc97"),
+    ("sl-1994-Rozaj", "sl-1994-Rozaj"),
+    ("en-b-ccc-a-aaa-X-y", "en-a-aaa-b-ccc-X-y"),
+    ("en-u-co-A-bb-U-nu-0-zz", "en-0-zz-A-bb-u-co-U-nu"),
+    ("I-Klingon", "tlh"),
+    ("art-LOJBAN", "jbo"),
+    ("zh-min", "zh-min"),
+    ("i-default", "i-default"),
+    ("sgn-be-fr", "sfb"),
+    ("sgn-DD", "gsg"),
+    ("sgn-BR-x-a", "sgn-BR-x-a"),
+    ("zh-Hakka-x-a", "zh-Hakka-x-a"),
+    ("X-iw", "X-iw"),
+    ("qt-FQ-1997", "qt-FQ-1997"),
+    ("fr-FR", "fr-FR"),
+    ("iw-Hebr-BU-heploc-b-cc-a-bb-x-iw", "he-Hebr-MM-alalc97-a-bb-b-cc-x-iw"),
+];
+
+#[test]
+fn canonical_forms(rt: HostRuntime) -> Result<(), Fail> {
+    for (text, wanted) in CANONICAL_FORMS {
+        let tag = LangTag::new(text).ok().ok_or(text)?;
+        let form = canonical(rt.alloc(), tag)?;
+        assert!(rt; form.as_str() == wanted, "of {text}: {form}");
+        assert!(rt; is_canonical(tag) == (text == wanted), "of {text}");
     }
     Ok(())
 }

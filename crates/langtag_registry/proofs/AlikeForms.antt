@@ -1,0 +1,169 @@
+-- The canonical forms of alike texts are alike.
+use Rattle.std.proofs.Common.{◌≡◌, ℕ, ◌==◌, true, false, Bool, cond, List, [], ◌∷◌, ◌++◌, map, filter, Option, None, Some, option_map, unwrap_or, inl, inr, ◌⊎◌, refl, sym, ap, ◌∙◌, arith}
+use Rattle.std.specs.List.{flat_map}
+use Rattle.std.proofs.lemmas.Bool.Decides.{nat_tests}
+use Rattle.std.proofs.lemmas.List.{map-append}
+use Rattle.langtag_scan.specs.AlikeRecords.{fold_extension, fold_private_use, fold_record, AlikeRecords}
+use Rattle.langtag_scan.specs.Case.{fold_byte, fold_text, Alike}
+use Rattle.langtag_scan.specs.Record.{Extension, PrivateUse, Record, one_flat, flat, spell}
+use Rattle.langtag_scan.specs.Subtags.{join}
+use Rattle.langtag_scan.specs.Tag.{IsNormal}
+use Rattle.langtag_scan.proofs.CaseLaw.{join-fold, extensions-fold, private_part-fold, alike_normal, alike_parts}
+use Rattle.langtag.specs.Registered.{IsGrandfathered, IsGrandfatheredAt}
+use Rattle.langtag.specs.Repeat.{are_alike_bytes}
+use Rattle.langtag_registry.specs.Canonical.{singletons, in_order, preferred_extlang, canonical_primary, canonical_extended, canonical_region, canonical_variants, canonical_record, IsCanonicalForm}
+use Rattle.langtag_registry.specs.Fields.{preferred_language, preferred_region, preferred_variant, preferred_tag}
+use Rattle.langtag_registry.specs.Registered.{is_registered_extlang}
+use Rattle.langtag_registry.specs.Subtags.{tag_preferred}
+use Rattle.langtag_registry.proofs.ReplacedSubtags.{replaced, replaced-alike, IgnoresCase, value_for-alike, language-alike, region-alike, variant-alike, extlang-alike, registered_extlang-alike}
+use Rattle.langtag_registry.proofs.TwiceLaws.{Way, as_whole, as_it_is, by_parts, way_of}
+
+-- ---- what is folded once is folded
+
+fold_byte-twice : (b : ℕ) → fold_byte (fold_byte b) ≡ fold_byte b
+unfolding fold_byte
+fold_byte-twice b = grind (arith, nat_tests)
+
+module _ {X : Type 0} (f : X → X) (twice : (x : X) → f (f x) ≡ f x) where
+  map-twice : (xs : List X) → map f (map f xs) ≡ map f xs
+  map-twice [] = refl
+  map-twice (x ∷ xs) = ap (λ y. y ∷ map f (map f xs)) (twice x) ∙ ap (λ ys. f x ∷ ys) (map-twice xs)
+
+  option_map-twice : (o : Option X) → option_map f (option_map f o) ≡ option_map f o
+  option_map-twice None = refl
+  option_map-twice (Some x) = ap Some (twice x)
+
+fold_text-twice : (s : List ℕ) → fold_text (fold_text s) ≡ fold_text s
+fold_text-twice = map-twice fold_byte fold_byte-twice
+
+fold_extension-twice : (e : Extension) → fold_extension (fold_extension e) ≡ fold_extension e
+fold_extension-twice e =
+    ap (λ b. record { singleton = b; subtags = map fold_text (map fold_text e.subtags) }) (fold_byte-twice e.singleton)
+    ∙ ap (λ ss. record { singleton = fold_byte e.singleton; subtags = ss }) (map-twice fold_text fold_text-twice e.subtags)
+
+fold_private_use-twice : (p : PrivateUse) → fold_private_use (fold_private_use p) ≡ fold_private_use p
+fold_private_use-twice p =
+    ap (λ b. record { mark = b; subtags = map fold_text (map fold_text p.subtags) }) (fold_byte-twice p.mark)
+    ∙ ap (λ ss. record { mark = fold_byte p.mark; subtags = ss }) (map-twice fold_text fold_text-twice p.subtags)
+
+-- ---- the canonical record of a folded record
+
+primary-fold : (p : List ℕ) (es : List (List ℕ)) → Alike (canonical_primary (fold_text p) (map fold_text es)) (canonical_primary p es)
+primary-fold p [] = replaced-alike preferred_language language-alike (fold_text p) p (fold_text-twice p)
+primary-fold p (e ∷ []) =
+    ap (λ o. fold_text (unwrap_or o (replaced preferred_language (fold_text p)))) (extlang-alike (fold_text e) e (fold_text-twice e))
+    ∙ by_option (preferred_extlang e) (replaced-alike preferred_language language-alike (fold_text p) p (fold_text-twice p))
+  where
+    by_option :
+        (o : Option (List ℕ)) → Alike (replaced preferred_language (fold_text p)) (replaced preferred_language p) →
+        Alike (unwrap_or o (replaced preferred_language (fold_text p))) (unwrap_or o (replaced preferred_language p))
+    by_option None alike = alike
+    by_option (Some new) alike = refl
+primary-fold p (e ∷ f ∷ es) = fold_text-twice p
+
+extended-fold : (es : List (List ℕ)) → map fold_text (canonical_extended (map fold_text es)) ≡ map fold_text (canonical_extended es)
+extended-fold [] = refl
+extended-fold (e ∷ []) =
+    ap (λ b. map fold_text (cond b [] (fold_text e ∷ []))) (registered_extlang-alike (fold_text e) e (fold_text-twice e))
+    ∙ by_test (is_registered_extlang e)
+  where
+    by_test : (b : Bool) → map fold_text (cond b [] (fold_text e ∷ [])) ≡ map fold_text (cond b [] (e ∷ []))
+    by_test true = refl
+    by_test false = ap (λ s. s ∷ []) (fold_text-twice e)
+extended-fold (e ∷ f ∷ es) = map-twice fold_text fold_text-twice (e ∷ f ∷ es)
+
+region-fold : (o : Option (List ℕ)) → option_map fold_text (canonical_region (option_map fold_text o)) ≡ option_map fold_text (canonical_region o)
+region-fold None = refl
+region-fold (Some g) = ap Some (replaced-alike preferred_region region-alike (fold_text g) g (fold_text-twice g))
+
+variants-fold : (vs : List (List ℕ)) → map fold_text (canonical_variants (map fold_text vs)) ≡ map fold_text (canonical_variants vs)
+variants-fold [] = refl
+variants-fold (v ∷ vs) =
+    ap (λ z. z ∷ map fold_text (canonical_variants (map fold_text vs))) (replaced-alike preferred_variant variant-alike (fold_text v) v (fold_text-twice v))
+    ∙ ap (λ zs. fold_text (replaced preferred_variant v) ∷ zs) (variants-fold vs)
+
+filter-fold :
+    (b : ℕ) (es : List Extension) →
+    map fold_extension (filter (λ e. are_alike_bytes b e.singleton) (map fold_extension es)) ≡ map fold_extension (filter (λ e. are_alike_bytes b e.singleton) es)
+filter-fold b [] = refl
+filter-fold b (e ∷ es) =
+    ap (λ c. map fold_extension (cond (fold_byte b == c) (fold_extension e ∷ filter (λ e. are_alike_bytes b e.singleton) (map fold_extension es)) (filter (λ e. are_alike_bytes b e.singleton) (map fold_extension es)))) (fold_byte-twice e.singleton)
+    ∙ by_test (are_alike_bytes b e.singleton) (filter-fold b es)
+  where
+    by_test :
+        (t : Bool) →
+        map fold_extension (filter (λ e. are_alike_bytes b e.singleton) (map fold_extension es)) ≡ map fold_extension (filter (λ e. are_alike_bytes b e.singleton) es) →
+        map fold_extension (cond t (fold_extension e ∷ filter (λ e. are_alike_bytes b e.singleton) (map fold_extension es)) (filter (λ e. are_alike_bytes b e.singleton) (map fold_extension es)))
+        ≡ map fold_extension (cond t (e ∷ filter (λ e. are_alike_bytes b e.singleton) es) (filter (λ e. are_alike_bytes b e.singleton) es))
+    by_test true later = ap (λ z. z ∷ map fold_extension (filter (λ e. are_alike_bytes b e.singleton) (map fold_extension es))) (fold_extension-twice e) ∙ ap (λ zs. fold_extension e ∷ zs) later
+    by_test false later = later
+
+of_singletons-fold :
+    (bs : List ℕ) (es : List Extension) →
+    map fold_extension (flat_map (λ b. filter (λ e. are_alike_bytes b e.singleton) (map fold_extension es)) bs)
+    ≡ map fold_extension (flat_map (λ b. filter (λ e. are_alike_bytes b e.singleton) es) bs)
+of_singletons-fold [] es = refl
+of_singletons-fold (b ∷ bs) es =
+    map-append fold_extension (filter (λ e. are_alike_bytes b e.singleton) (map fold_extension es)) _
+    ∙ ap (λ z. z ++ map fold_extension (flat_map (λ b. filter (λ e. are_alike_bytes b e.singleton) (map fold_extension es)) bs)) (filter-fold b es)
+    ∙ ap (λ z. map fold_extension (filter (λ e. are_alike_bytes b e.singleton) es) ++ z) (of_singletons-fold bs es)
+    ∙ sym (map-append fold_extension (filter (λ e. are_alike_bytes b e.singleton) es) _)
+
+in_order-fold : (es : List Extension) → map fold_extension (in_order (map fold_extension es)) ≡ map fold_extension (in_order es)
+unfolding in_order
+in_order-fold es = of_singletons-fold singletons es
+
+canonical_record-fold : (r : Record) → AlikeRecords (canonical_record (fold_record r)) (canonical_record r)
+unfolding canonical_record
+canonical_record-fold r =
+    let s = option_map fold_text r.script in
+    let p = option_map fold_private_use r.private_use in
+    simp (primary-fold, extended-fold, region-fold, variants-fold, in_order-fold, option_map-twice fold_text fold_text-twice, option_map-twice fold_private_use fold_private_use-twice)
+
+-- alike records have alike canonical records
+canonical_record-alike : (r q : Record) → AlikeRecords r q → AlikeRecords (canonical_record r) (canonical_record q)
+canonical_record-alike r q alike = sym (canonical_record-fold r) ∙ ap (λ z. fold_record (canonical_record z)) alike ∙ canonical_record-fold q
+
+-- ---- alike records spell alike texts
+
+one_flat-fold : (o : Option (List ℕ)) → one_flat (option_map fold_text o) ≡ map fold_text (one_flat o)
+one_flat-fold None = refl
+one_flat-fold (Some s) = refl
+
+flat-fold : (r : Record) → flat (fold_record r) ≡ map fold_text (flat r)
+flat-fold r = simp (one_flat-fold, extensions-fold, private_part-fold, map-append)
+
+spelled_alike : (r q : Record) → AlikeRecords r q → Alike (spell r) (spell q)
+spelled_alike r q alike =
+    sym (ap join (flat-fold r) ∙ join-fold (flat r)) ∙ ap spell alike ∙ ap join (flat-fold q) ∙ join-fold (flat q)
+
+-- ---- alike texts
+
+pub preferred_tag-alike : IgnoresCase preferred_tag
+unfolding preferred_tag
+preferred_tag-alike a b alike = value_for-alike tag_preferred a b alike
+
+grandfathered_alike : (a b : List ℕ) → Alike a b → IsGrandfathered a → IsGrandfathered b
+unfolding IsGrandfathered IsGrandfatheredAt
+grandfathered_alike a b alike (k, (entry, at, same)) = (k, (entry, at, same ∙ alike))
+
+pub alike_forms : (old other new newer : List ℕ) → Alike old other → IsCanonicalForm old new → IsCanonicalForm other newer → Alike new newer
+alike_forms old other new newer alike p q = by_way (way_of old)
+  where
+    same : preferred_tag other ≡ preferred_tag old
+    same = sym (preferred_tag-alike old other alike)
+
+    why_other : IsGrandfathered old ⊎ (IsNormal old → ⊥) → IsGrandfathered other ⊎ (IsNormal other → ⊥)
+    why_other (inl is) = inl (grandfathered_alike old other alike is)
+    why_other (inr no_normal) = inr (λ normal. no_normal (alike_normal other old (sym alike) normal))
+
+    by_way : Way old → Alike new newer
+    by_way (as_whole w is) = ap fold_text (p.whole w is ∙ sym (q.whole w (same ∙ is)))
+    by_way (as_it_is none why) = ap fold_text (p.kept none why) ∙ alike ∙ ap fold_text (sym (q.kept (same ∙ none) (why_other why)))
+    by_way (by_parts none new_one r spells) =
+        let other_one = alike_parts old other alike r spells in
+        let s : Record = other_one.0 in
+        let text = spelled_alike (canonical_record r) (canonical_record s) (canonical_record-alike r s other_one.2) in
+        ap fold_text (p.parts none new_one r spells)
+        ∙ replaced-alike preferred_tag preferred_tag-alike (spell (canonical_record r)) (spell (canonical_record s)) text
+        ∙ ap fold_text (sym (q.parts (same ∙ none) (λ is. new_one (grandfathered_alike other old (sym alike) is)) s other_one.1))

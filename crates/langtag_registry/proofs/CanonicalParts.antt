@@ -1,0 +1,112 @@
+-- The canonical record, part by part, and what a tag becomes by it.
+use Rattle.std.proofs.Common.{◌≡◌, ◌↔◌, ℕ, true, false, Bool, List, Option, None, Some, is_some, option_map, unwrap_or, inl, inr, ◌⊎◌, refl, sym, ap, subst, ◌∙◌}
+use Rattle.langtag_scan.specs.Record.{Extension, Record, EachRecord, Spells, spell}
+use Rattle.langtag_scan.specs.Tag.{IsNormal}
+use Rattle.langtag_scan.proofs.NormalTexts.{spelled_once}
+use Rattle.langtag.specs.Edit.{with_language, with_region, with_variants, with_extensions}
+use Rattle.langtag.specs.Registered.{IsGrandfathered}
+use Rattle.langtag_registry.specs.Canonical.{canonical_primary, canonical_extended, canonical_region, canonical_variants, in_order, canonical_record, IsCanonicalForm}
+use Rattle.langtag_registry.specs.Fields.{preferred_tag}
+use Rattle.langtag_registry.proofs.TwiceLaws.{itself, whole_settled, preferred_record_stays}
+use Rattle.langtag_registry.proofs.WellFormedForms.{canonical_record_well_formed}
+use Rattle.langtag_registry.proofs.WholeTags.{record_of, preferred_spelled}
+
+-- ---- a member that stays
+
+pub same_language :
+    (r : Record) (text primary : List ℕ) (extended : List (List ℕ)) → primary ≡ r.primary → extended ≡ r.extended → Spells r text →
+    Spells (with_language r primary extended) text
+same_language r text primary extended first others spells =
+    subst (λ p. Spells (with_language r p extended) text) (sym first) (subst (λ es. Spells (with_language r r.primary es) text) (sym others) spells)
+
+pub same_region : (r : Record) (text : List ℕ) (region : Option (List ℕ)) → region ≡ r.region → Spells r text → Spells (with_region r region) text
+same_region r text region same spells = subst (λ g. Spells (with_region r g) text) (sym same) spells
+
+pub same_variants : (r : Record) (text : List ℕ) (variants : List (List ℕ)) → variants ≡ r.variants → Spells r text → Spells (with_variants r variants) text
+same_variants r text variants same spells = subst (λ vs. Spells (with_variants r vs) text) (sym same) spells
+
+pub same_extensions : (r : Record) (text : List ℕ) (extensions : List Extension) → extensions ≡ r.extensions → Spells r text → Spells (with_extensions r extensions) text
+same_extensions r text extensions same spells = subst (λ es. Spells (with_extensions r es) text) (sym same) spells
+
+-- ---- where all stay
+
+pub record DoPartsStay (r : Record) : Type 0 where
+  pub language : (canonical_primary r.primary r.extended ≡ r.primary) × (canonical_extended r.extended ≡ r.extended)
+  pub region : canonical_region r.region ≡ r.region
+  pub variants : canonical_variants r.variants ≡ r.variants
+  pub extensions : in_order r.extensions ≡ r.extensions
+
+pub record_stays : (r : Record) → DoPartsStay r → canonical_record r ≡ r
+unfolding canonical_record
+record_stays r stay =
+    ap (λ p. record r { primary = p; extended = canonical_extended r.extended; region = canonical_region r.region; variants = canonical_variants r.variants; extensions = in_order r.extensions }) stay.language.0
+    ∙ ap (λ es. record r { extended = es; region = canonical_region r.region; variants = canonical_variants r.variants; extensions = in_order r.extensions }) stay.language.1
+    ∙ ap (λ g. record r { region = g; variants = canonical_variants r.variants; extensions = in_order r.extensions }) stay.region
+    ∙ ap (λ vs. record r { variants = vs; extensions = in_order r.extensions }) stay.variants
+    ∙ ap (λ es. record r { extensions = es }) stay.extensions
+
+pub parts_stay : (r : Record) → canonical_record r ≡ r → DoPartsStay r
+unfolding canonical_record
+parts_stay r same = record {
+  language = (ap (λ q. q.primary) same, ap (λ q. q.extended) same);
+  region = ap (λ q. q.region) same;
+  variants = ap (λ q. q.variants) same;
+  extensions = ap (λ q. q.extensions) same;
+}
+
+-- ---- what a tag becomes
+
+pub whole_form : (old new w : List ℕ) → preferred_tag old ≡ Some w → new ≡ w → IsCanonicalForm old new
+whole_form old new w is same = record {
+  whole = λ v other. let one : w ≡ v = cc in same ∙ one;
+  kept = λ none _. absurd cc;
+  parts = λ none _. absurd cc;
+}
+
+pub kept_form : (old new : List ℕ) → preferred_tag old ≡ None → IsGrandfathered old ⊎ (IsNormal old → ⊥) → new ≡ old → IsCanonicalForm old new
+unfolding IsNormal
+kept_form old new none why same = record {
+  whole = λ w is. absurd cc;
+  kept = λ _ _. same;
+  parts = λ _ other r spells. elim why [ | inl is ↦ absurd (other is) | inr no_record ↦ absurd (no_record (r, spells)) ];
+}
+
+pub parts_form :
+    (old form new : List ℕ) → preferred_tag old ≡ None → IsNormal old → (IsGrandfathered old → ⊥) → EachRecord old (λ r. Spells (canonical_record r) form) →
+    new ≡ unwrap_or (preferred_tag form) form → IsCanonicalForm old new
+parts_form old form new none normal other each same = record {
+  whole = λ w is. absurd cc;
+  kept = λ _ why. elim why [ | inl is ↦ absurd (other is) | inr no_record ↦ absurd (no_record normal) ];
+  parts = λ _ _ r spells. same ∙ ap (λ t. unwrap_or (preferred_tag t) t) (sym (each r spells).1);
+}
+
+-- ---- where it is its own canonical form
+
+pub none_preferred : {A : Type 0} (view : A → List ℕ) (found : Option A) (text : List ℕ) → option_map view found ≡ preferred_tag text → is_some found ≡ false → preferred_tag text ≡ None
+none_preferred view None text same none = sym same
+none_preferred view (Some x) text same none = absurd cc
+
+pub preferred_goes :
+    {A : Type 0} (view : A → List ℕ) (found : Option A) (text : List ℕ) → option_map view found ≡ preferred_tag text → is_some found ≡ true → IsCanonicalForm text text → ⊥
+preferred_goes view None text same some is = absurd cc
+preferred_goes view (Some x) text same some is =
+    let here : text ≡ view x = is.whole (view x) (sym same) in
+    let none : preferred_tag text ≡ None = ap preferred_tag here ∙ whole_settled text (view x) (sym same) in
+    absurd cc
+
+own_record : (text : List ℕ) (r : Record) → Spells r text → text ≡ unwrap_or (preferred_tag (spell (canonical_record r))) (spell (canonical_record r)) → canonical_record r ≡ r
+own_record text r spells same = by_option (preferred_tag (spell (canonical_record r))) refl same
+  where
+    by_option : (o : Option (List ℕ)) → preferred_tag (spell (canonical_record r)) ≡ o → text ≡ unwrap_or o (spell (canonical_record r)) → canonical_record r ≡ r
+    by_option None is own = spelled_once (canonical_record r) r (canonical_record_well_formed r spells.0) spells.0 (sym own ∙ sym spells.1)
+    by_option (Some w) is own =
+        let s = preferred_spelled (spell (canonical_record r)) w is in
+        let one : record_of w ≡ r = spelled_once (record_of w) r s.0 spells.0 (s.1 ∙ sym own ∙ sym spells.1) in
+        subst (λ q. canonical_record q ≡ q) one (preferred_record_stays (spell (canonical_record r)) w is)
+
+pub parts_itself :
+    (text : List ℕ) (stays : Bool) → preferred_tag text ≡ None → (IsGrandfathered text → ⊥) → IsNormal text →
+    EachRecord text (λ r. (stays ≡ true) ↔ (canonical_record r ≡ r)) → (stays ≡ true) ↔ IsCanonicalForm text text
+unfolding IsNormal
+parts_itself text stays none other (r, spells) decided =
+    (λ h. itself text r none spells ((decided r spells).0 h), λ is. (decided r spells).1 (own_record text r spells (is.parts none other r spells)))

@@ -1,0 +1,280 @@
+-- Extensions in the order of their singletons: they are the same ones, in order, and those that stand in order stay.
+use Rattle.std.proofs.Common.{◌≡◌, ◌≢◌, ℕ, ◌<◌, ◌≤◌, true, false, ◌==◌, ◌||◌, not, Bool, leb, ltb, cond, List, [], ◌∷◌, ◌++◌, map, filter, append-nil, refl, sym, ap, ◌∙◌, arith, inl, inr, IsTrue}
+use Rattle.std.specs.List.{list_any, list_all, flat_map, AllByRecursion}
+use Rattle.std.proofs.lemmas.Bool.{and_parts, leb-true, le-leb, ltb-true, eqb-true, eq-eqb, ne_eqb, or_parts, both_ways, agree_below_at}
+use Rattle.std.proofs.lemmas.Bool.Decides.{eqb_tells}
+use Rattle.std.proofs.lemmas.List.Elements.{filter-append}
+use Rattle.std.proofs.lemmas.List.Folds.{flat_map-map}
+use Rattle.langtag_scan.specs.Case.{fold_byte}
+use Rattle.langtag_scan.specs.Class.{is_letter, is_digit, is_mark, is_singleton}
+use Rattle.langtag_scan.specs.Record.{Extension, IsWellFormedExtension}
+use Rattle.langtag_scan.proofs.Ascii.{alphanumeric_below}
+use Rattle.langtag_scan.proofs.SubtagFacts.{singleton_alphanumeric}
+use Rattle.langtag.specs.Repeat.{are_alike_bytes}
+use Rattle.langtag_registry.specs.Canonical.{singletons, in_order}
+use Rattle.langtag_registry.specs.Numbers.{climbs_from}
+use Rattle.langtag_registry.proofs.Rising.{rises_from}
+
+-- ---- lists that are gathered key by key
+
+module _ {A : Type 0} (key : A → ℕ) where
+  abbrev has : ℕ → A → Bool
+  has k x = k == key x
+
+  -- those of the first key, then those of the second, and so on; those of one key keep their order
+  abbrev pub gather : List ℕ → List A → List A
+  gather keys xs = flat_map (λ k. filter (has k) xs) keys
+
+  filter-same : (k : ℕ) (xs : List A) → filter (has k) (filter (has k) xs) ≡ filter (has k) xs
+  filter-same k [] = refl
+  filter-same k (x ∷ xs) = by_test (has k x) refl (filter-same k xs)
+    where
+      by_test :
+          (b : Bool) → has k x ≡ b → filter (has k) (filter (has k) xs) ≡ filter (has k) xs →
+          filter (has k) (cond b (x ∷ filter (has k) xs) (filter (has k) xs)) ≡ cond b (x ∷ filter (has k) xs) (filter (has k) xs)
+      by_test true is later = rw is (ap (λ ys. x ∷ ys) later)
+      by_test false is later = later
+
+  filter-other : (j k : ℕ) → k ≢ j → (xs : List A) → filter (has k) (filter (has j) xs) ≡ []
+  filter-other j k apart [] = refl
+  filter-other j k apart (x ∷ xs) = by_test (has j x) refl (filter-other j k apart xs)
+    where
+      by_test :
+          (b : Bool) → has j x ≡ b → filter (has k) (filter (has j) xs) ≡ [] →
+          filter (has k) (cond b (x ∷ filter (has j) xs) (filter (has j) xs)) ≡ []
+      by_test true is later = rw (ne_eqb k (key x) (λ same. apart (same ∙ sym (eqb-true j (key x) is)))) later
+      by_test false is later = later
+
+  -- a key that is above each of those before a list that climbs is not one of it
+  below_climb : (low k : ℕ) (keys : List ℕ) → climbs_from low keys ≡ true → list_any (λ j. j == k) keys ≡ true → low < k
+  below_climb low k [] climbs among = absurd cc
+  below_climb low k (j ∷ keys) climbs among =
+      let parts = and_parts (ltb low j) (climbs_from j keys) climbs in
+      let above = ltb-true low j parts.0 in
+      elim (eqb_tells j k) [
+        | inl same ↦ omega (arith, above, same.1)
+        | inr other ↦ let later = below_climb j k keys parts.1 (rw other.0 at among) in omega (arith, above, later)
+      ]
+
+  gather-none : (low k : ℕ) (keys : List ℕ) (xs : List A) → climbs_from low keys ≡ true → k ≤ low → filter (has k) (gather keys xs) ≡ []
+  gather-none low k [] xs climbs le = refl
+  gather-none low k (j ∷ keys) xs climbs le =
+      let parts = and_parts (ltb low j) (climbs_from j keys) climbs in
+      let above = ltb-true low j parts.0 in
+      filter-append (has k) (filter (has j) xs) (gather keys xs)
+      ∙ ap (λ ys. ys ++ filter (has k) (gather keys xs)) (filter-other j k (λ same. absurd (omega (arith, same, above, le))) xs)
+      ∙ gather-none j k keys xs parts.1 (omega (arith, above, le))
+
+  -- of each key that is asked for, the same ones in the same order
+  gather-keeps :
+      (low k : ℕ) (keys : List ℕ) (xs : List A) → climbs_from low keys ≡ true → list_any (λ j. j == k) keys ≡ true →
+      filter (has k) (gather keys xs) ≡ filter (has k) xs
+  gather-keeps low k [] xs climbs among = absurd cc
+  gather-keeps low k (j ∷ keys) xs climbs among =
+      let parts = and_parts (ltb low j) (climbs_from j keys) climbs in
+      filter-append (has k) (filter (has j) xs) (gather keys xs)
+      ∙ elim (eqb_tells j k) [
+        | inl same ↦
+            ap (λ i. filter (has k) (filter (has i) xs) ++ filter (has k) (gather keys xs)) same.1
+            ∙ ap (λ ys. ys ++ filter (has k) (gather keys xs)) (filter-same k xs)
+            ∙ ap (λ ys. filter (has k) xs ++ ys) (gather-none j k keys xs parts.1 (omega (arith, same.1)))
+            ∙ append-nil (filter (has k) xs)
+        | inr other ↦
+            ap (λ ys. ys ++ filter (has k) (gather keys xs)) (filter-other j k (λ same. other.1 (sym same)) xs)
+            ∙ gather-keeps j k keys xs parts.1 (rw other.0 at among)
+      ]
+
+  -- a key that is not asked for has none
+  gather-absent : (k : ℕ) (keys : List ℕ) (xs : List A) → list_any (λ j. j == k) keys ≡ false → filter (has k) (gather keys xs) ≡ []
+  gather-absent k [] xs absent = refl
+  gather-absent k (j ∷ keys) xs absent =
+      let parts = or_parts (j == k) (list_any (λ i. i == k) keys) absent in
+      filter-append (has k) (filter (has j) xs) (gather keys xs)
+      ∙ ap (λ ys. ys ++ filter (has k) (gather keys xs)) (filter-other j k (λ same. both_ways (j == k) parts.0 (eq-eqb j k (sym same))) xs)
+      ∙ gather-absent k keys xs parts.1
+
+  gather-twice_of :
+      (low : ℕ) (keys js : List ℕ) (xs : List A) → climbs_from low keys ≡ true → list_all (λ k. list_any (λ j. j == k) keys) js ≡ true →
+      gather js (gather keys xs) ≡ gather js xs
+  gather-twice_of low keys [] xs climbs among = refl
+  gather-twice_of low keys (k ∷ js) xs climbs among =
+      let parts = and_parts (list_any (λ j. j == k) keys) (list_all (λ i. list_any (λ j. j == i) keys) js) among in
+      ap (λ ys. ys ++ gather js (gather keys xs)) (gather-keeps low k keys xs climbs parts.0)
+      ∙ ap (λ ys. filter (has k) xs ++ ys) (gather-twice_of low keys js xs climbs parts.1)
+
+  -- ---- a list whose keys rise stays
+
+  abbrev IsAmong : List ℕ → A → Type 0
+  IsAmong keys x = IsTrue (list_any (λ j. j == key x) keys)
+
+  filter-absent : (k : ℕ) (keys : List ℕ) (xs : List A) → list_any (λ j. j == k) keys ≡ false → AllByRecursion (IsAmong keys) xs → filter (has k) xs ≡ []
+  filter-absent k keys [] absent among = refl
+  filter-absent k keys (x ∷ xs) absent among =
+      elim (eqb_tells k (key x)) [
+        | inl same ↦ absurd (both_ways (list_any (λ j. j == k) keys) absent (rw (sym same.1) at among.0))
+        | inr other ↦ rw other.0 (filter-absent k keys xs absent among.1)
+      ]
+
+  -- where the keys of all are asked for, each key has the same ones, in the same order
+  gather-same :
+      (low k : ℕ) (keys : List ℕ) (xs : List A) → climbs_from low keys ≡ true → AllByRecursion (IsAmong keys) xs →
+      filter (has k) (gather keys xs) ≡ filter (has k) xs
+  gather-same low k keys xs climbs among = by_test (list_any (λ j. j == k) keys) refl
+    where
+      by_test : (b : Bool) → list_any (λ j. j == k) keys ≡ b → filter (has k) (gather keys xs) ≡ filter (has k) xs
+      by_test true is = gather-keeps low k keys xs climbs is
+      by_test false is = gather-absent k keys xs is ∙ sym (filter-absent k keys xs is among)
+
+  -- a first one of a key below those that are asked for goes unseen
+  gather-below : (low : ℕ) (keys : List ℕ) (x : A) (xs : List A) → climbs_from low keys ≡ true → key x ≤ low → gather keys (x ∷ xs) ≡ gather keys xs
+  gather-below low [] x xs climbs le = refl
+  gather-below low (j ∷ keys) x xs climbs le =
+      let parts = and_parts (ltb low j) (climbs_from j keys) climbs in
+      let above = ltb-true low j parts.0 in
+      rw (ne_eqb j (key x) (λ same. absurd (omega (arith, same, above, le))))
+      (ap (λ ys. filter (has j) xs ++ ys) (gather-below j keys x xs parts.1 (omega (arith, above, le))))
+
+  rises_above : (low k : ℕ) (xs : List A) → rises_from low (map key xs) ≡ true → k < low → filter (has k) xs ≡ []
+  rises_above low k [] rises lt = refl
+  rises_above low k (x ∷ xs) rises lt =
+      let parts = and_parts (leb low (key x)) (rises_from (key x) (map key xs)) rises in
+      let le = leb-true low (key x) parts.0 in
+      rw (ne_eqb k (key x) (λ same. absurd (omega (arith, same, le, lt)))) (rises_above (key x) k xs parts.1 (omega (arith, le, lt)))
+
+  gather-first :
+      (low : ℕ) (keys : List ℕ) (x : A) (xs : List A) → climbs_from low keys ≡ true → IsAmong keys x → rises_from (key x) (map key xs) ≡ true →
+      gather keys (x ∷ xs) ≡ x ∷ gather keys xs
+  gather-first low [] x xs climbs among rises = absurd cc
+  gather-first low (j ∷ keys) x xs climbs among rises =
+      let parts = and_parts (ltb low j) (climbs_from j keys) climbs in
+      elim (eqb_tells j (key x)) [
+        | inl same ↦
+            rw same.0 (ap (λ ys. x ∷ (filter (has j) xs ++ ys)) (gather-below j keys x xs parts.1 (omega (arith, same.1))))
+        | inr other ↦
+            let later : IsAmong keys x = rw other.0 at among in
+            let above = below_climb j (key x) keys parts.1 later in
+            let none = rises_above (key x) j xs rises above in
+            rw (other.0, none) (gather-first j keys x xs parts.1 later rises)
+      ]
+
+  gather-risen :
+      (low from : ℕ) (keys : List ℕ) (xs : List A) → climbs_from low keys ≡ true → AllByRecursion (IsAmong keys) xs →
+      rises_from from (map key xs) ≡ true → gather keys xs ≡ xs
+  gather-risen low from keys [] climbs among rises = gather-nil keys
+    where
+      gather-nil : (ks : List ℕ) → gather ks [] ≡ []
+      gather-nil [] = refl
+      gather-nil (k ∷ ks) = gather-nil ks
+  gather-risen low from keys (x ∷ xs) climbs among rises =
+      let parts = and_parts (leb from (key x)) (rises_from (key x) (map key xs)) rises in
+      gather-first low keys x xs climbs among.0 parts.1 ∙ ap (λ ys. x ∷ ys) (gather-risen low (key x) keys xs climbs among.1 parts.1)
+
+  -- ---- what is gathered rises
+
+  rises_lower : (low from : ℕ) (ns : List ℕ) → low ≤ from → rises_from from ns ≡ true → rises_from low ns ≡ true
+  rises_lower low from [] le rises = refl
+  rises_lower low from (n ∷ ns) le rises =
+      let parts = and_parts (leb from n) (rises_from n ns) rises in
+      let above = leb-true from n parts.0 in
+      rw (le-leb low n (omega (arith, le, above))) parts.1
+
+  rises_past :
+      (low j : ℕ) (xs ys : List A) → low ≤ j → rises_from j (map key ys) ≡ true → rises_from low (map key (filter (has j) xs ++ ys)) ≡ true
+  rises_past low j [] ys le rises = rises_lower low j (map key ys) le rises
+  rises_past low j (x ∷ xs) ys le rises =
+      elim (eqb_tells j (key x)) [
+        | inl same ↦ rw (same.0, le-leb low (key x) (omega (arith, le, same.1))) (rises_past (key x) j xs ys (omega (arith, same.1)) rises)
+        | inr other ↦ rw other.0 (rises_past low j xs ys le rises)
+      ]
+
+  gather-rises : (low : ℕ) (keys : List ℕ) (xs : List A) → climbs_from low keys ≡ true → rises_from low (map key (gather keys xs)) ≡ true
+  gather-rises low [] xs climbs = refl
+  gather-rises low (j ∷ keys) xs climbs =
+      let parts = and_parts (ltb low j) (climbs_from j keys) climbs in
+      let above = ltb-true low j parts.0 in
+      rises_past low j xs (gather keys xs) (omega (arith, above)) (gather-rises j keys xs parts.1)
+
+  -- ---- what holds of each
+
+  filter-each : (P : A → Type 0) (p : A → Bool) (xs : List A) → AllByRecursion P xs → AllByRecursion P (filter p xs)
+  filter-each P p [] all = tt
+  filter-each P p (x ∷ xs) all = by_test (p x) (filter-each P p xs all.1)
+    where
+      by_test : (b : Bool) → AllByRecursion P (filter p xs) → AllByRecursion P (cond b (x ∷ filter p xs) (filter p xs))
+      by_test true later = (all.0, later)
+      by_test false later = later
+
+  append-each : (P : A → Type 0) (xs ys : List A) → AllByRecursion P xs → AllByRecursion P ys → AllByRecursion P (xs ++ ys)
+  append-each P [] ys all more = more
+  append-each P (x ∷ xs) ys all more = (all.0, append-each P xs ys all.1 more)
+
+  gather-each : (P : A → Type 0) (keys : List ℕ) (xs : List A) → AllByRecursion P xs → AllByRecursion P (gather keys xs)
+  gather-each P [] xs all = tt
+  gather-each P (k ∷ keys) xs all = append-each P (filter (has k) xs) (gather keys xs) (filter-each P (has k) xs all) (gather-each P keys xs all)
+
+-- ---- extensions
+
+abbrev key : Extension → ℕ
+key e = fold_byte e.singleton
+
+-- the singletons of extensions, folded
+abbrev pub keys_of : List Extension → List ℕ
+keys_of es = map key es
+
+abbrev folded_singletons : List ℕ
+folded_singletons = map fold_byte singletons
+
+in_order-gather : (es : List Extension) → in_order es ≡ gather key folded_singletons es
+unfolding in_order
+in_order-gather es = sym (flat_map-map (λ k. filter (λ e. k == key e) es) fold_byte singletons)
+
+singletons_climb : climbs_from 0 folded_singletons ≡ true
+unfolding fold_byte
+singletons_climb = refl
+
+singletons_once : list_all (λ k. list_any (λ j. j == k) folded_singletons) folded_singletons ≡ true
+unfolding fold_byte
+singletons_once = refl
+
+singletons_all : (b : ℕ) → b < 128 → (not (is_singleton b) || list_any (λ j. j == fold_byte b) folded_singletons) ≡ true
+unfolding fold_byte is_singleton is_letter is_digit is_mark
+singletons_all b below =
+    agree_below_at (λ c. not (is_singleton c) || list_any (λ j. j == fold_byte c) folded_singletons) (λ c. true) 128 b refl below
+
+-- each singleton is one of them
+singleton_known : (b : ℕ) → is_singleton b ≡ true → list_any (λ j. j == fold_byte b) folded_singletons ≡ true
+singleton_known b is =
+    rw is at (singletons_all b (alphanumeric_below b (singleton_alphanumeric b is)))
+
+known_each : (es : List Extension) → AllByRecursion IsWellFormedExtension es → AllByRecursion (IsAmong key folded_singletons) es
+known_each [] well = tt
+known_each (e ∷ es) well = (singleton_known e.singleton well.0.singleton, known_each es well.1)
+
+-- they are in order: each singleton is at most the next one, ignoring case
+pub in_order-rises : (es : List Extension) → rises_from 0 (keys_of (in_order es)) ≡ true
+in_order-rises es = rw (in_order-gather es) (gather-rises key 0 folded_singletons es singletons_climb)
+
+-- and where they were, they stay
+pub in_order-risen : (es : List Extension) → AllByRecursion IsWellFormedExtension es → rises_from 0 (keys_of es) ≡ true → in_order es ≡ es
+in_order-risen es well rises = in_order-gather es ∙ gather-risen key 0 0 folded_singletons es singletons_climb (known_each es well) rises
+
+-- only there
+pub rises_from_in_order : (es : List Extension) → in_order es ≡ es → rises_from 0 (keys_of es) ≡ true
+rises_from_in_order es stays = ap (λ z. rises_from 0 (keys_of z)) (sym stays) ∙ in_order-rises es
+
+-- each singleton has the same extensions, in the same order
+pub in_order-same :
+    (es : List Extension) → AllByRecursion IsWellFormedExtension es → (singleton : ℕ) →
+    filter (λ e. are_alike_bytes singleton e.singleton) (in_order es) ≡ filter (λ e. are_alike_bytes singleton e.singleton) es
+in_order-same es well singleton =
+    ap (filter (λ e. are_alike_bytes singleton e.singleton)) (in_order-gather es)
+    ∙ gather-same key 0 (fold_byte singleton) folded_singletons es singletons_climb (known_each es well)
+
+pub in_order-twice : (es : List Extension) → in_order (in_order es) ≡ in_order es
+in_order-twice es =
+    in_order-gather (in_order es) ∙ ap (gather key folded_singletons) (in_order-gather es)
+    ∙ gather-twice_of key 0 folded_singletons folded_singletons es singletons_climb singletons_once ∙ sym (in_order-gather es)
+
+-- what holds of each of them holds of each in order
+pub in_order-each : (P : Extension → Type 0) (es : List Extension) → AllByRecursion P es → AllByRecursion P (in_order es)
+in_order-each P es all = rw (in_order-gather es) (gather-each key P folded_singletons es all)

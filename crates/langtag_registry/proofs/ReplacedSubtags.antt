@@ -1,0 +1,197 @@
+-- What a subtag becomes in a canonical form: one of its class, which is replaced by nothing more.
+use Rattle.std.proofs.Common.{◌≡◌, ℕ, ◌≤◌, true, false, Bool, not, ◌||◌, cond, leb, List, [], ◌∷◌, length, map, find, Option, None, Some, is_some, IfSome, option_map, unwrap_or, inl, inr, ◌⊎◌, refl, sym, ap, ◌∙◌}
+use Rattle.std.specs.List.{list_all, list_any, AllByRecursion}
+use Rattle.std.specs.Str.{bytes_eq}
+use Rattle.std.proofs.lemmas.Bool.{and_parts, leb-true}
+use Rattle.langtag_scan.specs.Case.{fold_byte, fold_text, Alike, are_alike}
+use Rattle.langtag_scan.specs.Class.{is_letter, is_primary, is_extended, is_region, is_variant}
+use Rattle.langtag_registry.specs.Canonical.{preferred_extlang}
+use Rattle.langtag_registry.specs.Entry.{Entry, value_for}
+use Rattle.langtag_registry.specs.Fields.{preferred_language, preferred_region, preferred_variant}
+use Rattle.langtag_registry.specs.Registered.{is_registered_extlang}
+use Rattle.langtag_registry.specs.Subtags.{language_preferred, region_preferred, variant_preferred, extlang_subtags}
+use Rattle.langtag_registry.proofs.FieldTables.{preferred_good, regions_good, variants_good}
+use Rattle.langtag_registry.proofs.Values.{value_good}
+
+pub none_from_test : (o : Option (List ℕ)) → not (is_some o) ≡ true → o ≡ None
+none_from_test None h = refl
+none_from_test (Some x) h = absurd cc
+
+-- ---- a subtag that becomes its Preferred-Value, or stays
+
+module _ (preferred : List ℕ → Option (List ℕ)) where
+  abbrev pub replaced : List ℕ → List ℕ
+  replaced s = unwrap_or (preferred s) s
+
+  -- what holds of it, and of each Preferred-Value, holds of what it becomes
+  pub replaced-holds : (P : List ℕ → Type 0) (s : List ℕ) → P s → ((new : List ℕ) → preferred s ≡ Some new → P new) → P (replaced s)
+  replaced-holds P s holds new_holds = by_option (preferred s) refl
+    where
+      by_option : (o : Option (List ℕ)) → preferred s ≡ o → P (unwrap_or o s)
+      by_option None is = holds
+      by_option (Some new) is = new_holds new is
+
+  abbrev pub IsSettled : Type 0
+  IsSettled = (s new : List ℕ) → preferred s ≡ Some new → preferred new ≡ None
+
+  -- where no Preferred-Value has one itself, replacing once more changes nothing
+  pub replaced-twice : IsSettled → (s : List ℕ) → replaced (replaced s) ≡ replaced s
+  replaced-twice settled s = by_option (preferred s) refl
+    where
+      by_option : (o : Option (List ℕ)) → preferred s ≡ o → unwrap_or (preferred (unwrap_or o s)) (unwrap_or o s) ≡ unwrap_or o s
+      by_option None is = ap (λ o. unwrap_or o s) is
+      by_option (Some new) is = ap (λ o. unwrap_or o new) (settled s new is)
+
+  abbrev pub IgnoresCase : Type 0
+  IgnoresCase = (a b : List ℕ) → Alike a b → preferred a ≡ preferred b
+
+  -- alike subtags become alike ones
+  pub replaced-alike : IgnoresCase → (a b : List ℕ) → Alike a b → Alike (replaced a) (replaced b)
+  replaced-alike ignores a b alike = ap (λ o. fold_text (unwrap_or o a)) (ignores a b alike) ∙ by_option (preferred b)
+    where
+      by_option : (o : Option (List ℕ)) → Alike (unwrap_or o a) (unwrap_or o b)
+      by_option None = alike
+      by_option (Some new) = refl
+
+-- ---- a subtag that may be there, and subtags
+
+module _ (P : List ℕ → Type 0) (f : List ℕ → List ℕ) (step : (s : List ℕ) → P s → P (f s)) where
+  pub if_some-map : (o : Option (List ℕ)) → IfSome o P → IfSome (option_map f o) P
+  if_some-map None holds = tt
+  if_some-map (Some s) holds = step s holds
+
+  pub each-map : (ss : List (List ℕ)) → AllByRecursion P ss → AllByRecursion P (map f ss)
+  each-map [] all = tt
+  each-map (s ∷ ss) all = (step s all.0, each-map ss all.1)
+
+-- ---- the values of entries
+
+pub value_for-alike : (list : List Entry) (a b : List ℕ) → Alike a b → value_for list a ≡ value_for list b
+value_for-alike [] a b same = refl
+value_for-alike (e ∷ list) a b same =
+    ap (λ t. cond (bytes_eq (fold_text e.subtag) t) (Some e.value) (value_for list a)) same
+    ∙ ap (cond (are_alike e.subtag b) (Some e.value)) (value_for-alike list a b same)
+
+new_languages_stay : list_all (λ n. not (is_some (preferred_language n))) (map (λ e. e.value) language_preferred) ≡ true
+unfolding language_preferred preferred_language fold_byte
+new_languages_stay = refl
+
+new_languages_short : list_all (λ n. leb (length n) 3) (map (λ e. e.value) language_preferred) ≡ true
+unfolding language_preferred
+new_languages_short = refl
+
+new_regions_stay : list_all (λ n. not (is_some (preferred_region n))) (map (λ e. e.value) region_preferred) ≡ true
+unfolding region_preferred preferred_region fold_byte
+new_regions_stay = refl
+
+new_variants_stay : list_all (λ n. not (is_some (preferred_variant n))) (map (λ e. e.value) variant_preferred) ≡ true
+unfolding variant_preferred preferred_variant fold_byte
+new_variants_stay = refl
+
+-- ---- languages
+
+pub language_settled : IsSettled preferred_language
+unfolding preferred_language
+language_settled s new is = none_from_test (value_for language_preferred new) (value_good (λ n. not (is_some (value_for language_preferred n))) language_preferred s new new_languages_stay is)
+
+pub language-alike : IgnoresCase preferred_language
+unfolding preferred_language
+language-alike a b alike = value_for-alike language_preferred a b alike
+
+pub new_language_primary : (s new : List ℕ) → preferred_language s ≡ Some new → is_primary new ≡ true
+unfolding preferred_language
+new_language_primary s new is = value_good is_primary language_preferred s new preferred_good is
+
+pub new_language_short : (s new : List ℕ) → preferred_language s ≡ Some new → length new ≤ 3
+unfolding preferred_language
+new_language_short s new is = leb-true (length new) 3 (value_good (λ n. leb (length n) 3) language_preferred s new new_languages_short is)
+
+-- ---- regions and variants
+
+pub region_settled : IsSettled preferred_region
+unfolding preferred_region
+region_settled s new is = none_from_test (value_for region_preferred new) (value_good (λ n. not (is_some (value_for region_preferred n))) region_preferred s new new_regions_stay is)
+
+pub region-alike : IgnoresCase preferred_region
+unfolding preferred_region
+region-alike a b alike = value_for-alike region_preferred a b alike
+
+pub new_region_region : (s new : List ℕ) → preferred_region s ≡ Some new → is_region new ≡ true
+unfolding preferred_region
+new_region_region s new is = value_good is_region region_preferred s new regions_good is
+
+pub variant_settled : IsSettled preferred_variant
+unfolding preferred_variant
+variant_settled s new is = none_from_test (value_for variant_preferred new) (value_good (λ n. not (is_some (value_for variant_preferred n))) variant_preferred s new new_variants_stay is)
+
+pub variant-alike : IgnoresCase preferred_variant
+unfolding preferred_variant
+variant-alike a b alike = value_for-alike variant_preferred a b alike
+
+pub new_variant_variant : (s new : List ℕ) → preferred_variant s ≡ Some new → is_variant new ≡ true
+unfolding preferred_variant
+new_variant_variant s new is = value_good is_variant variant_preferred s new variants_good is
+
+-- ---- extended languages
+
+extlangs_extended : list_all is_extended extlang_subtags ≡ true
+unfolding extlang_subtags is_extended is_letter
+extlangs_extended = refl
+
+extlangs_stay : list_all (λ n. not (is_some (preferred_language n))) extlang_subtags ≡ true
+unfolding extlang_subtags language_preferred preferred_language fold_byte
+extlangs_stay = refl
+
+-- what holds of each member holds of the one that is found
+pub found_good :
+    (p is_good : List ℕ → Bool) (list : List (List ℕ)) (x : List ℕ) → list_all is_good list ≡ true → find p list ≡ Some x → is_good x ≡ true
+found_good p is_good [] x all found = absurd cc
+found_good p is_good (y ∷ list) x all found =
+    let k = and_parts (is_good y) (list_all is_good list) all in
+    by_test (p y) (find p list) found k.0 (found_good p is_good list x k.1)
+  where
+    by_test : (b : Bool) (later : Option (List ℕ)) → cond b (Some y) later ≡ Some x → is_good y ≡ true → (later ≡ Some x → is_good x ≡ true) → is_good x ≡ true
+    by_test true later is first other = let same : y ≡ x = cc in rw (← same) first
+    by_test false later is first other = other is
+
+is_some-find : (p : List ℕ → Bool) (list : List (List ℕ)) → is_some (find p list) ≡ list_any p list
+is_some-find p [] = refl
+is_some-find p (y ∷ list) = by_test (p y) (is_some-find p list)
+  where
+    by_test : (b : Bool) → is_some (find p list) ≡ list_any p list → is_some (cond b (Some y) (find p list)) ≡ (b || list_any p list)
+    by_test true later = refl
+    by_test false later = later
+
+-- an extended language is registered and becomes a language, or it is not and stays
+pub extlang_cases :
+    (s : List ℕ) → ((new : List ℕ) × (preferred_extlang s ≡ Some new) × (is_registered_extlang s ≡ true)) ⊎ ((preferred_extlang s ≡ None) × (is_registered_extlang s ≡ false))
+unfolding preferred_extlang is_registered_extlang
+extlang_cases s = by_option (find (are_alike s) extlang_subtags) refl (is_some-find (are_alike s) extlang_subtags)
+  where
+    by_option :
+        (o : Option (List ℕ)) → find (are_alike s) extlang_subtags ≡ o → is_some o ≡ list_any (are_alike s) extlang_subtags →
+        ((new : List ℕ) × (find (are_alike s) extlang_subtags ≡ Some new) × (list_any (are_alike s) extlang_subtags ≡ true))
+        ⊎ ((find (are_alike s) extlang_subtags ≡ None) × (list_any (are_alike s) extlang_subtags ≡ false))
+    by_option None is test = inr (is, sym test)
+    by_option (Some new) is test = inl (new, is, sym test)
+
+pub new_extlang_extended : (s new : List ℕ) → preferred_extlang s ≡ Some new → is_extended new ≡ true
+unfolding preferred_extlang
+new_extlang_extended s new is = found_good (are_alike s) is_extended extlang_subtags new extlangs_extended is
+
+-- it is not replaced once more
+pub new_extlang_settled : (s new : List ℕ) → preferred_extlang s ≡ Some new → preferred_language new ≡ None
+unfolding preferred_extlang
+new_extlang_settled s new is =
+    none_from_test (preferred_language new) (found_good (are_alike s) (λ n. not (is_some (preferred_language n))) extlang_subtags new extlangs_stay is)
+
+pub extlang-alike : IgnoresCase preferred_extlang
+unfolding preferred_extlang
+extlang-alike a b alike = find-alike extlang_subtags
+  where
+    find-alike : (list : List (List ℕ)) → find (are_alike a) list ≡ find (are_alike b) list
+    find-alike list = ap (λ t. find (λ y. bytes_eq t (fold_text y)) list) alike
+
+pub registered_extlang-alike : (a b : List ℕ) → Alike a b → is_registered_extlang a ≡ is_registered_extlang b
+unfolding is_registered_extlang
+registered_extlang-alike a b alike = ap (λ t. list_any (λ y. bytes_eq t (fold_text y)) extlang_subtags) alike

@@ -1,0 +1,191 @@
+-- A text has one canonical form, and that is its own.
+use Rattle.std.proofs.Common.{◌≡◌, ℕ, true, false, Bool, not, ◌&&◌, List, [], ◌∷◌, map, Option, None, Some, is_some, unwrap_or, inl, inr, ◌⊎◌, refl, sym, ap, subst, ◌∙◌}
+use Rattle.std.specs.List.{list_all, position}
+use Rattle.std.specs.Option.{option_map_or}
+use Rattle.std.proofs.lemmas.Bool.{and_parts, both_ways}
+use Rattle.langtag_scan.specs.Case.{fold_byte, are_alike}
+use Rattle.langtag_scan.specs.Record.{Record, Spells, spell}
+use Rattle.langtag_scan.specs.Tag.{IsNormal}
+use Rattle.langtag_scan.proofs.NormalTexts.{normal_from_runs, runs_from_normal, spelled_once}
+use Rattle.langtag.specs.Registered.{IsGrandfathered, text_of}
+use Rattle.langtag.specs.declared.grandfathered.TheConstants.{GRANDFATHERED}
+use Rattle.langtag.proofs.RegisteredLaws.{first_alike_found, none_alike}
+use Rattle.langtag_registry.specs.Canonical.{canonical_primary, canonical_extended, canonical_region, canonical_variants, in_order, canonical_record, IsCanonicalForm}
+use Rattle.langtag_registry.specs.Fields.{preferred_language, preferred_region, preferred_variant, preferred_tag}
+use Rattle.langtag_registry.specs.Subtags.{language_preferred, region_preferred, variant_preferred, tag_preferred}
+use Rattle.langtag_registry.proofs.OrderLaws.{in_order-twice, in_order-risen}
+use Rattle.langtag_registry.proofs.ReplacedSubtags.{none_from_test, replaced, replaced-twice, language_settled, region_settled, variant_settled, extlang_cases, new_extlang_settled}
+use Rattle.langtag_registry.proofs.Values.{value_good}
+use Rattle.langtag_registry.proofs.WellFormedForms.{canonical_record_well_formed}
+use Rattle.langtag_registry.proofs.WholeTags.{record_of, simple_record, preferred_spelled}
+
+-- ---- the canonical record of a canonical record is itself
+
+record IsTwice (primary : List ℕ) (extended : List (List ℕ)) : Type 0 where
+  first : canonical_primary (canonical_primary primary extended) (canonical_extended extended) ≡ canonical_primary primary extended
+  others : canonical_extended (canonical_extended extended) ≡ canonical_extended extended
+
+language_twice : (p : List ℕ) (es : List (List ℕ)) → IsTwice p es
+language_twice p [] = record { first = replaced-twice preferred_language language_settled p; others = refl }
+language_twice p (e ∷ []) =
+    elim (extlang_cases e) [
+      | inl (new, found, known) ↦ record { first = rw (found, known) (ap (λ o. unwrap_or o new) (new_extlang_settled e new found)); others = rw known refl }
+      | inr (none, other) ↦ record { first = rw (none, other) (rw none (replaced-twice preferred_language language_settled p)); others = rw other (rw other refl) }
+    ]
+language_twice p (e ∷ f ∷ es) = record { first = refl; others = refl }
+
+region_twice : (o : Option (List ℕ)) → canonical_region (canonical_region o) ≡ canonical_region o
+region_twice None = refl
+region_twice (Some g) = ap Some (replaced-twice preferred_region region_settled g)
+
+variants_twice : (vs : List (List ℕ)) → canonical_variants (canonical_variants vs) ≡ canonical_variants vs
+variants_twice [] = refl
+variants_twice (v ∷ vs) = ap (λ z. z ∷ canonical_variants (canonical_variants vs)) (replaced-twice preferred_variant variant_settled v) ∙ ap (λ zs. replaced preferred_variant v ∷ zs) (variants_twice vs)
+
+pub canonical_record-twice : (r : Record) → canonical_record (canonical_record r) ≡ canonical_record r
+unfolding canonical_record
+canonical_record-twice r =
+    let twice = language_twice r.primary r.extended in
+    let p = canonical_primary r.primary r.extended in
+    let es = canonical_extended r.extended in
+    let g = canonical_region r.region in
+    let vs = canonical_variants r.variants in
+    let xs = in_order r.extensions in
+    ap (λ z. record r { primary = z; extended = canonical_extended es; region = canonical_region g; variants = canonical_variants vs; extensions = in_order xs }) twice.first
+    ∙ ap (λ z. record r { primary = p; extended = z; region = canonical_region g; variants = canonical_variants vs; extensions = in_order xs }) twice.others
+    ∙ ap (λ z. record r { primary = p; extended = es; region = z; variants = canonical_variants vs; extensions = in_order xs }) (region_twice r.region)
+    ∙ ap (λ z. record r { primary = p; extended = es; region = g; variants = z; extensions = in_order xs }) (variants_twice r.variants)
+    ∙ ap (λ z. record r { primary = p; extended = es; region = g; variants = vs; extensions = z }) (in_order-twice r.extensions)
+
+-- ---- the Preferred-Value of a whole tag stays: by computation
+
+abbrev stays : List ℕ → Bool
+stays text =
+    not (is_some (preferred_tag text))
+    && (not (is_some (preferred_language (record_of text).primary))
+    && (option_map_or (λ g. not (is_some (preferred_region g))) (record_of text).region true
+    && list_all (λ v. not (is_some (preferred_variant v))) (record_of text).variants))
+
+all_stay : list_all stays (map (λ e. e.value) tag_preferred) ≡ true
+unfolding tag_preferred language_preferred region_preferred variant_preferred preferred_tag preferred_language preferred_region preferred_variant fold_byte
+all_stay = refl
+
+region_stays : (o : Option (List ℕ)) → option_map_or (λ g. not (is_some (preferred_region g))) o true ≡ true → canonical_region o ≡ o
+region_stays None h = refl
+region_stays (Some g) h = ap (λ o. Some (unwrap_or o g)) (none_from_test (preferred_region g) h)
+
+variants_stay : (vs : List (List ℕ)) → list_all (λ v. not (is_some (preferred_variant v))) vs ≡ true → canonical_variants vs ≡ vs
+variants_stay [] h = refl
+variants_stay (v ∷ vs) h =
+    let k = and_parts (not (is_some (preferred_variant v))) (list_all (λ w. not (is_some (preferred_variant w))) vs) h in
+    ap (λ o. unwrap_or o v ∷ canonical_variants vs) (none_from_test (preferred_variant v) k.0) ∙ ap (λ ws. v ∷ ws) (variants_stay vs k.1)
+
+record_stays :
+    (r : Record) → r.extended ≡ [] → r.extensions ≡ [] → preferred_language r.primary ≡ None → canonical_region r.region ≡ r.region →
+    canonical_variants r.variants ≡ r.variants → canonical_record r ≡ r
+unfolding canonical_record
+record_stays r alone none language region variants =
+    ap (λ es. record r { primary = canonical_primary r.primary es; extended = canonical_extended es; region = canonical_region r.region; variants = canonical_variants r.variants; extensions = in_order r.extensions }) alone
+    ∙ ap (λ o. record r { primary = unwrap_or o r.primary; extended = []; region = canonical_region r.region; variants = canonical_variants r.variants; extensions = in_order r.extensions }) language
+    ∙ ap (λ g. record r { extended = []; region = g; variants = canonical_variants r.variants; extensions = in_order r.extensions }) region
+    ∙ ap (λ vs. record r { extended = []; variants = vs; extensions = in_order r.extensions }) variants
+    ∙ ap (λ xs. record r { extended = []; extensions = in_order xs }) none
+    ∙ ap (λ xs. record r { extended = []; extensions = xs }) (in_order-risen [] tt refl ∙ sym none)
+    ∙ ap (λ es. record r { extended = es }) (sym alone)
+
+-- ---- a text that is its own canonical form
+
+pub itself : (text : List ℕ) (r : Record) → preferred_tag text ≡ None → Spells r text → canonical_record r ≡ r → IsCanonicalForm text text
+itself text r none spells same = record {
+  whole = λ w is. absurd cc;
+  kept = λ _ _. refl;
+  parts = λ _ _ q other.
+      let one : q ≡ r = spelled_once q r other.0 spells.0 (other.1 ∙ sym spells.1) in
+      let again : spell (canonical_record q) ≡ text = ap (λ z. spell (canonical_record z)) one ∙ ap spell same ∙ spells.1 in
+      sym (ap (λ t. unwrap_or (preferred_tag t) t) again ∙ ap (λ o. unwrap_or o text) none);
+}
+
+stays_of : (text new : List ℕ) → preferred_tag text ≡ Some new → stays new ≡ true
+unfolding preferred_tag
+stays_of text new is = value_good stays tag_preferred text new all_stay is
+
+-- it has no Preferred-Value itself
+pub whole_settled : (text new : List ℕ) → preferred_tag text ≡ Some new → preferred_tag new ≡ None
+whole_settled text new is = none_from_test (preferred_tag new) (and_parts _ _ (stays_of text new is)).0
+
+-- nor do its subtags
+pub preferred_record_stays : (text new : List ℕ) → preferred_tag text ≡ Some new → canonical_record (record_of new) ≡ record_of new
+preferred_record_stays text new is =
+    let r = record_of new in
+    let simple = simple_record new in
+    let a = and_parts _ _ (stays_of text new is) in
+    let b = and_parts _ _ a.1 in
+    let c = and_parts _ _ b.1 in
+    record_stays r simple.extended simple.extensions (none_from_test (preferred_language r.primary) b.0) (region_stays r.region c.0) (variants_stay r.variants c.1)
+
+pub preferred_itself : (text new : List ℕ) → preferred_tag text ≡ Some new → IsCanonicalForm new new
+preferred_itself text new is =
+    itself new (record_of new) (whole_settled text new is) (preferred_spelled text new is) (preferred_record_stays text new is)
+
+-- ---- every text
+
+decided : {P : Type 0} (b : Bool) → (b ≡ true → P) → (P → b ≡ true) → P ⊎ (P → ⊥)
+decided true holds is = inl (holds refl)
+decided false holds is = inr (λ p. both_ways false refl (is p))
+
+is_normal : (text : List ℕ) → IsNormal text ⊎ (IsNormal text → ⊥)
+is_normal text = decided _ (normal_from_runs text) (runs_from_normal text)
+
+is_grandfathered : (text : List ℕ) → IsGrandfathered text ⊎ (IsGrandfathered text → ⊥)
+unfolding IsGrandfathered
+is_grandfathered text = by_option (position (λ tag. are_alike (text_of tag) text) GRANDFATHERED) refl
+  where
+    by_option : (o : Option ℕ) → position (λ tag. are_alike (text_of tag) text) GRANDFATHERED ≡ o → IsGrandfathered text ⊎ (IsGrandfathered text → ⊥)
+    by_option None none = inr (none_alike text none)
+    by_option (Some k) found = inl (k, first_alike_found text k found)
+
+-- the ways to a canonical form
+pub data Way (old : List ℕ) : Type 0 where
+  as_whole : (w : List ℕ) → preferred_tag old ≡ Some w → Way old
+  as_it_is : preferred_tag old ≡ None → IsGrandfathered old ⊎ (IsNormal old → ⊥) → Way old
+  by_parts : preferred_tag old ≡ None → (IsGrandfathered old → ⊥) → (r : Record) → Spells r old → Way old
+
+pub way_of : (old : List ℕ) → Way old
+unfolding IsNormal
+way_of old = by_whole (preferred_tag old) refl
+  where
+    by_normal : preferred_tag old ≡ None → (IsGrandfathered old → ⊥) → IsNormal old ⊎ (IsNormal old → ⊥) → Way old
+    by_normal none new (inl normal) = by_parts none new normal.0 normal.1
+    by_normal none new (inr other) = as_it_is none (inr other)
+
+    by_old : preferred_tag old ≡ None → IsGrandfathered old ⊎ (IsGrandfathered old → ⊥) → Way old
+    by_old none (inl is) = as_it_is none (inl is)
+    by_old none (inr new) = by_normal none new (is_normal old)
+
+    by_whole : (o : Option (List ℕ)) → preferred_tag old ≡ o → Way old
+    by_whole None none = by_old none (is_grandfathered old)
+    by_whole (Some w) is = as_whole w is
+
+-- two canonical forms of a text are equal
+pub one_form : (old new other : List ℕ) → IsCanonicalForm old new → IsCanonicalForm old other → new ≡ other
+one_form old new other p q = by_way (way_of old)
+  where
+    by_way : Way old → new ≡ other
+    by_way (as_whole w is) = p.whole w is ∙ sym (q.whole w is)
+    by_way (as_it_is none why) = p.kept none why ∙ sym (q.kept none why)
+    by_way (by_parts none new r spells) = p.parts none new r spells ∙ sym (q.parts none new r spells)
+
+-- a canonical form is its own
+pub form_twice : (old new : List ℕ) → IsCanonicalForm old new → IsCanonicalForm new new
+form_twice old new p = by_way (way_of old)
+  where
+    by_text : (r : Record) → Spells r old → (o : Option (List ℕ)) → preferred_tag (spell (canonical_record r)) ≡ o → new ≡ unwrap_or o (spell (canonical_record r)) → IsCanonicalForm new new
+    by_text r spells None none is =
+        subst (λ z. IsCanonicalForm z z) (sym is)
+        (itself (spell (canonical_record r)) (canonical_record r) none (canonical_record_well_formed r spells.0, refl) (canonical_record-twice r))
+    by_text r spells (Some w) found is = subst (λ z. IsCanonicalForm z z) (sym is) (preferred_itself (spell (canonical_record r)) w found)
+
+    by_way : Way old → IsCanonicalForm new new
+    by_way (as_whole w is) = subst (λ z. IsCanonicalForm z z) (sym (p.whole w is)) (preferred_itself old w is)
+    by_way (as_it_is none why) = subst (λ z. IsCanonicalForm old z → IsCanonicalForm z z) (sym (p.kept none why)) (λ same. same) p
+    by_way (by_parts none new r spells) = by_text r spells (preferred_tag (spell (canonical_record r))) refl (p.parts none new r spells)

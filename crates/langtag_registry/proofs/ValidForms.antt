@@ -1,0 +1,196 @@
+-- The canonical form of a valid tag is valid, where no two variants become the same.
+use Rattle.std.proofs.Common.{◌≡◌, ℕ, ◌-◌, ◌/◌, ◌%◌, ◌≤◌, ◌==◌, true, Bool, ◌&&◌, leb, ltb, List, [], ◌∷◌, length, get_or, map, Option, None, Some, is_none, unwrap_or, IsTrue, inl, inr, refl, sym, subst, ◌∙◌, arith}
+use Prim.Native.Nat.{◌^◌}
+use Rattle.std.specs.List.{list_all, AllByRecursion}
+use Rattle.std.specs.Option.{option_map_or}
+use Rattle.std.proofs.lemmas.Bool.{and_parts, leb-true, ltb-true}
+use Rattle.langtag_scan.specs.Case.{fold_byte, are_alike}
+use Rattle.langtag_scan.specs.Class.{is_letter, are_letters}
+use Rattle.langtag_scan.specs.Record.{Record, IsWellFormed, Spells, EachRecord, spell}
+use Rattle.langtag_scan.specs.Tag.{IsTag, IsNormal}
+use Rattle.langtag_scan.proofs.NormalTexts.{spelled_once}
+use Rattle.langtag_scan.proofs.SubtagLists.{each_from_test}
+use Rattle.langtag.specs.Repeat.{repeat}
+use Rattle.langtag_registry.specs.declared.tables.TheConstants.{LANGUAGE_BITS}
+use Rattle.langtag_registry.specs.Canonical.{preferred_extlang, canonical_primary, canonical_extended, canonical_variants, canonical_record, IsCanonicalForm}
+use Rattle.langtag_registry.specs.Fields.{preferred_language, preferred_region, preferred_variant, preferred_tag}
+use Rattle.langtag_registry.specs.Numbers.{letter_number}
+use Rattle.langtag_registry.specs.Registered.{is_registered_language, is_registered_extlang, is_registered_script, is_registered_region, is_registered_variant}
+use Rattle.langtag_registry.specs.Subtags.{language_preferred, region_preferred, variant_preferred, tag_preferred, extlang_subtags, script_subtags, region_subtags, variant_subtags}
+use Rattle.langtag_registry.specs.Valid.{IsValidRecord, IsValid}
+use Rattle.langtag_registry.proofs.LanguageTable.{language_bit-at, language-from_bit}
+use Rattle.langtag_registry.proofs.ReplacedSubtags.{replaced, replaced-holds, if_some-map, each-map, extlang_cases, found_good}
+use Rattle.langtag_registry.proofs.SingletonsOnce.{in_order-once}
+use Rattle.langtag_registry.proofs.TwiceLaws.{Way, as_whole, as_it_is, by_parts, way_of}
+use Rattle.langtag_registry.proofs.Values.{value_good}
+use Rattle.langtag_registry.proofs.WellFormedForms.{canonical_record_well_formed}
+use Rattle.langtag_registry.proofs.WholeTags.{record_of, simple_record, preferred_spelled, if_some_from_test}
+
+-- ---- what is put in is registered: by computation
+
+-- the table of languages has a bit for it
+abbrev has_bit : List ℕ → Bool
+has_bit text =
+    are_letters text
+    && (leb 27 (letter_number text)
+    && (ltb (letter_number text - 27) 18304
+    && (get_or LANGUAGE_BITS ((letter_number text - 27) / 64) 0 / 2 ^ ((letter_number text - 27) % 64) % 2 == 1)))
+
+registered_from_bit : (text : List ℕ) → has_bit text ≡ true → is_registered_language text ≡ true
+registered_from_bit text h =
+    let a = and_parts _ _ h in
+    let b = and_parts _ _ a.1 in
+    let c = and_parts _ _ b.1 in
+    sym (language-from_bit text a.0 (leb-true 27 (letter_number text) b.0))
+    ∙ language_bit-at (letter_number text - 27) (ltb-true (letter_number text - 27) 18304 c.0) ∙ c.1
+
+new_languages_known : list_all has_bit (map (λ e. e.value) language_preferred) ≡ true
+unfolding language_preferred letter_number fold_byte is_letter
+new_languages_known = refl
+
+extlangs_known : list_all has_bit extlang_subtags ≡ true
+unfolding extlang_subtags letter_number fold_byte is_letter
+extlangs_known = refl
+
+new_regions_known : list_all is_registered_region (map (λ e. e.value) region_preferred) ≡ true
+unfolding region_preferred is_registered_region region_subtags fold_byte
+new_regions_known = refl
+
+new_variants_known : list_all is_registered_variant (map (λ e. e.value) variant_preferred) ≡ true
+unfolding variant_preferred is_registered_variant variant_subtags fold_byte
+new_variants_known = refl
+
+new_language_known : (s new : List ℕ) → preferred_language s ≡ Some new → is_registered_language new ≡ true
+unfolding preferred_language
+new_language_known s new is = registered_from_bit new (value_good has_bit language_preferred s new new_languages_known is)
+
+new_extlang_known : (s new : List ℕ) → preferred_extlang s ≡ Some new → is_registered_language new ≡ true
+unfolding preferred_extlang
+new_extlang_known s new is = registered_from_bit new (found_good (are_alike s) has_bit extlang_subtags new extlangs_known is)
+
+new_region_known : (s new : List ℕ) → preferred_region s ≡ Some new → is_registered_region new ≡ true
+unfolding preferred_region
+new_region_known s new is = value_good is_registered_region region_preferred s new new_regions_known is
+
+new_variant_known : (s new : List ℕ) → preferred_variant s ≡ Some new → is_registered_variant new ≡ true
+unfolding preferred_variant
+new_variant_known s new is = value_good is_registered_variant variant_preferred s new new_variants_known is
+
+-- ---- the canonical record of a valid one
+
+record IsValidLanguage (primary : List ℕ) (extended : List (List ℕ)) : Type 0 where
+  first : IsTrue (is_registered_language primary)
+  others : AllByRecursion (λ s. IsTrue (is_registered_extlang s)) extended
+  one : length extended ≤ 1
+
+canonical_primary_known : (p : List ℕ) → IsTrue (is_registered_language p) → IsTrue (is_registered_language (replaced preferred_language p))
+canonical_primary_known p known = replaced-holds preferred_language (λ s. IsTrue (is_registered_language s)) p known (new_language_known p)
+
+canonical_primary_valid : (p : List ℕ) (es : List (List ℕ)) → IsValidLanguage p es → IsTrue (is_registered_language (canonical_primary p es))
+canonical_primary_valid p [] is = canonical_primary_known p is.first
+canonical_primary_valid p (e ∷ []) is =
+    elim (extlang_cases e) [
+      | inl (new, found, known) ↦ rw found (new_extlang_known e new found)
+      | inr (none, other) ↦ rw none (canonical_primary_known p is.first)
+    ]
+canonical_primary_valid p (e ∷ f ∷ es) is = is.first
+
+-- one extended language that is registered goes
+pub no_extended : (es : List (List ℕ)) → AllByRecursion (λ s. IsTrue (is_registered_extlang s)) es → length es ≤ 1 → canonical_extended es ≡ []
+no_extended [] known one = refl
+no_extended (e ∷ []) known one = rw known.0 refl
+no_extended (e ∷ f ∷ es) known one = absurd (omega (arith, one))
+
+canonical_record_valid : (r : Record) → IsWellFormed r → IsValidRecord r → repeat are_alike (canonical_variants r.variants) ≡ None → IsValidRecord (canonical_record r)
+unfolding canonical_record
+canonical_record_valid r well valid once =
+    let none = no_extended r.extended valid.extended valid.one_extended in
+    record {
+      primary = canonical_primary_valid r.primary r.extended (record { first = valid.primary; others = valid.extended; one = valid.one_extended });
+      extended = rw none tt;
+      one_extended = rw none (omega arith);
+      script = valid.script;
+      region =
+          if_some-map (λ s. IsTrue (is_registered_region s)) (replaced preferred_region)
+          (λ s known. replaced-holds preferred_region (λ t. IsTrue (is_registered_region t)) s known (new_region_known s)) r.region valid.region;
+      variants =
+          each-map (λ s. IsTrue (is_registered_variant s)) (replaced preferred_variant)
+          (λ s known. replaced-holds preferred_variant (λ t. IsTrue (is_registered_variant t)) s known (new_variant_known s)) r.variants valid.variants;
+      no_repeated_variant = once;
+      no_repeated_singleton = in_order-once r.extensions well.extensions valid.no_repeated_singleton;
+    }
+
+-- a text is valid that a valid record spells
+valid_spelled : (text : List ℕ) (r : Record) → Spells r text → IsValidRecord r → IsValid text
+unfolding IsValid IsTag IsNormal
+valid_spelled text r spells valid =
+    (inl (r, spells), inr (λ q other. subst IsValidRecord (spelled_once r q spells.0 other.0 (spells.1 ∙ sym other.1)) valid))
+
+-- ---- the Preferred-Value of a whole tag is valid: by computation
+
+abbrev is_whole_valid : List ℕ → Bool
+is_whole_valid text =
+    has_bit (record_of text).primary
+    && (option_map_or is_registered_script (record_of text).script true
+    && (option_map_or is_registered_region (record_of text).region true
+    && (list_all is_registered_variant (record_of text).variants && is_none (repeat are_alike (record_of text).variants))))
+
+all_valid : list_all is_whole_valid (map (λ e. e.value) tag_preferred) ≡ true
+unfolding tag_preferred letter_number fold_byte is_letter is_registered_script is_registered_region is_registered_variant script_subtags region_subtags variant_subtags
+all_valid = refl
+
+whole_valid_of : (text new : List ℕ) → preferred_tag text ≡ Some new → is_whole_valid new ≡ true
+unfolding preferred_tag
+whole_valid_of text new is = value_good is_whole_valid tag_preferred text new all_valid is
+
+is_none-None : (o : Option (List ℕ)) → is_none o ≡ true → o ≡ None
+is_none-None None h = refl
+is_none-None (Some x) h = absurd cc
+
+few_extended : (r : Record) → r.extended ≡ [] → length r.extended ≤ 1
+few_extended r none = rw none (omega arith)
+
+preferred_valid : (text new : List ℕ) → preferred_tag text ≡ Some new → IsValid new
+preferred_valid text new is =
+    let r = record_of new in
+    let simple = simple_record new in
+    let a = and_parts _ _ (whole_valid_of text new is) in
+    let b = and_parts _ _ a.1 in
+    let c = and_parts _ _ b.1 in
+    let d = and_parts _ _ c.1 in
+    valid_spelled new r (preferred_spelled text new is)
+    record {
+      primary = registered_from_bit r.primary a.0;
+      extended = rw simple.extended tt;
+      one_extended = few_extended r simple.extended;
+      script = if_some_from_test is_registered_script r.script b.0;
+      region = if_some_from_test is_registered_region r.region c.0;
+      variants = each_from_test is_registered_variant r.variants d.0;
+      no_repeated_variant = is_none-None _ d.1;
+      no_repeated_singleton = rw simple.extensions refl;
+    }
+
+-- ---- every valid tag
+
+-- where no two variants become the same, the canonical form is valid
+pub valid_form :
+    (old new : List ℕ) → IsValid old → EachRecord old (λ r. repeat are_alike (canonical_variants r.variants) ≡ None) → IsCanonicalForm old new → IsValid new
+unfolding IsValid
+valid_form old new valid once p = by_way (way_of old)
+  where
+    by_text :
+        (r : Record) → Spells r old → IsValidRecord r → (o : Option (List ℕ)) → preferred_tag (spell (canonical_record r)) ≡ o →
+        new ≡ unwrap_or o (spell (canonical_record r)) → IsValid new
+    by_text r spells is None none same =
+        subst IsValid (sym same)
+        (valid_spelled (spell (canonical_record r)) (canonical_record r) (canonical_record_well_formed r spells.0, refl) (canonical_record_valid r spells.0 is (once r spells)))
+    by_text r spells is (Some w) found same = subst IsValid (sym same) (preferred_valid (spell (canonical_record r)) w found)
+
+    by_way : Way old → IsValid new
+    by_way (as_whole w is) = subst IsValid (sym (p.whole w is)) (preferred_valid old w is)
+    by_way (as_it_is none why) = subst IsValid (sym (p.kept none why)) valid
+    by_way (by_parts none new_one r spells) =
+        elim valid.1 [
+          | inl old_one ↦ absurd (new_one old_one)
+          | inr each ↦ by_text r spells (each r spells) (preferred_tag (spell (canonical_record r))) refl (p.parts none new_one r spells)
+        ]

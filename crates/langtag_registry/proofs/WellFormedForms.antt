@@ -1,0 +1,73 @@
+-- The canonical record of a well-formed record is well-formed.
+use Rattle.std.proofs.Common.{◌≡◌, ℕ, ◌≤◌, ◌⊎◌, List, [], ◌∷◌, length, Option, IfSome, IsTrue, inl, inr, refl, true, arith}
+use Rattle.std.specs.List.{AllByRecursion}
+use Rattle.std.proofs.lemmas.Bool.Decides.{nat_tests}
+use Rattle.langtag_scan.specs.Class.{is_primary, is_extended, is_region, is_variant}
+use Rattle.langtag_scan.specs.Record.{Record, IsWellFormed, IsWellFormedExtension}
+use Rattle.langtag_registry.specs.Canonical.{canonical_primary, canonical_extended, canonical_region, canonical_variants, canonical_record}
+use Rattle.langtag_registry.specs.Fields.{preferred_language, preferred_region, preferred_variant}
+use Rattle.langtag_registry.proofs.OrderLaws.{in_order-each}
+use Rattle.langtag_registry.proofs.ReplacedSubtags.{replaced, replaced-holds, if_some-map, each-map, new_language_primary, new_language_short, new_region_region, new_variant_variant, extlang_cases, new_extlang_extended}
+
+extended_primary : (text : List ℕ) → is_extended text ≡ true → is_primary text ≡ true
+unfolding is_extended is_primary
+extended_primary text h = grind (arith, nat_tests)
+
+-- a primary subtag and extended ones that may stand after it
+pub record IsLanguageOf (primary : List ℕ) (extended : List (List ℕ)) : Type 0 where
+  pub first : IsTrue (is_primary primary)
+  pub others : AllByRecursion (λ s. IsTrue (is_extended s)) extended
+  pub few : length extended ≤ 3
+  pub short : (length primary ≤ 3) ⊎ (extended ≡ [])
+
+pub canonical_primary_well_formed : (p : List ℕ) → IsTrue (is_primary p) → IsTrue (is_primary (replaced preferred_language p))
+canonical_primary_well_formed p is = replaced-holds preferred_language (λ s. IsTrue (is_primary s)) p is (new_language_primary p)
+
+pub canonical_language_well_formed :
+    (p : List ℕ) (es : List (List ℕ)) → IsLanguageOf p es → IsLanguageOf (canonical_primary p es) (canonical_extended es)
+canonical_language_well_formed p [] is = record { first = canonical_primary_well_formed p is.first; others = tt; few = is.few; short = inr refl }
+canonical_language_well_formed p (e ∷ []) is =
+    elim (extlang_cases e) [
+      | inl (new, found, known) ↦
+          rw (found, known)
+          record { first = extended_primary new (new_extlang_extended e new found); others = tt; few = omega arith; short = inr refl }
+      | inr (none, other) ↦
+          rw (none, other)
+          record {
+            first = canonical_primary_well_formed p is.first;
+            others = is.others;
+            few = is.few;
+            short = elim is.short [
+              | inl le ↦ inl (replaced-holds preferred_language (λ s. length s ≤ 3) p le (new_language_short p))
+              | inr none_left ↦ absurd cc
+            ];
+          }
+    ]
+canonical_language_well_formed p (e ∷ f ∷ es) is = is
+
+pub canonical_region_well_formed : (o : Option (List ℕ)) → IfSome o (λ s. IsTrue (is_region s)) → IfSome (canonical_region o) (λ s. IsTrue (is_region s))
+canonical_region_well_formed =
+    if_some-map (λ s. IsTrue (is_region s)) (replaced preferred_region)
+    (λ s is. replaced-holds preferred_region (λ t. IsTrue (is_region t)) s is (new_region_region s))
+
+pub canonical_variants_well_formed :
+    (vs : List (List ℕ)) → AllByRecursion (λ s. IsTrue (is_variant s)) vs → AllByRecursion (λ s. IsTrue (is_variant s)) (canonical_variants vs)
+canonical_variants_well_formed =
+    each-map (λ s. IsTrue (is_variant s)) (replaced preferred_variant)
+    (λ s is. replaced-holds preferred_variant (λ t. IsTrue (is_variant t)) s is (new_variant_variant s))
+
+pub canonical_record_well_formed : (r : Record) → IsWellFormed r → IsWellFormed (canonical_record r)
+unfolding canonical_record
+canonical_record_well_formed r well =
+    let language = canonical_language_well_formed r.primary r.extended (record { first = well.primary; others = well.extended; few = well.few; short = well.short }) in
+    record {
+      primary = language.first;
+      extended = language.others;
+      few = language.few;
+      short = language.short;
+      script = well.script;
+      region = canonical_region_well_formed r.region well.region;
+      variants = canonical_variants_well_formed r.variants well.variants;
+      extensions = in_order-each IsWellFormedExtension r.extensions well.extensions;
+      private_use = well.private_use;
+    }

@@ -1,0 +1,26 @@
+use Rattle.std.proofs.Common.{inr, sym, ◌∙◌, refl}
+use Rattle.std.proofs.lemmas.Bool.{both_ways}
+use Rattle.langtag.specs.Text.{lang_tag_text}
+use Rattle.langtag_registry.proofs.CanonicalParts.{kept_form, none_preferred, preferred_goes, parts_itself}
+use Rattle.langtag_registry.proofs.canonical_form.is_canonical.Goals as goal
+
+pub returns-then-is_some : goal.returns-then-is_some
+returns-then-is_some c =
+    (λ no. absurd cc,
+    λ is. absurd (preferred_goes lang_tag_text c.preferred_tag.result (lang_tag_text c.args.tag) c.preferred_tag.ensures (sym c.is_some.ensures ∙ c.if-is_some.true) is))
+
+pub returns-in_default : goal.returns-in_default
+returns-in_default c =
+    let text = lang_tag_text c.args.tag in
+    (λ _. kept_form text text (none_preferred lang_tag_text c.preferred_tag.result text c.preferred_tag.ensures (sym c.is_some.ensures ∙ c.if-is_some.false))
+    (inr (λ normal. let no = c.in_default.ensures.kind.1 normal in absurd cc)) refl,
+    λ _. refl)
+
+pub returns : goal.returns
+returns c =
+    let text = lang_tag_text c.args.tag in
+    parts_itself text c.has_canonical_parts.result
+    (none_preferred lang_tag_text c.preferred_tag.result text c.preferred_tag.ensures (sym c.is_some.ensures ∙ c.if-is_some.false))
+    (λ old. both_ways _ c.if-is_grandfathered.false (c.is_grandfathered.ensures.1 old))
+    (c.in-Some.ensures.kind.0 refl)
+    (λ r spells. c.has_canonical_parts.ensures r (spells.0, spells.1 ∙ sym c.in-Some.ensures.same_text))

@@ -1,0 +1,22 @@
+use Rattle.std.proofs.Common.{◌∷◌, sym, ap, ◌∙◌}
+use Rattle.langtag_language.specs.Text.{primary_language_text, extended_lang_tag_text}
+use Rattle.langtag_registry.specs.Fields.{preferred_language}
+use Rattle.langtag_registry.proofs.CanonicalLanguages.{alone_stays, other_stays}
+use Rattle.langtag_registry.proofs.PreferredValues.{stays_without}
+use Rattle.langtag_registry.proofs.ReplacedSubtags.{language_settled}
+use Rattle.langtag_registry.proofs.canonical_language.is_canonical_language.Goals as goal
+
+pub returns-in_default : goal.returns-in_default
+returns-in_default c = λ primary extended spells.
+    alone_stays primary extended c.is_none.result (sym (c.extension_subtags-extlangs.ensures.members primary extended spells) ∙ c.in_default.ensures.steps.0)
+    (stays_without primary_language_text preferred_language language_settled c.preferred_language.result primary c.is_none.result
+    (c.preferred_language.ensures ∙ ap preferred_language (c.primary.ensures.member primary extended spells)) c.is_none.ensures)
+
+pub returns : goal.returns
+returns c = λ primary extended spells.
+    let extlang = extended_lang_tag_text c.in-Some.extlang in
+    other_stays primary extlang extended c.is_none-2.result
+    (sym (c.extension_subtags-extlangs.ensures.members primary extended spells) ∙ c.in-Some.ensures.steps ∙ ap (λ rest. extlang ∷ rest) c.in-None.ensures.steps.0)
+    (sym c.is_extlang.ensures ∙ c.if-is_extlang.false)
+    (stays_without primary_language_text preferred_language language_settled c.preferred_language-2.result primary c.is_none-2.result
+    (c.preferred_language-2.ensures ∙ ap preferred_language (c.primary-2.ensures.member primary extended spells)) c.is_none-2.ensures)

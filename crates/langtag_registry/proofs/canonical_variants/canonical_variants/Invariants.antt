@@ -1,0 +1,13 @@
+use Rattle.std.specs.String.{string_bytes}
+use Rattle.langtag_scan.specs.Subtags.{subtags}
+use Rattle.langtag_place.specs.Text.{variants_text, variants_left}
+use Rattle.langtag_registry.proofs.CanonicalVariants.{AreReplaced}
+use Rattle.langtag_registry.proofs.canonical_variants.canonical_variants.Given as goal
+
+-- the text is that of what those before the rest became
+abbrev pub invariant-loop-variant : goal.invariant-loop-variant
+invariant-loop-variant l = record {
+  can_next : (goal.iterator-loop-variant).can_next l.variant-iterator;
+  is_finite : (goal.iterator-loop-variant).is_finite l.variant-iterator;
+  so_far : AreReplaced (subtags (variants_text l.fn.variants)) (variants_left l.variant-iterator) (string_bytes l.text);
+}

@@ -1,0 +1,67 @@
+-- The canonical form of a tag (RFC 5646 section 4.5).
+use Rattle.std.specs.Prelude.{◌≡◌, ℕ, ◌⊎◌, List, [], ◌∷◌, map, filter, find, codes, Option, None, Some, if◌then◌else◌, unwrap_or}
+use Rattle.std.specs.List.{flat_map}
+use Rattle.std.specs.Option.{option_map}
+use Rattle.langtag_scan.specs.Case.{are_alike}
+use Rattle.langtag_scan.specs.Record.{Extension, Record, EachRecord, spell}
+use Rattle.langtag_scan.specs.Tag.{IsNormal}
+use Rattle.langtag.specs.Registered.{IsGrandfathered}
+use Rattle.langtag.specs.Repeat.{are_alike_bytes}
+use Rattle.langtag_registry.specs.Fields.{preferred_language, preferred_region, preferred_variant, preferred_tag}
+use Rattle.langtag_registry.specs.Registered.{is_registered_extlang}
+use Rattle.langtag_registry.specs.Subtags.{extlang_subtags}
+
+-- ---- step 1: the extensions in the order of their singletons, whatever their case; those of one singleton keep theirs
+
+-- each singleton (section 2.2.6) once
+abbrev pub singletons : List ℕ
+singletons = codes "0123456789abcdefghijklmnopqrstuvwyz"
+
+unfoldable pub in_order : List Extension → List Extension
+in_order extensions = flat_map (λ singleton. filter (λ e. are_alike_bytes singleton e.singleton) extensions) singletons
+
+-- ---- step 3: each subtag becomes its Preferred-Value
+
+-- an extended subtag has itself as its Preferred-Value (section 3.1.7), in the registry's case
+unfoldable pub preferred_extlang : List ℕ → Option (List ℕ)
+preferred_extlang text = find (are_alike text) extlang_subtags
+
+-- one extended subtag becomes the language, in place of that before it; two stay, as no valid tag has them
+abbrev pub canonical_primary : List ℕ → List (List ℕ) → List ℕ
+canonical_primary primary [] = unwrap_or (preferred_language primary) primary
+canonical_primary primary (extlang ∷ []) = unwrap_or (preferred_extlang extlang) (unwrap_or (preferred_language primary) primary)
+canonical_primary primary (first ∷ second ∷ others) = primary
+
+abbrev pub canonical_extended : List (List ℕ) → List (List ℕ)
+canonical_extended [] = []
+canonical_extended (extlang ∷ []) = if is_registered_extlang extlang then [] else extlang ∷ []
+canonical_extended (first ∷ second ∷ others) = first ∷ second ∷ others
+
+abbrev pub canonical_region : Option (List ℕ) → Option (List ℕ)
+canonical_region region = option_map (λ g. unwrap_or (preferred_region g) g) region
+
+abbrev pub canonical_variants : List (List ℕ) → List (List ℕ)
+canonical_variants variants = map (λ v. unwrap_or (preferred_variant v) v) variants
+
+-- steps 1 and 3 of a record
+unfoldable pub canonical_record : Record → Record
+canonical_record r = record r {
+  primary = canonical_primary r.primary r.extended;
+  extended = canonical_extended r.extended;
+  region = canonical_region r.region;
+  variants = canonical_variants r.variants;
+  extensions = in_order r.extensions;
+}
+
+-- ---- the whole
+
+-- step 2 once more: `sgn-DD` becomes `sgn-DE` by step 3, and that is `gsg`
+abbrev pub canonical_text : Record → List ℕ
+canonical_text r = unwrap_or (preferred_tag (spell (canonical_record r))) (spell (canonical_record r))
+
+-- a whole tag becomes its Preferred-Value (step 2); another grandfathered tag stays, as does one that is not normal; any
+-- other becomes the canonical text of its record
+pub record IsCanonicalForm (old new : List ℕ) : Type 0 where
+  pub whole : (w : List ℕ) → preferred_tag old ≡ Some w → new ≡ w
+  pub kept : preferred_tag old ≡ None → IsGrandfathered old ⊎ (IsNormal old → ⊥) → new ≡ old
+  pub parts : preferred_tag old ≡ None → (IsGrandfathered old → ⊥) → EachRecord old (λ r. new ≡ canonical_text r)
