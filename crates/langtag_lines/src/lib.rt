@@ -9,10 +9,13 @@
 //! struct Lengths;
 //!
 //! impl Answerer for Lengths {
-//!     ghost is_answer = { λ line text. text ≡ if length line == 0 then codes "empty" else codes "full" };
+//!     ghost is_answer = { λ line text. text ≡ (if length line == 0 then codes "empty" else codes "full") };
 //!
 //!     fn put_answer<W: Write>(&self, line: &[u8], page: &mut Page, output: &mut W) -> Result<(), RunError> {
-//!         page.put_line(&[if line.is_empty() { "empty" } else { "full" }], output)
+//!         if line.is_empty() {
+//!             return page.put_line(&["empty"], output);
+//!         }
+//!         page.put_line(&["full"], output)
 //!     }
 //!
 //!     ghost one_answer = { λ line text other is also. is ∙ sym also };
@@ -21,6 +24,8 @@
 //! let ended = answer_lines(rt.alloc(), &Lengths, &mut rt.stdin(), &mut io::writer(&rt));
 //! conclude(ended, &mut rt.stderr()) // the exit status
 //! ```
+//!
+//! That the page gains the answer is proved by the lemma `Answers-one` of `proofs/Written`, once for each `put_line`.
 #![tactic(auto)]
 
 mod answerer;

@@ -32,7 +32,9 @@ impl Answerer for Show {
         match tag.as_typed() {
             TypedLangTag::Normal(tag) => page.put_line(&normal_answer(&tag), output),
             TypedLangTag::PrivateUse(tag) => page.put_line(&["private ", tag.as_str()], output),
-            TypedLangTag::Grandfathered(tag) => page.put_line(&["irregular ", tag.as_str()], output),
+            TypedLangTag::Grandfathered(tag) => {
+                page.put_line(&["irregular ", tag.as_str()], output)
+            }
         }
     }
 

@@ -39,7 +39,7 @@ impl Answerer for Echo {
     }
 
     ghost one_answer = { λ line text other is also. elim is [
-        | inl (utf8, same) ↦ elim also [ inl (_, too) ↦ same ∙ sym too | inr (not, _) ↦ absurd (not utf8) ]
-        | inr (not, same) ↦ elim also [ inl (utf8, _) ↦ absurd (not utf8) | inr (_, too) ↦ same ∙ sym too ]
+      | inl (utf8, same) ↦ elim also [ inl (_, too) ↦ same ∙ sym too | inr (not, _) ↦ absurd (not utf8) ]
+      | inr (not, same) ↦ elim also [ inl (utf8, _) ↦ absurd (not utf8) | inr (_, too) ↦ same ∙ sym too ]
     ] };
 }

@@ -1,0 +1,36 @@
+-- The report of an input: whether each of its lines is a valid tag, what is wrong if not, and its canonical form.
+use Rattle.std.specs.Prelude.{◌≡◌, ℕ, Option, Some, List, ◌++◌, slice_get, codes}
+use Rattle.langtag_scan.specs.Record.{Record, Spells}
+use Rattle.langtag_scan.specs.Tag.{IsTag}
+use Rattle.langtag_registry.specs.Canonical.{IsCanonicalForm}
+use Rattle.langtag_registry.specs.Fault.{Told, faults, language, extlang, second_extlang, script, region, variant, repeated_variant, repeated_singleton}
+use Rattle.langtag_registry.specs.Valid.{IsValid}
+use Rattle.langtag_lines.specs.Report.{AreAnswersBy, AnswersBy}
+
+-- a subtag, as it stands in the tag, after what is wrong with it
+abbrev pub fault_text : Told → List ℕ
+fault_text (language subtag) = codes "language=" ++ subtag
+fault_text (extlang subtag) = codes "extlang=" ++ subtag
+fault_text (second_extlang subtag) = codes "second-extlang=" ++ subtag
+fault_text (script subtag) = codes "script=" ++ subtag
+fault_text (region subtag) = codes "region=" ++ subtag
+fault_text (variant subtag) = codes "variant=" ++ subtag
+fault_text (repeated_variant subtag) = codes "repeated-variant=" ++ subtag
+fault_text (repeated_singleton subtag) = codes "repeated-singleton=" ++ subtag
+
+-- the answer to a line: a valid tag (RFC 5646 section 2.2.9) with its canonical form (section 4.5); another tag, with the
+-- first fault of its record by place in the tag, too; or no tag
+pub data IsAnswer (line : List ℕ) (text : List ℕ) : Type 0 where
+  valid : (form : List ℕ) → IsValid line → IsCanonicalForm line form → text ≡ codes "valid canonical=" ++ form → IsAnswer line text
+  invalid :
+      (r : Record) (fault : Told) (form : List ℕ) → ¬ (IsValid line) → Spells r line → slice_get (faults r) 0 ≡ Some fault →
+      IsCanonicalForm line form → text ≡ codes "invalid " ++ fault_text fault ++ codes " canonical=" ++ form → IsAnswer line text
+  refused : ¬ (IsTag line) → text ≡ codes "refused" → IsAnswer line text
+
+-- the answers to lines, in order, each followed by LF
+abbrev pub AreAnswers : List (List ℕ) → List ℕ → Type 0
+AreAnswers = AreAnswersBy IsAnswer
+
+-- a writer gained the answers to lines, and nothing else
+abbrev pub Answers : Option (List ℕ) → Option (List ℕ) → List (List ℕ) → Type 0
+Answers = AnswersBy IsAnswer

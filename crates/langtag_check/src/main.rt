@@ -1,0 +1,27 @@
+//! Answers each line of standard input: whether it is a valid language tag by the IANA registry (RFC 5646 section 2.2.9),
+//! what is wrong with it if not, and its canonical form (section 4.5).
+//!
+//! A line ends at LF. A last line without LF is answered if it is not empty. CR is an ordinary byte. There are three answers:
+//!
+//! - `valid canonical=TAG`, where TAG is the canonical form of the tag;
+//! - `invalid WHAT=TEXT canonical=TAG`, where TEXT is the first faulty subtag as it stands in the tag, and WHAT is `language`,
+//!   `extlang`, `script`, `region` or `variant` where it is not registered, `second-extlang` for an extended language after
+//!   another, and `repeated-variant` or `repeated-singleton` for the later one of two that are equal, but for case;
+//! - `refused` for a line that is not a tag, also for one that is not UTF-8.
+//!
+//! If a read, a write or an allocation fails, the program says so on standard error and by its status.
+#![tactic(auto)]
+
+mod answer;
+mod run;
+#[cfg(test)]
+mod tests;
+
+use langtag_lines::conclude;
+use std::io;
+use std::process::ExitCode;
+
+fn main(rt: HostRuntime) -> ExitCode {
+    let ended = run::run(rt.alloc(), &mut rt.stdin(), &mut io::writer(&rt));
+    conclude(ended, &mut rt.stderr())
+}
