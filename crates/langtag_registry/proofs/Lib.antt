@@ -11,3 +11,6 @@ pub mod ValidLaws
 pub mod Values
 pub mod FieldTables
 pub mod WholeTags
+pub mod PrefixTables
+pub mod PrefixLaws
+pub mod MisplacedLaws

@@ -6,3 +6,4 @@ pub mod Fields
 pub mod Tables
 pub mod Fault
 pub mod Valid
+pub mod Prefix

@@ -22,6 +22,7 @@ mod keys;
 mod language_fields;
 mod language_table;
 mod languages;
+mod misplaced;
 mod preferred;
 mod prefixes;
 mod subtags;
@@ -36,6 +37,7 @@ pub use deprecated::{
 pub use invalid_subtag::InvalidSubtag;
 pub use language_fields::{macrolanguage, preferred_language, suppress_script};
 pub use languages::is_language;
+pub use misplaced::misplaced_variant;
 pub use preferred::{preferred_region, preferred_tag, preferred_variant};
 pub use prefixes::extlang_prefix;
 pub use subtags::{is_extlang, is_region, is_script, is_variant};
