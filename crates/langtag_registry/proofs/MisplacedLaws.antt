@@ -1,10 +1,10 @@
 -- The walk over the variants of a tag: what stands before each is a tag, too.
-use Rattle.std.proofs.Common.{◌≡◌, ℕ, ◌+◌, ◌-◌, ◌≤◌, true, false, Bool, cond, IsTrue, List, [], ◌∷◌, ◌++◌, length, take, Option, None, Some, inl, inr, refl, ap, sym, ◌∙◌, append_assoc, arith}
+use Rattle.std.proofs.Common.{◌≡◌, ℕ, ◌+◌, ◌-◌, ◌≤◌, true, false, cond, IsTrue, List, [], ◌∷◌, ◌++◌, length, take, None, Some, inl, refl, ap, sym, ◌∙◌, append_assoc, arith}
 use Rattle.std.specs.List.{AllByRecursion, flat_map, slice_range}
 use Rattle.std.proofs.lemmas.List.{append-nil}
 use Rattle.langtag_scan.specs.Class.{is_variant}
 use Rattle.langtag_scan.specs.Ends.{ends_of}
-use Rattle.langtag_scan.specs.Record.{Record, IsWellFormed, Spells, flat, spell, one_flat, extension_flat, private_part_flat}
+use Rattle.langtag_scan.specs.Record.{Record, IsWellFormed, Spells, spell, one_flat, extension_flat, private_part_flat}
 use Rattle.langtag_scan.specs.Subtags.{join}
 use Rattle.langtag_scan.specs.Tag.{IsTag, IsNormal}
 use Rattle.langtag_scan.proofs.Joins.{take-join, length-join-append}
@@ -49,17 +49,23 @@ module _ (r : Record) (before left : List (List ℕ)) (cut : r.variants ≡ befo
 
   pub up_to-tag : IsWellFormed r → IsTag (spell (up_to r before))
   unfolding IsTag IsNormal
-  up_to-tag well = inl (up_to r before, (record {
-    primary = well.primary;
-    extended = well.extended;
-    few = well.few;
-    short = well.short;
-    script = well.script;
-    region = well.region;
-    variants = first_variants (rw cut at well.variants);
-    extensions = tt;
-    private_use = tt;
-  }, refl))
+  up_to-tag well = inl (
+    up_to r before,
+    (
+      record {
+        primary = well.primary;
+        extended = well.extended;
+        few = well.few;
+        short = well.short;
+        script = well.script;
+        region = well.region;
+        variants = first_variants (rw cut at well.variants);
+        extensions = tt;
+        private_use = tt;
+      },
+      refl,
+    ),
+  )
 
 pub region_end : (r : Record) → (ends_of r).region ≡ length (spell (up_to r []))
 region_end r = ap (λ ss. length (join (r.primary ∷ (r.extended ++ (one_flat r.script ++ ss))))) (sym (append-nil (one_flat r.region)))

@@ -25,5 +25,6 @@ misplaced_after r before [] = None
 misplaced_after r before (variant ∷ others) =
     if fits_after (spell (up_to r before)) variant then misplaced_after r (before ++ variant ∷ []) others else Some variant
 
+-- the first of all its variants that does not
 abbrev pub misplaced : Record → Option (List ℕ)
 misplaced r = misplaced_after r [] r.variants

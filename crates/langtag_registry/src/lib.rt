@@ -1,5 +1,6 @@
 //! The IANA Language Subtag Registry over language tags: which subtags are registered, what the registry says of them
-//! (RFC 5646 section 3.1), and which tags are valid (section 2.2.9).
+//! (RFC 5646 section 3.1), which tags are valid (section 2.2.9), and which variants do not follow what they are meant to
+//! follow (section 3.1.8).
 //!
 //! ```
 //! use langtag::LangTag;

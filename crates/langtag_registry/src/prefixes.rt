@@ -19,9 +19,7 @@ pub fn extlang_prefix(extlang: ExtendedLangTag<'_>) -> Option<PrimaryLanguage<'s
 }
 
 /// Returns the same of a language that is an extended one, too: `zh` for the language `yue`, None for `fr`.
-pub(crate) fn prefix_of_language(
-    language: PrimaryLanguage<'_>,
-) -> Option<PrimaryLanguage<'static>>
+pub(crate) fn prefix_of_language(language: PrimaryLanguage<'_>) -> Option<PrimaryLanguage<'static>>
     ensures { option_map primary_language_text result ≡ field.extlang_prefix (primary_language_text language.entry) }
 {
     match value_of(prefix_table(), language) {

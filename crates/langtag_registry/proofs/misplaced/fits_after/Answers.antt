@@ -1,6 +1,5 @@
 use Rattle.std.proofs.Common.{length, ap, sym, subst, true, false, ◌∙◌, ◌<◌, ◌≡◌, get_or, arith, []}
 use Rattle.std.proofs.lemmas.Bool.{eq-eqb, ne_eqb}
-use Rattle.std.proofs.lemmas.List.{drop_all}
 use Rattle.langtag_scan.proofs.SubtagFacts.{of_variant}
 use Rattle.langtag_place.specs.Text.{variant_text}
 use Rattle.langtag_match.specs.Extended.{test_extended}
@@ -58,13 +57,13 @@ loop-key-preserved c =
     let key = same_at (λ pair. pair.0) (λ e. folded_number e.subtag) _ _ items.numbers i _ no_entry 0 inside in
     elim c.if-number-key.branch [
       | then-number-key+else-matches_tag w ↦ rw w.has_none-is (
-        left_unmatched c.args.before.now text c.loop-key.has_none i c.loop-key.invariant within
-        (number_tells (get_or variant_prefixes i no_entry) text _ _ true good also number key (eq-eqb _ _ w.if-number-key.true))
-        (ap (λ prefix. test_extended prefix c.args.before.now) (sym (same_at (λ pair. pair.1.now) (λ e. e.value) _ _ items.values i _ no_entry [] inside))
-        ∙ sym w.matches_tag.ensures ∙ w.if-matches_tag.false))
+          left_unmatched c.args.before.now text c.loop-key.has_none i c.loop-key.invariant within
+          (number_tells (get_or variant_prefixes i no_entry) text _ _ true good also number key (eq-eqb _ _ w.if-number-key.true))
+          (ap (λ prefix. test_extended prefix c.args.before.now) (sym (same_at (λ pair. pair.1.now) (λ e. e.value) _ _ items.values i _ no_entry [] inside))
+          ∙ sym w.matches_tag.ensures ∙ w.if-matches_tag.false))
       | else-number-key w ↦ rw w.has_none-is (
-        left_other c.args.before.now text c.loop-key.has_none i c.loop-key.invariant within
-        (number_tells (get_or variant_prefixes i no_entry) text _ _ false good also number key (ne_eqb _ _ w.if-number-key.false)))
+          left_other c.args.before.now text c.loop-key.has_none i c.loop-key.invariant within
+          (number_tells (get_or variant_prefixes i no_entry) text _ _ false good also number key (ne_eqb _ _ w.if-number-key.false)))
     ]
 
 pub returns : goal.returns

@@ -1,13 +1,11 @@
-use Rattle.std.proofs.Common.{◌≡◌, ◌+◌, length, take, subst, ap, sym, ◌∙◌, arith}
+use Rattle.std.proofs.Common.{length, subst, ap, sym, ◌∙◌, arith}
 use Rattle.std.proofs.lemmas.Str.{IsCharBoundary-from_ascii}
-use Rattle.langtag_scan.specs.Record.{EachRecord, Spells, spell}
-use Rattle.langtag_scan.specs.Tag.{IsTag, IsNormal}
+use Rattle.langtag_scan.specs.Tag.{IsTag}
 use Rattle.langtag_scan.proofs.Ascii.{IsAscii-normal}
 use Rattle.langtag_place.specs.Text.{variant_text, variants_left}
-use Rattle.langtag.specs.Text.{normal_lang_tag_text}
 use Rattle.langtag_registry.specs.Prefix.{fits_after}
 use Rattle.langtag_registry.proofs.FaultLaws.{variants_listed}
-use Rattle.langtag_registry.proofs.MisplacedLaws.{IsWalked, walk_first, end_within, tag_here, walk_stopped, walk_later, walk_ended, some_record, take_spelled}
+use Rattle.langtag_registry.proofs.MisplacedLaws.{walk_first, end_within, tag_here, walk_stopped, walk_later, walk_ended, some_record, take_spelled}
 use Rattle.langtag_registry.proofs.misplaced.misplaced_variant.Goals as goal
 
 pub loop-variant-init : goal.loop-variant-init
