@@ -224,17 +224,14 @@ def each(registry):
 
 
 def compare(registry, columns, path):
-    count = differ = 0
-    answers = open(path, encoding="utf-8", newline="\n").read().split("\n")
-    for line, got in zip(sys.stdin, answers):
-        count += 1
-        wanted = registry.answer(line.rstrip("\n"), columns)
-        if wanted != got:
-            differ += 1
-            if differ <= 20:
-                print(f"{line.rstrip()}: {got}, and not {wanted}")
-    print(f"{differ} of {count} lines differ")
-    return differ > 0 or len(answers) != count + 1
+    lines = sys.stdin.read().split("\n")[:-1]
+    answers = open(path, encoding="utf-8", newline="\n").read().split("\n")[:-1]
+    wanted = [registry.answer(line, columns) for line in lines]
+    differ = [triple for triple in zip(lines, answers, wanted) if triple[1] != triple[2]]
+    for line, got, told in differ[:20]:
+        print(f"{line}: {got}, and not {told}")
+    print(f"{len(differ)} of {len(lines)} lines differ, with {len(answers)} answers")
+    return len(differ) > 0 or len(lines) != len(answers)
 
 
 def main():

@@ -3,9 +3,9 @@
 //! follow (section 3.1.8).
 //!
 //! ```
-//! use langtag::LangTag;
+//! use langtag::{LangTag, NormalLangTag};
 //! use langtag_language::PrimaryLanguage;
-//! use langtag_registry::{InvalidSubtag, is_language, preferred_language, validate};
+//! use langtag_registry::{InvalidSubtag, is_language, misplaced_variant, preferred_language, validate};
 //!
 //! validate(LangTag::new("de-CH-1996")?)?; // valid
 //! match validate(LangTag::new("qt-FR")?) {
@@ -14,6 +14,7 @@
 //! }
 //! is_language(PrimaryLanguage::new("fr")?);        // true
 //! preferred_language(PrimaryLanguage::new("iw")?); // Some(he)
+//! misplaced_variant(NormalLangTag::new("fr-nedis")?); // Some(nedis): it goes with `sl`
 //! ```
 #![tactic(auto)]
 

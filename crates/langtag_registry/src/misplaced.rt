@@ -22,7 +22,7 @@ use langtag_place::Variant;
 /// `sl-IT-nedis`, and of `fr-fonipa`, as `fonipa` goes with every language.
 ///
 /// A prefix matches what stands before the variant by extended filtering (RFC 4647 section 3.3.2). The RFC recommends that
-/// one does, and a tag is valid without.
+/// one does, and a tag is valid without. No memory is taken. The time may grow with the square of the number of variants.
 pub fn misplaced_variant<'a>(tag: NormalLangTag<'a>) -> Option<Variant<'a>>
     ensures { EachRecord (normal_lang_tag_text tag.entry) (λ r. option_map variant_text result ≡ spec.misplaced r) }
 {

@@ -11,7 +11,7 @@ use crate::tables;
 use langtag_language::{ExtendedLangTag, PrimaryLanguage};
 
 /// Returns the language that an extended language stands after (the field Prefix, RFC 5646 section 3.1.8): `zh` for `yue`.
-/// None for what is not registered.
+/// None for what is not registered. A tag of another language, as `de-yue`, may be valid.
 pub fn extlang_prefix(extlang: ExtendedLangTag<'_>) -> Option<PrimaryLanguage<'static>>
     ensures { option_map primary_language_text result ≡ field.extlang_prefix (extended_lang_tag_text extlang.entry) }
 {
