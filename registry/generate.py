@@ -100,6 +100,10 @@ class Registry:
         for text in self.fields["language"]:
             if len(text) not in (2, 3):
                 sys.exit(f"the tables have languages of two and three letters alone: {text}")
+        for kind, of_kind in self.fields.items():
+            for text, record in of_kind.items():
+                if any(len(record.get(field, [])) > 1 for field in ("Preferred-Value", "Suppress-Script", "Macrolanguage")):
+                    sys.exit(f"a field twice: {kind} {text}")
         for text, record in self.fields["extlang"].items():
             if [value.lower() for value in record.get("Preferred-Value", [])] != [text.lower()]:
                 sys.exit(f"an extended language whose Preferred-Value is not itself: {text}")
@@ -112,7 +116,7 @@ class Registry:
         return sorted(found, key=lambda text: number(kind, text))
 
     def values(self, kind, field):
-        return [(text, self.fields[kind][text][field][0]) for text in self.subtags(kind, field)]
+        return [(text, value) for text in self.subtags(kind, field) for value in self.fields[kind][text][field]]
 
 
 def in_lines(items, width=116):
@@ -168,6 +172,9 @@ def tables(registry):
         pairs = [pair for kind in kinds for pair in registry.values(kind, "Preferred-Value")]
         out.append(table(f"PREFERRED_{name}S", f"The {what} with a Preferred-Value, each before that value.", "(&str, &str)",
                          [f'("{text}", "{value}")' for text, value in pairs]))
+    prefixes = registry.values("variant", "Prefix")
+    out.append(table("VARIANT_PREFIXES", "The variants with a Prefix: their lowercase bytes as the digits of a number, each before one of its prefixes.", "(u64, &str)",
+                     [f'(0x{folded_number(text):016X}, "{prefix}")' for text, prefix in prefixes]))
     return "\n".join(out)
 
 
@@ -201,6 +208,7 @@ def lists(registry):
         pairs = [pair for kind in kinds for pair in registry.values(kind, "Preferred-Value")]
         label = "Tag" if len(kinds) > 1 else "Subtag"
         out.append(entry_list(name, f"the records of Type {' and '.join(kinds)} with a Preferred-Value field: each {label} before that value", pairs))
+    out.append(entry_list("variant_prefixes", "the records of Type variant with Prefix fields: each Subtag before each of its values", registry.values("variant", "Prefix")))
     return "\n".join(out)
 
 

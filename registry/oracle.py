@@ -184,6 +184,16 @@ def make(registry, count, seed):
             text = rng.choice(registry.names["grandfathered"] + registry.names["redundant"]) + rng.choice(["", "", "", "-x-a", "-DD"])
         elif how < 0.17:
             text = rng.choice(["sgn-", "sgn-", "SGN-"]) + rng.choice(["DD", "FX", "BR", "BU", "ZR", "US"])
+        elif how < 0.19:
+            text = "x-" + "-".join(rng.choice(["a", "mine", "iw", "12345678", "", "123456789"]) for _ in range(rng.choice([1, 1, 2])))
+        elif how < 0.27:
+            kind, name = rng.choice(list(registry.prefixes))
+            parts = rng.choice(registry.prefixes[kind, name]).split("-")
+            for extra in [name] + [some("variant") for _ in range(rng.choice([0, 1, 2]))]:
+                parts.insert(rng.choice([len(parts), len(parts), rng.randrange(1, len(parts) + 1)]), extra)
+            if rng.random() < 0.3:
+                parts.insert(rng.choice([1, 1, len(parts)]), some(rng.choice(["region", "script"])))
+            text = "-".join(parts)
         else:
             parts = [some("language")]
             for kind, odds in (("extlang", 0.25), ("extlang", 0.05), ("script", 0.3), ("region", 0.4), ("variant", 0.3), ("variant", 0.2), ("variant", 0.1)):
@@ -214,28 +224,28 @@ def each(registry):
 
 
 def compare(registry, columns, path):
-    count = differ = 0
-    answers = open(path, encoding="utf-8", newline="\n").read().split("\n")
-    for line, got in zip(sys.stdin, answers):
-        count += 1
-        wanted = registry.answer(line.rstrip("\n"), columns)
-        if wanted != got:
-            differ += 1
-            if differ <= 20:
-                print(f"{line.rstrip()}: {got}, and not {wanted}")
-    print(f"{differ} of {count} lines differ")
-    return differ > 0 or len(answers) != count + 1
+    lines = sys.stdin.read().split("\n")[:-1]
+    answers = open(path, encoding="utf-8", newline="\n").read().split("\n")[:-1]
+    wanted = [registry.answer(line, columns) for line in lines]
+    differ = [triple for triple in zip(lines, answers, wanted) if triple[1] != triple[2]]
+    for line, got, told in differ[:20]:
+        print(f"{line}: {got}, and not {told}")
+    print(f"{len(differ)} of {len(lines)} lines differ, with {len(answers)} answers")
+    return len(differ) > 0 or len(lines) != len(answers)
 
 
-registry = Registry(sys.argv[1])
-words = sys.argv[2:]
-if words[:1] == ["--each"]:
-    each(registry)
-elif words[:1] == ["--make"]:
-    make(registry, int(words[1]), int(words[2]))
-else:
+def main():
+    registry, words = Registry(sys.argv[1]), sys.argv[2:]
+    if words[:1] == ["--each"]:
+        return each(registry)
+    if words[:1] == ["--make"]:
+        return make(registry, int(words[1]), int(words[2]))
     columns = [word for word in words if word in COLUMNS] or COLUMNS[:3]
     if words[-2:-1] == ["--compare"]:
-        sys.exit(compare(registry, columns, words[-1]))
+        return compare(registry, columns, words[-1])
     for line in sys.stdin:
         print(registry.answer(line.rstrip("\n"), columns))
+
+
+if __name__ == "__main__":
+    sys.exit(main())

@@ -28,3 +28,6 @@ pub mod CanonicalLanguages
 pub mod CanonicalVariants
 pub mod ExtensionOrder
 pub mod CanonicalParts
+pub mod PrefixTables
+pub mod PrefixLaws
+pub mod MisplacedLaws

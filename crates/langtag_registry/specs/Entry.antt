@@ -17,3 +17,9 @@ entries (subtag ∷ value ∷ texts) = record { subtag = subtag; value = value }
 abbrev pub value_for : List Entry → List ℕ → Option (List ℕ)
 value_for [] text = None
 value_for (first ∷ others) text = if are_alike first.subtag text then Some first.value else value_for others text
+
+-- all values for a text
+abbrev pub values_for : List Entry → List ℕ → List (List ℕ)
+values_for [] text = []
+values_for (first ∷ others) text =
+    if are_alike first.subtag text then first.value ∷ values_for others text else values_for others text

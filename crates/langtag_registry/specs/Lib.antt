@@ -8,3 +8,4 @@ pub mod Fault
 pub mod Valid
 pub mod Canonical
 pub mod CanonicalLaws
+pub mod Prefix

@@ -99,3 +99,7 @@ variant_preferred = entries (words (codes "heploc alalc97"))
 -- the records of Type grandfathered and redundant with a Preferred-Value field: each Tag before that value
 unfoldable pub tag_preferred : List Entry
 tag_preferred = entries (words (codes "i-ami ami i-bnn bnn i-hak hak i-lux lb i-pwn pwn i-tao tao i-tay tay i-tsu tsu no-bok nb no-nyn nn i-navajo nv zh-guoyu cmn zh-hakka hak zh-xiang hsn en-GB-oed en-GB-oxendict i-klingon tlh sgn-BE-FR sfb sgn-BE-NL vgt sgn-CH-DE sgg art-lojban jbo zh-min-nan nan sgn-BR bzs sgn-CO csn sgn-DE gsg sgn-DK dsl sgn-ES ssp sgn-FR fsl sgn-GB bfi sgn-GR gss sgn-IE isg sgn-IT ise sgn-JP jsl sgn-MX mfs sgn-NI ncs sgn-NL dse sgn-NO nsl sgn-PT psr sgn-SE swl sgn-US ase sgn-ZA sfs zh-cmn cmn zh-gan gan zh-wuu wuu zh-yue yue zh-cmn-Hans cmn-Hans zh-cmn-Hant cmn-Hant"))
+
+-- the records of Type variant with Prefix fields: each Subtag before each of its values
+unfoldable pub variant_prefixes : List Entry
+variant_prefixes = entries (words (codes "1901 de 1994 sl-rozaj 1994 sl-rozaj-biske 1994 sl-rozaj-njiva 1994 sl-rozaj-osojs 1994 sl-rozaj-solba 1996 de aluku djk barla kea biske sl-rozaj boont en cornu en gallo fr jauer rm kkcor kw kscor kw lipaw sl-rozaj nedis sl njiva sl-rozaj nulik vo osojs sl-rozaj peano la puter rm rigik vo rozaj sl rumgr rm solba sl-rozaj sotav kea uccor kw ao1990 pt ao1990 gl aranes oc asante tw auvern oc cisaup oc creiss oc dajnko sl ekavsk sr ekavsk sr-Latn ekavsk sr-Cyrl gascon oc grital oc grital oc-cisaup grital oc-nicard grital oc-provenc heploc ja-Latn-hepburn ndyuka djk nicard oc pamaka djk pinyin zh-Latn pinyin bo-Latn scouse en tarask be ucrcor kw ulster sco unifon en unifon hup unifon kyh unifon tol unifon yur abl1943 pt-BR akuapem tw arevela hy arevmda hy arkaika eo balanka blo bauddha sa bohoric sl emodeng en grclass oc grclass oc-aranes grclass oc-auvern grclass oc-cisaup grclass oc-creiss grclass oc-gascon grclass oc-lemosin grclass oc-lengadoc grclass oc-nicard grclass oc-provenc grclass oc-vivaraup grmistr oc grmistr oc-aranes grmistr oc-auvern grmistr oc-cisaup grmistr oc-creiss grmistr oc-gascon grmistr oc-lemosin grmistr oc-lengadoc grmistr oc-nicard grmistr oc-provenc grmistr oc-vivaraup hepburn ja-Latn itihasa sa laukika sa lemosin oc ltg2007 ltg metelko sl monoton el pahawh2 mww pahawh2 hnj pahawh3 mww pahawh3 hnj pahawh4 mww pahawh4 hnj polyton el provenc oc sursilv rm sutsilv rm vaidika sa 1606nict frm 1694acad fr 1959acad be baku1926 az baku1926 ba baku1926 crh baku1926 kk baku1926 krc baku1926 ky baku1926 sah baku1926 tk baku1926 tt baku1926 uz basiceng en biscayan eu bornholm da colb1945 pt hognorsk nn hsistemo eo ijekavsk sr ijekavsk sr-Latn ijekavsk sr-Cyrl ivanchov bg jyutping yue kociewie pl lengadoc oc luna1918 ru newfound en-CA oxendict en petr1708 ru scotland en spanglis en spanglis es surmiran rm synnejyl da tongyong zh-Latn tunumiit kl valencia ca vallader rm vecdruka lv vivaraup oc wadegile zh-Latn xsistemo eo"))

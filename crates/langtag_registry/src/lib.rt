@@ -1,10 +1,13 @@
 //! The IANA Language Subtag Registry over language tags: which subtags are registered, what the registry says of them
-//! (RFC 5646 section 3.1), which tags are valid (section 2.2.9), and the canonical form of a tag (section 4.5).
+//! (RFC 5646 section 3.1), which tags are valid (section 2.2.9), the canonical form of a tag (section 4.5), and which
+//! variants do not follow what they are meant to follow (section 3.1.8).
 //!
 //! ```
-//! use langtag::LangTag;
+//! use langtag::{LangTag, NormalLangTag};
 //! use langtag_language::PrimaryLanguage;
-//! use langtag_registry::{InvalidSubtag, canonical, is_language, preferred_language, validate};
+//! use langtag_registry::{
+//!     InvalidSubtag, canonical, is_language, misplaced_variant, preferred_language, validate,
+//! };
 //!
 //! validate(LangTag::new("de-CH-1996")?)?; // valid
 //! match validate(LangTag::new("qt-FR")?) {
@@ -14,6 +17,7 @@
 //! is_language(PrimaryLanguage::new("fr")?);        // true
 //! preferred_language(PrimaryLanguage::new("iw")?); // Some(he)
 //! canonical(alloc, LangTag::new("iw-BU")?)?;       // he-MM
+//! misplaced_variant(NormalLangTag::new("fr-nedis")?); // Some(nedis): it goes with `sl`
 //! ```
 #![tactic(auto)]
 
@@ -27,6 +31,7 @@ mod keys;
 mod language_fields;
 mod language_table;
 mod languages;
+mod misplaced;
 mod preferred;
 mod prefixes;
 mod push_subtag;
@@ -43,6 +48,7 @@ pub use deprecated::{
 pub use invalid_subtag::InvalidSubtag;
 pub use language_fields::{macrolanguage, preferred_language, suppress_script};
 pub use languages::is_language;
+pub use misplaced::misplaced_variant;
 pub use preferred::{preferred_region, preferred_tag, preferred_variant};
 pub use prefixes::extlang_prefix;
 pub use subtags::{is_extlang, is_region, is_script, is_variant};

@@ -11,7 +11,7 @@ use crate::tables;
 use langtag_language::{ExtendedLangTag, PrimaryLanguage};
 
 /// Returns the language that an extended language stands after (the field Prefix, RFC 5646 section 3.1.8): `zh` for `yue`.
-/// None for what is not registered.
+/// None for what is not registered. A tag of another language, as `de-yue`, may be valid.
 pub fn extlang_prefix(extlang: ExtendedLangTag<'_>) -> Option<PrimaryLanguage<'static>>
     ensures { option_map primary_language_text result ≡ field.extlang_prefix (extended_lang_tag_text extlang.entry) }
 {
@@ -19,9 +19,7 @@ pub fn extlang_prefix(extlang: ExtendedLangTag<'_>) -> Option<PrimaryLanguage<'s
 }
 
 /// Returns the same of a language that is an extended one, too: `zh` for the language `yue`, None for `fr`.
-pub(crate) fn prefix_of_language(
-    language: PrimaryLanguage<'_>,
-) -> Option<PrimaryLanguage<'static>>
+pub(crate) fn prefix_of_language(language: PrimaryLanguage<'_>) -> Option<PrimaryLanguage<'static>>
     ensures { option_map primary_language_text result ≡ field.extlang_prefix (primary_language_text language.entry) }
 {
     match value_of(prefix_table(), language) {

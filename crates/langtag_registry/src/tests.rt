@@ -1,10 +1,11 @@
 //! Tests of the crate: messages, callers, and what the registry says of known subtags.
 use crate::{
-    FILE_DATE, InvalidSubtag, canonical, is_canonical, macrolanguage, preferred_language,
+    FILE_DATE, InvalidSubtag, canonical, extlang_prefix, is_canonical, macrolanguage,
+    misplaced_variant, preferred_language,
     preferred_tag, suppress_script, validate,
 };
-use langtag::{InvalidLangTag, LangTag};
-use langtag_language::PrimaryLanguage;
+use langtag::{InvalidLangTag, LangTag, NormalLangTag};
+use langtag_language::{ExtendedLangTag, PrimaryLanguage};
 use std::alloc::{AllocError, Global};
 use std::collections::HashMap;
 use std::test::Fail;
@@ -155,6 +156,35 @@ fn canonical_forms(rt: HostRuntime) -> Result<(), Fail> {
         let form = canonical(rt.alloc(), tag)?;
         assert!(rt; form.as_str() == wanted, "of {text}: {form}");
         assert!(rt; is_canonical(tag) == (text == wanted), "of {text}");
+    }
+    Ok(())
+}
+
+/// Extended languages and what stands before them, and tags and the first variant of each that is out of place.
+#[test]
+fn known_prefixes(rt: HostRuntime) -> Result<(), Fail> {
+    for (text, wanted) in [("YUE", Some("zh")), ("ase", Some("sgn")), ("fra", None)] {
+        let extlang = ExtendedLangTag::new(text).ok().ok_or(text)?;
+        assert!(rt;
+            extlang_prefix(extlang).map(|language| language.as_str()) == wanted,
+            "of {text}"
+        );
+    }
+    for (text, wanted) in [
+        ("SL-it-nedis", None),
+        ("fr-fonipa-1997", None),
+        ("sl-rozaj-biske-1994", None),
+        ("sl-1994-rozaj-1994", Some("1994")),
+        ("fr-SL-rozaj-Nedis", Some("rozaj")),
+        ("de-1996-Nedis", Some("Nedis")),
+        ("sr-ekavsk-a-bb-x-y", None),
+        ("ja-hepburn", Some("hepburn")),
+    ] {
+        let tag = NormalLangTag::new(text).ok().ok_or(text)?;
+        assert!(rt;
+            misplaced_variant(tag).map(|variant| variant.as_str()) == wanted,
+            "of {text}"
+        );
     }
     Ok(())
 }

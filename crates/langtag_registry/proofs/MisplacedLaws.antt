@@ -1,0 +1,134 @@
+-- The walk over the variants of a tag: what stands before each is a tag, too.
+use Rattle.std.proofs.Common.{◌≡◌, ℕ, ◌+◌, ◌-◌, ◌≤◌, true, false, cond, IsTrue, List, [], ◌∷◌, ◌++◌, length, take, None, Some, inl, refl, ap, sym, ◌∙◌, append_assoc, arith}
+use Rattle.std.specs.List.{AllByRecursion, flat_map, slice_range}
+use Rattle.std.proofs.lemmas.List.{append-nil}
+use Rattle.langtag_scan.specs.Class.{is_variant}
+use Rattle.langtag_scan.specs.Ends.{ends_of}
+use Rattle.langtag_scan.specs.Record.{Record, IsWellFormed, Spells, spell, one_flat, extension_flat, private_part_flat}
+use Rattle.langtag_scan.specs.Subtags.{join}
+use Rattle.langtag_scan.specs.Tag.{IsTag, IsNormal}
+use Rattle.langtag_scan.proofs.Joins.{take-join, length-join-append}
+use Rattle.langtag_registry.specs.Prefix.{fits_after, up_to, misplaced, misplaced_after}
+
+-- the subtags after the first up to some variants
+abbrev others : Record → List (List ℕ) → List (List ℕ)
+others r before = r.extended ++ (one_flat r.script ++ (one_flat r.region ++ before))
+
+spell-up_to : (r : Record) (before : List (List ℕ)) → spell (up_to r before) ≡ join (r.primary ∷ others r before)
+spell-up_to r before = ap (λ vs. join (r.primary ∷ others r vs)) (append-nil before)
+
+-- and the variants after them with all that follows
+abbrev rest_of : Record → List (List ℕ) → List (List ℕ)
+rest_of r left = left ++ (flat_map extension_flat r.extensions ++ private_part_flat r.private_use)
+
+spell-cut : (r : Record) (before left : List (List ℕ)) → r.variants ≡ before ++ left → spell r ≡ join (r.primary ∷ (others r before ++ rest_of r left))
+spell-cut r before left cut =
+    let tail = flat_map extension_flat r.extensions ++ private_part_flat r.private_use in
+    let whole : r.extended ++ (one_flat r.script ++ (one_flat r.region ++ ((before ++ left) ++ tail))) ≡ others r before ++ (left ++ tail) = simp append_assoc in
+    rw cut (ap (λ ss. join (r.primary ∷ ss)) whole)
+
+-- ---- the texts before variants
+
+module _ (r : Record) (before left : List (List ℕ)) (cut : r.variants ≡ before ++ left) where
+  pub take-up_to : take (length (spell (up_to r before))) (spell r) ≡ spell (up_to r before)
+  take-up_to = rw (spell-up_to r before, spell-cut r before left cut) (take-join r.primary (others r before) (rest_of r left))
+
+  pub up_to-within : length (spell (up_to r before)) ≤ length (spell r)
+  up_to-within =
+      let long = length-join-append r.primary (others r before) (rest_of r left) in
+      let short = ap length (spell-up_to r before) in
+      let whole = ap length (spell-cut r before left cut) in
+      omega (arith, long, short, whole)
+
+  first_variants : AllByRecursion (λ s. IsTrue (is_variant s)) (before ++ left) → AllByRecursion (λ s. IsTrue (is_variant s)) before
+  first_variants = first_of before
+    where
+      first_of : (vs : List (List ℕ)) → AllByRecursion (λ s. IsTrue (is_variant s)) (vs ++ left) → AllByRecursion (λ s. IsTrue (is_variant s)) vs
+      first_of [] all = tt
+      first_of (v ∷ vs) all = (all.0, first_of vs all.1)
+
+  pub up_to-tag : IsWellFormed r → IsTag (spell (up_to r before))
+  unfolding IsTag IsNormal
+  up_to-tag well = inl (
+    up_to r before,
+    (
+      record {
+        primary = well.primary;
+        extended = well.extended;
+        few = well.few;
+        short = well.short;
+        script = well.script;
+        region = well.region;
+        variants = first_variants (rw cut at well.variants);
+        extensions = tt;
+        private_use = tt;
+      },
+      refl,
+    ),
+  )
+
+pub region_end : (r : Record) → (ends_of r).region ≡ length (spell (up_to r []))
+region_end r = ap (λ ss. length (join (r.primary ∷ (r.extended ++ (one_flat r.script ++ ss))))) (sym (append-nil (one_flat r.region)))
+    ∙ sym (ap length (spell-up_to r []))
+
+pub variant_end : (r : Record) (before : List (List ℕ)) (v : List ℕ) → length (spell (up_to r before)) + (1 + length v) ≡ length (spell (up_to r (before ++ v ∷ [])))
+variant_end r before v =
+    let long = length-join-append r.primary (others r before) (v ∷ []) in
+    let grouped : others r before ++ v ∷ [] ≡ others r (before ++ v ∷ []) = simp append_assoc in
+    let next = ap length (spell-up_to r (before ++ v ∷ [])) ∙ ap (λ ss. length (join (r.primary ∷ ss))) (sym grouped) in
+    let here = ap length (spell-up_to r before) in
+    let one = ap length (append-nil v) in
+    omega (arith, long, next, here, one)
+
+-- ---- the walk
+
+-- some variants stand before the end, and all of them fit
+pub record IsWalked (r : Record) (end : ℕ) (left : List (List ℕ)) : Type 0 where
+  pub before : List (List ℕ)
+  pub cut : r.variants ≡ before ++ left
+  pub end_at : end ≡ length (spell (up_to r before))
+  pub so_far : misplaced r ≡ misplaced_after r before left
+
+pub walk_first : (r : Record) (end : ℕ) (left : List (List ℕ)) → end ≡ (ends_of r).region → left ≡ r.variants → IsWalked r end left
+walk_first r end left at all =
+    record { before = []; cut = sym all; end_at = at ∙ region_end r; so_far = ap (misplaced_after r []) (sym all) }
+
+module _ (r : Record) (end : ℕ) (left : List (List ℕ)) (walked : IsWalked r end left) where
+  pub text_here : take end (spell r) ≡ spell (up_to r walked.before)
+  text_here = ap (λ n. take n (spell r)) walked.end_at ∙ take-up_to r walked.before left walked.cut
+
+  pub end_within : end ≤ length (spell r)
+  end_within = let at = walked.end_at in let within = up_to-within r walked.before left walked.cut in omega (arith, at, within)
+
+  pub tag_here : IsWellFormed r → IsTag (take end (spell r))
+  tag_here well = rw text_here (up_to-tag r walked.before left walked.cut well)
+
+  pub walk_ended : left ≡ [] → None ≡ misplaced r
+  walk_ended none = sym (walked.so_far ∙ ap (misplaced_after r walked.before) none)
+
+  module _ (v : List ℕ) (rest : List (List ℕ)) (next : left ≡ v ∷ rest) where
+    turn : misplaced r ≡ cond (fits_after (take end (spell r)) v) (misplaced_after r (walked.before ++ v ∷ []) rest) (Some v)
+    turn = walked.so_far ∙ ap (misplaced_after r walked.before) next
+        ∙ ap (λ text. cond (fits_after text v) (misplaced_after r (walked.before ++ v ∷ []) rest) (Some v)) (sym text_here)
+
+    pub walk_stopped : fits_after (take end (spell r)) v ≡ false → Some v ≡ misplaced r
+    walk_stopped is = sym (turn ∙ ap (λ b. cond b (misplaced_after r (walked.before ++ v ∷ []) rest) (Some v)) is)
+
+    pub walk_later : (text : List ℕ) → text ≡ v → fits_after (take end (spell r)) v ≡ true → IsWalked r (end + (1 + length text)) rest
+    walk_later text same is = record {
+      before = walked.before ++ v ∷ [];
+      cut = walked.cut ∙ ap (λ vs. walked.before ++ vs) next ∙ sym (append_assoc walked.before (v ∷ []) rest);
+      end_at = ap (λ n. n + (1 + length text)) walked.end_at ∙ ap (λ t. length (spell (up_to r walked.before)) + (1 + length t)) same ∙ variant_end r walked.before v;
+      so_far = turn ∙ ap (λ b. cond b (misplaced_after r (walked.before ++ v ∷ []) rest) (Some v)) is;
+    }
+
+-- ---- the text
+
+pub some_record : (text : List ℕ) → IsNormal text → (r : Record) × Spells r text
+unfolding IsNormal
+some_record text normal = normal
+
+pub take_spelled : (r : Record) (text cut : List ℕ) (end : ℕ) → spell r ≡ text → cut ≡ slice_range text 0 end → take end (spell r) ≡ cut
+take_spelled r text cut end spelled is =
+    let size : end ≡ end - 0 = omega arith in
+    ap (take end) spelled ∙ ap (λ n. take n text) size ∙ sym is

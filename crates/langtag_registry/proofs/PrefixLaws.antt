@@ -1,0 +1,110 @@
+-- The walk over the prefixes of a variant.
+use Rattle.std.proofs.Common.{◌≡◌, ℕ, zero, suc, ◌+◌, ◌<◌, ◌≤◌, true, false, ◌==◌, Bool, cond, List, [], ◌∷◌, length, get_or, map, drop, refl, ap, sym, ◌∙◌, arith}
+use Rattle.std.specs.List.{list_all, list_any}
+use Rattle.std.proofs.lemmas.Bool.{and_parts}
+use Rattle.std.proofs.lemmas.List.{length-map, get_or-map, at_drop_more}
+use Rattle.langtag_scan.specs.Case.{are_alike}
+use Rattle.langtag_scan.specs.Class.{are_alphanumeric}
+use Rattle.langtag_match.specs.Extended.{test_extended}
+use Rattle.langtag_registry.specs.Entry.{Entry, values_for}
+use Rattle.langtag_registry.specs.Numbers.{folded_number}
+use Rattle.langtag_registry.specs.Prefix.{some_matches, fits_after}
+use Rattle.langtag_registry.specs.Subtags.{variant_prefixes}
+use Rattle.langtag_registry.proofs.FoldedNumbers.{folded_number-tells}
+use Rattle.langtag_registry.proofs.Values.{no_entry}
+
+-- ---- two lists of which something is the same
+
+module _ {A B C : Type 0} (f : A → C) (g : B → C) (xs : List A) (ys : List B) (same : map f xs ≡ map g ys) where
+  pub length-same : length xs ≡ length ys
+  length-same = sym (length-map xs f) ∙ ap length same ∙ length-map ys g
+
+  pub same_at : (i : ℕ) (a : A) (b : B) (c : C) → i < length xs → f (get_or xs i a) ≡ g (get_or ys i b)
+  same_at i a b c inside =
+      sym (get_or-map f xs i a c inside) ∙ ap (λ zs. get_or zs i c) same ∙ get_or-map g ys i b c (omega (arith, inside, length-same))
+
+pub list_all_get : {A : Type 0} (p : A → Bool) (xs : List A) (i : ℕ) (a : A) → list_all p xs ≡ true → i < length xs → p (get_or xs i a) ≡ true
+list_all_get p [] i a all inside = absurd (omega (arith, inside))
+list_all_get p (x ∷ xs) zero a all inside = (and_parts (p x) (list_all p xs) all).0
+list_all_get p (x ∷ xs) (suc i) a all inside = list_all_get p xs i a (and_parts (p x) (list_all p xs) all).1 (omega (arith, inside))
+
+-- a number is that of an entry's subtag where the texts are alike
+pub number_tells :
+    (entry : Entry) (variant : List ℕ) (number key : ℕ) (same : Bool) → are_alphanumeric entry.subtag ≡ true → are_alphanumeric variant ≡ true →
+    number ≡ folded_number variant → key ≡ folded_number entry.subtag → (number == key) ≡ same → are_alike entry.subtag variant ≡ same
+number_tells entry variant number key same good also at beside is =
+    sym (folded_number-tells entry.subtag variant good also) ∙ ap (λ n. n == folded_number entry.subtag) (sym at) ∙ ap (λ k. number == k) (sym beside) ∙ is
+
+-- ---- what the entries that are left answer: whether one has a prefix that matches; and where there was none for the
+-- variant, whether there is none
+
+module _ (text variant : List ℕ) where
+  abbrev pub fits_left : Bool → List Entry → Bool
+  fits_left has_none [] = has_none
+  fits_left has_none (e ∷ list) =
+      cond (are_alike e.subtag variant) (cond (test_extended e.value text) true (fits_left false list)) (fits_left has_none list)
+
+  fits_left-any : (list : List Entry) → fits_left false list ≡ list_any (λ prefix. test_extended prefix text) (values_for list variant)
+  fits_left-any [] = refl
+  fits_left-any (e ∷ list) = by_tests (are_alike e.subtag variant) (test_extended e.value text) refl refl (fits_left-any list)
+    where
+      by_tests :
+          (alike matches : Bool) → are_alike e.subtag variant ≡ alike → test_extended e.value text ≡ matches →
+          fits_left false list ≡ list_any (λ prefix. test_extended prefix text) (values_for list variant) →
+          fits_left false (e ∷ list) ≡ list_any (λ prefix. test_extended prefix text) (values_for (e ∷ list) variant)
+      by_tests false matches is also others = rw is others
+      by_tests true true is also others = rw (is, also) refl
+      by_tests true false is also others = rw (is, also) others
+
+  fits_left-some : (list : List Entry) → fits_left true list ≡ some_matches (values_for list variant) text
+  fits_left-some [] = refl
+  fits_left-some (e ∷ list) = by_tests (are_alike e.subtag variant) (test_extended e.value text) refl refl (fits_left-some list)
+    where
+      by_tests :
+          (alike matches : Bool) → are_alike e.subtag variant ≡ alike → test_extended e.value text ≡ matches →
+          fits_left true list ≡ some_matches (values_for list variant) text →
+          fits_left true (e ∷ list) ≡ some_matches (values_for (e ∷ list) variant) text
+      by_tests false matches is also others = rw is others
+      by_tests true true is also others = rw (is, also) refl
+      by_tests true false is also others = rw (is, also) (fits_left-any list)
+
+  -- the entries from an index on give the answer
+  unfoldable pub IsLeft : Bool → ℕ → Type 0
+  IsLeft has_none i = fits_after text variant ≡ fits_left has_none (drop i variant_prefixes)
+
+  pub left_first : IsLeft true 0
+  unfolding IsLeft fits_after
+  left_first = sym (fits_left-some variant_prefixes)
+
+  module _ (has_none : Bool) (i : ℕ) (left : IsLeft has_none i) (inside : i < length variant_prefixes) where
+    step : (alike matches : Bool) → are_alike (get_or variant_prefixes i no_entry).subtag variant ≡ alike →
+        test_extended (get_or variant_prefixes i no_entry).value text ≡ matches →
+        fits_after text variant
+        ≡ cond alike (cond matches true (fits_left false (drop (i + 1) variant_prefixes))) (fits_left has_none (drop (i + 1) variant_prefixes))
+    unfolding IsLeft
+    step alike matches is also = left ∙ at_drop_more (fits_left has_none) variant_prefixes i no_entry inside ∙ rw (is, also) refl
+
+    pub left_matched :
+        are_alike (get_or variant_prefixes i no_entry).subtag variant ≡ true → test_extended (get_or variant_prefixes i no_entry).value text ≡ true →
+        true ≡ fits_after text variant
+    left_matched is also = sym (step true true is also)
+
+    pub left_unmatched :
+        are_alike (get_or variant_prefixes i no_entry).subtag variant ≡ true → test_extended (get_or variant_prefixes i no_entry).value text ≡ false →
+        IsLeft false (i + 1)
+    unfolding IsLeft
+    left_unmatched is also = step true false is also
+
+    pub left_other : are_alike (get_or variant_prefixes i no_entry).subtag variant ≡ false → IsLeft has_none (i + 1)
+    unfolding IsLeft
+    left_other is = step false (test_extended (get_or variant_prefixes i no_entry).value text) is refl
+
+  pub left_ended : (has_none : Bool) (i : ℕ) → IsLeft has_none i → length variant_prefixes ≤ i → has_none ≡ fits_after text variant
+  unfolding IsLeft
+  left_ended has_none i left ends = sym (left ∙ ap (fits_left has_none) (drop-all variant_prefixes i ends))
+    where
+      drop-all : (es : List Entry) (j : ℕ) → length es ≤ j → drop j es ≡ []
+      drop-all [] zero le = refl
+      drop-all [] (suc j) le = refl
+      drop-all (e ∷ es) zero le = absurd (omega (arith, le))
+      drop-all (e ∷ es) (suc j) le = drop-all es j (omega (arith, le))

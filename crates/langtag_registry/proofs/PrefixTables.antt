@@ -1,0 +1,25 @@
+-- The table of the variants' prefixes has what the list says, and each prefix is a language range: by computation.
+use Rattle.std.proofs.Common.{◌≡◌, true, map, refl}
+use Rattle.std.specs.List.{list_all}
+use Rattle.langtag_scan.specs.Case.{fold_byte}
+use Rattle.langtag_scan.specs.Class.{is_letter, is_digit, are_alphanumeric, is_private_subtag}
+use Rattle.langtag_match.specs.Range.{is_language_range}
+use Rattle.langtag_registry.specs.declared.tables.TheConstants.{VARIANT_PREFIXES}
+use Rattle.langtag_registry.specs.Numbers.{folded_number}
+use Rattle.langtag_registry.specs.Subtags.{variant_prefixes}
+
+pub prefix_numbers : map (λ pair. pair.0) VARIANT_PREFIXES ≡ map (λ e. folded_number e.subtag) variant_prefixes
+unfolding variant_prefixes folded_number fold_byte
+prefix_numbers = refl
+
+pub prefix_texts : map (λ pair. pair.1.now) VARIANT_PREFIXES ≡ map (λ e. e.value) variant_prefixes
+unfolding variant_prefixes
+prefix_texts = refl
+
+pub prefixed_alphanumeric : list_all (λ e. are_alphanumeric e.subtag) variant_prefixes ≡ true
+unfolding variant_prefixes is_letter is_digit
+prefixed_alphanumeric = refl
+
+pub prefixes_are_ranges : list_all (λ e. is_language_range e.value) variant_prefixes ≡ true
+unfolding variant_prefixes is_private_subtag is_letter is_digit
+prefixes_are_ranges = refl

@@ -1,0 +1,71 @@
+//! Variants that do not stand after one of their prefixes (RFC 5646 section 3.1.8).
+ghost use Rattle.std.specs.Prelude.{◌≡◌, map, IsTrue};
+ghost use Rattle.std.specs.Option.{option_map};
+ghost use Rattle.langtag_scan.specs.Record.{EachRecord};
+ghost use Rattle.langtag_scan.specs.Tag.{IsTag};
+ghost use Rattle.langtag_place.specs.Text.{variant_text};
+ghost use Rattle.langtag.specs.Text.{normal_lang_tag_text};
+ghost use Rattle.langtag_match.specs.Extended.{test_extended};
+ghost use Rattle.langtag_match.specs.Range.{is_language_range};
+ghost use Rattle.langtag_registry.specs.Numbers.{folded_number};
+ghost use Rattle.langtag_registry.specs.Prefix as spec;
+ghost use Rattle.langtag_registry.specs.Subtags as list;
+
+use crate::keys::long_number;
+use crate::tables::VARIANT_PREFIXES;
+use langtag::{LangTag, NormalLangTag};
+use langtag_match::LanguageRange;
+use langtag_place::Variant;
+
+/// Returns the first variant of a tag that stands after none of its prefixes (the field Prefix, RFC 5646 section 3.1.8):
+/// `nedis` of `fr-nedis`, as it goes with `sl`, and `1994` of `sl-1994-rozaj`, as it goes with `sl-rozaj`. None of
+/// `sl-IT-nedis`, and of `fr-fonipa`, as `fonipa` goes with every language.
+///
+/// A prefix matches what stands before the variant by extended filtering (RFC 4647 section 3.3.2). The RFC recommends that
+/// one does, and a tag is valid without. No memory is taken. The time may grow with the square of the number of variants.
+pub fn misplaced_variant<'a>(tag: NormalLangTag<'a>) -> Option<Variant<'a>>
+    ensures { EachRecord (normal_lang_tag_text tag.entry) (λ r. option_map variant_text result ≡ spec.misplaced r) }
+{
+    let mut end = tag.ends().region;
+    for variant in tag.variants().iter() {
+        if !fits_after(&tag.as_str()[..end], variant) {
+            return Some(variant);
+        }
+        end += 1 + variant.as_str().len();
+    }
+    None
+}
+
+/// Returns whether some prefix of a variant matches the tag before it, or it has no prefix.
+fn fits_after(before: &str, variant: Variant<'_>) -> bool
+    requires { IsTag before.now }
+    ensures { result ≡ spec.fits_after before.now (variant_text variant.entry) }
+{
+    let number = long_number(variant.as_bytes());
+    let mut has_none = true;
+    for (key, prefix) in variant_prefixes() {
+        if number == *key {
+            if matches_tag(prefix, before) {
+                return true;
+            }
+            has_none = false;
+        }
+    }
+    has_none
+}
+
+/// Returns whether a prefix matches a tag by extended filtering.
+fn matches_tag(prefix: &str, tag: &str) -> bool
+    requires range { IsTrue (is_language_range prefix.now) }
+    requires tag { IsTag tag.now }
+    ensures { result ≡ test_extended prefix.now tag.now }
+{
+    LanguageRange::from_checked(prefix).matches_extended(&LangTag::from_checked(tag))
+}
+
+fn variant_prefixes() -> &'static [(u64, &'static str)]
+    ensures numbers { map (λ pair. pair.0) result.now ≡ map (λ entry. folded_number entry.subtag) list.variant_prefixes }
+    ensures values { map (λ pair. pair.1.now) result.now ≡ map (λ entry. entry.value) list.variant_prefixes }
+{
+    &VARIANT_PREFIXES
+}
