@@ -1,5 +1,7 @@
 pub mod Answers
 pub mod Negotiation
+pub mod PartPlaces
 pub mod Repeats
+pub mod Setting
 pub mod Spans
 pub mod Walks
