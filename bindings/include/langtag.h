@@ -9,14 +9,15 @@
  *
  * WHAT A PROGRAM SEES TO. Nothing tests it at run time.
  *
- *   1. Where a pointer has a length after it, so many bytes can be read there, PTRDIFF_MAX at most, and until the call
- *      has returned nobody changes them. They may be any bytes: text or not, with NUL among them, and without one at
- *      their end.
+ *   1. Where a pointer has a length after it, so many bytes can be read there, and written where it is not const,
+ *      PTRDIFF_MAX at most, and until the call has returned nobody else changes them. They may be any bytes: text or not,
+ *      with NUL among them, and without one at their end.
  *   2. The pointer of an empty text is valid too, as that of "", and so not NULL. langtag_bytes turns NULL into one.
  *   3. Where a pointer to a struct is wanted, there is one of that type, aligned as C has it, in memory that may be
  *      written. Of what a comment calls "out" nothing is read, so that it need not be initialised.
- *   4. What one argument lets a call write (an out struct, `rest`, the bytes of langtag_fold and langtag_recommend), no
- *      other argument of the call leads to. Where two texts are only read, they may be the same, or share bytes.
+ *   4. What one argument lets a call write (an out struct, `rest`, a buffer, the bytes of langtag_fold and
+ *      langtag_recommend), no other argument of the call leads to. Where two texts are only read, they may be the same,
+ *      or share bytes.
  *   5. The processor has SSE4.2 (x86-64-v2), and calls follow the System V convention. 1 KiB of the stack is free for
  *      each call, and 96 KiB for langtag_repeats and langtag_validity.
  *
@@ -83,8 +84,8 @@ typedef struct langtag_parts {
  * What the bytes are (RFC 5646 section 2.1), as an enum langtag_kind_answer, and where the parts stand (out). All of
  * `parts` is written, also where the answer is LANGTAG_NONE.
  *
- * No span reaches out of the text. Of a normal tag, a part that is absent has the length 0 at the end of the part before
- * it. Of a tag for private use as a whole, `private_use` is all of the text, and all other members are 0. Of an
+ * No span reaches out of the text. Of a normal tag, a part that is absent has the length 0 at the end of the part
+ * before it. Of a tag for private use as a whole, `private_use` is all of the text, and all other members are 0. Of an
  * irregular tag and of what is not a tag, all members are 0.
  */
 uint32_t langtag_parse(const char *bytes, size_t len, langtag_parts *parts);
@@ -115,8 +116,8 @@ LANGTAG_PURE int32_t langtag_cmp(const char *a, size_t a_len, const char *b, siz
 
 /*
  * FNV-1a of 64 bits over a text, each ASCII capital of it taken as the small letter. The state is LANGTAG_HASH, or the
- * hash of what stands before the text in a longer key. Whoever picks the texts can make them collide; against that, fold
- * a copy by langtag_fold and run a keyed hash over it.
+ * hash of what stands before the text in a longer key. Whoever picks the texts can make them collide; against that,
+ * fold a copy by langtag_fold and run a keyed hash over it.
  */
 #define LANGTAG_HASH UINT64_C(0xcbf29ce484222325)
 LANGTAG_PURE uint64_t langtag_hash(uint64_t state, const char *bytes, size_t len);
@@ -126,9 +127,9 @@ void langtag_fold(char *bytes, size_t len);
 
 /*
  * Writes a text in the case that RFC 5646 section 2.1.1 recommends, in place: small letters, but for subtags of two
- * bytes, which get capitals (CH), and of four, which get one capital at their head (Latn), where they neither begin the
- * text nor stand anywhere after a subtag of one byte. The text may be any bytes. The new text equals the old one but for
- * case; a tag stays one of its kind, with its parts where they were.
+ * bytes, which get capitals (CH), and of four, which get one capital at their head (Latn), where they neither begin
+ * the text nor stand anywhere after a subtag of one byte. The text may be any bytes. The new text equals the old one
+ * but for case; a tag stays one of its kind, with its parts where they were.
  */
 void langtag_recommend(char *bytes, size_t len);
 
@@ -150,6 +151,34 @@ bool langtag_next_subtag(const char *bytes, size_t len, langtag_span *rest, lang
  * u-co-pinyin. Of any other span it takes what stands before the first hyphen that a subtag of one byte follows.
  */
 bool langtag_next_extension(const char *bytes, size_t len, langtag_span *rest, langtag_span *extension);
+
+/* The parts of a normal tag, by number. */
+enum langtag_part {
+    LANGTAG_PART_LANGUAGE = 0,   /* zh-yue */
+    LANGTAG_PART_SCRIPT = 1,     /* Hant */
+    LANGTAG_PART_REGION = 2,     /* HK */
+    LANGTAG_PART_VARIANTS = 3,   /* rozaj-1994 */
+    LANGTAG_PART_EXTENSIONS = 4, /* u-co-pinyin */
+    LANGTAG_PART_PRIVATE_USE = 5 /* x-mine */
+};
+
+/*
+ * Writes a normal tag to `buffer` with one part, an enum langtag_part, set to a text, or taken out where the text is
+ * empty, and returns the length of the new tag. All other parts stay; the new one keeps its case.
+ *
+ *     char buffer[64];
+ *     size_t new_len = langtag_with_part("sl-IT-rozaj", 11, LANGTAG_PART_SCRIPT, "Latn", 4, buffer, sizeof buffer);
+ *     if (new_len > 0 && new_len <= sizeof buffer) printf("%.*s\n", (int)new_len, buffer);
+ *
+ * prints sl-Latn-IT-rozaj. As with snprintf the answer may be greater than `buffer_len`: nothing is written then, and
+ * so much room is wanted. tag_len + text_len + 1 bytes are always enough. No NUL is written, and bytes after the new
+ * tag stay as they were.
+ *
+ * 0, and nothing written, where the tag is not LANGTAG_NORMAL, or the text not one of that part: Latin is no script.
+ * The language can't be taken out.
+ */
+size_t langtag_with_part(const char *tag, size_t tag_len, uint32_t part, const char *text, size_t text_len,
+                         char *buffer, size_t buffer_len);
 
 /* Where the subtags stand that a tag has a second time; the length is 0 where it has none. */
 typedef struct langtag_repeated {
@@ -231,19 +260,20 @@ LANGTAG_PURE bool langtag_matches_basic(const char *range, size_t range_len, con
 LANGTAG_PURE bool langtag_matches_extended(const char *range, size_t range_len, const char *tag, size_t tag_len);
 
 /*
- * Shortens `rest`, a language range or what is left of one, to its next fallback (RFC 4647 section 3.4): without its last
- * subtag, and without each single character that would then stand last. A look-up begins with the whole range:
+ * Shortens `rest`, a language range or what is left of one, to its next fallback (RFC 4647 section 3.4): without its
+ * last subtag, and without each single character that would then stand last. A look-up begins with the whole range:
  *
  *     langtag_span rest = {0, len};
  *     do if (is_there(range + rest.start, rest.len)) break;
  *     while (langtag_next_fallback(range, len, &rest));
  *
- * zh-Hant-CN-x-private1 is followed by zh-Hant-CN, zh-Hant and zh. False exactly where no fallback is left, or `rest` has no
- * byte or reaches out of the text; `rest` then stays. Whether the text is a range is for langtag_range_kind to say.
+ * zh-Hant-CN-x-private1 is followed by zh-Hant-CN, zh-Hant and zh. False exactly where no fallback is left, or `rest`
+ * has no byte or reaches out of the text; `rest` then stays. Whether the text is a range is for langtag_range_kind to
+ * say.
  *
- * A look-up reads an extended range as the basic one without each "-*" (section 3.2): de-*-DE, of which the fallbacks are
- * de-*-DE and de, finds the tag de-DE, and then de. Leave each "-*" out of a fallback before you compare it. What begins with *
- * finds no tag.
+ * A look-up reads an extended range as the basic one without each "-*" (section 3.2): de-*-DE, of which the fallbacks
+ * are de-*-DE and de, finds the tag de-DE, and then de. Leave each "-*" out of a fallback before you compare it. What
+ * begins with * finds no tag.
  */
 bool langtag_next_fallback(const char *bytes, size_t len, langtag_span *rest);
 
@@ -264,15 +294,16 @@ enum langtag_accepted_answer {
  *     while (langtag_next_accepted(header, len, &rest, &range, &weight))
  *         if (weight > 0) add(header + range.start, range.len, weight);
  *
- * `range` (out) is where the range stands, and `weight` (out) its weight in thousandths: 1000 where none is given, and 0
- * for "not acceptable". Of a bad element `range` is all that stands between the commas, so that range.start tells where it
- * begins, and `weight` is 0. The next call goes on after it: the loop above passes bad elements over, as browsers' headers
- * want it; who is strict stops there, and refuses the header.
+ * `range` (out) is where the range stands, and `weight` (out) its weight in thousandths: 1000 where none is given, and
+ * 0 for "not acceptable". Of a bad element `range` is all that stands between the commas, so that range.start tells
+ * where it begins, and `weight` is 0. The next call goes on after it: the loop above passes bad elements over, as
+ * browsers' headers want it; who is strict stops there, and refuses the header.
  *
- * The elements come in the order of the header. Look tags up for those of the greatest weight first, and for those of one
- * weight in the order of the header: sort by falling weight, stably.
+ * The elements come in the order of the header. Look tags up for those of the greatest weight first, and for those of
+ * one weight in the order of the header: sort by falling weight, stably.
  *
- * LANGTAG_ACCEPTED_END exactly where no element is left but empty ones, or `rest` reaches out of the text; all then stays.
+ * LANGTAG_ACCEPTED_END exactly where no element is left but empty ones, or `rest` reaches out of the text; all then
+ * stays.
  */
 uint32_t langtag_next_accepted(const char *bytes, size_t len, langtag_span *rest, langtag_span *range,
                                uint32_t *weight);

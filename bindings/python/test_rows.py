@@ -111,6 +111,19 @@ class Edits(unittest.TestCase):
             with self.assertRaises(TypeError):
                 tag.replace(**wrong)
 
+    def test_from_parts(self):
+        tag = Tag("zh-yue-Hant-HK-1994-u-co-pinyin-t-aa-x-mine")
+        again = Tag.from_parts(tag.language, script=tag.script, region=tag.region, variants=tag.variants,
+                               extensions=tag.extensions, private_use=tag.private_use)
+        self.assertEqual(str(again), str(tag))
+        self.assertEqual(str(Tag.from_parts("DE")), "DE")
+        for wrong in (("zh-Hant",), ("x-a",), ("",)):
+            with self.assertRaises(EditError):
+                Tag.from_parts(*wrong)
+        for wrong in ({"script": "Latin"}, {"region": ""}, {"variants": "abcd"}, {"private_use": "a"}):
+            with self.assertRaises(EditError):
+                Tag.from_parts("de", **wrong)
+
     def test_subclasses_of_texts(self):
         class Odd(str):
             __eq__ = lambda self, other: True

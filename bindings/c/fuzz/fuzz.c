@@ -151,6 +151,21 @@ static void check_odd_spans(slice text) {
     SAME(is_span(rest, odd) && is_span(got, untouched));
 }
 
+/* langtag_with_part, with more room than is wanted, just as much, or less */
+static void check_with_part(slice text, slice other, pages out) {
+    char wanted[2 * ROOM + 2], filled[2 * ROOM + 8];
+    unsigned from = below(6), part = below(3) ? from : below(7);
+    slice given = below(4) ? read_tag(other).parts[from] : other;
+    size_t len = read_with_part(text, part, given, wanted), room = below(3) ? len : below(2 * ROOM + 8);
+    if (room > 0 && below(4) == 0) room--;
+    memset(filled, 0x5a, sizeof filled);
+    char *buffer = place(out, filled, room, below(2));
+    SAME(langtag_with_part(text.at, text.len, part, given.at, given.len, buffer, room) == len);
+    size_t written = len <= room ? len : 0;
+    SAME(memcmp(buffer, wanted, written) == 0);
+    SAME(memcmp(buffer + written, filled, room - written) == 0);
+}
+
 /* langtag_range_kind and both ways to match */
 static void check_ranges(slice range, slice text) {
     SAME(langtag_range_kind(range.at, range.len) == range_kind(range));
@@ -195,7 +210,7 @@ static void check_case(char *bytes, size_t len) {
 }
 
 /* One text through all functions; answers its kind. */
-static unsigned check_one(pages here, pages there) {
+static unsigned check_one(pages here, pages there, pages out) {
     char text[ROOM], other[ROOM], range[ROOM], header[ROOM];
     size_t len = make_text(text), other_len = make_neighbour(text, len, other), range_len = make_range(range);
     size_t header_len = make_header(header);
@@ -211,6 +226,7 @@ static unsigned check_one(pages here, pages there) {
     check_comparisons(placed, neighbour);
     check_lists(placed, &parts);
     check_odd_spans(placed);
+    check_with_part(placed, neighbour, out);
     check_ranges(neighbour, placed);
     check_fallbacks(placed);
     check_header(placed);
@@ -248,13 +264,13 @@ static void watch_for_crashes(void) {
 }
 
 int main(int argc, char **argv) {
-    pages here, there;
+    pages here, there, out;
     double end = now() + (argc > 1 ? atof(argv[1]) : 10);
     unsigned long long kinds[4] = {0};
     seed(chosen_seed = argc > 2 ? strtoull(argv[2], NULL, 10) : 1);
-    if (!open_pages(&here) || !open_pages(&there)) return puts("no pages to be had"), 2;
+    if (!open_pages(&here) || !open_pages(&there) || !open_pages(&out)) return puts("no pages to be had"), 2;
     watch_for_crashes();
-    for (; number % 256 != 0 || now() < end; number++) kinds[check_one(here, there) & 3]++;
+    for (; number % 256 != 0 || now() < end; number++) kinds[check_one(here, there, out) & 3]++;
     printf("%llu texts: %llu none, %llu normal, %llu private use, %llu irregular; no difference\n", number, kinds[0],
            kinds[1], kinds[2], kinds[3]);
     for (int k = 0; k < 4; k++)

@@ -46,6 +46,7 @@ extern const char *const grandfathered[GRANDFATHERED];
 tag read_tag(slice text);
 bool begins_a_tag(slice text);
 unsigned which_grandfathered(slice text);
+size_t read_with_part(slice text, unsigned part, slice given, char into[]);
 
 /* The recommended case (RFC 5646 section 2.1.1), in case.c. */
 void recommend(char *bytes, size_t len);

@@ -102,3 +102,23 @@ bool begins_a_tag(slice text) {
     while (len - last < 5) filled[len++] = 'a';
     return read_tag((slice){filled, len}).kind != 0;
 }
+
+/* The tag with a part set to a text, where its parts, joined, are read as these very ones; else 0. */
+size_t read_with_part(slice text, unsigned part, slice given, char into[]) {
+    tag read = read_tag(text);
+    size_t len = 0;
+    if (read.kind != 1 || part > 5) return 0;
+    read.parts[part] = given;
+    for (int k = 0; k < 6; k++) {
+        if (read.parts[k].len == 0) continue;
+        if (len > 0) into[len++] = '-';
+        memcpy(into + len, read.parts[k].at, read.parts[k].len);
+        len += read.parts[k].len;
+    }
+    tag again = read_tag((slice){into, len});
+    bool is_same = again.kind == 1;
+    for (int k = 0; is_same && k < 6; k++)
+        is_same = again.parts[k].len == read.parts[k].len &&
+                  memcmp(again.parts[k].at, read.parts[k].at, read.parts[k].len) == 0;
+    return is_same ? len : 0;
+}

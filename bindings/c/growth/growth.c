@@ -6,6 +6,7 @@ static langtag_parts parts;
 static langtag_span rest, found;
 static langtag_repeated repeated;
 static uint32_t weight;
+static char buffer[sizeof text + 8];
 
 FUNCTION(parse, result = langtag_parse(text, len, &parts))
 FUNCTION(kind, result = langtag_kind(text, len))
@@ -30,6 +31,9 @@ FUNCTION(next_fallback, rest = (langtag_span){0, len};
          while (langtag_next_fallback(text, len, &rest)) result = rest.len)
 FUNCTION(next_accepted, rest = (langtag_span){0, len};
          while (langtag_next_accepted(text, len, &rest, &found, &weight)) result = weight)
+FUNCTION(with_part, for (uint32_t part = 0; part <= LANGTAG_PART_PRIVATE_USE; part++)
+         result = langtag_with_part(text, len, part, "x-a", 3, buffer, sizeof buffer) +
+                  langtag_with_part("de", 2, part, text, len, buffer, sizeof buffer))
 
 static const struct function functions[] = {
     {"parse", parse},
@@ -51,6 +55,7 @@ static const struct function functions[] = {
     {"matches_extended", matches_extended},
     {"next_fallback", next_fallback},
     {"next_accepted", next_accepted},
+    {"with_part", with_part},
 };
 
 int main(void) { return count(functions, sizeof functions / sizeof *functions); }

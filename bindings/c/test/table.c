@@ -1,6 +1,6 @@
 /*
- * The table of calls and answers, bindings/table.txt, which says its form. table_answers writes the library's answers to
- * other calls in that form.
+ * The table of calls and answers, bindings/table.txt, which says its form, and the rows of bindings/edits.txt.
+ * table_answers writes the library's answers to other calls in the form of the table.
  */
 #include "table.h"
 
@@ -275,5 +275,51 @@ void table_answers(FILE *file) {
         printf("%s%s\n", head.at, found.at);
         free(head.at), free(found.at);
     }
+    free(all.at);
+}
+
+static text take_field(const char **line) {
+    text field = take_argument(line);
+    if (strncmp(*line, "| ", 2) == 0) *line += 2;
+    return field;
+}
+
+static uint32_t part_named(text name) {
+    static const char *const names[] = {"language", "script", "region", "variants", "extensions", "private_use"};
+    uint32_t part = 0;
+    while (part < 6 && (strlen(names[part]) != name.len || memcmp(names[part], name.at, name.len) != 0)) part++;
+    return part;
+}
+
+/* Into more room than is wanted, and into too little. In C the empty text takes any part out, as `none` does. */
+static void test_edit(text tag, uint32_t part, text given, const char *wanted) {
+    bool is_empty = given.len == 0, is_none = given.len == 4 && memcmp(given.at, "none", 4) == 0;
+    bool is_refused = strcmp(wanted, "refused") == 0 || strcmp(wanted, "no parts") == 0;
+    size_t wanted_len = is_refused ? 0 : strlen(wanted), room = tag.len + given.len + 2;
+    char *buffer = malloc(room);
+    if (!buffer) abort();
+    if (is_empty && strcmp(wanted, "refused") == 0 && part != LANGTAG_PART_LANGUAGE)
+        wanted = tag.at, wanted_len = tag.len;
+    memset(buffer, '~', room);
+    size_t len = langtag_with_part(tag.at, tag.len, part, given.at, is_none ? 0 : given.len, buffer, room);
+    CHECK(len == wanted_len && memcmp(buffer, wanted, wanted_len) == 0 && buffer[wanted_len] == '~');
+    memset(buffer, '~', room);
+    if (len > 0) len = langtag_with_part(tag.at, tag.len, part, given.at, is_none ? 0 : given.len, buffer, len - 1);
+    CHECK(len == wanted_len && buffer[0] == '~');
+    free(buffer);
+}
+
+void test_edits(FILE *file) {
+    text all = read_all(file);
+    const char *at = all.at;
+    int rows = 0;
+    for (size_t length; all.len > 0 && (length = next_line(&at)) > 0; at += length, rows++) {
+        text row = expand(at, length);
+        const char *rest = row.at;
+        text tag = take_field(&rest), name = take_field(&rest), given = take_field(&rest);
+        test_edit(tag, part_named(name), given, rest);
+        free(row.at), free(tag.at), free(name.at), free(given.at);
+    }
+    CHECK(rows > 70);
     free(all.at);
 }

@@ -7,6 +7,9 @@
 /* Makes each call of a table, and compares the answers. */
 void test_table(FILE *file);
 
+/* Sets each part of bindings/edits.txt, and compares the new tags. */
+void test_edits(FILE *file);
+
 /* Writes calls, one a line, with their answers. */
 void table_answers(FILE *file);
 

@@ -85,6 +85,8 @@ _FUNCTIONS: dict[str, tuple[Any, ...]] = {
     "langtag_matches_extended": (c_bool, c_char_p, c_size_t, c_char_p, c_size_t),
     "langtag_next_fallback": (c_bool, c_char_p, c_size_t, POINTER(_Span)),
     "langtag_next_accepted": (c_uint32, c_char_p, c_size_t, POINTER(_Span), POINTER(_Span), POINTER(c_uint32)),
+    "langtag_with_part": (
+        c_size_t, c_char_p, c_size_t, c_uint32, c_char_p, c_size_t, POINTER(c_char), c_size_t),
 }
 
 
@@ -429,8 +431,7 @@ class Tag(_Caseless):
         private_use: str | None | _Kept = _Kept.KEPT,
     ) -> Tag:
         """A normal tag with other parts; what is not named stays. None takes a part out, and so do no variants and no
-        extensions. What can't be that part, or a tag that is not normal, is an EditError. That it does so is tested, and not
-        proved.
+        extensions. What can't be that part, or a tag that is not normal, is an EditError.
 
         >>> Tag("sl-IT-rozaj-x-a").replace(script="Latn", variants=("nedis", "1994"), private_use=None)
         Tag('sl-Latn-IT-nedis-1994')
@@ -445,24 +446,36 @@ class Tag(_Caseless):
                 tag = tag._with_part(part, value)
         return tag
 
-    def _texts(self) -> dict[str, str]:
-        return {part: self._part(getattr(self._parts, part)) or "" for part in _PARTS}
-
     def _with_part(self, part: str, value: str | Iterable[str] | Mapping[str, Iterable[str]] | None) -> Tag:
-        """Where the new text has these very parts, the new part is one of its kind, since the grammar reads a text in one
-        way."""
         if self._kind is not Kind.NORMAL:
             raise EditError(part, None)
         text = _joined(value)
-        texts = {**self._texts(), part: text}
-        try:
-            tag = Tag("-".join(filter(None, texts.values())))
-        except InvalidTag:
-            raise EditError(part, text) from None
+        tag, data = self._data, _bytes(text)
+        room = len(tag) + len(data) + 1
+        buffer = ctypes.create_string_buffer(room)
+        length = int(_c.langtag_with_part(tag, len(tag), _PARTS.index(part), data, len(data), buffer, room))
         is_lacking = isinstance(value, str) and not text and part not in ("variants", "extensions")
-        if is_lacking or tag._kind is not Kind.NORMAL or tag._texts() != texts:
+        if is_lacking or not length:
             raise EditError(part, text)
-        return tag
+        return Tag(buffer.raw[:length])
+
+    @staticmethod
+    def from_parts(
+        language: str,
+        *,
+        script: str | None = None,
+        region: str | None = None,
+        variants: str | Iterable[str] = "",
+        extensions: str | Mapping[str, Iterable[str]] = "",
+        private_use: str | None = None,
+    ) -> Tag:
+        """The tag of these parts, of which the language may have extended subtags. What can't be one of them is an EditError.
+
+        >>> Tag.from_parts("zh-yue", script="Hant", extensions={"u": ("co", "pinyin")})
+        Tag('zh-yue-Hant-u-co-pinyin')
+        """
+        return Tag("und").replace(language=language, script=script, region=region, variants=variants,
+                                  extensions=extensions, private_use=private_use)
 
     def folded(self) -> str:
         """The text in small letters: the same for all tags that are equal, to keep where texts are compared byte by byte."""

@@ -1,19 +1,7 @@
-use alloc::string::String;
-
-use crate::ffi::{Parsed, Part};
+use crate::ffi::Part;
 use crate::{EditError, Kind, LangTagBuf};
 
-const PARTS: [Part; 6] = [
-    Part::Language,
-    Part::Script,
-    Part::Region,
-    Part::Variants,
-    Part::Extensions,
-    Part::PrivateUse,
-];
-
-/// Parts put into a tag and taken out of it. The new text is made of the parts, and read: it is taken where each part of it
-/// is then what it should be. That these functions do so is tested, and not proved.
+/// Parts put into a tag and taken out of it, by `langtag_with_part`, which is proved.
 ///
 /// Each is refused, with the tag as it was, where the tag is not a normal one ([`EditError::NotNormal`]), or where the text
 /// is not one of that part ([`EditError::InvalidPart`]).
@@ -31,6 +19,31 @@ const PARTS: [Part; 6] = [
 /// # Ok::<(), Box<dyn std::error::Error>>(())
 /// ```
 impl LangTagBuf {
+    /// The tag of a language with its extended subtags, a script and a region; for more parts the setters follow.
+    ///
+    /// ```
+    /// use langtag_verified::LangTagBuf;
+    ///
+    /// let tag = LangTagBuf::from_parts("zh-yue", Some("Hant"), Some("HK"))?;
+    /// assert_eq!(tag.as_str(), "zh-yue-Hant-HK");
+    /// # Ok::<(), langtag_verified::EditError<&str>>(())
+    /// ```
+    ///
+    /// # Errors
+    ///
+    /// The first text that is not one of its part comes back.
+    pub fn from_parts<'a>(
+        language: &'a str,
+        script: Option<&'a str>,
+        region: Option<&'a str>,
+    ) -> Result<Self, EditError<&'a str>> {
+        let mut tag = LangTagBuf::try_from("und").map_err(|_| EditError::InvalidPart(language))?;
+        tag.set_language(language)?;
+        tag.set_script(script)?;
+        tag.set_region(region)?;
+        Ok(tag)
+    }
+
     /// Puts a language in the old one's place, with its extended subtags: `zh-yue` put into `sl-IT` makes `zh-yue-IT`.
     ///
     /// # Errors
@@ -101,31 +114,12 @@ impl LangTagBuf {
         self.set_part(part, text.unwrap_or(""))
     }
 
-    /// Where the new text has these very parts, the new part is one of its kind, since the grammar reads a text in one way.
     fn set_part<'a>(&mut self, part: Part, text: &'a str) -> Result<(), EditError<&'a str>> {
-        let tag = self.as_lang_tag().parsed();
-        if tag.kind() != Kind::Normal {
+        if self.kind() != Kind::Normal {
             return Err(EditError::NotNormal);
         }
-        let texts = PARTS.map(|it| if it == part { text } else { tag.part(it) });
-        let read = Parsed::from_string(joined(texts))
-            .ok()
-            .filter(|read| read.kind() == Kind::Normal)
-            .filter(|read| PARTS.map(|it| read.lend().part(it)) == texts)
-            .ok_or(EditError::InvalidPart(text))?;
-        *self = LangTagBuf::from_parsed(read);
+        let new = self.as_parsed().with_part(part, text);
+        *self = LangTagBuf::from_parsed(new.ok_or(EditError::InvalidPart(text))?);
         Ok(())
     }
-}
-
-/// The parts that are not empty, with hyphens between them.
-fn joined(texts: [&str; 6]) -> String {
-    let mut all = String::with_capacity(texts.iter().map(|text| text.len() + 1).sum());
-    for text in texts.into_iter().filter(|text| !text.is_empty()) {
-        if !all.is_empty() {
-            all.push('-');
-        }
-        all.push_str(text);
-    }
-    all
 }

@@ -59,6 +59,16 @@ mod c {
         pub fn langtag_fold(bytes: *mut u8, len: usize);
         #[cfg(feature = "alloc")]
         pub fn langtag_recommend(bytes: *mut u8, len: usize);
+        #[cfg(feature = "alloc")]
+        pub fn langtag_with_part(
+            tag: *const u8,
+            tag_len: usize,
+            part: u32,
+            text: *const u8,
+            text_len: usize,
+            buffer: *mut u8,
+            buffer_len: usize,
+        ) -> usize;
         pub fn langtag_next_subtag(
             bytes: *const u8,
             len: usize,
@@ -98,8 +108,8 @@ mod c {
     }
 }
 
-/// A part of a tag, in the order in which the parts stand.
-#[derive(Clone, Copy, PartialEq, Eq)]
+/// A part of a tag, in the order in which the parts stand, and by which C numbers them.
+#[derive(Clone, Copy)]
 pub(crate) enum Part {
     Language,
     Script,
@@ -200,6 +210,24 @@ impl Parsed<String> {
     #[inline]
     pub(crate) fn into_text(self) -> String {
         self.text
+    }
+
+    /// The tag with a part set to a text, or taken out where that is empty. None where the tag is not a normal one, or the
+    /// text not one of that part.
+    pub(crate) fn with_part(&self, part: Part, text: &str) -> Option<Self> {
+        let tag = &self.text;
+        let mut buffer = alloc::vec![0; tag.len() + text.len() + 1];
+        // SAFETY: as above.
+        let len = unsafe {
+            let (room, part) = (buffer.len(), part as u32);
+            let (tag, tag_len, to) = (tag.as_ptr(), tag.len(), buffer.as_mut_ptr());
+            c::langtag_with_part(tag, tag_len, part, text.as_ptr(), text.len(), to, room)
+        };
+        if len == 0 {
+            return None;
+        }
+        buffer.truncate(len);
+        Parsed::from_string(String::from_utf8(buffer).ok()?).ok()
     }
 
     pub(crate) fn make_recommended_case(&mut self) {

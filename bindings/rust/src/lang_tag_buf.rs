@@ -39,6 +39,10 @@ impl LangTagBuf {
         LangTagBuf(parsed)
     }
 
+    pub(crate) fn as_parsed(&self) -> &Parsed<String> {
+        &self.0
+    }
+
     /// The borrowed form. The text is not read again.
     #[inline]
     pub fn as_lang_tag(&self) -> LangTag<'_> {

@@ -73,3 +73,21 @@ fn errors_outlive_their_text() {
         "not a normal language tag"
     );
 }
+
+#[test]
+fn of_parts() {
+    let tag = LangTagBuf::from_parts("zh-yue", Some("Hant"), Some("HK"));
+    assert_eq!(tag.as_ref().map(LangTagBuf::as_str), Ok("zh-yue-Hant-HK"));
+    let alone = LangTagBuf::from_parts("DE", None, None);
+    assert_eq!(alone.as_ref().map(LangTagBuf::as_str), Ok("DE"));
+    for (language, script, region, wrong) in [
+        ("zh-Hant", None, None, "zh-Hant"),
+        ("x-a", None, None, "x-a"),
+        ("", None, None, ""),
+        ("de", Some("Latin"), Some("Germany"), "Latin"),
+        ("de", Some("Latn"), Some(""), ""),
+    ] {
+        let found = LangTagBuf::from_parts(language, script, region);
+        assert_eq!(found.err(), Some(EditError::InvalidPart(wrong)));
+    }
+}

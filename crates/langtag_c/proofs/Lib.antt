@@ -9,3 +9,6 @@ mod ItemLaws
 mod PlaceLaws
 mod ElementLaws
 mod ReadingLaws
+mod PartChanges
+mod PartTexts
+mod PutLaws

@@ -40,8 +40,8 @@ pub(crate) fn expect_same<T: Debug + PartialEq + Drop, C: Debug + Drop>(
 
 /// Asserts that a condition holds, of a case where one is named: `assert_that!(rt; walk.next().is_none(), text)`.
 ///
-/// This and `assert_same!` are calls that take their arguments by value, and stand in place of `assert!` and `assert_eq!`:
-/// a failure that is written out is proved safe anew at ten times the cost of a call, and a reference to each argument
+/// This and `assert_same!` are calls that take their arguments by value, and stand in place of `assert!` and
+/// `assert_eq!`: a failure that is written out is proved safe anew at ten times the cost of a call, and a reference to each argument
 /// makes a call three times as dear.
 macro_rules! assert_that {
     ($rt:expr; $holds:expr) => {
@@ -71,7 +71,8 @@ pub(crate) fn assert_exact(rt: &impl Abort, copy: String, text: &str) {
     assert_same!(rt; copy.capacity(), text.len(), text);
 }
 
-/// Texts that no type accepts: other bytes, hyphens out of place, and letters past ASCII, of which some fold to one of ASCII.
+/// Texts that no type accepts: other bytes, hyphens out of place, and letters past ASCII, of which some fold to one of
+/// ASCII.
 pub(crate) const HOSTILE: &[&str] = &[
     "\0",
     "fr\0",
