@@ -5,4 +5,5 @@ pub mod Registered
 pub mod Fields
 pub mod Tables
 pub mod Fault
+pub mod Compared
 pub mod Valid
