@@ -4,7 +4,7 @@
  * says how they grow.
  */
 #include "../../bindings/c/growth/growth.h"
-#include <stdbool.h>
+#include "memory.h"
 
 /* The offsets or lengths of the six parts of a tag. */
 struct parts {
@@ -22,11 +22,12 @@ size_t langtag_bench_repeated_singleton(const char *bytes, size_t len);
 uint8_t langtag_bench_copy(const char *bytes, size_t len, char *into, size_t into_len);
 uint8_t langtag_bench_fold_and_sum(const char *bytes, size_t len);
 bool langtag_bench_eq_str(const char *bytes, size_t len, const char *others, size_t others_len);
+bool langtag_bench_cmp(const char *bytes, size_t len, const char *others, size_t others_len);
+uint64_t langtag_bench_hash(const char *bytes, size_t len);
 size_t langtag_bench_subtags(const char *bytes, size_t len);
 size_t langtag_bench_walk(const char *bytes, size_t len);
 bool langtag_bench_recommended(const char *bytes, size_t len);
 bool langtag_bench_displayed(const char *bytes, size_t len);
-bool langtag_bench_made_of_parts(const char *bytes, size_t len);
 bool langtag_bench_part(const char *bytes, size_t len);
 bool langtag_bench_pair(const char *range, size_t range_len, const char *tag, size_t tag_len);
 bool langtag_bench_matches_basic(const char *range, size_t range_len, const char *tag, size_t tag_len);
@@ -34,11 +35,13 @@ bool langtag_bench_matches_extended(const char *range, size_t range_len, const c
 size_t langtag_bench_fallbacks(const char *bytes, size_t len);
 bool langtag_bench_filter_basic(const char *ranges, size_t len);
 bool langtag_bench_filter_extended(const char *ranges, size_t len);
+bool langtag_bench_look_up(const char *ranges, size_t len);
 size_t langtag_bench_tags(void);
 bool langtag_bench_tag_for_header(const char *header, size_t len);
 bool langtag_bench_lenient(const char *header, size_t len);
 
 static struct parts parts;
+static size_t refused;
 
 FUNCTION(recognise, result = langtag_bench_recognise(text, len, &parts))
 FUNCTION(recognise_text, result = langtag_bench_recognise_text(text, len, &parts))
@@ -50,11 +53,12 @@ FUNCTION(repeated_singleton, result = langtag_bench_repeated_singleton(text, len
 FUNCTION(copy, result = langtag_bench_copy(text, len, other, len))
 FUNCTION(fold_and_sum, result = langtag_bench_fold_and_sum(text, len))
 FUNCTION(eq_str, result = langtag_bench_eq_str(text, len, other, len))
+FUNCTION(cmp, result = langtag_bench_cmp(text, len, other, len))
+FUNCTION(hash, result = langtag_bench_hash(text, len))
 FUNCTION(subtags, result = langtag_bench_subtags(text, len))
 FUNCTION(walk, result = langtag_bench_walk(text, len))
 FUNCTION(recommended, result = langtag_bench_recommended(text, len))
 FUNCTION(displayed, result = langtag_bench_displayed(text, len))
-FUNCTION(made_of_parts, result = langtag_bench_made_of_parts(text, len))
 /* What stands after the first hyphen is a part, where there is one. */
 FUNCTION(part, char *rest = memchr(text, '-', len);
          if (rest) result = langtag_bench_part(rest + 1, text + len - rest - 1))
@@ -64,9 +68,15 @@ FUNCTION(matches_extended, result = langtag_bench_matches_extended(text, len, ot
 FUNCTION(fallbacks, result = langtag_bench_fallbacks(text, len))
 FUNCTION(filter_basic, result = langtag_bench_filter_basic(text, len))
 FUNCTION(filter_extended, result = langtag_bench_filter_extended(text, len))
+FUNCTION(look_up, result = langtag_bench_look_up(text, len))
 FUNCTION(tags, result = langtag_bench_tags())
 FUNCTION(tag_for_header, result = langtag_bench_tag_for_header(text, len))
 FUNCTION(lenient, result = langtag_bench_lenient(text, len))
+FUNCTION(copies, result = langtag_bench_copies(text, len, &refused))
+FUNCTION(set_normal, result = langtag_bench_set_normal(text, len, other, len, &refused))
+FUNCTION(set_of_any, result = langtag_bench_set_of_any(text, len, other, len, &refused))
+FUNCTION(from_parts, result = langtag_bench_from_parts(text, len, &refused))
+FUNCTION(header, result = langtag_bench_header(text, len, &refused))
 
 #define ENTRY(name)                                                                                                    \
     { #name, name }
@@ -81,11 +91,12 @@ static const struct function functions[] = {
     ENTRY(copy),
     ENTRY(fold_and_sum),
     ENTRY(eq_str),
+    ENTRY(cmp),
+    ENTRY(hash),
     ENTRY(subtags),
     ENTRY(walk),
     ENTRY(recommended),
     ENTRY(displayed),
-    ENTRY(made_of_parts),
     ENTRY(part),
     ENTRY(pair),
     ENTRY(matches_basic),
@@ -93,9 +104,15 @@ static const struct function functions[] = {
     ENTRY(fallbacks),
     ENTRY(filter_basic),
     ENTRY(filter_extended),
+    ENTRY(look_up),
     ENTRY(tags),
     ENTRY(tag_for_header),
     ENTRY(lenient),
+    ENTRY(copies),
+    ENTRY(set_normal),
+    ENTRY(set_of_any),
+    ENTRY(from_parts),
+    ENTRY(header),
 };
 
 int main(void) { return count(functions, sizeof functions / sizeof *functions); }

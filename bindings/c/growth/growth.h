@@ -7,7 +7,9 @@
 #include <string.h>
 #include <valgrind/callgrind.h>
 
-enum { BYTES = 20000 };
+#ifndef BYTES
+#define BYTES 20000
+#endif
 
 /* A text of a shape: a beginning, and then pieces, in each of which a number stands for '#'. */
 static const struct {
@@ -63,7 +65,7 @@ static int count(const struct function *functions, size_t number) {
         for (size_t shape = 0; shape < sizeof shapes / sizeof *shapes; shape++) {
             for (size_t times = 1; times <= 2; times++) {
                 char label[64];
-                len = write_shape(text, shape, times * BYTES);
+                len = write_shape(text, shape, times * (size_t)BYTES);
                 memcpy(other, text, len);
                 snprintf(label, sizeof label, "%s %s %d", functions[function].name, shapes[shape].name, (int)times);
                 CALLGRIND_ZERO_STATS;

@@ -1,9 +1,10 @@
 //! Calls of langtag and langtag_match over one text; `bench/growth.sh` counts how their work grows with it.
-ghost use Rattle.std.specs.Prelude.{◌≡◌, List, length, IsTrue};
+ghost use Rattle.std.specs.Prelude.{◌≡◌, ◌↔◌, List, length, IsTrue};
 ghost use Rattle.std.specs.Str.{IsUtf8};
-ghost use Rattle.langtag_scan.specs.Case.{Alike};
+ghost use Rattle.std.specs.declared.cmp.Ordering.TheVariants.{Less};
+ghost use Rattle.langtag_scan.specs.Case.{Alike, case_cmp};
 ghost use Rattle.langtag_scan.specs.Subtags.{subtags};
-ghost use Rattle.langtag_scan.specs.Tag.{IsTag, IsNormal};
+ghost use Rattle.langtag_scan.specs.Tag.{IsTag};
 ghost use Rattle.langtag_match.specs.AcceptLanguage.{AreElements};
 ghost use Rattle.langtag_match.specs.Fallback.{fallbacks};
 ghost use Rattle.langtag_match.specs.Range.{is_language_range};
@@ -13,12 +14,14 @@ use crate::matching::{range_of, read_tags, tag_of};
 use langtag::{
     ExtendedLangTag, ExtendedLangTagBuf, Extension, ExtensionBuf, ExtensionSubtag,
     ExtensionSubtagBuf, Extensions, ExtensionsBuf, LangTag, LangTagBuf, Language, LanguageBuf,
-    LanguageExtension, LanguageExtensionBuf, NormalLangTag, NormalLangTagBuf, PrimaryLanguage,
-    PrimaryLanguageBuf, PrivateUse, PrivateUseBuf, PrivateUseSubtag, PrivateUseSubtagBuf, Region,
-    RegionBuf, Script, ScriptBuf, Variant, VariantBuf, Variants, VariantsBuf,
+    LanguageExtension, LanguageExtensionBuf, PrimaryLanguage, PrimaryLanguageBuf, PrivateUse,
+    PrivateUseBuf, PrivateUseSubtag, PrivateUseSubtagBuf, Region, RegionBuf, Script, ScriptBuf,
+    Variant, VariantBuf, Variants, VariantsBuf,
 };
-use langtag_match::{AcceptLanguage, LanguageRange, filter_basic, filter_extended};
+use langtag_match::{AcceptLanguage, LanguageRange, filter_basic, filter_extended, look_up};
 use std::alloc::{AllocError, Global};
+use std::cmp::Ordering;
+use std::hash::{DefaultHasher, Hash, Hasher};
 
 /// Returns whether the bytes are a tag, and others a text that is equal to it but for case.
 #[unsafe(no_mangle)]
@@ -29,6 +32,30 @@ pub extern "C" fn langtag_bench_eq_str(bytes: &[u8], others: &[u8]) -> bool
         (Some(tag), Ok(other)) => tag.eq_str(other),
         _ => false,
     }
+}
+
+/// Returns whether the bytes, and others, are tags and the first is less.
+#[unsafe(no_mangle)]
+pub extern "C" fn langtag_bench_cmp(bytes: &[u8], others: &[u8]) -> bool
+    ensures { IsTrue result ↔ (IsTag bytes.now × IsTag others.now × (case_cmp bytes.now others.now ≡ Less)) }
+{
+    match (tag_of(bytes), tag_of(others)) {
+        (Some(tag), Some(other)) => tag.cmp(&other) == Ordering::Less,
+        _ => false,
+    }
+}
+
+/// Returns what a hasher answers that a tag was fed to, and 0 for another text.
+#[unsafe(no_mangle)]
+pub extern "C" fn langtag_bench_hash(bytes: &[u8]) -> u64
+    ensures { (IsTag bytes.now → ⊥) → result ≡ 0 }
+{
+    let Some(tag) = tag_of(bytes) else {
+        return 0;
+    };
+    let mut hasher = DefaultHasher::new();
+    tag.hash(&mut hasher);
+    hasher.finish()
 }
 
 /// Returns how many subtags a tag has, and 0 for another text.
@@ -87,35 +114,6 @@ pub extern "C" fn langtag_bench_displayed(alloc: Global, bytes: &[u8]) -> bool
         Ok(owned) => owned.as_lang_tag() == tag,
         Err(_) => false,
     }
-}
-
-/// Returns whether the bytes are a normal tag, and memory could be had for the same tag made of its parts.
-#[unsafe(no_mangle)]
-pub extern "C" fn langtag_bench_made_of_parts(alloc: Global, bytes: &[u8]) -> bool
-    ensures { IsTrue result → IsNormal bytes.now }
-{
-    let Ok(text) = str::from_utf8(bytes) else {
-        return false;
-    };
-    let Ok(tag) = NormalLangTag::new(text) else {
-        return false;
-    };
-    match made_of_parts(alloc, &tag) {
-        Ok(made) => NormalLangTagBuf::new(made.into_string()).is_ok_and(|read| read.as_str()
-            == text),
-        Err(_) => false,
-    }
-}
-
-/// The tag that is made of the parts of another, the last part first.
-fn made_of_parts(alloc: Global, tag: &NormalLangTag<'_>) -> Result<NormalLangTagBuf, AllocError> {
-    let mut made = NormalLangTagBuf::from_parts(alloc, tag.language(), tag.script(), None)?;
-    made.set_private_use(alloc, tag.private_use())?;
-    made.set_extensions(alloc, tag.extensions())?;
-    made.set_variants(alloc, tag.variants())?;
-    made.set_region(alloc, tag.region())?;
-    made.set_language(alloc, tag.language())?;
-    Ok(made)
 }
 
 /// Returns whether the bytes are a part of a tag, by the types that lend it, and by the owned ones, as far as memory can be
@@ -206,6 +204,23 @@ pub extern "C" fn langtag_bench_filter_extended(alloc: Global, bytes: &[u8]) -> 
     read_tags(&mut tags);
     match ranges_of(alloc, text) {
         Ok(ranges) => filter_extended(ranges.as_slice(), &tags).count() > 0,
+        Err(_) => false,
+    }
+}
+
+/// Returns whether memory could be had for the ranges among the bytes, with commas between them, and another tag than
+/// the default is looked up for them among the twenty.
+#[unsafe(no_mangle)]
+pub extern "C" fn langtag_bench_look_up(alloc: Global, bytes: &[u8]) -> bool
+    ensures { IsTrue result → IsUtf8 bytes.now }
+{
+    let (Ok(text), Ok(english)) = (str::from_utf8(bytes), LangTag::new("en")) else {
+        return false;
+    };
+    let mut tags = [english; 20];
+    read_tags(&mut tags);
+    match ranges_of(alloc, text) {
+        Ok(ranges) => look_up(ranges.as_slice(), &tags, english) != english,
         Err(_) => false,
     }
 }

@@ -5,5 +5,6 @@ mod growth;
 mod lang_tag;
 mod loops;
 mod matching;
+mod memory;
 mod recognise;
 mod repeats;

@@ -5,6 +5,7 @@ pub mod Registered
 pub mod Fields
 pub mod Tables
 pub mod Fault
+pub mod Compared
 pub mod Valid
 pub mod Canonical
 pub mod CanonicalLaws

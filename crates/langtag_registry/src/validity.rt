@@ -10,8 +10,10 @@ ghost use Rattle.langtag_language.specs.Text.{language_text};
 ghost use Rattle.langtag_place.specs.Text.{script_text, region_text, variant_text, variants_text};
 ghost use Rattle.langtag.specs.Registered.{IsGrandfathered};
 ghost use Rattle.langtag.specs.Text.{lang_tag_text, normal_lang_tag_text};
+ghost use Rattle.langtag_registry.specs.Compared.{FaultsCompareByKind};
 ghost use Rattle.langtag_registry.specs.Fault.{told, faults, language_faults, script_faults, region_faults, variant_faults};
 ghost use Rattle.langtag_registry.specs.Valid.{IsValid};
+ghost use Rattle.langtag_registry.specs.declared.invalid_subtag.InvalidSubtag.{InvalidSubtag};
 
 use crate::invalid_subtag::InvalidSubtag;
 use crate::languages::is_language;
@@ -22,7 +24,8 @@ use langtag_place::{Region, Script, Variant, Variants};
 
 /// Returns whether a tag is valid by the registry (RFC 5646 section 2.2.9): well-formed, and either grandfathered, or with
 /// all its subtags registered and none repeated. `fr-FR`, the grandfathered `zh-min` and `x-qt` are Ok. Whether a variant
-/// stands after one of its prefixes is not asked.
+/// stands after one of its prefixes is not asked. The contract also says when two faults are equal, and that a clone of one
+/// is the same.
 ///
 /// # Errors
 ///
@@ -31,6 +34,10 @@ pub fn validate<'a>(tag: LangTag<'a>) -> Result<(), InvalidSubtag<'a>>
     ensures valid { (is_ok result ≡ true) ↔ IsValid (lang_tag_text tag.entry) }
     ensures first { IfErr result (λ invalid. EachRecord (lang_tag_text tag.entry)
         (λ r. slice_get (faults r) 0 ≡ Some (told invalid))) }
+
+    ensures compared { FaultsCompareByKind }
+    ensures cloned { (invalid copy : InvalidSubtag) → ⟦<InvalidSubtag<'a> as Clone>⟧.is_clone invalid copy → copy ≡ invalid }
+    ensures clone_succeeds { (invalid : InvalidSubtag) → ⟦<InvalidSubtag<'a> as Clone>⟧.is_infallible invalid }
 {
     match find_fault(tag) {
         Some(fault) => Err(fault),

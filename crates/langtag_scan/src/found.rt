@@ -63,13 +63,14 @@ impl Found {
     }
 
     /// Returns the ends of the parts of a normal tag (section 2.1): of `fr-FR`, language 2 and all others 5. It is None
-    /// of `x-a`. The contract also says that a clone of ends, and of a `Found`, is the value itself, and what `==` of
-    /// ends is.
+    /// of `x-a`. The contract also says that there always is a clone of ends, and of a `Found`, that it is the value
+    /// itself, and what `==` of ends is.
     pub fn ends(&self) -> Option<Ends>
         ensures ends { result ≡ normal_ends (finding self.now) }
 
         ensures equal_ends { (ends other : Ends) → IsTrue (⟦<Ends as PartialEq>⟧.eq ends other) ↔ (ends ≡ other) }
         ensures cloned_ends { (ends copy : Ends) → ⟦<Ends as Clone>⟧.is_clone ends copy → copy ≡ ends }
+        ensures clone_succeeds_ends { (ends : Ends) → ⟦<Ends as Clone>⟧.is_infallible ends }
         ensures cloned { (copy : Found) → ⟦<Found as Clone>⟧.is_clone self.now copy → copy ≡ self.now }
         ensures clone_succeeds { ⟦<Found as Clone>⟧.is_infallible self.now }
     {

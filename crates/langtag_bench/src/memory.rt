@@ -1,0 +1,371 @@
+//! Calls of langtag and langtag_match that take memory. `bench/growth.sh` refuses each of their allocations in turn.
+//!
+//! Each counts the calls to which memory was refused. One allocation at most is refused: where there is more to see,
+//! the call is made again.
+ghost use Rattle.std.specs.Prelude.{IsTrue, IfSome};
+ghost use Rattle.std.specs.Str.{IsUtf8};
+ghost use Rattle.langtag_scan.specs.Tag.{IsNormal, IsTag};
+
+use crate::matching::{range_of, tag_of};
+use langtag::{
+    ExtendedLangTagBuf, Extension, ExtensionBuf, ExtensionSubtagBuf, Extensions, ExtensionsBuf,
+    LangTag, LangTagBuf, Language, LanguageBuf, LanguageExtensionBuf, NormalLangTag,
+    NormalLangTagBuf, PrimaryLanguageBuf, PrivateUse, PrivateUseBuf, PrivateUseSubtagBuf,
+    RegionBuf, ScriptBuf, VariantBuf, Variants, VariantsBuf,
+};
+use langtag_match::{AcceptLanguage, AcceptLanguageError, LanguageRangeBuf, tag_for_header};
+use std::alloc::Global;
+
+/// Whether a call is Ok, now or, where memory was refused to it, when it is made again, and its answer is read as an
+/// owned value that is equal to the part.
+macro_rules! is_copied {
+    ($copy:expr, $part:expr, $owned:ident, $refused:ident) => {{
+        let copy = match $copy {
+            Ok(copy) => Ok(copy),
+            Err(_) => {
+                *$refused = $refused.saturating_add(1);
+                $copy
+            }
+        };
+        match copy {
+            Ok(copy) => match $owned::new(copy.into_string()) {
+                Ok(read) => $part.eq_str(read.as_str()),
+                Err(_) => false,
+            },
+            Err(_) => false,
+        }
+    }};
+}
+
+/// Copies a tag, also in its recommended case, and each part of it, by all types. Returns whether the bytes are a tag
+/// and each copy is right.
+#[unsafe(no_mangle)]
+pub extern "C" fn langtag_bench_copies(alloc: Global, bytes: &[u8], refused: &mut usize) -> bool
+    ensures { IsTrue result → IsTag bytes.now }
+{
+    let (Some(tag), Some(range)) = (tag_of(bytes), range_of(bytes)) else {
+        return false;
+    };
+    let are_copied = is_copied!(tag.try_to_owned(alloc), tag, LangTagBuf, refused)
+        && is_copied!(tag.try_to_recommended_case(alloc), tag, LangTagBuf, refused)
+        && is_copied!(range.try_to_owned(alloc), range, LanguageRangeBuf, refused);
+    let are_parts_copied = match (tag.as_normal(), tag.as_private_use()) {
+        (Some(normal), _) => is_normal_copied(alloc, normal, refused),
+        (_, Some(private_use)) => is_private_use_copied(alloc, private_use, refused),
+        _ => true,
+    };
+    are_copied && are_parts_copied
+}
+
+/// Copies a normal tag and its parts.
+fn is_normal_copied(alloc: Global, tag: NormalLangTag<'_>, refused: &mut usize) -> bool {
+    is_copied!(tag.try_to_owned(alloc), tag, NormalLangTagBuf, refused)
+        && is_copied!(
+            tag.try_to_recommended_case(alloc),
+            tag,
+            NormalLangTagBuf,
+            refused
+        )
+        && is_language_copied(alloc, tag.language(), refused)
+        && is_place_copied(alloc, tag, refused)
+        && are_variants_copied(alloc, tag.variants(), refused)
+        && are_extensions_copied(alloc, tag.extensions(), refused)
+        && match tag.private_use() {
+            Some(private_use) => is_private_use_copied(alloc, private_use, refused),
+            None => true,
+        }
+}
+
+/// Copies a language and its subtags.
+fn is_language_copied(alloc: Global, language: Language<'_>, refused: &mut usize) -> bool {
+    let primary = language.primary();
+    let mut are_copied = is_copied!(language.try_to_owned(alloc), language, LanguageBuf, refused)
+        && is_copied!(
+            primary.try_to_owned(alloc),
+            primary,
+            PrimaryLanguageBuf,
+            refused
+        );
+    if let Some(extension) = language.extension() {
+        are_copied &= is_copied!(
+            extension.try_to_owned(alloc),
+            extension,
+            LanguageExtensionBuf,
+            refused
+        );
+    }
+    for subtag in language.extension_subtags() {
+        are_copied &= is_copied!(
+            subtag.try_to_owned(alloc),
+            subtag,
+            ExtendedLangTagBuf,
+            refused
+        );
+    }
+    are_copied
+}
+
+/// Copies the script and the region of a tag.
+fn is_place_copied(alloc: Global, tag: NormalLangTag<'_>, refused: &mut usize) -> bool {
+    let is_script_copied = match tag.script() {
+        Some(script) => is_copied!(script.try_to_owned(alloc), script, ScriptBuf, refused),
+        None => true,
+    };
+    let is_region_copied = match tag.region() {
+        Some(region) => is_copied!(region.try_to_owned(alloc), region, RegionBuf, refused),
+        None => true,
+    };
+    is_script_copied && is_region_copied
+}
+
+/// Copies variants, together and one by one.
+fn are_variants_copied(alloc: Global, variants: Variants<'_>, refused: &mut usize) -> bool {
+    let mut are_copied = is_copied!(variants.try_to_owned(alloc), variants, VariantsBuf, refused);
+    for variant in variants.iter() {
+        are_copied &= is_copied!(variant.try_to_owned(alloc), variant, VariantBuf, refused);
+    }
+    are_copied
+}
+
+/// Copies extensions, together and one by one.
+fn are_extensions_copied(alloc: Global, extensions: Extensions<'_>, refused: &mut usize) -> bool {
+    let mut are_copied = is_copied!(
+        extensions.try_to_owned(alloc),
+        extensions,
+        ExtensionsBuf,
+        refused
+    );
+    for extension in extensions.iter() {
+        are_copied &= is_extension_copied(alloc, extension, refused);
+    }
+    are_copied
+}
+
+/// Copies an extension and its subtags.
+fn is_extension_copied(alloc: Global, extension: Extension<'_>, refused: &mut usize) -> bool {
+    let mut is_copied = is_copied!(
+        extension.try_to_owned(alloc),
+        extension,
+        ExtensionBuf,
+        refused
+    );
+    for subtag in extension.iter() {
+        is_copied &= is_copied!(
+            subtag.try_to_owned(alloc),
+            subtag,
+            ExtensionSubtagBuf,
+            refused
+        );
+    }
+    is_copied
+}
+
+/// Copies a private use part and its subtags.
+fn is_private_use_copied(alloc: Global, part: PrivateUse<'_>, refused: &mut usize) -> bool {
+    let mut is_copied = is_copied!(part.try_to_owned(alloc), part, PrivateUseBuf, refused);
+    for subtag in part.iter() {
+        is_copied &= is_copied!(
+            subtag.try_to_owned(alloc),
+            subtag,
+            PrivateUseSubtagBuf,
+            refused
+        );
+    }
+    is_copied
+}
+
+/// The normal tag that the bytes are.
+fn normal_of(bytes: &[u8]) -> Option<NormalLangTag<'_>>
+    ensures { IfSome result (λ tag. IsNormal bytes.now) }
+{
+    let text = str::from_utf8(bytes).ok()?;
+    NormalLangTag::new(text).ok()
+}
+
+/// The parts of a normal tag; the empty text is an absent part.
+fn texts_of<'a>(tag: &NormalLangTag<'a>) -> [&'a str; 6] {
+    [
+        tag.language().as_str(),
+        tag.script().map_or("", |part| part.as_str()),
+        tag.region().map_or("", |part| part.as_str()),
+        tag.variants().as_str(),
+        tag.extensions().as_str(),
+        tag.private_use().map_or("", |part| part.as_str()),
+    ]
+}
+
+/// An owned tag whose parts are set by their index.
+trait PartByPart {
+    /// The tag, if it is a normal one.
+    fn normal(&self) -> Option<NormalLangTag<'_>>;
+
+    /// Puts a part of another tag in the place of its own. Returns whether that was Ok.
+    fn set(&mut self, alloc: Global, other: NormalLangTag<'_>, index: usize) -> bool;
+}
+
+impl PartByPart for NormalLangTagBuf {
+    fn normal(&self) -> Option<NormalLangTag<'_>> {
+        Some(self.as_normal_lang_tag())
+    }
+
+    fn set(&mut self, alloc: Global, other: NormalLangTag<'_>, index: usize) -> bool {
+        match index {
+            0 => self.set_language(alloc, other.language()).is_ok(),
+            1 => self.set_script(alloc, other.script()).is_ok(),
+            2 => self.set_region(alloc, other.region()).is_ok(),
+            3 => self.set_variants(alloc, other.variants()).is_ok(),
+            4 => self.set_extensions(alloc, other.extensions()).is_ok(),
+            _ => self.set_private_use(alloc, other.private_use()).is_ok(),
+        }
+    }
+}
+
+impl PartByPart for LangTagBuf {
+    fn normal(&self) -> Option<NormalLangTag<'_>> {
+        self.as_lang_tag().as_normal()
+    }
+
+    fn set(&mut self, alloc: Global, other: NormalLangTag<'_>, index: usize) -> bool {
+        match index {
+            0 => self.set_language(alloc, other.language()).is_ok(),
+            1 => self.set_script(alloc, other.script()).is_ok(),
+            2 => self.set_region(alloc, other.region()).is_ok(),
+            3 => self.set_variants(alloc, other.variants()).is_ok(),
+            4 => self.set_extensions(alloc, other.extensions()).is_ok(),
+            _ => self.set_private_use(alloc, other.private_use()).is_ok(),
+        }
+    }
+}
+
+/// Whether an owned tag has these parts.
+fn has_parts<T: PartByPart>(owned: &T, parts: [&str; 6]) -> bool {
+    match owned.normal() {
+        Some(tag) => texts_of(&tag) == parts,
+        None => false,
+    }
+}
+
+/// Puts each part of another tag into a copy of a tag, one after the other. Returns whether the copy has the other's
+/// parts at the end, and where memory was refused had those that it had before.
+fn is_set<'a, T: PartByPart + Drop>(
+    alloc: Global,
+    copy: T,
+    [tag, other]: [NormalLangTag<'a>; 2],
+    refused: &mut usize,
+) -> bool {
+    let mut copy = copy;
+    let mut parts = texts_of(&tag);
+    let others = texts_of(&other);
+    for index in 0..6 {
+        if !copy.set(alloc, other, index) {
+            *refused = refused.saturating_add(1);
+            if !has_parts(&copy, parts) || !copy.set(alloc, other, index) {
+                return false;
+            }
+        }
+        parts[index] = others[index];
+        if !has_parts(&copy, parts) {
+            return false;
+        }
+    }
+    true
+}
+
+/// Puts each part of another normal tag into a copy of a normal one. Returns whether both are normal tags, and the
+/// copy is as it should be after each part.
+#[unsafe(no_mangle)]
+pub extern "C" fn langtag_bench_set_normal(
+    alloc: Global,
+    bytes: &[u8],
+    others: &[u8],
+    refused: &mut usize,
+) -> bool
+    ensures { IsTrue result → IsNormal bytes.now × IsNormal others.now }
+{
+    let (Some(tag), Some(other)) = (normal_of(bytes), normal_of(others)) else {
+        return false;
+    };
+    match tag.try_to_owned(alloc) {
+        Ok(copy) => is_set(alloc, copy, [tag, other], refused),
+        Err(_) => {
+            *refused = refused.saturating_add(1);
+            true
+        }
+    }
+}
+
+/// Does the same to a copy that could be a tag of any kind.
+#[unsafe(no_mangle)]
+pub extern "C" fn langtag_bench_set_of_any(
+    alloc: Global,
+    bytes: &[u8],
+    others: &[u8],
+    refused: &mut usize,
+) -> bool
+    ensures { IsTrue result → IsNormal bytes.now × IsNormal others.now }
+{
+    let (Some(tag), Some(other)) = (normal_of(bytes), normal_of(others)) else {
+        return false;
+    };
+    match tag.as_lang_tag().try_to_owned(alloc) {
+        Ok(copy) => is_set(alloc, copy, [tag, other], refused),
+        Err(_) => {
+            *refused = refused.saturating_add(1);
+            true
+        }
+    }
+}
+
+/// Makes a tag of the language, the script and the region of another. Returns whether the bytes are a normal tag, and
+/// the one that is made has these parts and no other.
+#[unsafe(no_mangle)]
+pub extern "C" fn langtag_bench_from_parts(alloc: Global, bytes: &[u8], refused: &mut usize) -> bool
+    ensures { IsTrue result → IsNormal bytes.now }
+{
+    let Some(tag) = normal_of(bytes) else {
+        return false;
+    };
+    let [language, script, region, ..] = texts_of(&tag);
+    match NormalLangTagBuf::from_parts(alloc, tag.language(), tag.script(), tag.region()) {
+        Ok(made) => has_parts(&made, [language, script, region, "", "", ""]),
+        Err(_) => {
+            *refused = refused.saturating_add(1);
+            true
+        }
+    }
+}
+
+/// Reads a header in each of three ways. Returns whether the bytes are a header without a bad element, and all three
+/// find the same.
+#[unsafe(no_mangle)]
+pub extern "C" fn langtag_bench_header(alloc: Global, bytes: &[u8], refused: &mut usize) -> bool
+    ensures { IsTrue result → IsUtf8 bytes.now }
+{
+    let (Ok(header), Ok(english), Ok(german)) = (
+        str::from_utf8(bytes),
+        LangTag::new("en"),
+        LangTag::new("de"),
+    ) else {
+        return false;
+    };
+    match is_read_in_one_way(alloc, header, [english, german]) {
+        Ok(is_one) => is_one,
+        Err(AcceptLanguageError::BadElement { .. }) => false,
+        Err(AcceptLanguageError::Memory(_)) => {
+            *refused = refused.saturating_add(1);
+            true
+        }
+    }
+}
+
+/// Whether the ways to read a header find the same ranges, and the same of two tags.
+fn is_read_in_one_way<'a>(
+    alloc: Global,
+    header: &'a str,
+    tags: [LangTag<'static>; 2],
+) -> Result<bool, AcceptLanguageError<'a>> {
+    let strict = AcceptLanguage::new(alloc, header)?;
+    let lenient = AcceptLanguage::lenient(alloc, header)?;
+    let tag = tag_for_header(alloc, header, &tags, tags[0])?;
+    Ok(strict.ranges() == lenient.ranges() && strict.look_up(&tags, tags[0]) == tag)
+}
