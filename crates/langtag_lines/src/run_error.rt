@@ -1,10 +1,11 @@
 //! The errors that end a run before it has answered its whole input.
-ghost use Rattle.std.specs.Prelude.{◌≡◌};
+ghost use Rattle.std.specs.Prelude.{◌≡◌, ◌↔◌, IsTrue};
 
 /// An error that ended a run.
 #[derive(Clone, Copy, Debug, PartialEq, Eq)]
 pub enum RunError {
-    /// There was not enough memory for a line, or for its answer. What is written are whole answers, in order, from the first line on.
+    /// There was not enough memory for a line, or for its answer. What is written are whole answers, in order, from the
+    /// first line on.
     Memory,
     /// A read failed, or the input had not ended after 2^64 - 1 reads. The answers to all complete lines that were read
     /// are written.
@@ -15,10 +16,16 @@ pub enum RunError {
 
 impl RunError {
     ghost use Rattle.langtag_lines.specs.RunError.{message_of, status_of};
+    ghost use Rattle.langtag_lines.specs.declared.run_error.RunError.{RunError};
 
-    /// The text that the program writes to standard error, without the LF.
+    /// Returns the text that the program writes to standard error, without the LF. The contract also says that errors are
+    /// equal where they are the same, and that there always is a clone, which is the error itself.
     pub fn text(&self) -> &'static str
-        ensures { result.now ≡ message_of self.now }
+        ensures message { result.now ≡ message_of self.now }
+
+        ensures compared { (a b : RunError) → IsTrue (⟦<RunError as PartialEq>⟧.eq a b) ↔ (a ≡ b) }
+        ensures cloned { (error copy : RunError) → ⟦<RunError as Clone>⟧.is_clone error copy → copy ≡ error }
+        ensures clone_succeeds { (error : RunError) → ⟦<RunError as Clone>⟧.is_infallible error }
     {
         match self {
             RunError::Memory => "out of memory",
@@ -27,7 +34,7 @@ impl RunError {
         }
     }
 
-    /// The exit status of the program.
+    /// Returns the exit status of the program.
     pub fn status(&self) -> u8
         ensures { result ≡ status_of self.now }
     {
