@@ -26,3 +26,4 @@ pub mod CanonicalLanguages
 pub mod CanonicalVariants
 pub mod ExtensionOrder
 pub mod CanonicalParts
+pub mod ExtlangForms

@@ -1,6 +1,6 @@
 //! Tests of the crate: messages, callers, and what the registry says of known subtags.
 use crate::{
-    FILE_DATE, InvalidSubtag, canonical, is_canonical, macrolanguage, preferred_language, preferred_tag, suppress_script,
+    FILE_DATE, InvalidSubtag, canonical, extlang_form, is_canonical, macrolanguage, preferred_language, preferred_tag, suppress_script,
     validate,
 };
 use langtag::{InvalidLangTag, LangTag};
@@ -152,6 +152,24 @@ fn canonical_forms(rt: HostRuntime) -> Result<(), Fail> {
         let form = canonical(rt.alloc(), tag)?;
         assert!(rt; form.as_str() == wanted, "of {text}: {form}");
         assert!(rt; is_canonical(tag) == (text == wanted), "of {text}");
+    }
+    Ok(())
+}
+
+#[test]
+fn extlang_forms(rt: HostRuntime) -> Result<(), Fail> {
+    for (text, wanted) in [
+        ("HAK-cn", "zh-HAK-cn"),
+        ("zh-HAK-CN", "zh-hak-CN"),
+        ("zh-cmn-yue", "zh-cmn-yue"),
+        ("sgn-DD", "sgn-gsg"),
+        ("zh-min", "zh-min"),
+        ("x-hak", "x-hak"),
+        ("iw", "he"),
+    ] {
+        let tag = LangTag::new(text).ok().ok_or(text)?;
+        let form = extlang_form(rt.alloc(), tag)?;
+        assert!(rt; form.as_str() == wanted, "of {text}: {form}");
     }
     Ok(())
 }
