@@ -5,7 +5,6 @@ use Rattle.std.specs.List.{list_all, list_any}
 use Rattle.std.specs.Str.{bytes_eq}
 use Rattle.std.specs.Cmp.Lexicographic.{bytes_decides}
 use Rattle.std.proofs.lemmas.Bool.{and_parts}
-use Rattle.std.proofs.lemmas.Bool.Decides.{nat_tests}
 use Rattle.langtag_scan.specs.Case.{fold_byte, fold_text, are_alike}
 use Rattle.langtag_scan.specs.CaseLaws.{are_alike-decides}
 use Rattle.langtag_scan.specs.Class.{is_letter, are_letters, is_primary, is_extended}
@@ -15,6 +14,7 @@ use Rattle.langtag_registry.specs.Fields.{preferred_language}
 use Rattle.langtag_registry.specs.Registered.{is_registered_extlang}
 use Rattle.langtag_registry.specs.Subtags.{extlang_subtags}
 use Rattle.langtag_registry.specs.Canonical.{preferred_extlang, canonical_primary, canonical_extended}
+use Rattle.langtag_registry.proofs.Letters.{extended_primary}
 use Rattle.langtag_registry.proofs.ReplacedSubtags.{new_language_primary, new_language_short}
 
 -- ---- extended subtags are registered in small letters
@@ -64,10 +64,6 @@ letters_small : (text : List ℕ) → are_letters text ≡ true → are_letters 
 letters_small [] h = refl
 letters_small (b ∷ text) h =
     let k = and_parts (is_letter b) (are_letters text) h in rw (is_letter-fold b, k.0) (letters_small text k.1)
-
-extended_primary : (text : List ℕ) → is_extended text ≡ true → is_primary text ≡ true
-unfolding is_extended is_primary
-extended_primary text h = grind (arith, nat_tests)
 
 extended_small : (text : List ℕ) → is_extended text ≡ true → is_extended (fold_text text) ≡ true
 unfolding is_extended

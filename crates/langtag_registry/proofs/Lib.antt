@@ -31,3 +31,4 @@ pub mod CanonicalParts
 pub mod PrefixTables
 pub mod PrefixLaws
 pub mod MisplacedLaws
+pub mod ExtlangForms

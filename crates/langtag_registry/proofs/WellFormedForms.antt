@@ -1,17 +1,13 @@
 -- The canonical record of a well-formed record is well-formed.
-use Rattle.std.proofs.Common.{◌≡◌, ℕ, ◌≤◌, ◌⊎◌, List, [], ◌∷◌, length, Option, IfSome, IsTrue, inl, inr, refl, true, arith}
+use Rattle.std.proofs.Common.{◌≡◌, ℕ, ◌≤◌, ◌⊎◌, List, [], ◌∷◌, length, Option, IfSome, IsTrue, inl, inr, refl, arith}
 use Rattle.std.specs.List.{AllByRecursion}
-use Rattle.std.proofs.lemmas.Bool.Decides.{nat_tests}
 use Rattle.langtag_scan.specs.Class.{is_primary, is_extended, is_region, is_variant}
 use Rattle.langtag_scan.specs.Record.{Record, IsWellFormed, IsWellFormedExtension}
 use Rattle.langtag_registry.specs.Canonical.{canonical_primary, canonical_extended, canonical_region, canonical_variants, canonical_record}
 use Rattle.langtag_registry.specs.Fields.{preferred_language, preferred_region, preferred_variant}
+use Rattle.langtag_registry.proofs.Letters.{extended_primary}
 use Rattle.langtag_registry.proofs.OrderLaws.{in_order-each}
 use Rattle.langtag_registry.proofs.ReplacedSubtags.{replaced, replaced-holds, if_some-map, each-map, new_language_primary, new_language_short, new_region_region, new_variant_variant, extlang_cases, new_extlang_extended}
-
-extended_primary : (text : List ℕ) → is_extended text ≡ true → is_primary text ≡ true
-unfolding is_extended is_primary
-extended_primary text h = grind (arith, nat_tests)
 
 -- a primary subtag and extended ones that may stand after it
 pub record IsLanguageOf (primary : List ℕ) (extended : List (List ℕ)) : Type 0 where

@@ -1,13 +1,13 @@
 -- The canonical form of a tag (RFC 5646 section 4.5).
 use Rattle.std.specs.Prelude.{◌≡◌, ℕ, ◌⊎◌, List, [], ◌∷◌, map, filter, find, codes, Option, None, Some, if◌then◌else◌, unwrap_or}
 use Rattle.std.specs.List.{flat_map}
-use Rattle.std.specs.Option.{option_map}
+use Rattle.std.specs.Option.{option_map, option_map_or}
 use Rattle.langtag_scan.specs.Case.{are_alike}
 use Rattle.langtag_scan.specs.Record.{Extension, Record, EachRecord, spell}
 use Rattle.langtag_scan.specs.Tag.{IsNormal}
 use Rattle.langtag.specs.Registered.{IsGrandfathered}
 use Rattle.langtag.specs.Repeat.{are_alike_bytes}
-use Rattle.langtag_registry.specs.Fields.{preferred_language, preferred_region, preferred_variant, preferred_tag}
+use Rattle.langtag_registry.specs.Fields.{preferred_language, preferred_region, preferred_variant, preferred_tag, extlang_prefix}
 use Rattle.langtag_registry.specs.Registered.{is_registered_extlang}
 use Rattle.langtag_registry.specs.Subtags.{extlang_subtags}
 
@@ -65,3 +65,24 @@ pub record IsCanonicalForm (old new : List ℕ) : Type 0 where
   pub whole : (w : List ℕ) → preferred_tag old ≡ Some w → new ≡ w
   pub kept : preferred_tag old ≡ None → IsGrandfathered old ⊎ (IsNormal old → ⊥) → new ≡ old
   pub parts : preferred_tag old ≡ None → (IsGrandfathered old → ⊥) → EachRecord old (λ r. new ≡ canonical_text r)
+
+-- ---- the extlang form: the canonical form, and before a language that is registered as an extended one, too, its Prefix
+-- (section 3.1.8)
+
+abbrev pub extlang_primary : List ℕ → List (List ℕ) → List ℕ
+extlang_primary primary [] = unwrap_or (extlang_prefix primary) primary
+extlang_primary primary (extlang ∷ others) = primary
+
+abbrev pub extlang_extended : List ℕ → List (List ℕ) → List (List ℕ)
+extlang_extended primary [] = option_map_or (λ _. primary ∷ []) (extlang_prefix primary) []
+extlang_extended primary (extlang ∷ others) = extlang ∷ others
+
+abbrev pub extlang_record : Record → Record
+extlang_record r = record r { primary = extlang_primary r.primary r.extended; extended = extlang_extended r.primary r.extended }
+
+-- a canonical form that is not normal stays
+pub record IsExtlangForm (old new : List ℕ) : Type 0 where
+  pub form : List ℕ
+  pub canonical : IsCanonicalForm old form
+  pub kept : (IsNormal form → ⊥) → new ≡ form
+  pub parts : EachRecord form (λ r. new ≡ spell (extlang_record r))

@@ -26,6 +26,7 @@ mod canonical_language;
 mod canonical_variants;
 mod deprecated;
 mod extension_order;
+mod extlang_forms;
 mod invalid_subtag;
 mod keys;
 mod language_fields;
@@ -45,6 +46,7 @@ pub use canonical_form::{canonical, is_canonical};
 pub use deprecated::{
     is_deprecated_extlang, is_deprecated_language, is_deprecated_region, is_deprecated_variant,
 };
+pub use extlang_forms::extlang_form;
 pub use invalid_subtag::InvalidSubtag;
 pub use language_fields::{macrolanguage, preferred_language, suppress_script};
 pub use languages::is_language;

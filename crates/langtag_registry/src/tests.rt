@@ -1,8 +1,7 @@
 //! Tests of the crate: messages, callers, and what the registry says of known subtags.
 use crate::{
-    FILE_DATE, InvalidSubtag, canonical, extlang_prefix, is_canonical, macrolanguage,
-    misplaced_variant, preferred_language,
-    preferred_tag, suppress_script, validate,
+    FILE_DATE, InvalidSubtag, canonical, extlang_form, extlang_prefix, is_canonical, macrolanguage,
+    misplaced_variant, preferred_language, preferred_tag, suppress_script, validate,
 };
 use langtag::{InvalidLangTag, LangTag, NormalLangTag};
 use langtag_language::{ExtendedLangTag, PrimaryLanguage};
@@ -185,6 +184,24 @@ fn known_prefixes(rt: HostRuntime) -> Result<(), Fail> {
             misplaced_variant(tag).map(|variant| variant.as_str()) == wanted,
             "of {text}"
         );
+    }
+    Ok(())
+}
+
+#[test]
+fn extlang_forms(rt: HostRuntime) -> Result<(), Fail> {
+    for (text, wanted) in [
+        ("HAK-cn", "zh-HAK-cn"),
+        ("zh-HAK-CN", "zh-hak-CN"),
+        ("zh-cmn-yue", "zh-cmn-yue"),
+        ("sgn-DD", "sgn-gsg"),
+        ("zh-min", "zh-min"),
+        ("x-hak", "x-hak"),
+        ("iw", "he"),
+    ] {
+        let tag = LangTag::new(text).ok().ok_or(text)?;
+        let form = extlang_form(rt.alloc(), tag)?;
+        assert!(rt; form.as_str() == wanted, "of {text}: {form}");
     }
     Ok(())
 }

@@ -1,0 +1,101 @@
+-- A language that is registered as an extended one, too, after its Prefix.
+use Rattle.std.proofs.Common.{◌≡◌, ℕ, ◌≤◌, true, false, ◌==◌, ltb, Bool, List, [], ◌∷◌, ◌++◌, length, map, cond, None, Some, inl, refl, sym, ap, subst, ◌∙◌, arith, eqb-true, eq-eqb}
+use Rattle.std.specs.List.{list_all}
+use Rattle.std.proofs.lemmas.Bool.{and_parts, ltb-true}
+use Rattle.langtag_scan.specs.Case.{are_alike}
+use Rattle.langtag_scan.specs.CaseLaws.{are_alike-decides}
+use Rattle.langtag_scan.specs.Class.{is_primary, is_extended}
+use Rattle.langtag_scan.specs.Record.{Record, Spells}
+use Rattle.langtag_scan.specs.Tag.{IsNormal}
+use Rattle.langtag_scan.proofs.CaseLaw.{length-fold}
+use Rattle.langtag_language.specs.Language.{SpellsLanguage, IsLanguage}
+use Rattle.langtag_registry.specs.Canonical.{IsCanonicalForm, IsExtlangForm, extlang_primary, extlang_extended, extlang_record}
+use Rattle.langtag_registry.specs.Entry.{Entry, value_for}
+use Rattle.langtag_registry.specs.Fields.{extlang_prefix}
+use Rattle.langtag_registry.specs.Subtags.{extlang_prefixes}
+use Rattle.langtag_registry.proofs.FieldTables.{prefix_good}
+use Rattle.langtag_registry.proofs.Letters.{primary_letters}
+use Rattle.langtag_registry.proofs.Values.{value_good}
+
+-- ---- by computation: the subtags have three letters, and the prefixes at most three
+
+subtags_three : list_all (λ e. length e.subtag == 3) extlang_prefixes ≡ true
+unfolding extlang_prefixes
+subtags_three = refl
+
+prefixes_short : list_all (λ value. ltb (length value) 4) (map (λ e. e.value) extlang_prefixes) ≡ true
+unfolding extlang_prefixes
+prefixes_short = refl
+
+-- a text that has a value is as long as a subtag
+length_of_found :
+    (list : List Entry) (text value : List ℕ) → list_all (λ e. length e.subtag == 3) list ≡ true → value_for list text ≡ Some value → length text ≡ 3
+length_of_found [] text value all is = absurd cc
+length_of_found (e ∷ list) text value all is =
+    let k = and_parts (length e.subtag == 3) (list_all (λ q. length q.subtag == 3) list) all in
+    by_test (are_alike e.subtag text) refl k.0 is (λ later. length_of_found list text value k.1 later)
+  where
+    by_test :
+        (b : Bool) → are_alike e.subtag text ≡ b → (length e.subtag == 3) ≡ true → cond b (Some e.value) (value_for list text) ≡ Some value →
+        (value_for list text ≡ Some value → length text ≡ 3) → length text ≡ 3
+    by_test true alike three first later =
+        sym (length-fold text) ∙ ap length (sym ((are_alike-decides e.subtag text).0 alike)) ∙ length-fold e.subtag ∙ eqb-true (length e.subtag) 3 three
+    by_test false alike three first later = later first
+
+prefixed_extended : (text value : List ℕ) → is_primary text ≡ true → extlang_prefix text ≡ Some value → is_extended text ≡ true
+unfolding extlang_prefix is_extended
+prefixed_extended text value class is =
+    rw (eq-eqb (length text) 3 (length_of_found extlang_prefixes text value subtags_three is)) (primary_letters text class)
+
+prefix_primary : (text value : List ℕ) → extlang_prefix text ≡ Some value → is_primary value ≡ true
+unfolding extlang_prefix
+prefix_primary text value is = value_good is_primary extlang_prefixes text value prefix_good is
+
+prefix_at_most : (text value : List ℕ) → extlang_prefix text ≡ Some value → length value ≤ 3
+unfolding extlang_prefix
+prefix_at_most text value is =
+    let short = ltb-true (length value) 4 (value_good (λ v. ltb (length v) 4) extlang_prefixes text value prefixes_short is) in omega (arith, short)
+
+-- ---- the language
+
+after_prefix : (primary value text : List ℕ) → is_primary primary ≡ true → extlang_prefix primary ≡ Some value → text ≡ value ++ 45 ∷ primary → SpellsLanguage value (primary ∷ []) text
+after_prefix primary value text class is same = record {
+  first = prefix_primary primary value is;
+  others = (prefixed_extended primary value class is, tt);
+  few = omega arith;
+  short = inl (prefix_at_most primary value is);
+  joined = sym same;
+}
+
+pub prefixed_language : (primary value text : List ℕ) → is_primary primary ≡ true → extlang_prefix primary ≡ Some value → text ≡ value ++ 45 ∷ primary → IsLanguage text
+prefixed_language primary value text class is same = (value, primary ∷ [], after_prefix primary value text class is same)
+
+pub prefixed_becomes :
+    (primary value text : List ℕ) (extended : List (List ℕ)) → extended ≡ [] → is_primary primary ≡ true → extlang_prefix primary ≡ Some value →
+    text ≡ value ++ 45 ∷ primary → SpellsLanguage (extlang_primary primary extended) (extlang_extended primary extended) text
+prefixed_becomes primary value text extended none class is same = rw (none, is) (after_prefix primary value text class is same)
+
+pub extended_stays :
+    (primary first : List ℕ) (extended rest : List (List ℕ)) → extended ≡ first ∷ rest →
+    (extlang_primary primary extended ≡ primary) × (extlang_extended primary extended ≡ extended)
+extended_stays primary first extended rest same = rw same (refl, refl)
+
+pub unprefixed_stays :
+    (primary : List ℕ) (extended : List (List ℕ)) → extended ≡ [] → extlang_prefix primary ≡ None →
+    (extlang_primary primary extended ≡ primary) × (extlang_extended primary extended ≡ extended)
+unprefixed_stays primary extended none without = rw (none, without) (refl, refl)
+
+-- ---- the record
+
+pub same_record :
+    (r : Record) (text : List ℕ) → (extlang_primary r.primary r.extended ≡ r.primary) × (extlang_extended r.primary r.extended ≡ r.extended) →
+    Spells r text → Spells (extlang_record r) text
+same_record r text stays spells =
+    subst (λ p. Spells (record r { primary = p; extended = extlang_extended r.primary r.extended }) text) (sym stays.0)
+    (subst (λ es. Spells (record r { extended = es }) text) (sym stays.1) spells)
+
+-- ---- a canonical form that is not normal
+
+pub other_form : (old form new : List ℕ) → IsCanonicalForm old form → (IsNormal form → ⊥) → new ≡ form → IsExtlangForm old new
+unfolding IsNormal
+other_form old form new is other same = record { form = form; canonical = is; kept = λ _. same; parts = λ r spells. absurd (other (r, spells)) }

@@ -1,0 +1,62 @@
+//! The extlang form of a tag (RFC 5646 section 4.5).
+ghost use Rattle.std.specs.Prelude.{◌≡◌, IsNone, IfSome, IfOk};
+ghost use Rattle.std.specs.String.{string_bytes};
+ghost use Rattle.langtag_scan.specs.Record.{EachRecord, Spells};
+ghost use Rattle.langtag_language.specs.Language.{EachLanguageSpelling, IsLanguage, SpellsLanguage};
+ghost use Rattle.langtag_language.specs.Text.{language_text};
+ghost use Rattle.langtag.specs.Text.{lang_tag_text, lang_tag_buf_text, normal_lang_tag_buf_text};
+ghost use Rattle.langtag_registry.specs.Canonical.{IsExtlangForm, extlang_primary, extlang_extended, extlang_record};
+
+use crate::canonical_form::canonical;
+use crate::prefixes::prefix_of_language;
+use langtag::{LangTag, LangTagBuf, NormalLangTagBuf};
+use langtag_language::Language;
+use std::alloc::{AllocError, Global};
+
+/// Returns the extlang form of a tag (RFC 5646 section 4.5): the canonical form, and before a language that is registered
+/// as an extended one, too, the language that this stands after: `zh-hak-CN` of `hak-CN` and of `zh-hak-CN`, `he` of `iw`.
+///
+/// # Errors
+///
+/// Out of memory.
+pub fn extlang_form(alloc: Global, tag: LangTag<'_>) -> Result<LangTagBuf, AllocError>
+    ensures { IfOk result (λ form. IsExtlangForm (lang_tag_text tag.entry) (lang_tag_buf_text form)) }
+{
+    match canonical(alloc, tag)?.into_normal() {
+        Ok(form) => Ok(with_prefix(alloc, form)?.into_lang_tag()),
+        Err(form) => Ok(form),
+    }
+}
+
+/// Returns a tag with the prefix of its language before it.
+fn with_prefix(alloc: Global, mut form: NormalLangTagBuf) -> Result<NormalLangTagBuf, AllocError>
+    ensures { IfOk result (λ new. EachRecord (normal_lang_tag_buf_text form) (λ r. Spells (extlang_record r) (normal_lang_tag_buf_text new))) }
+{
+    let Some(text) = prefixed_language(alloc, form.as_normal_lang_tag().language())? else {
+        return Ok(form);
+    };
+    form.set_language(alloc, Language::from_checked(text.as_str()))?;
+    Ok(form)
+}
+
+/// Returns the text of a language after its prefix, where it has no extended subtag, and is one: `zh-hak` of `hak`.
+fn prefixed_language(alloc: Global, language: Language<'_>) -> Result<Option<String>, AllocError>
+    ensures in_class { IfOk result (λ text. IfSome text (λ new. IsLanguage (string_bytes new))) }
+    ensures stays { IfOk result (λ text. IsNone text → EachLanguageSpelling (language_text language.entry)
+        (λ primary extended. (extlang_primary primary extended ≡ primary) × (extlang_extended primary extended ≡ extended))) }
+    ensures becomes { IfOk result (λ text. IfSome text (λ new. EachLanguageSpelling (language_text language.entry)
+        (λ primary extended. SpellsLanguage (extlang_primary primary extended) (extlang_extended primary extended) (string_bytes new)))) }
+{
+    let mut extlangs = language.extension_subtags();
+    let None = extlangs.next() else {
+        return Ok(None);
+    };
+    let primary = language.primary();
+    let Some(prefix) = prefix_of_language(primary) else {
+        return Ok(None);
+    };
+    let mut text = String::from_str(alloc, prefix.as_str())?;
+    text.push_str("-")?;
+    text.push_str(primary.as_str())?;
+    Ok(Some(text))
+}
