@@ -107,9 +107,11 @@ extlang_language extlang text class same =
 
 pub other_language :
     (primary value extlang text : List ℕ) → is_extended extlang ≡ true → preferred_language primary ≡ Some value → text ≡ value ++ 45 ∷ extlang → IsLanguage text
-other_language primary value extlang text class is same =
-    (value, extlang ∷ [],
-    record { first = new_language_primary primary value is; others = (class, tt); few = omega arith; short = inl (new_language_short primary value is); joined = sym same })
+other_language primary value extlang text class is same = (
+  value,
+  extlang ∷ [],
+  record { first = new_language_primary primary value is; others = (class, tt); few = omega arith; short = inl (new_language_short primary value is); joined = sym same },
+)
 
 -- ---- where it stays: `none` says that the primary subtag does
 

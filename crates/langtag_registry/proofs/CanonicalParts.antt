@@ -68,7 +68,7 @@ unfolding IsNormal
 kept_form old new none why same = record {
   whole = λ w is. absurd cc;
   kept = λ _ _. same;
-  parts = λ _ other r spells. elim why [ | inl is ↦ absurd (other is) | inr no_record ↦ absurd (no_record (r, spells)) ];
+  parts = λ _ other r spells. elim why [ inl is ↦ absurd (other is) | inr no_record ↦ absurd (no_record (r, spells)) ];
 }
 
 pub parts_form :
@@ -76,7 +76,7 @@ pub parts_form :
     new ≡ unwrap_or (preferred_tag form) form → IsCanonicalForm old new
 parts_form old form new none normal other each same = record {
   whole = λ w is. absurd cc;
-  kept = λ _ why. elim why [ | inl is ↦ absurd (other is) | inr no_record ↦ absurd (no_record normal) ];
+  kept = λ _ why. elim why [ inl is ↦ absurd (other is) | inr no_record ↦ absurd (no_record normal) ];
   parts = λ _ _ r spells. same ∙ ap (λ t. unwrap_or (preferred_tag t) t) (sym (each r spells).1);
 }
 

@@ -27,12 +27,13 @@ variant_stays v = by_option (preferred_variant v) refl
 
 pub variants_stay : (vs : List (List ℕ)) → (list_all has_none vs ≡ true) ↔ (canonical_variants vs ≡ vs)
 variants_stay [] = (λ _. refl, λ _. refl)
-variants_stay (v ∷ vs) =
-    (λ h. let k = and_parts (has_none v) (list_all has_none vs) h in
-    ap (λ w. w ∷ canonical_variants vs) ((variant_stays v).0 k.0) ∙ ap (λ ws. v ∷ ws) ((variants_stay vs).0 k.1),
-    λ same. let first : unwrap_or (preferred_variant v) v ≡ v = cc in
-    let others : canonical_variants vs ≡ vs = cc in
-    rw ((variant_stays v).1 first, (variants_stay vs).1 others) refl)
+variants_stay (v ∷ vs) = (
+  λ h. let k = and_parts (has_none v) (list_all has_none vs) h in
+      ap (λ w. w ∷ canonical_variants vs) ((variant_stays v).0 k.0) ∙ ap (λ ws. v ∷ ws) ((variants_stay vs).0 k.1),
+  λ same. let first : unwrap_or (preferred_variant v) v ≡ v = cc in
+      let others : canonical_variants vs ≡ vs = cc in
+      rw ((variant_stays v).1 first, (variants_stay vs).1 others) refl,
+)
 
 -- ---- one by one
 

@@ -17,9 +17,10 @@ pub stays_without :
 stays_without view preferred settled None s true same is = (λ _. ap (λ o. unwrap_or o s) (sym same), λ _. refl)
 stays_without view preferred settled None s false same is = absurd cc
 stays_without view preferred settled (Some x) s true same is = absurd cc
-stays_without view preferred settled (Some x) s false same is =
-    (λ no. absurd cc,
-    λ stays. absurd (value_other preferred settled s (view x) (sym same) (ap (λ o. unwrap_or o s) same ∙ stays)))
+stays_without view preferred settled (Some x) s false same is = (
+  λ no. absurd cc,
+  λ stays. absurd (value_other preferred settled s (view x) (sym same) (ap (λ o. unwrap_or o s) same ∙ stays)),
+)
 
 pub region_stays :
     {A : Type 0} (view : A → List ℕ) (found : Option A) (g : List ℕ) (none : Bool) →

@@ -32,7 +32,10 @@ pub(crate) fn is_canonical_language(language: Language<'_>) -> bool
 
 /// Returns the text of a language's canonical form, where it is another: `he` of `iw`, `yue` of `zh-YUE`, and `he-fra` of
 /// `iw-fra`, whose extended subtag is not registered.
-pub(crate) fn canonical_language(alloc: Global, language: Language<'_>) -> Result<Option<String>, AllocError>
+pub(crate) fn canonical_language(
+    alloc: Global,
+    language: Language<'_>,
+) -> Result<Option<String>, AllocError>
     ensures in_class { IfOk result (λ text. IfSome text (λ new. IsLanguage (string_bytes new))) }
     ensures stays { IfOk result (λ text. IsNone text → EachLanguageSpelling (language_text language.entry)
         (λ primary extended. (canonical_primary primary extended ≡ primary) × (canonical_extended extended ≡ extended))) }

@@ -25,7 +25,10 @@ pub(crate) fn are_canonical_variants(variants: Variants<'_>) -> bool
 
 /// Returns the text of the variants with what is preferred in the place of each: `ja-Latn-alalc97` has that of
 /// `heploc`.
-pub(crate) fn canonical_variants(alloc: Global, variants: Variants<'_>) -> Result<String, AllocError>
+pub(crate) fn canonical_variants(
+    alloc: Global,
+    variants: Variants<'_>,
+) -> Result<String, AllocError>
     ensures { IfOk result (λ text. SpellsVariants (canonical_variants (subtags (variants_text variants.entry))) (string_bytes text)) }
 {
     let mut text = String::new(alloc);

@@ -34,7 +34,10 @@ pub(crate) fn are_in_order(extensions: Extensions<'_>) -> bool
 }
 
 /// Returns the text of the extensions in order. Those of one singleton, which no valid tag has, keep theirs.
-pub(crate) fn extensions_in_order(alloc: Global, extensions: Extensions<'_>) -> Result<String, AllocError>
+pub(crate) fn extensions_in_order(
+    alloc: Global,
+    extensions: Extensions<'_>,
+) -> Result<String, AllocError>
     ensures in_class { IfOk result (λ text. IsExtensions (string_bytes text)) }
     ensures ordered { IfOk result (λ text. (es : List model.Extension) → SpellsExtensions es (extensions_text extensions.entry)
         → SpellsExtensions (in_order es) (string_bytes text)) }
@@ -47,7 +50,11 @@ pub(crate) fn extensions_in_order(alloc: Global, extensions: Extensions<'_>) -> 
 }
 
 /// Puts the extensions of one singleton at the end of a text.
-fn push_extensions(text: &mut String, extensions: Extensions<'_>, singleton: u8) -> Result<(), AllocError>
+fn push_extensions(
+    text: &mut String,
+    extensions: Extensions<'_>,
+    singleton: u8,
+) -> Result<(), AllocError>
     ensures { OnOk result ((es : List model.Extension) → SpellsExtensions es (extensions_text extensions.entry)
         → (before : List (List ℕ)) → AllByRecursion (λ s. 1 ≤ length s) before → join before ≡ string_bytes text.old
         → string_bytes text.new ≡ join (before ++ map extension_spelling (filter (λ e. are_alike_bytes singleton e.singleton) es))) }

@@ -1,7 +1,7 @@
 //! Tests of the crate: messages, callers, and what the registry says of known subtags.
 use crate::{
-    FILE_DATE, InvalidSubtag, canonical, extlang_form, is_canonical, macrolanguage, preferred_language, preferred_tag, suppress_script,
-    validate,
+    FILE_DATE, InvalidSubtag, canonical, extlang_form, is_canonical, macrolanguage,
+    preferred_language, preferred_tag, suppress_script, validate,
 };
 use langtag::{InvalidLangTag, LangTag};
 use langtag_language::PrimaryLanguage;
@@ -142,7 +142,10 @@ const CANONICAL_FORMS: [(&str, &str); 24] = [
     ("X-iw", "X-iw"),
     ("qt-FQ-1997", "qt-FQ-1997"),
     ("fr-FR", "fr-FR"),
-    ("iw-Hebr-BU-heploc-b-cc-a-bb-x-iw", "he-Hebr-MM-alalc97-a-bb-b-cc-x-iw"),
+    (
+        "iw-Hebr-BU-heploc-b-cc-a-bb-x-iw",
+        "he-Hebr-MM-alalc97-a-bb-b-cc-x-iw",
+    ),
 ];
 
 #[test]

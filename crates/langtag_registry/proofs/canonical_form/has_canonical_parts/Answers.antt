@@ -29,10 +29,12 @@ returns c = λ r spells.
     subst (λ g. (c.is_canonical_region.result ≡ true) ↔ (canonical_region g ≡ g)) (c.region.ensures r spells) c.is_canonical_region.ensures in
     let variants : (c.are_canonical_variants.result ≡ true) ↔ (canonical_variants r.variants ≡ r.variants) =
     subst (λ vs. (c.are_canonical_variants.result ≡ true) ↔ (canonical_variants vs ≡ vs)) (variants_listed r _ spells.0 (c.variants.ensures r spells)) c.are_canonical_variants.ensures in
-    let extensions = c.are_in_order.ensures r.extensions (record { members = spells.0.extensions; joined = sym (c.extensions.ensures r spells) }) in
-    (λ h. record_stays r (record {
-      language = language.0 c.if-not-is_canonical_language.false;
-      region = region.0 c.if-not-is_canonical_region.false;
-      variants = variants.0 c.if-not-are_canonical_variants.false;
-      extensions = extensions.0 h;
-    }), λ same. extensions.1 (parts_stay r same).extensions)
+    let extensions = c.are_in_order.ensures r.extensions (record { members = spells.0.extensions; joined = sym (c.extensions.ensures r spells) }) in (
+      λ h. record_stays r (record {
+        language = language.0 c.if-not-is_canonical_language.false;
+        region = region.0 c.if-not-is_canonical_region.false;
+        variants = variants.0 c.if-not-are_canonical_variants.false;
+        extensions = extensions.0 h;
+      }),
+      λ same. extensions.1 (parts_stay r same).extensions,
+    )

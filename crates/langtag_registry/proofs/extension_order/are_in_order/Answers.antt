@@ -12,10 +12,11 @@ loop-extension-init c = record {
 }
 
 pub returns-then-singleton-last : goal.returns-then-singleton-last
-returns-then-singleton-last c = λ es spells.
-    (λ no. absurd cc,
-    λ stays. absurd (falls_change es _ _ _ _ _ spells.members c.in-Some.ensures.steps c.folded_singleton-singleton.ensures c.if-singleton-last.true
-    (c.loop-extension.invariant.so_far es spells) stays))
+returns-then-singleton-last c = λ es spells. (
+  λ no. absurd cc,
+  λ stays. absurd (falls_change es _ _ _ _ _ spells.members c.in-Some.ensures.steps c.folded_singleton-singleton.ensures c.if-singleton-last.true
+      (c.loop-extension.invariant.so_far es spells) stays),
+)
 
 pub loop-extension-preserved : goal.loop-extension-preserved
 loop-extension-preserved c = record {

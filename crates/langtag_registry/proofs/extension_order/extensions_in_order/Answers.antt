@@ -20,9 +20,11 @@ returns-clause-in_class c =
     let k = c.loop-singleton.singleton-index in
     let all : k ≡ 35 = omega (arith, c.loop-singleton-test.false, c.loop-singleton.auto.singleton-index-end) in
     let es = c.as_str.ensures.in_class.0 in
-    let spells = rw c.as_str.ensures.same_text at c.as_str.ensures.in_class.1 in
-    (in_order es, spelled_in_order es _ spells.members
-    (ap (λ j. join (map extension_spelling (by_singletons (take j singletons) es))) (sym all) ∙ c.loop-singleton.invariant es spells))
+    let spells = rw c.as_str.ensures.same_text at c.as_str.ensures.in_class.1 in (
+      in_order es,
+      spelled_in_order es _ spells.members
+          (ap (λ j. join (map extension_spelling (by_singletons (take j singletons) es))) (sym all) ∙ c.loop-singleton.invariant es spells),
+    )
 
 pub returns-clause-ordered : goal.returns-clause-ordered
 returns-clause-ordered c = λ es spells.
