@@ -47,7 +47,7 @@ fn report_of(alloc: Global, text: &[u8]) -> Result<Vec<u8>, RunError>
 /// `report_of`, made again where `rt try --test --fail-alloc N` has refused memory.
 fn report_again(alloc: Global, text: &[u8]) -> Result<Vec<u8>, RunError> {
     match report_of(alloc, text) {
-        Err(RunError::Memory) => report_of(alloc, text),
+        Err(_) => report_of(alloc, text),
         report => report,
     }
 }
