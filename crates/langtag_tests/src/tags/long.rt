@@ -3,8 +3,7 @@ use crate::scan::answer::{Answer, of_text};
 use crate::support::{assert_exact, assert_same, assert_that, hash_of, with_memory};
 use crate::tags::parts::normal;
 use crate::tags::recommended_case::is_recommended;
-use crate::tags::setters::{WAYS, is_set_and_set_back, is_set_as_one_of_any_kind};
-use crate::tags::sweeps::{is_shown_and_copied, is_shown_and_copied_as_normal};
+use crate::tags::sweeps::is_shown_and_copied;
 use langtag::{
     LangTag, LangTagBuf, NormalLangTag, case_insensitive_cmp, case_insensitive_eq,
     is_extension_subtag, is_in_recommended_case, is_primary, is_private_subtag, is_variant,
@@ -83,29 +82,6 @@ fn private_use_subtags(rt: HostRuntime) {
             [0, 0, 1_000_000]
         )
     );
-}
-
-#[test]
-fn copies_and_setters(rt: HostRuntime) {
-    with_memory!(rt, check_copies_and_setters(&rt, rt.alloc()));
-}
-
-fn check_copies_and_setters(rt: &impl Abort, alloc: Global) -> Result<(), AllocError> {
-    for (text, piece) in [
-        ("en-x", "-a"),
-        ("en", "-rozaj"),
-        ("en", "-a-bb"),
-        ("fr-abc-Latn-FR-a", "-bb"),
-    ] {
-        let long = repeated(alloc, text, piece, 10_000)?;
-        let tag = LangTag::new(long.as_str()).ok().expect(rt, "refused");
-        is_shown_and_copied(rt, alloc, &tag, long.as_str())?;
-        let tag = normal(rt, long.as_str());
-        is_shown_and_copied_as_normal(rt, alloc, &tag, long.as_str())?;
-        is_set_and_set_back(rt, alloc, long.as_str(), &WAYS)?;
-        is_set_as_one_of_any_kind(rt, alloc, long.as_str())?;
-    }
-    Ok(())
 }
 
 #[test]
