@@ -27,6 +27,7 @@ mod broken;
 mod catalogue;
 mod counts;
 mod direction;
+mod header_rows;
 mod keyword;
 mod literal;
 mod other_script;

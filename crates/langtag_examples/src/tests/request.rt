@@ -1,4 +1,5 @@
 //! The language to answer a request in.
+use super::header_rows::ROWS;
 use super::{expect_text, tag};
 use crate::tag_for_request;
 use std::alloc::{AllocError, Global};
@@ -48,8 +49,34 @@ fn check_cases(rt: &impl Abort, alloc: Global) -> Result<(), AllocError> {
     Ok(())
 }
 
+/// One of the rows, beside a default that none of them finds.
+fn check_row(
+    rt: &impl Abort,
+    alloc: Global,
+    header: &str,
+    tags: &str,
+    wanted: Option<&str>,
+) -> Result<(), AllocError> {
+    let mut known = Vec::new(alloc);
+    for text in tags.split(' ') {
+        known.push(tag(rt, text))?;
+    }
+    let default = tag(rt, "x-default");
+    let chosen = tag_for_request(alloc, Some(header), known.as_slice(), default)?;
+    expect_text(rt, chosen.as_str(), wanted.unwrap_or("x-default"), header);
+    Ok(())
+}
+
+fn check_rows(rt: &impl Abort, alloc: Global) -> Result<(), AllocError> {
+    for (header, tags, wanted) in ROWS {
+        check_row(rt, alloc, *header, *tags, *wanted)?;
+    }
+    Ok(())
+}
+
 #[test]
 fn requests_are_answered(rt: HostRuntime) {
     with_memory!(rt, check_cases(&rt, rt.alloc()));
     with_memory!(rt, check_lengths(&rt, rt.alloc()));
+    with_memory!(rt, check_rows(&rt, rt.alloc()));
 }
