@@ -8,8 +8,8 @@ import pathlib
 import re
 import sys
 
-HEAD = """//! The rows of `bindings/negotiation.txt` that ask by a header, but for those with bytes or pieces that are repeated. Written
-//! by `bindings/header_rows.py`, and not by hand.
+HEAD = """//! The rows of `bindings/negotiation.txt` that ask by a header, but for those with bytes or pieces that are repeated.
+//! Written by `bindings/header_rows.py`, and not by hand.
 
 /// A header, the tags to choose from, and the one that it finds, if it is not refused and finds one.
 pub(crate) const ROWS: &[(&str, &str, Option<&str>)] = &[
