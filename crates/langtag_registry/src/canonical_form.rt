@@ -28,6 +28,8 @@ use std::alloc::{AllocError, Global};
 /// What is put in has the registry's case; all else keeps its own, and the variants keep their order. A tag need not be
 /// valid: a subtag that is not registered stays, as do two extended languages, and the language before them.
 ///
+/// The form of a valid tag is valid, unless two variants become the same, as those of `ja-heploc-alalc97` do.
+///
 /// # Errors
 ///
 /// Out of memory.
