@@ -5,23 +5,26 @@ use Rattle.langtag_registry.proofs.CanonicalParts.{kept_form, none_preferred, pr
 use Rattle.langtag_registry.proofs.canonical_form.is_canonical_form.Goals as goal
 
 pub returns-then-is_some : goal.returns-then-is_some
-returns-then-is_some c =
-    (λ no. absurd cc,
-    λ is. absurd (preferred_goes lang_tag_text c.preferred_tag.result (lang_tag_text c.args.tag) c.preferred_tag.ensures (sym c.is_some.ensures ∙ c.if-is_some.true) is))
+returns-then-is_some c = (
+  λ no. absurd cc,
+  λ is. absurd (preferred_goes lang_tag_text c.preferred_tag.result (lang_tag_text c.args.tag) c.preferred_tag.ensures (sym c.is_some.ensures ∙ c.if-is_some.true) is),
+)
 
 pub returns-in_default : goal.returns-in_default
 returns-in_default c =
-    let text = lang_tag_text c.args.tag in
-    (λ _. kept_form text text (none_preferred lang_tag_text c.preferred_tag.result text c.preferred_tag.ensures (sym c.is_some.ensures ∙ c.if-is_some.false))
-    (inr (λ normal. let no = c.in_default.ensures.kind.1 normal in absurd cc)) refl,
-    λ _. refl)
+    let text = lang_tag_text c.args.tag in (
+      λ _. kept_form text text (none_preferred lang_tag_text c.preferred_tag.result text c.preferred_tag.ensures (sym c.is_some.ensures ∙ c.if-is_some.false))
+          (inr (λ normal. let no = c.in_default.ensures.kind.1 normal in absurd cc)) refl,
+      λ _. refl,
+    )
 
 pub returns-then-is_grandfathered : goal.returns-then-is_grandfathered
 returns-then-is_grandfathered c =
-    let text = lang_tag_text c.args.tag in
-    (λ _. kept_form text text (none_preferred lang_tag_text c.preferred_tag.result text c.preferred_tag.ensures (sym c.is_some.ensures ∙ c.if-is_some.false))
-    (inl (c.is_grandfathered.ensures.0 c.if-is_grandfathered.true)) refl,
-    λ _. c.if-is_grandfathered.true)
+    let text = lang_tag_text c.args.tag in (
+      λ _. kept_form text text (none_preferred lang_tag_text c.preferred_tag.result text c.preferred_tag.ensures (sym c.is_some.ensures ∙ c.if-is_some.false))
+          (inl (c.is_grandfathered.ensures.0 c.if-is_grandfathered.true)) refl,
+      λ _. c.if-is_grandfathered.true,
+    )
 
 pub returns-else-is_grandfathered : goal.returns-else-is_grandfathered
 returns-else-is_grandfathered c =
