@@ -11,6 +11,13 @@ releases() {
 }
 check "release: two runs give the same bytes, with the archive's sum" releases
 
+# What the tarball has by its own: the archive as the page names it, and the examples.
+by_itself() {
+    away 'tar -xzf ../dist/*-elf.tar.gz; cd langtag-verified-*; rm ../parts.*
+        cc examples/negotiate.c examples/accept_language.c -Iinclude lib/liblangtag_verified.a -o negotiate
+        cc examples/parts.c -Iinclude lib/liblangtag_verified.a -o parts; ./parts zh-Hant-TW'
+}
+
 # away COMMAND..: runs it in an empty folder, where the repository and the copy of bindings are hidden if that can be done.
 hide=
 if unshare -rm true 2>/dev/null; then hide="unshare -rm"; else not_run "release: hiding the repository" "unshare is refused"; fi
@@ -29,12 +36,14 @@ by_pkg_config() {
 by_cmake() {
     away 'tar -xzf ../dist/*-elf.tar.gz
         printf "%s\n" "cmake_minimum_required(VERSION 3.13)" "project(first C)" \
-            "find_package(langtag_verified 0.1 CONFIG REQUIRED)" "add_executable(parts parts.c)" \
+            "find_package(langtag_verified 0.1 CONFIG REQUIRED)" "find_package(langtag_verified 0.1 CONFIG REQUIRED)" \
+            "add_executable(parts parts.c)" \
             "target_link_libraries(parts langtag_verified::langtag_verified)" "add_executable(still parts.c)" \
             "target_link_libraries(still langtag_verified::static)" >CMakeLists.txt
         cmake -S . -B b -DCMAKE_PREFIX_PATH="$(echo $PWD/langtag-verified-*)" >log && cmake --build b >>log || cat log
         b/still zh-Hant-TW | cmp - <(b/parts zh-Hant-TW); b/parts zh-Hant-TW'
 }
+check "release: C by the tarball's own archive and examples" by_itself
 if has pkg-config; then check "release: C by pkg-config" by_pkg_config; else not_run "release: C by pkg-config" "it is not there"; fi
 if has cmake; then check "release: C by find_package" by_cmake; else not_run "release: C by find_package" "there is no cmake"; fi
 

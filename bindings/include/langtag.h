@@ -174,8 +174,8 @@ enum langtag_part {
  * so much room is wanted. tag_len + text_len + 1 bytes are always enough. No NUL is written, and bytes after the new
  * tag stay as they were.
  *
- * 0, and nothing written, where the tag is not LANGTAG_NORMAL, or the text not one of that part: Latin is no script.
- * The language can't be taken out.
+ * 0, and nothing written, where the tag is not LANGTAG_NORMAL, the number is not one of enum langtag_part, or the text
+ * is not one of that part: Latin is not a script. The language can't be taken out.
  */
 size_t langtag_with_part(const char *tag, size_t tag_len, uint32_t part, const char *text, size_t text_len,
                          char *buffer, size_t buffer_len);

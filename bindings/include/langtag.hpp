@@ -5,8 +5,14 @@
 #ifndef LANGTAG_HPP
 #define LANGTAG_HPP
 
+#if __cplusplus < 201703L
+#error "langtag.hpp needs C++17; langtag.h needs C++98"
+#endif
+
 #include "langtag.h"
 
+#include <cstddef>
+#include <cstdint>
 #include <optional>
 #include <string>
 #include <string_view>

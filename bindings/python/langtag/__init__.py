@@ -28,7 +28,8 @@ from typing import Any, Callable, ClassVar, Iterable, Iterator, Mapping, NamedTu
 
 __all__ = [
     "AcceptLanguage", "AcceptLanguageError", "EditError", "GRANDFATHERED", "InvalidRange", "InvalidSubtag", "InvalidTag",
-    "Kind", "REGISTRY_DATE", "Range", "Tag", "WeightedRange", "kind", "look_up", "parse", "stop", "tag_for_header", "tag_for_header_lenient", "viable",
+    "Kind", "REGISTRY_DATE", "Range", "Tag", "WeightedRange", "kind", "look_up", "parse", "stop", "tag_for_header",
+    "tag_for_header_lenient", "viable",
 ]
 __version__ = "0.1.0"
 
@@ -177,8 +178,8 @@ class InvalidRange(ValueError):
 
 
 class EditError(ValueError):
-    """Why Tag.replace did not put a part into a tag: `part`, as "script", and `text`, which is not one, or None where the
-    tag is not a normal one and has no parts."""
+    """Why Tag.replace or Tag.from_parts did not put a part into a tag: `part`, as "script", and `text`, which is not one, or
+    None where the tag is not a normal one and has no parts."""
 
     def __init__(self, part: str, text: str | None):
         self.part, self.text = part, text
@@ -281,8 +282,11 @@ def _joined(value: str | Iterable[str] | Mapping[str, Iterable[str]] | None) -> 
         return ""
     if isinstance(value, str):
         return str.__str__(value)  # a subclass may have an == of its own
+    if isinstance(value, (bytes, bytearray)) or not isinstance(value, Iterable):
+        raise TypeError(f"a part is a str, or has several, and is not {type(value).__name__}")
     if isinstance(value, Mapping):
-        value = ("-".join([singleton, *subtags]) for singleton, subtags in value.items())
+        lists = {key: [subtags] if isinstance(subtags, str) else subtags for key, subtags in value.items()}
+        value = ("-".join([singleton, *subtags]) for singleton, subtags in lists.items())
     subtags = list(value)
     return "-".join(subtags) or "-" if subtags else ""  # one subtag that is empty is refused, as all that are
 
@@ -471,7 +475,7 @@ class Tag(_Caseless):
     ) -> Tag:
         """The tag of these parts, of which the language may have extended subtags. What can't be one of them is an EditError.
 
-        >>> Tag.from_parts("zh-yue", script="Hant", extensions={"u": ("co", "pinyin")})
+        >>> Tag.from_parts("zh-yue", script="Hant", extensions={"u": "co-pinyin"})
         Tag('zh-yue-Hant-u-co-pinyin')
         """
         return Tag("und").replace(language=language, script=script, region=region, variants=variants,

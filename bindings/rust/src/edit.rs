@@ -54,7 +54,8 @@ impl LangTagBuf {
     }
 
     /// Puts a script in the old one's place, or where one would stand: `Latn` put into `sl-IT` makes `sl-Latn-IT`. `None`
-    /// takes it out.
+    /// takes it out. A regular grandfathered tag is a normal one here: `zh-min-nan` becomes `zh-min-nan-Latn`, which is
+    /// not valid any more.
     ///
     /// # Errors
     ///

@@ -130,6 +130,20 @@ impl EditError<&str> {
     }
 }
 
+#[cfg(feature = "alloc")]
+impl From<AcceptLanguageError<&str>> for AcceptLanguageError<String> {
+    fn from(error: AcceptLanguageError<&str>) -> Self {
+        error.into_owned()
+    }
+}
+
+#[cfg(feature = "alloc")]
+impl From<EditError<&str>> for EditError<String> {
+    fn from(error: EditError<&str>) -> Self {
+        error.into_owned()
+    }
+}
+
 /// Writes the way from an error that borrows its text to one that owns it.
 #[cfg(feature = "alloc")]
 macro_rules! owned {

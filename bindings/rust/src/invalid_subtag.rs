@@ -73,6 +73,13 @@ impl InvalidSubtag<&str> {
     }
 }
 
+#[cfg(feature = "alloc")]
+impl From<InvalidSubtag<&str>> for InvalidSubtag<alloc::string::String> {
+    fn from(error: InvalidSubtag<&str>) -> Self {
+        error.into_owned()
+    }
+}
+
 impl<T: AsRef<str>> fmt::Display for InvalidSubtag<T> {
     fn fmt(&self, f: &mut fmt::Formatter<'_>) -> fmt::Result {
         let (what, fault) = match self.fault {

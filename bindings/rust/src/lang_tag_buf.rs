@@ -6,7 +6,8 @@ use core::str::FromStr;
 use crate::caseless::caseless;
 use crate::ffi::Parsed;
 use crate::{
-    CaselessStr, Extensions, InvalidLangTag, Kind, LangTag, Language, PrivateUse, Variants,
+    CaselessStr, Extensions, InvalidLangTag, InvalidSubtag, Kind, LangTag, Language, PrivateUse,
+    Variants,
 };
 
 /// A language tag that owns its text. [`as_lang_tag`](LangTagBuf::as_lang_tag) lends it, and has the parts.
@@ -58,6 +59,15 @@ impl LangTagBuf {
     /// What kind of tag it is.
     pub fn kind(&self) -> Kind {
         self.as_lang_tag().kind()
+    }
+
+    /// Whether the tag is valid, as [`LangTag::validate`] says.
+    ///
+    /// # Errors
+    ///
+    /// The first subtag that is wrong.
+    pub fn validate(&self) -> Result<(), InvalidSubtag<&str>> {
+        self.as_lang_tag().validate()
     }
 
     /// The language of a normal tag: `zh-yue`.

@@ -41,13 +41,15 @@
 //!
 //! The crate needs neither std nor, without the feature `alloc`, memory. The feature `serde`, which the same crate in the
 //! folder `serde` has, reads and writes tags and ranges as strings: cargo looks an optional dependency up even where it is
-//! off, and this crate needs no registry. It links the static library `liblangtag_c.a`, which the build script looks for in
-//! the folder that `LANGTAG_LIB_DIR` names.
+//! off, and this crate needs no registry. It links the static library `liblangtag_c.a`, which stands in the crate's folder
+//! `lib`, or in the one that `LANGTAG_LIB_DIR` names.
 //!
 //! What a program has to see to, since neither the compiler nor the crate does: it runs on an x86-64 processor with SSE4.2
 //! (x86-64-v2), and a thread that calls [`LangTag::repeated_variant`], [`LangTag::repeated_singleton`] or
 //! [`LangTag::validate`] has 96 KiB of free stack, and 1 KiB for all else.
 #![no_std]
+// The page speaks of owned forms, which are not there without that feature.
+#![cfg_attr(not(feature = "alloc"), allow(rustdoc::broken_intra_doc_links))]
 #![deny(unsafe_code, missing_docs)]
 
 #[cfg(feature = "alloc")]
