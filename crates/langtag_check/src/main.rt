@@ -1,7 +1,8 @@
 //! Answers each line of standard input: whether it is a valid language tag by the IANA registry (RFC 5646 section 2.2.9),
 //! what is wrong with it if not, and its canonical form (section 4.5).
 //!
-//! A line ends at LF. A last line without LF is answered if it is not empty. CR is an ordinary byte. There are three answers:
+//! A line ends at LF. A last line without LF is answered if it is not empty. CR is an ordinary byte. There are three
+//! answers:
 //!
 //! - `valid canonical=TAG`, where TAG is the canonical form of the tag;
 //! - `invalid WHAT=TEXT canonical=TAG`, where TEXT is the first faulty subtag as it stands in the tag, and WHAT is `language`,

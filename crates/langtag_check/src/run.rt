@@ -14,8 +14,8 @@ use std::io::{Read, Write};
 ///
 /// # Errors
 ///
-/// `Memory` if there is not enough memory for a line or a canonical form. `Read` at the first error of the reader, also an interruption, and
-/// if the input has not ended after 2^64 - 1 reads. `Write` if `write_all` or the flush fails.
+/// `Memory` if there is not enough memory for a line or a canonical form. `Read` at the first error of the reader, also
+/// an interruption, and if the input has not ended after 2^64 - 1 reads. `Write` if `write_all` or the flush fails.
 pub fn run<R: Read, W: Write>(alloc: Global, input: &mut R, output: &mut W) -> Result<(), RunError>
     ensures whole { OnOk result (IsAtEnd (R.remaining input.new)) }
     ensures report { OnOk result (IfSome (R.remaining input.old) (λ i.
