@@ -3,7 +3,7 @@
 import random
 import sys
 
-PIECES = "en zh yue Hant HK 419 1996 rozaj u co x X t a abcdefgh 1 i klingon sgn BE de 1abc * abcdefghi".split()
+PIECES = "en zh yue Hant HK 419 1996 rozaj u co x X t a abcdefgh 1 i klingon sgn BE de 1abc * abcdefghi iw BU heploc".split()
 
 
 def text(numbers):
@@ -13,9 +13,9 @@ def text(numbers):
     else:
         long = numbers.randrange(3) if numbers.random() < 0.03 else 3
         often = [int(10 ** numbers.uniform(2, 4)) if part == long else numbers.randrange(4) for part in range(3)]
-        made = numbers.choice(["de", "zh-yue", "sl-Latn", "en-GB", "abcd-Cyrl-419", "de"])
+        made = numbers.choice(["de", "zh-yue", "sl-Latn", "en-BU", "abcd-Cyrl-419", "iw"])
         for _ in range(often[0]):
-            made += "-" + numbers.choice(["1996", "rozaj", "%05d" % numbers.randrange(100000), "1aBc"])
+            made += "-" + numbers.choice(["1996", "rozaj", "heploc", "%05d" % numbers.randrange(100000), "1aBc"])
         for _ in range(often[1]):
             made += "-" + numbers.choice("utaB10") + "".join(
                 "-" + numbers.choice(["co", "phonebk", "Latn", "%d" % numbers.randrange(10, 99)])
@@ -36,7 +36,7 @@ def main(seed):
         if numbers.random() < 0.3:
             other = one.swapcase().replace("\\X", "\\x")
         beside = one[: numbers.randrange(len(one))] if numbers.random() < 0.4 and "\\" not in one else text(numbers)
-        print(f"tag {one}\nviable {one}\ngrandfathered {one}\nvalidity {one}\nrange {other}")
+        print(f"tag {one}\nviable {one}\ngrandfathered {one}\nvalidity {one}\ncanonical {one}\nrange {other}")
         print(f"order {one} {other}\nmatch {beside or '*'} {one}")
 
 

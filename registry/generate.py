@@ -104,6 +104,9 @@ class Registry:
             for text, record in of_kind.items():
                 if any(len(record.get(field, [])) > 1 for field in ("Preferred-Value", "Suppress-Script", "Macrolanguage")):
                     sys.exit(f"a field twice: {kind} {text}")
+        for text, record in self.fields["script"].items():
+            if "Preferred-Value" in record or "Deprecated" in record:
+                sys.exit(f"a script with a field that the crate does not have: {text}")
         for text, record in self.fields["extlang"].items():
             if [value.lower() for value in record.get("Preferred-Value", [])] != [text.lower()]:
                 sys.exit(f"an extended language whose Preferred-Value is not itself: {text}")

@@ -100,7 +100,9 @@ class Registry:
         """Section 4.5's other form: the Prefix stands before a language that is an extended one, too."""
         text = self.canonical(text)
         found = GRAMMAR.fullmatch(text)
-        prefix = self.prefixes.get(("extlang", found["language"].lower())) if found and text.lower() not in self.kinds["grandfathered"] else None
+        if not found or text.lower() in self.kinds["grandfathered"] or found["ext"] and found["ext"].count("-") == 3:
+            return text
+        prefix = self.prefixes.get(("extlang", found["language"].split("-")[0].lower()))
         return prefix[0] + "-" + text if prefix else text
 
     def misplaced(self, found):
@@ -160,6 +162,10 @@ class Registry:
 def make(registry, count, seed):
     rng = random.Random(seed)
     letters = "abcdefghijklmnopqrstuvwxyz"
+    prefixed, replaced = list(registry.prefixes), {}
+    for (kind, name), fields in registry.fields.items():
+        if "Preferred-Value" in fields:
+            replaced.setdefault(kind, []).append(name)
 
     def some(kind):
         pool = registry.names[kind]
@@ -170,8 +176,7 @@ def make(registry, count, seed):
                 text = "".join(rng.choice("0123456789") for _ in range(size))
             return text
         if rng.random() < 0.2:
-            replaced = [n for (k, n), fields in registry.fields.items() if k == kind and "Preferred-Value" in fields]
-            return rng.choice(replaced or pool)
+            return rng.choice(replaced.get(kind) or pool)
         return rng.choice(pool)
 
     def cased(text):
@@ -187,7 +192,7 @@ def make(registry, count, seed):
         elif how < 0.19:
             text = "x-" + "-".join(rng.choice(["a", "mine", "iw", "12345678", "", "123456789"]) for _ in range(rng.choice([1, 1, 2])))
         elif how < 0.27:
-            kind, name = rng.choice(list(registry.prefixes))
+            kind, name = rng.choice(prefixed)
             parts = rng.choice(registry.prefixes[kind, name]).split("-")
             for extra in [name] + [some("variant") for _ in range(rng.choice([0, 1, 2]))]:
                 parts.insert(rng.choice([len(parts), len(parts), rng.randrange(1, len(parts) + 1)]), extra)

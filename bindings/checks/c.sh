@@ -26,3 +26,16 @@ answers_of_c() {
     python3 random_calls.py "$FUZZ_SEED" >"$work/calls" && "$work/c/test" --answer <"$work/calls" >"$work/answers"
 }
 check "C: answers to random calls, for Rust and Python" answers_of_c
+
+# What C answers about tags of the registry's subtags, in the words of the oracle, a plain reading of the registry.
+oracle() { python3 "$root/registry/oracle.py" "$root/registry/language-subtag-registry" "$@"; }
+in_its_words() {
+    paste - - | sed -E 's/^validity \S+ none\t.* -$/refused/; s/^validity \S+ valid\tcanonical \S+ /valid canonical=/
+        s/^validity \S+ (\S+) [0-9]+ (\S+)\tcanonical \S+ /invalid \1=\2 canonical=/'
+}
+as_the_oracle() {
+    { oracle --each && oracle --make 30000 "$FUZZ_SEED"; } >"$work/tags" || return 1
+    sed 's/.*/validity &\ncanonical &/' "$work/tags" | "$work/c/test" --answer | in_its_words >"$work/told" || return 1
+    oracle validity canonical --compare "$work/told" <"$work/tags"
+}
+check "C: validity and canonical form of 50,000 tags, by a plain reading of the registry" as_the_oracle

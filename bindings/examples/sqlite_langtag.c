@@ -1,13 +1,15 @@
 /*
- * A loadable extension for SQLite: the parts of language tags, and their order.
+ * A loadable extension for SQLite: the parts of language tags, their canonical forms, and their order.
  *
  *     cc -O2 -fPIC -shared sqlite_langtag.c -o sqlite_langtag.so $(pkg-config --cflags --libs langtag_verified)
  *     sqlite> .load ./sqlite_langtag
  *     sqlite> SELECT langtag_part('zh-Hant-TW', 'script');          -- Hant
+ *     sqlite> SELECT langtag_canonical('iw-Hebr');                   -- he-Hebr
  *     sqlite> SELECT * FROM texts WHERE tag = 'ZH-hant' COLLATE langtag;
  *
  * langtag_part(tag, part) is NULL where the text is not a tag, where the part is absent, and of NULL. The parts are
- * language, script, region, variants, extensions and private_use.
+ * language, script, region, variants, extensions and private_use. langtag_canonical(tag) is NULL where the text is not a
+ * tag, and of NULL.
  */
 #include <langtag.h>
 #include <sqlite3ext.h>
@@ -40,6 +42,22 @@ static void part(sqlite3_context *context, int count, sqlite3_value **values) {
         sqlite3_result_text(context, tag + span->start, (int)span->len, SQLITE_TRANSIENT);
 }
 
+static void canonical(sqlite3_context *context, int count, sqlite3_value **values) {
+    (void)count;
+    const char *tag = (const char *)sqlite3_value_text(values[0]);
+    size_t len = (size_t)sqlite3_value_bytes(values[0]);
+    char none;
+    size_t form_len = tag ? langtag_canonical(tag, len, &none, 0) : 0;
+    if (form_len == 0) return; /* NULL */
+    char *form = sqlite3_malloc64(form_len);
+    if (!form) {
+        sqlite3_result_error_nomem(context);
+        return;
+    }
+    langtag_canonical(tag, len, form, form_len);
+    sqlite3_result_text64(context, form, form_len, sqlite3_free, SQLITE_UTF8);
+}
+
 static int compare(void *unused, int a_len, const void *a, int b_len, const void *b) {
     (void)unused;
     return langtag_cmp(langtag_bytes(a), (size_t)a_len, langtag_bytes(b), (size_t)b_len);
@@ -48,7 +66,9 @@ static int compare(void *unused, int a_len, const void *a, int b_len, const void
 int sqlite3_sqlitelangtag_init(sqlite3 *db, char **message, const sqlite3_api_routines *api) {
     (void)message;
     SQLITE_EXTENSION_INIT2(api);
-    int status =
-        sqlite3_create_function(db, "langtag_part", 2, SQLITE_UTF8 | SQLITE_DETERMINISTIC, NULL, part, NULL, NULL);
+    int flags = SQLITE_UTF8 | SQLITE_DETERMINISTIC, status;
+    status = sqlite3_create_function(db, "langtag_part", 2, flags, NULL, part, NULL, NULL);
+    if (status == SQLITE_OK)
+        status = sqlite3_create_function(db, "langtag_canonical", 1, flags, NULL, canonical, NULL, NULL);
     return status == SQLITE_OK ? sqlite3_create_collation(db, "langtag", SQLITE_UTF8, NULL, compare) : status;
 }

@@ -40,6 +40,8 @@ STATEMENTS = [
     ("SELECT langtag_part('x-a', 'private_use'), langtag_part('zh-yue-u-co', 'language');", "x-a|zh-yue"),
     ("SELECT langtag_part('zh_Hant', 'script') IS NULL, langtag_part(NULL, 'script') IS NULL;", "1|1"),
     ("SELECT langtag_part('de', 'region') IS NULL, langtag_part('', 'language') IS NULL;", "1|1"),
+    ("SELECT langtag_canonical('iw-Hebr'), langtag_canonical('ja-heploc');", "he-Hebr|ja-alalc97"),
+    ("SELECT langtag_canonical('iw_IL') IS NULL, langtag_canonical('') IS NULL, langtag_canonical(NULL) IS NULL;", "1|1|1"),
     (TABLE + "SELECT tag FROM texts WHERE tag = 'ZH-hant';", "zh-Hant"),
     (TABLE + "SELECT group_concat(tag) FROM (SELECT tag FROM texts ORDER BY tag);", "de,zh-Hant,zh,"),
     (TABLE + "INSERT OR IGNORE INTO texts VALUES ('DE'); SELECT count(*) FROM texts;", "4"),

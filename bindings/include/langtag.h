@@ -1,6 +1,6 @@
 /*
- * langtag: language tags and language ranges by BCP 47 (RFC 5646 and RFC 4647). It tells what is well formed, and by
- * langtag_validity alone what is registered.
+ * langtag: language tags and language ranges by BCP 47 (RFC 5646 and RFC 4647). Only langtag_validity and
+ * langtag_canonical look at what is registered.
  *
  * What a comment here says that a function answers or writes is proved of its code, for every input, and also that each
  * call ends and reaches no memory but that of its arguments. No function takes memory or keeps anything between calls;
@@ -58,7 +58,7 @@ static inline const char *langtag_bytes(const void *pointer) {
 
 /* What langtag_kind and langtag_parse answer. The regular grandfathered tags, as zh-min-nan, are normal. */
 enum langtag_kind_answer {
-    LANGTAG_NONE = 0,        /* no language tag */
+    LANGTAG_NONE = 0,        /* not a language tag */
     LANGTAG_NORMAL = 1,      /* rule langtag: zh-Hant-TW */
     LANGTAG_PRIVATE_USE = 2, /* rule privateuse: x-fr-CH */
     LANGTAG_IRREGULAR = 3    /* rule irregular: one of seventeen, as i-klingon */
@@ -201,7 +201,7 @@ uint32_t langtag_repeats(const char *bytes, size_t len, langtag_repeated *repeat
 
 /* What langtag_validity answers: that a tag is valid, or what is wrong with the first of its subtags that is not. */
 enum langtag_validity_answer {
-    LANGTAG_VALIDITY_NONE = 0,              /* no language tag */
+    LANGTAG_VALIDITY_NONE = 0,              /* not a language tag */
     LANGTAG_VALID = 1,                      /* fr-FR, the grandfathered zh-min, x-qt */
     LANGTAG_INVALID_LANGUAGE = 2,           /* not registered: qt of qt-FR */
     LANGTAG_INVALID_EXTLANG = 3,            /* not registered: fra of zh-fra */
@@ -216,11 +216,33 @@ enum langtag_validity_answer {
 /*
  * Whether a tag is valid (RFC 5646 section 2.2.9) by IANA's registry of LANGTAG_REGISTRY_DATE, as an enum
  * langtag_validity_answer, and where the subtag stands that is wrong (out); without a byte where none is. A valid tag is
- * grandfathered, or has registered subtags alone, at most one extended one, and no variant or singleton twice. Deprecated
- * subtags are valid, and whether a variant stands after one of its prefixes is not asked.
+ * grandfathered, or its language, extended language, script, region and variants are registered, at most one of them is an
+ * extended language, and no variant or singleton stands twice. Deprecated subtags are valid, and whether a variant stands
+ * after one of its prefixes is not asked.
  */
 #define LANGTAG_REGISTRY_DATE "2022-06-28"
 uint32_t langtag_validity(const char *bytes, size_t len, langtag_span *invalid);
+
+/*
+ * Writes the canonical form of a tag to `buffer` (RFC 5646 section 4.5, by the registry of LANGTAG_REGISTRY_DATE), and
+ * returns its length: he for iw, yue for zh-yue, jbo for art-lojban, en-a-aaa-b-ccc for en-b-ccc-a-aaa, fr-FR for fr-FR.
+ *
+ *     char buffer[64];
+ *     size_t form_len = langtag_canonical("en-BU", 5, buffer, sizeof buffer);
+ *     if (form_len > 0 && form_len <= sizeof buffer) printf("%.*s\n", (int)form_len, buffer);
+ *
+ * prints en-MM. As with snprintf the answer may be greater than `buffer_len`: nothing is written then, and so much room
+ * is wanted. The form may be longer than the tag: heploc becomes alalc97. No NUL is written, and bytes after the form
+ * stay as they were.
+ *
+ * What is put in has the registry's case, all else keeps its own, and variants keep their order. Step 2 is taken again
+ * after step 3, so that a form is its own: gsg for sgn-DD. A tag is its own canonical form exactly where langtag_eq says
+ * that it equals its form. It need not be valid: what is not registered stays, as do two extended languages and the
+ * language before them.
+ *
+ * 0, and nothing written, where the text is not a tag.
+ */
+size_t langtag_canonical(const char *bytes, size_t len, char *buffer, size_t buffer_len);
 
 /*
  * The number of the text among the 26 grandfathered tags, in any case, by their order in RFC 5646 section 2.1, or
@@ -237,7 +259,7 @@ LANGTAG_PURE uint32_t langtag_grandfathered(const char *bytes, size_t len);
 
 /* What langtag_range_kind answers (RFC 4647 section 2). */
 enum langtag_range_kind_answer {
-    LANGTAG_RANGE_NONE = 0,    /* no language range */
+    LANGTAG_RANGE_NONE = 0,    /* not a language range */
     LANGTAG_RANGE_BASIC = 1,   /* a basic one (section 2.1): de-CH, or * alone */
     LANGTAG_RANGE_EXTENDED = 2 /* an extended one that is not basic (section 2.2): *-CH, de-*-DE */
 };
@@ -254,8 +276,8 @@ LANGTAG_PURE bool langtag_matches_basic(const char *range, size_t range_len, con
 
 /*
  * Whether a range matches a tag by extended filtering (RFC 4647 section 3.3.2): de-DE and de-*-DE match
- * de-Latn-DE-1996, and not de-x-DE, where a subtag of one byte would be left out. False where the first text is no
- * language range or the second no language tag.
+ * de-Latn-DE-1996, and not de-x-DE, where a subtag of one byte would be left out. False where the first text is not a
+ * language range or the second not a language tag.
  */
 LANGTAG_PURE bool langtag_matches_extended(const char *range, size_t range_len, const char *tag, size_t tag_len);
 

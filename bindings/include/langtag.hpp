@@ -34,6 +34,24 @@ enum class part : std::uint32_t {
     private_use = LANGTAG_PART_PRIVATE_USE
 };
 
+/* What is wrong with a subtag (RFC 5646 section 2.2.9). */
+enum class fault : std::uint32_t {
+    language = LANGTAG_INVALID_LANGUAGE,
+    extlang = LANGTAG_INVALID_EXTLANG,
+    second_extlang = LANGTAG_INVALID_SECOND_EXTLANG,
+    script = LANGTAG_INVALID_SCRIPT,
+    region = LANGTAG_INVALID_REGION,
+    variant = LANGTAG_INVALID_VARIANT,
+    repeated_variant = LANGTAG_INVALID_REPEATED_VARIANT,
+    repeated_singleton = LANGTAG_INVALID_REPEATED_SINGLETON
+};
+
+/* A subtag that makes a tag invalid. */
+struct invalid_subtag {
+    langtag::fault fault;
+    std::string_view subtag;
+};
+
 /* A language tag (RFC 5646 section 2.1). */
 class tag {
 public:
@@ -65,6 +83,29 @@ public:
         if (len == 0) return std::nullopt;
         made.resize(len);
         return made;
+    }
+
+    /* The first subtag that makes the tag invalid, by the registry of LANGTAG_REGISTRY_DATE. None where it is valid. */
+    std::optional<langtag::invalid_subtag> invalid_subtag() const noexcept {
+        langtag_span invalid;
+        const std::uint32_t found = langtag_validity(text_.data(), text_.size(), &invalid);
+        if (found <= LANGTAG_VALID) return std::nullopt;
+        return langtag::invalid_subtag{static_cast<langtag::fault>(found), cut(invalid)};
+    }
+    bool is_valid() const noexcept { return !invalid_subtag(); }
+
+    /* The canonical form (RFC 5646 section 4.5), by the same registry: he of iw. */
+    std::string canonical() const {
+        char none;
+        std::string made(langtag_canonical(text_.data(), text_.size(), &none, 0), '\0');
+        langtag_canonical(text_.data(), text_.size(), &made[0], made.size());
+        return made;
+    }
+
+    /* Whether the tag is its own canonical form, but for case. */
+    bool is_canonical() const {
+        const std::string form = canonical();
+        return langtag_eq(text_.data(), text_.size(), form.data(), form.size());
     }
 
     /* Without regard to case; a tag comes after those that begin with it. */

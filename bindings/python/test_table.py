@@ -68,6 +68,15 @@ def answer_validity(text):
     return f"{wrong.fault} {wrong.offset} {wrong.subtag}"
 
 
+def answer_canonical(text):
+    tag = made(Tag, text)
+    if tag is None:
+        return "-"
+    form = tag.canonical()
+    assert tag.is_canonical == (form == tag) and form.is_canonical and type(form) is Tag
+    return str(form)
+
+
 def answer_grandfathered(text):
     tag = made(Tag, text)
     found = tag.grandfathered if tag else None
@@ -100,6 +109,7 @@ ANSWERS = {
     "tag": (1, answer_tag), "grandfathered": (1, answer_grandfathered), "range": (1, answer_range),
     "viable": (1, lambda text: f"{langtag.viable(text)} {langtag.stop(text)}"),
     "match": (2, answer_match), "order": (2, answer_order), "validity": (1, answer_validity),
+    "canonical": (1, answer_canonical),
 }
 
 

@@ -12,6 +12,8 @@ struct Parts([usize; 12]);
 
 extern "C" {
     fn langtag_parse(bytes: *const u8, len: usize, parts: *mut Parts) -> u32;
+    fn langtag_canonical(bytes: *const u8, len: usize, buffer: *mut u8, buffer_len: usize)
+        -> usize;
 }
 
 /// The C function alone.
@@ -61,10 +63,23 @@ fn entry_oxilangtag(text: &str) -> usize {
     1
 }
 
-const ENTRIES: [(&str, fn(&str) -> usize); 3] = [
+/// The C function that writes a canonical form.
+#[no_mangle]
+#[inline(never)]
+fn entry_langtag_canonical(text: &str) -> usize {
+    let mut buffer = MaybeUninit::<[u8; 64]>::uninit();
+    // SAFETY: the pointer and the length are those of a live slice, and 64 bytes can be written at `buffer`.
+    let len =
+        unsafe { langtag_canonical(text.as_ptr(), text.len(), buffer.as_mut_ptr().cast(), 64) };
+    black_box(&buffer);
+    len
+}
+
+const ENTRIES: [(&str, fn(&str) -> usize); 4] = [
     ("langtag_parse", entry_langtag_parse),
     ("langtag_verified", entry_langtag_verified),
     ("oxilangtag", entry_oxilangtag),
+    ("langtag_canonical", entry_langtag_canonical),
 ];
 
 /// Goes once over all tags, and gives the nanoseconds that it took.

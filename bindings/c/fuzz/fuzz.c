@@ -166,6 +166,44 @@ static void check_with_part(slice text, slice other, pages out) {
     SAME(memcmp(buffer + written, filled, room - written) == 0);
 }
 
+static bool has_same_bytes(slice a, slice b) { return a.len == b.len && memcmp(a.at, b.at, a.len) == 0; }
+
+/* What the form of a tag has of it, whatever is registered. Only a tag without extensions and private use is replaced as a
+ * whole, by one without. */
+static void check_form(slice text, slice form) {
+    char again[2 * ROOM], ordered[ROOM];
+    tag old = read_tag(text), new = read_tag(form);
+    bool is_kept = old.kind == 2 || (old.kind == 3 && new.kind == 3), has_end = old.parts[4].len + old.parts[5].len > 0;
+    SAME(new.kind == old.kind || (new.kind == 1 && old.kind == 3));
+    SAME(!is_kept || has_same_bytes(form, text));
+    SAME(langtag_canonical(form.at, form.len, again, sizeof again) == form.len);
+    SAME(has_same_bytes((slice){again, form.len}, form));
+    SAME(has_same_bytes(new.parts[4], (slice){ordered, in_order(old.parts[4], ordered)}));
+    SAME(has_same_bytes(new.parts[5], old.parts[5]));
+    if (old.kind != 1 || !has_end) return;
+    SAME(has_same_bytes(new.parts[1], old.parts[1]) && new.parts[2].len == old.parts[2].len);
+    SAME(split(new.parts[3]).count == split(old.parts[3]).count);
+}
+
+/* langtag_canonical, with more room than is wanted, just as much, or less, and of a text in another case. A form is longer
+ * by a byte for each heploc, or by five for en-GB-oed. */
+static void check_canonical(slice text, slice other, pages out) {
+    char form[2 * ROOM], filled[2 * ROOM], others[2 * ROOM];
+    size_t len = langtag_canonical(text.at, text.len, out.last, 0), room = below(3) ? len : below(2 * ROOM);
+    SAME((len == 0) == (read_tag(text).kind == 0) && len <= text.len + text.len / 7 + 5);
+    if (room > 0 && below(4) == 0) room--;
+    memset(filled, 0x5a, sizeof filled);
+    char *buffer = place(out, filled, room, below(2));
+    SAME(langtag_canonical(text.at, text.len, buffer, room) == len);
+    size_t written = len <= room ? len : 0;
+    SAME(memcmp(buffer + written, filled, room - written) == 0);
+    SAME(langtag_canonical(text.at, text.len, form, sizeof form) == len && memcmp(form, buffer, written) == 0);
+    if (len > 0) check_form(text, (slice){form, len});
+    if (!are_alike(text, other)) return;
+    SAME(langtag_canonical(other.at, other.len, others, sizeof others) == len);
+    SAME(are_alike((slice){others, len}, (slice){form, len}));
+}
+
 /* langtag_range_kind and both ways to match */
 static void check_ranges(slice range, slice text) {
     SAME(langtag_range_kind(range.at, range.len) == range_kind(range));
@@ -227,6 +265,7 @@ static unsigned check_one(pages here, pages there, pages out) {
     check_lists(placed, &parts);
     check_odd_spans(placed);
     check_with_part(placed, neighbour, out);
+    check_canonical(placed, neighbour, out);
     check_ranges(neighbour, placed);
     check_fallbacks(placed);
     check_header(placed);

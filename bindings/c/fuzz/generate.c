@@ -14,10 +14,10 @@ uint32_t below(uint32_t bound) {
     return (uint32_t)((state >> 33) % bound);
 }
 
-static const char *const pieces[] = {"en",      "zh",   "yue",       "sgn",      "BE",    "FR",     "NL", "i",
-                                     "klingon", "Hant", "419",       "1996",     "rozaj", "u",      "co", "x",
-                                     "X",       "t",    "a",         "abcdefgh", "GB",    "oed",    "1",  "12",
-                                     "1abc",    "min",  "abcdefghi", "nan",      "",      "default"};
+static const char *const pieces[] = {"en",   "zh",       "yue",     "sgn",   "BE", "FR",     "NL",   "i",   "klingon",
+                                     "Hant", "419",      "1996",    "rozaj", "u",  "co",     "x",    "X",   "t",
+                                     "a",    "abcdefgh", "GB",      "oed",   "1",  "12",     "1abc", "min", "abcdefghi",
+                                     "nan",  "",         "default", "iw",    "BU", "heploc", "guoyu"};
 
 static void change_case(char *text, size_t len, uint32_t one_in) {
     for (size_t k = 0; k < len; k++)
@@ -68,12 +68,12 @@ static size_t put(char *into, size_t len, const char *const *of, uint32_t count)
 /* A normal tag, at times with one byte changed. */
 static size_t normal_tag(char *into) {
     size_t len = 0;
-    PUT(1, "de", "zh", "sgn", "abcd", "klingons");
+    PUT(1, "de", "zh", "sgn", "abcd", "klingons", "iw");
     if (len <= 3) PUT(4, "yue", "min", "nan", "abc");
     PUT(3, "Latn", "Hant", "Cyrl");
-    PUT(2, "DE", "TW", "419", "005");
+    PUT(2, "DE", "TW", "419", "005", "BU", "BR", "DD");
     for (uint32_t left = below(4) * below(4); left > 0; left--)
-        PUT(1, "1996", "rozaj", "1abc", "nedis", "abcdefgh", "12345");
+        PUT(1, "1996", "rozaj", "1abc", "nedis", "abcdefgh", "12345", "heploc");
     for (uint32_t left = below(3) * below(3); left > 0; left--) {
         PUT(1, "u", "t", "a", "1", "0");
         PUT(1, "co", "phonebk", "12", "abcdefgh");

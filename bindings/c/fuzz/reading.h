@@ -48,6 +48,10 @@ bool begins_a_tag(slice text);
 unsigned which_grandfathered(slice text);
 size_t read_with_part(slice text, unsigned part, slice given, char into[]);
 
+/* Extensions by their singletons, whatever the case of these, and those of one as they stood (RFC 5646 section 4.5), in
+ * order.c. */
+size_t in_order(slice extensions, char into[]);
+
 /* The recommended case (RFC 5646 section 2.1.1), in case.c. */
 void recommend(char *bytes, size_t len);
 

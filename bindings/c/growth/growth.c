@@ -6,7 +6,7 @@ static langtag_parts parts;
 static langtag_span rest, found;
 static langtag_repeated repeated;
 static uint32_t weight;
-static char buffer[sizeof text + 8];
+static char buffer[2 * sizeof text];
 
 FUNCTION(parse, result = langtag_parse(text, len, &parts))
 FUNCTION(kind, result = langtag_kind(text, len))
@@ -23,6 +23,7 @@ FUNCTION(next_extension, rest = (langtag_span){0, len};
          while (langtag_next_extension(text, len, &rest, &found)) result = found.len)
 FUNCTION(repeats, result = langtag_repeats(text, len, &repeated))
 FUNCTION(validity, result = langtag_validity(text, len, &found))
+FUNCTION(canonical, result = langtag_canonical(text, len, buffer, sizeof buffer))
 FUNCTION(grandfathered, result = langtag_grandfathered(text, len))
 FUNCTION(range_kind, result = langtag_range_kind(text, len))
 FUNCTION(matches_basic, result = langtag_matches_basic(text, len, other, len))
@@ -49,6 +50,7 @@ static const struct function functions[] = {
     {"next_extension", next_extension},
     {"repeats", repeats},
     {"validity", validity},
+    {"canonical", canonical},
     {"grandfathered", grandfathered},
     {"range_kind", range_kind},
     {"matches_basic", matches_basic},

@@ -123,6 +123,26 @@ static void answer_validity(text *to, text a, text b) {
     put_bytes(to, a.at + invalid.start, invalid.len);
 }
 
+/* The form in more room than is wanted, in just as much, and in less, of which only the form may change a byte. */
+static void answer_canonical(text *to, text a, text b) {
+    size_t len = langtag_canonical(a.at, a.len, (char[]){'~'}, 0);
+    size_t rooms[] = {len + 8, len, len > 0 ? len - 1 : 0};
+    (void)b;
+    if (len == 0) put_word(to, " -");
+    for (int k = 0; k < 3; k++) {
+        size_t room = rooms[k], at = len <= room ? len : 0;
+        char *buffer = malloc(room ? room : 1);
+        if (!buffer) abort();
+        memset(buffer, '~', room);
+        if (langtag_canonical(a.at, a.len, buffer, room) != len) put_word(to, " whose length changes with the room");
+        if (at > 0 && k == 0) put_bytes(to, buffer, len);
+        if (at > 0 && memcmp(to->at + 1, buffer, len) != 0) put_word(to, " that changes with the room");
+        for (; at < room; at++)
+            if (buffer[at] != '~') put_word(to, " and a byte after it");
+        free(buffer);
+    }
+}
+
 static void answer_grandfathered(text *to, text a, text b) {
     (void)b;
     put_number(to, "", langtag_grandfathered(a.at, a.len));
@@ -162,10 +182,10 @@ static const struct {
     int arguments;
     void (*answer)(text *to, text a, text b);
 } calls[] = {
-    {"tag", 1, answer_tag},       {"grandfathered", 1, answer_grandfathered},
-    {"viable", 1, answer_viable}, {"range", 1, answer_range},
-    {"match", 2, answer_match},   {"order", 2, answer_order},
-    {"validity", 1, answer_validity},
+    {"tag", 1, answer_tag},           {"grandfathered", 1, answer_grandfathered},
+    {"viable", 1, answer_viable},     {"range", 1, answer_range},
+    {"match", 2, answer_match},       {"order", 2, answer_order},
+    {"validity", 1, answer_validity}, {"canonical", 1, answer_canonical},
 };
 enum { CALLS = sizeof calls / sizeof *calls };
 

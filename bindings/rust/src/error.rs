@@ -97,6 +97,21 @@ impl AcceptLanguageError<&str> {
     }
 }
 
+/// The error for a buffer that has no room for a canonical form. It stays as it was.
+#[derive(Clone, Copy, Debug, PartialEq, Eq)]
+pub struct BufferTooShort {
+    /// How many bytes the form has.
+    pub needed: usize,
+}
+
+impl fmt::Display for BufferTooShort {
+    fn fmt(&self, f: &mut fmt::Formatter<'_>) -> fmt::Result {
+        write!(f, "the buffer is too short for {} bytes", self.needed)
+    }
+}
+
+impl Error for BufferTooShort {}
+
 /// Why a part was not put into a tag, or taken out of it. The tag is as it was.
 #[derive(Clone, Copy, Debug, PartialEq, Eq)]
 pub enum EditError<T> {

@@ -83,6 +83,12 @@ mod c {
         ) -> bool;
         pub fn langtag_repeats(bytes: *const u8, len: usize, repeated: *mut Repeated) -> u32;
         pub fn langtag_validity(bytes: *const u8, len: usize, invalid: *mut Span) -> u32;
+        pub fn langtag_canonical(
+            bytes: *const u8,
+            len: usize,
+            buffer: *mut u8,
+            buffer_len: usize,
+        ) -> usize;
         pub fn langtag_grandfathered(bytes: *const u8, len: usize) -> u32;
         pub fn langtag_range_kind(bytes: *const u8, len: usize) -> u32;
         pub fn langtag_matches_basic(
@@ -321,7 +327,7 @@ pub(crate) fn repeats(text: &str) -> (Option<&str>, Option<&str>) {
     )
 }
 
-/// 0 for no tag, 1 for a valid one, and else what is wrong with the subtag at this offset.
+/// 0 for what is not a tag, 1 for a valid one, and else what is wrong with the subtag at this offset.
 pub(crate) fn validity(text: &str) -> (u32, usize, &str) {
     let mut invalid = MaybeUninit::uninit();
     // SAFETY: as above; `invalid` may be uninitialised, and all of it is written.
@@ -330,6 +336,13 @@ pub(crate) fn validity(text: &str) -> (u32, usize, &str) {
         (answer, invalid.assume_init())
     };
     (answer, span.start, &text[span.start..span.start + span.len])
+}
+
+/// Writes the canonical form of a tag into a buffer, if there is room for it, and returns the form's length either way.
+pub(crate) fn canonical(tag: &str, buffer: &mut [u8]) -> usize {
+    let (to, room) = (buffer.as_mut_ptr(), buffer.len());
+    // SAFETY: as above.
+    unsafe { c::langtag_canonical(tag.as_ptr(), tag.len(), to, room) }
 }
 
 /// The index of a grandfathered tag, or 26.

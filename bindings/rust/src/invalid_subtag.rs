@@ -3,7 +3,7 @@ use core::fmt;
 
 use crate::ffi;
 
-/// The date of the registry that [`LangTag::validate`](crate::LangTag::validate) goes by.
+/// The date of the registry behind [`LangTag::validate`](crate::LangTag::validate) and the canonical forms.
 pub const REGISTRY_DATE: &str = "2022-06-28";
 
 /// What is wrong with a subtag (RFC 5646 section 2.2.9).

@@ -184,7 +184,8 @@ impl<'a> LangTag<'a> {
     }
 
     /// Whether the tag is valid (RFC 5646 section 2.2.9) by IANA's registry of [`REGISTRY_DATE`](crate::REGISTRY_DATE): Ok
-    /// of a grandfathered tag, and of one with registered subtags alone, none of them repeated. Deprecated ones are valid.
+    /// of a grandfathered tag, and of one whose language, script, region and variants are registered, with at most one
+    /// extended language, which is registered too, and no variant or singleton twice. Deprecated subtags are valid.
     ///
     /// # Errors
     ///

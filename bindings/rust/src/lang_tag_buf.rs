@@ -70,6 +70,11 @@ impl LangTagBuf {
         self.as_lang_tag().validate()
     }
 
+    /// Whether the tag is its own canonical form, as [`LangTag::is_canonical`] says.
+    pub fn is_canonical(&self) -> bool {
+        self.as_lang_tag().is_canonical()
+    }
+
     /// The language of a normal tag: `zh-yue`.
     pub fn language(&self) -> Option<Language<'_>> {
         self.as_lang_tag().language()
@@ -115,6 +120,11 @@ impl LangTagBuf {
     /// was.
     pub fn make_recommended_case(&mut self) {
         self.0.make_recommended_case();
+    }
+
+    /// Puts the canonical form in the tag's place, as [`LangTag::to_canonical`] says: `he` in that of `iw`.
+    pub fn make_canonical(&mut self) {
+        *self = self.as_lang_tag().to_canonical();
     }
 }
 

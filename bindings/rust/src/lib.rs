@@ -1,5 +1,5 @@
 //! Language tags and language ranges by BCP 47 (RFC 5646, RFC 4647): a safe wrapper over a static library whose code is
-//! proved against the grammar. What is registered only [`LangTag::validate`] asks.
+//! proved against the grammar. Only [`LangTag::validate`] and the calls for canonical forms look at what is registered.
 //!
 //! ```
 //! use langtag_verified::{LangTag, LanguageRange};
@@ -56,6 +56,7 @@
 extern crate alloc;
 
 mod accept_language;
+mod canonical;
 mod caseless;
 mod caseless_str;
 #[cfg(feature = "alloc")]
@@ -87,7 +88,8 @@ pub use accept_language::{
 };
 pub use caseless_str::CaselessStr;
 pub use error::{
-    AcceptLanguageError, EditError, ElementPart, InvalidLangTag, InvalidLanguageRange,
+    AcceptLanguageError, BufferTooShort, EditError, ElementPart, InvalidLangTag,
+    InvalidLanguageRange,
 };
 pub use extension::{Extension, Extensions, ExtensionsIter};
 pub use fallbacks::Fallbacks;

@@ -7,8 +7,8 @@ use rows::{expand, unescape};
 use std::hash::{Hash, Hasher};
 
 use langtag_verified::{
-    stop_len, viable_len, CaselessStr, Kind, LangTag, LanguageRange, LanguageRangeBuf, SubtagFault,
-    GRANDFATHERED,
+    stop_len, viable_len, BufferTooShort, CaselessStr, Kind, LangTag, LangTagBuf, LanguageRange,
+    LanguageRangeBuf, SubtagFault, GRANDFATHERED,
 };
 
 /// What is fed to a hasher.
@@ -174,6 +174,29 @@ fn answer_validity(text: &str) -> String {
     format!("{fault} {} {}", error.offset, error.subtag)
 }
 
+fn answer_canonical(text: &str) -> String {
+    let Ok(tag) = LangTag::new(text) else {
+        return "-".into();
+    };
+    let form = tag.to_canonical();
+    let (len, mut changed) = (form.as_str().len(), tag.to_buf());
+    changed.make_canonical();
+    assert_eq!(changed.as_str(), form.as_str());
+    assert_eq!(
+        (tag.is_canonical(), form.is_canonical()),
+        (form == tag, true)
+    );
+    let mut buffer = vec![b'~'; len + 1];
+    let written = tag.canonical_into(&mut buffer).map(|form| form.to_buf());
+    assert_eq!(written.as_ref().map(LangTagBuf::as_str), Ok(form.as_str()));
+    assert_eq!(buffer.pop(), Some(b'~'));
+    buffer.fill(b'~');
+    let written = tag.canonical_into(&mut buffer[1..]).err();
+    assert_eq!(written, Some(BufferTooShort { needed: len }));
+    assert!(buffer.iter().all(|byte| *byte == b'~'));
+    form.into_string()
+}
+
 fn answer_grandfathered(text: &[u8]) -> String {
     let tag = std::str::from_utf8(text)
         .ok()
@@ -263,6 +286,7 @@ fn answer(call: &str, arguments: &[Vec<u8>]) -> Option<String> {
             stop_len(&arguments[0])
         )),
         "validity" => Some(text(0).map_or("none".into(), answer_validity)),
+        "canonical" => Some(text(0).map_or("-".into(), answer_canonical)),
         "range" => Some(answer_range(text(0)?).into()),
         "match" => Some(answer_match(text(0)?, text(1)?).into()),
         "order" => Some(answer_order(text(0)?, text(1)?).into()),

@@ -12,3 +12,4 @@ mod ReadingLaws
 mod PartChanges
 mod PartTexts
 mod PutLaws
+mod TagLengths

@@ -70,7 +70,7 @@ module _ (p : Part) (text old new : List ℕ) (ends : Ends) (kept : HasEnds old 
   spelled_new by r spells = (by.fits r spells.0, sym (made ∙ rw (ends_each old ends kept r spells, ← spells.1) (by.spelled r)))
 
 -- a normal tag is not empty
-some_spelled : (r : Record) (text : List ℕ) → Spells r text → 1 ≤ length text
+pub some_spelled : (r : Record) (text : List ℕ) → Spells r text → 1 ≤ length text
 some_spelled r text spells =
     omega (arith, length-join r.primary (drop 1 (flat r)), (of_primary r.primary spells.0.primary).some, ap length spells.1)
 

@@ -1,5 +1,5 @@
--- A part of a normal tag that is set to a text, or taken out (RFC 5646 sections 2.2.1 to 2.2.7), and the new tag in a buffer.
-use Rattle.std.specs.Prelude.{◌≡◌, ℕ, ◌<◌, ◌≤◌, List, [], ◌∷◌, ◌++◌, length, drop, slice_get, Option, None, Some, IfSome, MatchOption, IsTrue}
+-- A part of a normal tag that is set to a text, or taken out (RFC 5646 sections 2.2.1 to 2.2.7).
+use Rattle.std.specs.Prelude.{ℕ, List, [], ◌∷◌, slice_get, Option, None, Some, IfSome, MatchOption, IsTrue}
 use Rattle.langtag_scan.specs.Class.{is_script, is_region}
 use Rattle.langtag_scan.specs.Tag.{IsNormal}
 use Rattle.langtag_language.specs.Language.{IsLanguage}
@@ -40,12 +40,3 @@ SetsPart PrivateUse text old new = SetsPrivateUse (some_text text) old new
 -- the tag is a normal one, and the text one of the part of that number
 abbrev pub CanSet : ℕ → List ℕ → List ℕ → Type 0
 CanSet number text tag = MatchOption (part_numbered number) ⊥ (λ part. IsNormal tag × IsTextOf part text)
-
--- some text that is so has this length, and stands at the start of the buffer where there is room, the rest being as it was;
--- where there is none, all of it is
-pub record Writes (IsSo : List ℕ → Type 0) (before after : List ℕ) (len : ℕ) : Type 0 where
-  pub text : List ℕ
-  pub is_so : IsSo text
-  pub whole : len ≡ length text
-  pub written : len ≤ length before → after ≡ text ++ drop len before
-  pub untouched : length before < len → after ≡ before

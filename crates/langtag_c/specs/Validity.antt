@@ -11,7 +11,7 @@ use Rattle.langtag_c.specs.Repeats.{member_span, singleton_place, variant_place}
 use Rattle.langtag_c.specs.Spans.{empty_at, span_between}
 use Rattle.langtag_c.specs.declared.span.Span.{Span}
 
--- 0 is no tag, and 1 a valid one
+-- 0 is not a tag, and 1 a valid one
 abbrev pub number_of : Told → ℕ
 number_of (language subtag) = 2
 number_of (extlang subtag) = 3

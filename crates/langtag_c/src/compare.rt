@@ -27,7 +27,7 @@ pub extern "C" fn langtag_cmp(a: &[u8], b: &[u8]) -> i32
     }
 }
 
-/// FNV-1a of 64 bits over the folded bytes, from a state on.
+/// Returns the FNV-1a hash, of 64 bits, of the folded bytes, from a state on.
 #[unsafe(no_mangle)]
 pub extern "C" fn langtag_hash(state: u64, bytes: &[u8]) -> u64
     ensures { result ≡ fnv state bytes.now }

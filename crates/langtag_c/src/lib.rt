@@ -1,10 +1,12 @@
-//! Language tags for programs in C, and in what calls C: a static library over plain bytes, which takes no memory, keeps no state
-//! and calls nothing of the program's. `bindings/include/langtag.h` declares it.
+//! Language tags for programs in C, and in languages that call C: a static library over plain bytes, which takes no
+//! memory, keeps no state and calls nothing of the program's. `bindings/include/langtag.h` declares it.
 //!
-//! A slice crosses as a pointer and a length. Bytes need not be UTF-8. No function asks more than its types say.
+//! A slice crosses as a pointer and a length. Bytes need not be UTF-8. No function requires more of its arguments
+//! than their types say.
 #![tactic(auto)]
 
 mod accepted;
+mod canonical;
 mod compare;
 mod element;
 mod fallback;

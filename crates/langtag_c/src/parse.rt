@@ -64,7 +64,7 @@ impl Parts {
     }
 }
 
-/// What the recogniser finds of the bytes; None where they are no tag.
+/// What the recogniser finds of the bytes; None where they are not a tag.
 #[inline(always)]
 fn found_of(bytes: &[u8]) -> Option<Found>
     ensures { MatchOption result (IsTag bytes.now → ⊥) (λ found. IsFoundOf bytes.now (finding found)) }
@@ -73,7 +73,7 @@ fn found_of(bytes: &[u8]) -> Option<Found>
 }
 
 /// Returns the kind of the tag that the bytes are: 1 for a normal one, 2 for private use, 3 for an irregular one, and 0
-/// where they are no tag.
+/// where they are not a tag.
 #[unsafe(no_mangle)]
 pub extern "C" fn langtag_kind(bytes: &[u8]) -> u32
     ensures { IsKind bytes.now result }

@@ -17,7 +17,7 @@ use crate::span::Span;
 use langtag::NormalLangTag;
 use langtag_registry::{InvalidSubtag, is_variant, validate};
 
-/// Returns 1 where the bytes are a valid tag, 0 where they are no tag, and else what is wrong first: 2 and 3 for a
+/// Returns 1 where the bytes are a valid tag, 0 where they are not a tag, and else what is wrong first: 2 and 3 for a
 /// language and an extended language that is not registered, 4 for a second extended one, 5, 6 and 7 for a script, a
 /// region and a variant that is not registered, 8 and 9 for a repeated variant and singleton. `invalid` is where that
 /// subtag stands; it has no byte where the answer is 0 or 1.

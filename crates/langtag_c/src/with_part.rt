@@ -3,7 +3,8 @@ ghost use Rattle.std.specs.Prelude.{◌≡◌, ◌↔◌, ◌+◌, ◌<◌, ◌�
 ghost use Rattle.std.specs.List.{replace_range};
 ghost use Rattle.langtag_scan.specs.Ends.{HasEnds};
 ghost use Rattle.langtag_scan.specs.Tag.{IsNormal};
-ghost use Rattle.langtag_c.specs.Setting.{CanSet, IsTextOf, SetsPart, Writes, part_numbered};
+ghost use Rattle.langtag_registry.specs.Writes.{Writes};
+ghost use Rattle.langtag_c.specs.Setting.{CanSet, IsTextOf, SetsPart, part_numbered};
 
 use crate::part::Part;
 use langtag_scan::{Ends, Metered, recognise_normal};

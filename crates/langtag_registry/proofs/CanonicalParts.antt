@@ -1,32 +1,14 @@
 -- The canonical record, part by part, and what a tag becomes by it.
 use Rattle.std.proofs.Common.{◌≡◌, ◌↔◌, ℕ, true, false, Bool, List, Option, None, Some, is_some, option_map, unwrap_or, inl, inr, ◌⊎◌, refl, sym, ap, subst, ◌∙◌}
-use Rattle.langtag_scan.specs.Record.{Extension, Record, EachRecord, Spells, spell}
-use Rattle.langtag_scan.specs.Tag.{IsNormal}
+use Rattle.langtag_scan.specs.Record.{Record, EachRecord, Spells, spell}
+use Rattle.langtag_scan.specs.Tag.{IsNormal, IsTag}
 use Rattle.langtag_scan.proofs.NormalTexts.{spelled_once}
-use Rattle.langtag.specs.Edit.{with_language, with_region, with_variants, with_extensions}
 use Rattle.langtag.specs.Registered.{IsGrandfathered}
-use Rattle.langtag_registry.specs.Canonical.{canonical_primary, canonical_extended, canonical_region, canonical_variants, in_order, canonical_record, IsCanonicalForm}
+use Rattle.langtag_registry.specs.Canonical.{canonical_primary, canonical_extended, canonical_region, canonical_variants, in_order, canonical_record, canonical_text, IsCanonicalForm}
 use Rattle.langtag_registry.specs.Fields.{preferred_tag}
-use Rattle.langtag_registry.proofs.TwiceLaws.{itself, whole_settled, preferred_record_stays}
+use Rattle.langtag_registry.proofs.TwiceLaws.{itself, whole_settled, preferred_record_stays, Way, as_whole, as_it_is, by_parts, way_of}
 use Rattle.langtag_registry.proofs.WellFormedForms.{canonical_record_well_formed}
-use Rattle.langtag_registry.proofs.WholeTags.{record_of, preferred_spelled}
-
--- ---- a member that stays
-
-pub same_language :
-    (r : Record) (text primary : List ℕ) (extended : List (List ℕ)) → primary ≡ r.primary → extended ≡ r.extended → Spells r text →
-    Spells (with_language r primary extended) text
-same_language r text primary extended first others spells =
-    subst (λ p. Spells (with_language r p extended) text) (sym first) (subst (λ es. Spells (with_language r r.primary es) text) (sym others) spells)
-
-pub same_region : (r : Record) (text : List ℕ) (region : Option (List ℕ)) → region ≡ r.region → Spells r text → Spells (with_region r region) text
-same_region r text region same spells = subst (λ g. Spells (with_region r g) text) (sym same) spells
-
-pub same_variants : (r : Record) (text : List ℕ) (variants : List (List ℕ)) → variants ≡ r.variants → Spells r text → Spells (with_variants r variants) text
-same_variants r text variants same spells = subst (λ vs. Spells (with_variants r vs) text) (sym same) spells
-
-pub same_extensions : (r : Record) (text : List ℕ) (extensions : List Extension) → extensions ≡ r.extensions → Spells r text → Spells (with_extensions r extensions) text
-same_extensions r text extensions same spells = subst (λ es. Spells (with_extensions r es) text) (sym same) spells
+use Rattle.langtag_registry.proofs.WholeTags.{record_of, preferred_spelled, preferred_is_tag}
 
 -- ---- where all stay
 
@@ -56,13 +38,6 @@ parts_stay r same = record {
 
 -- ---- what a tag becomes
 
-pub whole_form : (old new w : List ℕ) → preferred_tag old ≡ Some w → new ≡ w → IsCanonicalForm old new
-whole_form old new w is same = record {
-  whole = λ v other. let one : w ≡ v = cc in same ∙ one;
-  kept = λ none _. absurd cc;
-  parts = λ none _. absurd cc;
-}
-
 pub kept_form : (old new : List ℕ) → preferred_tag old ≡ None → IsGrandfathered old ⊎ (IsNormal old → ⊥) → new ≡ old → IsCanonicalForm old new
 unfolding IsNormal
 kept_form old new none why same = record {
@@ -71,14 +46,28 @@ kept_form old new none why same = record {
   parts = λ _ other r spells. elim why [ inl is ↦ absurd (other is) | inr no_record ↦ absurd (no_record (r, spells)) ];
 }
 
-pub parts_form :
-    (old form new : List ℕ) → preferred_tag old ≡ None → IsNormal old → (IsGrandfathered old → ⊥) → EachRecord old (λ r. Spells (canonical_record r) form) →
-    new ≡ unwrap_or (preferred_tag form) form → IsCanonicalForm old new
-parts_form old form new none normal other each same = record {
+pub record_form :
+    (old new : List ℕ) (r : Record) → preferred_tag old ≡ None → (IsGrandfathered old → ⊥) → Spells r old → new ≡ canonical_text r → IsCanonicalForm old new
+unfolding IsNormal
+record_form old new r none other spells same = record {
   whole = λ w is. absurd cc;
-  kept = λ _ why. elim why [ inl is ↦ absurd (other is) | inr no_record ↦ absurd (no_record normal) ];
-  parts = λ _ _ r spells. same ∙ ap (λ t. unwrap_or (preferred_tag t) t) (sym (each r spells).1);
+  kept = λ _ why. elim why [ inl is ↦ absurd (other is) | inr no_record ↦ absurd (no_record (r, spells)) ];
+  parts = λ _ _ q also. same ∙ ap canonical_text (spelled_once r q spells.0 also.0 (spells.1 ∙ sym also.1));
 }
+
+-- it is a tag, as the text that it is of
+pub form_is_tag : (old new : List ℕ) → IsTag old → IsCanonicalForm old new → IsTag new
+unfolding IsTag IsNormal preferred_tag
+form_is_tag old new is p = by_way (way_of old)
+  where
+    by_record : (r : Record) → Spells r old → (o : Option (List ℕ)) → preferred_tag (spell (canonical_record r)) ≡ o → new ≡ unwrap_or o (spell (canonical_record r)) → IsTag new
+    by_record r spells None none same = inl (canonical_record r, (canonical_record_well_formed r spells.0, sym same))
+    by_record r spells (Some w) found same = preferred_is_tag (spell (canonical_record r)) new (found ∙ ap Some (sym same))
+
+    by_way : Way old → IsTag new
+    by_way (as_whole w found) = preferred_is_tag old new (found ∙ ap Some (sym (p.whole w found)))
+    by_way (as_it_is none why) = subst IsTag (sym (p.kept none why)) is
+    by_way (by_parts none other r spells) = by_record r spells (preferred_tag (spell (canonical_record r))) refl (p.parts none other r spells)
 
 -- ---- where it is its own canonical form
 

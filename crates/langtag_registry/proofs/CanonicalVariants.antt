@@ -1,15 +1,16 @@
--- The canonical forms of variants, in a list and in its text.
-use Rattle.std.proofs.Common.{◌≡◌, ◌↔◌, ℕ, ◌≤◌, true, ◌&&◌, not, Bool, List, [], ◌∷◌, ◌++◌, length, Option, None, Some, IsTrue, refl, sym, ap, subst, ◌∙◌, append_assoc, append-nil}
+-- The canonical forms of variants: where they stay, and where they are put.
+use Rattle.std.proofs.Common.{◌≡◌, ◌↔◌, ℕ, true, ◌&&◌, not, Bool, List, [], ◌∷◌, ◌++◌, Option, None, Some, IsTrue, refl, sym, ap, subst, ◌∙◌, append_assoc, append-nil}
 use Rattle.std.specs.Prelude.{is_some, unwrap_or}
 use Rattle.std.specs.Option.{option_map}
-use Rattle.std.specs.List.{list_all, AllByRecursion}
+use Rattle.std.specs.List.{list_all}
 use Rattle.std.proofs.lemmas.Bool.{and_parts}
 use Rattle.langtag_scan.specs.Class.{is_variant}
-use Rattle.langtag_scan.specs.Subtags.{join}
 use Rattle.langtag_scan.proofs.SubtagFacts.{of_variant}
-use Rattle.langtag_place.specs.Variants.{SpellsVariants}
 use Rattle.langtag_registry.specs.Fields.{preferred_variant}
 use Rattle.langtag_registry.specs.Canonical.{canonical_variants}
+use Rattle.langtag_registry.specs.declared.output.Output.{Output}
+use Rattle.langtag_registry.specs.Output.{Pushes}
+use Rattle.langtag_registry.proofs.Pushed.{AreSome, some-append, pushes_none, pushes_both, pushes_same}
 use Rattle.langtag_registry.proofs.ReplacedSubtags.{replaced-holds, new_variant_variant, variant_settled}
 
 -- ---- where they stay
@@ -37,51 +38,40 @@ variants_stay (v ∷ vs) = (
 
 -- ---- one by one
 
--- the text is that of what those before the rest became
-pub record AreReplaced (all rest : List (List ℕ)) (text : List ℕ) : Type 0 where
+-- what those before the rest became was put
+pub record AreReplaced (all rest : List (List ℕ)) (old new : Output) : Type 0 where
   pub done : List (List ℕ)
   pub split : done ++ rest ≡ all
-  pub spells : SpellsVariants (canonical_variants done) text
+  pub some : AreSome (canonical_variants done)
+  pub pushed : Pushes (canonical_variants done) old new
 
-pub none_replaced : (all : List (List ℕ)) → AreReplaced all all []
-none_replaced all = record { done = []; split = refl; spells = record { members = tt; joined = refl } }
+pub none_replaced : (all rest : List (List ℕ)) (out : Output) → rest ≡ all → AreReplaced all rest out out
+none_replaced all rest out whole = record { done = []; split = whole; some = tt; pushed = pushes_none out }
 
-pub all_replaced : (all rest : List (List ℕ)) (text : List ℕ) → rest ≡ [] → AreReplaced all rest text → SpellsVariants (canonical_variants all) text
-all_replaced all rest text none so_far =
+pub all_replaced : (all rest : List (List ℕ)) (old new : Output) → rest ≡ [] → AreReplaced all rest old new → Pushes (canonical_variants all) old new
+all_replaced all rest old new none so_far =
     let whole : so_far.done ≡ all = sym (append-nil so_far.done) ∙ ap (λ vs. so_far.done ++ vs) (sym none) ∙ so_far.split in
-    subst (λ vs. SpellsVariants (canonical_variants vs) text) whole so_far.spells
+    pushes_same _ _ old new (ap canonical_variants whole) so_far.pushed
 
 canonical_variant : (v : List ℕ) → is_variant v ≡ true → is_variant (unwrap_or (preferred_variant v) v) ≡ true
 canonical_variant v h = replaced-holds preferred_variant (λ s. IsTrue (is_variant s)) v h (new_variant_variant v)
-
-nonempty_variants : (vs : List (List ℕ)) → AllByRecursion (λ s. IsTrue (is_variant s)) vs → AllByRecursion (λ s. 1 ≤ length s) vs
-nonempty_variants [] h = tt
-nonempty_variants (v ∷ vs) h = ((of_variant v h.0).some, nonempty_variants vs h.1)
-
-each_more : (vs : List (List ℕ)) (v : List ℕ) → AllByRecursion (λ s. IsTrue (is_variant s)) vs → is_variant v ≡ true → AllByRecursion (λ s. IsTrue (is_variant s)) (vs ++ v ∷ [])
-each_more [] v h last = (last, tt)
-each_more (w ∷ vs) v h last = (h.0, each_more vs v h.1 last)
 
 canonical_variants-append : (vs ws : List (List ℕ)) → canonical_variants (vs ++ ws) ≡ canonical_variants vs ++ canonical_variants ws
 canonical_variants-append [] ws = refl
 canonical_variants-append (v ∷ vs) ws = ap (λ us. unwrap_or (preferred_variant v) v ∷ us) (canonical_variants-append vs ws)
 
--- one more, put after the text with a hyphen
+-- one more
 pub one_replaced :
-    (all rest left : List (List ℕ)) (v text longer : List ℕ) → rest ≡ v ∷ left → is_variant v ≡ true → AreReplaced all rest text →
-    ((before : List (List ℕ)) → AllByRecursion (λ s. 1 ≤ length s) before → join before ≡ text → longer ≡ join (before ++ unwrap_or (preferred_variant v) v ∷ [])) →
-    AreReplaced all left longer
-one_replaced all rest left v text longer first class so_far pushed =
-    let members = so_far.spells.members in
+    (all rest left : List (List ℕ)) (v : List ℕ) (old middle new : Output) → rest ≡ v ∷ left → is_variant v ≡ true → AreReplaced all rest old middle →
+    Pushes (unwrap_or (preferred_variant v) v ∷ []) middle new → AreReplaced all left old new
+one_replaced all rest left v old middle new first class so_far these =
     let more = sym (canonical_variants-append so_far.done (v ∷ [])) in
+    let some = some-append (canonical_variants so_far.done) _ so_far.some ((of_variant _ (canonical_variant v class)).some, tt) in
     record {
       done = so_far.done ++ v ∷ [];
       split = append_assoc so_far.done (v ∷ []) left ∙ ap (λ vs. so_far.done ++ vs) (sym first) ∙ so_far.split;
-      spells = record {
-        members = subst (λ vs. AllByRecursion (λ s. IsTrue (is_variant s)) vs) more
-            (each_more (canonical_variants so_far.done) (unwrap_or (preferred_variant v) v) members (canonical_variant v class));
-        joined = ap join (sym more) ∙ sym (pushed (canonical_variants so_far.done) (nonempty_variants _ members) so_far.spells.joined);
-      };
+      some = subst AreSome more some;
+      pushed = pushes_same _ _ old new more (pushes_both (canonical_variants so_far.done) _ old middle new so_far.some so_far.pushed these);
     }
 
 -- ---- whether one after the other has none

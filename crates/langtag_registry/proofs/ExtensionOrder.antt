@@ -5,13 +5,17 @@ use Rattle.std.proofs.lemmas.Bool.{le-leb, eq-eqb, ne_eqb, both_ways}
 use Rattle.std.proofs.lemmas.Bool.Decides.{nat_tests}
 use Rattle.std.proofs.lemmas.List.Concat.{flat_map-append}
 use Rattle.langtag_scan.specs.Case.{fold_byte}
-use Rattle.langtag_scan.specs.Record.{Extension, IsWellFormedExtension}
+use Rattle.langtag_scan.specs.Record.{Extension, IsWellFormedExtension, extension_flat}
 use Rattle.langtag_scan.specs.Subtags.{join}
+use Rattle.langtag_scan.proofs.Joins.{hyphenated, hyphenated-append, join-append, join-hyphenated, length-join}
 use Rattle.langtag_extension.specs.Spelling.{extension_spelling, SpellsExtension, SpellsExtensions}
 use Rattle.langtag_extension.proofs.Joins.{join-spellings}
 use Rattle.langtag.specs.Repeat.{are_alike_bytes}
 use Rattle.langtag_registry.specs.Canonical.{singletons, in_order}
-use Rattle.langtag_registry.proofs.OrderLaws.{keys_of, in_order-each, in_order-risen, rises_from_in_order}
+use Rattle.langtag_registry.specs.declared.output.Output.{Output}
+use Rattle.langtag_registry.specs.Output.{HasText, Pushes}
+use Rattle.langtag_registry.proofs.OrderLaws.{keys_of, in_order-risen, rises_from_in_order}
+use Rattle.langtag_registry.proofs.Pushed.{AreSome, pushes_none, pushes_both, pushes_same, pushes_joined}
 use Rattle.langtag_registry.proofs.Rising.{rises_from}
 
 abbrev pub of_singleton : ℕ → List Extension → List Extension
@@ -33,13 +37,9 @@ spelling_nonempty e = by_subtags e.subtags
     by_subtags [] = omega arith
     by_subtags (s ∷ ss) = omega arith
 
-nonempty_spellings : (es : List Extension) → AllByRecursion (λ s. 1 ≤ length s) (map extension_spelling es)
-nonempty_spellings [] = tt
-nonempty_spellings (e ∷ es) = (spelling_nonempty e, nonempty_spellings es)
-
-nonempty-append : (ss ts : List (List ℕ)) → AllByRecursion (λ s. 1 ≤ length s) ss → AllByRecursion (λ s. 1 ≤ length s) ts → AllByRecursion (λ s. 1 ≤ length s) (ss ++ ts)
-nonempty-append [] ts a b = b
-nonempty-append (s ∷ ss) ts a b = (a.0, nonempty-append ss ts a.1 b)
+some_spellings : (es : List Extension) → AreSome (map extension_spelling es)
+some_spellings [] = tt
+some_spellings (e ∷ es) = (spelling_nonempty e, some_spellings es)
 
 spellings-append : (es fs : List Extension) → map extension_spelling (es ++ fs) ≡ map extension_spelling es ++ map extension_spelling fs
 spellings-append [] fs = refl
@@ -95,47 +95,46 @@ no_next : (left : List Extension) → map extension_spelling left ≡ [] → lef
 no_next [] none = refl
 no_next (e ∷ left) none = absurd cc
 
--- ---- those of one singleton are put after the text
+-- ---- those of one singleton are put
 
-pub record ArePushed (s : ℕ) (es : List Extension) (before texts : List (List ℕ)) (text : List ℕ) : Type 0 where
+abbrev pub spellings : List Extension → List (List ℕ)
+spellings es = map extension_spelling es
+
+-- those before what the walk has left
+pub record ArePushed (s : ℕ) (es : List Extension) (texts : List (List ℕ)) (old new : Output) : Type 0 where
   pub rest : AreLeft es texts
-  pub joined : join (before ++ map extension_spelling (of_singleton s rest.done)) ≡ text
+  pub pushed : Pushes (spellings (of_singleton s rest.done)) old new
 
-pub none_pushed :
-    (s : ℕ) (es : List Extension) (before texts : List (List ℕ)) (text : List ℕ) → texts ≡ map extension_spelling es → join before ≡ text →
-    ArePushed s es before texts text
-none_pushed s es before texts text all joined = record { rest = all_left es texts all; joined = ap join (append-nil before) ∙ joined }
+pub none_pushed : (s : ℕ) (es : List Extension) (texts : List (List ℕ)) (out : Output) → texts ≡ spellings es → ArePushed s es texts out out
+none_pushed s es texts out all = record { rest = all_left es texts all; pushed = pushes_none out }
 
 of_singleton-one : (s : ℕ) (e : Extension) (b : Bool) → are_alike_bytes s e.singleton ≡ b → of_singleton s (e ∷ []) ≡ cond b (e ∷ []) []
 of_singleton-one s e b is = ap (λ t. cond t (e ∷ []) []) is
 
 pub one_pushed :
-    (s : ℕ) (es : List Extension) (before texts rest : List (List ℕ)) (x text longer : List ℕ) (folded small : ℕ) → AreWellFormed es →
-    AllByRecursion (λ t. 1 ≤ length t) before → texts ≡ x ∷ rest → ((e : Extension) → SpellsExtension e x → folded ≡ fold_byte e.singleton) →
-    small ≡ fold_byte s → folded ≡ small → ArePushed s es before texts text →
-    ((ts : List (List ℕ)) → AllByRecursion (λ t. 1 ≤ length t) ts → join ts ≡ text → longer ≡ join (ts ++ x ∷ [])) →
-    ArePushed s es before rest longer
-one_pushed s es before texts rest x text longer folded small fits some first key is_small same so_far pushed =
+    (s : ℕ) (es : List Extension) (texts rest : List (List ℕ)) (x : List ℕ) (old middle new : Output) (folded small : ℕ) → AreWellFormed es →
+    texts ≡ x ∷ rest → ((e : Extension) → SpellsExtension e x → folded ≡ fold_byte e.singleton) → small ≡ fold_byte s → folded ≡ small →
+    ArePushed s es texts old middle → Pushes (x ∷ []) middle new → ArePushed s es rest old new
+one_pushed s es texts rest x old middle new folded small fits first key is_small same so_far pushed =
     let done = so_far.rest.done in
     let next = next_of es done so_far.rest.left x rest fits so_far.rest.split (so_far.rest.items ∙ first) in
     let e = next.next in
     let alike : are_alike_bytes s e.singleton ≡ true = eq-eqb _ _ (sym is_small ∙ sym same ∙ key e next.spells) in
-    let old = map extension_spelling (of_singleton s done) in
-    let more : of_singleton s (done ++ e ∷ []) ≡ of_singleton s done ++ e ∷ [] =
-    of_singleton-append s done (e ∷ []) ∙ ap (λ fs. of_singleton s done ++ fs) (of_singleton-one s e true alike) in
-    let texts_more : map extension_spelling (of_singleton s (done ++ e ∷ [])) ≡ old ++ x ∷ [] =
-    ap (map extension_spelling) more ∙ spellings-append (of_singleton s done) (e ∷ []) ∙ ap (λ t. old ++ t ∷ []) next.spells.joined in
+    let before = of_singleton s done in
+    let more : of_singleton s (done ++ e ∷ []) ≡ before ++ e ∷ [] =
+    of_singleton-append s done (e ∷ []) ∙ ap (λ fs. before ++ fs) (of_singleton-one s e true alike) in
+    let texts_more : spellings (of_singleton s (done ++ e ∷ [])) ≡ spellings before ++ x ∷ [] =
+    ap spellings more ∙ spellings-append before (e ∷ []) ∙ ap (λ t. spellings before ++ t ∷ []) next.spells.joined in
     record {
       rest = record { done = done ++ e ∷ []; left = next.others; split = next.split; items = next.items };
-      joined = ap (λ ts. join (before ++ ts)) texts_more ∙ ap join (sym (append_assoc before old (x ∷ [])))
-          ∙ sym (pushed (before ++ old) (nonempty-append before old some (nonempty_spellings (of_singleton s done))) so_far.joined);
+      pushed = pushes_same _ _ old new (sym texts_more) (pushes_both (spellings before) (x ∷ []) old middle new (some_spellings before) so_far.pushed pushed);
     }
 
 pub none_more :
-    (s : ℕ) (es : List Extension) (before texts rest : List (List ℕ)) (x text : List ℕ) (folded small : ℕ) → AreWellFormed es →
+    (s : ℕ) (es : List Extension) (texts rest : List (List ℕ)) (x : List ℕ) (old new : Output) (folded small : ℕ) → AreWellFormed es →
     texts ≡ x ∷ rest → ((e : Extension) → SpellsExtension e x → folded ≡ fold_byte e.singleton) → small ≡ fold_byte s → (folded ≡ small → ⊥) →
-    ArePushed s es before texts text → ArePushed s es before rest text
-none_more s es before texts rest x text folded small fits first key is_small other so_far =
+    ArePushed s es texts old new → ArePushed s es rest old new
+none_more s es texts rest x old new folded small fits first key is_small other so_far =
     let done = so_far.rest.done in
     let next = next_of es done so_far.rest.left x rest fits so_far.rest.split (so_far.rest.items ∙ first) in
     let e = next.next in
@@ -144,16 +143,16 @@ none_more s es before texts rest x text folded small fits first key is_small oth
     of_singleton-append s done (e ∷ []) ∙ ap (λ fs. of_singleton s done ++ fs) (of_singleton-one s e false apart) ∙ append-nil (of_singleton s done) in
     record {
       rest = record { done = done ++ e ∷ []; left = next.others; split = next.split; items = next.items };
-      joined = ap (λ fs. join (before ++ map extension_spelling fs)) more ∙ so_far.joined;
+      pushed = pushes_same _ _ old new (ap spellings (sym more)) so_far.pushed;
     }
 
 pub all_pushed :
-    (s : ℕ) (es : List Extension) (before texts : List (List ℕ)) (text : List ℕ) → texts ≡ [] → ArePushed s es before texts text →
-    text ≡ join (before ++ map extension_spelling (of_singleton s es))
-all_pushed s es before texts text none so_far =
+    (s : ℕ) (es : List Extension) (texts : List (List ℕ)) (old new : Output) → texts ≡ [] → ArePushed s es texts old new →
+    Pushes (spellings (of_singleton s es)) old new
+all_pushed s es texts old new none so_far =
     let left = no_next so_far.rest.left (so_far.rest.items ∙ none) in
     let whole : so_far.rest.done ≡ es = sym (append-nil so_far.rest.done) ∙ ap (λ fs. so_far.rest.done ++ fs) (sym left) ∙ so_far.rest.split in
-    sym so_far.joined ∙ ap (λ fs. join (before ++ map extension_spelling (of_singleton s fs))) whole
+    pushes_same _ _ old new (ap (λ fs. spellings (of_singleton s fs)) whole) so_far.pushed
 
 -- ---- one singleton after the other
 
@@ -161,24 +160,48 @@ by_singletons-append : (ss ts : List ℕ) (es : List Extension) → by_singleton
 by_singletons-append ss ts es = flat_map-append (λ singleton. of_singleton singleton es) ss ts
 
 pub one_singleton :
-    (ss : List ℕ) (k s : ℕ) (es : List Extension) (text longer : List ℕ) → take (k + 1) ss ≡ take k ss ++ s ∷ [] →
-    join (map extension_spelling (by_singletons (take k ss) es)) ≡ text →
-    ((before : List (List ℕ)) → AllByRecursion (λ t. 1 ≤ length t) before → join before ≡ text → longer ≡ join (before ++ map extension_spelling (of_singleton s es))) →
-    join (map extension_spelling (by_singletons (take (k + 1) ss) es)) ≡ longer
-one_singleton ss k s es text longer one joined pushed =
-    let before = by_singletons (take k ss) es in
-    ap (λ ts. join (map extension_spelling (by_singletons ts es))) one
-    ∙ ap (λ fs. join (map extension_spelling fs)) (by_singletons-append (take k ss) (s ∷ []) es ∙ ap (λ fs. before ++ fs) (append-nil (of_singleton s es)))
-    ∙ ap join (spellings-append before (of_singleton s es))
-    ∙ sym (pushed (map extension_spelling before) (nonempty_spellings before) joined)
+    (ss : List ℕ) (k s : ℕ) (es : List Extension) (old middle new : Output) → take (k + 1) ss ≡ take k ss ++ s ∷ [] →
+    Pushes (spellings (by_singletons (take k ss) es)) old middle → Pushes (spellings (of_singleton s es)) middle new →
+    Pushes (spellings (by_singletons (take (k + 1) ss) es)) old new
+one_singleton ss k s es old middle new one before these =
+    let done = by_singletons (take k ss) es in
+    let all : by_singletons (take (k + 1) ss) es ≡ done ++ of_singleton s es =
+    ap (λ ts. by_singletons ts es) one ∙ by_singletons-append (take k ss) (s ∷ []) es ∙ ap (λ fs. done ++ fs) (append-nil (of_singleton s es)) in
+    pushes_same _ _ old new (sym (ap spellings all ∙ spellings-append done (of_singleton s es)))
+    (pushes_both (spellings done) (spellings (of_singleton s es)) old middle new (some_spellings done) before these)
+
+-- the texts of extensions are their subtags, joined
+hyphenated-spellings : (es : List Extension) → hyphenated (spellings es) ≡ hyphenated (flat_map extension_flat es)
+hyphenated-spellings [] = refl
+hyphenated-spellings (e ∷ es) =
+    ap (λ t. (45 ∷ t) ++ hyphenated (spellings es)) (join-hyphenated (e.singleton ∷ []) e.subtags)
+    ∙ ap (λ t. hyphenated (extension_flat e) ++ t) (hyphenated-spellings es) ∙ sym (hyphenated-append (extension_flat e) (flat_map extension_flat es))
+
+join-spelled : (before : List (List ℕ)) (es : List Extension) → join (before ++ spellings es) ≡ join (before ++ flat_map extension_flat es)
+join-spelled [] es = join-spellings es
+join-spelled (t ∷ before) es =
+    join-append t before (spellings es) ∙ ap (λ u. join (t ∷ before) ++ u) (hyphenated-spellings es) ∙ sym (join-append t before (flat_map extension_flat es))
 
 pub spelled_in_order :
-    (es : List Extension) (text : List ℕ) → AreWellFormed es → join (map extension_spelling (by_singletons singletons es)) ≡ text → SpellsExtensions (in_order es) text
+    (es : List Extension) (old new : Output) → Pushes (spellings (by_singletons singletons es)) old new → Pushes (flat_map extension_flat (in_order es)) old new
 unfolding in_order
-spelled_in_order es text fits joined = record {
-  members = in_order-each IsWellFormedExtension es fits;
-  joined = sym (join-spellings (by_singletons singletons es)) ∙ joined;
-}
+spelled_in_order es old new these first before some has = subst (HasText first new) (join-spelled before (by_singletons singletons es)) (these first before some has)
+
+-- where they stand in order already, their text is put as it is
+
+pub none_in_order : (es : List Extension) (text : List ℕ) (out : Output) → SpellsExtensions es text → text ≡ [] → Pushes (flat_map extension_flat (in_order es)) out out
+unfolding in_order
+none_in_order [] text out spells none = pushes_none out
+none_in_order (e ∷ es) text out spells none =
+    absurd (omega (arith, length-join (e.singleton ∷ []) (e.subtags ++ flat_map extension_flat es), ap length (spells.joined ∙ none)))
+
+pub all_in_order :
+    (es : List Extension) (text : List ℕ) (old new : Output) → SpellsExtensions es text → 1 ≤ length text → in_order es ≡ es → Pushes (text ∷ []) old new →
+    Pushes (flat_map extension_flat (in_order es)) old new
+all_in_order [] text old new spells some same these = absurd (omega (arith, some, ap length spells.joined))
+all_in_order (e ∷ es) text old new spells some same these =
+    pushes_same _ _ old new (ap (flat_map extension_flat) (sym same))
+    (pushes_joined (e.singleton ∷ []) (e.subtags ++ flat_map extension_flat es) old new (pushes_same _ _ old new (ap (λ t. t ∷ []) (sym spells.joined)) these))
 
 -- ---- where they stand in order
 

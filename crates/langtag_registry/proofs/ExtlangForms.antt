@@ -1,15 +1,15 @@
 -- A language that is registered as an extended one, too, after its Prefix.
-use Rattle.std.proofs.Common.{◌≡◌, ℕ, ◌≤◌, true, false, ◌==◌, ltb, Bool, List, [], ◌∷◌, ◌++◌, length, map, cond, None, Some, inl, refl, sym, ap, subst, ◌∙◌, arith, eqb-true, eq-eqb}
+use Rattle.std.proofs.Common.{◌≡◌, ℕ, ◌≤◌, true, false, ◌==◌, ltb, Bool, List, [], ◌∷◌, ◌++◌, length, map, cond, Some, inl, refl, sym, ap, ◌∙◌, arith, eqb-true, eq-eqb}
 use Rattle.std.specs.List.{list_all}
 use Rattle.std.proofs.lemmas.Bool.{and_parts, ltb-true}
+use Rattle.std.proofs.lemmas.Bool.Decides.{nat_tests}
 use Rattle.langtag_scan.specs.Case.{are_alike}
 use Rattle.langtag_scan.specs.CaseLaws.{are_alike-decides}
 use Rattle.langtag_scan.specs.Class.{is_primary, is_extended}
-use Rattle.langtag_scan.specs.Record.{Record, Spells}
 use Rattle.langtag_scan.specs.Tag.{IsNormal}
 use Rattle.langtag_scan.proofs.CaseLaw.{length-fold}
 use Rattle.langtag_language.specs.Language.{SpellsLanguage, IsLanguage}
-use Rattle.langtag_registry.specs.Canonical.{IsCanonicalForm, IsExtlangForm, extlang_primary, extlang_extended, extlang_record}
+use Rattle.langtag_registry.specs.Canonical.{IsCanonicalForm, IsExtlangForm, is_full, extlang_primary, extlang_extended}
 use Rattle.langtag_registry.specs.Entry.{Entry, value_for}
 use Rattle.langtag_registry.specs.Fields.{extlang_prefix}
 use Rattle.langtag_registry.specs.Subtags.{extlang_prefixes}
@@ -58,41 +58,30 @@ prefix_at_most text value is =
 
 -- ---- the language
 
-after_prefix : (primary value text : List ℕ) → is_primary primary ≡ true → extlang_prefix primary ≡ Some value → text ≡ value ++ 45 ∷ primary → SpellsLanguage value (primary ∷ []) text
-after_prefix primary value text class is same = record {
-  first = prefix_primary primary value is;
-  others = (prefixed_extended primary value class is, tt);
-  few = omega arith;
-  short = inl (prefix_at_most primary value is);
-  joined = sym same;
-}
-
-pub prefixed_language : (primary value text : List ℕ) → is_primary primary ≡ true → extlang_prefix primary ≡ Some value → text ≡ value ++ 45 ∷ primary → IsLanguage text
-prefixed_language primary value text class is same = (value, primary ∷ [], after_prefix primary value text class is same)
+after_prefix :
+    (primary value old new : List ℕ) (extended : List (List ℕ)) → SpellsLanguage primary extended old → is_full extended ≡ false →
+    extlang_prefix primary ≡ Some value → new ≡ value ++ 45 ∷ old → SpellsLanguage value (primary ∷ extended) new
+after_prefix primary value old new extended spells room is same =
+    let few = spells.few in
+    record {
+      first = prefix_primary primary value is;
+      others = (prefixed_extended primary value spells.first is, spells.others);
+      few = grind (arith, nat_tests);
+      short = inl (prefix_at_most primary value is);
+      joined = ap (λ t. value ++ 45 ∷ t) spells.joined ∙ sym same;
+    }
 
 pub prefixed_becomes :
-    (primary value text : List ℕ) (extended : List (List ℕ)) → extended ≡ [] → is_primary primary ≡ true → extlang_prefix primary ≡ Some value →
-    text ≡ value ++ 45 ∷ primary → SpellsLanguage (extlang_primary primary extended) (extlang_extended primary extended) text
-prefixed_becomes primary value text extended none class is same = rw (none, is) (after_prefix primary value text class is same)
+    (primary value old new : List ℕ) (extended : List (List ℕ)) → SpellsLanguage primary extended old → is_full extended ≡ false →
+    extlang_prefix primary ≡ Some value → new ≡ value ++ 45 ∷ old → SpellsLanguage (extlang_primary primary extended) (extlang_extended primary extended) new
+prefixed_becomes primary value old new extended spells room is same = rw (room, is) (after_prefix primary value old new extended spells room is same)
 
-pub extended_stays :
-    (primary first : List ℕ) (extended rest : List (List ℕ)) → extended ≡ first ∷ rest →
-    (extlang_primary primary extended ≡ primary) × (extlang_extended primary extended ≡ extended)
-extended_stays primary first extended rest same = rw same (refl, refl)
-
-pub unprefixed_stays :
-    (primary : List ℕ) (extended : List (List ℕ)) → extended ≡ [] → extlang_prefix primary ≡ None →
-    (extlang_primary primary extended ≡ primary) × (extlang_extended primary extended ≡ extended)
-unprefixed_stays primary extended none without = rw (none, without) (refl, refl)
-
--- ---- the record
-
-pub same_record :
-    (r : Record) (text : List ℕ) → (extlang_primary r.primary r.extended ≡ r.primary) × (extlang_extended r.primary r.extended ≡ r.extended) →
-    Spells r text → Spells (extlang_record r) text
-same_record r text stays spells =
-    subst (λ p. Spells (record r { primary = p; extended = extlang_extended r.primary r.extended }) text) (sym stays.0)
-    (subst (λ es. Spells (record r { extended = es }) text) (sym stays.1) spells)
+pub prefixed_language :
+    (value old new : List ℕ) → IsLanguage old →
+    ((primary : List ℕ) (extended : List (List ℕ)) → SpellsLanguage primary extended old → (is_full extended ≡ false) × (extlang_prefix primary ≡ Some value)) →
+    new ≡ value ++ 45 ∷ old → IsLanguage new
+prefixed_language value old new (primary, extended, spells) known same =
+    let k = known primary extended spells in (value, primary ∷ extended, after_prefix primary value old new extended spells k.0 k.1 same)
 
 -- ---- a canonical form that is not normal
 

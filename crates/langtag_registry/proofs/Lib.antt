@@ -32,3 +32,4 @@ pub mod PrefixTables
 pub mod PrefixLaws
 pub mod MisplacedLaws
 pub mod ExtlangForms
+pub mod FormLengths

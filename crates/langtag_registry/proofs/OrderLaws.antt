@@ -1,10 +1,11 @@
 -- Extensions in the order of their singletons: they are the same ones, in order, and those that stand in order stay.
-use Rattle.std.proofs.Common.{◌≡◌, ◌≢◌, ℕ, ◌<◌, ◌≤◌, true, false, ◌==◌, ◌||◌, not, Bool, leb, ltb, cond, List, [], ◌∷◌, ◌++◌, map, filter, append-nil, refl, sym, ap, ◌∙◌, arith, inl, inr, IsTrue}
-use Rattle.std.specs.List.{list_any, list_all, flat_map, AllByRecursion}
+use Rattle.std.proofs.Common.{◌≡◌, ◌≢◌, ℕ, ◌+◌, ◌<◌, ◌≤◌, true, false, ◌==◌, ◌||◌, not, Bool, leb, ltb, cond, List, [], ◌∷◌, ◌++◌, map, filter, append-nil, refl, sym, ap, ◌∙◌, arith, inl, inr, IsTrue}
+use Rattle.std.specs.List.{list_any, list_all, flat_map, sum_by, AllByRecursion}
 use Rattle.std.proofs.lemmas.Bool.{and_parts, leb-true, le-leb, ltb-true, eqb-true, eq-eqb, ne_eqb, or_parts, both_ways, agree_below_at}
 use Rattle.std.proofs.lemmas.Bool.Decides.{eqb_tells}
 use Rattle.std.proofs.lemmas.List.Elements.{filter-append}
 use Rattle.std.proofs.lemmas.List.Folds.{flat_map-map}
+use Rattle.std.proofs.lemmas.List.Sums.{sum_by-append, sum_by-cons}
 use Rattle.langtag_scan.specs.Case.{fold_byte}
 use Rattle.langtag_scan.specs.Class.{is_letter, is_digit, is_mark, is_singleton}
 use Rattle.langtag_scan.specs.Record.{Extension, IsWellFormedExtension}
@@ -161,14 +162,14 @@ module _ {A : Type 0} (key : A → ℕ) where
             rw (other.0, none) (gather-first j keys x xs parts.1 later rises)
       ]
 
+  gather-nil : (keys : List ℕ) → gather keys [] ≡ []
+  gather-nil [] = refl
+  gather-nil (k ∷ keys) = gather-nil keys
+
   gather-risen :
       (low from : ℕ) (keys : List ℕ) (xs : List A) → climbs_from low keys ≡ true → AllByRecursion (IsAmong keys) xs →
       rises_from from (map key xs) ≡ true → gather keys xs ≡ xs
   gather-risen low from keys [] climbs among rises = gather-nil keys
-    where
-      gather-nil : (ks : List ℕ) → gather ks [] ≡ []
-      gather-nil [] = refl
-      gather-nil (k ∷ ks) = gather-nil ks
   gather-risen low from keys (x ∷ xs) climbs among rises =
       let parts = and_parts (leb from (key x)) (rises_from (key x) (map key xs)) rises in
       gather-first low keys x xs climbs among.0 parts.1 ∙ ap (λ ys. x ∷ ys) (gather-risen low (key x) keys xs climbs among.1 parts.1)
@@ -197,6 +198,38 @@ module _ {A : Type 0} (key : A → ℕ) where
       let parts = and_parts (ltb low j) (climbs_from j keys) climbs in
       let above = ltb-true low j parts.0 in
       rises_past low j xs (gather keys xs) (omega (arith, above)) (gather-rises j keys xs parts.1)
+
+  -- ---- what is gathered weighs no more
+
+  gather-first_weight :
+      (weight : A → ℕ) (low : ℕ) (keys : List ℕ) (x : A) (xs : List A) → climbs_from low keys ≡ true →
+      sum_by weight (gather keys (x ∷ xs)) ≤ weight x + sum_by weight (gather keys xs)
+  gather-first_weight weight low [] x xs climbs = omega arith
+  gather-first_weight weight low (j ∷ keys) x xs climbs =
+      let parts = and_parts (ltb low j) (climbs_from j keys) climbs in
+      let these = filter (has j) xs in
+      let without = sum_by-append weight these (gather keys xs) in
+      elim (eqb_tells j (key x)) [
+        | inl same ↦
+            rw same.0
+            (let all = sum_by-append weight (x ∷ these) (gather keys (x ∷ xs)) in
+            let first = sum_by-cons weight x these in
+            let others = ap (sum_by weight) (gather-below j keys x xs parts.1 (omega (arith, same.1))) in
+            omega (arith, all, first, others, without))
+        | inr other ↦
+            rw other.0
+            (let all = sum_by-append weight these (gather keys (x ∷ xs)) in
+            let later = gather-first_weight weight j keys x xs parts.1 in
+            omega (arith, all, later, without))
+      ]
+
+  gather-weight : (weight : A → ℕ) (low : ℕ) (keys : List ℕ) (xs : List A) → climbs_from low keys ≡ true → sum_by weight (gather keys xs) ≤ sum_by weight xs
+  gather-weight weight low keys [] climbs = let none = ap (sum_by weight) (gather-nil keys) in omega (arith, none)
+  gather-weight weight low keys (x ∷ xs) climbs =
+      let first = gather-first_weight weight low keys x xs climbs in
+      let later = gather-weight weight low keys xs climbs in
+      let all = sum_by-cons weight x xs in
+      omega (arith, first, later, all)
 
   -- ---- what holds of each
 
@@ -282,3 +315,7 @@ in_order-twice es =
 -- what holds of each of them holds of each in order
 pub in_order-each : (P : Extension → Type 0) (es : List Extension) → AllByRecursion P es → AllByRecursion P (in_order es)
 in_order-each P es all = rw (in_order-gather es) (gather-each key P folded_singletons es all)
+
+-- their lengths, or whatever else is summed up, come to no more
+pub in_order-weight : (weight : Extension → ℕ) (es : List Extension) → sum_by weight (in_order es) ≤ sum_by weight es
+in_order-weight weight es = rw (in_order-gather es) (gather-weight key weight 0 folded_singletons es singletons_climb)

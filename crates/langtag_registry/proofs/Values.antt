@@ -48,17 +48,18 @@ value_by_number (e ∷ list) text good all =
     let k = and_parts (are_letters e.subtag) (list_all (λ e. are_letters e.subtag) list) all in
     rw (letter_number-tells e.subtag text k.0 good, value_by_number list text good k.1) refl
 
--- no subtag of at most three letters is alike a longer text
+-- no subtag of at most so many letters is alike a longer text
 pub value_of_long :
-    (list : List Entry) (text : List ℕ) → 3 < length text → list_all (λ e. ltb (length e.subtag) 4) list ≡ true → None ≡ value_for list text
-value_of_long [] text long all = refl
-value_of_long (e ∷ list) text long all =
-    let k = and_parts (ltb (length e.subtag) 4) (list_all (λ e. ltb (length e.subtag) 4) list) all in
-    let short = ltb-true (length e.subtag) 4 k.0 in
+    (most : ℕ) (list : List Entry) (text : List ℕ) → most < length text → list_all (λ e. ltb (length e.subtag) (most + 1)) list ≡ true →
+    None ≡ value_for list text
+value_of_long most [] text long all = refl
+value_of_long most (e ∷ list) text long all =
+    let k = and_parts (ltb (length e.subtag) (most + 1)) (list_all (λ q. ltb (length q.subtag) (most + 1)) list) all in
+    let short = ltb-true (length e.subtag) (most + 1) k.0 in
     let apart : are_alike e.subtag text ≡ false = false_from_ne_true (are_alike e.subtag text) (λ yes.
     let same = ap length ((are_alike-decides e.subtag text).0 yes) in
     omega (arith, short, long, same, length-map e.subtag fold_byte, length-map text fold_byte)) in
-    rw (apart) (value_of_long list text long k.1)
+    rw (apart) (value_of_long most list text long k.1)
 
 -- what holds of each value holds of the one that is found
 pub value_good :

@@ -1,5 +1,5 @@
 -- The canonical form of a tag (RFC 5646 section 4.5).
-use Rattle.std.specs.Prelude.{◌≡◌, ℕ, ◌⊎◌, List, [], ◌∷◌, map, filter, find, codes, Option, None, Some, if◌then◌else◌, unwrap_or}
+use Rattle.std.specs.Prelude.{◌≡◌, ℕ, ◌==◌, ◌⊎◌, Bool, List, [], ◌∷◌, length, map, filter, find, codes, Option, None, Some, if◌then◌else◌, unwrap_or}
 use Rattle.std.specs.List.{flat_map}
 use Rattle.std.specs.Option.{option_map, option_map_or}
 use Rattle.langtag_scan.specs.Case.{are_alike}
@@ -67,15 +67,16 @@ pub record IsCanonicalForm (old new : List ℕ) : Type 0 where
   pub parts : preferred_tag old ≡ None → (IsGrandfathered old → ⊥) → EachRecord old (λ r. new ≡ canonical_text r)
 
 -- ---- the extlang form: the canonical form, and before a language that is registered as an extended one, too, its Prefix
--- (section 3.1.8)
+-- (section 3.1.8); after three extended subtags, which no valid tag has, there is no room for one more
+
+abbrev pub is_full : List (List ℕ) → Bool
+is_full extended = length extended == 3
 
 abbrev pub extlang_primary : List ℕ → List (List ℕ) → List ℕ
-extlang_primary primary [] = unwrap_or (extlang_prefix primary) primary
-extlang_primary primary (extlang ∷ others) = primary
+extlang_primary primary extended = if is_full extended then primary else unwrap_or (extlang_prefix primary) primary
 
 abbrev pub extlang_extended : List ℕ → List (List ℕ) → List (List ℕ)
-extlang_extended primary [] = option_map_or (λ _. primary ∷ []) (extlang_prefix primary) []
-extlang_extended primary (extlang ∷ others) = extlang ∷ others
+extlang_extended primary extended = if is_full extended then extended else option_map_or (λ _. primary ∷ extended) (extlang_prefix primary) extended
 
 abbrev pub extlang_record : Record → Record
 extlang_record r = record r { primary = extlang_primary r.primary r.extended; extended = extlang_extended r.primary r.extended }

@@ -1,4 +1,4 @@
--- Faults have `==` alone: they are equal where they are of one kind and their subtags are alike (RFC 5646 section 2.1.1).
+-- Faults have `==`, a hash that agrees with it, and no order: they are equal where they are of one kind and their subtags are alike (RFC 5646 section 2.1.1).
 use Rattle.std.specs.Prelude.{◌≡◌, ◌==◌, Bool, false}
 use Rattle.langtag_scan.specs.Case.{are_alike}
 use Rattle.langtag_language.specs.Text.{primary_language_text, extended_lang_tag_text}

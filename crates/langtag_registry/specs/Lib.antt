@@ -10,3 +10,5 @@ pub mod Valid
 pub mod Canonical
 pub mod CanonicalLaws
 pub mod Prefix
+pub mod Output
+pub mod Writes

@@ -16,7 +16,8 @@ use crate::tables::{
 use langtag_language::{ExtendedLangTag, PrimaryLanguage};
 use langtag_place::{Region, Variant};
 
-/// Returns whether a language is deprecated: true for `iw`, false for `he` and for what is not registered.
+/// Returns whether a language is deprecated (RFC 5646 section 3.1.6): true for `iw`, false for `he` and for what is
+/// not registered.
 pub fn is_deprecated_language(language: PrimaryLanguage<'_>) -> bool
     ensures { result ≡ field.is_deprecated_language (primary_language_text language.entry) }
 {
@@ -27,21 +28,24 @@ pub fn is_deprecated_language(language: PrimaryLanguage<'_>) -> bool
     is_among_short(deprecated_language_keys(), letter_number(bytes) as u16)
 }
 
-/// Returns whether an extended language is deprecated: true for `yds`, false for `yue` and for what is not registered.
+/// Returns whether an extended language is deprecated (RFC 5646 section 3.1.6): true for `yds`, false for `yue` and for
+/// what is not registered.
 pub fn is_deprecated_extlang(extlang: ExtendedLangTag<'_>) -> bool
     ensures { result ≡ field.is_deprecated_extlang (extended_lang_tag_text extlang.entry) }
 {
     is_among(deprecated_extlang_keys(), short_number(extlang.as_bytes()))
 }
 
-/// Returns whether a region is deprecated: true for `SU`, false for `FR` and for what is not registered.
+/// Returns whether a region is deprecated (RFC 5646 section 3.1.6): true for `SU`, false for `FR` and for what is not
+/// registered.
 pub fn is_deprecated_region(region: Region<'_>) -> bool
     ensures { result ≡ field.is_deprecated_region (region_text region.entry) }
 {
     is_among(deprecated_region_keys(), short_number(region.as_bytes()))
 }
 
-/// Returns whether a variant is deprecated: true for `heploc`, false for `rozaj` and for what is not registered.
+/// Returns whether a variant is deprecated (RFC 5646 section 3.1.6): true for `heploc`, false for `rozaj` and for what
+/// is not registered.
 pub fn is_deprecated_variant(variant: Variant<'_>) -> bool
     ensures { result ≡ field.is_deprecated_variant (variant_text variant.entry) }
 {

@@ -5,6 +5,7 @@ ghost use Rattle.langtag_scan.specs.Record.{EachRecord, Spells};
 ghost use Rattle.langtag_language.specs.Language.{EachLanguageSpelling, IsLanguage, SpellsLanguage};
 ghost use Rattle.langtag_language.specs.Text.{language_text};
 ghost use Rattle.langtag.specs.Text.{lang_tag_text, lang_tag_buf_text, normal_lang_tag_buf_text};
+ghost use Rattle.langtag_registry.specs.Canonical as form;
 ghost use Rattle.langtag_registry.specs.Canonical.{IsExtlangForm, extlang_primary, extlang_extended, extlang_record};
 
 use crate::canonical_form::canonical;
@@ -14,7 +15,8 @@ use langtag_language::Language;
 use std::alloc::{AllocError, Global};
 
 /// Returns the extlang form of a tag (RFC 5646 section 4.5): the canonical form, and before a language that is registered
-/// as an extended one, too, the language that this stands after: `zh-hak-CN` of `hak-CN` and of `zh-hak-CN`, `he` of `iw`.
+/// as an extended one, too, its prefix: `zh-hak-CN` of `hak-CN` and of `zh-hak-CN`, `he` of `iw`. A language with three
+/// extended subtags, which no valid tag has, stays.
 ///
 /// # Errors
 ///
@@ -39,7 +41,7 @@ fn with_prefix(alloc: Global, mut form: NormalLangTagBuf) -> Result<NormalLangTa
     Ok(form)
 }
 
-/// Returns the text of a language after its prefix, where it has no extended subtag, and is one: `zh-hak` of `hak`.
+/// Returns the text of a language after its prefix, where it is an extended one, too: `zh-hak` of `hak`.
 fn prefixed_language(alloc: Global, language: Language<'_>) -> Result<Option<String>, AllocError>
     ensures in_class { IfOk result (λ text. IfSome text (λ new. IsLanguage (string_bytes new))) }
     ensures stays { IfOk result (λ text. IsNone text → EachLanguageSpelling (language_text language.entry)
@@ -47,16 +49,21 @@ fn prefixed_language(alloc: Global, language: Language<'_>) -> Result<Option<Str
     ensures becomes { IfOk result (λ text. IfSome text (λ new. EachLanguageSpelling (language_text language.entry)
         (λ primary extended. SpellsLanguage (extlang_primary primary extended) (extlang_extended primary extended) (string_bytes new)))) }
 {
-    let mut extlangs = language.extension_subtags();
-    let None = extlangs.next() else {
+    if is_full(language) {
         return Ok(None);
-    };
-    let primary = language.primary();
-    let Some(prefix) = prefix_of_language(primary) else {
+    }
+    let Some(prefix) = prefix_of_language(language.primary()) else {
         return Ok(None);
     };
     let mut text = String::from_str(alloc, prefix.as_str())?;
     text.push_str("-")?;
-    text.push_str(primary.as_str())?;
+    text.push_str(language.as_str())?;
     Ok(Some(text))
+}
+
+/// Returns whether a language has three extended subtags, so that there is no room for one more.
+fn is_full(language: Language<'_>) -> bool
+    ensures { EachLanguageSpelling (language_text language.entry) (λ primary extended. result ≡ form.is_full extended) }
+{
+    language.extension_subtags().count() == 3
 }

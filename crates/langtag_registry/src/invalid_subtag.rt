@@ -4,7 +4,8 @@ use langtag_language::{ExtendedLangTag, PrimaryLanguage};
 use langtag_place::{Region, Script, Variant};
 use thiserror::Error;
 
-/// Why a tag is not valid: the subtag of it that is not registered, or that repeats an earlier one.
+/// Why a tag is not valid: its first subtag that is not registered, is a second extended language, or repeats an earlier
+/// one.
 ///
 /// A subtag is a slice of the tag, with its case. Two values are equal where they are of one kind and their subtags
 /// are equal.

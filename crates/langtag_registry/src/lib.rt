@@ -1,6 +1,6 @@
 //! The IANA Language Subtag Registry over language tags: which subtags are registered, what the registry says of them
 //! (RFC 5646 section 3.1), which tags are valid (section 2.2.9), the canonical form of a tag (section 4.5), and which
-//! variants do not follow what they are meant to follow (section 3.1.8).
+//! variants stand after none of their prefixes (section 3.1.8).
 //!
 //! ```
 //! use langtag::{LangTag, NormalLangTag};
@@ -23,6 +23,7 @@
 
 mod canonical_form;
 mod canonical_language;
+mod canonical_parts;
 mod canonical_variants;
 mod deprecated;
 mod extension_order;
@@ -33,16 +34,16 @@ mod language_fields;
 mod language_table;
 mod languages;
 mod misplaced;
+mod output;
 mod preferred;
 mod prefixes;
-mod push_subtag;
 mod subtags;
 mod tables;
 #[cfg(test)]
 mod tests;
 mod validity;
 
-pub use canonical_form::{canonical, is_canonical};
+pub use canonical_form::{canonical, is_canonical, write_canonical};
 pub use deprecated::{
     is_deprecated_extlang, is_deprecated_language, is_deprecated_region, is_deprecated_variant,
 };

@@ -12,7 +12,8 @@ use langtag::LangTag;
 use langtag_place::{Region, Variant};
 use langtag_scan::case_insensitive_eq;
 
-/// Returns the region that stands for another today: `MM` for `BU`. None for `MM`, and for what is not registered.
+/// Returns the region that stands for another today (its Preferred-Value, RFC 5646 section 3.1.7): `MM` for `BU`. None for
+/// `MM`, and for what is not registered.
 pub fn preferred_region(region: Region<'_>) -> Option<Region<'static>>
     ensures { option_map region_text result ≡ field.preferred_region (region_text region.entry) }
 {
@@ -22,8 +23,8 @@ pub fn preferred_region(region: Region<'_>) -> Option<Region<'static>>
     }
 }
 
-/// Returns the variant that stands for another today: `alalc97` for `heploc`. None for `alalc97`, and for what is not
-/// registered.
+/// Returns the variant that stands for another today (its Preferred-Value, RFC 5646 section 3.1.7): `alalc97` for `heploc`.
+/// None for `alalc97`, and for what is not registered.
 pub fn preferred_variant(variant: Variant<'_>) -> Option<Variant<'static>>
     ensures { option_map variant_text result ≡ field.preferred_variant (variant_text variant.entry) }
 {
@@ -33,12 +34,20 @@ pub fn preferred_variant(variant: Variant<'_>) -> Option<Variant<'static>>
     }
 }
 
-/// Returns the tag that stands for a grandfathered or redundant tag as a whole today: `jbo` for `art-lojban`, `gsg` for
-/// `sgn-DE`. None for `zh-min`, which has no Preferred-Value, and for what is not registered as a whole, as `sgn-DE-x-a`.
+/// Returns the tag that stands for a grandfathered or redundant tag as a whole today (its Preferred-Value, RFC 5646 section
+/// 3.1.7): `jbo` for `art-lojban`, `gsg` for `sgn-DE`. None for `zh-min`, which has no Preferred-Value, and for what is not
+/// registered as a whole, as `sgn-DE-x-a`.
 pub fn preferred_tag(tag: LangTag<'_>) -> Option<LangTag<'static>>
     ensures { option_map lang_tag_text result ≡ field.preferred_tag (lang_tag_text tag.entry) }
 {
-    match value_beside(tags(), tag.as_bytes()) {
+    preferred_for(tag.as_bytes())
+}
+
+/// Returns the tag that stands for a text as a whole today.
+pub(crate) fn preferred_for(text: &[u8]) -> Option<LangTag<'static>>
+    ensures { option_map lang_tag_text result ≡ field.preferred_tag text.now }
+{
+    match value_beside(tags(), text) {
         Some(text) => Some(LangTag::from_checked(text)),
         None => None,
     }

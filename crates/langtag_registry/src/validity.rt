@@ -23,9 +23,9 @@ use langtag_language::Language;
 use langtag_place::{Region, Script, Variant, Variants};
 
 /// Returns whether a tag is valid by the registry (RFC 5646 section 2.2.9): well-formed, and either grandfathered, or with
-/// all its subtags registered and none repeated. `fr-FR`, the grandfathered `zh-min` and `x-qt` are Ok. Whether a variant
-/// stands after one of its prefixes is not asked. The contract also says when two faults are equal, and that a clone of one
-/// is the same.
+/// a registered language, script, region and variants, at most one extended language, which is registered too, and no
+/// variant or singleton twice. `fr-FR`, the grandfathered `zh-min` and `x-qt` are Ok. Whether a variant stands after one of
+/// its prefixes is not asked. The contract also says when two faults are equal, and that a clone of one is the same.
 ///
 /// # Errors
 ///

@@ -10,4 +10,5 @@ mod readme;
 mod recommended_case;
 mod repeats;
 mod setters;
+mod shown;
 mod sweeps;

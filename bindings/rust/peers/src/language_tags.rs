@@ -17,15 +17,15 @@ impl LanguageTag {
     }
 
     pub fn is_valid(&self) -> bool {
-        unimplemented!("the registry of subtags is not looked at")
+        self.validate().is_ok()
     }
 
     pub fn validate(&self) -> Result<(), ParseError> {
-        unimplemented!("the registry of subtags is not looked at")
+        tag(&self.text).validate().map_err(|_| ParseError)
     }
 
     pub fn canonicalize(&self) -> Result<LanguageTag, ParseError> {
-        unimplemented!("the registry of subtags is not looked at")
+        Ok(LanguageTag { text: tag(&self.text).to_canonical().into_string() })
     }
 
     /// Extended filtering, with the tag for a range.

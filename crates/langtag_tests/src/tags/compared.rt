@@ -1,6 +1,7 @@
 //! How tags of every kind and normal ones are shown, kept and compared (RFC 5646 section 2.1.1).
-use crate::support::{assert_same, assert_that, with_memory};
-use langtag::{EditError, Kind, LangTag};
+use crate::tags::parts::tag;
+use langtag::{EditError, Kind};
+use langtag_test_support::{assert_same, assert_that, with_memory};
 use std::alloc::{AllocError, Global};
 use std::cmp::Ordering;
 use std::process::Abort;
@@ -19,9 +20,7 @@ const PAIRS: [(&str, &str, Ordering); 7] = [
 #[test]
 fn tags_are_ordered_without_regard_to_case(rt: HostRuntime) {
     for (text, other, order) in PAIRS {
-        let tag = LangTag::new(text).ok().expect(&rt, "refused");
-        let others = LangTag::new(other).ok().expect(&rt, "refused");
-        assert_same!(rt; tag.cmp(&others), order, text);
+        assert_same!(rt; tag(&rt, text).cmp(&tag(&rt, other)), order, text);
     }
 }
 
@@ -51,7 +50,7 @@ fn check_typed_tags_are_shown(rt: &impl Abort, alloc: Global) -> Result<(), Allo
         ("X-a", "PrivateUse(PrivateUse { text: Caseless(\"X-a\")"),
         ("I-ami", "Grandfathered(IAmi)"),
     ] {
-        let typed = LangTag::new(text).ok().expect(rt, "refused").as_typed();
+        let typed = tag(rt, text).as_typed();
         let debug = format!(in alloc; "{typed:?}")?;
         assert!(rt; debug.as_str().starts_with(shown), "of {debug}");
     }

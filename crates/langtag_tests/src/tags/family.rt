@@ -1,7 +1,7 @@
 //! Ways from one tag type to another, and tags of any kind that are edited.
-use crate::support::{assert_same, assert_that, with_memory};
 use crate::tags::parts::{have_same_parts, normal};
 use langtag::{EditError, GRANDFATHERED, Kind, LangTag, LangTagBuf, PrivateUse, PrivateUseBuf};
+use langtag_test_support::{assert_same, assert_that, with_memory};
 use std::alloc::{AllocError, Global};
 use std::process::Abort;
 

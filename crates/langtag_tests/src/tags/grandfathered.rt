@@ -1,7 +1,7 @@
 //! The grandfathered tags (RFC 5646 section 2.2.8).
-use crate::support::{HOSTILE, assert_same, assert_that, with_memory};
-use crate::text_types::seen::pieces_of;
 use langtag::{GRANDFATHERED, GrandfatheredLangTag, LangTag};
+use langtag_test_support::seen::pieces_of;
+use langtag_test_support::{HOSTILE, assert_same, assert_that, with_memory};
 use std::alloc::{AllocError, Global};
 use std::convert::TryFrom;
 use std::process::Abort;
@@ -64,7 +64,10 @@ fn check_all_are_shown_as_registered(rt: &impl Abort, alloc: Global) -> Result<(
         assert_same!(rt; tag.to_string(alloc)?.as_str(), text);
         let debug = format!(in alloc; "{tag:?}")?;
         assert_same!(rt; debug.as_str(), name);
-        assert_same!(rt; tag.language().map(|found| found.as_str()), language);
+        match tag.language() {
+            Some(found) => assert_same!(rt; Some(found.as_str()), language, text),
+            None => assert_same!(rt; None, language, text),
+        }
     }
     Ok(())
 }

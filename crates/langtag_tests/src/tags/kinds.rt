@@ -1,26 +1,29 @@
 //! Which texts are tags, of which kind, and what the types of tags answer of them (RFC 5646 section 2.1).
-use crate::scan::answer::Answer;
-use crate::scan::rows::{self, Row};
-use crate::support::{assert_same, assert_that};
-use langtag::{Kind, LangTag, NormalLangTag};
+use crate::tags::parts::{private_use_text, region_text, script_text, tag, text_of};
+use langtag::{Kind, LangTag, Language, NormalLangTag};
+use langtag_test_support::rows::{self, Row};
+use langtag_test_support::{Answer, assert_same, assert_that};
 use std::process::Abort;
+
+fn language_text<'a>(language: Option<Language<'a>>) -> &'a str {
+    text_of!(language)
+}
 
 /// The texts of the parts of a tag, of which an absent one is empty.
 fn part_texts<'a>(tag: &LangTag<'a>) -> [&'a str; 6] {
     [
-        tag.language().map_or("", |language| language.as_str()),
-        tag.script().map_or("", |script| script.as_str()),
-        tag.region().map_or("", |region| region.as_str()),
+        language_text(tag.language()),
+        script_text(tag.script()),
+        region_text(tag.region()),
         tag.variants().as_str(),
         tag.extensions().as_str(),
-        tag.private_use()
-            .map_or("", |private_use| private_use.as_str()),
+        private_use_text(tag.private_use()),
     ]
 }
 
 fn is_tag(rt: &impl Abort, row: &Row, kind: Kind) {
     let text = row.text;
-    let tag = LangTag::new(text).ok().expect(rt, "refused");
+    let tag = tag(rt, text);
     assert_same!(rt; tag.kind(), kind, text);
     assert_same!(rt; tag.as_typed().kind(), kind, text);
     assert_that!(rt; part_texts(&tag) == row.parts, text);
@@ -47,12 +50,12 @@ fn texts_are_tags_of_one_kind(rt: HostRuntime) {
 
 #[test]
 fn a_private_use_tag_has_its_subtags(rt: HostRuntime) {
-    let tag = LangTag::new("x-fr-CH").ok().expect(&rt, "refused");
+    let tag = tag(&rt, "x-fr-CH");
     let private_use = tag.as_private_use().expect(&rt, "none");
     assert_same!(rt; private_use.as_str(), "x-fr-CH");
     let mut walk = private_use.iter();
-    assert_same!(rt; walk.next().map(|subtag| subtag.as_str()), Some("fr"));
-    assert_same!(rt; walk.next().map(|subtag| subtag.as_str()), Some("CH"));
+    assert_same!(rt; walk.next().expect(&rt, "none").as_str(), "fr");
+    assert_same!(rt; walk.next().expect(&rt, "none").as_str(), "CH");
     assert_that!(rt; walk.next().is_none());
     assert_that!(rt; tag.private_use().is_none() && tag.language().is_none());
 }

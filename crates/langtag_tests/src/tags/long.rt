@@ -1,26 +1,13 @@
 //! Texts of two million bytes: no call may need a stack that grows with its text, or more than linear time.
-use crate::scan::answer::{Answer, of_text};
-use crate::support::{assert_exact, assert_same, assert_that, hash_of, with_memory};
-use crate::tags::parts::normal;
+use crate::tags::parts::{normal, tag};
 use crate::tags::recommended_case::is_recommended;
 use crate::tags::sweeps::is_shown_and_copied;
-use langtag::{
-    LangTag, LangTagBuf, NormalLangTag, case_insensitive_cmp, case_insensitive_eq,
-    is_extension_subtag, is_in_recommended_case, is_primary, is_private_subtag, is_variant,
-    make_recommended_case, segment_end, segment_start, viable_len,
+use langtag::{LangTag, LangTagBuf, NormalLangTag};
+use langtag_test_support::{
+    LONG_REFUSED, assert_same, assert_that, is_exact, repeated, with_memory,
 };
-use langtag_scan::Caseless;
 use std::alloc::{AllocError, Global};
 use std::process::Abort;
-
-/// A text, and after it a piece so many times.
-fn repeated(alloc: Global, text: &str, piece: &str, count: u32) -> Result<String, AllocError> {
-    let mut long = String::from_str(alloc, text)?;
-    for _ in 0..count {
-        long.push_str(piece)?;
-    }
-    Ok(long)
-}
 
 /// A normal tag of a text and a piece so many times after it, which makes so many variants, extensions and private use
 /// subtags.
@@ -31,10 +18,7 @@ fn is_normal(
     counts: [usize; 3],
 ) -> Result<(), AllocError> {
     let long = repeated(alloc, text, piece, count)?;
-    let (answer, reads) = of_text(rt, long.as_str());
-    assert_that!(rt; answer.if_normal() != Answer::Refused, text);
-    assert_same!(rt; reads, long.len(), text);
-    let tag = LangTag::new(long.as_str()).ok().expect(rt, "refused");
+    let tag = tag(rt, long.as_str());
     assert_same!(rt; tag.variants().iter().count(), counts[0], text);
     assert_same!(rt; tag.variants().iter().rev().count(), counts[0], text);
     assert_same!(rt; tag.extensions().iter().count(), counts[1], text);
@@ -43,7 +27,7 @@ fn is_normal(
     assert_that!(rt; tag.eq_str(long.as_str()) && tag == normal(rt, long.as_str()), text);
     assert_same!(rt; tag.repeated_variant().is_some(), counts[0] > 1, text);
     assert_same!(rt; tag.repeated_singleton().is_some(), counts[1] > 1, text);
-    assert_exact(rt, tag.try_to_owned(alloc)?.into_string(), long.as_str());
+    assert_that!(rt; is_exact(tag.try_to_owned(alloc)?.into_string(), long.as_str()), text);
     Ok(())
 }
 
@@ -92,8 +76,7 @@ fn a_private_use_tag(rt: HostRuntime) {
 fn check_a_private_use_tag(rt: &impl Abort, alloc: Global) -> Result<(), AllocError> {
     let long = repeated(alloc, "x", "-a", 1_000_000)?;
     let text = long.as_str();
-    assert_that!(rt; of_text(rt, text) == (Answer::PrivateUse, text.len()));
-    let tag = LangTag::new(text).ok().expect(rt, "refused");
+    let tag = tag(rt, text);
     let private_use = tag.as_private_use().expect(rt, "none");
     assert_same!(rt; private_use.iter().count(), 1_000_000);
     assert_that!(rt; tag.language().is_none() && tag.private_use().is_none());
@@ -140,83 +123,15 @@ fn check_the_recommended_case_of_a_copy(rt: &impl Abort, alloc: Global) -> Resul
 }
 
 #[test]
-fn the_recommended_case_of_bytes(rt: HostRuntime) {
-    with_memory!(rt, check_the_recommended_case_of_bytes(&rt, rt.alloc()));
-}
-
-fn check_the_recommended_case_of_bytes(rt: &impl Abort, alloc: Global) -> Result<(), AllocError> {
-    for (text, recommended) in [("-ab", "-AB"), ("-ABCD", "-Abcd"), ("A", "a")] {
-        let long = repeated(alloc, "en", text, 500_000)?;
-        let wanted = repeated(alloc, "en", recommended, 500_000)?;
-        let mut bytes = long.into_bytes();
-        make_recommended_case(bytes.as_mut_slice());
-        assert_that!(rt; bytes.as_slice() == wanted.as_bytes(), text);
-        assert_that!(rt; is_in_recommended_case(bytes.as_slice()), text);
-    }
-    Ok(())
-}
-
-#[test]
-fn the_beginning_of_a_tag(rt: HostRuntime) {
-    with_memory!(rt, check_the_beginning_of_a_tag(&rt, rt.alloc()));
-}
-
-fn check_the_beginning_of_a_tag(rt: &impl Abort, alloc: Global) -> Result<(), AllocError> {
-    let long = repeated(alloc, "en-x", "-a", 1_000_000)?;
-    assert_eq!(rt; viable_len(long.as_bytes()), long.len());
-    Ok(())
-}
-
-/// What a text that is no tag begins with, what follows it a million times, and how many bytes decide it.
-const REFUSED: [(&str, &str, usize); 9] = [
-    ("", "a", 9),
-    ("x-", "a", 11),
-    ("en-x-", "a", 14),
-    ("en-a-", "b", 14),
-    ("en-", "a", 12),
-    ("en-1996-", "0", 17),
-    ("", "-", 1),
-    ("en", "-", 4),
-    ("en-x", "--", 6),
-];
-
-#[test]
 fn texts_that_are_no_tags(rt: HostRuntime) {
     with_memory!(rt, check_texts_that_are_no_tags(&rt, rt.alloc()));
 }
 
 fn check_texts_that_are_no_tags(rt: &impl Abort, alloc: Global) -> Result<(), AllocError> {
-    for (text, piece, reads) in REFUSED {
+    for (text, piece, _) in LONG_REFUSED {
         let long = repeated(alloc, text, piece, 1_000_000)?;
-        assert_that!(rt; of_text(rt, long.as_str()) == (Answer::Refused, reads), text);
-        let refused = LangTag::new(long.as_str()).err().expect(rt, "accepted");
-        assert_same!(rt; refused.0.len(), long.len(), text);
-        let refused = NormalLangTag::new(long.as_str())
-            .err()
-            .expect(rt, "accepted");
-        assert_same!(rt; refused.0.len(), long.len(), text);
+        assert_that!(rt; LangTag::new(long.as_str()).is_err(), text);
+        assert_that!(rt; NormalLangTag::new(long.as_str()).is_err(), text);
     }
-    Ok(())
-}
-
-#[test]
-fn bytes_without_a_hyphen(rt: HostRuntime) {
-    with_memory!(rt, check_bytes_without_a_hyphen(&rt, rt.alloc()));
-}
-
-fn check_bytes_without_a_hyphen(rt: &impl Abort, alloc: Global) -> Result<(), AllocError> {
-    let long = repeated(alloc, "", "a", 1_000_000)?;
-    let bytes = long.as_bytes();
-    let is_subtag = is_primary(bytes)
-        || is_variant(bytes)
-        || is_extension_subtag(bytes)
-        || is_private_subtag(bytes);
-    assert_that!(rt; !is_subtag);
-    assert_same!(rt; segment_end(bytes, 0), bytes.len());
-    assert_same!(rt; segment_start(bytes, bytes.len()), 0);
-    assert_that!(rt; case_insensitive_eq(bytes, bytes));
-    assert_that!(rt; case_insensitive_cmp(bytes, bytes).is_eq());
-    let other = long.as_str();
-    assert_same!(rt; hash_of(&Caseless(other)), hash_of(&Caseless(other)));
     Ok(())
 }

@@ -1,20 +1,44 @@
 //! The parts of normal tags, and their lists (RFC 5646 sections 2.1 and 2.2).
-use crate::scan::rows::{self, Row};
-use crate::support::{assert_same, assert_that, with_memory};
-use langtag::{LangTag, NormalLangTag};
+use langtag::{LangTag, NormalLangTag, PrivateUse, Region, Script};
+use langtag_test_support::rows::{self, Row};
+use langtag_test_support::{assert_same, assert_that, with_memory};
 use std::alloc::{AllocError, Global};
 use std::process::Abort;
+
+/// The text of a part, empty where it is absent: the body of a function for each type. A closure given to `map_or` is proved
+/// anew at each place, and its calls with it.
+macro_rules! text_of {
+    ($part:ident) => {
+        match $part {
+            Some(part) => part.as_str(),
+            None => "",
+        }
+    };
+}
+
+pub(super) fn script_text<'a>(script: Option<Script<'a>>) -> &'a str {
+    text_of!(script)
+}
+
+pub(super) fn region_text<'a>(region: Option<Region<'a>>) -> &'a str {
+    text_of!(region)
+}
+
+pub(super) fn private_use_text<'a>(private_use: Option<PrivateUse<'a>>) -> &'a str {
+    text_of!(private_use)
+}
+
+pub(super) use text_of;
 
 /// The texts of the parts of a tag, of which an absent one is empty.
 pub(super) fn part_texts<'a>(tag: &NormalLangTag<'a>) -> [&'a str; 6] {
     [
         tag.language().as_str(),
-        tag.script().map_or("", |script| script.as_str()),
-        tag.region().map_or("", |region| region.as_str()),
+        script_text(tag.script()),
+        region_text(tag.region()),
         tag.variants().as_str(),
         tag.extensions().as_str(),
-        tag.private_use()
-            .map_or("", |private_use| private_use.as_str()),
+        private_use_text(tag.private_use()),
     ]
 }
 
@@ -23,7 +47,12 @@ pub(super) fn have_same_parts(one: &NormalLangTag<'_>, other: &NormalLangTag<'_>
     part_texts(one) == part_texts(other)
 }
 
-/// A normal tag whose text is one.
+/// The tag of a text that is one.
+pub(super) fn tag<'a>(rt: &impl Abort, text: &'a str) -> LangTag<'a> {
+    LangTag::new(text).ok().expect(rt, "refused")
+}
+
+/// The normal tag of a text that is one.
 pub(super) fn normal<'a>(rt: &impl Abort, text: &'a str) -> NormalLangTag<'a> {
     NormalLangTag::new(text).ok().expect(rt, "refused")
 }
@@ -71,7 +100,7 @@ const SUBTAGS: [(&str, &[&str]); 4] = [
 #[test]
 fn subtags_are_walked_from_both_ends(rt: HostRuntime) {
     for (text, subtags) in SUBTAGS {
-        let tag = LangTag::new(text).ok().expect(&rt, "refused");
+        let tag = tag(&rt, text);
         assert_same!(rt; tag.subtags().count(), subtags.len(), text);
         let mut walk = tag.subtags();
         for subtag in subtags {

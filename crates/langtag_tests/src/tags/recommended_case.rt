@@ -1,8 +1,8 @@
 //! The case that RFC 5646 section 2.1.1 recommends.
-use crate::scan::rows::{self, Row};
-use crate::support::{assert_exact, assert_same, assert_that, with_memory};
-use crate::tags::parts::{have_same_parts, normal};
-use langtag::{GRANDFATHERED, LangTag, is_in_recommended_case, make_recommended_case};
+use crate::tags::parts::{have_same_parts, normal, tag};
+use langtag::GRANDFATHERED;
+use langtag_test_support::rows::{self, Row};
+use langtag_test_support::{assert_same, assert_that, is_exact, with_memory};
 use std::alloc::{AllocError, Global};
 use std::process::Abort;
 
@@ -46,7 +46,7 @@ pub(super) fn is_recommended(
     text: &str,
     recommended: &str,
 ) -> Result<(), AllocError> {
-    let tag = LangTag::new(text).ok().expect(rt, "refused");
+    let tag = tag(rt, text);
     assert_same!(rt; tag.is_in_recommended_case(), text == recommended, text);
     assert_same!(rt; tag.in_recommended_case().to_string(alloc)?.as_str(), recommended, text);
     let mut owned = tag.try_to_owned(alloc)?;
@@ -61,7 +61,7 @@ pub(super) fn is_recommended(
         Ok(copy) => copy,
         Err(AllocError) => tag.try_to_recommended_case(alloc)?,
     };
-    assert_exact(rt, copy.into_string(), recommended);
+    assert_that!(rt; is_exact(copy.into_string(), recommended), text);
     Ok(())
 }
 
@@ -83,7 +83,7 @@ pub(super) fn is_recommended_as_normal(
         Ok(copy) => copy,
         Err(AllocError) => tag.try_to_recommended_case(alloc)?,
     };
-    assert_exact(rt, copy.into_string(), recommended);
+    assert_that!(rt; is_exact(copy.into_string(), recommended), text);
     Ok(())
 }
 
@@ -112,7 +112,7 @@ fn check_registered_spellings(rt: &impl Abort, alloc: Global) -> Result<(), Allo
 /// The copy of a tag, and of a normal one, is what Display writes, without room to spare.
 fn are_copied(rt: &impl Abort, alloc: Global, rows: &[Row]) -> Result<(), AllocError> {
     for row in rows {
-        let tag = LangTag::new(row.text).ok().expect(rt, "refused");
+        let tag = tag(rt, row.text);
         let shown = tag.in_recommended_case().to_string(alloc)?;
         is_recommended(rt, alloc, row.text, shown.as_str())?;
         if tag.is_normal() {
@@ -127,34 +127,4 @@ fn each_tag_is_copied(rt: HostRuntime) {
     for (rows, _) in rows::tags() {
         with_memory!(rt, are_copied(&rt, rt.alloc(), rows));
     }
-}
-
-/// Bytes that are no tags, and the same in their recommended case.
-const BYTES: [(&[u8], &[u8]); 10] = [
-    (b"", b""),
-    (b"-", b"-"),
-    (b"--AB", b"--AB"),
-    (b"AB-", b"ab-"),
-    (b"A-ab", b"a-ab"),
-    (b"ab--cD-efGH-", b"ab--CD-Efgh-"),
-    (b"ab-\xc3\xa9-cdef", b"ab-\xc3\xa9-Cdef"),
-    (b"\xffA-\xffa-\xffabc", b"\xffa-\xffA-\xffabc"),
-    (b"AB_CD-ef_g", b"ab_cd-Ef_g"),
-    (b"ab-\0-cd-\0", b"ab-\0-cd-\0"),
-];
-
-#[test]
-fn bytes_that_are_no_tags_keep_what_is_no_letter(rt: HostRuntime) {
-    with_memory!(rt, check_bytes(&rt, rt.alloc()));
-}
-
-fn check_bytes(rt: &impl Abort, alloc: Global) -> Result<(), AllocError> {
-    for (bytes, recommended) in BYTES {
-        let mut text = bytes.to_vec(alloc)?;
-        make_recommended_case(text.as_mut_slice());
-        assert_same!(rt; text.as_slice(), recommended, bytes);
-        assert_same!(rt; is_in_recommended_case(bytes), bytes == recommended, bytes);
-        assert_that!(rt; is_in_recommended_case(recommended), bytes);
-    }
-    Ok(())
 }

@@ -1,15 +1,20 @@
 //! Variants and singletons that stand in a tag twice (RFC 5646 sections 2.2.5, 2.2.6 and 2.2.9).
-use crate::scan::rows::{self, Row};
-use crate::support::{assert_same, assert_that, with_memory};
-use crate::tags::parts::normal;
+use crate::tags::parts::{normal, text_of};
 use langtag::NormalLangTag;
+use langtag_test_support::rows::{self, Row};
+use langtag_test_support::{assert_same, assert_that, with_memory};
 use std::alloc::{AllocError, Global};
 use std::process::Abort;
 
 /// The variant that stands in a tag twice, in the letters of the later one; empty where none does.
 fn repeated_variant<'a>(tag: &NormalLangTag<'a>) -> &'a str {
-    tag.repeated_variant()
-        .map_or("", |variant| variant.as_str())
+    let variant = tag.repeated_variant();
+    text_of!(variant)
+}
+
+/// The byte of the singleton that stands in a tag twice.
+fn repeated_singleton(tag: &NormalLangTag<'_>) -> Option<u8> {
+    Some(tag.repeated_singleton()?.unwrap())
 }
 
 fn tell_the_later_one(rt: &impl Abort, rows: &[Row]) {
@@ -17,8 +22,7 @@ fn tell_the_later_one(rt: &impl Abort, rows: &[Row]) {
         let [variant, singleton] = row.repeated;
         let tag = normal(rt, row.text);
         assert_same!(rt; repeated_variant(&tag), variant, row.text);
-        let repeated = tag.repeated_singleton().map(|singleton| singleton.unwrap());
-        assert_same!(rt; repeated, singleton.as_bytes().first().copied(), row.text);
+        assert_same!(rt; repeated_singleton(&tag), singleton.as_bytes().first().copied(), row.text);
     }
 }
 
@@ -128,9 +132,8 @@ fn check_a_repeat_after_all_singletons(rt: &impl Abort, alloc: Global) -> Result
     for letter in "0123456789abcdefghijklmnopqrstuvwyz".chars() {
         text.push_str(format!(in alloc; "-{letter}-aa")?.as_str())?;
     }
-    assert_that!(rt; normal(rt, text.as_str()).repeated_singleton().is_none());
+    assert_same!(rt; repeated_singleton(&normal(rt, text.as_str())), None);
     text.push_str("-Z-aa")?;
-    let repeated = normal(rt, text.as_str()).repeated_singleton();
-    assert_same!(rt; repeated.map(|singleton| singleton.unwrap()), Some(b'Z'));
+    assert_same!(rt; repeated_singleton(&normal(rt, text.as_str())), Some(b'Z'));
     Ok(())
 }

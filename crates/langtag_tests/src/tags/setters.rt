@@ -1,12 +1,12 @@
 //! The parts of an owned tag put in and taken out (RFC 5646 sections 2.2.1 to 2.2.7).
-use crate::scan::rows::{self, Row};
-use crate::support::{assert_same, assert_that, with_memory};
 use crate::tags::family::edited;
 use crate::tags::parts::{normal, part_texts};
 use langtag::{
     EditError, Extensions, LangTagBuf, Language, NormalLangTag, NormalLangTagBuf, PrivateUse,
     Region, Script, Variants,
 };
+use langtag_test_support::rows::{self, Row};
+use langtag_test_support::{assert_same, assert_that, with_memory};
 use std::alloc::{AllocError, Global};
 use std::process::Abort;
 

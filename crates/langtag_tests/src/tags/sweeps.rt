@@ -1,7 +1,7 @@
 //! Each prefix of a tag that is one: shown, kept and copied.
-use crate::scan::rows::{self, Row};
-use crate::support::{assert_exact, assert_same, assert_that, with_memory};
 use langtag::{LangTag, NormalLangTag};
+use langtag_test_support::rows::{self, Row};
+use langtag_test_support::{assert_same, assert_that, is_exact, with_memory};
 use std::alloc::{AllocError, Global};
 use std::process::Abort;
 
@@ -23,7 +23,7 @@ pub(super) fn is_shown_and_copied(
     assert_same!(rt; copy.as_lang_tag().kind(), tag.kind(), text);
     assert_same!(rt; copy.as_str(), text);
     assert_same!(rt; copy.to_string(alloc)?.as_str(), text);
-    assert_exact(rt, copy.into_string(), text);
+    assert_that!(rt; is_exact(copy.into_string(), text), text);
     Ok(())
 }
 
@@ -44,37 +44,46 @@ pub(super) fn is_shown_and_copied_as_normal(
     assert_that!(rt; copy.as_normal_lang_tag() == *tag, text);
     assert_same!(rt; copy.as_str(), text);
     assert_same!(rt; copy.to_string(alloc)?.as_str(), text);
-    assert_exact(rt, copy.into_string(), text);
+    assert_that!(rt; is_exact(copy.into_string(), text), text);
     Ok(())
 }
 
+/// The same of each prefix of a text that is a tag, of which it returns the number.
 fn prefixes_are_shown_and_copied(
     rt: &impl Abort,
     alloc: Global,
     text: &str,
-) -> Result<(), AllocError> {
+) -> Result<u32, AllocError> {
+    let mut tags: u32 = 0;
     for end in 0..=text.len() {
         let prefix = text.get(..end).expect(rt, "past the end");
         if let Ok(tag) = LangTag::new(prefix) {
+            tags = tags.saturating_add(1);
             is_shown_and_copied(rt, alloc, &tag, prefix)?;
             if let Some(tag) = tag.as_normal() {
                 is_shown_and_copied_as_normal(rt, alloc, &tag, prefix)?;
             }
         }
     }
-    Ok(())
+    Ok(tags)
 }
 
-fn are_shown_and_copied(rt: &impl Abort, alloc: Global, rows: &[Row]) -> Result<(), AllocError> {
+fn are_shown_and_copied(
+    rt: &impl Abort,
+    alloc: Global,
+    (rows, wanted): (&[Row], u32),
+) -> Result<(), AllocError> {
+    let mut tags: u32 = 0;
     for row in rows {
-        prefixes_are_shown_and_copied(rt, alloc, row.text)?;
+        tags = tags.saturating_add(prefixes_are_shown_and_copied(rt, alloc, row.text)?);
     }
+    assert_same!(rt; tags, wanted);
     Ok(())
 }
 
 #[test]
 fn each_prefix_is_shown_and_copied(rt: HostRuntime) {
-    for (rows, _) in rows::tags() {
+    for rows in rows::tags() {
         with_memory!(rt, are_shown_and_copied(&rt, rt.alloc(), rows));
     }
 }

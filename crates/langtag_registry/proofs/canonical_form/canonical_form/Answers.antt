@@ -1,14 +1,24 @@
-use Rattle.std.proofs.Common.{◌≡◌, inr, sym, ap, ◌∙◌, option_map}
-use Rattle.std.proofs.lemmas.Result.{IfOk-weaker}
-use Rattle.langtag.specs.Text.{lang_tag_text, lang_tag_buf_text}
+use Rattle.std.proofs.Common.{IsOk, sym, ap, subst, ◌∙◌}
+use Rattle.std.proofs.lemmas.Bool.{false≢true}
+use Rattle.langtag.proofs.KeptFound.{found_kept}
+use Rattle.langtag.specs.Text.{lang_tag_text}
+use Rattle.langtag_scan.proofs.Ascii.{IsUtf8-tag}
+use Rattle.langtag_scan.specs.Tag.{IsTag}
 use Rattle.langtag_registry.specs.Canonical.{IsCanonicalForm}
-use Rattle.langtag_registry.proofs.CanonicalParts.{kept_form}
+use Rattle.langtag_registry.proofs.CanonicalParts.{form_is_tag}
 use Rattle.langtag_registry.proofs.canonical_form.canonical_form.Goals as goal
 
-pub returns-in_default-as_normal : goal.returns-in_default-as_normal
-returns-in_default-as_normal c =
-    let text = lang_tag_text c.args.tag in
-    IfOk-weaker _ (λ new. lang_tag_buf_text new ≡ text) (λ new. IsCanonicalForm text (lang_tag_buf_text new))
-    (λ new same. kept_form text (lang_tag_buf_text new) (sym (ap (option_map lang_tag_text) (sym c.in_default.is) ∙ c.preferred_tag.ensures))
-    (inr (λ normal. let no = c.in_default-as_normal.ensures.kind.1 normal in absurd cc)) same)
-    c.try_to_owned-in_default-as_normal.ensures
+pub unreachable-requires : goal.unreachable-requires
+unreachable-requires c =
+    let is_tag = form_is_tag _ _ (found_kept _ _ c.args.tag.kept_found).tag c.in_ok-canonical_bytes.ensures in
+    false≢true (subst IsOk c.in_default.is (c.from_utf8.ensures.succeeds (IsUtf8-tag _ is_tag)))
+
+pub unreachable-requires-in_default-new : goal.unreachable-requires-in_default-new
+unreachable-requires-in_default-new c =
+    let is_tag = form_is_tag _ _ (found_kept _ _ c.args.tag.kept_found).tag c.in_ok-canonical_bytes.ensures in
+    false≢true (c.in_default-new.ensures.accepts.1 (subst IsTag (sym (ap (λ bytes. bytes.items) c.in-Ok.ensures.ok)) is_tag))
+
+pub returns : goal.returns
+returns c =
+    subst (IsCanonicalForm (lang_tag_text c.args.tag)) (sym (c.in-Ok-new.ensures.same_text ∙ ap (λ bytes. bytes.items) c.in-Ok.ensures.ok))
+    c.in_ok-canonical_bytes.ensures

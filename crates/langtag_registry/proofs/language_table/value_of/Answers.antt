@@ -9,7 +9,7 @@ use Rattle.langtag_registry.proofs.language_table.value_of.Goals as goal
 
 pub returns-then-bytes-gt3 : goal.returns-then-bytes-gt3
 returns-then-bytes-gt3 c = λ list of.
-    value_of_long list c.as_bytes-bytes.result.now c.if-bytes-gt3.true of.short ∙ ap (value_for list) c.as_bytes-bytes.ensures
+    value_of_long 3 list c.as_bytes-bytes.result.now c.if-bytes-gt3.true of.short ∙ ap (value_for list) c.as_bytes-bytes.ensures
 
 pub letter_number-requires-clause-primary : goal.letter_number-requires-clause-primary
 letter_number-requires-clause-primary c = rw c.as_bytes-bytes.ensures c.args.language.in_class

@@ -1,0 +1,25 @@
+//! The canonical form of a tag, in the caller's buffer (RFC 5646 section 4.5).
+ghost use Rattle.std.specs.Prelude.{◌≡◌, ◌↔◌};
+ghost use Rattle.langtag_scan.specs.Tag.{IsTag};
+ghost use Rattle.langtag_registry.specs.Canonical.{IsCanonicalForm};
+ghost use Rattle.langtag_registry.specs.Writes.{Writes};
+
+use crate::range::tag_of;
+use langtag_registry::write_canonical;
+
+/// Writes the canonical form of a tag, and returns its length in bytes: `he` of `iw`, `yue` of `zh-yue`. What is put in has
+/// the registry's case, all else keeps its own. Where the buffer is too short it stays as it was, and the length says how
+/// much room there has to be.
+///
+/// 0 where the bytes are not a tag; the buffer then stays, too.
+#[unsafe(no_mangle)]
+pub extern "C" fn langtag_canonical(bytes: &[u8], buffer: &mut [u8]) -> usize
+    ensures canonical { IsTag bytes.now → Writes (IsCanonicalForm bytes.now) buffer.old buffer.new result }
+    ensures no_tag { result ≡ 0 ↔ (IsTag bytes.now → ⊥) }
+    ensures nothing { result ≡ 0 → buffer.new ≡ buffer.old }
+{
+    match tag_of(bytes) {
+        Some(tag) => write_canonical(tag, buffer),
+        None => 0,
+    }
+}

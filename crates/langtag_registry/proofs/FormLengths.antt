@@ -1,0 +1,93 @@
+-- How long the canonical form of a tag may be.
+use Rattle.std.proofs.Common.{◌≡◌, ℕ, ◌+◌, ◌*◌, ◌≤◌, true, List, [], ◌∷◌, ◌++◌, length, Option, None, Some, IfSome, IsTrue, inl, inr, refl, sym, ap, ◌∙◌, arith, length-append}
+use Rattle.std.specs.List.{AllByRecursion, flat_map, sum_by}
+use Rattle.std.proofs.lemmas.Bool.Decides.{nat_tests}
+use Rattle.std.proofs.lemmas.List.Sums.{sum_by-cons}
+use Rattle.langtag_scan.specs.Class.{is_region, is_variant}
+use Rattle.langtag_scan.specs.Record.{Extension, Record, IsWellFormed, extension_flat, private_part_flat, one_flat, spell}
+use Rattle.langtag_scan.proofs.Joins.{hyphenated, length-hyphenated, length-join}
+use Rattle.langtag_scan.proofs.SubtagFacts.{of_primary}
+use Rattle.langtag_registry.specs.Canonical.{canonical_record, canonical_primary, canonical_extended, canonical_region, canonical_variants, in_order}
+use Rattle.langtag_registry.proofs.Lengths.{region_short, variant_short}
+use Rattle.langtag_registry.proofs.OrderLaws.{in_order-weight}
+use Rattle.langtag_registry.proofs.ReplacedSubtags.{extlang_cases}
+use Rattle.langtag_registry.proofs.WellFormedForms.{canonical_record_well_formed}
+
+-- the bytes of some subtags, each with its hyphen
+abbrev size : List (List ℕ) → ℕ
+size ss = length (hyphenated ss)
+
+size-cons : (s : List ℕ) (ss : List (List ℕ)) → size (s ∷ ss) ≡ 1 + length s + size ss
+size-cons s ss = let all = length-append (45 ∷ s) (hyphenated ss) in omega (arith, all)
+
+extended_size : (es : List (List ℕ)) → size (canonical_extended es) ≤ size es
+extended_size [] = omega arith
+extended_size (e ∷ []) =
+    elim (extlang_cases e) [
+      | inl (new, found, known) ↦ rw known (omega arith)
+      | inr (none, other) ↦ rw other (omega arith)
+    ]
+extended_size (e ∷ f ∷ es) = omega arith
+
+region_size : (o : Option (List ℕ)) → IfSome o (λ s. IsTrue (is_region s)) → size (one_flat o) ≤ 5
+region_size None is = omega arith
+region_size (Some g) is = let short = region_short g is in let all = size-cons g [] in omega (arith, short, all)
+
+variant_long : (s : List ℕ) → is_variant s ≡ true → 4 ≤ length s
+unfolding is_variant
+variant_long s h = grind (arith, nat_tests)
+
+-- a variant has four to eight characters
+variants_size :
+    (vs ws : List (List ℕ)) → AllByRecursion (λ s. IsTrue (is_variant s)) vs → AllByRecursion (λ s. IsTrue (is_variant s)) ws → length ws ≡ length vs →
+    5 * size ws ≤ 9 * size vs
+variants_size [] [] old new same = omega arith
+variants_size [] (w ∷ ws) old new same = absurd (omega (arith, same))
+variants_size (v ∷ vs) [] old new same = absurd (omega (arith, same))
+variants_size (v ∷ vs) (w ∷ ws) old new same =
+    let later = variants_size vs ws old.1 new.1 (omega (arith, same)) in
+    let long = variant_long v old.0 in
+    let short = variant_short w new.0 in
+    let all = size-cons v vs in
+    let all_new = size-cons w ws in
+    omega (arith, later, long, short, all, all_new)
+
+variants_as_many : (vs : List (List ℕ)) → length (canonical_variants vs) ≡ length vs
+variants_as_many [] = refl
+variants_as_many (v ∷ vs) = let later = variants_as_many vs in omega (arith, later)
+
+abbrev extension_size : Extension → ℕ
+extension_size e = size (extension_flat e)
+
+size-extensions : (es : List Extension) → size (flat_map extension_flat es) ≡ sum_by extension_size es
+size-extensions [] = refl
+size-extensions (e ∷ es) =
+    length-hyphenated (extension_flat e) (flat_map extension_flat es) ∙ ap (λ n. extension_size e + n) (size-extensions es) ∙ sym (sum_by-cons extension_size e es)
+
+size-parts :
+    (a b c d e f : List (List ℕ)) → size (a ++ (b ++ (c ++ (d ++ (e ++ f))))) ≡ size a + size b + size c + size d + size e + size f
+size-parts a b c d e f =
+    let one = length-hyphenated a (b ++ (c ++ (d ++ (e ++ f)))) in
+    let two = length-hyphenated b (c ++ (d ++ (e ++ f))) in
+    let three = length-hyphenated c (d ++ (e ++ f)) in
+    let four = length-hyphenated d (e ++ f) in
+    let five = length-hyphenated e f in
+    omega (arith, one, two, three, four, five)
+
+-- variants grow most: by less than their own length
+pub form_length : (r : Record) → IsWellFormed r → 5 * length (spell (canonical_record r)) ≤ 9 * length (spell r) + 70
+unfolding canonical_record
+form_length r well =
+    let new = canonical_record_well_formed r well in
+    let old_all = length-join r.primary (r.extended ++ (one_flat r.script ++ (one_flat r.region ++ (r.variants ++ (flat_map extension_flat r.extensions ++ private_part_flat r.private_use))))) in
+    let new_all = length-join (canonical_primary r.primary r.extended) (canonical_extended r.extended ++ (one_flat r.script ++ (one_flat (canonical_region r.region) ++ (canonical_variants r.variants ++ (flat_map extension_flat (in_order r.extensions) ++ private_part_flat r.private_use))))) in
+    let old_parts = size-parts r.extended (one_flat r.script) (one_flat r.region) r.variants (flat_map extension_flat r.extensions) (private_part_flat r.private_use) in
+    let new_parts = size-parts (canonical_extended r.extended) (one_flat r.script) (one_flat (canonical_region r.region)) (canonical_variants r.variants) (flat_map extension_flat (in_order r.extensions)) (private_part_flat r.private_use) in
+    let primary = (of_primary (canonical_primary r.primary r.extended) new.primary).short in
+    let extended = extended_size r.extended in
+    let region = region_size (canonical_region r.region) new.region in
+    let variants = variants_size r.variants (canonical_variants r.variants) well.variants new.variants (variants_as_many r.variants) in
+    let old_extensions = size-extensions r.extensions in
+    let new_extensions = size-extensions (in_order r.extensions) in
+    let extensions = in_order-weight extension_size r.extensions in
+    omega (arith, old_all, new_all, old_parts, new_parts, primary, extended, region, variants, old_extensions, new_extensions, extensions)

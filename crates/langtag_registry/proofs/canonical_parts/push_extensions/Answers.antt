@@ -1,0 +1,50 @@
+use Rattle.std.proofs.Common.{◌≡◌, ◌≤◌, ◌∷◌, [], length, get_or, take, refl, sym, ap, ◌∙◌, arith, eqb-true}
+use Rattle.std.proofs.lemmas.Bool.Decides.{nat_tests}
+use Rattle.std.proofs.lemmas.List.{take_more, nil_from_length}
+use Rattle.langtag_extension.specs.Text.{extensions_text}
+use Rattle.langtag_registry.specs.Canonical.{singletons}
+use Rattle.langtag_registry.proofs.ExtensionOrder.{by_singletons, spellings, one_singleton, spelled_in_order, none_in_order, all_in_order}
+use Rattle.langtag_registry.proofs.Pushed.{pushes_none, pushes_same}
+use Rattle.langtag_registry.proofs.canonical_parts.push_extensions.Goals as goal
+
+pub returns-then-is_empty : goal.returns-then-is_empty
+returns-then-is_empty c = record {
+  same_buffer = refl;
+  pushed = λ es spells.
+      none_in_order es _ _ spells (sym c.as_str.ensures.same_text ∙ nil_from_length c.as_str.result.now (eqb-true _ _ (sym c.is_empty.ensures ∙ c.if-is_empty.true)));
+}
+
+pub returns-then-are_in_order : goal.returns-then-are_in_order
+returns-then-are_in_order c =
+    let test = sym c.is_empty.ensures ∙ c.if-is_empty.false in
+    let here = ap length c.as_str.ensures.same_text in
+    let some : 1 ≤ length (extensions_text c.args.extensions) = grind (arith, nat_tests, here, test) in
+    record {
+      same_buffer = c.push_subtag.ensures.same_buffer;
+      pushed = λ es spells.
+          all_in_order es _ _ _ spells some ((c.are_in_order.ensures es spells).0 c.if-are_in_order.true)
+          (pushes_same _ _ _ _ (ap (λ t. t ∷ []) c.as_bytes.ensures) c.push_subtag.ensures.pushed);
+    }
+
+pub loop-singleton-init : goal.loop-singleton-init
+loop-singleton-init c = record { same_buffer = refl; so_far = λ es spells. pushes_none _ }
+
+pub loop-singleton-preserved : goal.loop-singleton-preserved
+loop-singleton-preserved c =
+    let k = c.loop-singleton.singleton-index in
+    record {
+      same_buffer = c.push_extensions_of.ensures.same_buffer ∙ c.loop-singleton.invariant.same_buffer;
+      so_far = λ es spells.
+          one_singleton singletons k (get_or singletons k 0) es _ _ _ (take_more singletons k 0 c.loop-singleton-test.true)
+          (c.loop-singleton.invariant.so_far es spells) (c.push_extensions_of.ensures.pushed es spells);
+    }
+
+pub returns : goal.returns
+returns c =
+    let k = c.loop-singleton.singleton-index in
+    let all : k ≡ 35 = omega (arith, c.loop-singleton-test.false, c.loop-singleton.auto.singleton-index-end) in
+    record {
+      same_buffer = c.loop-singleton.invariant.same_buffer;
+      pushed = λ es spells.
+          spelled_in_order es _ _ (pushes_same _ _ _ _ (ap (λ j. spellings (by_singletons (take j singletons) es)) all) (c.loop-singleton.invariant.so_far es spells));
+    }

@@ -1,0 +1,17 @@
+use Rattle.std.proofs.Common.{◌≡◌, List}
+use Rattle.langtag_scan.specs.Record as model
+use Rattle.langtag_extension.specs.Spelling.{SpellsExtensions}
+use Rattle.langtag_extension.specs.Text.{extensions_text, extensions_left}
+use Rattle.langtag_registry.proofs.ExtensionOrder.{ArePushed}
+use Rattle.langtag_registry.proofs.canonical_parts.push_extensions_of.Given as goal
+
+-- those of the singleton before the rest were put
+abbrev pub invariant-loop-extension : goal.invariant-loop-extension
+invariant-loop-extension l = record {
+  can_next : (goal.iterator-loop-extension).can_next l.extension-iterator;
+  is_finite : (goal.iterator-loop-extension).is_finite l.extension-iterator;
+  same_buffer : l.out.buffer.ghost_name ≡ l.initial.out.buffer.ghost_name;
+  so_far :
+      (es : List model.Extension) → SpellsExtensions es (extensions_text l.fn.extensions) →
+      ArePushed l.fn.singleton es (extensions_left l.extension-iterator) l.initial.out l.out;
+}

@@ -1,0 +1,34 @@
+use Rattle.std.proofs.Common.{◌≡◌, ◌∷◌, [], unwrap_or, sym, ap, ◌∙◌}
+use Rattle.langtag_language.specs.Text.{language_text, primary_language_text, extended_lang_tag_text}
+use Rattle.langtag_registry.specs.Fields.{preferred_language}
+use Rattle.langtag_registry.proofs.CanonicalLanguages.{several_pushed, extlang_pushed, other_pushed}
+use Rattle.langtag_registry.proofs.CanonicalVariants.{view_of}
+use Rattle.langtag_registry.proofs.Pushed.{pushes_same}
+use Rattle.langtag_registry.proofs.canonical_parts.push_language.Goals as goal
+
+pub returns-in_default-next-clause-pushed : goal.returns-in_default-next-clause-pushed
+returns-in_default-next-clause-pushed c = λ primary extended spells.
+    several_pushed primary (extended_lang_tag_text c.in-Some.extlang) (extended_lang_tag_text c.in_default-next.field-0) extended _ (language_text c.args.language) _ _
+    (sym (c.extension_subtags-extlangs.ensures.members primary extended spells) ∙ c.in-Some.ensures.steps
+    ∙ ap (λ rest. extended_lang_tag_text c.in-Some.extlang ∷ rest) c.in_default-next.ensures.steps)
+    spells.joined (pushes_same _ _ _ _ (ap (λ t. t ∷ []) c.as_bytes-in_default-next.ensures) c.push_subtag-in_default-next.ensures.pushed)
+
+pub returns-then-is_extlang-clause-pushed : goal.returns-then-is_extlang-clause-pushed
+returns-then-is_extlang-clause-pushed c = λ primary extended spells.
+    let extlang = extended_lang_tag_text c.in-Some.extlang in
+    extlang_pushed primary extlang extended c.in_small_letters.result _ _
+    (sym (c.extension_subtags-extlangs.ensures.members primary extended spells) ∙ c.in-Some.ensures.steps ∙ ap (λ rest. extlang ∷ rest) c.in-None.ensures.steps.0)
+    (sym c.is_extlang.ensures ∙ c.if-is_extlang.true) c.in_small_letters.ensures c.push_subtag-then-is_extlang.ensures.pushed
+
+pub returns-clause-pushed : goal.returns-clause-pushed
+returns-clause-pushed c = λ primary extended spells.
+    let extlang = extended_lang_tag_text c.in-Some.extlang in
+    let here = c.primary-primary.ensures.member primary extended spells in
+    let value : c.as_bytes-2.result.now ≡ unwrap_or (preferred_language primary) primary =
+    c.as_bytes-2.ensures ∙ ap primary_language_text c.unwrap_or-2.ensures ∙ view_of primary_language_text c.preferred_language-2.result c.primary-primary.result
+    ∙ ap (λ o. unwrap_or o (primary_language_text c.primary-primary.result)) c.preferred_language-2.ensures
+    ∙ ap (λ p. unwrap_or (preferred_language p) p) here in
+    other_pushed primary c.as_bytes-2.result.now extlang extended _ _ _ spells.first
+    (sym (c.extension_subtags-extlangs.ensures.members primary extended spells) ∙ c.in-Some.ensures.steps ∙ ap (λ rest. extlang ∷ rest) c.in-None.ensures.steps.0)
+    (sym c.is_extlang.ensures ∙ c.if-is_extlang.false) value c.push_subtag-2.ensures.pushed
+    (pushes_same _ _ _ _ (ap (λ t. t ∷ []) c.as_bytes-3.ensures) c.push_subtag-3.ensures.pushed)

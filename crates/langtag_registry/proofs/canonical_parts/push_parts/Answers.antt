@@ -1,0 +1,18 @@
+use Rattle.std.proofs.Common.{sym, ap}
+use Rattle.langtag_scan.specs.Record.{one_flat}
+use Rattle.langtag_registry.specs.Canonical.{canonical_record, canonical_region, canonical_variants}
+use Rattle.langtag_registry.proofs.FaultLaws.{language_spelled, variants_listed}
+use Rattle.langtag_registry.proofs.Pushed.{some-flat, pushes_same, record_pushed}
+use Rattle.langtag_registry.proofs.WellFormedForms.{canonical_record_well_formed}
+use Rattle.langtag_registry.proofs.canonical_parts.push_parts.Goals as goal
+
+pub returns-clause-pushed : goal.returns-clause-pushed
+unfolding canonical_record
+returns-clause-pushed c = λ r spells.
+    record_pushed (canonical_record r) _ _ _ _ _ _ _ (some-flat (canonical_record r) (canonical_record_well_formed r spells.0))
+    (c.push_language.ensures.pushed r.primary r.extended (language_spelled r _ spells.0 (c.language.ensures r spells)))
+    (pushes_same _ _ _ _ (ap one_flat (c.script.ensures r spells)) c.push_script.ensures.pushed)
+    (pushes_same _ _ _ _ (ap (λ g. one_flat (canonical_region g)) (c.region.ensures r spells)) c.push_region.ensures.pushed)
+    (pushes_same _ _ _ _ (ap canonical_variants (variants_listed r _ spells.0 (c.variants.ensures r spells))) c.push_variants.ensures.pushed)
+    (c.push_extensions.ensures.pushed r.extensions (record { members = spells.0.extensions; joined = sym (c.extensions.ensures r spells) }))
+    (c.push_private_use.ensures.pushed r.private_use (c.private_use.ensures r spells))

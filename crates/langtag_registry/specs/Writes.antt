@@ -1,0 +1,11 @@
+-- A text that is written into a buffer, if there is room for it.
+use Rattle.std.specs.Prelude.{◌≡◌, ℕ, ◌<◌, ◌≤◌, List, ◌++◌, length, drop}
+
+-- some text that is so has this length, and stands at the start of the buffer where there is room, the rest being as it was;
+-- where there is none, all of it is
+pub record Writes (IsSo : List ℕ → Type 0) (before after : List ℕ) (len : ℕ) : Type 0 where
+  pub text : List ℕ
+  pub is_so : IsSo text
+  pub whole : len ≡ length text
+  pub written : len ≤ length before → after ≡ text ++ drop len before
+  pub untouched : length before < len → after ≡ before

@@ -1,0 +1,151 @@
+//! The canonical forms of a tag's parts (RFC 5646 section 4.5), put into an output in their order.
+ghost use Rattle.std.specs.Prelude.{◌≡◌, ◌∷◌, List, Option, map, filter};
+ghost use Rattle.std.specs.List.{flat_map};
+ghost use Rattle.std.specs.Option.{option_map};
+ghost use Rattle.langtag_scan.specs.Case.{fold_text};
+ghost use Rattle.langtag_scan.specs.Record as model;
+ghost use Rattle.langtag_scan.specs.Subtags.{join, subtags};
+ghost use Rattle.langtag_language.specs.Language.{EachLanguageSpelling};
+ghost use Rattle.langtag_language.specs.Text.{language_text, extended_lang_tag_text};
+ghost use Rattle.langtag_place.specs.Text.{script_text, region_text, variants_text};
+ghost use Rattle.langtag_extension.specs.Spelling.{SpellsExtensions, extension_spelling};
+ghost use Rattle.langtag_extension.specs.Text.{extensions_text};
+ghost use Rattle.langtag_private.specs.Text.{private_use_text};
+ghost use Rattle.langtag.specs.Repeat.{are_alike_bytes};
+ghost use Rattle.langtag.specs.Text.{normal_lang_tag_text};
+ghost use Rattle.langtag_registry.specs.Canonical.{canonical_record, canonical_primary, canonical_extended, canonical_region, canonical_variants, in_order};
+ghost use Rattle.langtag_registry.specs.Output.{Pushes, IsCounted};
+
+use crate::extension_order::{SINGLETONS, are_in_order, folded_singleton};
+use crate::language_fields::preferred_language;
+use crate::output::Output;
+use crate::preferred::{preferred_region, preferred_variant};
+use crate::subtags::is_extlang;
+use langtag::NormalLangTag;
+use langtag_extension::Extensions;
+use langtag_language::{ExtendedLangTag, Language};
+use langtag_place::{Region, Script, Variants};
+use langtag_private::PrivateUse;
+use langtag_scan::into_smallcase;
+
+/// Puts a tag with its parts in their canonical forms into a buffer, as far as it has room. Returns how long that tag is.
+pub(crate) fn put_canonical_parts(tag: NormalLangTag<'_>, buffer: &mut [u8]) -> usize
+    ensures { model.EachRecord (normal_lang_tag_text tag.entry) (λ r. IsCounted (model.spell (canonical_record r)) buffer.old buffer.new result) }
+{
+    let mut out = Output::new(buffer);
+    push_parts(&mut out, tag);
+    out.len()
+}
+
+fn push_parts(out: &mut Output<'_>, tag: NormalLangTag<'_>)
+    ensures same_buffer { out.new.buffer.ghost_name ≡ out.old.buffer.ghost_name }
+    ensures pushed { model.EachRecord (normal_lang_tag_text tag.entry) (λ r. Pushes (model.flat (canonical_record r)) out.old out.new) }
+{
+    push_language(out, tag.language());
+    push_script(out, tag.script());
+    push_region(out, tag.region());
+    push_variants(out, tag.variants());
+    push_extensions(out, tag.extensions());
+    push_private_use(out, tag.private_use());
+}
+
+/// An extended subtag that is registered takes the place of the language before it. Two stay, and so does what is before them.
+fn push_language(out: &mut Output<'_>, language: Language<'_>)
+    ensures same_buffer { out.new.buffer.ghost_name ≡ out.old.buffer.ghost_name }
+    ensures pushed { EachLanguageSpelling (language_text language.entry) (λ primary extended.
+        Pushes (canonical_primary primary extended ∷ canonical_extended extended) out.old out.new) }
+{
+    let primary = language.primary();
+    let mut extlangs = language.extension_subtags();
+    let Some(extlang) = extlangs.next() else {
+        return out.push_subtag(preferred_language(primary).unwrap_or(primary).as_bytes());
+    };
+    let None = extlangs.next() else {
+        return out.push_subtag(language.as_bytes());
+    };
+    if is_extlang(extlang) {
+        return out.push_subtag(&in_small_letters(extlang));
+    }
+    out.push_subtag(preferred_language(primary).unwrap_or(primary).as_bytes());
+    out.push_subtag(extlang.as_bytes());
+}
+
+/// Returns an extended subtag in small letters, as the registry has it.
+#[tactic(auto, unfolding(langtag_scan::specs::Case::fold_byte))]
+fn in_small_letters(extlang: ExtendedLangTag<'_>) -> [u8; 3]
+    ensures { result ≡ fold_text (extended_lang_tag_text extlang.entry) }
+{
+    let mut small = [0; 3];
+    small.copy_from_slice(extlang.as_bytes());
+    small.make_ascii_lowercase();
+    small
+}
+
+fn push_script(out: &mut Output<'_>, script: Option<Script<'_>>)
+    ensures same_buffer { out.new.buffer.ghost_name ≡ out.old.buffer.ghost_name }
+    ensures pushed { Pushes (model.one_flat (option_map script_text script.entry)) out.old out.new }
+{
+    if let Some(script) = script {
+        out.push_subtag(script.as_bytes());
+    }
+}
+
+fn push_region(out: &mut Output<'_>, region: Option<Region<'_>>)
+    ensures same_buffer { out.new.buffer.ghost_name ≡ out.old.buffer.ghost_name }
+    ensures pushed { Pushes (model.one_flat (canonical_region (option_map region_text region.entry))) out.old out.new }
+{
+    if let Some(region) = region {
+        out.push_subtag(preferred_region(region).unwrap_or(region).as_bytes());
+    }
+}
+
+/// Each is put after those before it, also where that makes a repeat.
+fn push_variants(out: &mut Output<'_>, variants: Variants<'_>)
+    ensures same_buffer { out.new.buffer.ghost_name ≡ out.old.buffer.ghost_name }
+    ensures pushed { Pushes (canonical_variants (subtags (variants_text variants.entry))) out.old out.new }
+{
+    for variant in variants.iter() {
+        out.push_subtag(preferred_variant(variant).unwrap_or(variant).as_bytes());
+    }
+}
+
+/// They are put in the order of their singletons. Those of one singleton, which no valid tag has, keep theirs.
+fn push_extensions(out: &mut Output<'_>, extensions: Extensions<'_>)
+    ensures same_buffer { out.new.buffer.ghost_name ≡ out.old.buffer.ghost_name }
+    ensures pushed { (es : List model.Extension) → SpellsExtensions es (extensions_text extensions.entry)
+        → Pushes (flat_map model.extension_flat (in_order es)) out.old out.new }
+{
+    if extensions.as_str().is_empty() {
+        return;
+    }
+    if are_in_order(extensions) {
+        return out.push_subtag(extensions.as_bytes());
+    }
+    for singleton in SINGLETONS {
+        push_extensions_of(out, extensions, singleton);
+    }
+}
+
+/// Those of one singleton are put, whatever its case.
+fn push_extensions_of(out: &mut Output<'_>, extensions: Extensions<'_>, singleton: u8)
+    ensures same_buffer { out.new.buffer.ghost_name ≡ out.old.buffer.ghost_name }
+    ensures pushed { (es : List model.Extension) → SpellsExtensions es (extensions_text extensions.entry)
+        → Pushes (map extension_spelling (filter (λ e. are_alike_bytes singleton e.singleton) es)) out.old out.new }
+{
+    for extension in extensions.iter() {
+        if folded_singleton(extension) != into_smallcase(singleton) {
+            continue;
+        }
+        out.push_subtag(extension.as_bytes());
+    }
+}
+
+fn push_private_use(out: &mut Output<'_>, private_use: Option<PrivateUse<'_>>)
+    ensures same_buffer { out.new.buffer.ghost_name ≡ out.old.buffer.ghost_name }
+    ensures pushed { (part : Option model.PrivateUse) → option_map private_use_text private_use.entry
+        ≡ option_map (λ p. join (model.private_use_flat p)) part → Pushes (model.private_part_flat part) out.old out.new }
+{
+    if let Some(private_use) = private_use {
+        out.push_subtag(private_use.as_bytes());
+    }
+}
