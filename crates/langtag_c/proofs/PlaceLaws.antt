@@ -1,21 +1,15 @@
 -- Where a byte first stands, and what a span of a span has.
-use Rattle.std.proofs.Common.{◌≡◌, ℕ, ◌+◌, ◌-◌, ◌<◌, ◌≤◌, ◌==◌, Bool, true, false, List, [], ◌∷◌, length, take, drop, get_or, refl, ap, ◌∙◌, arith}
-use Rattle.std.specs.List.{list_any, position_or_len}
-use Rattle.std.proofs.lemmas.List.{drop_more, drop_all, drop-drop, drop-take, take-take, length-take}
+use Rattle.std.proofs.Common.{◌≡◌, ℕ, ◌+◌, ◌-◌, ◌<◌, ◌≤◌, Bool, true, false, not, List, [], ◌∷◌, length, take, drop, refl, ap, ◌∙◌, arith}
+use Rattle.std.specs.List.{list_any, position, position_or_len}
+use Rattle.std.specs.Option.{unwrap_or}
+use Rattle.std.proofs.lemmas.Bool.Decides.{nat_tests}
+use Rattle.std.proofs.lemmas.List.{drop-drop, drop-take, take-take, length-take}
+use Rattle.std.proofs.lemmas.List.Sums.{prefix_len-le-length}
 use Rattle.langtag_c.specs.Spans.{end_of, span_text}
 use Rattle.langtag_c.specs.declared.span.Span.{Span}
 
-module _ (wanted : ℕ) (text : List ℕ) (index : ℕ) where
-  pub first_is_later :
-      index < length text → (get_or text index 0 == wanted) ≡ false →
-      position_or_len (λ byte. byte == wanted) (drop index text) ≡ 1 + position_or_len (λ byte. byte == wanted) (drop (index + 1) text)
-  first_is_later below other = ap (position_or_len (λ byte. byte == wanted)) (drop_more text index 0 below) ∙ rw other refl
-
-  pub first_is_here : index < length text → (get_or text index 0 == wanted) ≡ true → position_or_len (λ byte. byte == wanted) (drop index text) ≡ 0
-  first_is_here below here = ap (position_or_len (λ byte. byte == wanted)) (drop_more text index 0 below) ∙ rw here refl
-
-  pub first_is_past : length text ≤ index → position_or_len (λ byte. byte == wanted) (drop index text) ≡ 0
-  first_is_past past = ap (position_or_len (λ byte. byte == wanted)) (drop_all index text past)
+pub first_or_length : (p : ℕ → Bool) (text : List ℕ) → unwrap_or (position p text) (length text) ≡ position_or_len p text
+first_or_length p text = grind (arith, nat_tests, prefix_len-le-length (λ byte. not (p byte)) text)
 
 -- some element passes a test where the first one that does has a place
 pub any_at_first : (p : ℕ → Bool) (xs : List ℕ) → position_or_len p xs < length xs → list_any p xs ≡ true

@@ -1,13 +1,12 @@
 //! An element of an Accept-Language header: a language range and its weight (RFC 9110 section 12.5.4).
 ghost use Rattle.std.specs.Prelude.{◌≡◌, ◌≤◌, ◌==◌, IsTrue, Some, None, IfOk, IfErr, drop, length, reverse, take};
-ghost use Rattle.std.specs.List.{position_or_len};
+ghost use Rattle.std.specs.List.{position, position_or_len};
 ghost use Rattle.langtag_match.specs.AcceptLanguage as spec;
 ghost use Rattle.langtag_c.specs.Spans.{IsWithin, span_text};
 
 use crate::range::langtag_range_kind;
 use crate::span::Span;
-use crate::weight::weight_of;
-use langtag_match::ElementPart;
+use langtag_match::{ElementPart, weight_of};
 
 /// Where the range of an element stands in it, and its weight in thousandths.
 #[derive(Clone, Copy)]
@@ -52,16 +51,18 @@ fn weight_after(item: &[u8], semicolon: usize) -> Option<u32>
 }
 
 /// Returns where a byte first stands in a text, or the length where it does not.
-#[tactic(auto, using(crate::proofs::PlaceLaws::first_is_later, crate::proofs::PlaceLaws::first_is_here, crate::proofs::PlaceLaws::first_is_past))]
+#[tactic(auto, using(crate::proofs::PlaceLaws::first_or_length))]
 pub(crate) fn index_of(text: &[u8], wanted: u8) -> usize
     ensures within { result ≤ length text.now }
     ensures first { result ≡ position_or_len (λ byte. byte == wanted) text.now }
 {
-    let mut index = 0;
-    while index < text.len() && text[index] != wanted {
-        index += 1;
-    }
-    index
+    first_index(text, wanted).unwrap_or(text.len())
+}
+
+fn first_index(text: &[u8], wanted: u8) -> Option<usize>
+    ensures { result ≡ position (λ byte. byte == wanted) text.now }
+{
+    text.iter().position(|byte| *byte == wanted)
 }
 
 /// Returns where a text stands without the white space around it.

@@ -20,5 +20,4 @@ mod span;
 mod validity;
 mod viable;
 mod walk;
-mod weight;
 mod with_part;

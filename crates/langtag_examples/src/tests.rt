@@ -4,7 +4,7 @@ use std::alloc::{AllocError, Global};
 use std::process::Abort;
 
 /// Makes a call that takes memory, and again where it was refused some: at most one growth of a test is refused
-/// (`rt try --test --fail-alloc N`), so that a call that has none twice fails. Its `?` are for want of memory alone.
+/// (`rt try --test --fail-alloc N`), so that a call that has none twice fails. Each `?` is for a refusal of memory alone.
 macro_rules! with_memory {
     ($rt:expr, $call:expr) => {
         if $call.is_err() {

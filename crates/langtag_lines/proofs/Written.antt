@@ -22,22 +22,6 @@ Appends-written (Some x) None c page taken took gained = absurd took
 Appends-written (Some x) (Some y) None page taken took gained = absurd gained
 Appends-written (Some x) (Some y) (Some z) page taken took gained = gained ∙ took
 
--- what waits on the page stands where it is written out, if a call before that added nothing
-pub Appends-waited :
-    (a b c : Option (List ℕ)) (page later : List ℕ) → append_known b later ≡ append_known a page → Appends b c later → Appends a c page
-Appends-waited None b c page later same gained = tt
-Appends-waited (Some x) None c page later same gained = absurd cc
-Appends-waited (Some x) (Some y) None page later same gained = absurd gained
-Appends-waited (Some x) (Some y) (Some z) page later same gained =
-    let joined : y ++ later ≡ x ++ page = cc in
-    gained ∙ joined
-
--- an empty page adds nothing where it is written out
-pub Keeps-empty : (a b : Option (List ℕ)) (page : List ℕ) → page ≡ [] → Appends a b page → Keeps a b
-Keeps-empty None b page empty gained = tt
-Keeps-empty (Some x) None page empty gained = gained
-Keeps-empty (Some x) (Some y) page empty gained = gained ∙ ap (λ l. x ++ l) empty ∙ append-nil x
-
 -- ---- the line in hand, as bytes come
 
 pub rest_more : (input rest more : List ℕ) → rest ≡ rest_of input → rest_of (rest ++ more) ≡ rest_of (input ++ more)

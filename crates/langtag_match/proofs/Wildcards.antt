@@ -5,11 +5,6 @@ use Rattle.std.specs.Char.{to_ascii_lowercase}
 use Rattle.langtag_scan.specs.Case.{fold_byte, are_alike}
 use Rattle.langtag_match.specs.LookUp.{begins_with_wildcard, basic_form}
 
-pub basic_form-wildcard : (range : List ℕ) → begins_with_wildcard range ≡ true → basic_form range ≡ basic_form (drop 2 range)
-basic_form-wildcard [] is = absurd cc
-basic_form-wildcard (a ∷ []) is = absurd cc
-basic_form-wildcard (a ∷ b ∷ range) is = rw is refl
-
 basic_form-byte : (a : ℕ) (range : List ℕ) → begins_with_wildcard (a ∷ range) ≡ false → basic_form (a ∷ range) ≡ a ∷ basic_form range
 basic_form-byte a [] none = refl
 basic_form-byte a (b ∷ range) none = rw none refl

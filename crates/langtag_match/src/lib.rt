@@ -39,4 +39,5 @@ pub use fallbacks::Fallbacks;
 pub use filter::{Filtered, filter_basic, filter_extended};
 pub use language_range::{InvalidLanguageRange, LanguageRange, LanguageRangeBuf};
 pub use lookup::look_up;
+pub use weight::weight_of;
 pub use weighted_range::WeightedRange;

@@ -4,11 +4,12 @@ ghost use Rattle.std.specs.Int.{is_in_range};
 ghost use Rattle.std.specs.List.{list_all};
 ghost use Rattle.langtag_match.specs.Weight as spec;
 
-/// Returns the weight of a text as `q=0.5`, in thousandths.
-pub(crate) fn weight_of(text: &str) -> Option<u32>
+/// Returns the weight that a text writes, in thousandths (RFC 9110 section 12.4.2): 500 of `q=0.5` and of `Q=0.500`. [`None`]
+/// where it writes none: `q=2`, `q=.5`, `q=0.1234`, `q = 1`.
+pub fn weight_of(text: &[u8]) -> Option<u32>
     ensures { result ≡ spec.weight text.now }
 {
-    match text.as_bytes() {
+    match text {
         [b'q' | b'Q', b'=', qvalue @ ..] if is_qvalue(qvalue) => Some(thousandths(qvalue)),
         _ => None,
     }

@@ -45,7 +45,7 @@ fn parts(item: &str) -> (&str, Option<u32>)
     ensures weight { result.1 ≡ spec.weight_of item.now }
 {
     match item.split_once(';') {
-        Some((range, weight)) => (trimmed(range), weight_of(trimmed(weight))),
+        Some((range, weight)) => (trimmed(range), weight_of(trimmed(weight).as_bytes())),
         None => (trimmed(item), Some(1000)),
     }
 }
