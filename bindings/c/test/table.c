@@ -108,13 +108,24 @@ static void answer_tag(text *to, text a, text b) {
 }
 
 static void answer_validity(text *to, text a, text b) {
-    static const char *const names[] = {"none",   "valid",  "language", "extlang",          "second-extlang",
-                                        "script", "region", "variant",  "repeated-variant", "repeated-singleton"};
+    /* By the header's names, so that a number of another name is seen. */
+    static const char *const names[] = {
+        [LANGTAG_VALIDITY_NONE] = "none",
+        [LANGTAG_VALID] = "valid",
+        [LANGTAG_INVALID_LANGUAGE] = "language",
+        [LANGTAG_INVALID_EXTLANG] = "extlang",
+        [LANGTAG_INVALID_SECOND_EXTLANG] = "second-extlang",
+        [LANGTAG_INVALID_SCRIPT] = "script",
+        [LANGTAG_INVALID_REGION] = "region",
+        [LANGTAG_INVALID_VARIANT] = "variant",
+        [LANGTAG_INVALID_REPEATED_VARIANT] = "repeated-variant",
+        [LANGTAG_INVALID_REPEATED_SINGLETON] = "repeated-singleton",
+    };
     langtag_span invalid = {1, 2}; /* what is out is not read */
     uint32_t answer = langtag_validity(a.at, a.len, &invalid);
     (void)b;
     put_word(to, " ");
-    put_word(to, answer <= LANGTAG_INVALID_REPEATED_SINGLETON ? names[answer] : "unknown");
+    put_word(to, answer < sizeof names / sizeof *names ? names[answer] : "unknown");
     if (answer <= LANGTAG_VALID) {
         if (invalid.start != 0 || invalid.len != 0) put_word(to, " with a span");
         return;
@@ -305,7 +316,11 @@ static text take_field(const char **line) {
 }
 
 static uint32_t part_named(text name) {
-    static const char *const names[] = {"language", "script", "region", "variants", "extensions", "private_use"};
+    static const char *const names[] = {
+        [LANGTAG_PART_LANGUAGE] = "language",     [LANGTAG_PART_SCRIPT] = "script",
+        [LANGTAG_PART_REGION] = "region",         [LANGTAG_PART_VARIANTS] = "variants",
+        [LANGTAG_PART_EXTENSIONS] = "extensions", [LANGTAG_PART_PRIVATE_USE] = "private_use",
+    };
     uint32_t part = 0;
     while (part < 6 && (strlen(names[part]) != name.len || memcmp(names[part], name.at, name.len) != 0)) part++;
     return part;
