@@ -1,5 +1,7 @@
-use Rattle.std.proofs.Common.{◌≡◌, ◌∷◌, [], unwrap_or, sym, ap, ◌∙◌}
+use Rattle.std.proofs.Common.{◌≡◌, ◌∷◌, [], unwrap_or, refl, sym, ap, ◌∙◌}
 use Rattle.langtag_language.specs.Text.{language_text, primary_language_text, extended_lang_tag_text}
+use Rattle.langtag_scan.specs.Case.{fold_text}
+use Rattle.langtag_registry.specs.Canonical.{canonical_language}
 use Rattle.langtag_registry.specs.Fields.{preferred_language}
 use Rattle.langtag_registry.proofs.CanonicalLanguages.{several_pushed, extlang_pushed, other_pushed}
 use Rattle.langtag_registry.proofs.CanonicalVariants.{view_of}
@@ -16,9 +18,9 @@ returns-in_default-next-clause-pushed c = λ primary extended spells.
 pub returns-then-is_extlang-clause-pushed : goal.returns-then-is_extlang-clause-pushed
 returns-then-is_extlang-clause-pushed c = λ primary extended spells.
     let extlang = extended_lang_tag_text c.in-Some.extlang in
-    extlang_pushed primary extlang extended c.in_small_letters.result _ _
+    extlang_pushed primary extlang extended (canonical_language (fold_text extlang)) _ _
     (sym (c.extension_subtags-extlangs.ensures.members primary extended spells) ∙ c.in-Some.ensures.steps ∙ ap (λ rest. extlang ∷ rest) c.in-None.ensures.steps.0)
-    (sym c.is_extlang.ensures ∙ c.if-is_extlang.true) c.in_small_letters.ensures c.push_subtag-then-is_extlang.ensures.pushed
+    (sym c.is_extlang.ensures ∙ c.if-is_extlang.true) refl c.push_extlang.ensures.pushed
 
 pub returns-clause-pushed : goal.returns-clause-pushed
 returns-clause-pushed c = λ primary extended spells.
