@@ -1,14 +1,13 @@
 -- What was found of a tag holds of each text that is alike.
 use Rattle.std.proofs.Common.{◌∙◌, ℕ, List}
 use Rattle.std.specs.Str.{IsAscii, IsUtf8}
-use Rattle.std.proofs.lemmas.Str.{IsUtf8-from_ascii}
 use Rattle.langtag_scan.specs.Case.{Alike}
 use Rattle.langtag_scan.specs.Ends.{HasEnds}
 use Rattle.langtag_scan.specs.Found.{IsFoundOf}
 use Rattle.langtag_scan.specs.declared.ends.Ends.{Ends}
 use Rattle.langtag_scan.specs.declared.finding.Finding.{Finding}
 use Rattle.langtag_scan.specs.declared.finding.Finding.TheVariants.{Normal, PrivateUse, Irregular}
-use Rattle.langtag_scan.proofs.Ascii.{IsAscii-tag}
+use Rattle.langtag_scan.proofs.Ascii.{IsAscii-tag, IsUtf8-tag}
 use Rattle.langtag_scan.proofs.CaseLaw.{alike_parts, alike_private, alike_irregular}
 use Rattle.langtag_scan.proofs.FoundLaws.{found_had, tag_found}
 use Rattle.langtag.proofs.KeptFound.{found_kept}
@@ -29,7 +28,7 @@ ends_alike t u ends alike merely = found_alike t u (Normal ends) alike merely
 
 -- the bytes of a tag are UTF-8
 pub utf8_found : (text : List ℕ) (found : Finding) → IsFoundOf text found → IsUtf8 text
-utf8_found text found is = IsUtf8-from_ascii text (IsAscii-tag text (tag_found text found is))
+utf8_found text found is = IsUtf8-tag text (tag_found text found is)
 
 -- the text of a tag is ASCII
 pub ascii_found : (text : List ℕ) (found : Finding) → ∥ IsFoundOf text found ∥₁ → IsAscii text

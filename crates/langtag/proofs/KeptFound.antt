@@ -1,7 +1,7 @@
 -- What the finding that a tag keeps says of its text.
-use Rattle.std.proofs.Common.{◌≡◌, ◌↔◌, ℕ, ◌<◌, List, Some, None, IsTrue, sym, subst, arith}
+use Rattle.std.proofs.Common.{◌≡◌, ◌↔◌, ℕ, ◌<◌, List, Some, IsTrue, sym, subst, arith}
 use Rattle.langtag_scan.specs.Case.{Alike}
-use Rattle.langtag_scan.specs.Found.{IsFoundOf, is_normal, is_private_use, irregular_index, normal_ends}
+use Rattle.langtag_scan.specs.Found.{IsFoundOf, is_normal, is_private_use, irregular_index}
 use Rattle.langtag_scan.specs.Tag.{IsNormal, IsPrivate, IsIrregularAt, IsIrregular, IsTag}
 use Rattle.langtag_scan.specs.declared.finding.Finding.{Finding}
 use Rattle.langtag_scan.specs.declared.finding.Finding.TheVariants as found_at
@@ -43,12 +43,6 @@ irregular_found text found_at.PrivateUse index kept at = absurd cc
 irregular_found text (found_at.Irregular k) index kept at =
     let same : index ≡ k = cc in
     rw same (record { within = omega (arith, (irregular_fold text k kept).0); is = kept })
-
--- a tag that has no ends and no index is private
-pub private_otherwise : (text : List ℕ) (found : Finding) → IsFoundOf text found → None ≡ normal_ends found → None ≡ irregular_index found → IsPrivate text
-private_otherwise text (found_at.Normal ends) kept none other = absurd cc
-private_otherwise text found_at.PrivateUse kept none other = kept
-private_otherwise text (found_at.Irregular k) kept none other = absurd cc
 
 -- what is kept of a text holds of it
 pub kept_as : (text : List ℕ) (kept same : Recognised) → ∥ IsFoundOf text (finding_of kept) ∥₁ → kept ≡ same → IsFoundOf text (finding_of same)
