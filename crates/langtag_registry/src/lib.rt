@@ -1,6 +1,6 @@
 //! The IANA Language Subtag Registry over language tags: which subtags are registered, what the registry says of them
 //! (RFC 5646 section 3.1), which tags are valid (section 2.2.9), the canonical form of a tag (section 4.5), and which
-//! variants stand after none of their prefixes (section 3.1.8).
+//! variants and extended languages stand after none of their prefixes (section 3.1.8).
 //!
 //! ```
 //! use langtag::{LangTag, NormalLangTag};
@@ -45,13 +45,14 @@ mod validity;
 
 pub use canonical_form::{canonical, is_canonical, write_canonical};
 pub use deprecated::{
-    is_deprecated_extlang, is_deprecated_language, is_deprecated_region, is_deprecated_variant,
+    is_deprecated_extlang, is_deprecated_language, is_deprecated_region, is_deprecated_tag,
+    is_deprecated_variant,
 };
 pub use extlang_forms::extlang_form;
 pub use invalid_subtag::InvalidSubtag;
 pub use language_fields::{macrolanguage, preferred_language, suppress_script};
 pub use languages::is_language;
-pub use misplaced::misplaced_variant;
+pub use misplaced::{misplaced_extlang, misplaced_variant};
 pub use preferred::{preferred_region, preferred_tag, preferred_variant};
 pub use prefixes::extlang_prefix;
 pub use subtags::{is_extlang, is_region, is_script, is_variant};
