@@ -2,15 +2,13 @@
 use Rattle.std.proofs.Common.{◌≡◌, ℕ, ◌+◌, ◌-◌, ◌≤◌, true, false, cond, IsTrue, List, [], ◌∷◌, ◌++◌, length, take, None, Some, inl, refl, ap, sym, ◌∙◌, append_assoc, arith}
 use Rattle.std.specs.List.{AllByRecursion, flat_map, slice_range}
 use Rattle.std.proofs.lemmas.List.{append-nil}
-use Rattle.langtag_scan.specs.Case.{are_alike}
 use Rattle.langtag_scan.specs.Class.{is_variant}
 use Rattle.langtag_scan.specs.Ends.{ends_of}
 use Rattle.langtag_scan.specs.Record.{Record, IsWellFormed, Spells, spell, one_flat, extension_flat, private_part_flat}
 use Rattle.langtag_scan.specs.Subtags.{join}
 use Rattle.langtag_scan.specs.Tag.{IsTag, IsNormal}
 use Rattle.langtag_scan.proofs.Joins.{take-join, length-join-append}
-use Rattle.langtag_registry.specs.Fields.{extlang_prefix}
-use Rattle.langtag_registry.specs.Prefix.{fits_after, up_to, misplaced, misplaced_after, misplaced_extlang}
+use Rattle.langtag_registry.specs.Prefix.{fits_after, up_to, misplaced, misplaced_after}
 
 -- the subtags after the first up to some variants
 abbrev others : Record → List (List ℕ) → List (List ℕ)
@@ -134,23 +132,3 @@ pub take_spelled : (r : Record) (text cut : List ℕ) (end : ℕ) → spell r �
 take_spelled r text cut end spelled is =
     let size : end ≡ end - 0 = omega arith in
     ap (take end) spelled ∙ ap (λ n. take n text) size ∙ sym is
-
--- ---- an extended language
-
-pub extlang_absent : (primary : List ℕ) (extended : List (List ℕ)) → extended ≡ [] → None ≡ misplaced_extlang primary extended
-extlang_absent primary extended none = rw none refl
-
-pub extlang_free :
-    (primary extlang : List ℕ) (extended others : List (List ℕ)) → extended ≡ extlang ∷ others → extlang_prefix extlang ≡ None →
-    None ≡ misplaced_extlang primary extended
-extlang_free primary extlang extended others some none = rw (some, none) refl
-
-pub extlang_placed :
-    (primary extlang prefix : List ℕ) (extended others : List (List ℕ)) → extended ≡ extlang ∷ others → extlang_prefix extlang ≡ Some prefix →
-    are_alike prefix primary ≡ true → None ≡ misplaced_extlang primary extended
-extlang_placed primary extlang prefix extended others some is alike = rw (some, is, alike) refl
-
-pub extlang_elsewhere :
-    (primary extlang prefix : List ℕ) (extended others : List (List ℕ)) → extended ≡ extlang ∷ others → extlang_prefix extlang ≡ Some prefix →
-    are_alike prefix primary ≡ false → Some extlang ≡ misplaced_extlang primary extended
-extlang_elsewhere primary extlang prefix extended others some is other = rw (some, is, other) refl

@@ -6,7 +6,7 @@
 //! use langtag::{LangTag, NormalLangTag};
 //! use langtag_language::PrimaryLanguage;
 //! use langtag_registry::{
-//!     InvalidSubtag, canonical, is_language, misplaced_variant, preferred_language, validate,
+//!     InvalidSubtag, canonical, is_registered_language, misplaced_variant, preferred_language, validate,
 //! };
 //!
 //! validate(LangTag::new("de-CH-1996")?)?; // valid
@@ -14,7 +14,7 @@
 //!     Err(InvalidSubtag::Language(language)) => language.as_str(), // "qt"
 //!     ..
 //! }
-//! is_language(PrimaryLanguage::new("fr")?);        // true
+//! is_registered_language(PrimaryLanguage::new("fr")?);        // true
 //! preferred_language(PrimaryLanguage::new("iw")?); // Some(he)
 //! canonical(alloc, LangTag::new("iw-BU")?)?;       // he-MM
 //! misplaced_variant(NormalLangTag::new("fr-nedis")?); // Some(nedis): it goes with `sl`
@@ -51,10 +51,12 @@ pub use deprecated::{
 pub use extlang_forms::extlang_form;
 pub use invalid_subtag::InvalidSubtag;
 pub use language_fields::{macrolanguage, preferred_language, suppress_script};
-pub use languages::is_language;
+pub use languages::is_registered_language;
 pub use misplaced::{misplaced_extlang, misplaced_variant};
 pub use preferred::{preferred_region, preferred_tag, preferred_variant};
 pub use prefixes::extlang_prefix;
-pub use subtags::{is_extlang, is_region, is_script, is_variant};
+pub use subtags::{
+    is_registered_extlang, is_registered_region, is_registered_script, is_registered_variant,
+};
 pub use tables::FILE_DATE;
 pub use validity::validate;

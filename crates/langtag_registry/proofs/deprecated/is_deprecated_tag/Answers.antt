@@ -1,7 +1,6 @@
 use Rattle.std.proofs.Common.{ap, ◌∙◌}
 use Rattle.std.specs.List.{list_any}
 use Rattle.langtag_scan.specs.Case.{are_alike}
-use Rattle.langtag.specs.Text.{lang_tag_text}
 use Rattle.langtag_registry.specs.Fields.{is_deprecated_tag}
 use Rattle.langtag_registry.specs.Registered.{is_among}
 use Rattle.langtag_registry.specs.Subtags.{deprecated_tags}
