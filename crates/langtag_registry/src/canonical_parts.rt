@@ -20,7 +20,7 @@ use crate::extension_order::{SINGLETONS, are_in_order, folded_singleton};
 use crate::language_fields::preferred_language;
 use crate::output::Output;
 use crate::preferred::{preferred_region, preferred_variant};
-use crate::subtags::is_extlang;
+use crate::subtags::is_registered_extlang;
 use langtag::NormalLangTag;
 use langtag_extension::Extensions;
 use langtag_language::{ExtendedLangTag, Language, PrimaryLanguage};
@@ -64,7 +64,7 @@ fn push_language(out: &mut Output<'_>, language: Language<'_>)
     let None = extlangs.next() else {
         return out.push_subtag(language.as_bytes());
     };
-    if is_extlang(extlang) {
+    if is_registered_extlang(extlang) {
         return push_extlang(out, extlang);
     }
     out.push_subtag(preferred_language(primary).unwrap_or(primary).as_bytes());

@@ -1,4 +1,4 @@
-use Rattle.std.proofs.Common.{◌≡◌, ◌∷◌, [], Option, unwrap_or, sym, ap, ◌∙◌}
+use Rattle.std.proofs.Common.{◌∷◌, [], unwrap_or, sym, ap, ◌∙◌}
 use Rattle.std.specs.Option.{option_map}
 use Rattle.langtag_language.specs.Text.{primary_language_text, extended_lang_tag_text}
 use Rattle.langtag_scan.specs.Case.{fold_text}
