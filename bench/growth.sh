@@ -1,7 +1,7 @@
 #!/usr/bin/env bash
 # Bounds what no contract speaks of, by entries of langtag_bench in the code as it is built, and fails where
 # - a call of langtag, langtag_match or langtag_registry takes over 2.2 times the instructions for twice the text, from 20,000
-#   bytes on, and of some shapes from 100,000 bytes on, or 4.4 times where its square is documented (growth.c);
+#   bytes on, and of some shapes from 100,000 bytes on, or what growth.py allows where a square is documented (growth.c);
 # - it needs more stack than .ci/stack says, or over 1 MB for 2 MB of text;
 # - it refuses memory, or answers another text, at some length to 4,200 bytes, at a step to 2 MB, or for some region, script or
 #   short language (sweep.c);

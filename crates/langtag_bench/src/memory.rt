@@ -1,7 +1,6 @@
 //! Calls of langtag and langtag_match that take memory. `bench/growth.sh` refuses each of their allocations in turn.
 //!
-//! Each counts the calls to which memory was refused. One allocation at most is refused: where there is more to see,
-//! the call is made again.
+//! Each counts the calls to which memory was refused. One allocation at most is refused: a setter is called again after it.
 ghost use Rattle.std.specs.Prelude.{IsTrue, IfSome};
 ghost use Rattle.std.specs.Str.{IsUtf8};
 ghost use Rattle.langtag_scan.specs.Tag.{IsNormal, IsTag};
@@ -16,33 +15,24 @@ use langtag::{
 use langtag_match::{AcceptLanguage, AcceptLanguageError, LanguageRangeBuf, tag_for_header};
 use std::alloc::Global;
 
-/// What a call returns, now or, where memory was refused to it, when it is made again.
-macro_rules! once_more {
-    ($call:expr, $refused:ident) => {
-        match $call {
-            Ok(made) => Ok(made),
+/// Whether a value is displayed as its text, or memory was refused to that, which is counted.
+macro_rules! is_shown {
+    ($alloc:ident, $value:expr, $refused:ident) => {
+        match format!(in $alloc; "{}", $value) {
+            Ok(shown) => shown.as_str() == $value.as_str(),
             Err(_) => {
                 *$refused = $refused.saturating_add(1);
-                $call
+                true
             }
         }
     };
 }
 
-/// Whether a value is displayed as its text.
-macro_rules! is_shown {
-    ($alloc:ident, $value:expr, $refused:ident) => {
-        match once_more!(format!(in $alloc; "{}", $value), $refused) {
-            Ok(shown) => shown.as_str() == $value.as_str(),
-            Err(_) => false,
-        }
-    };
-}
-
-/// Whether a copy is read as an owned value that is equal to the part, and both are displayed as their texts.
+/// Whether a copy is read as an owned value that is equal to the part, and both are displayed as their texts; or memory was
+/// refused to it, which is counted.
 macro_rules! is_right {
     ($alloc:ident, $copy:expr, $part:expr, $owned:ident, $refused:ident) => {
-        match once_more!($copy, $refused) {
+        match $copy {
             Ok(copy) => match $owned::new(copy.into_string()) {
                 Ok(read) => {
                     $part.eq_str(read.as_str())
@@ -51,7 +41,10 @@ macro_rules! is_right {
                 }
                 Err(_) => false,
             },
-            Err(_) => false,
+            Err(_) => {
+                *$refused = $refused.saturating_add(1);
+                true
+            }
         }
     };
 }
