@@ -1,10 +1,10 @@
 //! Tests of the crate: messages, callers, and what the registry says of known subtags.
-use crate::{
+use langtag::{InvalidLangTag, LangTag, NormalLangTag};
+use langtag_language::{ExtendedLangTag, PrimaryLanguage};
+use langtag_registry::{
     FILE_DATE, InvalidSubtag, canonical, extlang_form, extlang_prefix, is_canonical, macrolanguage,
     misplaced_variant, preferred_language, preferred_tag, suppress_script, validate,
 };
-use langtag::{InvalidLangTag, LangTag, NormalLangTag};
-use langtag_language::{ExtendedLangTag, PrimaryLanguage};
 use std::alloc::{AllocError, Global};
 use std::collections::HashMap;
 use std::test::Fail;

@@ -1,6 +1,7 @@
 //! Which texts are ranges (RFC 4647 sections 2.1 and 2.2), and how one is shown.
 use super::check_answers;
-use crate::LanguageRange;
+use langtag_match::LanguageRange;
+use langtag_test_support::with_memory;
 use std::alloc::{AllocError, Global};
 
 /// What a range and its copy are shown as, or a refusal.

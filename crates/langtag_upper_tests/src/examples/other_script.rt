@@ -1,7 +1,9 @@
 //! Another script for the same tag.
-use super::{expect_text, expect_true, owned_tag};
-use crate::{Catalogue, find_in_scripts, replace_script};
+use super::owned_tag;
+use crate::support::{expect_same, expect_true};
 use langtag::{NormalLangTag, NormalLangTagBuf, Script, ScriptBuf};
+use langtag_examples::{Catalogue, find_in_scripts, replace_script};
+use langtag_test_support::with_memory;
 use std::alloc::{AllocError, Global};
 use std::process::Abort;
 
@@ -21,9 +23,9 @@ fn check_replaced(
 ) -> Result<(), AllocError> {
     let mut tag = owned(rt, alloc, text)?;
     let old = replace_script(&mut tag, alloc, Script::new("Latn").ok())?;
-    expect_text(rt, tag.as_str(), wanted, text);
+    expect_same(rt, tag.as_str(), wanted, text);
     replace_script(&mut tag, alloc, old.as_ref().map(ScriptBuf::as_script))?;
-    expect_text(rt, tag.as_str(), text, text);
+    expect_same(rt, tag.as_str(), text, text);
     Ok(())
 }
 

@@ -1,29 +1,9 @@
 //! Tests of the crate: the lists that RFC 4647 and RFC 9110 give, and what no clause says.
-use crate::LanguageRange;
+use crate::support::expect_same;
 use langtag::LangTag;
+use langtag_match::LanguageRange;
 use std::alloc::{AllocError, Global};
-use std::fmt::Debug;
 use std::process::Abort;
-
-/// Makes a call that takes memory, and again where it was refused some: at most one growth of a test is refused
-/// (`rt try --test --fail-alloc N`), so that a call that has none twice fails. Each `?` is for a refusal of memory alone.
-macro_rules! with_memory {
-    ($rt:expr, $call:expr) => {
-        if $call.is_err() {
-            $crate::tests::expect_true(&$rt, $call.is_ok(), "memory was refused twice")
-        }
-    };
-}
-
-/// Fails the test where a condition does not hold of a case. A call: an `assert!` that is written out is proved anew.
-fn expect_true(rt: &impl Abort, holds: bool, case: &str) {
-    assert!(rt; holds, "of {case:?}");
-}
-
-/// Fails the test where a case has another answer than the one wanted. Generic, so that it is proved once.
-fn expect_same<T: Debug + PartialEq + Drop>(rt: &impl Abort, found: T, wanted: T, case: &str) {
-    assert_eq!(rt; found, wanted, "of {case:?}");
-}
 
 mod accept_language;
 mod fallbacks;

@@ -1,6 +1,7 @@
 //! The longest tag that another begins with.
-use super::{expect_text, tag};
-use crate::longest_prefix;
+use super::tag;
+use crate::support::expect_same;
+use langtag_examples::longest_prefix;
 
 const CASES: [(&str, &str); 7] = [
     ("zh-Hant-TW", "zh-hanT"),
@@ -26,6 +27,6 @@ fn prefixes_are_of_whole_subtags(rt: HostRuntime) {
             Some(tag) => tag.as_str(),
             None => "none",
         };
-        expect_text(&rt, found, wanted, text);
+        expect_same(&rt, found, wanted, text);
     }
 }

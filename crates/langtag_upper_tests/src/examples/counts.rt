@@ -1,6 +1,8 @@
 //! Counts by tag: `put` wants memory, and has it for each tag and each count.
-use super::{expect_true, owned_tag};
-use crate::Counts;
+use super::owned_tag;
+use crate::support::expect_true;
+use langtag_examples::Counts;
+use langtag_test_support::with_memory;
 use std::alloc::{AllocError, Global};
 use std::process::Abort;
 

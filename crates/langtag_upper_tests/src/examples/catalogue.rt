@@ -1,6 +1,8 @@
 //! The catalogue: `put` and `find` want memory, and have it for each tag.
-use super::{expect_true, owned_tag, private_text};
-use crate::Catalogue;
+use super::{owned_tag, private_text};
+use crate::support::expect_true;
+use langtag_examples::Catalogue;
+use langtag_test_support::with_memory;
 use std::alloc::{AllocError, Global};
 use std::process::Abort;
 

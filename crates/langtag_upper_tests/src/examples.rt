@@ -1,27 +1,8 @@
 //! Tests of the examples: what no clause says.
+use crate::support::expect_same;
 use langtag::{LangTag, LangTagBuf};
 use std::alloc::{AllocError, Global};
 use std::process::Abort;
-
-/// Makes a call that takes memory, and again where it was refused some: at most one growth of a test is refused
-/// (`rt try --test --fail-alloc N`), so that a call that has none twice fails. Each `?` is for a refusal of memory alone.
-macro_rules! with_memory {
-    ($rt:expr, $call:expr) => {
-        if $call.is_err() {
-            $crate::tests::expect_true(&$rt, $call.is_ok(), "memory was refused twice")
-        }
-    };
-}
-
-/// Fails the test where a condition does not hold of a case. A call: an `assert!` that is written out is proved anew.
-fn expect_true(rt: &impl Abort, holds: bool, case: &str) {
-    assert!(rt; holds, "of {case:?}");
-}
-
-/// Fails the test where a case has another answer than the one wanted.
-fn expect_text(rt: &impl Abort, found: &str, wanted: &str, case: &str) {
-    assert_eq!(rt; found, wanted, "of {case:?}");
-}
 
 mod broken;
 mod catalogue;
@@ -44,7 +25,7 @@ fn check_answers(
     requires { IsAlwaysCallable answer }
 {
     for (text, wanted) in rows {
-        expect_text(rt, answer(alloc, *text)?.as_str(), *wanted, *text);
+        expect_same(rt, answer(alloc, *text)?.as_str(), *wanted, *text);
     }
     Ok(())
 }

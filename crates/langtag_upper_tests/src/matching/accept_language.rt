@@ -1,6 +1,7 @@
 //! The Accept-Language header (RFC 9110 section 12.5.4).
 use super::{check_answers, tags_of};
-use crate::{AcceptLanguage, AcceptLanguageError, WeightedRange, tag_for_header};
+use langtag_match::{AcceptLanguage, AcceptLanguageError, WeightedRange, tag_for_header};
+use langtag_test_support::with_memory;
 use std::alloc::{AllocError, Global};
 
 /// The ranges and their weights, as text.

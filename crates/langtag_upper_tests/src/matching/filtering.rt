@@ -1,6 +1,7 @@
 //! Filtering of tags by ranges (RFC 4647 section 3.3): the examples of the section, and what it says beside them.
 use super::{check_answers, ranges_of, tags_of};
-use crate::{Filtered, filter_basic, filter_extended};
+use langtag_match::{Filtered, filter_basic, filter_extended};
+use langtag_test_support::with_memory;
 use std::alloc::{AllocError, Global};
 
 /// The texts of the tags found, with a space after each.

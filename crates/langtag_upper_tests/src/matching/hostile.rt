@@ -1,7 +1,8 @@
 //! Ranges as an attacker writes them: each is answered, in time that grows with its length, but for a filter.
-use super::expect_same;
 use super::filtering::extended;
 use super::look_up::chosen;
+use crate::support::expect_same;
+use langtag_test_support::with_memory;
 use std::alloc::{AllocError, Global};
 use std::process::Abort;
 

@@ -1,6 +1,7 @@
 //! The look-up of RFC 4647 section 3.4.
 use super::{check_answers, ranges_of, tags_of};
-use crate::look_up;
+use langtag_match::look_up;
+use langtag_test_support::with_memory;
 use std::alloc::{AllocError, Global};
 
 /// Looks up the ranges before the `|` among the tags behind it, of which the first is also the default.

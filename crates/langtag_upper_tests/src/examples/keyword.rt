@@ -1,7 +1,8 @@
 //! The keywords of RFC 6067.
 use super::check_answers;
-use crate::types_of;
 use langtag::LangTag;
+use langtag_examples::types_of;
+use langtag_test_support::with_memory;
 use std::alloc::{AllocError, Global};
 
 /// The types of the key before the `|` in the tag behind it, with a space after each.

@@ -1,6 +1,7 @@
 //! Where texts break, and how a break is told.
 use super::check_answers;
-use crate::tag_or_break;
+use langtag_examples::tag_or_break;
+use langtag_test_support::with_memory;
 use std::alloc::{AllocError, Global};
 
 fn told(alloc: Global, text: &str) -> Result<String, AllocError> {

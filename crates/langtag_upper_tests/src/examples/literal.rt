@@ -1,6 +1,8 @@
 //! Literals of RDF.
-use super::{expect_true, tag};
-use crate::Literal;
+use super::tag;
+use crate::support::expect_true;
+use langtag_examples::Literal;
+use langtag_test_support::with_memory;
 use std::alloc::{AllocError, Global};
 use std::collections::HashSet;
 use std::hash::{DefaultHasher, Hash, Hasher};

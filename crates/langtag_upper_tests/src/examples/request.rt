@@ -1,7 +1,9 @@
 //! The language to answer a request in.
 use super::header_rows::ROWS;
-use super::{expect_text, tag};
-use crate::tag_for_request;
+use super::tag;
+use crate::support::expect_same;
+use langtag_examples::tag_for_request;
+use langtag_test_support::with_memory;
 use std::alloc::{AllocError, Global};
 use std::process::Abort;
 
@@ -13,7 +15,7 @@ fn check_request(
 ) -> Result<(), AllocError> {
     let (english, german) = (tag(rt, "en"), tag(rt, "de-CH"));
     let chosen = tag_for_request(alloc, header, &[english, german], english)?;
-    expect_text(rt, chosen.as_str(), wanted, "request");
+    expect_same(rt, chosen.as_str(), wanted, "request");
     Ok(())
 }
 
@@ -63,7 +65,7 @@ fn check_row(
     }
     let default = tag(rt, "x-default");
     let chosen = tag_for_request(alloc, Some(header), known.as_slice(), default)?;
-    expect_text(rt, chosen.as_str(), wanted.unwrap_or("x-default"), header);
+    expect_same(rt, chosen.as_str(), wanted.unwrap_or("x-default"), header);
     Ok(())
 }
 

@@ -1,6 +1,7 @@
 //! Right to left, by script and else by language.
-use super::{expect_true, tag};
-use crate::{RIGHT_TO_LEFT_LANGUAGES, RIGHT_TO_LEFT_SCRIPTS, is_right_to_left};
+use super::tag;
+use crate::support::expect_true;
+use langtag_examples::{RIGHT_TO_LEFT_LANGUAGES, RIGHT_TO_LEFT_SCRIPTS, is_right_to_left};
 
 const CASES: [(&str, bool); 11] = [
     ("ar-EG", true),

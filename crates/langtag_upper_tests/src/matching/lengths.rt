@@ -1,7 +1,9 @@
 //! Ranges, headers and lists of each length: each has the memory that it needs, and a range is written in one piece.
 use super::accept_language::chosen;
-use super::{expect_same, range};
-use crate::{AcceptLanguage, AcceptLanguageError};
+use super::range;
+use crate::support::expect_same;
+use langtag_match::{AcceptLanguage, AcceptLanguageError};
+use langtag_test_support::with_memory;
 use std::alloc::{AllocError, Global};
 use std::fmt;
 use std::fmt::Write;

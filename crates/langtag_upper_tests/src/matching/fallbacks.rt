@@ -1,5 +1,6 @@
 //! The fallbacks of a range (RFC 4647 section 3.4).
 use super::{check_answers, ranges_of};
+use langtag_test_support::with_memory;
 use std::alloc::{AllocError, Global};
 
 /// The fallbacks of ranges, with a space after each.
