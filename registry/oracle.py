@@ -86,10 +86,10 @@ class Registry:
 
     def replaced(self, found):
         primary, *extended = found["language"].split("-")
-        if len(extended) < 2:
-            primary = self.field("language", "Preferred-Value", primary) or primary
         if len(extended) == 1 and self.has("extlang", extended[0]):
             primary, extended = self.field("extlang", "Preferred-Value", extended[0]), []
+        if len(extended) < 2:
+            primary = self.field("language", "Preferred-Value", primary) or primary
         subtags = [primary, *extended]
         subtags += [self.field(kind, "Preferred-Value", found[kind]) or found[kind] for kind in ("script", "region") if found[kind]]
         subtags += [self.field("variant", "Preferred-Value", variant) or variant for variant in found["variants"].split("-")[1:]]
