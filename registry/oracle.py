@@ -8,6 +8,7 @@ usage: oracle.py REGISTRY [COLUMN..] < LINES   prints for each line the columns:
        oracle.py REGISTRY --make COUNT SEED    prints that many texts: tags of the registry's subtags, mutants, and random ones
        oracle.py REGISTRY --each               prints each registered text, and all short languages and regions
 """
+import pathlib
 import random
 import re
 import sys
@@ -22,7 +23,7 @@ COLUMNS = ["validity", "whole", "parts", "canonical", "is-canonical", "extlang-f
 class Registry:
     def __init__(self, path):
         self.kinds, self.fields, self.ranges, self.names, self.prefixes = {}, {}, [], {}, {}
-        for block in open(path, encoding="utf-8").read().split("%%\n"):
+        for block in pathlib.Path(path).read_text(encoding="utf-8").split("%%\n"):
             fields = {}
             for line in block.splitlines():
                 name, _, value = line.partition(": ")
@@ -40,15 +41,22 @@ class Registry:
                 self.names.setdefault(kind, []).append(name)
             self.fields[kind, name.lower()] = fields
 
-    def has(self, kind, text):
+    def record(self, kind, text):
+        """The fields of the record for a text, or of that of the range in which it lies; none where there is no such record."""
         text = text.lower()
-        return text in self.kinds[kind] or any(k == kind and len(text) == len(low) and low <= text <= high for k, low, high in self.ranges)
+        for of, low, high in self.ranges:
+            if of == kind and len(text) == len(low) and low <= text <= high:
+                return self.fields[kind, low + ".." + high]
+        return self.fields.get((kind, text), {})
+
+    def has(self, kind, text):
+        return bool(self.record(kind, text))
 
     def whole(self, text):
         return self.field("grandfathered", "Preferred-Value", text) or self.field("redundant", "Preferred-Value", text)
 
     def field(self, kind, name, text):
-        return self.fields.get((kind, text.lower()), {}).get(name)
+        return self.record(kind, text).get(name)
 
     def answer(self, text, columns):
         grandfathered = text.lower() in self.kinds["grandfathered"]
