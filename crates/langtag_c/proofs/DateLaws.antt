@@ -24,18 +24,20 @@ pub continued_grows : (number : ℕ) (digits : List ℕ) → number ≤ fold (λ
 continued_grows number [] = omega arith
 continued_grows number (d ∷ digits) = let later = continued_grows (number * 10 + (d - 48)) digits in omega (arith, later)
 
--- by computation
-date_fits : ltb (date_number FILE_DATE.now) 4294967296 ≡ true
-unfolding is_digit
-date_fits = refl
-
--- a digit more still fits
+-- a digit more still fits where the whole number does
 pub digit_fits :
-    (number : ℕ) (text : List ℕ) (i : ℕ) → continued number (drop i text) ≡ date_number FILE_DATE.now → i < length text →
-    is_digit (get_or text i 0) ≡ true → number * 10 + (get_or text i 0 - 48) < 4294967296
-digit_fits number text i rest below digit =
-    let next = number * 10 + (get_or text i 0 - 48) in
-    let whole : continued next (drop (i + 1) text) ≡ date_number FILE_DATE.now = sym (continued_digit number text i below digit) ∙ rest in
-    let grows = continued_grows next (filter is_digit (drop (i + 1) text)) in
-    let fits = ltb-true (date_number FILE_DATE.now) 4294967296 date_fits in
+    (number : ℕ) (date : List ℕ) (i : ℕ) → date_number date < 4294967296 → continued number (drop i date) ≡ date_number date → i < length date →
+    is_digit (get_or date i 0) ≡ true → number * 10 + (get_or date i 0 - 48) < 4294967296
+digit_fits number date i fits rest below digit =
+    let next = number * 10 + (get_or date i 0 - 48) in
+    let whole : continued next (drop (i + 1) date) ≡ date_number date = sym (continued_digit number date i below digit) ∙ rest in
+    let grows = continued_grows next (filter is_digit (drop (i + 1) date)) in
     omega (arith, whole, grows, fits)
+
+-- the date of the registry does: by computation
+date_digits : ltb (date_number FILE_DATE.now) 4294967296 ≡ true
+unfolding is_digit
+date_digits = refl
+
+pub date_fits : date_number FILE_DATE.now < 4294967296
+date_fits = ltb-true (date_number FILE_DATE.now) 4294967296 date_digits
