@@ -19,7 +19,7 @@ import sys
 
 import lists as second_reading
 from premises import broken
-from records import Refused, Registry
+from records import TAG_TYPES, Refused, Registry
 
 ROOT = pathlib.Path(__file__).resolve().parent.parent
 REGISTRY = "registry/language-subtag-registry"
@@ -43,7 +43,7 @@ LANGUAGE_FIELDS = [
 PREFERRED = [
     (["region"], "region_preferred", "REGION", "regions"),
     (["variant"], "variant_preferred", "VARIANT", "variants"),
-    (["grandfathered", "redundant"], "tag_preferred", "TAG", "whole tags"),
+    (TAG_TYPES, "tag_preferred", "TAG", "whole tags"),
 ]
 
 
@@ -69,6 +69,10 @@ def subtags(registry, kind, field=None):
 
 def values(registry, kind, field):
     return [(text, value) for text in subtags(registry, kind, field) for value in registry.get(kind, text).values(field)]
+
+
+def deprecated_tags(registry):
+    return [text for kind in TAG_TYPES for text in subtags(registry, kind, "Deprecated")]
 
 
 def in_lines(items, width=116):
@@ -122,6 +126,7 @@ def tables(registry):
         pairs = [pair for kind in kinds for pair in values(registry, kind, "Preferred-Value")]
         out.append(table(f"PREFERRED_{name}S", f"The {what} with a Preferred-Value, each before that value.", "(&str, &str)",
                          [f'("{text}", "{value}")' for text, value in pairs]))
+    out.append(table("DEPRECATED_TAGS", "The deprecated grandfathered and redundant tags.", "&str", quoted(deprecated_tags(registry))))
     prefixes = values(registry, "variant", "Prefix")
     out.append(table("VARIANT_PREFIXES", "The variants with a Prefix: their lowercase bytes as the digits of a number, each before one of its prefixes.", "(u64, &str)",
                      [f'(0x{folded_number(text):016X}, "{prefix}")' for text, prefix in prefixes]))
@@ -152,6 +157,7 @@ def lists(registry):
         out.append(text_list(f"{kind}_subtags", f"the Subtag fields of the records of Type {kind}, ranges written out", subtags(registry, kind)))
     for kind in DEPRECATED:
         out.append(text_list(f"deprecated_{kind}s", f"those of the records of Type {kind} with a Deprecated field", subtags(registry, kind, "Deprecated")))
+    out.append(text_list("deprecated_tags", "the Tag fields of the records of Type grandfathered and redundant with a Deprecated field", deprecated_tags(registry)))
     for kind, field, name, _ in LANGUAGE_FIELDS:
         out.append(entry_list(name, f"the records of Type {kind} with a {field} field: each Subtag before that value", values(registry, kind, field)))
     for kinds, name, _, _ in PREFERRED:
@@ -192,7 +198,7 @@ def lost(root, registry):
             if not registry.get(kind, text):
                 yield f"{kind} {text}: registered before, and not in this registry"
     for text in standing.get("tag_preferred", [])[::2]:
-        if not any(registry.get(kind, text) for kind in ("grandfathered", "redundant")):
+        if not any(registry.get(kind, text) for kind in TAG_TYPES):
             yield f"{text}: a whole tag before, and not in this registry"
 
 

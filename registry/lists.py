@@ -40,6 +40,7 @@ def wanted(registry: Registry) -> dict[str, list]:
     lists: dict[str, list] = {f"{kind}_subtags": texts_of(registry, kind) for kind in ("language", "extlang", "script", "region", "variant")}
     for kind in ("language", "extlang", "region", "variant"):
         lists[f"deprecated_{kind}s"] = texts_of(registry, kind, "Deprecated")
+    lists["deprecated_tags"] = texts_of(registry, "grandfathered", "Deprecated") + texts_of(registry, "redundant", "Deprecated")
     for name, (kinds, field) in FIELDS.items():
         lists[name] = [(text, registry.field(kind, field, text)) for kind in kinds for text in texts_of(registry, kind, field)]
     for kind in ("extlang", "variant"):

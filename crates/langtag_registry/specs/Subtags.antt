@@ -72,6 +72,10 @@ deprecated_regions = words (codes "AN BU CS DD FX NT SU TP YD YU ZR")
 unfoldable pub deprecated_variants : List (List ℕ)
 deprecated_variants = words (codes "heploc arevela arevmda laukika vaidika")
 
+-- the Tag fields of the records of Type grandfathered and redundant with a Deprecated field
+unfoldable pub deprecated_tags : List (List ℕ)
+deprecated_tags = words (codes "i-ami i-bnn i-hak i-lux i-pwn i-tao i-tay i-tsu no-bok no-nyn zh-min i-navajo zh-guoyu zh-hakka zh-xiang en-GB-oed i-klingon sgn-BE-FR sgn-BE-NL sgn-CH-DE art-lojban i-enochian zh-min-nan cel-gaulish sgn-BR sgn-CO sgn-DE sgn-DK sgn-ES sgn-FR sgn-GB sgn-GR sgn-IE sgn-IT sgn-JP sgn-MX sgn-NI sgn-NL sgn-NO sgn-PT sgn-SE sgn-US sgn-ZA zh-cmn zh-gan zh-wuu zh-yue zh-cmn-Hans zh-cmn-Hant")
+
 -- the records of Type language with a Preferred-Value field: each Subtag before that value
 unfoldable pub language_preferred : List Entry
 language_preferred = entries (words (codes "in id iw he ji yi jw jv mo ro aam aas adp dz ajp apc ajt aeb asd snz aue ktz ayx nun bgm bcg bic bir bjd drl blg iba ccq rki cjr mom cka cmr cmk xch coy pij cqu quh dek sqm dit dif drh khk drr kzk drw prs gav dev gfx vaj ggn gvr gli kzk gti nyc guv duz hrr jal ibi opa ilw gal jeg oyb kgc tdf kgh kml kgm plu koj kwv krm bmf ktr dtp kvs gdj kwq yam kxe tvd kxl kru kzj dtp kzt dtp lak ksp lii raq llo ngt lmm rmx meg cir mst mry mwj vaj myd aog myt mry nad xny ncp kdz nns nbr nnx ngv nom cbr nte eko nts pij nxu bpp oun vaj pat kxr pcr adx pmc huw pmk crr pmu phr ppa bfy ppr lcq prp gu pry prt puz pub sca hle skk oyb smd kmb snb iba szd umi tdu dtp thc tpo thw ola thx oyb tie ras tkk twm tlw weo tmk tdg tmp tyj tne kak tnf prs tpw tpn tsf taj uok ema xba cax xia acn xkh waw xrq dmw xss zko ybd rki yma lrr ymt mtm yos zom yuu yug zir scv zkb kjh"))

@@ -455,6 +455,16 @@ pub(crate) static PREFERRED_TAGS: [(&str, &str); 46] = [
     ("zh-cmn-Hant", "cmn-Hant"),
 ];
 
+/// The deprecated grandfathered and redundant tags.
+#[rattlefmt::skip]
+pub(crate) static DEPRECATED_TAGS: [&str; 49] = [
+    "i-ami", "i-bnn", "i-hak", "i-lux", "i-pwn", "i-tao", "i-tay", "i-tsu", "no-bok", "no-nyn", "zh-min",
+    "i-navajo", "zh-guoyu", "zh-hakka", "zh-xiang", "en-GB-oed", "i-klingon", "sgn-BE-FR", "sgn-BE-NL", "sgn-CH-DE",
+    "art-lojban", "i-enochian", "zh-min-nan", "cel-gaulish", "sgn-BR", "sgn-CO", "sgn-DE", "sgn-DK", "sgn-ES",
+    "sgn-FR", "sgn-GB", "sgn-GR", "sgn-IE", "sgn-IT", "sgn-JP", "sgn-MX", "sgn-NI", "sgn-NL", "sgn-NO", "sgn-PT",
+    "sgn-SE", "sgn-US", "sgn-ZA", "zh-cmn", "zh-gan", "zh-wuu", "zh-yue", "zh-cmn-Hans", "zh-cmn-Hant",
+];
+
 /// The variants with a Prefix: their lowercase bytes as the digits of a number, each before one of its prefixes.
 #[rattlefmt::skip]
 pub(crate) static VARIANT_PREFIXES: [(u64, &str); 172] = [
