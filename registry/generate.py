@@ -197,7 +197,7 @@ def lost(root, registry):
         for text in standing.get(f"{kind}_subtags", []):
             if not registry.get(kind, text):
                 yield f"{kind} {text}: registered before, and not in this registry"
-    for text in standing.get("tag_preferred", [])[::2]:
+    for text in standing.get("tag_preferred", [])[::2] + standing.get("deprecated_tags", []):
         if not any(registry.get(kind, text) for kind in TAG_TYPES):
             yield f"{text}: a whole tag before, and not in this registry"
 

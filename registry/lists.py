@@ -3,9 +3,8 @@ from __future__ import annotations
 
 import re
 from collections.abc import Iterator
-from itertools import product
+from functools import reduce
 from pathlib import Path
-from string import ascii_lowercase
 
 from oracle import Registry
 
@@ -26,13 +25,17 @@ def words(page: str) -> dict[str, list[str]]:
     return {name: " ".join(re.findall(r'codes "([^"]*)"', body)).split() for name, body in lists if 'codes "' in body}
 
 
+def between(first: str, last: str) -> list[str]:
+    """The texts of small letters from one to another of as many, in the order of the alphabet."""
+    low, high = (reduce(lambda number, letter: number * 26 + ord(letter) - 97, text, 0) for text in (first, last))
+    return ["".join(chr(97 + number // 26**place % 26) for place in reversed(range(len(first)))) for number in range(low, high + 1)]
+
+
 def texts_of(registry: Registry, kind: str, field: str | None = None) -> list[str]:
-    """The texts of a Type, or those with a field; of a range each text of its letters that lies in it."""
+    """The texts of a Type, or those with a field; of a range each of its texts."""
     found = {text for of, text in registry.fields if of == kind and ".." not in text}
-    for of, first, last in registry.ranges:
-        if of == kind:
-            found |= {text for text in map("".join, product(ascii_lowercase, repeat=len(first))) if first <= text <= last}
-    return sorted(text for text in found if field is None or registry.record(kind, text).get(field))
+    found.update(text for of, first, last in registry.ranges if of == kind for text in between(first, last))
+    return sorted(text for text in found if field is None or registry.field(kind, field, text))
 
 
 def wanted(registry: Registry) -> dict[str, list]:

@@ -202,8 +202,7 @@ class Generating(unittest.TestCase):
         self.assertEqual(set(BROKEN), set(premises.PREMISES))
         for premise, cases in BROKEN.items():
             for named, text in cases:
-                with self.subTest(premise=premise.__name__, named=named):
-                    self.assertTrue(any(line.startswith(named) or named in line for line in premise(records.Registry(text))))
+                with self.subTest(premise=premise.__name__, named=named), mock.patch.object(premises, "PREMISES", [premise]):
                     self.put(text)
                     self.assert_refused(named, "--accept")
 
