@@ -2,7 +2,8 @@
 """A plain reading of RFC 5646 sections 2.1, 2.2.9, 3.1 and 4.5 over the registry's record-jar, by regular expressions.
 
 usage: oracle.py REGISTRY [COLUMN..] < LINES   prints for each line the columns: validity, whole, parts, canonical,
-                                               is-canonical, extlang-form, misplaced (without any: the first three)
+                                               is-canonical, extlang-form, misplaced, misplaced-extlang, deprecated
+                                               (without any: the first three)
        oracle.py REGISTRY [COLUMN..] --compare ANSWERS < LINES
                                                counts the lines whose columns differ from the answers of a program
        oracle.py REGISTRY --make COUNT SEED    prints that many texts: tags of the registry's subtags, mutants, and random ones
@@ -17,7 +18,7 @@ GRAMMAR = re.compile(r"(?P<language>[a-z]{2,3}(?P<ext>(?:-[a-z]{3}){0,3})|[a-z]{
                      r"(?P<variants>(?:-(?:[a-z0-9]{5,8}|[0-9][a-z0-9]{3}))*)(?P<extensions>(?:-[a-wyz0-9](?:-[a-z0-9]{2,8})+)*)(?P<private>(?:-x(?:-[a-z0-9]{1,8})+)?)", re.I | re.A)
 PRIVATE = re.compile(r"x(?:-[a-z0-9]{1,8})+", re.I | re.A)
 EXTENSION = re.compile(r"-[a-z0-9](?:-[a-z0-9]{2,8})+", re.I | re.A)
-COLUMNS = ["validity", "whole", "parts", "canonical", "is-canonical", "extlang-form", "misplaced"]
+COLUMNS = ["validity", "whole", "parts", "canonical", "is-canonical", "extlang-form", "misplaced", "misplaced-extlang", "deprecated"]
 
 
 class Registry:
@@ -52,8 +53,8 @@ class Registry:
     def has(self, kind, text):
         return bool(self.record(kind, text))
 
-    def whole(self, text):
-        return self.field("grandfathered", "Preferred-Value", text) or self.field("redundant", "Preferred-Value", text)
+    def whole(self, text, name="Preferred-Value"):
+        return self.field("grandfathered", name, text) or self.field("redundant", name, text)
 
     def field(self, kind, name, text):
         return self.record(kind, text).get(name)
@@ -78,8 +79,12 @@ class Registry:
                 out.append("is-canonical" if self.canonical(text) == text else "is-not-canonical")
             elif column == "extlang-form":
                 out.append("extlang-form=" + self.extlang_form(text))
-            else:
+            elif column == "misplaced":
                 out.append("misplaced=" + (self.misplaced(found) if found else "-"))
+            elif column == "misplaced-extlang":
+                out.append("misplaced-extlang=" + (self.misplaced_extlang(found) if found else "-"))
+            else:
+                out.append("deprecated=" + ("old" if self.whole(text, "Deprecated") else "-"))
         return " ".join(out)
 
     def canonical(self, text):
@@ -124,6 +129,11 @@ class Registry:
                 return variant
             before += "-" + variant
         return "-"
+
+    def misplaced_extlang(self, found):
+        """The extended language before which another language stands than its Prefix (section 3.1.8)."""
+        primary, extended = (found["language"].split("-") + ["-"])[:2]
+        return extended if primary.lower() not in self.prefixes.get(("extlang", extended.lower()), [primary.lower()]) else "-"
 
     def fault(self, found):
         primary, *extended = found["language"].split("-")
