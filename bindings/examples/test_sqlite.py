@@ -82,6 +82,7 @@ STATEMENTS = [
     (TABLE + "SELECT tag FROM texts WHERE tag = 'ZH-hant';", "zh-Hant"),
     (TABLE + "SELECT tag FROM texts WHERE langtag_matches_extended('*-Hant', tag);", "zh-Hant"),
     (TABLE + "SELECT group_concat(tag) FROM (SELECT tag FROM texts ORDER BY tag);", "de,zh-Hant,zh,"),
+    (TABLE + "SELECT group_concat(tag) FROM (SELECT tag FROM texts ORDER BY lower(tag));", ",de,zh,zh-Hant"),
     (TABLE + "INSERT OR IGNORE INTO texts VALUES ('DE'); SELECT count(*) FROM texts;", "4"),
 ]
 

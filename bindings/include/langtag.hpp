@@ -16,10 +16,12 @@
 #include <cstddef>
 #include <cstdint>
 #include <functional>
+#include <initializer_list>
 #include <iterator>
 #include <optional>
 #include <string>
 #include <string_view>
+#include <utility>
 #include <vector>
 
 namespace langtag {
@@ -128,6 +130,16 @@ public:
         return made;
     }
 
+    /* The same for several parts, one after the other: tag.with({{part::script, "Latn"}, {part::region, "RS"}}). */
+    std::optional<std::string> with(std::initializer_list<std::pair<langtag::part, std::string_view>> parts) const {
+        std::optional<std::string> made{std::string(text_)};
+        for (const auto &[which, given] : parts) {
+            const auto whole = made ? parse(*made) : std::nullopt;
+            made = whole ? whole->with(which, given) : std::nullopt;
+        }
+        return made;
+    }
+
     /* The first subtag that makes the tag invalid, by the registry of registry_date. None where it is valid. */
     std::optional<langtag::invalid_subtag> invalid_subtag() const noexcept {
         langtag_span invalid;
@@ -154,8 +166,7 @@ public:
     /* FNV-1a of 64 bits over the text in small letters: the same number in every program and at every time. */
     std::uint64_t fnv1a() const noexcept { return langtag_hash(LANGTAG_HASH, text_.data(), text_.size()); }
 
-    /* Without regard to case; a tag comes after those that begin with it. For the order of dictionaries, a tag before those
-     * that begin with it, compare folded texts. */
+    /* Without regard to case; a tag comes after those that begin with it. For people's order sort by folded(text()). */
     friend bool operator==(const tag &a, const tag &b) noexcept { return a == b.text_; }
     friend bool operator!=(const tag &a, const tag &b) noexcept { return !(a == b); }
     friend bool operator<(const tag &a, const tag &b) noexcept {
@@ -174,6 +185,7 @@ public:
     friend bool operator!=(std::string_view a, const tag &b) noexcept { return !(b == a); }
 
 private:
+    friend class owned_tag;
     tag(std::string_view text, langtag::kind kind, const langtag_parts &parts) noexcept
         : text_(text), kind_(kind), parts_(parts) {}
 
@@ -254,8 +266,8 @@ inline std::string recommended(std::string_view text) {
     return made;
 }
 
-/* The text in small letters, the same for all tags that are equal. In the order of these texts, as in a dictionary, a tag
- * comes before those that begin with it. */
+/* The text in small letters, the same for all tags that are equal: the key to sort by for people, as in a dictionary, de
+ * before de-AT, which tags as they are compared are not. All tags below de stand from the key "de-" up to "de.". */
 inline std::string folded(std::string_view text) {
     std::string made(text);
     langtag_fold(&made[0], made.size());
@@ -267,14 +279,50 @@ inline std::string folded(std::string_view text) {
 inline std::optional<std::string> from_parts(std::string_view language, std::string_view script = {},
                                              std::string_view region = {}, std::string_view variants = {},
                                              std::string_view extensions = {}, std::string_view private_use = {}) {
-    std::optional<std::string> made("und");
-    const auto put = [&made](part which, std::string_view given) {
-        if (const auto whole = made ? tag::parse(*made) : std::nullopt) made = whole->with(which, given);
-    };
-    put(part::language, language), put(part::script, script), put(part::region, region);
-    put(part::variants, variants), put(part::extensions, extensions), put(part::private_use, private_use);
-    return made;
+    return tag::parse("und")->with({{part::language, language}, {part::script, script}, {part::region, region},
+                                    {part::variants, variants}, {part::extensions, extensions},
+                                    {part::private_use, private_use}});
 }
+
+/* A tag that owns its text, to be kept. */
+class owned_tag {
+public:
+    /* None where the text is not a tag. */
+    static std::optional<owned_tag> parse(std::string text) {
+        const auto read = tag::parse(text);
+        if (!read) return std::nullopt;
+        return owned_tag(std::move(text), read->kind_, read->parts_);
+    }
+    explicit owned_tag(const tag &tag) : owned_tag(std::string(tag.text_), tag.kind_, tag.parts_) {}
+
+    const std::string &text() const noexcept { return text_; }
+
+    /* The tag as a view, which has the parts. The text is not read again. */
+    tag view() const & noexcept { return tag(text_, kind_, parts_); }
+    tag view() const && = delete;
+
+    /* Sets a part to a text, or takes it out where that is empty. False, with the tag as it was, where it is not a normal
+     * one, or the text not one of that part. */
+    bool set(part which, std::string_view given) {
+        auto made = view().with(which, given);
+        auto read = made ? parse(std::move(*made)) : std::nullopt;
+        if (read) *this = std::move(*read);
+        return read.has_value();
+    }
+
+    /* As tags are compared. */
+    friend bool operator==(const owned_tag &a, const owned_tag &b) noexcept { return a.view() == b.view(); }
+    friend bool operator!=(const owned_tag &a, const owned_tag &b) noexcept { return !(a == b); }
+    friend bool operator<(const owned_tag &a, const owned_tag &b) noexcept { return a.view() < b.view(); }
+
+private:
+    owned_tag(std::string text, langtag::kind kind, const langtag_parts &parts) noexcept
+        : text_(std::move(text)), kind_(kind), parts_(parts) {}
+
+    std::string text_;
+    langtag::kind kind_;
+    langtag_parts parts_;
+};
 
 /* The length of the longest prefix that some tag begins with: where a text goes wrong that is not a tag. */
 inline std::size_t viable(std::string_view text) noexcept {
@@ -425,6 +473,9 @@ private:
 /* Equal tags hash alike. Whoever picks the tags can make them collide, as strings by most libraries. */
 template <> struct std::hash<langtag::tag> {
     std::size_t operator()(const langtag::tag &tag) const noexcept { return static_cast<std::size_t>(tag.fnv1a()); }
+};
+template <> struct std::hash<langtag::owned_tag> {
+    std::size_t operator()(const langtag::owned_tag &tag) const noexcept { return std::hash<langtag::tag>()(tag.view()); }
 };
 
 #endif

@@ -128,6 +128,10 @@ def answer_order(a, b):
         x, y = made(kind, a), made(kind, b)
         if x is not None and y is not None:
             assert (x == y, x != y, x <= y, x >= y) == (hash(x) == hash(y), not x == y, not y < x, not x < y)
+            if kind is Tag:
+                key, other = x.folded(), y.folded()
+                is_prefix = key.startswith(other) or other.startswith(key)
+                assert (key < other) == (x > y if is_prefix else x < y)
             return "before" if x < y else "after" if y < x else "equal" if x == y else "neither"
     return None
 

@@ -30,23 +30,33 @@ static std::string kind_of(std::string_view text) {
     return "unknown";
 }
 
-static std::string tag_of(const strings &asked) {
-    const auto one = tag::parse(asked[0]);
-    std::string out = kind_of(asked[0]);
-    if (!one) return out;
-    const auto offset = [&](std::string_view part) { return std::to_string(part.data() - asked[0].data()); };
-    say(out, "language", one->language());
-    say(out, "script", one->script());
-    say(out, "region", one->region());
-    say(out, "variants", one->variants());
-    if (!one->extensions().empty()) out += "\n  extensions";
-    for (std::string_view extension : langtag::extensions(one->extensions())) out.append(1, ' ').append(extension);
-    say(out, "private_use", one->private_use());
-    const std::string_view variant = one->repeated_variant(), singleton = one->repeated_singleton();
+static std::string parts_of(const tag &one) {
+    std::string out;
+    const auto offset = [&](std::string_view part) { return std::to_string(part.data() - one.text().data()); };
+    say(out, "language", one.language());
+    say(out, "script", one.script());
+    say(out, "region", one.region());
+    say(out, "variants", one.variants());
+    if (!one.extensions().empty()) out += "\n  extensions";
+    for (std::string_view extension : langtag::extensions(one.extensions())) out.append(1, ' ').append(extension);
+    say(out, "private_use", one.private_use());
+    const std::string_view variant = one.repeated_variant(), singleton = one.repeated_singleton();
     say(out, "repeated_variant", variant);
     if (!variant.empty()) say(out, "at_variant", offset(variant));
     say(out, "repeated_singleton", singleton);
     if (!singleton.empty()) say(out, "at_singleton", offset(singleton));
+    return out;
+}
+
+static std::string tag_of(const strings &asked) {
+    const auto one = tag::parse(asked[0]);
+    auto owned = langtag::owned_tag::parse(asked[0]);
+    std::string out = kind_of(asked[0]);
+    if (!one) return owned ? "an owned one" : out;
+    const langtag::owned_tag copy(*one), moved(std::move(*owned));
+    out += parts_of(*one);
+    if (parts_of(moved.view()) != parts_of(*one) || parts_of(copy.view()) != parts_of(*one)) out += "\n  owned ones have others";
+    if (moved.text() != asked[0] || copy != moved || moved.view().kind() != one->kind()) out += "\n  owned ones are others";
     const std::string recommended = langtag::recommended(asked[0]), folded = langtag::folded(asked[0]);
     out += "\n  recommended " + recommended + "\n  folded " + folded;
     char digits[17];
@@ -127,6 +137,9 @@ static std::string order_of(const strings &asked) {
     if ((*one <= *other) == after || (*one >= *other) == before || (*one != *other) == equal || before + after + equal != 1)
         return "the operators disagree";
     if ((*one == other->text()) != equal || (other->text() == *one) != equal) return "the text says otherwise";
+    const std::string key = langtag::folded(asked[0]), other_key = langtag::folded(asked[1]);
+    const bool is_prefix = other_key.rfind(key, 0) == 0, has_prefix = key.rfind(other_key, 0) == 0;
+    if ((key < other_key) != (!equal && (is_prefix || (before && !has_prefix)))) return "the keys say otherwise";
     return before ? "before" : after ? "after" : "equal";
 }
 
@@ -181,9 +194,13 @@ static std::string edit_of(const strings &asked) {
     if (!one) return "not a tag";
     if (one->kind() == langtag::kind::normal && is_optional && asked[2].empty()) return "";
     const auto made = one->with(which, given);
+    langtag::owned_tag kept(*one);
+    if (!made && (kept.set(which, given) || kept.text() != asked[0] || one->with({{which, given}}))) return "others have one";
     if (!made) return one->kind() == langtag::kind::normal ? "refused" : "no parts";
     const auto again = tag::parse(*made);
     if (!again) return "not a tag: " + *made;
+    langtag::owned_tag owned(*one);
+    if (!owned.set(which, given) || owned.text() != *made || one->with({{which, given}}) != made) return "others have another";
     const auto whole = langtag::from_parts(again->language(), again->script(), again->region(), again->variants(),
                                            again->extensions(), again->private_use());
     return whole == made ? *made : "from_parts has another: " + whole.value_or("none");

@@ -63,7 +63,12 @@ static void check_keys() {
     const std::map<tag, int> sorted = {{*one, 1}, {*more, 2}};
     CHECK(hashed.count(*other) == 1 && hashed.count(*more) == 0 && sorted.count(*other) == 1 && sorted.begin()->second == 2);
     CHECK(*one == "DE-CH" && "de-ch" == *one && *one != "de" && *one != std::string("de-CH-x") && *one == std::string_view("de-ch"));
-    CHECK(langtag::folded(one->text()) < langtag::folded(more->text()));
+    langtag::owned_tag owned(*one);
+    const std::unordered_map<langtag::owned_tag, int> owners = {{owned, 1}};
+    CHECK(owned.set(langtag::part::script, "Latn") && owned.text() == "de-Latn-CH" && owned.view().script() == "Latn");
+    CHECK(owners.count(langtag::owned_tag(*other)) == 1 && owners.count(owned) == 0 && !langtag::owned_tag::parse("de_CH"));
+    CHECK(one->with({{langtag::part::script, "Latn"}, {langtag::part::region, "AT"}}) == "de-Latn-AT");
+    CHECK(!one->with({{langtag::part::script, "Latin"}, {langtag::part::region, "AT"}}) && one->with({}) == "de-CH");
 }
 
 static void check_ranges() {

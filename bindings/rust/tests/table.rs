@@ -155,7 +155,7 @@ fn answer_tag(bytes: &[u8]) -> String {
         line("at_singleton", second_place(tag, singleton).to_string());
     }
     line("recommended", recommended(tag));
-    line("folded", text.to_ascii_lowercase());
+    line("folded", tag.to_folded());
     line("hash", format!("{:016x}", tag.fnv1a()));
     lines.join("\n")
 }
@@ -279,6 +279,10 @@ fn answer_order(a: &str, b: &str) -> &'static str {
     assert_eq!((order.is_eq(), Some(order)), (a == b, a.partial_cmp(b)));
     if let (Ok(a), Ok(b)) = (LangTag::new(a.as_str()), LangTag::new(b.as_str())) {
         assert_eq!((a.cmp(&b), a == b), (order, order.is_eq()));
+        let (key, other) = (a.to_folded(), b.to_buf().to_folded());
+        let is_prefix = key.starts_with(&other) || other.starts_with(&key);
+        let for_people = if is_prefix { order.reverse() } else { order };
+        assert_eq!(key.cmp(&other), for_people);
         assert_eq!(
             (a.to_buf().cmp(&b.to_buf()), a.to_buf() == b),
             (order, a == b)

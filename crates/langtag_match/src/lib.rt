@@ -28,8 +28,6 @@ mod filter_rule;
 mod language_range;
 mod lookup;
 mod range_text;
-#[cfg(test)]
-mod tests;
 mod weight;
 mod weighted_range;
 

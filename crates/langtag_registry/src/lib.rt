@@ -39,8 +39,6 @@ mod preferred;
 mod prefixes;
 mod subtags;
 mod tables;
-#[cfg(test)]
-mod tests;
 mod validity;
 
 pub use canonical_form::{canonical, is_canonical, write_canonical};
