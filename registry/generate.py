@@ -202,7 +202,7 @@ def lost(root, registry):
             yield f"{text}: a whole tag before, and not in this registry"
 
 
-def test_accepted(root, registry, source, accept):
+def refuse_unaccepted(root, registry, source, accept):
     """Refuses another registry than the one that stands, but for a newer one that is to be accepted."""
     standing = re.search(r'FILE_DATE: &str = "([0-9-]+)"', text_of(root, TABLES))
     if checksum(source) == text_of(root, CHECKSUM):
@@ -218,12 +218,12 @@ def test_accepted(root, registry, source, accept):
 def write(root, accept):
     source = (root / REGISTRY).read_bytes()
     registry = read(source)
-    test_accepted(root, registry, source, accept)
+    refuse_unaccepted(root, registry, source, accept)
     if found := broken(registry):
         raise Refused("\n".join(found))
     files = written(registry) | {CHECKSUM: checksum(source)}
     for path, text in files.items():
-        (root / path).write_text(text, encoding="utf-8", newline="\n")
+        (root / path).write_bytes(text.encode("utf-8"))
 
 
 def differences(root):
@@ -232,7 +232,9 @@ def differences(root):
     if checksum(source) != text_of(root, CHECKSUM):
         yield f"{REGISTRY}: not the registry of {CHECKSUM}"
     registry = read(source)
-    yield from broken(registry)
+    if found := broken(registry):
+        yield from found
+        return
     for path, text in written(registry).items():
         if text != text_of(root, path):
             yield f"{path}: differs from what the registry gives"
