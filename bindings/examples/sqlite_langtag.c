@@ -12,7 +12,7 @@
  *
  * langtag_part(tag, part) is NULL where the text is not a tag, and where the part is absent. The parts are language,
  * script, region, variants, extensions and private_use. langtag_canonical(tag) and langtag_is_valid(tag) are NULL where
- * the text is not a tag (RFC 5646 sections 4.5 and 2.2.9, by the registry of LANGTAG_REGISTRY_DATE).
+ * the text is not a tag (RFC 5646 sections 4.5 and 2.2.9, by the registry of langtag_registry_date).
  * langtag_matches_basic(range, tag) and langtag_matches_extended(range, tag) are 0 where a text is not a range, or not a
  * tag (RFC 4647 sections 3.3.1 and 3.3.2). Each call with a NULL is NULL. In the order of the collation a tag comes after
  * those that begin with it; ORDER BY lower(tag) is people's.
