@@ -12,7 +12,7 @@
  *
  * langtag_part(tag, part) is NULL where the text is not a tag, and where the part is absent. The parts are language,
  * script, region, variants, extensions and private_use. langtag_canonical(tag) and langtag_is_valid(tag) are NULL where
- * the text is not a tag (RFC 5646 sections 4.5 and 2.2.9, by IANA's registry).
+ * the text is not a tag (RFC 5646 sections 4.5 and 2.2.9, by the registry of langtag_registry_date).
  * langtag_matches_basic(range, tag) and langtag_matches_extended(range, tag) are 0 where a text is not a range, or not a
  * tag (RFC 4647 sections 3.3.1 and 3.3.2). Each call with a NULL is NULL. In the order of the collation a tag comes after
  * those that begin with it; ORDER BY lower(tag) is people's.
@@ -68,8 +68,7 @@ static void is_valid(sqlite3_context *context, int count, sqlite3_value **values
     (void)count;
     const char *tag = (const char *)sqlite3_value_text(values[0]);
     langtag_span invalid;
-    uint32_t answer =
-        tag ? langtag_validity(tag, (size_t)sqlite3_value_bytes(values[0]), &invalid) : LANGTAG_VALIDITY_NONE;
+    uint32_t answer = tag ? langtag_validity(tag, (size_t)sqlite3_value_bytes(values[0]), &invalid) : LANGTAG_VALIDITY_NONE;
     if (answer != LANGTAG_VALIDITY_NONE) sqlite3_result_int(context, answer == LANGTAG_VALID); /* else NULL */
 }
 
@@ -112,7 +111,7 @@ int sqlite3_sqlitelangtag_init(sqlite3 *db, char **message, const sqlite3_api_ro
     };
     int flags = SQLITE_UTF8 | SQLITE_DETERMINISTIC, status = SQLITE_OK;
     for (size_t k = 0; status == SQLITE_OK && k < sizeof functions / sizeof *functions; k++)
-        status = sqlite3_create_function(db, functions[k].name, functions[k].arguments, flags, NULL, functions[k].call,
-                                         NULL, NULL);
+        status = sqlite3_create_function(db, functions[k].name, functions[k].arguments, flags, NULL, functions[k].call, NULL,
+                                         NULL);
     return status == SQLITE_OK ? sqlite3_create_collation(db, "langtag", SQLITE_UTF8, NULL, compare) : status;
 }

@@ -215,17 +215,16 @@ enum langtag_validity_answer {
 };
 
 /*
- * Whether a tag is valid (RFC 5646 section 2.2.9) by IANA's registry of LANGTAG_REGISTRY_DATE, as an enum
+ * Whether a tag is valid (RFC 5646 section 2.2.9) by IANA's registry of langtag_registry_date, as an enum
  * langtag_validity_answer, and where the subtag stands that is wrong (out); without a byte where none is. A valid tag is
  * grandfathered, or its language, extended language, script, region and variants are registered, at most one of them is an
  * extended language, and no variant or singleton stands twice. Deprecated subtags are valid, and whether a variant stands
  * after one of its prefixes is not asked.
  */
-#define LANGTAG_REGISTRY_DATE "2022-06-28"
 uint32_t langtag_validity(const char *bytes, size_t len, langtag_span *invalid);
 
 /*
- * Writes the canonical form of a tag to `buffer` (RFC 5646 section 4.5, by the registry of LANGTAG_REGISTRY_DATE), and
+ * Writes the canonical form of a tag to `buffer` (RFC 5646 section 4.5, by the registry of langtag_registry_date), and
  * returns its length: he for iw, yue for zh-yue, jbo for art-lojban, en-a-aaa-b-ccc for en-b-ccc-a-aaa, fr-FR for fr-FR.
  *
  *     char buffer[64];
@@ -244,6 +243,12 @@ uint32_t langtag_validity(const char *bytes, size_t len, langtag_span *invalid);
  * 0, and nothing written, where the text is not a tag.
  */
 size_t langtag_canonical(const char *bytes, size_t len, char *buffer, size_t buffer_len);
+
+/*
+ * The date of IANA's registry by which tags are valid and canonical here (its File-Date, RFC 5646 section 3.1.1), year,
+ * month and day as the digits of one number: 20051016 would be 2005-10-16. A later date is a greater number.
+ */
+LANGTAG_PURE uint32_t langtag_registry_date(void);
 
 /*
  * The number of the text among the 26 grandfathered tags, in any case, by their order in RFC 5646 section 2.1, or

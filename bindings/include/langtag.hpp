@@ -139,7 +139,7 @@ public:
         return made;
     }
 
-    /* The first subtag that makes the tag invalid, by the registry of LANGTAG_REGISTRY_DATE. None where it is valid. */
+    /* The first subtag that makes the tag invalid, by the registry of registry_date. None where it is valid. */
     std::optional<langtag::invalid_subtag> invalid_subtag() const noexcept {
         langtag_span invalid;
         const std::uint32_t found = langtag_validity(text_.data(), text_.size(), &invalid);
@@ -335,6 +335,9 @@ inline std::size_t viable(std::string_view text) noexcept {
 inline std::size_t stop(std::string_view text) noexcept {
     return langtag_stop(langtag_bytes(text.data()), text.size());
 }
+
+/* The date of the registry by which tags are valid and canonical, as one number: 20051016 would be 2005-10-16. */
+inline std::uint32_t registry_date() noexcept { return langtag_registry_date(); }
 
 /* Whether a language range matches a tag (RFC 4647 sections 3.3.1 and 3.3.2). */
 inline bool matches_basic(std::string_view range, const tag &tag) noexcept {

@@ -40,6 +40,7 @@ static void check_views() {
           langtag::subtags({}).begin() == langtag::subtags({}).end());
     CHECK(!langtag::accept_language({}).bad_element() && langtag::accept_language({}).ranges().empty());
     const std::string text = "ja-heploc-u-co";
+    CHECK(langtag::registry_date() == langtag_registry_date());
     const auto cut = tag::parse({text.data(), 9});
     CHECK(cut && cut->text().data() == text.data() && cut->canonical() == "ja-alalc97" && cut->extensions().empty());
     CHECK(!cut->with(langtag::part::region, {"CH\0", 3}) && !langtag::matches_basic({}, *cut));

@@ -7,7 +7,7 @@ use crate::{ffi, BufferTooShort, LangTag};
 
 const IS_TAG: &str = "a canonical form is a tag";
 
-/// The canonical form (RFC 5646 section 4.5), by IANA's registry of [`REGISTRY_DATE`](crate::REGISTRY_DATE): `he` of `iw`,
+/// The canonical form (RFC 5646 section 4.5), by IANA's registry of [`registry_date`](crate::registry_date): `he` of `iw`,
 /// `yue` of `zh-yue`, `jbo` of `art-lojban`, `en-a-aaa-b-ccc` of `en-b-ccc-a-aaa`, `fr-FR` of `fr-FR`.
 ///
 /// What is put in has the registry's case, all else keeps its own, and variants keep their order. Step 2 is taken again after

@@ -183,7 +183,7 @@ impl<'a> LangTag<'a> {
             .and_then(|singleton| singleton.chars().next())
     }
 
-    /// Whether the tag is valid (RFC 5646 section 2.2.9) by IANA's registry of [`REGISTRY_DATE`](crate::REGISTRY_DATE): Ok
+    /// Whether the tag is valid (RFC 5646 section 2.2.9) by IANA's registry of [`registry_date`](crate::registry_date): Ok
     /// of a grandfathered tag, and of one whose language, script, region and variants are registered, with at most one
     /// extended language, which is registered too, and no variant or singleton twice. Deprecated subtags are valid.
     ///

@@ -78,6 +78,7 @@ mod language_range_buf;
 mod look_up;
 mod prefix;
 mod private_use;
+mod registry_date;
 #[cfg(feature = "serde")]
 mod serde;
 mod subtags;
@@ -93,7 +94,7 @@ pub use error::{
 };
 pub use extension::{Extension, Extensions, ExtensionsIter};
 pub use fallbacks::Fallbacks;
-pub use invalid_subtag::{InvalidSubtag, SubtagFault, REGISTRY_DATE};
+pub use invalid_subtag::{InvalidSubtag, SubtagFault};
 pub use kind::Kind;
 pub use lang_tag::{LangTag, GRANDFATHERED};
 #[cfg(feature = "alloc")]
@@ -105,5 +106,6 @@ pub use language_range_buf::LanguageRangeBuf;
 pub use look_up::look_up;
 pub use prefix::{stop_len, viable_len};
 pub use private_use::PrivateUse;
+pub use registry_date::{registry_date, RegistryDate};
 pub use subtags::Subtags;
 pub use variants::Variants;

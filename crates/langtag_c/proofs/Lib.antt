@@ -13,3 +13,4 @@ mod PartChanges
 mod PartTexts
 mod PutLaws
 mod TagLengths
+mod DateLaws

@@ -15,6 +15,7 @@ mod parse;
 mod part;
 mod range;
 mod recommend;
+mod registry_date;
 mod repeats;
 mod span;
 mod validity;
