@@ -1,9 +1,9 @@
 use Rattle.std.proofs.Common.{◌∙◌, refl}
 use Rattle.std.proofs.lemmas.Result.{on_ok_weaker}
-use Rattle.langtag_show.specs.Report.{refused}
-use Rattle.langtag_show.proofs.KindAnswers.{answer_same, answer_private, answer_irregular}
+use Rattle.langtag_report.specs.Report.{refused}
+use Rattle.langtag_report.proofs.KindAnswers.{answer_same, answer_private, answer_irregular}
 use Rattle.langtag_lines.proofs.Written.{Answers-one}
-use Rattle.langtag_show.proofs.answer.ShowAnswerer.put_answer.Goals as goal
+use Rattle.langtag_report.proofs.answer.ShowAnswerer.put_answer.Goals as goal
 
 pub returns-in_default-clause-ok : goal.returns-in_default-clause-ok
 returns-in_default-clause-ok g c =

@@ -1,4 +1,4 @@
--- The report of an input: the answer to each of its lines.
+-- The answer to a line: its kind, and its parts.
 use Rattle.std.specs.Prelude.{◌≡◌, ℕ, Bool, ◌||◌, if◌then◌else◌, Option, Some, is_some, unwrap_or, List, [], ◌++◌, map, slice_get, codes}
 use Rattle.langtag_scan.specs.Case.{are_alike}
 use Rattle.langtag_scan.specs.Grandfathered.{irregular_texts}
@@ -6,7 +6,6 @@ use Rattle.langtag_scan.specs.Parts.{language_part, variants_part, extensions_pa
 use Rattle.langtag_scan.specs.Record.{Record, Spells}
 use Rattle.langtag_scan.specs.Tag.{IsPrivate, IsIrregularAt, IsTag}
 use Rattle.langtag.specs.Repeat.{repeat, are_alike_bytes}
-use Rattle.langtag_lines.specs.Report.{AreAnswersBy, AnswersBy}
 
 -- a part that is absent is printed as nothing
 abbrev pub part_or_nothing : Option (List ℕ) → List ℕ
@@ -39,11 +38,3 @@ pub data IsAnswer (line : List ℕ) (text : List ℕ) : Type 0 where
       (k : ℕ) (registered : List ℕ) → IsIrregularAt k line → slice_get irregular_texts k ≡ Some registered →
       text ≡ codes "irregular " ++ registered → IsAnswer line text
   refused : ¬ (IsTag line) → text ≡ codes "refused" → IsAnswer line text
-
--- the answers to lines, in order, each followed by LF
-abbrev pub AreAnswers : List (List ℕ) → List ℕ → Type 0
-AreAnswers = AreAnswersBy IsAnswer
-
--- a writer gained the answers to lines, and nothing else
-abbrev pub Answers : Option (List ℕ) → Option (List ℕ) → List (List ℕ) → Type 0
-Answers = AnswersBy IsAnswer

@@ -9,7 +9,7 @@ use Rattle.langtag_scan.specs.Record.{Record, Spells}
 use Rattle.langtag_scan.specs.Tag.{IsPrivate, IsIrregularAt}
 use Rattle.langtag.specs.Registered.{index_of, text_of}
 use Rattle.langtag.specs.declared.grandfathered.GrandfatheredLangTag.{GrandfatheredLangTag}
-use Rattle.langtag_show.specs.Report.{part_or_nothing, has_repeats, yes_or_no, IsAnswer, normal, private_use, irregular}
+use Rattle.langtag_report.specs.Report.{part_or_nothing, has_repeats, yes_or_no, IsAnswer, normal, private_use, irregular}
 
 -- the pieces of an answer to a normal tag, joined from the right
 joined_pieces : (l s g v e p q : List ℕ) →

@@ -1,10 +1,10 @@
 use Rattle.std.proofs.Common.{◌∙◌, ap}
 use Rattle.langtag_scan.proofs.SpelledTexts.{offsets_kept}
 use Rattle.langtag_scan.specs.Tag.{IsNormal}
-use Rattle.langtag_show.specs.Report.{part_or_nothing}
-use Rattle.langtag_show.proofs.KindAnswers.{answer_normal, said_yes, said_no}
-use Rattle.langtag_show.proofs.answer.normal_answer.Goals as goal
-use Rattle.langtag_show.proofs.answer.normal_answer.Goals.{then-has_repeats, else-has_repeats}
+use Rattle.langtag_report.specs.Report.{part_or_nothing}
+use Rattle.langtag_report.proofs.KindAnswers.{answer_normal, said_yes, said_no}
+use Rattle.langtag_report.proofs.answer.normal_answer.Goals as goal
+use Rattle.langtag_report.proofs.answer.normal_answer.Goals.{then-has_repeats, else-has_repeats}
 
 pub returns : goal.returns
 unfolding IsNormal

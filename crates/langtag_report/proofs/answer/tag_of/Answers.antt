@@ -2,7 +2,7 @@ use Rattle.std.proofs.Common.{◌≡◌, ◌∙◌, None, Result, Ok, Err, sym}
 use Rattle.std.specs.Prelude.{MatchResult}
 use Rattle.std.specs.Result.{result_ok}
 use Rattle.langtag_scan.proofs.Ascii.{IsUtf8-tag}
-use Rattle.langtag_show.proofs.answer.tag_of.Goals as goal
+use Rattle.langtag_report.proofs.answer.tag_of.Goals as goal
 
 -- what an Err says, where there is no value
 at_none : {T E : Type 0} (r : Result T E) (P : T → Type 0) (Q : Type 0) (R : E → Type 0) → result_ok r ≡ None → MatchResult r P (λ e. Q × R e) → Q

@@ -7,15 +7,21 @@ ghost use Rattle.langtag_scan.specs.Tag.{IsTag};
 ghost use Rattle.langtag.specs.PlaceText.{script_text, region_text};
 ghost use Rattle.langtag.specs.PrivateText.{private_use_text};
 ghost use Rattle.langtag.specs.Text.{normal_lang_tag_text, lang_tag_text};
-ghost use Rattle.langtag_show.specs.Report.{IsAnswer, has_repeats};
-ghost use Rattle.langtag_show.specs.AnswerLaws.{one_answer};
+ghost use Rattle.langtag_report.specs.Report.{IsAnswer, has_repeats};
+ghost use Rattle.langtag_report.specs.AnswerLaws.{one_answer};
 
 use langtag::{LangTag, NormalLangTag, PrivateUse, Region, Script, TypedLangTag};
 use langtag_lines::{Answerer, Page, RunError};
 use std::io::Write;
 
-/// Answers a line with the kind and the parts of the tag that it is.
-pub(crate) struct Show;
+/// Answers a line with the kind and the parts of the tag that it is:
+///
+/// - `normal language=L script=S region=R variants=V extensions=E private=P repeats=Q`, where an absent part is empty, and
+///   Q is `yes` if a variant or a singleton occurs twice in the tag (RFC 5646 section 2.2.9), and `no` otherwise;
+/// - `private` and the tag;
+/// - `irregular` and the tag as it is registered;
+/// - `refused` for a line that is not a tag, also for one that is not UTF-8.
+pub struct Show;
 
 impl Answerer for Show {
     ghost is_answer = { IsAnswer };

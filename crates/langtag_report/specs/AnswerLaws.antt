@@ -9,7 +9,7 @@ use Rattle.langtag_scan.proofs.NormalTexts.{spelled_once}
 use Rattle.langtag_scan.proofs.OneKind.{normal_no_private, normal_no_irregular, private_no_irregular}
 use Rattle.langtag_scan.proofs.SpelledTexts.{normal_spelled}
 use Rattle.langtag_scan.proofs.TagLaws.{tag_normal, tag_private, tag_irregular}
-use Rattle.langtag_show.specs.Report.{normal_answer, IsAnswer, normal, private_use, irregular, refused}
+use Rattle.langtag_report.specs.Report.{normal_answer, IsAnswer, normal, private_use, irregular, refused}
 
 -- a line that is irregular at an index is irregular
 irregular_line : (k : ℕ) (line : List ℕ) → IsIrregularAt k line → IsIrregular line
