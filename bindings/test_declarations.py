@@ -17,7 +17,7 @@ ROOT = pathlib.Path(__file__).resolve().parent.parent
 HEADER, RUST, PYTHON = "bindings/include/langtag.h", "bindings/rust/src/ffi.rs", "bindings/python/langtag/__init__.py"
 CRATE = "crates/langtag_c/src"
 NUMBERED = check_declarations.VERSIONS + check_declarations.NUMBERS + check_declarations.DATES
-FILES = {HEADER, RUST, PYTHON, "bindings/table.txt", *(name for name, _ in NUMBERED)}
+FILES = {HEADER, RUST, PYTHON, "crates/langtag_rows/data/table.txt", *(name for name, _ in NUMBERED)}
 
 # A file, a text that stands in it, what is put in its place, and what the message has to name.
 PLANTED = [

@@ -118,6 +118,9 @@ class Registry:
         found = [text for text, record in self.fields[kind].items() if field is None or field in record]
         return sorted(found, key=lambda text: number(kind, text))
 
+    def deprecated_tags(self):
+        return [text for kind in ("grandfathered", "redundant") for text in self.subtags(kind, "Deprecated")]
+
     def values(self, kind, field):
         return [(text, value) for text in self.subtags(kind, field) for value in self.fields[kind][text][field]]
 
@@ -175,6 +178,7 @@ def tables(registry):
         pairs = [pair for kind in kinds for pair in registry.values(kind, "Preferred-Value")]
         out.append(table(f"PREFERRED_{name}S", f"The {what} with a Preferred-Value, each before that value.", "(&str, &str)",
                          [f'("{text}", "{value}")' for text, value in pairs]))
+    out.append(table("DEPRECATED_TAGS", "The deprecated grandfathered and redundant tags.", "&str", quoted(registry.deprecated_tags())))
     prefixes = registry.values("variant", "Prefix")
     out.append(table("VARIANT_PREFIXES", "The variants with a Prefix: their lowercase bytes as the digits of a number, each before one of its prefixes.", "(u64, &str)",
                      [f'(0x{folded_number(text):016X}, "{prefix}")' for text, prefix in prefixes]))
@@ -205,6 +209,7 @@ def lists(registry):
         out.append(text_list(f"{kind}_subtags", f"the Subtag fields of the records of Type {kind}, ranges written out", registry.subtags(kind)))
     for kind in DEPRECATED:
         out.append(text_list(f"deprecated_{kind}s", f"those of the records of Type {kind} with a Deprecated field", registry.subtags(kind, "Deprecated")))
+    out.append(text_list("deprecated_tags", "the Tag fields of the records of Type grandfathered and redundant with a Deprecated field", registry.deprecated_tags()))
     for kind, field, name, _ in LANGUAGE_FIELDS:
         out.append(entry_list(name, f"the records of Type {kind} with a {field} field: each Subtag before that value", registry.values(kind, field)))
     for kinds, name, _, _ in PREFERRED:

@@ -110,7 +110,8 @@ LANGTAG_PURE bool langtag_eq(const char *a, size_t a_len, const char *b, size_t 
 
 /*
  * The order of two texts, of any bytes, without regard to case: -1, 0 or 1, and 0 exactly where langtag_eq is true. A
- * text comes after those that begin with it: zh after zh-Latn.
+ * text comes after those that begin with it: zh after zh-Latn. For people's order, de before de-AT, compare copies that
+ * langtag_fold changed, as strings are compared.
  */
 LANGTAG_PURE int32_t langtag_cmp(const char *a, size_t a_len, const char *b, size_t b_len);
 

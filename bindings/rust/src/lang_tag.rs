@@ -215,6 +215,20 @@ impl<'a> LangTag<'a> {
         (*self).into()
     }
 
+    /// The text in small letters, the same for all tags that are equal: the key to sort by for people, `de` before `de-AT`,
+    /// which [`Ord`] of tags puts after it. In an ordered map by such keys all tags below `de` stand from `de-` up to `de.`.
+    ///
+    /// ```
+    /// # use langtag_verified::LangTag;
+    /// let mut tags = ["de-CH", "DE", "den", "de-AT"].map(|text| LangTag::new(text).unwrap());
+    /// tags.sort_by_cached_key(LangTag::to_folded);
+    /// assert_eq!(tags.map(|tag| tag.as_str()), ["DE", "de-AT", "de-CH", "den"]);
+    /// ```
+    #[cfg(feature = "alloc")]
+    pub fn to_folded(&self) -> alloc::string::String {
+        self.as_str().to_ascii_lowercase()
+    }
+
     /// An owned copy in the case that RFC 5646 section 2.1.1 recommends.
     ///
     /// ```

@@ -34,7 +34,7 @@
 //! The tags hold a text and where its parts stand in it: [`LangTag`] borrows its text, and [`LangTagBuf`] (feature `alloc`)
 //! owns it. All comparisons ignore the case of ASCII letters, and so does every hash; that is why nothing here implements
 //! `Borrow<str>`. A map by tags is asked by a [`CaselessStr`], without memory. Of two texts of which one begins the other,
-//! the shorter is the greater.
+//! the shorter is the greater: so is the order of langtag, and [`LangTag::to_folded`] is the key for people's order.
 //!
 //! [`AcceptLanguage`] reads the header of a request, and finds the tag to answer it in; [`look_up()`] takes ranges. The
 //! setters of [`LangTagBuf`], as [`LangTagBuf::set_script`], put parts into a tag.

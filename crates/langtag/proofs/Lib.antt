@@ -7,7 +7,6 @@ pub mod KeptFound
 mod PartOfLaws
 pub mod OrderLaws
 pub mod RepeatLaws
-pub mod VariantNumbers
 pub mod VariantBlockLaws
 pub mod AlikeFound
 -- what the crates above cite with the others

@@ -5,6 +5,7 @@ pub mod Repeat
 pub mod VariantBlocks
 pub mod Text
 pub mod Registered
+pub mod Recognised
 pub mod LooksUp
 pub mod Kinds
 pub mod Typed

@@ -6,13 +6,14 @@ ghost use Rattle.std.specs.Vec.{SameBlock};
 ghost use Rattle.langtag_case.specs.RecommendedCase.{recommended_record, recommended_text};
 ghost use Rattle.langtag_scan.specs.AlikeRecords.{IsSpelledAlike};
 ghost use Rattle.langtag_scan.specs.Case.{Alike};
-ghost use Rattle.langtag_scan.specs.Found.{finding, IsFoundOf};
+ghost use Rattle.langtag_scan.specs.Found.{IsFoundOf};
 ghost use Rattle.langtag_scan.specs.Record.{EachRecord, spell};
 ghost use Rattle.langtag_scan.specs.Tag.{IsNormal, IsTag};
 ghost use Rattle.langtag_language.specs.Text.{language_text};
 ghost use Rattle.langtag_place.specs.Text.{script_text, region_text, variants_text};
 ghost use Rattle.langtag_extension.specs.Text.{extensions_text};
 ghost use Rattle.langtag_private.specs.Text.{private_use_text};
+ghost use Rattle.langtag.specs.Recognised.{finding_of};
 ghost use Rattle.langtag.specs.Edit.{SetsLanguage, SetsScript, SetsRegion, SetsVariants, SetsExtensions, SetsPrivateUse};
 
 use crate::edit::{
@@ -22,12 +23,13 @@ use crate::edit_error::EditError;
 use crate::lang_tag::{InvalidLangTag, LangTag};
 use crate::normal_lang_tag_buf::NormalLangTagBuf;
 use crate::recognise_text::recognise_text;
+use crate::recognised::Recognised;
 use crate::recommended_case::put_recommended_case;
 use langtag_extension::Extensions;
 use langtag_language::Language;
 use langtag_place::{Region, Script, Variants};
 use langtag_private::{PrivateUse, PrivateUseBuf};
-use langtag_scan::{Caseless, Found};
+use langtag_scan::Caseless;
 use std::alloc::Global;
 use std::fmt;
 
@@ -37,8 +39,8 @@ use std::fmt;
 pub struct LangTagBuf {
     text: Caseless<String>,
     #[derive_where(skip)]
-    found: Found,
-    ghost kept_found: { ∥ IsFoundOf (string_bytes text.0) (finding found) ∥₁ },
+    found: Recognised,
+    ghost kept_found: { ∥ IsFoundOf (string_bytes text.0) (finding_of found) ∥₁ },
 }
 
 #[tactic(auto, using(crate::proofs::KeptFound::found_kept))]
@@ -65,8 +67,8 @@ impl LangTagBuf {
     }
 
     /// The tag of a text of which this was found: it is not looked at again.
-    pub(crate) fn with_found(text: String, found: Found) -> LangTagBuf
-        requires { ∥ IsFoundOf (string_bytes text) (finding found) ∥₁ }
+    pub(crate) fn with_found(text: String, found: Recognised) -> LangTagBuf
+        requires { ∥ IsFoundOf (string_bytes text) (finding_of found) ∥₁ }
         ensures { lang_tag_buf_string result ≡ text }
     {
         LangTagBuf {
@@ -162,7 +164,7 @@ impl LangTagBuf {
             return Err(EditError::NotNormal);
         };
         let ends = put_language(&mut self.text.0, ends, alloc, language)?;
-        self.found = Found::normal(ends);
+        self.found = Recognised::Normal(ends);
         Ok(())
     }
 
@@ -182,7 +184,7 @@ impl LangTagBuf {
             return Err(EditError::NotNormal);
         };
         let ends = put_script(&mut self.text.0, ends, alloc, script)?;
-        self.found = Found::normal(ends);
+        self.found = Recognised::Normal(ends);
         Ok(())
     }
 
@@ -202,7 +204,7 @@ impl LangTagBuf {
             return Err(EditError::NotNormal);
         };
         let ends = put_region(&mut self.text.0, ends, alloc, region)?;
-        self.found = Found::normal(ends);
+        self.found = Recognised::Normal(ends);
         Ok(())
     }
 
@@ -222,7 +224,7 @@ impl LangTagBuf {
             return Err(EditError::NotNormal);
         };
         let ends = put_variants(&mut self.text.0, ends, alloc, variants)?;
-        self.found = Found::normal(ends);
+        self.found = Recognised::Normal(ends);
         Ok(())
     }
 
@@ -246,7 +248,7 @@ impl LangTagBuf {
             return Err(EditError::NotNormal);
         };
         let ends = put_extensions(&mut self.text.0, ends, alloc, extensions)?;
-        self.found = Found::normal(ends);
+        self.found = Recognised::Normal(ends);
         Ok(())
     }
 
@@ -270,7 +272,7 @@ impl LangTagBuf {
             return Err(EditError::NotNormal);
         };
         let ends = put_private_use(&mut self.text.0, ends, alloc, private_use)?;
-        self.found = Found::normal(ends);
+        self.found = Recognised::Normal(ends);
         Ok(())
     }
 }
@@ -293,7 +295,7 @@ impl From<PrivateUseBuf> for LangTagBuf {
     ghost from_gives = { λ private_use tag. lang_tag_buf_string tag ≡ private_use_buf_string private_use };
 
     fn from(tag: PrivateUseBuf) -> LangTagBuf {
-        LangTagBuf::with_found(tag.into_string(), Found::private_use())
+        LangTagBuf::with_found(tag.into_string(), Recognised::PrivateUse)
     }
 }
 

@@ -26,13 +26,14 @@ use crate::lang_tag_buf::LangTagBuf;
 use crate::lengths::{Lengths, length_with_hyphen};
 use crate::normal_lang_tag::{InvalidNormalLangTag, NormalLangTag};
 use crate::recognise_text::normal_ends;
+use crate::recognised::Recognised;
 use crate::recommended_case::put_recommended_case;
 use crate::text_of_parts::join_parts;
 use langtag_extension::Extensions;
 use langtag_language::Language;
 use langtag_place::{Region, Script, Variants};
 use langtag_private::PrivateUse;
-use langtag_scan::{Caseless, Ends, Found};
+use langtag_scan::{Caseless, Ends};
 use std::alloc::{AllocError, Global};
 use std::fmt;
 
@@ -137,7 +138,7 @@ impl NormalLangTagBuf {
         ensures same_string { lang_tag_buf_string result ≡ normal_lang_tag_buf_string self }
         ensures kind { IsNormal (lang_tag_buf_text result) }
     {
-        LangTagBuf::with_found(self.text.0, Found::normal(self.ends))
+        LangTagBuf::with_found(self.text.0, Recognised::Normal(self.ends))
     }
 
     /// Returns the text itself, without a copy: `sl-IT` of `sl-IT`.

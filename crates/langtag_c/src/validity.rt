@@ -15,7 +15,7 @@ use crate::range::tag_of;
 use crate::repeats::{repeated_singleton, repeated_variant, variant_at};
 use crate::span::Span;
 use langtag::NormalLangTag;
-use langtag_registry::{InvalidSubtag, is_variant, validate};
+use langtag_registry::{InvalidSubtag, is_registered_variant, validate};
 
 /// Returns 1 where the bytes are a valid tag, 0 where they are not a tag, and else what is wrong first: 2 and 3 for a
 /// language and an extended language that is not registered, 4 for a second extended one, 5, 6 and 7 for a script, a
@@ -109,5 +109,5 @@ fn unregistered_index(tag: &NormalLangTag<'_>) -> Option<usize>
 {
     tag.variants()
         .iter()
-        .position(|variant| !is_variant(variant))
+        .position(|variant| !is_registered_variant(variant))
 }

@@ -29,8 +29,6 @@ mod filter_rule;
 mod language_range;
 mod lookup;
 mod range_text;
-#[cfg(test)]
-mod tests;
 mod weight;
 mod weighted_range;
 

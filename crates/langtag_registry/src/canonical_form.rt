@@ -26,10 +26,12 @@ const LONGEST_REPLACED: usize = 16;
 /// `jbo` of `art-lojban`, `en-a-aaa-b-ccc` of `en-b-ccc-a-aaa`, and `fr-FR` of `fr-FR`.
 ///
 /// What is put in has the registry's case; all else keeps its own, and the variants keep their order. Step 2 is taken again
-/// after step 3, so that a form is its own: `gsg` of `sgn-DD`. A tag need not be valid: a subtag that is not registered
-/// stays, as do two extended languages, and the language before them.
+/// after step 3, and an extended language that becomes the language is replaced as one, too, so that a form is its own:
+/// `gsg` of `sgn-DD`, `apc` of `ar-ajp`. A tag need not be valid: a subtag that is not registered stays, as do two extended
+/// languages, and the language before them. This is RFC 5646's form, and not that of CLDR, which replaces more.
 ///
-/// The form of a valid tag is valid, unless two variants become the same, as those of `ja-heploc-alalc97` do.
+/// The form of a valid tag is valid, unless two variants become the same, as those of `ja-heploc-alalc97` do. It has no
+/// extended language, unless it is `zh-min`.
 ///
 /// # Errors
 ///

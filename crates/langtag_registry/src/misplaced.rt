@@ -1,8 +1,9 @@
-//! Variants that do not stand after one of their prefixes (RFC 5646 section 3.1.8).
+//! Variants and extended languages that do not stand after one of their prefixes (RFC 5646 section 3.1.8).
 ghost use Rattle.std.specs.Prelude.{◌≡◌, map, IsTrue};
 ghost use Rattle.std.specs.Option.{option_map};
 ghost use Rattle.langtag_scan.specs.Record.{EachRecord};
 ghost use Rattle.langtag_scan.specs.Tag.{IsTag};
+ghost use Rattle.langtag_language.specs.Text.{extended_lang_tag_text};
 ghost use Rattle.langtag_place.specs.Text.{variant_text};
 ghost use Rattle.langtag.specs.Text.{normal_lang_tag_text};
 ghost use Rattle.langtag_match.specs.Extended.{test_extended};
@@ -12,8 +13,10 @@ ghost use Rattle.langtag_registry.specs.Prefix as spec;
 ghost use Rattle.langtag_registry.specs.Subtags as list;
 
 use crate::keys::long_number;
+use crate::prefixes::extlang_prefix;
 use crate::tables::VARIANT_PREFIXES;
 use langtag::{LangTag, NormalLangTag};
+use langtag_language::ExtendedLangTag;
 use langtag_match::LanguageRange;
 use langtag_place::Variant;
 
@@ -34,6 +37,23 @@ pub fn misplaced_variant<'a>(tag: NormalLangTag<'a>) -> Option<Variant<'a>>
         end += 1 + variant.as_str().len();
     }
     None
+}
+
+/// Returns the extended language of a tag that stands after another language than its prefix (the field Prefix, RFC 5646
+/// section 3.1.8): `yue` of `de-yue`, as it goes with `zh`. None of `zh-yue`, and of `zh-fra`, as `fra` is not registered.
+///
+/// A tag is valid without its prefix. A second extended language, which no valid tag has, is not looked at.
+pub fn misplaced_extlang<'a>(tag: NormalLangTag<'a>) -> Option<ExtendedLangTag<'a>>
+    ensures { EachRecord (normal_lang_tag_text tag.entry) (λ r. option_map extended_lang_tag_text result ≡ spec.misplaced_extlang r.primary r.extended) }
+{
+    let language = tag.language();
+    let mut extlangs = language.extension_subtags();
+    let extlang = extlangs.next()?;
+    let prefix = extlang_prefix(extlang)?;
+    if prefix == language.primary() {
+        return None;
+    }
+    Some(extlang)
 }
 
 /// Returns whether some prefix of a variant matches the tag before it, or it has no prefix.

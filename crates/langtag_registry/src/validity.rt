@@ -16,8 +16,10 @@ ghost use Rattle.langtag_registry.specs.Valid.{IsValid};
 ghost use Rattle.langtag_registry.specs.declared.invalid_subtag.InvalidSubtag.{InvalidSubtag};
 
 use crate::invalid_subtag::InvalidSubtag;
-use crate::languages::is_language;
-use crate::subtags::{is_extlang, is_region, is_script, is_variant};
+use crate::languages::is_registered_language;
+use crate::subtags::{
+    is_registered_extlang, is_registered_region, is_registered_script, is_registered_variant,
+};
 use langtag::{LangTag, NormalLangTag};
 use langtag_language::Language;
 use langtag_place::{Region, Script, Variant, Variants};
@@ -91,12 +93,12 @@ fn find_language_fault<'a>(language: Language<'a>) -> Option<InvalidSubtag<'a>>
         option_map told result ≡ slice_get (language_faults primary extended) 0) }
 {
     let primary = language.primary();
-    if !is_language(primary) {
+    if !is_registered_language(primary) {
         return Some(InvalidSubtag::Language(primary));
     }
     let mut extlangs = language.extension_subtags();
     let first = extlangs.next()?;
-    if !is_extlang(first) {
+    if !is_registered_extlang(first) {
         return Some(InvalidSubtag::Extlang(first));
     }
     let second = extlangs.next()?;
@@ -108,7 +110,7 @@ fn find_script_fault<'a>(script: Option<Script<'a>>) -> Option<InvalidSubtag<'a>
     ensures { option_map told result ≡ slice_get (script_faults (option_map script_text script.entry)) 0 }
 {
     let script = script?;
-    if is_script(script) {
+    if is_registered_script(script) {
         return None;
     }
     Some(InvalidSubtag::Script(script))
@@ -119,7 +121,7 @@ fn find_region_fault<'a>(region: Option<Region<'a>>) -> Option<InvalidSubtag<'a>
     ensures { option_map told result ≡ slice_get (region_faults (option_map region_text region.entry)) 0 }
 {
     let region = region?;
-    if is_region(region) {
+    if is_registered_region(region) {
         return None;
     }
     Some(InvalidSubtag::Region(region))
@@ -131,7 +133,7 @@ fn find_variant_fault<'a>(variants: Variants<'a>) -> Option<InvalidSubtag<'a>>
     ensures { option_map told result ≡ slice_get (variant_faults [] (subtags (variants_text variants.entry))) 0 }
 {
     for (index, variant) in variants.iter().enumerate() {
-        if !is_variant(variant) {
+        if !is_registered_variant(variant) {
             return Some(InvalidSubtag::Variant(variant));
         }
         if is_among_first(variants, index, variant) {
