@@ -1,12 +1,11 @@
 //! The answer to one line.
-ghost use Rattle.std.specs.Prelude.{◌≡◌, [], MatchOption, unwrap_or};
+ghost use Rattle.std.specs.Prelude.{◌≡◌, [], unwrap_or};
 ghost use Rattle.std.specs.List.{flat_map};
 ghost use Rattle.std.specs.Option.{option_map};
 ghost use Rattle.langtag_scan.specs.Record.{EachRecord};
-ghost use Rattle.langtag_scan.specs.Tag.{IsTag};
 ghost use Rattle.langtag.specs.PlaceText.{script_text, region_text};
 ghost use Rattle.langtag.specs.PrivateText.{private_use_text};
-ghost use Rattle.langtag.specs.Text.{normal_lang_tag_text, lang_tag_text};
+ghost use Rattle.langtag.specs.Text.{normal_lang_tag_text};
 ghost use Rattle.langtag_report.specs.Report.{IsAnswer, has_repeats};
 ghost use Rattle.langtag_report.specs.AnswerLaws.{one_answer};
 
@@ -32,7 +31,7 @@ impl Answerer for Show {
         page: &mut Page,
         output: &mut W,
     ) -> Result<(), RunError> {
-        let Some(tag) = tag_of(line) else {
+        let Ok(tag) = LangTag::from_bytes(line) else {
             return page.put_line(&["refused"], output);
         };
         match tag.as_typed() {
@@ -45,14 +44,6 @@ impl Answerer for Show {
     }
 
     ghost one_answer = { one_answer };
-}
-
-/// The tag that a line consists of, if it is one. A tag is ASCII, so a line that is not UTF-8 is not a tag.
-fn tag_of(line: &[u8]) -> Option<LangTag<'_>>
-    ensures { MatchOption result (¬ (IsTag line.now)) (λ tag. lang_tag_text tag ≡ line.now) }
-{
-    let text = std::str::from_utf8(line).ok()?;
-    LangTag::new(text).ok()
 }
 
 /// The answer to a normal tag, in pieces: its parts, and whether it repeats a variant or a singleton.
