@@ -4,7 +4,7 @@ use crate::edits::edit;
 use crate::matching::{elements, fallbacks, filter, header, ranges};
 use crate::registry::{extlang_form_of, fault, misplaced, registered, subtag};
 use crate::scan::{class, scan};
-use crate::types::{extension, new, types};
+use crate::types::{extension, fronts, new, spelling, types};
 use crate::walks::walk;
 use std::alloc::{AllocError, Global};
 use std::str::from_utf8;
@@ -38,6 +38,8 @@ pub(crate) fn answer(
     match call {
         "types" => types(alloc, first),
         "new" => new(alloc, first, second),
+        "fronts" => fronts(alloc, first, second),
+        "spelling" => spelling(alloc, first),
         "extension" => extension(alloc, first, second),
         "walk" => walk(alloc, first, second, third),
         "edit" => edit(alloc, first, second, third),

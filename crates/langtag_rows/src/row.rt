@@ -48,10 +48,11 @@ fn cut<'a>(text: &'a str, separator: &str) -> (&'a str, &'a str) {
 fn argument_count(call: &str) -> usize {
     match call {
         "filter" | "walk" => 3,
-        "header" | "ranges" | "new" | "extension" | "match" | "order" => 2,
+        "header" | "ranges" | "new" | "fronts" | "extension" | "match" | "order" => 2,
         "scan"
         | "types"
         | "class"
+        | "spelling"
         | "recommended"
         | "elements"
         | "fallbacks"

@@ -78,3 +78,15 @@ pub(crate) fn put_word(out: &mut String, word: Option<&str>) -> Result<(), Alloc
         None => out.push_str("-"),
     }
 }
+
+/// Adds a text that may have braces, which a row writes `\x7b` and `\x7d`.
+pub(crate) fn put_braces(out: &mut String, text: &str) -> Result<(), AllocError> {
+    for letter in text.chars() {
+        match letter {
+            '{' => out.push_str("\\x7b")?,
+            '}' => out.push_str("\\x7d")?,
+            letter => out.push(letter)?,
+        }
+    }
+    Ok(())
+}

@@ -1,6 +1,6 @@
 //! Calls of the text types.
 use crate::seen::{Seen, pieces_of, seen};
-use crate::texts::put_word;
+use crate::texts::{put_braces, put_word};
 use langtag::{
     ExtendedLangTag, ExtendedLangTagBuf, Extension, ExtensionBuf, ExtensionSubtag,
     ExtensionSubtagBuf, Extensions, ExtensionsBuf, GrandfatheredLangTag, LangTag, LangTagBuf,
@@ -155,11 +155,43 @@ pub(crate) fn types(alloc: Global, text: &str) -> Result<String, AllocError> {
     Ok(out)
 }
 
+/// How many prefixes of a text a type accepts.
+pub(crate) fn fronts(alloc: Global, name: &str, text: &str) -> Result<String, AllocError> {
+    let mut accepted: u32 = 0;
+    for len in 0..=text.len() {
+        let front = text.get(..len).unwrap_or("");
+        let Some(seen) = see(alloc, name, front) else {
+            return String::from_str(alloc, "not a type");
+        };
+        accepted = accepted.saturating_add(u32::from(seen?.is_accepted()));
+    }
+    format!(in alloc; "{accepted}")
+}
+
+/// The name of a grandfathered tag, its registered spelling, and the language of a regular one; or the message of a refusal.
+pub(crate) fn spelling(alloc: Global, text: &str) -> Result<String, AllocError> {
+    let tag = match GrandfatheredLangTag::new(text.as_bytes()) {
+        Ok(tag) => tag,
+        Err(refusal) if refusal.0 == text.as_bytes() => return format!(in alloc; "{refusal}"),
+        Err(_) => return String::from_str(alloc, "another text"),
+    };
+    let mut out = format!(in alloc; "{tag:?}")?;
+    put_word(&mut out, Some(tag.as_str()))?;
+    match tag.language() {
+        Some(language) => put_word(&mut out, Some(language.as_str()))?,
+        None => put_word(&mut out, None)?,
+    }
+    Ok(out)
+}
+
 /// How a singleton is shown, or the message of its refusal.
 fn singleton(alloc: Global, text: &str) -> Result<String, AllocError> {
     match Singleton::from_string(text) {
         Ok(singleton) if pieces_of(&singleton) == 1 => {
-            format!(in alloc; "{singleton} {singleton:?}")
+            let mut out = String::new(alloc);
+            let shown = format!(in alloc; "{singleton} {singleton:?}")?;
+            put_braces(&mut out, shown.as_str())?;
+            Ok(out)
         }
         Ok(_) => String::from_str(alloc, "in pieces"),
         Err(refusal) if refusal.0 == text => format!(in alloc; "{refusal}"),
