@@ -11,7 +11,7 @@ use Rattle.langtag_scan.specs.Tag.{IsPrivate}
 use Rattle.langtag_scan.specs.declared.ends.Ends.{Ends}
 use Rattle.langtag_scan.proofs.Joins.{hyphenated, join-hyphenated, join-append, drop-join, length-join, length-hyphenated, join-replaced, join-around}
 use Rattle.langtag_scan.proofs.PartOffsets.{ends_equal}
-use Rattle.langtag_scan.proofs.SpelledTexts.{ends_each, ends_had}
+use Rattle.langtag_scan.proofs.SpelledTexts.{ends_each}
 use Rattle.langtag_scan.proofs.SubtagFacts.{of_script, of_region, of_variant}
 use Rattle.langtag_language.specs.Language.{SpellsLanguage}
 use Rattle.langtag_place.specs.declared.region.Region.{Region}

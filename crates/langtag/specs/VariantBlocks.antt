@@ -1,5 +1,5 @@
 -- What a block of variants keeps. Contracts of private functions alone speak of it.
-use Rattle.std.specs.Prelude.{◌≡◌, ℕ, ◌+◌, ◌<◌, ◌≤◌, Bool, false, ◌==◌, List, map, take, drop, length, slice_index, slice_index_or, [], Option, None, Some}
+use Rattle.std.specs.Prelude.{◌≡◌, ℕ, ◌<◌, ◌≤◌, Bool, false, ◌==◌, List, map, take, drop, length, slice_index, slice_index_or, [], Option, None, Some}
 use Rattle.std.specs.List.{list_any}
 use Rattle.std.specs.List.Sorted.{IsPermutation}
 use Rattle.langtag_scan.specs.Case.{are_alike, folded_number}
