@@ -1,5 +1,5 @@
 -- The canonical form of a tag (RFC 5646 section 4.5).
-use Rattle.std.specs.Prelude.{◌≡◌, ℕ, ◌==◌, ◌⊎◌, Bool, List, [], ◌∷◌, length, map, filter, find, codes, Option, None, Some, if◌then◌else◌, unwrap_or}
+use Rattle.std.specs.Prelude.{◌≡◌, ℕ, ◌+◌, ◌*◌, ◌==◌, ◌⊎◌, Bool, List, [], ◌∷◌, length, map, filter, find, codes, Option, None, Some, if◌then◌else◌, unwrap_or}
 use Rattle.std.specs.List.{flat_map}
 use Rattle.std.specs.Option.{option_map, option_map_or}
 use Rattle.langtag_scan.specs.Case.{are_alike}
@@ -72,6 +72,10 @@ pub record IsCanonicalForm (old new : List ℕ) : Type 0 where
   pub whole : (w : List ℕ) → preferred_tag old ≡ Some w → new ≡ w
   pub kept : preferred_tag old ≡ None → IsGrandfathered old ⊎ (IsNormal old → ⊥) → new ≡ old
   pub parts : preferred_tag old ≡ None → (IsGrandfathered old → ⊥) → EachRecord old (λ r. new ≡ canonical_text r)
+
+-- the form of a text of so many bytes has no more than this
+abbrev pub canonical_bound : ℕ → ℕ
+canonical_bound len = 2 * len + 14
 
 -- ---- the extlang form: the canonical form, and before a language that is registered as an extended one, too, its Prefix
 -- (section 3.1.8); after three extended subtags, which no valid tag has, there is no room for one more

@@ -41,7 +41,7 @@ mod subtags;
 mod tables;
 mod validity;
 
-pub use canonical_form::{canonical, is_canonical, write_canonical};
+pub use canonical_form::{canonical, canonical_bound, is_canonical, write_canonical};
 pub use deprecated::{
     is_deprecated_extlang, is_deprecated_language, is_deprecated_region, is_deprecated_tag,
     is_deprecated_variant,
@@ -57,4 +57,4 @@ pub use subtags::{
     is_registered_extlang, is_registered_region, is_registered_script, is_registered_variant,
 };
 pub use tables::FILE_DATE;
-pub use validity::validate;
+pub use validity::{fault_at, validate};
