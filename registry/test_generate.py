@@ -105,9 +105,12 @@ BROKEN = {
         ("redundant az-Arab-baku1926x", NEWER + record("redundant", "az-Arab-baku1926x", "Preferred-Value: az-Arab")),
         ("grandfathered i-default", with_field("grandfathered", "i-default", "Preferred-Value: zlm-MY-oxendict")),
     ],
+    premises.whole_tags_are_of_subtags: [
+        ("redundant sl_rozaj", NEWER + record("redundant", "sl_rozaj", "Deprecated: 2099-12-31")),
+        ("redundant sl-", NEWER + record("redundant", "sl-")),
+    ],
     premises.whole_tags_have_one_variant: [
         ("redundant sl-rozaj-biske", NEWER + record("redundant", "sl-rozaj-biske", "Preferred-Value: sl")),
-        ("redundant sl_rozaj", NEWER + record("redundant", "sl_rozaj", "Preferred-Value: sl")),
     ],
     premises.grandfathered_tags_are_those_of_the_grammar: [
         ("grandfathered i-nine", NEWER + record("grandfathered", "i-nine")),
