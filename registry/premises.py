@@ -123,7 +123,8 @@ def grandfathered_tags_are_those_of_the_grammar(registry: Registry) -> Iterator[
     for text in sorted(GRANDFATHERED ^ set(registry.kinds["grandfathered"])):
         yield f"grandfathered {text}: in {'the grammar' if text in GRANDFATHERED else 'the registry'} alone"
     for record in registry.all("grandfathered"):
-        if is_of("extlang", record.text.split("-")[1]) and not record.values("Preferred-Value") and record.text.lower() != "zh-min":
+        second = record.text.partition("-")[2].partition("-")[0]
+        if is_of("extlang", second) and not record.values("Preferred-Value") and record.text.lower() != "zh-min":
             yield f"{record}: with an extended language, and without a Preferred-Value"
 
 

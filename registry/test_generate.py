@@ -114,6 +114,7 @@ BROKEN = {
     ],
     premises.grandfathered_tags_are_those_of_the_grammar: [
         ("grandfathered i-nine", NEWER + record("grandfathered", "i-nine")),
+        ("grandfathered nine", NEWER + record("grandfathered", "nine")),
         ("grandfathered i-mingo", edited("Tag: i-mingo\n", "Tag: i-mango\n")),
         ("grandfathered zh-min-nan", edited("Tag: zh-min-nan\nDescription: Minnan, Hokkien, Amoy, Taiwanese, Southern Min, Southern\n"
                                             "  Fujian, Hoklo, Southern Fukien, Ho-lo\nAdded: 2001-03-26\nDeprecated: 2009-07-29\nPreferred-Value: nan\n",
