@@ -56,27 +56,27 @@ FAULTS = {
         swapped(H, "LANGTAG_ACCEPTED_BAD_RANGE", "LANGTAG_ACCEPTED_BAD_WEIGHT"),
         swapped(H, "langtag_span variants;", "langtag_span extensions;"),
         swapped(H, "langtag_span variant;", "langtag_span singleton;"),
-        Fault(H, "LANGTAG_REPEATED_VARIANT = 1, LANGTAG_REPEATED_SINGLETON = 2", "LANGTAG_REPEATED_VARIANT = 2, LANGTAG_REPEATED_SINGLETON = 1"),
+        swapped(H, "LANGTAG_REPEATED_VARIANT", "LANGTAG_REPEATED_SINGLETON"),
         Fault(H, "UINT64_C(0xcbf29ce484222325)", "UINT64_C(0xcbf29ce484222326)"),
     ],
     "C++": [
         Fault(HPP, "return cut(parts_.variants)", "return cut(parts_.extensions)"),
-        Fault(HPP, "return cut(parts_.region)", "return cut(parts_.region).substr(0, 2)"),
         swapped(HPP, "LANGTAG_PART_SCRIPT", "LANGTAG_PART_REGION"),
         swapped(HPP, "LANGTAG_INVALID_SCRIPT", "LANGTAG_INVALID_REGION"),
-        swapped(HPP, "LANGTAG_INVALID_REPEATED_VARIANT", "LANGTAG_INVALID_REPEATED_SINGLETON"),
         swapped(HPP, '"script "', '"region "'),
         Fault(HPP, "found <= LANGTAG_VALID)", "found <= LANGTAG_INVALID_LANGUAGE)"),
         Fault(HPP, "if (found == LANGTAG_NONE)", "if (found != LANGTAG_NORMAL)"),
+        Fault(HPP, "langtag_parse(langtag_bytes(text.data()), text.size(), &",
+              "langtag_parse(text.data(), __builtin_strlen(text.data()), &"),
         Fault(HPP, "text_.size() + given.size() + 1, ", "text_.size() + given.size(), "),
         Fault(HPP, "made.resize(len);", "made.resize(len < 256 ? len : 256);"),
-        Fault(HPP, "&made[0], made.size());\n        return made;", "&made[0], made.size());\n        return made.substr(0, 1000);"),
-        Fault(HPP, "text_.size(), &made[0], made.size());\n        return made;",
-              "text_.size(), &made[0], made.size());\n        langtag_recommend(&made[0], made.size());\n        return made;"),
-        swapped(HPP, "return langtag_matches_basic(", "return langtag_matches_extended("),
+        Fault(HPP, "&made[0], made.size());\n        return made;",
+              "&made[0], made.size());\n        return made.substr(0, 1000);"),
         Fault(HPP, "return langtag_matches_extended(", "return langtag_matches_basic("),
-        Fault(HPP, "return langtag_cmp(a.text_.data(), a.text_.size(), b.text_.data(), b.text_.size()) < 0;", "return a.text_ < b.text_;"),
-        Fault(HPP, "return langtag_eq(a.text_.data(), a.text_.size(), langtag_bytes(b.data()), b.size());", "return a.text_ == b;"),
+        Fault(HPP, "return langtag_cmp(a.text_.data(), a.text_.size(), b.text_.data(), b.text_.size()) < 0;",
+              "return a.text_ < b.text_;"),
+        Fault(HPP, "return langtag_eq(a.text_.data(), a.text_.size(), langtag_bytes(b.data()), b.size());",
+              "return a.text_ == b;"),
         Fault(HPP, "found == LANGTAG_RANGE_BASIC", "found != LANGTAG_RANGE_BASIC"),
         Fault(HPP, "cut(repeated().variant)", "cut(repeated().singleton)"),
         swapped(HPP, "LANGTAG_ACCEPTED_BAD_RANGE", "LANGTAG_ACCEPTED_BAD_WEIGHT"),
@@ -89,20 +89,22 @@ FAULTS = {
     "Rust": [
         rust("invalid_subtag", "offset: self.offset,", "offset: 0,"),
         rust("invalid_subtag", "fault: self.fault,", "fault: SubtagFault::Language,"),
-        swapped("rust/src/invalid_subtag.rs", "5 => SubtagFault::Script", "6 => SubtagFault::Region", test="table")._replace(
-            new="5 => SubtagFault::Region,\n            6 => SubtagFault::Script"),
+        rust("invalid_subtag", "5 => SubtagFault::Script,\n            6 => SubtagFault::Region",
+             "6 => SubtagFault::Script,\n            5 => SubtagFault::Region"),
         rust("invalid_subtag", '("variant", "is repeated")', '("variant", "is not registered")'),
         rust("lang_tag", "InvalidSubtag::of(self.as_str()).map_or(Ok(()), Err)", "Ok(())"),
         rust("lang_tag_buf", "self.as_lang_tag().validate()", "Ok(())"),
         rust("lang_tag_buf", "self.as_lang_tag().is_canonical()", "true"),
         swapped("rust/src/ffi.rs", "self.parts.script", "self.parts.region", test="table"),
         rust("ffi", "    Script,\n    Region,\n", "    Region,\n    Script,\n", "edits"),
-        rust("language_range", "ffi::matches_extended(self.text, tag.as_str())", "ffi::matches_basic(self.text, tag.as_str())"),
-        rust("language_range_buf", "self.as_language_range().matches_basic(tag)", "self.as_language_range().matches_extended(tag)"),
-        rust("canonical", "ffi::canonical(self.as_str(), &mut form);\n", "ffi::canonical(self.as_str(), &mut form);\n        form.truncate(514);\n"),
+        rust("language_range", "ffi::matches_extended(self.text", "ffi::matches_basic(self.text"),
+        rust("language_range_buf", "self.as_language_range().matches_basic(", "self.as_language_range().matches_extended("),
+        rust("canonical", "&mut form);\n", "&mut form);\n        form.truncate(514);\n"),
         rust("caseless", "        ffi::fold(folded);\n", ""),
-        rust("error", "index: self.index,\n            offset: self.offset,", "index: self.offset,\n            offset: self.index,", "negotiation"),
-        rust("error", "EditError::InvalidPart(text) => EditError::InvalidPart(text.into()),", "EditError::InvalidPart(_) => EditError::NotNormal,", "edits"),
+        rust("error", "index: self.index,\n            offset: self.offset,",
+             "index: self.offset,\n            offset: self.index,", "negotiation"),
+        rust("error", "EditError::InvalidPart(text) => EditError::InvalidPart(text.into()),",
+             "EditError::InvalidPart(_) => EditError::NotNormal,", "edits"),
         rust("error", '"element {} has a bad {}", self.index', '"element {} has a bad {}", self.offset', "negotiation"),
         swapped("rust/src/error.rs", '"language range"', '"weight"', test="negotiation"),
         rust("edit", 'text == Some("") && self.kind() == Kind::Normal', "false", "edits"),
@@ -121,18 +123,19 @@ FAULTS = {
         Fault(PY, "{self.subtag!r} {how}", "{how}"),
         Fault(PY, "(self.header, self.index, self.offset, self.part)", "(self.header, self.index, 0, self.part)"),
         Fault(PY, 'data.count(b",", 0, span.start), span.start', 'span.start, data.count(b",", 0, span.start)'),
-        swapped(PY, '"language range", 3', '"weight"')._replace(new='"weight", 3: "language range"'),
+        Fault(PY, '{2: "language range", 3: "weight"}', '{3: "language range", 2: "weight"}'),
         Fault(PY, "self.part, self.text = part, text", "self.part, self.text = part, None"),
         Fault(PY, "hash(self._data.lower())", "hash(self._data)"),
         Fault(PY, "if answer == 1 and weight > 0", "if answer == 1"),
         Fault(PY, 'range._data.replace(b"-*", b"")', "range._data"),
-        Fault(PY, "        parts = _Parts()\n", "        parts = _Parts()\n        _FUNCTIONS.setdefault('kept', []).append(data)\n",
+        Fault(PY, "        parts = _Parts()\n",
+              "        parts = _Parts()\n        _FUNCTIONS.setdefault('kept', []).append(data)\n",
               "test_that_nothing_is_kept", "test_langtag.Memory"),
     ],
     "SQLite": [
         swapped(SQL, "&parts->script", "&parts->region"),
         Fault(SQL, '{"private_use", &parts->private_use}', '{"private_use", &parts->extensions}'),
-        Fault(SQL, "langtag_parse(tag, (size_t)sqlite3_value_bytes(values[0]), &parts)", "langtag_parse(tag, strlen(tag), &parts)"),
+        Fault(SQL, "langtag_parse(tag, (size_t)sqlite3_value_bytes(values[0]), &", "langtag_parse(tag, strlen(tag), &"),
         Fault(SQL, "size_t len = (size_t)sqlite3_value_bytes(values[0]);", "size_t len = tag ? strlen(tag) : 0;"),
         Fault(SQL, "(int)span->len, SQLITE_TRANSIENT", "(int)(span->len < 255 ? span->len : 255), SQLITE_TRANSIENT"),
         Fault(SQL, "form, form_len, sqlite3_free", "form, form_len < 512 ? form_len : 512, sqlite3_free"),
@@ -144,22 +147,24 @@ FAULTS = {
         Fault(SQL, "answer == LANGTAG_VALID)", "answer != LANGTAG_VALIDITY_NONE)"),
         swapped(SQL, "values, langtag_matches_basic)", "values, langtag_matches_extended)"),
         Fault(SQL, "values, langtag_matches_extended)", "values, langtag_matches_basic)"),
-        Fault(SQL, "langtag_bytes(a), (size_t)a_len, langtag_bytes(b), (size_t)b_len", "langtag_bytes(b), (size_t)b_len, langtag_bytes(a), (size_t)a_len"),
+        Fault(SQL, "langtag_bytes(a), (size_t)a_len, langtag_bytes(b), (size_t)b_len",
+              "langtag_bytes(b), (size_t)b_len, langtag_bytes(a), (size_t)a_len"),
         Fault(SQL, "return langtag_cmp(langtag_bytes(a), (size_t)a_len, langtag_bytes(b), (size_t)b_len);",
               "return memcmp(a, b, (size_t)(a_len < b_len ? a_len : b_len));"),
     ],
 }
 
 # How the tests of a language are built and run, in a copy of bindings/.
-ASKED = "$ROWS/table.txt 300 $ROWS/negotiation.txt 85 $ROWS/edits.txt 70"
+ASKED = "$ROWS/table.txt 300 $ROWS/texts.txt 800 $ROWS/negotiation.txt 85 $ROWS/edits.txt 70"
 RUSTC = "rustc --edition 2021 -A warnings --cfg 'feature=\"alloc\"' -L native=$LIBRARIES"
 BUILD = {
     "C": "cc -w -std=c11 -Iinclude c/test/*.c examples/accept_language.c $LIBRARIES/liblangtag_verified.a -o test",
     "C++": "c++ -w -std=c++17 -Iinclude c/test/rows.cc $LIBRARIES/liblangtag_verified.a -o test",
-    "Rust": f"{RUSTC} --crate-name langtag_verified --crate-type rlib -l static=langtag_verified rust/src/lib.rs -o liblangtag.rlib &&"
-            f" {RUSTC} --extern langtag_verified=liblangtag.rlib --test rust/tests/$TEST.rs -o test",
+    "Rust": f"{RUSTC} --crate-name langtag_verified --crate-type rlib -l static=langtag_verified rust/src/lib.rs"
+            f" -o liblangtag.rlib && {RUSTC} --extern langtag_verified=liblangtag.rlib --test rust/tests/$TEST.rs -o test",
     "Python": "true",
-    "SQLite": "cc -w -O1 -fPIC -shared -Iinclude examples/sqlite_langtag.c $LIBRARIES/liblangtag_verified.a -o sqlite_langtag.so",
+    "SQLite": "cc -w -fPIC -shared -Iinclude examples/sqlite_langtag.c $LIBRARIES/liblangtag_verified.a"
+              " -o sqlite_langtag.so",
 }
 RUN = {
     "C": f"./test {ASKED}",
@@ -184,8 +189,8 @@ def asked(libraries: pathlib.Path, language: str, fault: Fault | None, test: str
             if fault.old not in text:
                 return "the text is not there"
             (copy / fault.file).write_text(text.replace(fault.old, fault.new, 1))
-        environment = {**os.environ, "LIBRARIES": str(libraries), "ROWS": str(ROWS), "TEST": test, "PYTHONDONTWRITEBYTECODE": "1",
-                       "CARGO_MANIFEST_DIR": str(copy / "rust"),
+        environment = {**os.environ, "LIBRARIES": str(libraries), "ROWS": str(ROWS), "TEST": test,
+                       "PYTHONDONTWRITEBYTECODE": "1", "CARGO_MANIFEST_DIR": str(copy / "rust"),
                        "LANGTAG_LIBRARY": str(libraries / "liblangtag_verified.so.1")}
         environment.pop("LANGTAG_ANSWERS", None)
 
@@ -215,8 +220,8 @@ def main(libraries: pathlib.Path, languages: list[str]) -> int:
     bad = [(it, what) for it, what in zip(wanted, found) if what]
     for (language, fault, _), what in bad:
         print(f"{language}: {fault.file if fault else 'no fault'}: {fault.new if fault else ''!r}\n  {what}")
-    refused = {language: len(FAULTS[language]) for language in languages or FAULTS}
-    print(f"{sum(refused.values())} faults ({', '.join(f'{name} {count}' for name, count in refused.items())}), {len(bad)} amiss")
+    counts = ", ".join(f"{language} {len(FAULTS[language])}" for language in languages or FAULTS)
+    print(f"faults: {counts}; {len(bad)} of what was asked were amiss")
     return len(bad) > 0
 
 

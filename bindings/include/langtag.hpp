@@ -78,13 +78,12 @@ struct invalid_subtag {
 
 /* The 26 grandfathered tags as they are registered (RFC 5646 section 2.1): first the seventeen irregular ones. */
 inline constexpr std::string_view grandfathered_tags[] = {
-    "en-GB-oed", "i-ami", "i-bnn", "i-default", "i-enochian", "i-hak", "i-klingon", "i-lux", "i-mingo",
-    "i-navajo", "i-pwn", "i-tao", "i-tay", "i-tsu", "sgn-BE-FR", "sgn-BE-NL", "sgn-CH-DE",
-    "art-lojban", "cel-gaulish", "no-bok", "no-nyn", "zh-guoyu", "zh-hakka", "zh-min", "zh-min-nan", "zh-xiang"};
+    "en-GB-oed",   "i-ami",  "i-bnn",  "i-default", "i-enochian", "i-hak",     "i-klingon",  "i-lux",     "i-mingo",
+    "i-navajo",    "i-pwn",  "i-tao",  "i-tay",     "i-tsu",      "sgn-BE-FR", "sgn-BE-NL",  "sgn-CH-DE", "art-lojban",
+    "cel-gaulish", "no-bok", "no-nyn", "zh-guoyu",  "zh-hakka",   "zh-min",    "zh-min-nan", "zh-xiang"};
 
-/* A string that ends before what views it: a call that keeps a view has no overload for it. */
-template <class Allocator>
-using temporary_string = const std::basic_string<char, std::char_traits<char>, Allocator> &&;
+/* A string that is gone before the view of it is used: what keeps a view has a deleted overload for it. */
+template <class Allocator> using temporary_string = const std::basic_string<char, std::char_traits<char>, Allocator> &&;
 
 /* A language tag (RFC 5646 section 2.1). */
 class tag {
@@ -279,12 +278,15 @@ inline std::string folded(std::string_view text) {
 inline std::optional<std::string> from_parts(std::string_view language, std::string_view script = {},
                                              std::string_view region = {}, std::string_view variants = {},
                                              std::string_view extensions = {}, std::string_view private_use = {}) {
-    return tag::parse("und")->with({{part::language, language}, {part::script, script}, {part::region, region},
-                                    {part::variants, variants}, {part::extensions, extensions},
+    return tag::parse("und")->with({{part::language, language},
+                                    {part::script, script},
+                                    {part::region, region},
+                                    {part::variants, variants},
+                                    {part::extensions, extensions},
                                     {part::private_use, private_use}});
 }
 
-/* A tag that owns its text, to be kept. */
+/* A tag that owns its text, to be kept. One that was moved from may be assigned to or destroyed, and nothing else. */
 class owned_tag {
 public:
     /* None where the text is not a tag. */
@@ -434,7 +436,8 @@ public:
         std::uint32_t weight, answer;
         while ((answer = next(rest, element, weight)) == LANGTAG_ACCEPTED_RANGE) continue;
         if (answer == LANGTAG_ACCEPTED_END) return std::nullopt;
-        const auto commas = std::count(header_.begin(), header_.begin() + static_cast<std::ptrdiff_t>(element.start), ',');
+        const auto commas =
+            std::count(header_.begin(), header_.begin() + static_cast<std::ptrdiff_t>(element.start), ',');
         return langtag::bad_element{static_cast<element_part>(answer), static_cast<std::size_t>(commas), element.start};
     }
 
@@ -475,7 +478,9 @@ template <> struct std::hash<langtag::tag> {
     std::size_t operator()(const langtag::tag &tag) const noexcept { return static_cast<std::size_t>(tag.fnv1a()); }
 };
 template <> struct std::hash<langtag::owned_tag> {
-    std::size_t operator()(const langtag::owned_tag &tag) const noexcept { return std::hash<langtag::tag>()(tag.view()); }
+    std::size_t operator()(const langtag::owned_tag &tag) const noexcept {
+        return std::hash<langtag::tag>()(tag.view());
+    }
 };
 
 #endif

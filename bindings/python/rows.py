@@ -10,9 +10,10 @@ from typing import Callable, Iterator, Mapping, NamedTuple
 
 FOLDER = pathlib.Path(__file__).resolve().parent.parent.parent / "crates/langtag_rows/data"
 
-#: How many arguments each call has.
+#: How many arguments each call has that is asked of the bindings.
 CALLS = {
-    "tag": 1, "validity": 1, "canonical": 1, "grandfathered": 1, "viable": 1, "range": 1, "match": 2, "order": 2,
+    "tag": 1, "scan": 1, "recommended": 1, "validity": 1, "canonical": 1, "grandfathered": 1, "viable": 1, "range": 1,
+    "match": 2, "order": 2,
     "header": 2, "ranges": 2, "elements": 1, "fallbacks": 1, "filter": 3, "edit": 3,
 }
 
@@ -40,7 +41,7 @@ def unescape(word: str) -> bytes:
 
 
 def read(path: pathlib.Path) -> Iterator[Row]:
-    """The rows of a file. A call that nobody has is a KeyError."""
+    """The rows of a file, but for calls that the bindings lack."""
     lines = path.read_text("ascii").splitlines()
     for at, line in enumerate(lines):
         if not line or line[0] in "# ":
@@ -49,6 +50,8 @@ def read(path: pathlib.Path) -> Iterator[Row]:
         words = text.split(by)
         if by == " | " and words[0] not in CALLS:  # rows of edits begin with the tag
             words.insert(0, "edit")
+        if words[0] not in CALLS:
+            continue
         end = CALLS[words[0]] + 1
         wanted = by.join(words[end:])
         for more in lines[at + 1 :]:

@@ -111,6 +111,29 @@ def answer_grandfathered(text):
     return f"{GRANDFATHERED.index(found) if found else 26} {KINDS[langtag.kind(text)]}"
 
 
+def answer_scan(text):
+    """How many bytes decide the text, how many of its fronts are tags, and what it is, with the ends of its parts."""
+    tag, fronts = made(Tag, text), sum(langtag.kind(text[:end]) is not None for end in range(len(text) + 1))
+    what = KINDS[langtag.kind(text)]
+    if tag is not None and tag.kind is langtag.Kind.IRREGULAR:
+        what += f" {GRANDFATHERED.index(tag.grandfathered)}"
+    if tag is not None and tag.kind is langtag.Kind.NORMAL:
+        ends = [len(tag.language)]
+        extensions = "-".join("-".join([key, *subtags]) for key, subtags in tag.extensions.items())
+        if tag.repeated_singleton:  # of one singleton, a dict has the first extension alone
+            return None
+        for part in (tag.script, tag.region, "-".join(tag.variants), extensions, tag.private_use):
+            ends.append(ends[-1] + (1 + len(part) if part else 0))
+        what = " ".join([what, *map(str, ends)])
+    return f"{langtag.stop(text)} {fronts} {what}"
+
+
+def answer_recommended(text):
+    """Of tags; None of other texts."""
+    tag = made(Tag, text)
+    return None if tag is None else str(tag.recommended())
+
+
 def answer_range(text):
     range = made(Range, text)
     return "none" if range is None else "basic" if range.is_basic else "extended"
@@ -176,11 +199,12 @@ def answer_edit(tag, part, given):
 
 
 ANSWERS = {
-    "tag": answer_tag, "validity": answer_validity, "canonical": answer_canonical, "grandfathered": answer_grandfathered,
+    "tag": answer_tag, "scan": answer_scan, "recommended": answer_recommended, "validity": answer_validity,
+    "canonical": answer_canonical, "grandfathered": answer_grandfathered,
     "viable": lambda text: f"{langtag.viable(text)} {langtag.stop(text)}", "range": answer_range, "match": answer_match,
     "order": answer_order, "header": answer_header, "ranges": answer_ranges, "edit": answer_edit,
 }
-FLOORS = {"table.txt": 300, "negotiation.txt": 95, "edits.txt": 75}
+FLOORS = {"table.txt": 300, "texts.txt": 700, "negotiation.txt": 95, "edits.txt": 75}
 
 
 class Rows(unittest.TestCase):

@@ -152,6 +152,30 @@ static void answer_viable(text *to, const text *arguments) {
     put_number(to, "", langtag_stop(a.at, a.len));
 }
 
+/* Where each part of a normal tag ends, also of one that is absent. */
+static void put_ends(text *to, langtag_parts parts) {
+    const langtag_span spans[] = {parts.language, parts.script,     parts.region,
+                                  parts.variants, parts.extensions, parts.private_use};
+    for (size_t k = 0; k < sizeof spans / sizeof *spans; k++) put_number(to, "", spans[k].start + spans[k].len);
+}
+
+/* How many bytes decide the text, how many of its fronts are tags, and what it is. */
+static void answer_scan(text *to, const text *arguments) {
+    text a = arguments[0];
+    size_t tags = 0;
+    langtag_parts parts;
+    uint32_t kind = langtag_parse(a.at, a.len, &parts);
+    for (size_t len = 0; len <= a.len; len++) tags += langtag_kind(a.at, len) != LANGTAG_NONE;
+    put_number(to, "", langtag_stop(a.at, a.len)), put_number(to, "", tags);
+    put_word(to, " "), put_word(to, name_of_kind(kind));
+    if (kind == LANGTAG_NORMAL) put_ends(to, parts);
+    if (kind == LANGTAG_IRREGULAR) put_number(to, "", langtag_grandfathered(a.at, a.len));
+}
+
+static void answer_recommended(text *to, const text *arguments) {
+    put_changed(to, "", arguments[0], langtag_recommend);
+}
+
 static void answer_range(text *to, const text *arguments) {
     static const char *const names[] = {
         [LANGTAG_RANGE_NONE] = "none",
@@ -211,8 +235,7 @@ static void put_edited(text *to, text tag, uint32_t part, text given) {
 static void answer_edit(text *to, const text *arguments) {
     text tag = arguments[0], given = arguments[2];
     uint32_t part = part_named(arguments[1]);
-    bool is_optional =
-        part == LANGTAG_PART_SCRIPT || part == LANGTAG_PART_REGION || part == LANGTAG_PART_PRIVATE_USE;
+    bool is_optional = part == LANGTAG_PART_SCRIPT || part == LANGTAG_PART_REGION || part == LANGTAG_PART_PRIVATE_USE;
     if (given.len == 0 && is_optional && langtag_kind(tag.at, tag.len) == LANGTAG_NORMAL) return;
     if (given.len == 4 && memcmp(given.at, "none", 4) == 0) given.len = 0;
     put_edited(to, tag, part, given);
@@ -259,10 +282,18 @@ static void answer_ranges(text *to, const text *arguments) {
 }
 
 call calls[] = {
-    {"tag", 1, answer_tag, 0},           {"validity", 1, answer_validity, 0},
-    {"canonical", 1, answer_canonical, 0}, {"grandfathered", 1, answer_grandfathered, 0},
-    {"viable", 1, answer_viable, 0},     {"range", 1, answer_range, 0},
-    {"match", 2, answer_match, 0},       {"order", 2, answer_order, 0},
-    {"edit", 3, answer_edit, 0},         {"header", 2, answer_header, 0},
-    {"ranges", 2, answer_ranges, 0},     {NULL, 0, NULL, 0},
+    {"tag", 1, answer_tag, 0},
+    {"validity", 1, answer_validity, 0},
+    {"canonical", 1, answer_canonical, 0},
+    {"grandfathered", 1, answer_grandfathered, 0},
+    {"viable", 1, answer_viable, 0},
+    {"range", 1, answer_range, 0},
+    {"scan", 1, answer_scan, 0},
+    {"recommended", 1, answer_recommended, 0},
+    {"match", 2, answer_match, 0},
+    {"order", 2, answer_order, 0},
+    {"edit", 3, answer_edit, 0},
+    {"header", 2, answer_header, 0},
+    {"ranges", 2, answer_ranges, 0},
+    {NULL, 0, NULL, 0},
 };

@@ -72,29 +72,26 @@ static void tell(const char *name, int line, const char *row, const char *wanted
     if (told++ < 3) printf("%s:%d: %.300s\n  wanted%.300s\n  found %.300s\n", name, line, row, wanted, found);
 }
 
-/* The calls that C has not. */
+/* The calls whose fields stand between bars and that C has not. */
 static const char *const lacking[] = {"elements", "fallbacks", "filter"};
 
-/* The call of a row; a row of edits begins with the tag. NULL where C has not the call. */
-static call *call_of(const char *place, int line, const char *row, const char *by, const char **rest) {
+/* The call of a row; a row of edits begins with the tag. One without a name where C has not the call. */
+static call *call_of(const char *row, const char *by, const char **rest) {
     text name = take_word(rest, by);
     call *found = call_named(name);
+    if (found->name || strcmp(by, " ") == 0) return found;
     for (size_t k = 0; k < sizeof lacking / sizeof *lacking; k++)
-        if (strlen(lacking[k]) == name.len && memcmp(lacking[k], name.at, name.len) == 0) return NULL;
-    if (!found->name && strcmp(by, " | ") == 0) {
-        *rest = row;
-        return call_named((text){(char *)"edit", 4, 4});
-    }
-    if (!found->name) printf("%s:%d: there is no call %.300s\n", place, line, row), exit(2);
-    return found;
+        if (strlen(lacking[k]) == name.len && memcmp(lacking[k], name.at, name.len) == 0) return found;
+    *rest = row;
+    return call_named((text){(char *)"edit", 4, 4});
 }
 
 /* Asks one row, with the lines that belong to it behind it. */
 static bool ask(const char *name, int line, const char *row, const char *more) {
     const char *by = strstr(row, " | ") ? " | " : " ", *rest = row;
     text arguments[ARGUMENTS], found = {NULL, 0, 0}, wanted = {NULL, 0, 0};
-    call *asked = call_of(name, line, row, by, &rest);
-    if (!asked) return false;
+    call *asked = call_of(row, by, &rest);
+    if (!asked->name) return false;
     for (int k = 0; k < asked->arguments; k++) arguments[k] = argument_of(take_word(&rest, by));
     put(&found, "", 0), put(&wanted, by, rest[0] != '\0' ? 1 : 0);
     put_word(&wanted, rest), put_word(&wanted, more);

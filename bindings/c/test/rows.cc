@@ -5,6 +5,7 @@
  */
 #include <langtag.hpp>
 
+#include <cstdio>
 #include <fstream>
 #include <iostream>
 #include <map>
@@ -55,8 +56,10 @@ static std::string tag_of(const strings &asked) {
     if (!one) return owned ? "an owned one" : out;
     const langtag::owned_tag copy(*one), moved(std::move(*owned));
     out += parts_of(*one);
-    if (parts_of(moved.view()) != parts_of(*one) || parts_of(copy.view()) != parts_of(*one)) out += "\n  owned ones have others";
-    if (moved.text() != asked[0] || copy != moved || moved.view().kind() != one->kind()) out += "\n  owned ones are others";
+    if (parts_of(moved.view()) != parts_of(*one) || parts_of(copy.view()) != parts_of(*one))
+        out += "\n  owned ones have others";
+    if (moved.text() != asked[0] || copy != moved || moved.view().kind() != one->kind())
+        out += "\n  owned ones are others";
     const std::string recommended = langtag::recommended(asked[0]), folded = langtag::folded(asked[0]);
     out += "\n  recommended " + recommended + "\n  folded " + folded;
     char digits[17];
@@ -98,7 +101,8 @@ static std::string canonical_of(const strings &asked) {
     if (!one) return "-";
     const std::string form = one->canonical();
     const auto same = tag::parse(form);
-    if (!same || !same->is_canonical() || one->is_canonical() != (*one == *same)) return form + ", and is_canonical says otherwise";
+    if (!same || !same->is_canonical() || one->is_canonical() != (*one == *same))
+        return form + ", and is_canonical says otherwise";
     return form;
 }
 
@@ -114,6 +118,36 @@ static std::string viable_of(const strings &asked) {
     return std::to_string(langtag::viable(asked[0])) + " " + std::to_string(langtag::stop(asked[0]));
 }
 
+/* How many bytes decide the text, how many of its fronts are tags, and what it is, with the ends of its parts. */
+static std::string scan_of(const strings &asked) {
+    const std::string_view text = asked[0];
+    const auto one = tag::parse(text);
+    int tags = 0;
+    for (std::size_t len = 0; len <= text.size(); len++) tags += tag::parse(text.substr(0, len)).has_value();
+    std::string out = std::to_string(langtag::stop(text)) + " " + std::to_string(tags) + " " + kind_of(text);
+    if (one && one->kind() == langtag::kind::irregular)
+        out += " " + grandfathered_of(asked).substr(0, grandfathered_of(asked).find(' '));
+    if (!one || one->kind() != langtag::kind::normal) return out;
+    for (std::string_view part :
+         {one->language(), one->script(), one->region(), one->variants(), one->extensions(), one->private_use()})
+        out += " " + std::to_string(part.data() + part.size() - text.data());
+    return out;
+}
+
+/* Bytes as the rows have them. */
+static std::string escaped(const std::string &text) {
+    std::string out = text.empty() ? "''" : "";
+    char digits[8];
+    for (const char byte : text) {
+        const bool is_plain = byte > ' ' && byte < 0x7f && byte != '\\' && byte != '{' && byte != '}';
+        std::snprintf(digits, sizeof digits, "\\x%02x", static_cast<unsigned>(static_cast<unsigned char>(byte)));
+        out += is_plain ? std::string(1, byte) : digits;
+    }
+    return out;
+}
+
+static std::string recommended_of(const strings &asked) { return escaped(langtag::recommended(asked[0])); }
+
 static std::string range_of(const strings &asked) {
     const auto one = langtag::range::parse(asked[0]);
     return !one ? "none" : one->is_basic() ? "basic" : "extended";
@@ -124,7 +158,8 @@ static std::string match_of(const strings &asked) {
     const auto one = tag::parse(asked[1]);
     if (!one) return "neither";
     const bool basic = langtag::matches_basic(asked[0], *one), extended = langtag::matches_extended(asked[0], *one);
-    const bool by_range = range && range->matches_basic(*one), extended_by_range = range && range->matches_extended(*one);
+    const bool by_range = range && range->matches_basic(*one),
+               extended_by_range = range && range->matches_extended(*one);
     if (basic != by_range || extended != extended_by_range) return "the range says otherwise";
     return basic ? extended ? "both" : "basic" : extended ? "extended" : "neither";
 }
@@ -133,8 +168,9 @@ static std::string match_of(const strings &asked) {
 static std::string order_of(const strings &asked) {
     const auto one = tag::parse(asked[0]), other = tag::parse(asked[1]);
     if (!one || !other) return "";
-    const bool before = *one < *other, after = *one > *other, equal = *one == *other;
-    if ((*one <= *other) == after || (*one >= *other) == before || (*one != *other) == equal || before + after + equal != 1)
+    const bool before = *one<*other, after = *one> * other, equal = *one == *other;
+    if ((*one <= *other) == after || (*one >= *other) == before || (*one != *other) == equal ||
+        before + after + equal != 1)
         return "the operators disagree";
     if ((*one == other->text()) != equal || (other->text() == *one) != equal) return "the text says otherwise";
     const std::string key = langtag::folded(asked[0]), other_key = langtag::folded(asked[1]);
@@ -159,7 +195,9 @@ static std::vector<tag> tags_of(const strings &texts) {
     return out;
 }
 
-static std::string found_or_default(const std::optional<tag> &found) { return found ? std::string(found->text()) : "-"; }
+static std::string found_or_default(const std::optional<tag> &found) {
+    return found ? std::string(found->text()) : "-";
+}
 
 static std::string header_of(const strings &asked) {
     const strings texts = split(asked[1], " ");
@@ -195,12 +233,14 @@ static std::string edit_of(const strings &asked) {
     if (one->kind() == langtag::kind::normal && is_optional && asked[2].empty()) return "";
     const auto made = one->with(which, given);
     langtag::owned_tag kept(*one);
-    if (!made && (kept.set(which, given) || kept.text() != asked[0] || one->with({{which, given}}))) return "others have one";
+    if (!made && (kept.set(which, given) || kept.text() != asked[0] || one->with({{which, given}})))
+        return "others have one";
     if (!made) return one->kind() == langtag::kind::normal ? "refused" : "no parts";
     const auto again = tag::parse(*made);
     if (!again) return "not a tag: " + *made;
     langtag::owned_tag owned(*one);
-    if (!owned.set(which, given) || owned.text() != *made || one->with({{which, given}}) != made) return "others have another";
+    if (!owned.set(which, given) || owned.text() != *made || one->with({{which, given}}) != made)
+        return "others have another";
     const auto whole = langtag::from_parts(again->language(), again->script(), again->region(), again->variants(),
                                            again->extensions(), again->private_use());
     return whole == made ? *made : "from_parts has another: " + whole.value_or("none");
@@ -211,10 +251,19 @@ static const struct call {
     std::string (*answer)(const strings &asked); /* empty where C++ does not answer */
 } no_call = {0, nullptr};
 static const std::map<std::string, call> calls = {
-    {"tag", {1, tag_of}},         {"validity", {1, validity_of}}, {"canonical", {1, canonical_of}},
-    {"viable", {1, viable_of}},   {"range", {1, range_of}},       {"grandfathered", {1, grandfathered_of}},
-    {"match", {2, match_of}},     {"order", {2, order_of}},       {"edit", {3, edit_of}},
-    {"header", {2, header_of}},   {"ranges", {2, ranges_of}},
+    {"tag", {1, tag_of}},
+    {"validity", {1, validity_of}},
+    {"canonical", {1, canonical_of}},
+    {"viable", {1, viable_of}},
+    {"range", {1, range_of}},
+    {"grandfathered", {1, grandfathered_of}},
+    {"scan", {1, scan_of}},
+    {"recommended", {1, recommended_of}},
+    {"match", {2, match_of}},
+    {"order", {2, order_of}},
+    {"edit", {3, edit_of}},
+    {"header", {2, header_of}},
+    {"ranges", {2, ranges_of}},
 };
 
 /* A line with each {N:piece} written out. */
@@ -224,7 +273,8 @@ static std::string expand(const std::string &line) {
     for (auto at = line.find('{'); at != line.npos; at = line.find('{', from)) {
         const auto colon = line.find(':', at), end = line.find('}', at);
         out.append(line, from, at - from);
-        for (int times = std::stoi(line.substr(at + 1)); times > 0; times--) out.append(line, colon + 1, end - colon - 1);
+        for (int times = std::stoi(line.substr(at + 1)); times > 0; times--)
+            out.append(line, colon + 1, end - colon - 1);
         from = end + 1;
     }
     return out.append(line, from, line.npos);

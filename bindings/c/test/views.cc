@@ -7,21 +7,26 @@
 #include <unordered_map>
 
 static int failures;
-#define CHECK(test) ((test) ? (void)0 : (failures++, (void)std::printf("%s:%d: failed: %s\n", __FILE__, __LINE__, #test)))
+#define CHECK(test)                                                                                                    \
+    ((test) ? (void)0 : (failures++, (void)std::printf("%s:%d: failed: %s\n", __FILE__, __LINE__, #test)))
 
 using langtag::tag;
 
 /* A text may be given, or it can't: a temporary string is gone before the view of it is used. */
 template <class Text, class = void> struct is_viewed : std::false_type {};
 template <class Text>
-struct is_viewed<Text, std::void_t<decltype(tag::parse(std::declval<Text>())), decltype(langtag::range::parse(std::declval<Text>())),
-                                   decltype(langtag::accept_language(std::declval<Text>())),
-                                   decltype(langtag::subtags(std::declval<Text>()))>> : std::true_type {};
+struct is_viewed<
+    Text, std::void_t<decltype(tag::parse(std::declval<Text>())), decltype(langtag::range::parse(std::declval<Text>())),
+                      decltype(langtag::accept_language(std::declval<Text>())),
+                      decltype(langtag::subtags(std::declval<Text>()))>> : std::true_type {};
 template <class Text, class = void> struct is_parsed : std::false_type {};
-template <class Text> struct is_parsed<Text, std::void_t<decltype(tag::parse(std::declval<Text>()))>> : std::true_type {};
+template <class Text>
+struct is_parsed<Text, std::void_t<decltype(tag::parse(std::declval<Text>()))>> : std::true_type {};
 template <class Text, class = void> struct is_range : std::false_type {};
-template <class Text> struct is_range<Text, std::void_t<decltype(langtag::range::parse(std::declval<Text>()))>> : std::true_type {};
-static_assert(is_viewed<const char (&)[3]>::value && is_viewed<const char *>::value && is_viewed<std::string_view>::value);
+template <class Text>
+struct is_range<Text, std::void_t<decltype(langtag::range::parse(std::declval<Text>()))>> : std::true_type {};
+static_assert(is_viewed<const char (&)[3]>::value && is_viewed<const char *>::value &&
+              is_viewed<std::string_view>::value);
 static_assert(is_viewed<std::string &>::value && is_viewed<const std::string &>::value);
 static_assert(!is_parsed<std::string>::value && !is_parsed<const std::string>::value);
 static_assert(!is_range<std::string>::value && !is_range<const std::string>::value);
@@ -31,14 +36,16 @@ static_assert(!std::is_constructible<langtag::extensions, const std::string>::va
 
 static void check_views() {
     CHECK(!tag::parse({}) && !langtag::range::parse({}) && langtag::viable({}) == 0 && langtag::stop({}) == 0);
-    CHECK(langtag::recommended({}).empty() && langtag::folded({}).empty() && langtag::subtags({}).begin() == langtag::subtags({}).end());
+    CHECK(langtag::recommended({}).empty() && langtag::folded({}).empty() &&
+          langtag::subtags({}).begin() == langtag::subtags({}).end());
     CHECK(!langtag::accept_language({}).bad_element() && langtag::accept_language({}).ranges().empty());
     const std::string text = "ja-heploc-u-co";
     CHECK(langtag::registry_date() == langtag_registry_date());
     const auto cut = tag::parse({text.data(), 9});
     CHECK(cut && cut->text().data() == text.data() && cut->canonical() == "ja-alalc97" && cut->extensions().empty());
     CHECK(!cut->with(langtag::part::region, {"CH\0", 3}) && !langtag::matches_basic({}, *cut));
-    CHECK(!langtag::from_parts("") && !langtag::from_parts("de", "Latin") && !langtag::from_parts("x-a") && langtag::from_parts("de") == "de");
+    CHECK(!langtag::from_parts("") && !langtag::from_parts("de", "Latin") && !langtag::from_parts("x-a") &&
+          langtag::from_parts("de") == "de");
 }
 
 static void check_walks() {
@@ -47,13 +54,15 @@ static void check_walks() {
     for (std::string_view variant : langtag::subtags(one->variants())) seen.append(variant).append(1, ' ');
     for (std::string_view extension : langtag::extensions(one->extensions())) seen.append(extension).append(1, ' ');
     langtag::for_each_subtag(one->script(), [&](std::string_view) { seen.append("none"); });
-    langtag::for_each_subtag(one->text().substr(0, 8), [&](std::string_view subtag) { seen.append(subtag).append(1, '.'); });
+    langtag::for_each_subtag(one->text().substr(0, 8),
+                             [&](std::string_view subtag) { seen.append(subtag).append(1, '.'); });
     CHECK(seen == "rozaj 1994 u-co-eor T-de de.rozaj.");
     auto at = langtag::subtags("de-AT").begin();
     CHECK(*at++ == "de" && *at == "AT" && ++at == langtag::subtags("de-AT").end());
     const auto range = langtag::range::parse("zh-Hant-*-CN-x-a");
     seen.clear();
-    for (auto next = range; next; next = next->fallback()) seen.append(next->text()).append(next->is_basic() ? ". " : " ");
+    for (auto next = range; next; next = next->fallback())
+        seen.append(next->text()).append(next->is_basic() ? ". " : " ");
     CHECK(seen == "zh-Hant-*-CN-x-a zh-Hant-*-CN zh-Hant. zh. ");
 }
 
@@ -61,12 +70,15 @@ static void check_keys() {
     const auto one = tag::parse("de-CH"), other = tag::parse("DE-ch"), more = tag::parse("de-CH-1996");
     const std::unordered_map<tag, int> hashed = {{*one, 1}};
     const std::map<tag, int> sorted = {{*one, 1}, {*more, 2}};
-    CHECK(hashed.count(*other) == 1 && hashed.count(*more) == 0 && sorted.count(*other) == 1 && sorted.begin()->second == 2);
-    CHECK(*one == "DE-CH" && "de-ch" == *one && *one != "de" && *one != std::string("de-CH-x") && *one == std::string_view("de-ch"));
+    CHECK(hashed.count(*other) == 1 && hashed.count(*more) == 0 && sorted.count(*other) == 1 &&
+          sorted.begin()->second == 2);
+    CHECK(*one == "DE-CH" && "de-ch" == *one && *one != "de" && *one != std::string("de-CH-x") &&
+          *one == std::string_view("de-ch"));
     langtag::owned_tag owned(*one);
     const std::unordered_map<langtag::owned_tag, int> owners = {{owned, 1}};
     CHECK(owned.set(langtag::part::script, "Latn") && owned.text() == "de-Latn-CH" && owned.view().script() == "Latn");
-    CHECK(owners.count(langtag::owned_tag(*other)) == 1 && owners.count(owned) == 0 && !langtag::owned_tag::parse("de_CH"));
+    CHECK(owners.count(langtag::owned_tag(*other)) == 1 && owners.count(owned) == 0 &&
+          !langtag::owned_tag::parse("de_CH"));
     CHECK(one->with({{langtag::part::script, "Latn"}, {langtag::part::region, "AT"}}) == "de-Latn-AT");
     CHECK(!one->with({{langtag::part::script, "Latin"}, {langtag::part::region, "AT"}}) && one->with({}) == "de-CH");
 }
@@ -74,7 +86,8 @@ static void check_keys() {
 static void check_ranges() {
     const auto ranges = langtag::accept_language("FR;q=0.5, d!, de, *;q=0, nl;q=0.25, en;q=0.5").ranges();
     std::string seen;
-    for (const auto &it : ranges) seen.append(it.range.text()).append(1, ' ').append(std::to_string(it.weight)).append(1, ' ');
+    for (const auto &it : ranges)
+        seen.append(it.range.text()).append(1, ' ').append(std::to_string(it.weight)).append(1, ' ');
     CHECK(seen == "de 1000 FR 500 en 500 nl 250 " && ranges[1].range.is_basic());
 }
 

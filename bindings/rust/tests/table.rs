@@ -228,6 +228,40 @@ fn answer_grandfathered(text: &[u8]) -> String {
     format!("{} {}", index.unwrap_or(26), name_of(Kind::of(text)))
 }
 
+/// How many bytes decide the text, how many of its fronts are tags, and what it is, with the ends of its parts.
+fn answer_scan(bytes: &[u8]) -> String {
+    let fronts = (0..=bytes.len()).filter(|end| Kind::of(&bytes[..*end]).is_some());
+    let head = format!("{} {}", stop_len(bytes), fronts.count());
+    let what = name_of(Kind::of(bytes));
+    let Some(tag) = std::str::from_utf8(bytes)
+        .ok()
+        .and_then(|text| LangTag::new(text).ok())
+    else {
+        return format!("{head} {what}");
+    };
+    if let (Kind::Irregular, Some(text)) = (tag.kind(), tag.as_grandfathered()) {
+        let number = GRANDFATHERED.iter().position(|it| *it == text);
+        return format!("{head} {what} {}", number.unwrap_or(26));
+    }
+    let Some(language) = tag.language() else {
+        return format!("{head} {what}");
+    };
+    let mut end = language.as_str().len();
+    let mut out = format!("{head} {what} {end}");
+    let private_use = tag.private_use().map_or("", |part| part.as_str());
+    for part in [
+        tag.script().unwrap_or(""),
+        tag.region().unwrap_or(""),
+        tag.variants().as_str(),
+        tag.extensions().as_str(),
+        private_use,
+    ] {
+        end += part.len() + usize::from(!part.is_empty());
+        out += &format!(" {end}");
+    }
+    out
+}
+
 fn answer_range(text: &str) -> &'static str {
     let (owned, read) = (LanguageRangeBuf::new(text.into()), LanguageRange::new(text));
     for made in [
@@ -312,6 +346,8 @@ fn answer(row: &Row) -> Option<String> {
     let bytes = &row.arguments[0];
     match row.call.as_str() {
         "tag" => Some(answer_tag(bytes)),
+        "scan" => Some(answer_scan(bytes)),
+        "recommended" => Some(recommended(LangTag::new(row.text(0)?).ok()?)),
         "grandfathered" => Some(answer_grandfathered(bytes)),
         "viable" => Some(format!("{} {}", viable_len(bytes), stop_len(bytes))),
         "validity" => Some(row.text(0).map_or("none".into(), answer_validity)),
@@ -326,6 +362,8 @@ fn answer(row: &Row) -> Option<String> {
 #[test]
 fn answers() {
     rows::ask(&rows::path("table.txt"), &CALLS, 300, answer);
+    let texts = rows::path("texts.txt");
+    rows::ask(&texts, &["scan", "recommended"], 700, answer);
     if let Ok(path) = std::env::var("LANGTAG_ANSWERS") {
         rows::ask(&path, &CALLS, 1000, answer);
     }
