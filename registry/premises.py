@@ -104,11 +104,16 @@ def replaced_tags_are_short(registry: Registry) -> Iterator[str]:
             yield f"{record}: its Preferred-Value {record.value('Preferred-Value')} is longer than {LONGEST_VALUE} bytes"
 
 
-def whole_tags_have_one_variant(registry: Registry) -> Iterator[str]:
-    """A whole tag that is grandfathered or replaced is of letters, digits and hyphens, with one subtag of the class of variants at most."""
-    for record in registry.all("grandfathered") + registry.all("redundant", having="Preferred-Value"):
+def whole_tags_are_of_subtags(registry: Registry) -> Iterator[str]:
+    """A whole tag is subtags of letters and digits."""
+    for record in registry.all(*TAG_TYPES):
         if not re.fullmatch("[a-z0-9]{1,8}(-[a-z0-9]{1,8})*", record.text, re.I | re.A):
             yield f"{record}: not subtags of one to eight letters and digits"
+
+
+def whole_tags_have_one_variant(registry: Registry) -> Iterator[str]:
+    """A whole tag that is grandfathered or replaced has one subtag of the class of variants at most."""
+    for record in registry.all("grandfathered") + registry.all("redundant", having="Preferred-Value"):
         if sum(is_of("variant", subtag) for subtag in record.text.split("-")) > 1:
             yield f"{record}: two subtags of the class of variants"
 
@@ -118,7 +123,8 @@ def grandfathered_tags_are_those_of_the_grammar(registry: Registry) -> Iterator[
     for text in sorted(GRANDFATHERED ^ set(registry.kinds["grandfathered"])):
         yield f"grandfathered {text}: in {'the grammar' if text in GRANDFATHERED else 'the registry'} alone"
     for record in registry.all("grandfathered"):
-        if is_of("extlang", record.text.split("-")[1]) and not record.values("Preferred-Value") and record.text.lower() != "zh-min":
+        second = record.text.partition("-")[2].partition("-")[0]
+        if is_of("extlang", second) and not record.values("Preferred-Value") and record.text.lower() != "zh-min":
             yield f"{record}: with an extended language, and without a Preferred-Value"
 
 
@@ -159,7 +165,7 @@ def scripts_stay(registry: Registry) -> Iterator[str]:
 
 PREMISES = [
     each_subtag_is_of_its_class, extlangs_are_themselves, extlangs_have_one_prefix, preferred_subtags_are_registered, preferred_subtags_stay,
-    whole_tags_become_simple_ones, preferred_tags_stay, replaced_tags_are_short, whole_tags_have_one_variant,
+    whole_tags_become_simple_ones, preferred_tags_stay, replaced_tags_are_short, whole_tags_are_of_subtags, whole_tags_have_one_variant,
     grandfathered_tags_are_those_of_the_grammar, fields_of_languages_are_of_their_class, values_fit_a_byte, prefixes_of_variants_are_ranges, scripts_stay,
 ]
 

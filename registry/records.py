@@ -66,7 +66,7 @@ class Registry:
 def fields_of(block: str) -> dict[str, list[str]]:
     """The fields of a record, each with its values; a line that begins with a space goes on with the one before."""
     fields: dict[str, list[str]] = {}
-    for line in filter(str.strip, re.sub(r"\n[ \t]+", " ", block).splitlines()):
+    for line in filter(str.strip, re.sub(r"\n[ \t]+", " ", block).split("\n")):
         found = re.fullmatch(r"([A-Za-z][A-Za-z0-9-]*)[ \t]*:[ \t]*(.*?)[ \t]*", line)
         if not found:
             raise Refused(f"a line without a field: {line!r}, in {block.splitlines()[:2]}")
