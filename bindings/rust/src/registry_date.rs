@@ -53,6 +53,9 @@ mod tests {
         let date = RegistryDate::from_number(20_051_016);
         assert_eq!((date.year, date.month, date.day), (2005, 10, 16));
         assert_eq!(date.to_string(), "2005-10-16");
-        assert_eq!(RegistryDate::from_number(8_010_203).to_string(), "0801-02-03");
+        assert_eq!(
+            RegistryDate::from_number(8_010_203).to_string(),
+            "0801-02-03"
+        );
     }
 }
