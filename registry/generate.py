@@ -1,6 +1,6 @@
 #!/usr/bin/env python3
 """Writes the tables and the lists of the crate langtag_registry from IANA's language subtag registry, which stands beside this
-file in its own form (RFC 5646 section 3.1.1).
+file in its own form (RFC 5646 section 3.1.1), and the pages of proofs that compare them.
 
 usage: generate.py            writes them from the registry whose checksum stands beside it
        generate.py --accept   writes them from a newer registry, and its checksum
@@ -19,6 +19,7 @@ import sys
 
 import lists as second_reading
 from premises import broken
+from proof_pages import PAGES
 from records import TAG_TYPES, Refused, Registry
 
 ROOT = pathlib.Path(__file__).resolve().parent.parent
@@ -26,6 +27,7 @@ REGISTRY = "registry/language-subtag-registry"
 CHECKSUM = "registry/language-subtag-registry.sha256"
 TABLES = "crates/langtag_registry/src/tables.rt"
 LISTS = "crates/langtag_registry/specs/Subtags.antt"
+PROOFS = "crates/langtag_registry/proofs"
 
 # The lists: a name, the Type of its records, and the number that a table has in place of the text.
 SUBTAGS = ["language", "extlang", "script", "region", "variant"]
@@ -170,7 +172,7 @@ def lists(registry):
 
 def written(registry):
     """The files that are made of a registry: of each its path and its text."""
-    return {TABLES: tables(registry), LISTS: lists(registry)}
+    return {TABLES: tables(registry), LISTS: lists(registry)} | {f"{PROOFS}/{name}.antt": page() for name, page in PAGES.items()}
 
 
 def checksum(source):

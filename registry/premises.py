@@ -19,8 +19,9 @@ GRANDFATHERED = set("""
     en-gb-oed i-ami i-bnn i-default i-enochian i-hak i-klingon i-lux i-mingo i-navajo i-pwn i-tao i-tay i-tsu sgn-be-fr sgn-be-nl sgn-ch-de
     art-lojban cel-gaulish no-bok no-nyn zh-guoyu zh-hakka zh-min zh-min-nan zh-xiang
 """.split())
-# The longest whole tag that is replaced, in bytes: the code looks no longer text up.
-LONGEST_REPLACED = 16
+# The longest whole tag that is replaced, and the longest value, in bytes: the code looks no longer text up, and the bound of a
+# form's length has room for no longer value.
+LONGEST_REPLACED, LONGEST_VALUE = 16, 14
 
 
 def is_of(kind: str, text: str) -> bool:
@@ -95,10 +96,12 @@ def preferred_tags_stay(registry: Registry) -> Iterator[str]:
 
 
 def replaced_tags_are_short(registry: Registry) -> Iterator[str]:
-    """A whole tag that is replaced has few bytes."""
+    """A whole tag that is replaced has few bytes, and so has its Preferred-Value."""
     for record in registry.all(*TAG_TYPES, having="Preferred-Value"):
         if len(record.text) > LONGEST_REPLACED:
             yield f"{record}: longer than {LONGEST_REPLACED} bytes, with a Preferred-Value"
+        if len(record.value("Preferred-Value")) > LONGEST_VALUE:
+            yield f"{record}: its Preferred-Value {record.value('Preferred-Value')} is longer than {LONGEST_VALUE} bytes"
 
 
 def whole_tags_have_one_variant(registry: Registry) -> Iterator[str]:

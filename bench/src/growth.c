@@ -40,6 +40,7 @@ size_t langtag_bench_write_canonical(const char *bytes, size_t len, char *into, 
 bool langtag_bench_is_canonical(const char *bytes, size_t len);
 bool langtag_bench_is_valid(const char *bytes, size_t len);
 size_t langtag_bench_misplaced_variant(const char *bytes, size_t len);
+size_t langtag_bench_misplaced_extlang(const char *bytes, size_t len);
 bool langtag_bench_fields(const char *bytes, size_t len);
 
 static struct parts parts;
@@ -90,6 +91,7 @@ FUNCTION(write_canonical, result = langtag_bench_write_canonical(text, len, into
 FUNCTION(is_canonical, result = langtag_bench_is_canonical(text, len))
 FUNCTION(is_valid, result = langtag_bench_is_valid(text, len))
 FUNCTION(misplaced_variant, result = langtag_bench_misplaced_variant(text, len))
+FUNCTION(misplaced_extlang, result = langtag_bench_misplaced_extlang(text, len))
 FUNCTION(fields, result = langtag_bench_fields(text, len))
 
 #define ENTRY(name)                                                                                                    \
@@ -135,6 +137,7 @@ static const struct function functions[] = {
     ENTRY(is_canonical),
     ENTRY(is_valid),
     ENTRY(misplaced_variant),
+    ENTRY(misplaced_extlang),
     ENTRY(fields),
 };
 

@@ -16,7 +16,8 @@ static size_t calls, faults, refused;
 static void check(const char *name, size_t len, bool is_right) {
     calls++;
     if (is_right && !refused) return;
-    if (faults++ < 30) printf("sweep: %s of %zu bytes, %.40s: %s\n", name, len, text, refused ? "refused" : "wrong");
+    const char *what = refused ? "refused" : "wrong";
+    if (faults++ < 30) printf("sweep: %s of %zu bytes, %.*s: %s\n", name, len, len < 40 ? (int)len : 40, text, what);
     refused = 0;
 }
 
@@ -153,10 +154,8 @@ static void sweep_maps(void) {
     }
 }
 
-/* A tag of few subtags, given in small letters, and in its recommended case. */
-static void check_subtag(const char *recommended) {
-    size_t len = append(text, 0, recommended), wanted_len = append(wanted, 0, recommended);
-    for (size_t at = 0; at < len; at++) text[at] |= 0x20; /* a hyphen and a digit stay */
+/* A tag of few subtags. */
+static void check_short(size_t len) {
     check("copies", len, langtag_bench_copies(text, len, &refused));
     check("set_normal", len, langtag_bench_set_normal("sl-IT", 5, text, len, &refused));
     check("set_of_any", len, langtag_bench_set_of_any("sl-IT", 5, text, len, &refused));
@@ -164,6 +163,14 @@ static void check_subtag(const char *recommended) {
     check("header", len, langtag_bench_header(text, len, &refused));
     check("canonical", len, langtag_bench_canonical(text, len, written, sizeof written, &refused) > 0);
     check("extlang_form", len, langtag_bench_extlang_form(text, len, written, sizeof written, &refused) > 0);
+}
+
+/* A tag in its recommended case, and in small letters. */
+static void check_subtag(const char *recommended) {
+    size_t len = append(text, 0, recommended), wanted_len = append(wanted, 0, recommended);
+    check_short(len);
+    for (size_t at = 0; at < len; at++) text[at] |= 0x20; /* a hyphen and a digit stay */
+    check_short(len);
     check("recommended", len, is_wanted(langtag_bench_recommended(text, len, written, sizeof written, &refused), wanted_len));
     check("displayed", len, is_wanted(langtag_bench_displayed(text, len, written, sizeof written, &refused), wanted_len));
 }

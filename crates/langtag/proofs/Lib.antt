@@ -1,6 +1,7 @@
 pub mod PartsFound
 pub mod PartRules
 pub mod EditLaws
+pub mod PartLaws
 mod SetBack
 pub mod RegisteredLaws
 pub mod KeptFound

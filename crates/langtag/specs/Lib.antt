@@ -1,5 +1,6 @@
 pub mod Edit
 pub mod Lengths
+pub mod PartPlaces
 pub mod Offsets
 pub mod Repeat
 pub mod VariantBlocks

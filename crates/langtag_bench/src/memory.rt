@@ -14,19 +14,7 @@ use langtag::{
 };
 use langtag_match::{AcceptLanguage, AcceptLanguageError, LanguageRangeBuf, tag_for_header};
 use std::alloc::Global;
-
-/// Whether a value is displayed as its text, or memory was refused to that, which is counted.
-macro_rules! is_shown {
-    ($alloc:ident, $value:expr, $refused:ident) => {
-        match format!(in $alloc; "{}", $value) {
-            Ok(shown) => shown.as_str() == $value.as_str(),
-            Err(_) => {
-                *$refused = $refused.saturating_add(1);
-                true
-            }
-        }
-    };
-}
+use std::fmt;
 
 /// Whether a copy is read as an owned value that is equal to the part, and both are displayed as their texts; or memory was
 /// refused to it, which is counted.
@@ -36,8 +24,8 @@ macro_rules! is_right {
             Ok(copy) => match $owned::new(copy.into_string()) {
                 Ok(read) => {
                     $part.eq_str(read.as_str())
-                        && is_shown!($alloc, $part, $refused)
-                        && is_shown!($alloc, read, $refused)
+                        && is_shown($alloc, &$part, $part.as_str(), $refused)
+                        && is_shown($alloc, &read, read.as_str(), $refused)
                 }
                 Err(_) => false,
             },
@@ -163,6 +151,17 @@ fn is_private_use_copied(alloc: Global, part: PrivateUse<'_>, refused: &mut usiz
         is_copied &= is_copied!(alloc, subtag, PrivateUseSubtagBuf, refused);
     }
     is_copied
+}
+
+/// Whether a value is displayed as a text, or memory was refused to that, which is counted.
+fn is_shown<T: fmt::Display>(alloc: Global, value: &T, text: &str, refused: &mut usize) -> bool {
+    match format!(in alloc; "{}", value) {
+        Ok(shown) => shown.as_str() == text,
+        Err(_) => {
+            *refused = refused.saturating_add(1);
+            true
+        }
+    }
 }
 
 /// The normal tag that the bytes are.

@@ -10,8 +10,9 @@ use crate::written::{count, write_text};
 use langtag::{ExtendedLangTag, LangTag, NormalLangTag, PrimaryLanguage, Region, Script, Variant};
 use langtag_registry::{
     canonical, extlang_form, extlang_prefix, is_canonical, is_deprecated_extlang,
-    is_deprecated_language, is_deprecated_region, is_deprecated_variant, is_extlang, is_language,
-    is_region, is_script, is_variant, macrolanguage, misplaced_variant, preferred_language,
+    is_deprecated_language, is_deprecated_region, is_deprecated_tag, is_deprecated_variant,
+    is_registered_extlang, is_registered_language, is_registered_region, is_registered_script,
+    is_registered_variant, macrolanguage, misplaced_extlang, misplaced_variant, preferred_language,
     preferred_region, preferred_tag, preferred_variant, suppress_script, validate, write_canonical,
 };
 use std::alloc::Global;
@@ -99,6 +100,18 @@ pub extern "C" fn langtag_bench_misplaced_variant(bytes: &[u8]) -> usize
     misplaced_variant(tag).map_or(0, |variant| variant.as_str().len())
 }
 
+/// Returns the length of the extended language of a normal tag that stands after another language than its prefix; 0 where
+/// none does.
+#[unsafe(no_mangle)]
+pub extern "C" fn langtag_bench_misplaced_extlang(bytes: &[u8]) -> usize
+    ensures { (IsNormal bytes.now → ⊥) → result ≡ 0 }
+{
+    let Some(tag) = normal_of(bytes) else {
+        return 0;
+    };
+    misplaced_extlang(tag).map_or(0, |extlang| extlang.as_str().len())
+}
+
 /// Asks all that the registry has of the subtags of a normal tag. Returns whether it has something of one of them.
 #[unsafe(no_mangle)]
 pub extern "C" fn langtag_bench_fields(bytes: &[u8]) -> bool
@@ -110,9 +123,9 @@ pub extern "C" fn langtag_bench_fields(bytes: &[u8]) -> bool
     }
 }
 
-/// Whether a tag is replaced as a whole.
+/// Whether a tag is deprecated, or replaced, as a whole.
 fn is_replaced(tag: LangTag<'_>) -> bool {
-    preferred_tag(tag).is_some()
+    is_deprecated_tag(tag) | preferred_tag(tag).is_some()
 }
 
 /// Whether the registry has something of a subtag of a tag.
@@ -132,7 +145,7 @@ fn is_known_language(tag: NormalLangTag<'_>) -> bool {
 
 /// Whether it has something of a primary language.
 fn is_known_primary(language: PrimaryLanguage<'_>) -> bool {
-    is_language(language)
+    is_registered_language(language)
         | is_deprecated_language(language)
         | preferred_language(language).is_some()
         | macrolanguage(language).is_some()
@@ -141,7 +154,9 @@ fn is_known_primary(language: PrimaryLanguage<'_>) -> bool {
 
 /// Whether it has something of an extended language.
 fn is_known_extlang(extlang: ExtendedLangTag<'_>) -> bool {
-    is_extlang(extlang) | is_deprecated_extlang(extlang) | extlang_prefix(extlang).is_some()
+    is_registered_extlang(extlang)
+        | is_deprecated_extlang(extlang)
+        | extlang_prefix(extlang).is_some()
 }
 
 /// Whether it has something of the script or the region of a tag.
@@ -151,12 +166,12 @@ fn is_known_place(tag: NormalLangTag<'_>) -> bool {
 
 /// Whether it has a script.
 fn is_known_script(script: Script<'_>) -> bool {
-    is_script(script)
+    is_registered_script(script)
 }
 
 /// Whether it has something of a region.
 fn is_known_region(region: Region<'_>) -> bool {
-    is_region(region) | is_deprecated_region(region) | preferred_region(region).is_some()
+    is_registered_region(region) | is_deprecated_region(region) | preferred_region(region).is_some()
 }
 
 /// Whether it has something of one of the variants of a tag, all of which are asked for.
@@ -170,5 +185,7 @@ fn has_known_variant(tag: NormalLangTag<'_>) -> bool {
 
 /// Whether it has something of a variant.
 fn is_known_variant(variant: Variant<'_>) -> bool {
-    is_variant(variant) | is_deprecated_variant(variant) | preferred_variant(variant).is_some()
+    is_registered_variant(variant)
+        | is_deprecated_variant(variant)
+        | preferred_variant(variant).is_some()
 }

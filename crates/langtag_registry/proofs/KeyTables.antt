@@ -1,4 +1,4 @@
--- The tables of numbers are those of the lists of subtags, and rise: by computation.
+-- The tables of numbers are those of the lists of subtags, and rise: by computation. Written by registry/generate.py. Do not edit.
 use Rattle.std.proofs.Common.{◌≡◌, ◌==◌, true, false, ◌<◌, map, length, refl, sym, ℕ, List}
 use Rattle.std.specs.List.{list_all, list_any}
 use Rattle.langtag_scan.specs.Case.{fold_byte}
