@@ -69,7 +69,7 @@ FAULTS = {
         Fault(HPP, "langtag_parse(langtag_bytes(text.data()), text.size(), &",
               "langtag_parse(text.data(), __builtin_strlen(text.data()), &"),
         Fault(HPP, "text_.size() + given.size() + 1, ", "text_.size() + given.size(), "),
-        Fault(HPP, "made.resize(len);", "made.resize(len < 256 ? len : 256);"),
+        Fault(HPP, "made.resize(len);", "made.resize(len < 40 ? len : 40);"),
         Fault(HPP, "&made[0], made.size());\n        return made;",
               "&made[0], made.size());\n        return made.substr(0, 1000);"),
         Fault(HPP, "return langtag_matches_extended(", "return langtag_matches_basic("),

@@ -96,7 +96,8 @@ class Sqlite(unittest.TestCase):
         asker = rows.Asker({call: lambda *arguments, call=call: ANSWERS[call](lines[(call, *arguments)]) for call in QUERIES},
                            adapted)
         asker.ask(rows.FOLDER / "table.txt", 240)
-        self.assertFalse(asker.failures(), asker.failures())
+        if asker.failures():
+            self.fail("\n" + asker.failures())
 
     def test_statements(self):
         for statements, said in STATEMENTS:

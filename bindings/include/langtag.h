@@ -1,6 +1,6 @@
 /*
- * langtag: language tags and language ranges by BCP 47 (RFC 5646 and RFC 4647). Only langtag_validity and
- * langtag_canonical look at what is registered.
+ * langtag: language tags and language ranges by BCP 47 (RFC 5646 and RFC 4647). Only langtag_validity, langtag_canonical
+ * and langtag_is_canonical look at what is registered.
  *
  * What a comment here says that a function answers or writes is proved of its code, for every input, and also that each
  * call ends and reaches no memory but that of its arguments. No function takes memory or keeps anything between calls;
@@ -243,6 +243,12 @@ uint32_t langtag_validity(const char *bytes, size_t len, langtag_span *invalid);
  * 0, and nothing written, where the text is not a tag.
  */
 size_t langtag_canonical(const char *bytes, size_t len, char *buffer, size_t buffer_len);
+
+/*
+ * Whether the bytes are a tag that is its own canonical form, by the same registry, whatever the case of its letters: true
+ * of HE and x-iw, and false of iw, of en-b-ccc-a-aaa and of what is not a tag.
+ */
+LANGTAG_PURE bool langtag_is_canonical(const char *bytes, size_t len);
 
 /*
  * The date of IANA's registry by which tags are valid and canonical here (its File-Date, RFC 5646 section 3.1.1), year,

@@ -156,11 +156,8 @@ public:
         return made;
     }
 
-    /* Whether the tag is its own canonical form, but for case. */
-    bool is_canonical() const {
-        const std::string form = canonical();
-        return langtag_eq(text_.data(), text_.size(), form.data(), form.size());
-    }
+    /* Whether the tag is its own canonical form, whatever the case of its letters. */
+    bool is_canonical() const noexcept { return langtag_is_canonical(text_.data(), text_.size()); }
 
     /* FNV-1a of 64 bits over the text in small letters: the same number in every program and at every time. */
     std::uint64_t fnv1a() const noexcept { return langtag_hash(LANGTAG_HASH, text_.data(), text_.size()); }

@@ -214,7 +214,8 @@ class Rows(unittest.TestCase):
             asker.ask(rows.FOLDER / name, floor)
         if "LANGTAG_ANSWERS" in os.environ:
             asker.ask(pathlib.Path(os.environ["LANGTAG_ANSWERS"]), 1000)
-        self.assertFalse(asker.failures(), asker.failures())
+        if asker.failures():
+            self.fail("\n" + asker.failures())
 
 
 if __name__ == "__main__":

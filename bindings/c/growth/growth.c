@@ -25,6 +25,7 @@ FUNCTION(repeats, result = langtag_repeats(text, len, &repeated))
 FUNCTION(validity, result = langtag_validity(text, len, &found))
 FUNCTION(canonical, result = langtag_canonical(text, len, buffer, sizeof buffer))
 FUNCTION(registry_date, result = langtag_registry_date())
+FUNCTION(is_canonical, result = langtag_is_canonical(text, len))
 FUNCTION(grandfathered, result = langtag_grandfathered(text, len))
 FUNCTION(range_kind, result = langtag_range_kind(text, len))
 FUNCTION(matches_basic, result = langtag_matches_basic(text, len, other, len))
@@ -53,6 +54,7 @@ static const struct function functions[] = {
     {"validity", validity},
     {"canonical", canonical},
     {"registry_date", registry_date},
+    {"is_canonical", is_canonical},
     {"grandfathered", grandfathered},
     {"range_kind", range_kind},
     {"matches_basic", matches_basic},

@@ -125,7 +125,7 @@ static void answer_canonical(text *to, const text *arguments) {
     text a = arguments[0];
     size_t len = langtag_canonical(a.at, a.len, (char[]){'~'}, 0);
     size_t rooms[] = {len + 8, len, len > 0 ? len - 1 : 0};
-    if (len == 0) put_word(to, " -");
+    if (len == 0) put_word(to, langtag_is_canonical(a.at, a.len) ? " - that is canonical" : " -");
     for (int k = 0; k < 3; k++) {
         size_t room = rooms[k], at = len <= room ? len : 0;
         char *buffer = malloc(room ? room : 1);
@@ -134,6 +134,8 @@ static void answer_canonical(text *to, const text *arguments) {
         if (langtag_canonical(a.at, a.len, buffer, room) != len) put_word(to, " whose length changes with the room");
         if (at > 0 && k == 0) put_bytes(to, buffer, len);
         if (at > 0 && memcmp(to->at + 1, buffer, len) != 0) put_word(to, " that changes with the room");
+        if (at > 0 && langtag_is_canonical(a.at, a.len) != langtag_eq(a.at, a.len, buffer, len))
+            put_word(to, " but langtag_is_canonical says otherwise");
         for (; at < room; at++)
             if (buffer[at] != '~') put_word(to, " and a byte after it");
         free(buffer);

@@ -52,7 +52,7 @@ impl LangTag<'_> {
         LangTagBuf::new(form).expect(IS_TAG)
     }
 
-    /// Whether the tag is its own canonical form, but for case.
+    /// Whether the tag is its own canonical form, whatever the case of its letters. No memory is taken.
     ///
     /// ```
     /// # use langtag_verified::LangTag;
@@ -60,8 +60,7 @@ impl LangTag<'_> {
     /// assert!(!LangTag::new("iw")?.is_canonical());
     /// # Ok::<(), langtag_verified::InvalidLangTag<&str>>(())
     /// ```
-    #[cfg(feature = "alloc")]
     pub fn is_canonical(&self) -> bool {
-        self.to_canonical() == *self
+        ffi::is_canonical(self.as_str())
     }
 }
