@@ -34,8 +34,6 @@ mod outcome;
 mod page;
 mod run;
 mod run_error;
-#[cfg(test)]
-mod tests;
 
 pub use answerer::Answerer;
 pub use gathered_line::GatheredLine;

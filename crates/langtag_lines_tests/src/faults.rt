@@ -1,8 +1,9 @@
 //! A read, a write or the flush that fails.
-use super::feed::Feed;
-use super::sheet::Sheet;
-use super::{FR, FR_FR, is_report, run_again};
-use crate::run_error::RunError;
+use crate::feed::Feed;
+use crate::sheet::Sheet;
+use crate::support::{FR, FR_FR, is_report, run_again};
+use langtag_lines::RunError;
+use langtag_test_support::{assert_same, assert_that};
 use std::io::ErrorKind;
 
 // The text, the bytes of a read, the read that fails, and what stands then.

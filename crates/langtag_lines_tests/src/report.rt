@@ -1,7 +1,8 @@
 //! The report of an input that meets no fault.
-use super::feed::Feed;
-use super::sheet::Sheet;
-use super::{DE_CH_1996, EMPTY, FR, FR_FR, REFUSED, is_report, run_again};
+use crate::feed::Feed;
+use crate::sheet::Sheet;
+use crate::support::{DE_CH_1996, EMPTY, FR, FR_FR, REFUSED, is_report, run_again};
+use langtag_test_support::{assert_same, assert_that};
 
 // An input, and the answers to its lines.
 const REPORTS: &[(&[u8], &[&str])] = &[

@@ -1,11 +1,11 @@
 //! A growth of the line buffer that is refused.
-use super::echo::{ECHO, Echo};
-use super::feed::Feed;
-use super::sheet::Sheet;
-use super::small::Small;
-use super::{DE_CH_1996, EMPTY, FR, FR_FR, is_report};
-use crate::run::{answer_lines, answer_lines_in};
-use crate::run_error::RunError;
+use crate::echo::{ECHO, Echo};
+use crate::feed::Feed;
+use crate::sheet::Sheet;
+use crate::small::Small;
+use crate::support::{DE_CH_1996, EMPTY, FR, FR_FR, is_report};
+use langtag_lines::{RunError, answer_lines, answer_lines_in};
+use langtag_test_support::{assert_same, assert_that};
 use std::alloc::Global;
 use std::io::ErrorKind;
 use std::process::Abort;

@@ -1,7 +1,7 @@
 //! What the program says of a fault, and the status that it ends with.
-use super::sheet::Sheet;
-use crate::outcome::conclude;
-use crate::run_error::RunError;
+use crate::sheet::Sheet;
+use langtag_lines::{RunError, conclude};
+use langtag_test_support::assert_same;
 use std::io::Write;
 use std::process::ExitCode;
 use std::test::Fail;

@@ -3,9 +3,7 @@ ghost use Rattle.std.specs.Prelude.{◌≡◌, ◌++◌, ◌⊎◌, codes};
 ghost use Rattle.std.proofs.Common.{inl, inr, sym, ◌∙◌};
 ghost use Rattle.std.specs.Str.{IsUtf8};
 
-use crate::answerer::Answerer;
-use crate::page::Page;
-use crate::run_error::RunError;
+use langtag_lines::{Answerer, Page, RunError};
 use std::io::Write;
 
 /// Answers a text with `answer` and the text, and refuses what is not UTF-8. It has no memory for the answer to a line of

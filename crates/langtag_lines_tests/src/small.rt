@@ -1,7 +1,7 @@
 //! A line that may not grow above a size, so that a test meets a refused growth where it wants one.
 ghost use Rattle.std.specs.Prelude.{◌≡◌, []};
 
-use crate::gathered_line::GatheredLine;
+use langtag_lines::GatheredLine;
 use std::alloc::{AllocError, Global};
 
 /// Holds at most `largest` bytes.
