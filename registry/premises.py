@@ -21,7 +21,7 @@ GRANDFATHERED = set("""
 """.split())
 # The longest whole tag that is replaced, and the longest value, in bytes: the code looks no longer text up, and the bound of a
 # form's length has room for no longer value.
-LONGEST_REPLACED, LONGEST_VALUE = 16, 14
+LONGEST_REPLACED, LONGEST_PREFERRED = 16, 14
 
 
 def is_of(kind: str, text: str) -> bool:
@@ -100,8 +100,8 @@ def replaced_tags_are_short(registry: Registry) -> Iterator[str]:
     for record in registry.all(*TAG_TYPES, having="Preferred-Value"):
         if len(record.text) > LONGEST_REPLACED:
             yield f"{record}: longer than {LONGEST_REPLACED} bytes, with a Preferred-Value"
-        if len(record.value("Preferred-Value")) > LONGEST_VALUE:
-            yield f"{record}: its Preferred-Value {record.value('Preferred-Value')} is longer than {LONGEST_VALUE} bytes"
+        if len(record.value("Preferred-Value")) > LONGEST_PREFERRED:
+            yield f"{record}: its Preferred-Value {record.value('Preferred-Value')} is longer than {LONGEST_PREFERRED} bytes"
 
 
 def whole_tags_are_of_subtags(registry: Registry) -> Iterator[str]:

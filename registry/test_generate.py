@@ -214,6 +214,12 @@ class Generating(unittest.TestCase):
                     self.put(text)
                     self.assert_refused(named, "--accept")
 
+    def test_lengths(self):
+        """The premises have the lengths that the code has."""
+        code = (generate.ROOT / "crates/langtag_registry/src/canonical_form.rt").read_text(encoding="utf-8")
+        for name in ("LONGEST_REPLACED", "LONGEST_PREFERRED"):
+            self.assertIn(f"const {name}: usize = {getattr(premises, name)};", code)
+
     def test_unreadable(self):
         for named, text in UNREADABLE.items():
             with self.subTest(named=named):
