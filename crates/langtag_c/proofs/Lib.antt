@@ -4,10 +4,8 @@ mod StopLaws
 mod RangeLaws
 mod ExtensionSpans
 mod RepeatSpans
-mod SpaceLaws
 mod ItemLaws
 mod PlaceLaws
-mod ElementLaws
 mod ReadingLaws
 mod PartChanges
 mod PartTexts

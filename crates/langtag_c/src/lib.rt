@@ -8,7 +8,6 @@
 mod accepted;
 mod canonical;
 mod compare;
-mod element;
 mod fallback;
 mod grandfathered;
 mod parse;

@@ -38,7 +38,8 @@ mod run_error;
 mod tests;
 
 pub use answerer::Answerer;
+pub use gathered_line::GatheredLine;
 pub use outcome::conclude;
 pub use page::Page;
-pub use run::answer_lines;
+pub use run::{answer_lines, answer_lines_in};
 pub use run_error::RunError;
