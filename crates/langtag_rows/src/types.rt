@@ -170,7 +170,7 @@ pub(crate) fn fronts(alloc: Global, name: &str, text: &str) -> Result<String, Al
 
 /// The name of a grandfathered tag, its registered spelling, and the language of a regular one; or the message of a refusal.
 pub(crate) fn spelling(alloc: Global, text: &str) -> Result<String, AllocError> {
-    let tag = match GrandfatheredLangTag::new(text.as_bytes()) {
+    let tag = match GrandfatheredLangTag::try_from(text.as_bytes()) {
         Ok(tag) => tag,
         Err(refusal) if refusal.0 == text.as_bytes() => return format!(in alloc; "{refusal}"),
         Err(_) => return String::from_str(alloc, "another text"),
