@@ -1,7 +1,7 @@
 use Rattle.std.proofs.Common.{◌∙◌, ◌++◌, codes, [], inl, inr, refl, ap, append-nil}
 use Rattle.std.proofs.lemmas.Result.{on_ok_weaker}
 use Rattle.langtag_lines.proofs.Written.{Answers-one}
-use Rattle.langtag_lines.proofs.tests.echo.EchoAnswerer.put_answer.Goals as goal
+use Rattle.langtag_lines_tests.proofs.echo.EchoAnswerer.put_answer.Goals as goal
 
 pub returns-in-Ok-clause-ok : goal.returns-in-Ok-clause-ok
 returns-in-Ok-clause-ok g c =
