@@ -13,7 +13,7 @@ import unittest
 
 import check_declarations
 
-ROOT = pathlib.Path(__file__).resolve().parent.parent
+ROOT = pathlib.Path(sys.argv[1] if sys.argv[1:] else pathlib.Path(__file__).parent.parent).resolve()
 HEADER, RUST, PYTHON = "bindings/include/langtag.h", "bindings/rust/src/ffi.rs", "bindings/python/langtag/__init__.py"
 CRATE = "crates/langtag_c/src"
 NUMBERED = check_declarations.VERSIONS + check_declarations.NUMBERS
@@ -95,6 +95,4 @@ class Planted(unittest.TestCase):
 
 
 if __name__ == "__main__":
-    if len(sys.argv) > 1:
-        ROOT = pathlib.Path(sys.argv.pop(1)).resolve()
-    unittest.main()
+    unittest.main(argv=sys.argv[:1])
