@@ -1,0 +1,24 @@
+//! The language that a reader reads: likely subtags (UTS #35, part 1, section 'Likely Subtags') over Unicode's CLDR.
+//!
+//! ```
+//! use langtag::LangTag;
+//! use langtag_likely::{maximized, minimized};
+//!
+//! maximized(alloc, LangTag::new("zh-TW")?)?;      // zh-Hant-TW
+//! minimized(alloc, LangTag::new("zh-Hant-TW")?)?; // zh-TW
+//! ```
+#![tactic(auto)]
+
+mod fields;
+mod forms;
+mod keys;
+mod likely;
+mod names;
+mod output;
+mod put;
+mod rows;
+mod tables;
+mod tag_fields;
+
+pub use forms::{maximized, minimized, write_maximized, write_minimized};
+pub use tables::CLDR_VERSION;
