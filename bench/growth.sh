@@ -1,8 +1,13 @@
 #!/usr/bin/env bash
-# Fails where a call of langtag or langtag_match takes over 2.2 times the instructions for twice the text, where it needs
-# more than 1 MB of stack for 2 MB of text, and where a function that it reaches calls itself or has a frame of no fixed
-# size; and where a call is wrong when memory is refused to it, or a setter or a copy allocates more than once. It needs
-# rt, cc, objdump, valgrind and its headers.
+# Bounds what no contract speaks of, by entries of langtag_bench in the code as it is built, and fails where
+# - a call of langtag, langtag_match or langtag_registry takes over 2.2 times the instructions for twice the text, from 20,000
+#   bytes on, and of some shapes from 100,000 bytes on, or what growth.py allows where a square is documented (growth.c);
+# - it needs more stack than .ci/stack says, or over 1 MB for 2 MB of text;
+# - it refuses memory, or answers another text, at some length to 4,200 bytes, at a step to 2 MB, or for some region, script or
+#   short language (sweep.c);
+# - it is wrong when memory is refused to it, a setter or a copy allocates more than once, or a header takes over 320 bytes an
+#   element (memory.c).
+# It needs rt, cc, objdump, valgrind and its headers.
 set -euo pipefail
 here=$(cd "$(dirname "$0")" && pwd)
 target=$here/target
@@ -16,6 +21,9 @@ build() {
     cc -std=c11 -O2 -Wall -Wextra "${@:2}" "$crate/out/liblangtag_bench.a" "$(dirname "$(rt doc)")/c/liblibc_c.a" \
         -o "$target/$1"
 }
+for name in $(sed -n 's/^pub fn \([a-z_]*\).*/\1/p' "$here"/../crates/langtag_registry/src/*.rt); do
+    grep -qw "$name" "$crate"/src/*.rt || { echo "growth: no entry calls $name of langtag_registry"; exit 1; }
+done
 build growth "$here/src/growth.c"
 python3 "$here/../bindings/c/growth/growth.py" "$target/growth" "$crate"/src/*.rt
 
@@ -26,5 +34,7 @@ else
     echo "growth: texts of 2 MB on a stack of 1 MB: status $?"
     exit 1
 fi
+build sweep "$here/src/sweep.c"
+"$target/sweep"
 build memory -Wl,--wrap=malloc,--wrap=realloc,--wrap=free "$here/src/memory.c"
 "$target/memory"

@@ -79,7 +79,8 @@ def of_header(root: pathlib.Path) -> Interface:
     functions, structs = {}, {}
     declaration = r"^(?:LANGTAG_PURE )?(\w+) (langtag_\w+)\(([^)]*)\);"
     for result, name, parameters in re.findall(declaration, source, flags=re.M):
-        split = [re.fullmatch(r"\s*(.*?)(\w+)\s*", parameter, flags=re.S) for parameter in parameters.split(",")]
+        named = "" if parameters == "void" else parameters
+        split = [re.fullmatch(r"\s*(.*?)(\w+)\s*", parameter, flags=re.S) for parameter in named.split(",")]
         functions[name] = Function(result, [(found[1].strip(), found[2]) for found in split if found])
     for body, name in re.findall(r"typedef struct \w+ \{(.*?)\} (\w+);", source, flags=re.S):
         structs[name] = re.findall(r"(\w+) (\w+);", body)
@@ -155,25 +156,37 @@ NUMBERS = [
     ("bindings/python/langtag/__init__.py", r"\.so\.([0-9]+)"), ("bindings/python/setup.py", r"\.so\.([0-9]+)"),
 ]
 
-DATES = [
-    ("crates/langtag_registry/src/tables.rt", r'FILE_DATE: &str = "([0-9-]+)"'),
-    ("bindings/rust/src/invalid_subtag.rs", r'REGISTRY_DATE: &str = "([0-9-]+)"'),
-    ("bindings/python/langtag/__init__.py", r'^REGISTRY_DATE = "([0-9-]+)"'),
-]
+# Where the registry's date stands, and the files that take it from the library and have no copy of it.
+DATED = "crates/langtag_registry/src/tables.rt"
+UNDATED = ["crates/langtag_c/src", "crates/langtag_rows/data", "bindings/include", "bindings/rust/src", "bindings/python/langtag"]
+
+
+def registry_date(root: pathlib.Path) -> str:
+    found = re.search(r'FILE_DATE: &str = "([0-9-]+)"', (root / DATED).read_text())
+    return found[1] if found else ""
+
+
+def copied_dates(root: pathlib.Path) -> list[str]:
+    """Where the registry's date is written by hand, which langtag_registry_date tells."""
+    date = registry_date(root)
+    if not date:
+        return [f"the registry's date does not stand in {DATED}"]
+    files = sorted(path for folder in UNDATED for path in (root / folder).rglob("*") if path.suffix in (".rt", ".txt", ".h", ".hpp", ".rs", ".py"))
+    holders = [path for path in files if re.search(f"{date}|{date.replace('-', '')}", path.read_text(encoding="utf-8"))]
+    return [f"the registry's date, {date}: {path.relative_to(root)} has a copy of it" for path in holders]
 
 
 def wrong_numbers(root: pathlib.Path) -> list[str]:
-    """Where a number of the header differs from the table, one of another file from the header, or the registry's date."""
+    """Where a number of the header differs from the table, or one of another file from the header."""
     source = (root / "bindings/include/langtag.h").read_text()
     comment = re.search(r"in RFC 5646 section 2\.1, or(.*?)\*/", source, flags=re.S)
     said = sorted((int(number), tag) for number, tag in re.findall(r" (\d+) ([a-z]+-[\w-]+)", comment[1] if comment else ""))
-    table = (root / "bindings/table.txt").read_text()
+    table = (root / "crates/langtag_rows/data/table.txt").read_text()
     wanted = [(int(number), tag) for tag, number in re.findall(r"^grandfathered (\S+) (\d+)", table, flags=re.M)][:26]
     found = [] if said == wanted else [f"grandfathered tags: the header has {sorted(set(said) ^ set(wanted))}"]
     if "#define LANGTAG_PURE __attribute__((pure, warn_unused_result))\n" not in source:
         found.append("LANGTAG_PURE: the header's word is not pure")
-    dates = ("LANGTAG_REGISTRY_DATE", DATES)
-    for name, places in (("LANGTAG_VERSION", VERSIONS), ("LANGTAG_ABI_VERSION", NUMBERS), dates):
+    for name, places in (("LANGTAG_VERSION", VERSIONS), ("LANGTAG_ABI_VERSION", NUMBERS)):
         number = re.search(rf'#define {name} "?([0-9.-]+)', source)
         for file, around in places:
             others = set(re.findall(around, (root / file).read_text(), flags=re.M))
@@ -189,7 +202,7 @@ def main(root: pathlib.Path) -> int:
         return 1
     others = (("the header", of_header), ("ffi.rs", of_rust), ("langtag", of_python))
     found = [line for where, read in others for line in differences(where, crate, read(root))]
-    found += wrongly_pure(crate.functions, header(root)) + wrong_numbers(root)
+    found += wrongly_pure(crate.functions, header(root)) + wrong_numbers(root) + copied_dates(root)
     count = f"{len(crate.functions)} functions and {len(crate.structs)} structs"
     print("\n".join(found) or f"{count}: crate, header, ffi.rs and langtag agree")
     return 1 if found else 0

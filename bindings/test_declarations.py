@@ -16,8 +16,9 @@ import check_declarations
 ROOT = pathlib.Path(__file__).resolve().parent.parent
 HEADER, RUST, PYTHON = "bindings/include/langtag.h", "bindings/rust/src/ffi.rs", "bindings/python/langtag/__init__.py"
 CRATE = "crates/langtag_c/src"
-NUMBERED = check_declarations.VERSIONS + check_declarations.NUMBERS + check_declarations.DATES
-FILES = {HEADER, RUST, PYTHON, "bindings/table.txt", *(name for name, _ in NUMBERED)}
+NUMBERED = check_declarations.VERSIONS + check_declarations.NUMBERS
+DATE = check_declarations.registry_date(ROOT)
+FILES = {HEADER, RUST, PYTHON, check_declarations.DATED, "crates/langtag_rows/data/table.txt", *(name for name, _ in NUMBERED)}
 
 # A file, a text that stands in it, what is put in its place, and what the message has to name.
 PLANTED = [
@@ -49,7 +50,12 @@ PLANTED = [
     ("bindings/c/Makefile", "soname,$(NAME).so.1", "soname,$(NAME).so.2", "Makefile"),
     ("bindings/rust/Cargo.toml", 'version = "0.1.0"', 'version = "0.1.1"', "Cargo.toml"),
     (PYTHON, '__version__ = "0.1.0"', '__version__ = "0.2.0"', "LANGTAG_VERSION"),
-    (PYTHON, 'REGISTRY_DATE = "2022', 'REGISTRY_DATE = "2023', "LANGTAG_REGISTRY_DATE"),
+    (HEADER, "uint32_t langtag_registry_date(void);", "uint64_t langtag_registry_date(void);", "langtag_registry_date"),
+    (HEADER, "uint32_t langtag_registry_date(void);", "uint32_t langtag_registry_date(uint32_t kind);", "langtag_registry_date"),
+    (HEADER, "year,\n * month and day", f"{DATE}, year,\n * month and day", DATE),
+    (PYTHON, "REGISTRY_DATE = _registry_date()", f'REGISTRY_DATE = "{DATE}"', DATE),
+    (RUST, "pub fn langtag_registry_date() -> u32;", f"pub fn langtag_registry_date() -> u32; // {DATE.replace('-', '')}", DATE),
+    (check_declarations.DATED, "pub const FILE_DATE", "pub const DATE", "the registry's date"),
     (CRATE, "fn langtag_eq(a: &[u8], b: &[u8])", "fn langtag_eq(b: &[u8], a: &[u8])", "langtag_eq"),
     (CRATE, "pub singleton: Span", "pub singletons: Span", "langtag_repeated"),
 ]

@@ -1,17 +1,33 @@
 #!/usr/bin/env python3
-"""Writes the tables and the lists of the crate langtag_registry from IANA's language subtag registry.
+"""Writes the tables and the lists of the crate langtag_registry from IANA's language subtag registry, which stands beside this
+file in its own form (RFC 5646 section 3.1.1), and the pages of proofs that compare them.
 
-usage: generate.py [--check] [REGISTRY]
+usage: generate.py            writes them from the registry whose checksum stands beside it
+       generate.py --accept   writes them from a newer registry, and its checksum
+       generate.py --check    writes nothing, and names what is not as it should be: the registry by its checksum, a file that
+                              would be written otherwise, a list that oracle.py's reading has otherwise
 
-REGISTRY is the registry in its own form (RFC 5646 section 3.1.1); without it, the one beside this file is read. With
---check nothing is written: each file that differs from what the registry gives is named, and the status is then 1.
+A registry that breaks what the crate rests on (premises.py) is refused: each record that does is named, nothing is written,
+and the status is 1.
 """
+from __future__ import annotations
+
+import hashlib
 import pathlib
 import re
 import sys
 
-HERE = pathlib.Path(__file__).resolve().parent
-CRATE = HERE.parent / "crates" / "langtag_registry"
+import lists as second_reading
+from premises import broken
+from proof_pages import PAGES
+from records import TAG_TYPES, Refused, Registry
+
+ROOT = pathlib.Path(__file__).resolve().parent.parent
+REGISTRY = "registry/language-subtag-registry"
+CHECKSUM = "registry/language-subtag-registry.sha256"
+TABLES = "crates/langtag_registry/src/tables.rt"
+LISTS = "crates/langtag_registry/specs/Subtags.antt"
+PROOFS = "crates/langtag_registry/proofs"
 
 # The lists: a name, the Type of its records, and the number that a table has in place of the text.
 SUBTAGS = ["language", "extlang", "script", "region", "variant"]
@@ -29,43 +45,8 @@ LANGUAGE_FIELDS = [
 PREFERRED = [
     (["region"], "region_preferred", "REGION", "regions"),
     (["variant"], "variant_preferred", "VARIANT", "variants"),
-    (["grandfathered", "redundant"], "tag_preferred", "TAG", "whole tags"),
+    (TAG_TYPES, "tag_preferred", "TAG", "whole tags"),
 ]
-
-
-def records(text):
-    """The records: of each field its values, as they stand."""
-    for block in re.split(r"(?m)^%%[ \t]*\n", text):
-        unfolded = re.sub(r"\n[ \t]+", " ", block)
-        fields = [re.match(r"([A-Za-z][A-Za-z0-9-]*)[ \t]*:[ \t]*(.*)", line) for line in unfolded.splitlines() if line.strip()]
-        if not all(fields):
-            sys.exit("a line without a field: " + block)
-        record = {}
-        for field in fields:
-            record.setdefault(field.group(1), []).append(field.group(2).strip())
-        yield record
-
-
-def next_text(text):
-    """The next text of as many letters."""
-    out = list(text)
-    for index in range(len(out) - 1, -1, -1):
-        if out[index] not in "zZ":
-            out[index] = chr(ord(out[index]) + 1)
-            return "".join(out)
-        out[index] = "a" if out[index] == "z" else "A"
-    sys.exit("no text after " + text)
-
-
-def written_out(field):
-    """The subtags of a Subtag field, which may be a range (section 3.1.2)."""
-    first, dots, last = field.partition("..")
-    if not dots:
-        return [field]
-    found = [first]
-    while found[-1] != last:
-        found.append(next_text(found[-1]))
-    return found
 
 
 def letter_number(text):
@@ -83,43 +64,17 @@ def number(kind, text):
     return letter_number(text) if kind == "language" else folded_number(text)
 
 
-class Registry:
-    def __init__(self, path):
-        self.date, self.fields = None, {}
-        seen = set()
-        for record in records(path.read_text(encoding="utf-8")):
-            if "File-Date" in record:
-                self.date = record["File-Date"][0]
-                continue
-            kind = record["Type"][0]
-            for text in written_out((record.get("Subtag") or record["Tag"])[0]):
-                if (kind, text.lower()) in seen:
-                    sys.exit(f"twice in the registry: {kind} {text}")
-                seen.add((kind, text.lower()))
-                self.fields.setdefault(kind, {})[text] = record
-        for text in self.fields["language"]:
-            if len(text) not in (2, 3):
-                sys.exit(f"the tables have languages of two and three letters alone: {text}")
-        for kind, of_kind in self.fields.items():
-            for text, record in of_kind.items():
-                if any(len(record.get(field, [])) > 1 for field in ("Preferred-Value", "Suppress-Script", "Macrolanguage")):
-                    sys.exit(f"a field twice: {kind} {text}")
-        for text, record in self.fields["script"].items():
-            if "Preferred-Value" in record or "Deprecated" in record:
-                sys.exit(f"a script with a field that the crate does not have: {text}")
-        for text, record in self.fields["extlang"].items():
-            if [value.lower() for value in record.get("Preferred-Value", [])] != [text.lower()]:
-                sys.exit(f"an extended language whose Preferred-Value is not itself: {text}")
-            if len(record.get("Prefix", [])) != 1:
-                sys.exit(f"an extended language without one Prefix: {text}")
+def subtags(registry, kind, field=None):
+    """The subtags of a Type, or those with a field, in the order of their numbers."""
+    return sorted((record.text for record in registry.all(kind, having=field)), key=lambda text: number(kind, text))
 
-    def subtags(self, kind, field=None):
-        """The subtags of a Type, or those with a field, in the order of their numbers."""
-        found = [text for text, record in self.fields[kind].items() if field is None or field in record]
-        return sorted(found, key=lambda text: number(kind, text))
 
-    def values(self, kind, field):
-        return [(text, value) for text in self.subtags(kind, field) for value in self.fields[kind][text][field]]
+def values(registry, kind, field):
+    return [(text, value) for text in subtags(registry, kind, field) for value in registry.get(kind, text).values(field)]
+
+
+def deprecated_tags(registry):
+    return [text for kind in TAG_TYPES for text in subtags(registry, kind, "Deprecated")]
 
 
 def in_lines(items, width=116):
@@ -148,7 +103,7 @@ def keys(name, doc, kind, subtags):
 
 def tables(registry):
     bits = [0] * 286
-    for text in registry.subtags("language"):
+    for text in subtags(registry, "language"):
         index = letter_number(text) - 27
         bits[index // 64] |= 1 << index % 64
     out = [f"//! The registry in tables. Written by registry/generate.py from the registry of {registry.date}. Do not edit.\n",
@@ -157,25 +112,24 @@ def tables(registry):
            table("LANGUAGE_BITS", "The languages: a bit for each text of two letters and then of three, in the order of the alphabet, from the lowest\n"
                  "/// bit of the first word on.", "u64", [f"0x{word:016X}" for word in bits])]
     for kind in SUBTAGS[1:]:
-        out.append(keys(f"{kind.upper()}_KEYS", f"The {kind}s: their lowercase bytes as the digits of a number, in rising order.", kind, registry.subtags(kind)))
+        out.append(keys(f"{kind.upper()}_KEYS", f"The {kind}s: their lowercase bytes as the digits of a number, in rising order.", kind, subtags(registry, kind)))
     for kind in DEPRECATED:
         digits = "letters" if kind == "language" else "lowercase bytes"
         out.append(keys(f"DEPRECATED_{kind.upper()}_KEYS", f"The deprecated {kind}s: their {digits} as the digits of a number, in rising order.", kind,
-                        registry.subtags(kind, "Deprecated")))
+                        subtags(registry, kind, "Deprecated")))
     for kind, field, _, name in LANGUAGE_FIELDS:
-        pairs = registry.values(kind, field)
-        values = sorted({value for _, value in pairs})
-        if len(values) > 256:
-            sys.exit(f"more values than a byte tells: {field}")
+        pairs = values(registry, kind, field)
+        several = sorted({value for _, value in pairs})
         out.append(keys(f"{name}_KEYS", f"The {kind}s with a {field}: their letters as the digits of a number, in rising order.", "language",
                         [text for text, _ in pairs]))
-        out.append(table(f"{name}_INDICES", "Where the value of each of them stands.", "u8", [str(values.index(value)) for _, value in pairs]))
-        out.append(table(f"{name}_VALUES", "The values, each once.", "&str", quoted(values)))
+        out.append(table(f"{name}_INDICES", "Where the value of each of them stands.", "u8", [str(several.index(value)) for _, value in pairs]))
+        out.append(table(f"{name}_VALUES", "The values, each once.", "&str", quoted(several)))
     for kinds, _, name, what in PREFERRED:
-        pairs = [pair for kind in kinds for pair in registry.values(kind, "Preferred-Value")]
+        pairs = [pair for kind in kinds for pair in values(registry, kind, "Preferred-Value")]
         out.append(table(f"PREFERRED_{name}S", f"The {what} with a Preferred-Value, each before that value.", "(&str, &str)",
                          [f'("{text}", "{value}")' for text, value in pairs]))
-    prefixes = registry.values("variant", "Prefix")
+    out.append(table("DEPRECATED_TAGS", "The deprecated grandfathered and redundant tags.", "&str", quoted(deprecated_tags(registry))))
+    prefixes = values(registry, "variant", "Prefix")
     out.append(table("VARIANT_PREFIXES", "The variants with a Prefix: their lowercase bytes as the digits of a number, each before one of its prefixes.", "(u64, &str)",
                      [f'(0x{folded_number(text):016X}, "{prefix}")' for text, prefix in prefixes]))
     return "\n".join(out)
@@ -202,34 +156,106 @@ def lists(registry):
            "use Rattle.langtag_registry.specs.Entry.{Entry, entries}\n",
            "-- the words of a text, between spaces\nabbrev pub words : List ℕ → List (List ℕ)\nwords text = slice_split (λ b. b == 32) text\n"]
     for kind in SUBTAGS:
-        out.append(text_list(f"{kind}_subtags", f"the Subtag fields of the records of Type {kind}, ranges written out", registry.subtags(kind)))
+        out.append(text_list(f"{kind}_subtags", f"the Subtag fields of the records of Type {kind}, ranges written out", subtags(registry, kind)))
     for kind in DEPRECATED:
-        out.append(text_list(f"deprecated_{kind}s", f"those of the records of Type {kind} with a Deprecated field", registry.subtags(kind, "Deprecated")))
+        out.append(text_list(f"deprecated_{kind}s", f"those of the records of Type {kind} with a Deprecated field", subtags(registry, kind, "Deprecated")))
+    out.append(text_list("deprecated_tags", "the Tag fields of the records of Type grandfathered and redundant with a Deprecated field", deprecated_tags(registry)))
     for kind, field, name, _ in LANGUAGE_FIELDS:
-        out.append(entry_list(name, f"the records of Type {kind} with a {field} field: each Subtag before that value", registry.values(kind, field)))
+        out.append(entry_list(name, f"the records of Type {kind} with a {field} field: each Subtag before that value", values(registry, kind, field)))
     for kinds, name, _, _ in PREFERRED:
-        pairs = [pair for kind in kinds for pair in registry.values(kind, "Preferred-Value")]
+        pairs = [pair for kind in kinds for pair in values(registry, kind, "Preferred-Value")]
         label = "Tag" if len(kinds) > 1 else "Subtag"
         out.append(entry_list(name, f"the records of Type {' and '.join(kinds)} with a Preferred-Value field: each {label} before that value", pairs))
-    out.append(entry_list("variant_prefixes", "the records of Type variant with Prefix fields: each Subtag before each of its values", registry.values("variant", "Prefix")))
+    out.append(entry_list("variant_prefixes", "the records of Type variant with Prefix fields: each Subtag before each of its values", values(registry, "variant", "Prefix")))
     return "\n".join(out)
 
 
-def main():
-    given = sys.argv[1:]
-    check = "--check" in given
-    given = [word for word in given if word != "--check"]
-    if len(given) > 1 or any(word.startswith("-") for word in given):
+def written(registry):
+    """The files that are made of a registry: of each its path and its text."""
+    return {TABLES: tables(registry), LISTS: lists(registry)} | {f"{PROOFS}/{name}.antt": page() for name, page in PAGES.items()}
+
+
+def checksum(source):
+    """The line of sha256sum, by which `sha256sum -c` tests the file, too."""
+    return f"{hashlib.sha256(source).hexdigest()}  {pathlib.Path(REGISTRY).name}\n"
+
+
+def read(source):
+    try:
+        return Registry(source.decode("utf-8").replace("\r\n", "\n"))
+    except UnicodeDecodeError as error:
+        raise Refused(f"the file is not UTF-8: {error}") from None
+
+
+def text_of(root, path):
+    """The text of a file, or an empty one where there is none."""
+    return (root / path).read_text(encoding="utf-8") if (root / path).is_file() else ""
+
+
+def lost(root, registry):
+    """The subtags and tags of the lists that stand, and are not in a newer registry: none is ever taken out (section 3.4)."""
+    standing = second_reading.words(text_of(root, LISTS))
+    for kind in SUBTAGS:
+        for text in standing.get(f"{kind}_subtags", []):
+            if not registry.get(kind, text):
+                yield f"{kind} {text}: registered before, and not in this registry"
+    for text in standing.get("tag_preferred", [])[::2] + standing.get("deprecated_tags", []):
+        if not any(registry.get(kind, text) for kind in TAG_TYPES):
+            yield f"{text}: a whole tag before, and not in this registry"
+
+
+def refuse_unaccepted(root, registry, source, accept):
+    """Refuses another registry than the one that stands, but for a newer one that is to be accepted."""
+    standing = re.search(r'FILE_DATE: &str = "([0-9-]+)"', text_of(root, TABLES))
+    if checksum(source) == text_of(root, CHECKSUM):
+        return
+    if not accept:
+        raise Refused(f"not the registry of {CHECKSUM}; --accept takes a newer one")
+    if standing and registry.date <= standing[1]:
+        raise Refused(f"a registry of {registry.date}, with other bytes, is not newer than that of {standing[1]}, which stands")
+    if found := list(lost(root, registry)):
+        raise Refused("\n".join(found))
+
+
+def write(root, accept):
+    source = (root / REGISTRY).read_bytes()
+    registry = read(source)
+    refuse_unaccepted(root, registry, source, accept)
+    if found := broken(registry):
+        raise Refused("\n".join(found))
+    files = written(registry) | {CHECKSUM: checksum(source)}
+    for path, text in files.items():
+        (root / path).write_bytes(text.encode("utf-8"))
+
+
+def differences(root):
+    """What --check names."""
+    source = (root / REGISTRY).read_bytes()
+    if checksum(source) != text_of(root, CHECKSUM):
+        yield f"{REGISTRY}: not the registry of {CHECKSUM}"
+    registry = read(source)
+    if found := broken(registry):
+        yield from found
+        return
+    for path, text in written(registry).items():
+        if text != text_of(root, path):
+            yield f"{path}: differs from what the registry gives"
+    yield from second_reading.differences(root / REGISTRY, text_of(root, LISTS))
+
+
+def main(words, root=ROOT):
+    if words not in ([], ["--accept"], ["--check"]):
         sys.exit(__doc__)
-    registry = Registry(pathlib.Path(given[0]) if given else HERE / "language-subtag-registry")
-    differs = False
-    for path, text in ((CRATE / "src" / "tables.rt", tables(registry)), (CRATE / "specs" / "Subtags.antt", lists(registry))):
-        if not check:
-            path.write_text(text, encoding="utf-8")
-        elif not path.is_file() or path.read_text(encoding="utf-8") != text:
-            print("differs:", path.relative_to(HERE.parent))
-            differs = True
-    sys.exit(differs)
+    try:
+        if words != ["--check"]:
+            write(root, accept=bool(words))
+            return 0
+        found = list(differences(root))
+    except Refused as refused:
+        found = [str(refused)]
+    print("\n".join(found) or "registry, checksum, tables and lists agree")
+    return 1 if found else 0
 
 
-main()
+if __name__ == "__main__":
+    sys.exit(main(sys.argv[1:]))

@@ -2,12 +2,14 @@
 """A plain reading of RFC 5646 sections 2.1, 2.2.9, 3.1 and 4.5 over the registry's record-jar, by regular expressions.
 
 usage: oracle.py REGISTRY [COLUMN..] < LINES   prints for each line the columns: validity, whole, parts, canonical,
-                                               is-canonical, extlang-form, misplaced (without any: the first three)
+                                               is-canonical, extlang-form, misplaced, misplaced-extlang, deprecated
+                                               (without any: the first three)
        oracle.py REGISTRY [COLUMN..] --compare ANSWERS < LINES
                                                counts the lines whose columns differ from the answers of a program
        oracle.py REGISTRY --make COUNT SEED    prints that many texts: tags of the registry's subtags, mutants, and random ones
        oracle.py REGISTRY --each               prints each registered text, and all short languages and regions
 """
+import pathlib
 import random
 import re
 import sys
@@ -16,13 +18,13 @@ GRAMMAR = re.compile(r"(?P<language>[a-z]{2,3}(?P<ext>(?:-[a-z]{3}){0,3})|[a-z]{
                      r"(?P<variants>(?:-(?:[a-z0-9]{5,8}|[0-9][a-z0-9]{3}))*)(?P<extensions>(?:-[a-wyz0-9](?:-[a-z0-9]{2,8})+)*)(?P<private>(?:-x(?:-[a-z0-9]{1,8})+)?)", re.I | re.A)
 PRIVATE = re.compile(r"x(?:-[a-z0-9]{1,8})+", re.I | re.A)
 EXTENSION = re.compile(r"-[a-z0-9](?:-[a-z0-9]{2,8})+", re.I | re.A)
-COLUMNS = ["validity", "whole", "parts", "canonical", "is-canonical", "extlang-form", "misplaced"]
+COLUMNS = ["validity", "whole", "parts", "canonical", "is-canonical", "extlang-form", "misplaced", "misplaced-extlang", "deprecated"]
 
 
 class Registry:
     def __init__(self, path):
         self.kinds, self.fields, self.ranges, self.names, self.prefixes = {}, {}, [], {}, {}
-        for block in open(path, encoding="utf-8").read().split("%%\n"):
+        for block in pathlib.Path(path).read_text(encoding="utf-8").split("%%\n"):
             fields = {}
             for line in block.splitlines():
                 name, _, value = line.partition(": ")
@@ -40,15 +42,22 @@ class Registry:
                 self.names.setdefault(kind, []).append(name)
             self.fields[kind, name.lower()] = fields
 
-    def has(self, kind, text):
+    def record(self, kind, text):
+        """The fields of the record for a text, or of that of the range in which it lies; none where there is no such record."""
         text = text.lower()
-        return text in self.kinds[kind] or any(k == kind and len(text) == len(low) and low <= text <= high for k, low, high in self.ranges)
+        for of, low, high in self.ranges:
+            if of == kind and len(text) == len(low) and low <= text <= high:
+                return self.fields[kind, low + ".." + high]
+        return self.fields.get((kind, text), {})
 
-    def whole(self, text):
-        return self.field("grandfathered", "Preferred-Value", text) or self.field("redundant", "Preferred-Value", text)
+    def has(self, kind, text):
+        return bool(self.record(kind, text))
+
+    def whole(self, text, name="Preferred-Value"):
+        return self.field("grandfathered", name, text) or self.field("redundant", name, text)
 
     def field(self, kind, name, text):
-        return self.fields.get((kind, text.lower()), {}).get(name)
+        return self.record(kind, text).get(name)
 
     def answer(self, text, columns):
         grandfathered = text.lower() in self.kinds["grandfathered"]
@@ -70,8 +79,12 @@ class Registry:
                 out.append("is-canonical" if self.canonical(text) == text else "is-not-canonical")
             elif column == "extlang-form":
                 out.append("extlang-form=" + self.extlang_form(text))
-            else:
+            elif column == "misplaced":
                 out.append("misplaced=" + (self.misplaced(found) if found else "-"))
+            elif column == "misplaced-extlang":
+                out.append("misplaced-extlang=" + (self.misplaced_extlang(found) if found else "-"))
+            else:
+                out.append("deprecated=" + ("old" if self.whole(text, "Deprecated") else "-"))
         return " ".join(out)
 
     def canonical(self, text):
@@ -86,10 +99,10 @@ class Registry:
 
     def replaced(self, found):
         primary, *extended = found["language"].split("-")
-        if len(extended) < 2:
-            primary = self.field("language", "Preferred-Value", primary) or primary
         if len(extended) == 1 and self.has("extlang", extended[0]):
             primary, extended = self.field("extlang", "Preferred-Value", extended[0]), []
+        if len(extended) < 2:
+            primary = self.field("language", "Preferred-Value", primary) or primary
         subtags = [primary, *extended]
         subtags += [self.field(kind, "Preferred-Value", found[kind]) or found[kind] for kind in ("script", "region") if found[kind]]
         subtags += [self.field("variant", "Preferred-Value", variant) or variant for variant in found["variants"].split("-")[1:]]
@@ -116,6 +129,11 @@ class Registry:
                 return variant
             before += "-" + variant
         return "-"
+
+    def misplaced_extlang(self, found):
+        """The extended language before which another language stands than its Prefix (section 3.1.8)."""
+        primary, extended = (found["language"].split("-") + ["-"])[:2]
+        return extended if primary.lower() not in self.prefixes.get(("extlang", extended.lower()), [primary.lower()]) else "-"
 
     def fault(self, found):
         primary, *extended = found["language"].split("-")

@@ -1,7 +1,7 @@
 /*
- * How the work of calls of langtag and langtag_match grows with their text: the entries of langtag_bench. Filters and
- * look-ups are asked about twenty tags, repeats about fewer variants than one block holds: past that their documentation
- * says how they grow.
+ * How the work of calls of langtag, langtag_match and langtag_registry grows with their text: the entries of langtag_bench.
+ * Filters and look-ups are asked about twenty tags: past that their documentation says how they grow. It ends with 1 where
+ * memory was refused to a call.
  */
 #include "../../bindings/c/growth/growth.h"
 #include "memory.h"
@@ -26,8 +26,6 @@ bool langtag_bench_cmp(const char *bytes, size_t len, const char *others, size_t
 uint64_t langtag_bench_hash(const char *bytes, size_t len);
 size_t langtag_bench_subtags(const char *bytes, size_t len);
 size_t langtag_bench_walk(const char *bytes, size_t len);
-bool langtag_bench_recommended(const char *bytes, size_t len);
-bool langtag_bench_displayed(const char *bytes, size_t len);
 bool langtag_bench_part(const char *bytes, size_t len);
 bool langtag_bench_pair(const char *range, size_t range_len, const char *tag, size_t tag_len);
 bool langtag_bench_matches_basic(const char *range, size_t range_len, const char *tag, size_t tag_len);
@@ -38,10 +36,16 @@ bool langtag_bench_filter_extended(const char *ranges, size_t len);
 bool langtag_bench_look_up(const char *ranges, size_t len);
 size_t langtag_bench_tags(void);
 bool langtag_bench_tag_for_header(const char *header, size_t len);
-bool langtag_bench_lenient(const char *header, size_t len);
+size_t langtag_bench_write_canonical(const char *bytes, size_t len, char *into, size_t into_len);
+bool langtag_bench_is_canonical(const char *bytes, size_t len);
+bool langtag_bench_is_valid(const char *bytes, size_t len);
+size_t langtag_bench_misplaced_variant(const char *bytes, size_t len);
+size_t langtag_bench_misplaced_extlang(const char *bytes, size_t len);
+bool langtag_bench_fields(const char *bytes, size_t len);
 
 static struct parts parts;
 static size_t refused;
+static char into[2 * sizeof text];
 
 FUNCTION(recognise, result = langtag_bench_recognise(text, len, &parts))
 FUNCTION(recognise_text, result = langtag_bench_recognise_text(text, len, &parts))
@@ -57,8 +61,8 @@ FUNCTION(cmp, result = langtag_bench_cmp(text, len, other, len))
 FUNCTION(hash, result = langtag_bench_hash(text, len))
 FUNCTION(subtags, result = langtag_bench_subtags(text, len))
 FUNCTION(walk, result = langtag_bench_walk(text, len))
-FUNCTION(recommended, result = langtag_bench_recommended(text, len))
-FUNCTION(displayed, result = langtag_bench_displayed(text, len))
+FUNCTION(recommended, result = langtag_bench_recommended(text, len, into, sizeof into, &refused))
+FUNCTION(displayed, result = langtag_bench_displayed(text, len, into, sizeof into, &refused))
 /* What stands after the first hyphen is a part, where there is one. */
 FUNCTION(part, char *rest = memchr(text, '-', len);
          if (rest) result = langtag_bench_part(rest + 1, text + len - rest - 1))
@@ -71,12 +75,24 @@ FUNCTION(filter_extended, result = langtag_bench_filter_extended(text, len))
 FUNCTION(look_up, result = langtag_bench_look_up(text, len))
 FUNCTION(tags, result = langtag_bench_tags())
 FUNCTION(tag_for_header, result = langtag_bench_tag_for_header(text, len))
-FUNCTION(lenient, result = langtag_bench_lenient(text, len))
+FUNCTION(lenient, result = langtag_bench_lenient(text, len, &refused))
 FUNCTION(copies, result = langtag_bench_copies(text, len, &refused))
 FUNCTION(set_normal, result = langtag_bench_set_normal(text, len, other, len, &refused))
 FUNCTION(set_of_any, result = langtag_bench_set_of_any(text, len, other, len, &refused))
 FUNCTION(from_parts, result = langtag_bench_from_parts(text, len, &refused))
 FUNCTION(header, result = langtag_bench_header(text, len, &refused))
+/* The tag for a header that is the text, and for another among tags that are. */
+FUNCTION(chosen, result = langtag_bench_chosen(text, len, "en,de", 5, &refused) +
+                          langtag_bench_chosen("fr, de;q=0.5", 12, text, len, &refused))
+FUNCTION(maps, result = langtag_bench_maps(text, len, &refused))
+FUNCTION(canonical, result = langtag_bench_canonical(text, len, into, sizeof into, &refused))
+FUNCTION(extlang_form, result = langtag_bench_extlang_form(text, len, into, sizeof into, &refused))
+FUNCTION(write_canonical, result = langtag_bench_write_canonical(text, len, into, sizeof into))
+FUNCTION(is_canonical, result = langtag_bench_is_canonical(text, len))
+FUNCTION(is_valid, result = langtag_bench_is_valid(text, len))
+FUNCTION(misplaced_variant, result = langtag_bench_misplaced_variant(text, len))
+FUNCTION(misplaced_extlang, result = langtag_bench_misplaced_extlang(text, len))
+FUNCTION(fields, result = langtag_bench_fields(text, len))
 
 #define ENTRY(name)                                                                                                    \
     { #name, name }
@@ -113,6 +129,16 @@ static const struct function functions[] = {
     ENTRY(set_of_any),
     ENTRY(from_parts),
     ENTRY(header),
+    ENTRY(chosen),
+    ENTRY(maps),
+    ENTRY(canonical),
+    ENTRY(extlang_form),
+    ENTRY(write_canonical),
+    ENTRY(is_canonical),
+    ENTRY(is_valid),
+    ENTRY(misplaced_variant),
+    ENTRY(misplaced_extlang),
+    ENTRY(fields),
 };
 
-int main(void) { return count(functions, sizeof functions / sizeof *functions); }
+int main(void) { return count(functions, sizeof functions / sizeof *functions) || refused; }

@@ -1,14 +1,14 @@
 /*
- * Refuses each allocation of calls of langtag and langtag_match in turn, and counts them: a call says that memory was
- * refused to it where it was, and nowhere else, and a setter or a copy makes its text once. Linked with --wrap for
- * malloc, realloc and free, which the heap of the library stands on.
+ * Refuses each allocation of calls of langtag, langtag_match and langtag_registry in turn, and counts them: a call says that
+ * memory was refused to it where it was, and nowhere else, and a setter or a copy makes its text once. The memory of a header
+ * is bounded by its elements. Linked with --wrap for malloc, realloc and free, which the heap of the library stands on.
  */
 #include "memory.h"
 #include <stdio.h>
 #include <stdlib.h>
 #include <string.h>
 
-static size_t allocations, refused_at, blocks;
+static size_t allocations, refused_at, blocks, bytes;
 
 void *__real_malloc(size_t size);
 void *__real_realloc(void *block, size_t size);
@@ -19,12 +19,14 @@ void __wrap_free(void *block);
 
 void *__wrap_malloc(size_t size) {
     if (++allocations == refused_at) return NULL;
+    bytes += size;
     blocks++;
     return __real_malloc(size);
 }
 
 void *__wrap_realloc(void *block, size_t size) {
     if (++allocations == refused_at) return NULL;
+    bytes += size;
     return __real_realloc(block, size);
 }
 
@@ -43,18 +45,43 @@ struct row {
     int wanted;
 };
 
+/* Calls that return a length or a number, which is 0 where memory was refused. */
+#define NUMBER(name, ...)                                                                                              \
+    static bool name(const char *text, size_t len, size_t *refused) {                                                  \
+        size_t number = __VA_ARGS__;                                                                                   \
+        return (number == 0) == (*refused > 0);                                                                        \
+    }
+static char into[64];
+NUMBER(recommended, langtag_bench_recommended(text, len, into, sizeof into, refused))
+NUMBER(displayed, langtag_bench_displayed(text, len, into, sizeof into, refused))
+NUMBER(canonical, langtag_bench_canonical(text, len, into, sizeof into, refused))
+NUMBER(extlang_form, langtag_bench_extlang_form(text, len, into, sizeof into, refused))
+NUMBER(lenient, langtag_bench_lenient(text, len, refused))
+NUMBER(chosen, langtag_bench_chosen("fr, de;q=0.5", 12, text, len, refused))
+NUMBER(maps, langtag_bench_maps(text, len, refused))
+
 #define LONG "zh-min-nan-Hant-TW-rozaj-1996-a-bb-cc-u-co-x-y-z"
 
-/* What is copied: the tag, also in its recommended case and as a range; a normal one twice more; and then its parts. */
+/*
+ * What is copied: the tag, also in its recommended case and as a range; a normal one twice more; and then its parts. The part
+ * and its copy are displayed after that.
+ */
 static const struct row rows[] = {
-    {"copies", langtag_bench_copies, NULL, "i-klingon", NULL, 3},
-    {"copies", langtag_bench_copies, NULL, "x-a", NULL, 5},
-    {"copies", langtag_bench_copies, NULL, "fr", NULL, 7},
-    {"copies", langtag_bench_copies, NULL, "ES-419", NULL, 8},
-    {"copies", langtag_bench_copies, NULL, LONG, NULL, 24},
+    {"copies", langtag_bench_copies, NULL, "i-klingon", NULL, 9},
+    {"copies", langtag_bench_copies, NULL, "x-a", NULL, 15},
+    {"copies", langtag_bench_copies, NULL, "fr", NULL, 21},
+    {"copies", langtag_bench_copies, NULL, "ES-419", NULL, 24},
+    {"copies", langtag_bench_copies, NULL, LONG, NULL, 72},
     {"from_parts", langtag_bench_from_parts, NULL, "fr", NULL, 1},
     {"from_parts", langtag_bench_from_parts, NULL, "es-419", NULL, 1},
     {"from_parts", langtag_bench_from_parts, NULL, LONG, NULL, 1},
+    {"recommended", recommended, NULL, LONG, NULL, 1},
+    {"displayed", displayed, NULL, LONG, NULL, MANY},
+    {"canonical", canonical, NULL, "iw-BU", NULL, 1},
+    {"extlang_form", extlang_form, NULL, "hak-CN", NULL, MANY},
+    {"lenient", lenient, NULL, "de_CH, fr;q=0.5, *;q=0.1", NULL, MANY},
+    {"chosen", chosen, NULL, "en,fr-FR,it,es,de-CH,de", NULL, MANY},
+    {"maps", maps, NULL, "en,fr-FR,it,es,de-CH,de", NULL, MANY},
     {"header", langtag_bench_header, NULL, "", NULL, 0},
     {"header", langtag_bench_header, NULL, "de-CH, fr;q=0.5, *;q=0.1", NULL, MANY},
     {"header", langtag_bench_header, NULL, "a, b;q=0.9, c, d, e;q=0.3, f, g;q=0, h, i, j, k, l, de", NULL, MANY},
@@ -101,6 +128,26 @@ static int check(const struct row *row) {
     return faults;
 }
 
+/* How much memory a header takes in its three readings, for each of its elements; one is there without a comma. */
+enum { ELEMENT = 320, MOST = 1000000 };
+static char header[3 * MOST + 3];
+
+/* A header of so many bytes before one element, and one of so many elements. */
+static int check_header(size_t number) {
+    size_t refused = 0, before, each;
+    refused_at = bytes = 0;
+    memset(header, ' ', number);
+    memcpy(header + number, "de", 2);
+    bool are_right = langtag_bench_header(header, number + 2, &refused);
+    before = bytes, bytes = 0;
+    for (size_t element = 0; element < number; element++) memcpy(header + 3 * element, "de,", 3);
+    are_right &= langtag_bench_header(header, 3 * number, &refused);
+    each = bytes / number;
+    if (are_right && !refused && before <= ELEMENT && each <= ELEMENT) return 0;
+    printf("memory: header of %zu: %zu bytes for one element after spaces, and %zu for each\n", number, before, each);
+    return 1;
+}
+
 int main(void) {
     int faults = 0, calls = 0;
     for (size_t row = 0; row < sizeof rows / sizeof *rows; row++, calls++) faults += check(&rows[row]);
@@ -115,6 +162,8 @@ int main(void) {
             calls += 2;
         }
     }
+    for (size_t number = 1; number <= MOST; number += number < 1000 ? 1 : number / 10, calls += 2)
+        faults += check_header(number);
     printf("memory: %d calls, %d faults\n", calls, faults);
     return faults != 0;
 }

@@ -7,3 +7,12 @@ bool langtag_bench_set_normal(const char *bytes, size_t len, const char *others,
 bool langtag_bench_set_of_any(const char *bytes, size_t len, const char *others, size_t others_len, size_t *refused);
 bool langtag_bench_from_parts(const char *bytes, size_t len, size_t *refused);
 bool langtag_bench_header(const char *bytes, size_t len, size_t *refused);
+size_t langtag_bench_lenient(const char *header, size_t len, size_t *refused);
+size_t langtag_bench_chosen(const char *header, size_t len, const char *tags, size_t tags_len, size_t *refused);
+size_t langtag_bench_maps(const char *tags, size_t len, size_t *refused);
+
+/* These write a text into a buffer, where there is room, and return its length. */
+size_t langtag_bench_recommended(const char *bytes, size_t len, char *into, size_t into_len, size_t *refused);
+size_t langtag_bench_displayed(const char *bytes, size_t len, char *into, size_t into_len, size_t *refused);
+size_t langtag_bench_canonical(const char *bytes, size_t len, char *into, size_t into_len, size_t *refused);
+size_t langtag_bench_extlang_form(const char *bytes, size_t len, char *into, size_t into_len, size_t *refused);

@@ -21,6 +21,14 @@ fi
 check "C: random texts against a second reading, each at the edge of a page" \
     with_make fuzz SECONDS="$FUZZ_SECONDS" SEED="$FUZZ_SEED" BUILD="$work/c"
 
+# The date comes of the library: it is that of the registry's file.
+dated() {
+    printf '#include <langtag.h>\n#include <stdio.h>\nint main(void) { return printf("%%u\\n", (unsigned)langtag_registry_date()) < 0; }\n' |
+        cc -x c - -Iinclude -x none "$archive" -o "$work/date" || return 1
+    [ "$("$work/date")" = "$(sed -n '1s/[^0-9]//gp' "$root/registry/language-subtag-registry")" ]
+}
+check "C: the date of the registry is that of its file" dated
+
 # What Rust and Python answer to random calls is compared with C's answers.
 answers_of_c() {
     python3 random_calls.py "$FUZZ_SEED" >"$work/calls" && "$work/c/test" --answer <"$work/calls" >"$work/answers"

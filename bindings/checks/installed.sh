@@ -40,6 +40,14 @@ installed_static() { installed -O2 -static && ! readelf -d parts | grep NEEDED; 
 check "C: an example over the installed shared library" installed_shared
 check "C: an example over the installed static library" installed_static
 
+installed_header() {
+    cd "$work/empty" && cp "$here/examples/parts.cc" . && c++ -std=c++17 -Wall -Wextra -Werror parts.cc $(flags) -o parts-cc || return 1
+    LD_LIBRARY_PATH=$work/usr/lib ./parts-cc zh-Hant-TW | diff - <(wanted) || return 1
+    LD_LIBRARY_PATH=$work/usr/lib ./parts-cc de-1996-u-co-1996-x-a | grep 'extension u-co-1996' &&
+        LD_LIBRARY_PATH=$work/usr/lib ./parts-cc de-1996-1996 | grep 'not valid: variant 1996 is repeated'
+}
+check "C++: an example over the installed header" installed_header
+
 # Another archive, which is older than what was built of the first, in folders of other names.
 elsewhere() {
     make -s -C c "$@" PREFIX="$work/another" LIBDIR="$work/another/lib64" INCLUDEDIR="$work/another/headers" \

@@ -2,6 +2,9 @@
 unit_tests() { cd python && LANGTAG_ANSWERS=$work/answers python3 -m unittest; }
 check "Python: tests and doctests, and C's answers to random calls" unit_tests
 
+dated() { (cd python && python3 -c 'import langtag; print("File-Date:", langtag.REGISTRY_DATE)') | cmp - <(sed 1q "$root/registry/language-subtag-registry"); }
+check "Python: the date of the registry is that of its file" dated
+
 oldest() { cd python && python3.8 -m unittest; }
 if python3.8 -c '' 2>/dev/null; then
     check "Python: the same by Python 3.8" oldest

@@ -15,7 +15,8 @@ check "release: two runs give the same bytes, with the archive's sum" releases
 by_itself() {
     away 'tar -xzf ../dist/*-elf.tar.gz; cd langtag-verified-*; rm ../parts.*
         cc examples/negotiate.c examples/accept_language.c -Iinclude lib/liblangtag_verified.a -o negotiate
-        cc examples/parts.c -Iinclude lib/liblangtag_verified.a -o parts; ./parts zh-Hant-TW'
+        c++ -std=c++17 examples/parts.cc -Iinclude lib/liblangtag_verified.a -o parts; ./parts zh-Hant-TW >cc
+        cc examples/parts.c -Iinclude lib/liblangtag_verified.a -o parts; ./parts zh-Hant-TW | tee c; cmp c cc'
 }
 
 # away COMMAND..: runs it in an empty folder, where the repository and the copy of bindings are hidden if that can be done.

@@ -1,15 +1,21 @@
 /*
- * A loadable extension for SQLite: the parts of language tags, their canonical forms, and their order.
+ * A loadable extension for SQLite: the parts of language tags, their canonical forms, whether they are valid, which ranges
+ * match them, and their order.
  *
  *     cc -O2 -fPIC -shared sqlite_langtag.c -o sqlite_langtag.so $(pkg-config --cflags --libs langtag_verified)
  *     sqlite> .load ./sqlite_langtag
  *     sqlite> SELECT langtag_part('zh-Hant-TW', 'script');          -- Hant
  *     sqlite> SELECT langtag_canonical('iw-Hebr');                   -- he-Hebr
+ *     sqlite> SELECT langtag_is_valid('de-1996-1996');               -- 0
+ *     sqlite> SELECT * FROM texts WHERE langtag_matches_basic('de', tag);
  *     sqlite> SELECT * FROM texts WHERE tag = 'ZH-hant' COLLATE langtag;
  *
- * langtag_part(tag, part) is NULL where the text is not a tag, where the part is absent, and of NULL. The parts are
- * language, script, region, variants, extensions and private_use. langtag_canonical(tag) is NULL where the text is not a
- * tag, and of NULL.
+ * langtag_part(tag, part) is NULL where the text is not a tag, and where the part is absent. The parts are language,
+ * script, region, variants, extensions and private_use. langtag_canonical(tag) and langtag_is_valid(tag) are NULL where
+ * the text is not a tag (RFC 5646 sections 4.5 and 2.2.9, by the registry of langtag_registry_date).
+ * langtag_matches_basic(range, tag) and langtag_matches_extended(range, tag) are 0 where a text is not a range, or not a
+ * tag (RFC 4647 sections 3.3.1 and 3.3.2). Each call with a NULL is NULL. In the order of the collation a tag comes after
+ * those that begin with it; ORDER BY lower(tag) is people's.
  */
 #include <langtag.h>
 #include <sqlite3ext.h>
@@ -58,6 +64,32 @@ static void canonical(sqlite3_context *context, int count, sqlite3_value **value
     sqlite3_result_text64(context, form, form_len, sqlite3_free, SQLITE_UTF8);
 }
 
+static void is_valid(sqlite3_context *context, int count, sqlite3_value **values) {
+    (void)count;
+    const char *tag = (const char *)sqlite3_value_text(values[0]);
+    langtag_span invalid;
+    uint32_t answer = tag ? langtag_validity(tag, (size_t)sqlite3_value_bytes(values[0]), &invalid) : LANGTAG_VALIDITY_NONE;
+    if (answer != LANGTAG_VALIDITY_NONE) sqlite3_result_int(context, answer == LANGTAG_VALID); /* else NULL */
+}
+
+typedef bool filter(const char *range, size_t range_len, const char *tag, size_t tag_len);
+
+static void matches(sqlite3_context *context, sqlite3_value **values, filter *is_match) {
+    const char *range = (const char *)sqlite3_value_text(values[0]), *tag = (const char *)sqlite3_value_text(values[1]);
+    size_t range_len = (size_t)sqlite3_value_bytes(values[0]), tag_len = (size_t)sqlite3_value_bytes(values[1]);
+    if (range && tag) sqlite3_result_int(context, is_match(range, range_len, tag, tag_len)); /* else NULL */
+}
+
+static void matches_basic(sqlite3_context *context, int count, sqlite3_value **values) {
+    (void)count;
+    matches(context, values, langtag_matches_basic);
+}
+
+static void matches_extended(sqlite3_context *context, int count, sqlite3_value **values) {
+    (void)count;
+    matches(context, values, langtag_matches_extended);
+}
+
 static int compare(void *unused, int a_len, const void *a, int b_len, const void *b) {
     (void)unused;
     return langtag_cmp(langtag_bytes(a), (size_t)a_len, langtag_bytes(b), (size_t)b_len);
@@ -66,9 +98,20 @@ static int compare(void *unused, int a_len, const void *a, int b_len, const void
 int sqlite3_sqlitelangtag_init(sqlite3 *db, char **message, const sqlite3_api_routines *api) {
     (void)message;
     SQLITE_EXTENSION_INIT2(api);
-    int flags = SQLITE_UTF8 | SQLITE_DETERMINISTIC, status;
-    status = sqlite3_create_function(db, "langtag_part", 2, flags, NULL, part, NULL, NULL);
-    if (status == SQLITE_OK)
-        status = sqlite3_create_function(db, "langtag_canonical", 1, flags, NULL, canonical, NULL, NULL);
+    static const struct {
+        const char *name;
+        int arguments;
+        void (*call)(sqlite3_context *context, int count, sqlite3_value **values);
+    } functions[] = {
+        {"langtag_part", 2, part},
+        {"langtag_canonical", 1, canonical},
+        {"langtag_is_valid", 1, is_valid},
+        {"langtag_matches_basic", 2, matches_basic},
+        {"langtag_matches_extended", 2, matches_extended},
+    };
+    int flags = SQLITE_UTF8 | SQLITE_DETERMINISTIC, status = SQLITE_OK;
+    for (size_t k = 0; status == SQLITE_OK && k < sizeof functions / sizeof *functions; k++)
+        status = sqlite3_create_function(db, functions[k].name, functions[k].arguments, flags, NULL, functions[k].call, NULL,
+                                         NULL);
     return status == SQLITE_OK ? sqlite3_create_collation(db, "langtag", SQLITE_UTF8, NULL, compare) : status;
 }

@@ -1,6 +1,6 @@
 /*
- * langtag: language tags and language ranges by BCP 47 (RFC 5646 and RFC 4647). Only langtag_validity and
- * langtag_canonical look at what is registered.
+ * langtag: language tags and language ranges by BCP 47 (RFC 5646 and RFC 4647). Only langtag_validity, langtag_canonical
+ * and langtag_is_canonical look at what is registered.
  *
  * What a comment here says that a function answers or writes is proved of its code, for every input, and also that each
  * call ends and reaches no memory but that of its arguments. No function takes memory or keeps anything between calls;
@@ -110,7 +110,8 @@ LANGTAG_PURE bool langtag_eq(const char *a, size_t a_len, const char *b, size_t 
 
 /*
  * The order of two texts, of any bytes, without regard to case: -1, 0 or 1, and 0 exactly where langtag_eq is true. A
- * text comes after those that begin with it: zh after zh-Latn.
+ * text comes after those that begin with it: zh after zh-Latn. For people's order, de before de-AT, compare copies that
+ * langtag_fold changed, as strings are compared.
  */
 LANGTAG_PURE int32_t langtag_cmp(const char *a, size_t a_len, const char *b, size_t b_len);
 
@@ -214,17 +215,16 @@ enum langtag_validity_answer {
 };
 
 /*
- * Whether a tag is valid (RFC 5646 section 2.2.9) by IANA's registry of LANGTAG_REGISTRY_DATE, as an enum
+ * Whether a tag is valid (RFC 5646 section 2.2.9) by IANA's registry of langtag_registry_date, as an enum
  * langtag_validity_answer, and where the subtag stands that is wrong (out); without a byte where none is. A valid tag is
  * grandfathered, or its language, extended language, script, region and variants are registered, at most one of them is an
  * extended language, and no variant or singleton stands twice. Deprecated subtags are valid, and whether a variant stands
  * after one of its prefixes is not asked.
  */
-#define LANGTAG_REGISTRY_DATE "2022-06-28"
 uint32_t langtag_validity(const char *bytes, size_t len, langtag_span *invalid);
 
 /*
- * Writes the canonical form of a tag to `buffer` (RFC 5646 section 4.5, by the registry of LANGTAG_REGISTRY_DATE), and
+ * Writes the canonical form of a tag to `buffer` (RFC 5646 section 4.5, by the registry of langtag_registry_date), and
  * returns its length: he for iw, yue for zh-yue, jbo for art-lojban, en-a-aaa-b-ccc for en-b-ccc-a-aaa, fr-FR for fr-FR.
  *
  *     char buffer[64];
@@ -243,6 +243,18 @@ uint32_t langtag_validity(const char *bytes, size_t len, langtag_span *invalid);
  * 0, and nothing written, where the text is not a tag.
  */
 size_t langtag_canonical(const char *bytes, size_t len, char *buffer, size_t buffer_len);
+
+/*
+ * Whether the bytes are a tag that is its own canonical form, by the same registry, whatever the case of its letters: true
+ * of HE and x-iw, and false of iw, of en-b-ccc-a-aaa and of what is not a tag.
+ */
+LANGTAG_PURE bool langtag_is_canonical(const char *bytes, size_t len);
+
+/*
+ * The date of IANA's registry by which tags are valid and canonical here (its File-Date, RFC 5646 section 3.1.1), year,
+ * month and day as the digits of one number: 20051016 would be 2005-10-16. A later date is a greater number.
+ */
+LANGTAG_PURE uint32_t langtag_registry_date(void);
 
 /*
  * The number of the text among the 26 grandfathered tags, in any case, by their order in RFC 5646 section 2.1, or

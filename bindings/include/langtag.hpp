@@ -1,6 +1,7 @@
 /*
- * langtag.h for C++17, over std::string_view. A tag and its parts are views of the text that they were read from, which
- * has to outlive them. Bytes after a view's end are never read, and a view of no text, without a pointer, is an empty one.
+ * langtag.h for C++17, over std::string_view. A tag, a range and their parts are views of the text that they were read
+ * from, which has to outlive them: a temporary string is refused by the compiler. Bytes after a view's end are never read,
+ * and a view of no text, without a pointer, is an empty one.
  */
 #ifndef LANGTAG_HPP
 #define LANGTAG_HPP
@@ -11,11 +12,17 @@
 
 #include "langtag.h"
 
+#include <algorithm>
 #include <cstddef>
 #include <cstdint>
+#include <functional>
+#include <initializer_list>
+#include <iterator>
 #include <optional>
 #include <string>
 #include <string_view>
+#include <utility>
+#include <vector>
 
 namespace langtag {
 
@@ -46,11 +53,37 @@ enum class fault : std::uint32_t {
     repeated_singleton = LANGTAG_INVALID_REPEATED_SINGLETON
 };
 
-/* A subtag that makes a tag invalid. */
+/* A subtag that makes a tag invalid, and the offset at which it begins. */
 struct invalid_subtag {
     langtag::fault fault;
     std::string_view subtag;
+    std::size_t offset;
+
+    /* What is wrong, in words: "language qt is not registered", "extended language yue is the second". */
+    std::string message() const {
+        const auto say = [this](const char *what, const char *how) { return (what + std::string(subtag)).append(how); };
+        switch (fault) {
+        case fault::language: return say("language ", " is not registered");
+        case fault::extlang: return say("extended language ", " is not registered");
+        case fault::second_extlang: return say("extended language ", " is the second");
+        case fault::script: return say("script ", " is not registered");
+        case fault::region: return say("region ", " is not registered");
+        case fault::variant: return say("variant ", " is not registered");
+        case fault::repeated_variant: return say("variant ", " is repeated");
+        case fault::repeated_singleton: return say("singleton ", " is repeated");
+        }
+        return {};
+    }
 };
+
+/* The 26 grandfathered tags as they are registered (RFC 5646 section 2.1): first the seventeen irregular ones. */
+inline constexpr std::string_view grandfathered_tags[] = {
+    "en-GB-oed",   "i-ami",  "i-bnn",  "i-default", "i-enochian", "i-hak",     "i-klingon",  "i-lux",     "i-mingo",
+    "i-navajo",    "i-pwn",  "i-tao",  "i-tay",     "i-tsu",      "sgn-BE-FR", "sgn-BE-NL",  "sgn-CH-DE", "art-lojban",
+    "cel-gaulish", "no-bok", "no-nyn", "zh-guoyu",  "zh-hakka",   "zh-min",    "zh-min-nan", "zh-xiang"};
+
+/* A string that is gone before the view of it is used: what keeps a view has a deleted overload for it. */
+template <class Allocator> using temporary_string = const std::basic_string<char, std::char_traits<char>, Allocator> &&;
 
 /* A language tag (RFC 5646 section 2.1). */
 class tag {
@@ -62,6 +95,7 @@ public:
         if (found == LANGTAG_NONE) return std::nullopt;
         return tag(text, static_cast<langtag::kind>(found), parts);
     }
+    template <class Allocator> static std::optional<tag> parse(temporary_string<Allocator>) = delete;
 
     std::string_view text() const noexcept { return text_; }
     langtag::kind kind() const noexcept { return kind_; }
@@ -74,6 +108,16 @@ public:
     std::string_view extensions() const noexcept { return cut(parts_.extensions); }
     std::string_view private_use() const noexcept { return cut(parts_.private_use); }
 
+    /* Which of grandfathered_tags it is, in any case; empty where it is none of them. */
+    std::string_view grandfathered() const noexcept {
+        const std::uint32_t number = langtag_grandfathered(text_.data(), text_.size());
+        return number < LANGTAG_GRANDFATHERED_COUNT ? grandfathered_tags[number] : std::string_view();
+    }
+
+    /* The first variant, and the first singleton, that equals an earlier one but for case; empty where there is none. */
+    std::string_view repeated_variant() const noexcept { return cut(repeated().variant); }
+    std::string_view repeated_singleton() const noexcept { return cut(repeated().singleton); }
+
     /* The text of the tag with a part set to a text, or taken out where that is empty. None where the tag is not a normal
      * one, or the text not one of that part. */
     std::optional<std::string> with(langtag::part which, std::string_view given) const {
@@ -85,12 +129,22 @@ public:
         return made;
     }
 
-    /* The first subtag that makes the tag invalid, by the registry of LANGTAG_REGISTRY_DATE. None where it is valid. */
+    /* The same for several parts, one after the other: tag.with({{part::script, "Latn"}, {part::region, "RS"}}). */
+    std::optional<std::string> with(std::initializer_list<std::pair<langtag::part, std::string_view>> parts) const {
+        std::optional<std::string> made{std::string(text_)};
+        for (const auto &[which, given] : parts) {
+            const auto whole = made ? parse(*made) : std::nullopt;
+            made = whole ? whole->with(which, given) : std::nullopt;
+        }
+        return made;
+    }
+
+    /* The first subtag that makes the tag invalid, by the registry of registry_date. None where it is valid. */
     std::optional<langtag::invalid_subtag> invalid_subtag() const noexcept {
         langtag_span invalid;
         const std::uint32_t found = langtag_validity(text_.data(), text_.size(), &invalid);
         if (found <= LANGTAG_VALID) return std::nullopt;
-        return langtag::invalid_subtag{static_cast<langtag::fault>(found), cut(invalid)};
+        return langtag::invalid_subtag{static_cast<langtag::fault>(found), cut(invalid), invalid.start};
     }
     bool is_valid() const noexcept { return !invalid_subtag(); }
 
@@ -102,38 +156,103 @@ public:
         return made;
     }
 
-    /* Whether the tag is its own canonical form, but for case. */
-    bool is_canonical() const {
-        const std::string form = canonical();
-        return langtag_eq(text_.data(), text_.size(), form.data(), form.size());
-    }
+    /* Whether the tag is its own canonical form, whatever the case of its letters. */
+    bool is_canonical() const noexcept { return langtag_is_canonical(text_.data(), text_.size()); }
 
-    /* Without regard to case; a tag comes after those that begin with it. */
-    friend bool operator==(const tag &a, const tag &b) noexcept {
-        return langtag_eq(a.text_.data(), a.text_.size(), b.text_.data(), b.text_.size());
-    }
+    /* FNV-1a of 64 bits over the text in small letters: the same number in every program and at every time. */
+    std::uint64_t fnv1a() const noexcept { return langtag_hash(LANGTAG_HASH, text_.data(), text_.size()); }
+
+    /* Without regard to case; a tag comes after those that begin with it. For people's order sort by folded(text()). */
+    friend bool operator==(const tag &a, const tag &b) noexcept { return a == b.text_; }
     friend bool operator!=(const tag &a, const tag &b) noexcept { return !(a == b); }
     friend bool operator<(const tag &a, const tag &b) noexcept {
         return langtag_cmp(a.text_.data(), a.text_.size(), b.text_.data(), b.text_.size()) < 0;
     }
+    friend bool operator>(const tag &a, const tag &b) noexcept { return b < a; }
+    friend bool operator<=(const tag &a, const tag &b) noexcept { return !(b < a); }
+    friend bool operator>=(const tag &a, const tag &b) noexcept { return !(a < b); }
+
+    /* Whether the tag is a text, but for case. */
+    friend bool operator==(const tag &a, std::string_view b) noexcept {
+        return langtag_eq(a.text_.data(), a.text_.size(), langtag_bytes(b.data()), b.size());
+    }
+    friend bool operator!=(const tag &a, std::string_view b) noexcept { return !(a == b); }
+    friend bool operator==(std::string_view a, const tag &b) noexcept { return b == a; }
+    friend bool operator!=(std::string_view a, const tag &b) noexcept { return !(b == a); }
 
 private:
+    friend class owned_tag;
     tag(std::string_view text, langtag::kind kind, const langtag_parts &parts) noexcept
         : text_(text), kind_(kind), parts_(parts) {}
 
     /* Each span lies within the text. */
     std::string_view cut(langtag_span span) const noexcept { return {text_.data() + span.start, span.len}; }
 
+    langtag_repeated repeated() const noexcept {
+        langtag_repeated found;
+        langtag_repeats(text_.data(), text_.size(), &found);
+        return found;
+    }
+
     std::string_view text_;
     langtag::kind kind_;
     langtag_parts parts_;
 };
 
+/* What a call of langtag.h takes off a part, one after the other, as views. */
+template <bool (*Next)(const char *, std::size_t, langtag_span *, langtag_span *)> class pieces {
+public:
+    class iterator {
+    public:
+        using iterator_category = std::input_iterator_tag;
+        using value_type = std::string_view;
+        using difference_type = std::ptrdiff_t;
+        using pointer = const std::string_view *;
+        using reference = std::string_view;
+
+        iterator() noexcept = default;
+        explicit iterator(std::string_view part) noexcept : part_(part), rest_{0, part.size()} { ++*this; }
+
+        std::string_view operator*() const noexcept { return part_.substr(piece_.start, piece_.len); }
+        iterator &operator++() noexcept {
+            if (!Next(langtag_bytes(part_.data()), part_.size(), &rest_, &piece_)) *this = iterator();
+            return *this;
+        }
+        iterator operator++(int) noexcept {
+            const iterator before = *this;
+            ++*this;
+            return before;
+        }
+        /* Of two in one part; the one at the end views none. */
+        friend bool operator==(const iterator &a, const iterator &b) noexcept {
+            return a.part_.size() == b.part_.size() && a.rest_.len == b.rest_.len;
+        }
+        friend bool operator!=(const iterator &a, const iterator &b) noexcept { return !(a == b); }
+
+    private:
+        std::string_view part_;
+        langtag_span rest_ = {0, 0}, piece_ = {0, 0};
+    };
+
+    explicit pieces(std::string_view part) noexcept : part_(part) {}
+    template <class Allocator> explicit pieces(temporary_string<Allocator>) = delete;
+
+    iterator begin() const noexcept { return iterator(part_); }
+    iterator end() const noexcept { return iterator(); }
+
+private:
+    std::string_view part_;
+};
+
+/* The subtags of a part, in order: for (std::string_view variant : langtag::subtags(tag.variants())) .. */
+using subtags = pieces<langtag_next_subtag>;
+
+/* The extensions of tag.extensions(), in order, each with its singleton: u-co-pinyin. */
+using extensions = pieces<langtag_next_extension>;
+
 /* Calls a function with each subtag of a part, in order. */
 template <class Function> void for_each_subtag(std::string_view part, Function call) {
-    langtag_span rest = {0, part.size()}, subtag;
-    while (langtag_next_subtag(langtag_bytes(part.data()), part.size(), &rest, &subtag))
-        call(part.substr(subtag.start, subtag.len));
+    for (std::string_view subtag : subtags(part)) call(subtag);
 }
 
 /* The text in the case that RFC 5646 section 2.1.1 recommends. */
@@ -143,6 +262,80 @@ inline std::string recommended(std::string_view text) {
     return made;
 }
 
+/* The text in small letters, the same for all tags that are equal: the key to sort by for people, as in a dictionary, de
+ * before de-AT, which tags as they are compared are not. All tags below de stand from the key "de-" up to "de.". */
+inline std::string folded(std::string_view text) {
+    std::string made(text);
+    langtag_fold(&made[0], made.size());
+    return made;
+}
+
+/* The text of the tag of these parts, of which those that are empty are left out. None where one is not what it is given
+ * for, or there is no language. */
+inline std::optional<std::string> from_parts(std::string_view language, std::string_view script = {},
+                                             std::string_view region = {}, std::string_view variants = {},
+                                             std::string_view extensions = {}, std::string_view private_use = {}) {
+    return tag::parse("und")->with({{part::language, language},
+                                    {part::script, script},
+                                    {part::region, region},
+                                    {part::variants, variants},
+                                    {part::extensions, extensions},
+                                    {part::private_use, private_use}});
+}
+
+/* A tag that owns its text, to be kept. One that was moved from may be assigned to or destroyed, and nothing else. */
+class owned_tag {
+public:
+    /* None where the text is not a tag. */
+    static std::optional<owned_tag> parse(std::string text) {
+        const auto read = tag::parse(text);
+        if (!read) return std::nullopt;
+        return owned_tag(std::move(text), read->kind_, read->parts_);
+    }
+    explicit owned_tag(const tag &tag) : owned_tag(std::string(tag.text_), tag.kind_, tag.parts_) {}
+
+    const std::string &text() const noexcept { return text_; }
+
+    /* The tag as a view, which has the parts. The text is not read again. */
+    tag view() const & noexcept { return tag(text_, kind_, parts_); }
+    tag view() const && = delete;
+
+    /* Sets a part to a text, or takes it out where that is empty. False, with the tag as it was, where it is not a normal
+     * one, or the text not one of that part. */
+    bool set(part which, std::string_view given) {
+        auto made = view().with(which, given);
+        auto read = made ? parse(std::move(*made)) : std::nullopt;
+        if (read) *this = std::move(*read);
+        return read.has_value();
+    }
+
+    /* As tags are compared. */
+    friend bool operator==(const owned_tag &a, const owned_tag &b) noexcept { return a.view() == b.view(); }
+    friend bool operator!=(const owned_tag &a, const owned_tag &b) noexcept { return !(a == b); }
+    friend bool operator<(const owned_tag &a, const owned_tag &b) noexcept { return a.view() < b.view(); }
+
+private:
+    owned_tag(std::string text, langtag::kind kind, const langtag_parts &parts) noexcept
+        : text_(std::move(text)), kind_(kind), parts_(parts) {}
+
+    std::string text_;
+    langtag::kind kind_;
+    langtag_parts parts_;
+};
+
+/* The length of the longest prefix that some tag begins with: where a text goes wrong that is not a tag. */
+inline std::size_t viable(std::string_view text) noexcept {
+    return langtag_viable(langtag_bytes(text.data()), text.size());
+}
+
+/* The length of the shortest prefix that no tag begins with, or of the whole text where there is none. */
+inline std::size_t stop(std::string_view text) noexcept {
+    return langtag_stop(langtag_bytes(text.data()), text.size());
+}
+
+/* The date of the registry by which tags are valid and canonical, as one number: 20051016 would be 2005-10-16. */
+inline std::uint32_t registry_date() noexcept { return langtag_registry_date(); }
+
 /* Whether a language range matches a tag (RFC 4647 sections 3.3.1 and 3.3.2). */
 inline bool matches_basic(std::string_view range, const tag &tag) noexcept {
     return langtag_matches_basic(langtag_bytes(range.data()), range.size(), tag.text().data(), tag.text().size());
@@ -151,6 +344,140 @@ inline bool matches_extended(std::string_view range, const tag &tag) noexcept {
     return langtag_matches_extended(langtag_bytes(range.data()), range.size(), tag.text().data(), tag.text().size());
 }
 
+/* A language range, basic or extended (RFC 4647 section 2): de-CH, *, *-CH, de-*-DE. */
+class range {
+public:
+    /* None where the text is not a range. */
+    static std::optional<range> parse(std::string_view text) noexcept {
+        const std::uint32_t found = langtag_range_kind(langtag_bytes(text.data()), text.size());
+        if (found == LANGTAG_RANGE_NONE) return std::nullopt;
+        return range(text, found == LANGTAG_RANGE_BASIC);
+    }
+    template <class Allocator> static std::optional<range> parse(temporary_string<Allocator>) = delete;
+
+    std::string_view text() const noexcept { return text_; }
+
+    /* Whether it is a basic one (section 2.1): de-CH, or * alone. */
+    bool is_basic() const noexcept { return is_basic_; }
+
+    bool matches_basic(const tag &tag) const noexcept { return langtag::matches_basic(text_, tag); }
+    bool matches_extended(const tag &tag) const noexcept { return langtag::matches_extended(text_, tag); }
+
+    /* What is looked up after it (section 3.4): zh-Hant after zh-Hant-CN. None where nothing is left. */
+    std::optional<range> fallback() const noexcept {
+        langtag_span rest = {0, text_.size()};
+        if (!langtag_next_fallback(text_.data(), text_.size(), &rest)) return std::nullopt;
+        const std::string_view left = text_.substr(0, rest.len);
+        return range(left, is_basic_ || left.find('*') == left.npos);
+    }
+
+    /* The tag that it finds by look-up (section 3.4): the one that is equal to it, or else to the first of its fallbacks
+     * that there is; of tags that are equal but for case the first. None where there is none. An extended range is looked
+     * up as the basic one without its * (section 3.2), and finds nothing where it begins with one. */
+    std::optional<tag> look_up(const std::vector<tag> &tags) const {
+        const std::string basic = without_wildcards();
+        std::optional<range> looked_up = range(basic, true);
+        for (; looked_up; looked_up = looked_up->fallback()) {
+            const auto found = std::find(tags.begin(), tags.end(), looked_up->text_);
+            if (found != tags.end()) return *found;
+        }
+        return std::nullopt;
+    }
+
+private:
+    friend class accept_language;
+    range(std::string_view text, bool is_basic) noexcept : text_(text), is_basic_(is_basic) {}
+
+    std::string without_wildcards() const {
+        std::string basic(text_);
+        for (auto at = basic.find("-*"); at != basic.npos; at = basic.find("-*", at)) basic.erase(at, 2);
+        return basic;
+    }
+
+    std::string_view text_;
+    bool is_basic_;
+};
+
+/* The tag of the first range that finds one. */
+inline std::optional<tag> look_up(const std::vector<range> &ranges, const std::vector<tag> &tags) {
+    for (const range &range : ranges)
+        if (const auto found = range.look_up(tags)) return found;
+    return std::nullopt;
+}
+
+/* A range of a header, and its weight in thousandths, from 1 to 1000. */
+struct weighted_range {
+    langtag::range range;
+    std::uint32_t weight;
+};
+
+/* What is bad of an element of a header. Where both are, it is the range. */
+enum class element_part : std::uint32_t { range = LANGTAG_ACCEPTED_BAD_RANGE, weight = LANGTAG_ACCEPTED_BAD_WEIGHT };
+
+/* A bad element of a header: how many commas stand before it, and the offset just after the last of them. */
+struct bad_element {
+    element_part part;
+    std::size_t index, offset;
+};
+
+/* The value of an Accept-Language header (RFC 9110 section 12.5.4). It is a view of the header, and reads it at each call. */
+class accept_language {
+public:
+    explicit accept_language(std::string_view header) noexcept : header_(header) {}
+    template <class Allocator> explicit accept_language(temporary_string<Allocator>) = delete;
+
+    /* The first bad element, as de_CH or de;q=2. Who is strict refuses the header where there is one: the calls below pass
+     * bad elements over. */
+    std::optional<langtag::bad_element> bad_element() const noexcept {
+        langtag_span rest = whole(), element;
+        std::uint32_t weight, answer;
+        while ((answer = next(rest, element, weight)) == LANGTAG_ACCEPTED_RANGE) continue;
+        if (answer == LANGTAG_ACCEPTED_END) return std::nullopt;
+        const auto commas =
+            std::count(header_.begin(), header_.begin() + static_cast<std::ptrdiff_t>(element.start), ',');
+        return langtag::bad_element{static_cast<element_part>(answer), static_cast<std::size_t>(commas), element.start};
+    }
+
+    /* The ranges, those of the greatest weight first; ranges of one weight keep their order. Those of the weight 0 are left
+     * out, since they are not acceptable. */
+    std::vector<weighted_range> ranges() const {
+        std::vector<weighted_range> found;
+        langtag_span rest = whole(), element;
+        std::uint32_t weight, answer;
+        while ((answer = next(rest, element, weight)) != LANGTAG_ACCEPTED_END)
+            if (answer == LANGTAG_ACCEPTED_RANGE && weight > 0)
+                found.push_back({range(header_.substr(element.start, element.len), true), weight});
+        std::stable_sort(found.begin(), found.end(), [](const auto &a, const auto &b) { return a.weight > b.weight; });
+        return found;
+    }
+
+    /* The tag that the ranges find, those of the greatest weight first. None where they find none: .value_or(..) */
+    std::optional<tag> look_up(const std::vector<tag> &tags) const {
+        for (const weighted_range &weighted : ranges())
+            if (const auto found = weighted.range.look_up(tags)) return found;
+        return std::nullopt;
+    }
+
+private:
+    langtag_span whole() const noexcept { return {0, header_.size()}; }
+
+    std::uint32_t next(langtag_span &rest, langtag_span &element, std::uint32_t &weight) const noexcept {
+        return langtag_next_accepted(langtag_bytes(header_.data()), header_.size(), &rest, &element, &weight);
+    }
+
+    std::string_view header_;
+};
+
 } // namespace langtag
+
+/* Equal tags hash alike. Whoever picks the tags can make them collide, as strings by most libraries. */
+template <> struct std::hash<langtag::tag> {
+    std::size_t operator()(const langtag::tag &tag) const noexcept { return static_cast<std::size_t>(tag.fnv1a()); }
+};
+template <> struct std::hash<langtag::owned_tag> {
+    std::size_t operator()(const langtag::owned_tag &tag) const noexcept {
+        return std::hash<langtag::tag>()(tag.view());
+    }
+};
 
 #endif

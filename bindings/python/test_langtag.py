@@ -1,16 +1,23 @@
-"""python3 -m unittest, in this folder."""
+"""python3 -m unittest, in this folder. test_rows asks the rows that the tests of all languages read; here stands what only
+Python has."""
 import copy
 import doctest
+import gc
+import itertools
 import os
 import pickle
 import random
+import re
 import subprocess
 import sys
+import time
+import tracemalloc
 import unittest
 import weakref
 
 import langtag
-from langtag import InvalidRange, InvalidTag, Kind, Range, Tag, kind, parse, stop, viable
+from langtag import (AcceptLanguage, EditError, InvalidRange, InvalidTag, Kind, Range, Tag, kind, look_up, parse, stop,
+                     tag_for_header_lenient, viable)
 
 
 class Parts(unittest.TestCase):
@@ -138,6 +145,106 @@ class Ranges(unittest.TestCase):
                 Range("de").matches_extended(value)
             with self.assertRaises(TypeError):
                 Range("de").matches_basic(value)
+
+
+class Negotiation(unittest.TestCase):
+    def test_ranges(self):
+        accepted = AcceptLanguage.lenient("FR;q=0.5, d!, de, *;q=0, nl;q=0.25")
+        found = [(str(range), weight) for range, weight in accepted.ranges]
+        self.assertEqual(found, [("de", 1000), ("FR", 500), ("nl", 250)])
+        self.assertEqual(repr(accepted), "AcceptLanguage('de;q=1.0, FR;q=0.5, nl;q=0.25')")
+        self.assertIsNone(accepted.look_up([], None))
+        self.assertEqual([str(range) for range in Range("de-AT-*-x-*").fallbacks()], ["de-AT-*-x-*", "de-AT", "de"])
+        for value in (None, 5, ["de"]):
+            with self.assertRaises(TypeError):
+                AcceptLanguage.lenient(value)
+        for ranges, tags in (([Range("de")], ["de"]), (["de"], [Tag("de")]), ([Tag("de")], [Tag("de")])):
+            with self.assertRaises(TypeError):
+                look_up(ranges, tags, None)
+
+    def test_weights(self):
+        """Every text of up to four bytes of these as a weight, and some longer ones, beside RFC 9110 section 12.4.2."""
+        texts = ["".join(text) for length in range(5) for text in itertools.product("01.>5", repeat=length)]
+        texts += ["0.1234", "0.0004", "0.999", "1.0000", "1.000", "0.5 5", "00.5", "+0.5", "0,5", "0.001", "0.0001"]
+        for text in texts:
+            is_weight = re.fullmatch(r"0(\.\d{0,3})?|1(\.0{0,3})?", text)
+            found = AcceptLanguage.lenient(f"fr;q={text}, de;q=0.5").ranges
+            wanted = ["fr"] if is_weight and float(text) >= 0.5 else []
+            wanted += ["de"] + (["fr"] if is_weight and 0 < float(text) < 0.5 else [])
+            self.assertEqual([str(it.range) for it in found], wanted, text)
+
+    def test_long_headers(self):
+        begun = time.monotonic()
+        for header in ("ab-" * 21_000 + "ab", "a-" * 32_000 + "b", "de-CH," * 10_000):
+            tag_for_header_lenient(header, [Tag("en"), Tag("de")], None)
+        self.assertLess(time.monotonic() - begun, 10)
+
+
+class Edits(unittest.TestCase):
+    def test_several(self):
+        tag = Tag("zh-yue-Hant-HK-1994-u-co-pinyin-T-aa-x-mine")
+        self.assertIs(tag.replace(), tag)
+        again = Tag("de").replace(language=tag.language, script=tag.script, region=tag.region, variants=tag.variants,
+                                  extensions=tag.extensions, private_use=tag.private_use)
+        self.assertEqual(again, tag)
+        self.assertEqual(str(tag.replace(extensions={"u": ["co", "eor"]}, variants=[])), "zh-yue-Hant-HK-u-co-eor-x-mine")
+        with self.assertRaises(EditError):
+            Tag("de-x-a").replace(language=None)
+        for wrong in ({"variants": [""]}, {"variants": ["1994", ""]}, {"extensions": {"u": []}}, {"extensions": {"": ["a"]}}):
+            with self.assertRaises(EditError):
+                tag.replace(**wrong)
+        for wrong in ({"script": b"Latn"}, {"region": 419}, {"variants": [1994]}):
+            with self.assertRaises(TypeError):
+                tag.replace(**wrong)
+
+    def test_from_parts(self):
+        tag = Tag("zh-yue-Hant-HK-1994-u-co-pinyin-t-aa-x-mine")
+        again = Tag.from_parts(tag.language, script=tag.script, region=tag.region, variants=tag.variants,
+                               extensions=tag.extensions, private_use=tag.private_use)
+        self.assertEqual(str(again), str(tag))
+        self.assertEqual(str(Tag.from_parts("DE")), "DE")
+        for wrong in (("zh-Hant",), ("x-a",), ("",)):
+            with self.assertRaises(EditError):
+                Tag.from_parts(*wrong)
+        for wrong in ({"script": "Latin"}, {"region": ""}, {"variants": "abcd"}, {"private_use": "a"}):
+            with self.assertRaises(EditError):
+                Tag.from_parts("de", **wrong)
+
+    def test_subclasses_of_texts(self):
+        class Odd(str):
+            __eq__ = lambda self, other: True
+            __len__ = lambda self: 0
+            __hash__ = str.__hash__
+
+        with self.assertRaises(EditError):
+            Tag("de").replace(script=Odd("Latn-US"))
+        self.assertEqual(str(Tag("de").replace(script=Odd("Latn"))), "de-Latn")
+
+
+class Memory(unittest.TestCase):
+    def calls(self, number):
+        """Each call that keeps something, once, with texts that no other number has."""
+        tag = Tag(f"iw-BU-heploc-u-co-x-a{number}")
+        tag.canonical(), tag.recommended(), tag.folded(), tag.replace(script="Latn"), hash(tag), repr(tag), tag.is_valid
+        Tag.from_parts("de", private_use=f"x-a{number}"), Range(f"de-{number}").matches_extended(tag), tag == Tag("de")
+        tag_for_header_lenient(f"de-x-a{number}, d!;q=2, fr;q=0.5", [tag, Tag("fr")], None)
+        for wrong in (lambda: Tag(f"a_{number}"), lambda: tag.replace(script=f"a{number}"), lambda: Range(f"a_{number}"),
+                      lambda: AcceptLanguage(f"a_{number}")):
+            with self.assertRaises(ValueError):
+                wrong()
+
+    def test_that_nothing_is_kept(self):
+        """What Python's allocators have given grows by less than any object for each number."""
+        tracemalloc.start()
+        self.addCleanup(tracemalloc.stop)
+        for number in range(200):
+            self.calls(number)
+        gc.collect()
+        before = tracemalloc.get_traced_memory()[0]
+        for number in range(2000):
+            self.calls(number)
+        gc.collect()
+        self.assertLess(tracemalloc.get_traced_memory()[0] - before, 2000 * 20)
 
 
 class Library(unittest.TestCase):

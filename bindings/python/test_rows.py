@@ -1,138 +1,221 @@
-"""The rows of bindings/negotiation.txt and bindings/edits.txt, which say their form."""
-import itertools
+"""The rows that the tests of all languages read, asked of this module; and where LANGTAG_ANSWERS names a file, the C library's
+answers to other calls."""
+import os
 import pathlib
 import pickle
-import re
-import time
 import unittest
 
-from langtag import (AcceptLanguage, AcceptLanguageError, EditError, Range, Tag, look_up, tag_for_header,
-                     tag_for_header_lenient)
-from test_table import expand, unescape
+import langtag
+import rows
+from langtag import (GRANDFATHERED, AcceptLanguageError, EditError, InvalidRange, InvalidTag, Range, Tag, look_up,
+                     tag_for_header, tag_for_header_lenient)
 
-FOLDER = pathlib.Path(__file__).resolve().parent.parent
+KINDS = {None: "none", langtag.Kind.NORMAL: "normal", langtag.Kind.PRIVATE_USE: "private", langtag.Kind.IRREGULAR: "irregular"}
+# Where a header asks for none of the tags.
 DEFAULT = "-"
 
 
-def fields(name):
-    lines = (FOLDER / name).read_text("ascii").splitlines()
-    return [[unescape(field).decode() for field in expand(line).split(" | ")] for line in lines if line and line[0] != "#"]
+def made(kind, text):
+    try:
+        return kind(text)
+    except (InvalidTag, InvalidRange) as error:
+        assert error.text == text
+        return None
 
 
-class Negotiation(unittest.TestCase):
-    def strict(self, header, tags):
-        try:
-            return str(tag_for_header(header, tags, DEFAULT))
-        except AcceptLanguageError as error:
-            self.assertEqual(error.header, header)
-            self.assertEqual(str(pickle.loads(pickle.dumps(error))), f"element {error.index} has a bad {error.part}")
-            return f"bad {error.index} {error.offset} {error.part.split()[-1]}"
-
-    def test_headers_and_ranges(self):
-        rows = fields("negotiation.txt")
-        for row in rows:
-            call, asked, tags, *wanted = row
-            tags = [Tag(text) for text in tags.split()]
-            if call == "header":
-                found = [self.strict(asked, tags), str(tag_for_header_lenient(asked.encode(), iter(tags), DEFAULT))]
-            else:
-                found = [str(look_up(map(Range, asked.split()), tags, DEFAULT))]
-            self.assertEqual(found, wanted, row)
-        self.assertGreater(len(rows), 90)
-
-    def test_ranges(self):
-        accepted = AcceptLanguage.lenient("FR;q=0.5, d!, de, *;q=0, nl;q=0.25")
-        found = [(str(range), weight) for range, weight in accepted.ranges]
-        self.assertEqual(found, [("de", 1000), ("FR", 500), ("nl", 250)])
-        self.assertEqual(repr(accepted), "AcceptLanguage('de;q=1.0, FR;q=0.5, nl;q=0.25')")
-        self.assertIsNone(accepted.look_up([], None))
-        self.assertEqual([str(range) for range in Range("de-AT-*-x-*").fallbacks()], ["de-AT-*-x-*", "de-AT", "de"])
-        for value in (None, 5, ["de"]):
-            with self.assertRaises(TypeError):
-                AcceptLanguage.lenient(value)
-        for ranges, tags in (([Range("de")], ["de"]), (["de"], [Tag("de")]), ([Tag("de")], [Tag("de")])):
-            with self.assertRaises(TypeError):
-                look_up(ranges, tags, None)
-
-    def test_weights(self):
-        """Every text of up to four bytes of these as a weight, and some longer ones, beside RFC 9110 section 12.4.2."""
-        texts = ["".join(text) for length in range(5) for text in itertools.product("01.>5", repeat=length)]
-        texts += ["0.1234", "0.0004", "0.999", "1.0000", "1.000", "0.5 5", "00.5", "+0.5", "0,5", "0.001", "0.0001"]
-        for text in texts:
-            is_weight = re.fullmatch(r"0(\.\d{0,3})?|1(\.0{0,3})?", text)
-            found = AcceptLanguage.lenient(f"fr;q={text}, de;q=0.5").ranges
-            wanted = ["fr"] if is_weight and float(text) >= 0.5 else []
-            wanted += ["de"] + (["fr"] if is_weight and 0 < float(text) < 0.5 else [])
-            self.assertEqual([str(it.range) for it in found], wanted, text)
-
-    def test_long_headers(self):
-        begun = time.monotonic()
-        for header in ("ab-" * 21_000 + "ab", "a-" * 32_000 + "b", "de-CH," * 10_000):
-            tag_for_header_lenient(header, [Tag("en"), Tag("de")], None)
-        self.assertLess(time.monotonic() - begun, 10)
+def copied(error):
+    """An error that was pickled, and is the same."""
+    again = pickle.loads(pickle.dumps(error))
+    assert (type(again), str(again), vars(again)) == (type(error), str(error), vars(error))
+    return again
 
 
-class Edits(unittest.TestCase):
-    def value(self, part, text):
-        """What Tag.replace takes, in turns as a text and as what Tag has of the part."""
-        if text == "none":
-            return [None]
-        if part == "variants":
-            return [text, text.split("-") if text else ()]
-        return [text]
+def answer_tag(text):
+    tag, kind = made(Tag, text), KINDS[langtag.kind(text)]
+    if tag is None:
+        return kind
+    assert KINDS[tag.kind] == kind and str(tag).encode() == text and repr(tag) == f"Tag('{text.decode()}')"
+    assert hash(tag) == hash(text.lower())
+    lines = [kind]
+    if tag.language:
+        assert tag.language == "-".join([tag.primary_language, *tag.extended_language])
+        lines.append(" ".join(["  language", tag.primary_language, *tag.extended_language]))
+    lines += [f"  {name} {getattr(tag, name)}" for name in ("script", "region") if getattr(tag, name) is not None]
+    if tag.variants:
+        lines.append(" ".join(["  variants", *tag.variants]))
+    if tag.extensions:
+        lines.append(" ".join(["  extensions"] + ["-".join([key, *subtags]) for key, subtags in tag.extensions.items()]))
+    if tag.private_use:
+        lines.append(f"  private_use {tag.private_use.replace('-', ' ')}")
+    lines += [f"  {name} {getattr(tag, name)}" for name in ("repeated_variant", "repeated_singleton") if getattr(tag, name)]
+    return "\n".join(lines + [f"  recommended {tag.recommended()}", f"  folded {tag.folded()}", f"  hash {tag.fnv1a():016x}"])
 
-    def test_parts(self):
-        rows = fields("edits.txt")
-        for text, part, given, wanted in rows:
-            tag = Tag(text)
-            for value in self.value(part, given):
-                try:
-                    found = str(tag.replace(**{part: value}))
-                except EditError as error:
-                    self.assertEqual((error.part, error.text), (part, None if wanted == "no parts" else given))
-                    self.assertEqual(str(pickle.loads(pickle.dumps(error))), str(error))
-                    found = "no parts" if error.text is None else "refused"
-                self.assertEqual((found, str(tag)), (wanted, text), (text, part, value))
-        self.assertGreater(len(rows), 70)
 
-    def test_several(self):
-        tag = Tag("zh-yue-Hant-HK-1994-u-co-pinyin-T-aa-x-mine")
-        self.assertIs(tag.replace(), tag)
-        again = Tag("de").replace(language=tag.language, script=tag.script, region=tag.region, variants=tag.variants,
-                                  extensions=tag.extensions, private_use=tag.private_use)
-        self.assertEqual(again, tag)
-        self.assertEqual(str(tag.replace(extensions={"u": ["co", "eor"]}, variants=[])), "zh-yue-Hant-HK-u-co-eor-x-mine")
-        with self.assertRaises(EditError):
-            Tag("de-x-a").replace(language=None)
-        for wrong in ({"variants": [""]}, {"variants": ["1994", ""]}, {"extensions": {"u": []}}, {"extensions": {"": ["a"]}}):
-            with self.assertRaises(EditError):
-                tag.replace(**wrong)
-        for wrong in ({"script": b"Latn"}, {"region": 419}, {"variants": [1994]}):
-            with self.assertRaises(TypeError):
-                tag.replace(**wrong)
+def adapted(row):
+    """Of a tag, the extensions that a dict holds, by small singletons, the first of each; and no offsets of repeats."""
+    if row.call != "tag":
+        return row.wanted
+    lines = []
+    for line in row.wanted.split("\n"):
+        name, *words = line.split()
+        if name == "extensions":
+            first = {}
+            for word in words:
+                first.setdefault(word[0].lower(), word[0].lower() + word[1:])
+            line = " ".join(["  extensions", *first.values()])
+        if not name.startswith("at_"):
+            lines.append(line)
+    return "\n".join(lines)
 
-    def test_from_parts(self):
-        tag = Tag("zh-yue-Hant-HK-1994-u-co-pinyin-t-aa-x-mine")
-        again = Tag.from_parts(tag.language, script=tag.script, region=tag.region, variants=tag.variants,
-                               extensions=tag.extensions, private_use=tag.private_use)
-        self.assertEqual(str(again), str(tag))
-        self.assertEqual(str(Tag.from_parts("DE")), "DE")
-        for wrong in (("zh-Hant",), ("x-a",), ("",)):
-            with self.assertRaises(EditError):
-                Tag.from_parts(*wrong)
-        for wrong in ({"script": "Latin"}, {"region": ""}, {"variants": "abcd"}, {"private_use": "a"}):
-            with self.assertRaises(EditError):
-                Tag.from_parts("de", **wrong)
 
-    def test_subclasses_of_texts(self):
-        class Odd(str):
-            __eq__ = lambda self, other: True
-            __len__ = lambda self: 0
-            __hash__ = str.__hash__
+# What a fault is called, of which kind of subtag, and how the message ends.
+FAULTS = {
+    "language": ("language", "is not registered"),
+    "extlang": ("extended language", "is not registered"),
+    "second-extlang": ("extended language", "is the second"),
+    "script": ("script", "is not registered"),
+    "region": ("region", "is not registered"),
+    "variant": ("variant", "is not registered"),
+    "repeated-variant": ("variant", "is repeated"),
+    "repeated-singleton": ("singleton", "is repeated"),
+}
 
-        with self.assertRaises(EditError):
-            Tag("de").replace(script=Odd("Latn-US"))
-        self.assertEqual(str(Tag("de").replace(script=Odd("Latn"))), "de-Latn")
+
+def answer_validity(text):
+    tag = made(Tag, text)
+    if tag is None:
+        return "none"
+    wrong = tag.invalid_subtag
+    assert tag.is_valid == (wrong is None)
+    if wrong is None:
+        return "valid"
+    assert text[wrong.offset :].decode().startswith(wrong.subtag)
+    kind, how = FAULTS[wrong.fault]
+    assert str(wrong) == f"{kind} '{wrong.subtag}' {how}"
+    return f"{wrong.fault} {wrong.offset} {wrong.subtag}"
+
+
+def answer_canonical(text):
+    tag = made(Tag, text)
+    if tag is None:
+        return "-"
+    form = tag.canonical()
+    assert tag.is_canonical == (form == tag) and form.is_canonical and type(form) is Tag
+    return str(form)
+
+
+def answer_grandfathered(text):
+    tag = made(Tag, text)
+    found = tag.grandfathered if tag else None
+    assert found is None or found.lower().encode() == text.lower()
+    return f"{GRANDFATHERED.index(found) if found else 26} {KINDS[langtag.kind(text)]}"
+
+
+def answer_scan(text):
+    """How many bytes decide the text, how many of its fronts are tags, and what it is, with the ends of its parts."""
+    tag, fronts = made(Tag, text), sum(langtag.kind(text[:end]) is not None for end in range(len(text) + 1))
+    what = KINDS[langtag.kind(text)]
+    if tag is not None and tag.kind is langtag.Kind.IRREGULAR:
+        what += f" {GRANDFATHERED.index(tag.grandfathered)}"
+    if tag is not None and tag.kind is langtag.Kind.NORMAL:
+        ends = [len(tag.language)]
+        extensions = "-".join("-".join([key, *subtags]) for key, subtags in tag.extensions.items())
+        if tag.repeated_singleton:  # of one singleton, a dict has the first extension alone
+            return None
+        for part in (tag.script, tag.region, "-".join(tag.variants), extensions, tag.private_use):
+            ends.append(ends[-1] + (1 + len(part) if part else 0))
+        what = " ".join([what, *map(str, ends)])
+    return f"{langtag.stop(text)} {fronts} {what}"
+
+
+def answer_recommended(text):
+    """Of tags; None of other texts."""
+    tag = made(Tag, text)
+    return None if tag is None else str(tag.recommended())
+
+
+def answer_range(text):
+    range = made(Range, text)
+    return "none" if range is None else "basic" if range.is_basic else "extended"
+
+
+def answer_match(range, tag):
+    range, tag = made(Range, range), made(Tag, tag)
+    how = (range.matches_basic(tag), range.matches_extended(tag)) if range and tag else (False, False)
+    return {(True, True): "both", (True, False): "basic", (False, True): "extended", (False, False): "neither"}[how]
+
+
+def answer_order(a, b):
+    """Of tags, or of ranges; None where the texts are neither."""
+    for kind in (Tag, Range):
+        x, y = made(kind, a), made(kind, b)
+        if x is not None and y is not None:
+            assert (x == y, x != y, x <= y, x >= y) == (hash(x) == hash(y), not x == y, not y < x, not x < y)
+            if kind is Tag:
+                key, other = x.folded(), y.folded()
+                is_prefix = key.startswith(other) or other.startswith(key)
+                assert (key < other) == (x > y if is_prefix else x < y)
+            return "before" if x < y else "after" if y < x else "equal" if x == y else "neither"
+    return None
+
+
+def strict(header, tags):
+    try:
+        return str(tag_for_header(header, tags, DEFAULT))
+    except AcceptLanguageError as error:
+        assert error.header == header and str(error) == f"element {error.index} has a bad {error.part}"
+        copied(error)
+        return f"bad {error.index} {error.offset} {({'language range': 'range', 'weight': 'weight'})[error.part]}"
+
+
+def answer_header(header, tags):
+    tags = [Tag(text) for text in tags.split()]
+    return f"{strict(header.decode(), tags)} | {tag_for_header_lenient(header, iter(tags), DEFAULT)}"
+
+
+def answer_ranges(ranges, tags):
+    return str(look_up(map(Range, ranges.split()), map(Tag, tags.split()), DEFAULT))
+
+
+def replaced(tag, part, value, given):
+    try:
+        return str(tag.replace(**{part: value}))
+    except EditError as error:
+        assert (error.part, error.text) == (part, given if tag.kind is langtag.Kind.NORMAL else None)
+        wanted = "not a normal language tag" if error.text is None else f"{given!r} can't be the {part} of a tag"
+        assert str(error) == wanted
+        copied(error)
+        return "no parts" if error.text is None else "refused"
+
+
+def answer_edit(tag, part, given):
+    """By a text, and of variants by a tuple too."""
+    tag, part, given = Tag(tag), part.decode(), given.decode()
+    before = str(tag)
+    found = replaced(tag, part, None if given == "none" else given, given)
+    assert part != "variants" or replaced(tag, part, given.split("-") if given else (), given) == found
+    assert str(tag) == before
+    return found
+
+
+ANSWERS = {
+    "tag": answer_tag, "scan": answer_scan, "recommended": answer_recommended, "validity": answer_validity,
+    "canonical": answer_canonical, "grandfathered": answer_grandfathered,
+    "viable": lambda text: f"{langtag.viable(text)} {langtag.stop(text)}", "range": answer_range, "match": answer_match,
+    "order": answer_order, "header": answer_header, "ranges": answer_ranges, "edit": answer_edit,
+}
+FLOORS = {"table.txt": 300, "texts.txt": 700, "negotiation.txt": 95, "edits.txt": 75}
+
+
+class Rows(unittest.TestCase):
+    def test_answers(self):
+        asker = rows.Asker(ANSWERS, adapted)
+        for name, floor in FLOORS.items():
+            asker.ask(rows.FOLDER / name, floor)
+        if "LANGTAG_ANSWERS" in os.environ:
+            asker.ask(pathlib.Path(os.environ["LANGTAG_ANSWERS"]), 1000)
+        if asker.failures():
+            self.fail("\n" + asker.failures())
 
 
 if __name__ == "__main__":

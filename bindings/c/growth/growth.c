@@ -24,6 +24,8 @@ FUNCTION(next_extension, rest = (langtag_span){0, len};
 FUNCTION(repeats, result = langtag_repeats(text, len, &repeated))
 FUNCTION(validity, result = langtag_validity(text, len, &found))
 FUNCTION(canonical, result = langtag_canonical(text, len, buffer, sizeof buffer))
+FUNCTION(registry_date, result = langtag_registry_date())
+FUNCTION(is_canonical, result = langtag_is_canonical(text, len))
 FUNCTION(grandfathered, result = langtag_grandfathered(text, len))
 FUNCTION(range_kind, result = langtag_range_kind(text, len))
 FUNCTION(matches_basic, result = langtag_matches_basic(text, len, other, len))
@@ -51,6 +53,8 @@ static const struct function functions[] = {
     {"repeats", repeats},
     {"validity", validity},
     {"canonical", canonical},
+    {"registry_date", registry_date},
+    {"is_canonical", is_canonical},
     {"grandfathered", grandfathered},
     {"range_kind", range_kind},
     {"matches_basic", matches_basic},

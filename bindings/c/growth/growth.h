@@ -1,6 +1,7 @@
 /*
  * Counts how the work of functions grows with their text: under callgrind, which counts instructions, each is called over
- * texts of n and of 2n bytes, of each shape. growth.py runs the program and compares the counts.
+ * texts of n and of 2n bytes, of each shape. growth.py runs the program and compares the counts. n is 20,000; 100,000 where
+ * more than 8192 variants, and ranges, are wanted; and 4,000 where the work is known to grow with the square.
  */
 #include <stdint.h>
 #include <stdio.h>
@@ -11,30 +12,36 @@
 #define BYTES 20000
 #endif
 
-/* A text of a shape: a beginning, and then pieces, in each of which a number stands for '#'. */
+/* A text of a shape: a beginning, and then pieces, in each of which a number stands for '#'; and where it has one, its n. */
 static const struct {
     const char *name, *head, *piece;
+    size_t bytes;
 } shapes[] = {
-    {"letters", "", "a"},
-    {"hyphens", "", "-"},
-    {"subtags", "de", "-aaaaaaaa"},
-    {"variants", "de", "-a######"},
-    {"replaced", "iw", "-heploc"},
-    {"extension", "de-a", "-bbbbbbbb"},
-    {"extensions", "de", "-a-bb-A-cc"},
-    {"singletons", "de", "-#-bb"},
-    {"private", "x", "-aaaaaaaa"},
-    {"singles", "de-x", "-a"},
-    {"wildcards", "*", "-*-aa"},
-    {"ranges", "de", ",a-######"},
-    {"weights", "de", ",a-######;q=0.#"},
-    {"commas", "", ","},
-    {"elements", "de", " ;q=0.1\t, aa-bb"},
-    {"spaces", "de", " "},
+    {"letters", "", "a", 0},
+    {"hyphens", "", "-", 0},
+    {"subtags", "de", "-aaaaaaaa", 0},
+    {"variants", "de", "-a######", 0},
+    {"replaced", "iw", "-heploc", 0},
+    {"extension", "de-a", "-bbbbbbbb", 0},
+    {"extensions", "de", "-a-bb-A-cc", 0},
+    {"singletons", "de", "-#-bb", 0},
+    {"private", "x", "-aaaaaaaa", 0},
+    {"singles", "de-x", "-a", 0},
+    {"wildcards", "*", "-*-aa", 0},
+    {"ranges", "de", ",a-######", 0},
+    {"weights", "de", ",a-######;q=0.#", 0},
+    {"commas", "", ",", 0},
+    {"elements", "de", " ;q=0.1\t, aa-bb", 0},
+    {"spaces", "de", " ", 0},
+    {"tags", "de", ",x-######", 0},
+    {"prefixed", "sl-rozaj", "-biske", 4000},
+    {"many_variants", "de", "-a######", 100000},
+    {"many_ranges", "de", ",a-######;q=0.#", 100000},
 };
 
 /* The text of a call, and another that is the same where no call has changed it. */
-static char text[2 * BYTES + 16], other[2 * BYTES + 16];
+#define LONGEST (BYTES > 100000 ? BYTES : 100000)
+static char text[2 * LONGEST + 16], other[2 * LONGEST + 16];
 static size_t len;
 static volatile uint64_t result;
 
@@ -67,7 +74,7 @@ static int count(const struct function *functions, size_t number) {
         for (size_t shape = 0; shape < sizeof shapes / sizeof *shapes; shape++) {
             for (size_t times = 1; times <= 2; times++) {
                 char label[64];
-                len = write_shape(text, shape, times * (size_t)BYTES);
+                len = write_shape(text, shape, times * (shapes[shape].bytes ? shapes[shape].bytes : (size_t)BYTES));
                 memcpy(other, text, len);
                 snprintf(label, sizeof label, "%s %s %d", functions[function].name, shapes[shape].name, (int)times);
                 CALLGRIND_ZERO_STATS;

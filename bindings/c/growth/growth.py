@@ -1,6 +1,8 @@
 #!/usr/bin/env python3
 """Fails where a function's instructions grow faster than its text: growth.py PROGRAM FILE.., under valgrind. The files, a
-header or sources of Rattle, declare the functions that the program has to call. Work that is done twice is not seen so."""
+header or sources of Rattle, declare the functions that the program has to call. Work that is done twice is not seen so.
+
+Twice the text may take MOST times the instructions, and more where SQUARES says so."""
 import glob
 import re
 import subprocess
@@ -9,6 +11,12 @@ import tempfile
 
 FEW = 5000  # instructions that a text of any length may take
 MOST = 2.2
+# What is known, and documented, to grow with the square: repeated variants past 8192, by blocks, and variants with prefixes.
+SQUARES = {
+    ("repeats", "many_variants"): 3,
+    ("repeated_variant", "many_variants"): 3,
+    ("misplaced_variant", "prefixed"): 4.4,
+}
 # What a header declares, and a source of Rattle exports.
 DECLARED = re.compile(r'\blangtag_(\w+)\([^;{]*\);|extern "C" fn langtag_bench_(\w+)')
 
@@ -17,7 +25,7 @@ def main(program, *files):
     counts = {}
     with tempfile.TemporaryDirectory() as room:
         out = f"--callgrind-out-file={room}/out"
-        subprocess.run(["valgrind", "-q", "--tool=callgrind", out, program], check=True)
+        ended = subprocess.run(["valgrind", "-q", "--tool=callgrind", out, program]).returncode
         for path in glob.glob(f"{room}/out*"):
             text = open(path, encoding="utf-8").read()
             label = re.search(r"Client Request: (\w+) (\w+) (\d)", text)
@@ -27,9 +35,9 @@ def main(program, *files):
     texts = [open(path, encoding="utf-8").read() for path in files]
     declared = {name for text in texts for names in DECLARED.findall(text) for name in names if name}
     missing = declared - {function for function, _ in counts}
-    faults = [f"{it} is not called" for it in sorted(missing)]
+    faults = [f"{it} is not called" for it in sorted(missing)] + [f"{program} ended with {ended}"] * (ended != 0)
     for (function, shape), count in sorted(counts.items()):
-        if count["2"] > max(MOST * count["1"], FEW):
+        if count["2"] > max(SQUARES.get((function, shape), MOST) * count["1"], FEW):
             faults.append(f"{function} of {shape}: {count['1']} instructions, and {count['2']} of twice the text")
     print(*faults, f"{len(counts)} pairs of counts, {len(faults)} faults", sep="\n")
     return 1 if faults else 0

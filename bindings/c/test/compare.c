@@ -20,6 +20,7 @@ static void changed_bytes(void) {
     BOTH_ANSWERS(langtag_hash(LANGTAG_HASH, text, 3), UINT64_C(0xca9a6518f462643d), UINT64_C(0xca9a5318f46245a7));
     BOTH_ANSWERS(langtag_range_kind(text, len), LANGTAG_RANGE_BASIC, LANGTAG_RANGE_NONE);
     BOTH_ANSWERS(langtag_matches_basic(TEXT("de"), text, len), true, false);
+    BOTH_ANSWERS(langtag_is_canonical(text, len), true, false);
     BOTH_ANSWERS(langtag_matches_extended(TEXT("de-1996"), text, len), true, false);
 }
 

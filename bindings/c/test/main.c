@@ -1,9 +1,12 @@
 /*
- * Tests of the C interface: test TABLE EDITS makes each call of bindings/table.txt and bindings/edits.txt, and tests by
- * hand what they do not have, the edges of inputs and what stays as it was. test --answer answers the calls of the standard input.
+ * Tests of the C interface: test FILE FLOOR .. asks the rows of each file, of which there have to be as many as its floor,
+ * and tests by hand what they do not have, the edges of inputs and what stays as it was. test --answer answers the calls of
+ * the standard input.
  */
 #include "check.h"
-#include "table.h"
+#include "rows.h"
+
+#include <stdlib.h>
 
 int checks, failures;
 
@@ -11,14 +14,19 @@ bool is(const char *text, langtag_span span, const char *wanted) {
     return span.len == strlen(wanted) && memcmp(text + span.start, wanted, span.len) == 0;
 }
 
+static void test_rows(const char *name, int floor) {
+    FILE *file = fopen(name, "rb");
+    int asked = file ? ask_rows(file, name) : 0;
+    printf("%s: %d rows\n", name, asked);
+    if (asked < floor) failures++, printf("at least %d were to be asked\n", floor);
+    if (file) fclose(file);
+}
+
 int main(int argc, char **argv) {
-    FILE *table = argc > 1 ? fopen(argv[1], "rb") : NULL;
-    if (argc > 1 && strcmp(argv[1], "--answer") == 0) return table_answers(stdin), 0;
-    FILE *edits = argc > 2 ? fopen(argv[2], "rb") : NULL;
-    if (!table || !edits) return puts("the tables are not there"), 2;
-    test_table(table);
-    test_edits(edits);
-    fclose(table), fclose(edits);
+    if (argc > 1 && strcmp(argv[1], "--answer") == 0) return ask_rows(stdin, "the standard input"), 0;
+    for (int k = 1; k + 1 < argc; k += 2) test_rows(argv[k], atoi(argv[k + 1]));
+    for (const call *it = calls; it->name; it++)
+        if (it->asked == 0) failures++, printf("no row asks %s\n", it->name);
     test_parse();
     test_compare();
     test_case();

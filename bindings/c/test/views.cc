@@ -1,50 +1,100 @@
-/* langtag.hpp, as a program in C++17 uses it. */
+/* What only langtag.hpp has: views, and what they must not be of, walks, and tags as keys. rows.cc asks it the rows. */
 #include <langtag.hpp>
 
 #include <cstdio>
+#include <map>
+#include <type_traits>
+#include <unordered_map>
 
 static int failures;
-#define CHECK(test) ((test) ? (void)0 : (failures++, (void)std::printf("%s:%d: failed: %s\n", __FILE__, __LINE__, #test)))
+#define CHECK(test)                                                                                                    \
+    ((test) ? (void)0 : (failures++, (void)std::printf("%s:%d: failed: %s\n", __FILE__, __LINE__, #test)))
 
-static std::string canonical(std::string_view text) {
-    const auto tag = langtag::tag::parse(text);
-    return tag ? tag->canonical() : "";
+using langtag::tag;
+
+/* A text may be given, or it can't: a temporary string is gone before the view of it is used. */
+template <class Text, class = void> struct is_viewed : std::false_type {};
+template <class Text>
+struct is_viewed<
+    Text, std::void_t<decltype(tag::parse(std::declval<Text>())), decltype(langtag::range::parse(std::declval<Text>())),
+                      decltype(langtag::accept_language(std::declval<Text>())),
+                      decltype(langtag::subtags(std::declval<Text>()))>> : std::true_type {};
+template <class Text, class = void> struct is_parsed : std::false_type {};
+template <class Text>
+struct is_parsed<Text, std::void_t<decltype(tag::parse(std::declval<Text>()))>> : std::true_type {};
+template <class Text, class = void> struct is_range : std::false_type {};
+template <class Text>
+struct is_range<Text, std::void_t<decltype(langtag::range::parse(std::declval<Text>()))>> : std::true_type {};
+static_assert(is_viewed<const char (&)[3]>::value && is_viewed<const char *>::value &&
+              is_viewed<std::string_view>::value);
+static_assert(is_viewed<std::string &>::value && is_viewed<const std::string &>::value);
+static_assert(!is_parsed<std::string>::value && !is_parsed<const std::string>::value);
+static_assert(!is_range<std::string>::value && !is_range<const std::string>::value);
+static_assert(!std::is_constructible<langtag::accept_language, std::string>::value);
+static_assert(!std::is_constructible<langtag::subtags, std::string>::value);
+static_assert(!std::is_constructible<langtag::extensions, const std::string>::value);
+
+static void check_views() {
+    CHECK(!tag::parse({}) && !langtag::range::parse({}) && langtag::viable({}) == 0 && langtag::stop({}) == 0);
+    CHECK(langtag::recommended({}).empty() && langtag::folded({}).empty() &&
+          langtag::subtags({}).begin() == langtag::subtags({}).end());
+    CHECK(!langtag::accept_language({}).bad_element() && langtag::accept_language({}).ranges().empty());
+    const std::string text = "ja-heploc-u-co";
+    CHECK(langtag::registry_date() == langtag_registry_date());
+    const auto cut = tag::parse({text.data(), 9});
+    CHECK(cut && cut->text().data() == text.data() && cut->canonical() == "ja-alalc97" && cut->extensions().empty());
+    CHECK(!cut->with(langtag::part::region, {"CH\0", 3}) && !langtag::matches_basic({}, *cut));
+    CHECK(!langtag::from_parts("") && !langtag::from_parts("de", "Latin") && !langtag::from_parts("x-a") &&
+          langtag::from_parts("de") == "de");
 }
 
-static void check_registry() {
-    const auto valid = langtag::tag::parse("de-CH-1996"), repeated = langtag::tag::parse("de-a-bb-A-cc");
-    CHECK(valid && valid->is_valid() && !valid->invalid_subtag());
-    CHECK(repeated && !repeated->is_valid() && repeated->invalid_subtag()->fault == langtag::fault::repeated_singleton);
-    CHECK(repeated && repeated->invalid_subtag()->subtag.data() == repeated->text().data() + 8);
-    CHECK(repeated && repeated->invalid_subtag()->subtag == "A" && langtag::tag::parse("i-enochian")->is_valid());
-    CHECK(valid && valid->is_canonical() && langtag::tag::parse("HE")->is_canonical());
-    CHECK(!langtag::tag::parse("iw")->is_canonical() && !langtag::tag::parse("en-b-cc-a-dd")->is_canonical());
-    CHECK(canonical("sgn-DD") == "gsg" && canonical("x-iw") == "x-iw" && canonical("en-GB-oed") == "en-GB-oxendict");
-    std::string longer = "ja", form = "ja";
-    for (int k = 0; k < 50; k++) longer += "-heploc", form += "-alalc97";
-    CHECK(canonical(longer) == form && canonical({longer.data(), 9}) == "ja-alalc97");
+static void check_walks() {
+    const auto one = tag::parse("de-rozaj-1994-u-co-eor-T-de");
+    std::string seen;
+    for (std::string_view variant : langtag::subtags(one->variants())) seen.append(variant).append(1, ' ');
+    for (std::string_view extension : langtag::extensions(one->extensions())) seen.append(extension).append(1, ' ');
+    langtag::for_each_subtag(one->script(), [&](std::string_view) { seen.append("none"); });
+    langtag::for_each_subtag(one->text().substr(0, 8),
+                             [&](std::string_view subtag) { seen.append(subtag).append(1, '.'); });
+    CHECK(seen == "rozaj 1994 u-co-eor T-de de.rozaj.");
+    auto at = langtag::subtags("de-AT").begin();
+    CHECK(*at++ == "de" && *at == "AT" && ++at == langtag::subtags("de-AT").end());
+    const auto range = langtag::range::parse("zh-Hant-*-CN-x-a");
+    seen.clear();
+    for (auto next = range; next; next = next->fallback())
+        seen.append(next->text()).append(next->is_basic() ? ". " : " ");
+    CHECK(seen == "zh-Hant-*-CN-x-a zh-Hant-*-CN zh-Hant. zh. ");
+}
+
+static void check_keys() {
+    const auto one = tag::parse("de-CH"), other = tag::parse("DE-ch"), more = tag::parse("de-CH-1996");
+    const std::unordered_map<tag, int> hashed = {{*one, 1}};
+    const std::map<tag, int> sorted = {{*one, 1}, {*more, 2}};
+    CHECK(hashed.count(*other) == 1 && hashed.count(*more) == 0 && sorted.count(*other) == 1 &&
+          sorted.begin()->second == 2);
+    CHECK(*one == "DE-CH" && "de-ch" == *one && *one != "de" && *one != std::string("de-CH-x") &&
+          *one == std::string_view("de-ch"));
+    langtag::owned_tag owned(*one);
+    const std::unordered_map<langtag::owned_tag, int> owners = {{owned, 1}};
+    CHECK(owned.set(langtag::part::script, "Latn") && owned.text() == "de-Latn-CH" && owned.view().script() == "Latn");
+    CHECK(owners.count(langtag::owned_tag(*other)) == 1 && owners.count(owned) == 0 &&
+          !langtag::owned_tag::parse("de_CH"));
+    CHECK(one->with({{langtag::part::script, "Latn"}, {langtag::part::region, "AT"}}) == "de-Latn-AT");
+    CHECK(!one->with({{langtag::part::script, "Latin"}, {langtag::part::region, "AT"}}) && one->with({}) == "de-CH");
+}
+
+static void check_ranges() {
+    const auto ranges = langtag::accept_language("FR;q=0.5, d!, de, *;q=0, nl;q=0.25, en;q=0.5").ranges();
+    std::string seen;
+    for (const auto &it : ranges)
+        seen.append(it.range.text()).append(1, ' ').append(std::to_string(it.weight)).append(1, ' ');
+    CHECK(seen == "de 1000 FR 500 en 500 nl 250 " && ranges[1].range.is_basic());
 }
 
 int main() {
-    using langtag::part;
-    check_registry();
-    const auto tag = langtag::tag::parse("zh-yue-Hant-HK-rozaj-1994-u-co-pinyin-x-mine");
-    CHECK(tag && tag->kind() == langtag::kind::normal);
-    if (!tag) return 1;
-    CHECK(tag->language() == "zh-yue" && tag->script() == "Hant" && tag->region() == "HK");
-    CHECK(tag->variants() == "rozaj-1994" && tag->extensions() == "u-co-pinyin" && tag->private_use() == "x-mine");
-    std::string seen;
-    langtag::for_each_subtag(tag->variants(), [&](std::string_view subtag) { seen.append(subtag).append(1, ' '); });
-    CHECK(seen == "rozaj 1994 ");
-    CHECK(tag->with(part::region, "TW") == "zh-yue-Hant-TW-rozaj-1994-u-co-pinyin-x-mine");
-    CHECK(tag->with(part::variants, {}) == "zh-yue-Hant-HK-u-co-pinyin-x-mine");
-    CHECK(!tag->with(part::script, "Latin") && !tag->with(part::language, ""));
-    const auto alone = langtag::tag::parse("x-a"), small = langtag::tag::parse("DE-ch"), large = langtag::tag::parse("de-CH");
-    CHECK(alone && alone->kind() == langtag::kind::private_use && alone->private_use() == "x-a" && alone->script().empty());
-    CHECK(alone && !alone->with(part::region, "CH"));
-    CHECK(small && large && *small == *large && !(*small < *large) && *small != *tag && *small < *tag);
-    CHECK(large && langtag::matches_basic("de", *large) && langtag::matches_extended("*-CH", *large));
-    CHECK(langtag::recommended("ZH-hant-tw") == "zh-Hant-TW" && langtag::recommended({}).empty());
-    CHECK(!langtag::tag::parse({}) && !langtag::tag::parse("zh_Hant") && !large->with(part::region, {"CH\0", 3}));
+    check_views();
+    check_walks();
+    check_keys();
+    check_ranges();
     return failures != 0;
 }

@@ -7,7 +7,7 @@ use crate::{ffi, BufferTooShort, LangTag};
 
 const IS_TAG: &str = "a canonical form is a tag";
 
-/// The canonical form (RFC 5646 section 4.5), by IANA's registry of [`REGISTRY_DATE`](crate::REGISTRY_DATE): `he` of `iw`,
+/// The canonical form (RFC 5646 section 4.5), by IANA's registry of [`registry_date`](crate::registry_date): `he` of `iw`,
 /// `yue` of `zh-yue`, `jbo` of `art-lojban`, `en-a-aaa-b-ccc` of `en-b-ccc-a-aaa`, `fr-FR` of `fr-FR`.
 ///
 /// What is put in has the registry's case, all else keeps its own, and variants keep their order. Step 2 is taken again after
@@ -52,7 +52,7 @@ impl LangTag<'_> {
         LangTagBuf::new(form).expect(IS_TAG)
     }
 
-    /// Whether the tag is its own canonical form, but for case.
+    /// Whether the tag is its own canonical form, whatever the case of its letters. No memory is taken.
     ///
     /// ```
     /// # use langtag_verified::LangTag;
@@ -60,8 +60,7 @@ impl LangTag<'_> {
     /// assert!(!LangTag::new("iw")?.is_canonical());
     /// # Ok::<(), langtag_verified::InvalidLangTag<&str>>(())
     /// ```
-    #[cfg(feature = "alloc")]
     pub fn is_canonical(&self) -> bool {
-        self.to_canonical() == *self
+        ffi::is_canonical(self.as_str())
     }
 }

@@ -89,6 +89,8 @@ mod c {
             buffer: *mut u8,
             buffer_len: usize,
         ) -> usize;
+        pub fn langtag_is_canonical(bytes: *const u8, len: usize) -> bool;
+        pub fn langtag_registry_date() -> u32;
         pub fn langtag_grandfathered(bytes: *const u8, len: usize) -> u32;
         pub fn langtag_range_kind(bytes: *const u8, len: usize) -> u32;
         pub fn langtag_matches_basic(
@@ -343,6 +345,18 @@ pub(crate) fn canonical(tag: &str, buffer: &mut [u8]) -> usize {
     let (to, room) = (buffer.as_mut_ptr(), buffer.len());
     // SAFETY: as above.
     unsafe { c::langtag_canonical(tag.as_ptr(), tag.len(), to, room) }
+}
+
+/// Whether a text is a tag that is its own canonical form, whatever its case.
+pub(crate) fn is_canonical(text: &str) -> bool {
+    // SAFETY: as above.
+    unsafe { c::langtag_is_canonical(text.as_ptr(), text.len()) }
+}
+
+/// Year, month and day of the registry, as the digits of one number.
+pub(crate) fn registry_date() -> u32 {
+    // SAFETY: it takes nothing, and only returns a number.
+    unsafe { c::langtag_registry_date() }
 }
 
 /// The index of a grandfathered tag, or 26.

@@ -3,9 +3,6 @@ use core::fmt;
 
 use crate::ffi;
 
-/// The date of the registry behind [`LangTag::validate`](crate::LangTag::validate) and the canonical forms.
-pub const REGISTRY_DATE: &str = "2022-06-28";
-
 /// What is wrong with a subtag (RFC 5646 section 2.2.9).
 #[derive(Clone, Copy, Debug, PartialEq, Eq, Hash)]
 pub enum SubtagFault {

@@ -183,7 +183,7 @@ impl<'a> LangTag<'a> {
             .and_then(|singleton| singleton.chars().next())
     }
 
-    /// Whether the tag is valid (RFC 5646 section 2.2.9) by IANA's registry of [`REGISTRY_DATE`](crate::REGISTRY_DATE): Ok
+    /// Whether the tag is valid (RFC 5646 section 2.2.9) by IANA's registry of [`registry_date`](crate::registry_date): Ok
     /// of a grandfathered tag, and of one whose language, script, region and variants are registered, with at most one
     /// extended language, which is registered too, and no variant or singleton twice. Deprecated subtags are valid.
     ///
@@ -213,6 +213,20 @@ impl<'a> LangTag<'a> {
     #[cfg(feature = "alloc")]
     pub fn to_buf(&self) -> crate::LangTagBuf {
         (*self).into()
+    }
+
+    /// The text in small letters, the same for all tags that are equal: the key to sort by for people, `de` before `de-AT`,
+    /// which [`Ord`] of tags puts after it. In an ordered map by such keys all tags below `de` stand from `de-` up to `de.`.
+    ///
+    /// ```
+    /// # use langtag_verified::LangTag;
+    /// let mut tags = ["de-CH", "DE", "den", "de-AT"].map(|text| LangTag::new(text).unwrap());
+    /// tags.sort_by_cached_key(LangTag::to_folded);
+    /// assert_eq!(tags.map(|tag| tag.as_str()), ["DE", "de-AT", "de-CH", "den"]);
+    /// ```
+    #[cfg(feature = "alloc")]
+    pub fn to_folded(&self) -> alloc::string::String {
+        self.as_str().to_ascii_lowercase()
     }
 
     /// An owned copy in the case that RFC 5646 section 2.1.1 recommends.

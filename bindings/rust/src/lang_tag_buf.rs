@@ -105,6 +105,11 @@ impl LangTagBuf {
         self.as_lang_tag().private_use()
     }
 
+    /// The text in small letters, to sort by for people, as [`LangTag::to_folded`] says.
+    pub fn to_folded(&self) -> String {
+        self.as_lang_tag().to_folded()
+    }
+
     /// The text without its case, to ask a map by.
     #[inline]
     pub fn as_caseless_str(&self) -> &CaselessStr {

@@ -34,7 +34,7 @@
 //! The tags hold a text and where its parts stand in it: [`LangTag`] borrows its text, and [`LangTagBuf`] (feature `alloc`)
 //! owns it. All comparisons ignore the case of ASCII letters, and so does every hash; that is why nothing here implements
 //! `Borrow<str>`. A map by tags is asked by a [`CaselessStr`], without memory. Of two texts of which one begins the other,
-//! the shorter is the greater.
+//! the shorter is the greater: so is the order of langtag, and [`LangTag::to_folded`] is the key for people's order.
 //!
 //! [`AcceptLanguage`] reads the header of a request, and finds the tag to answer it in; [`look_up()`] takes ranges. The
 //! setters of [`LangTagBuf`], as [`LangTagBuf::set_script`], put parts into a tag.
@@ -78,6 +78,7 @@ mod language_range_buf;
 mod look_up;
 mod prefix;
 mod private_use;
+mod registry_date;
 #[cfg(feature = "serde")]
 mod serde;
 mod subtags;
@@ -93,7 +94,7 @@ pub use error::{
 };
 pub use extension::{Extension, Extensions, ExtensionsIter};
 pub use fallbacks::Fallbacks;
-pub use invalid_subtag::{InvalidSubtag, SubtagFault, REGISTRY_DATE};
+pub use invalid_subtag::{InvalidSubtag, SubtagFault};
 pub use kind::Kind;
 pub use lang_tag::{LangTag, GRANDFATHERED};
 #[cfg(feature = "alloc")]
@@ -105,5 +106,6 @@ pub use language_range_buf::LanguageRangeBuf;
 pub use look_up::look_up;
 pub use prefix::{stop_len, viable_len};
 pub use private_use::PrivateUse;
+pub use registry_date::{registry_date, RegistryDate};
 pub use subtags::Subtags;
 pub use variants::Variants;

@@ -13,7 +13,10 @@ fn of_a_buffer() {
         let (tag, mut buffer) = (LangTag::new(text).unwrap(), [b'~'; 64]);
         let form = tag.canonical_into(&mut buffer).unwrap();
         assert_eq!(form.as_str(), wanted);
-        assert_eq!(form == tag, text == wanted);
+        assert_eq!(
+            (form == tag, tag.is_canonical()),
+            (text == wanted, text == wanted)
+        );
         assert!(buffer[wanted.len()..].iter().all(|byte| *byte == b'~'));
         assert!(tag.canonical_into(&mut buffer[..wanted.len()]).is_ok());
     }

@@ -1,8 +1,9 @@
-//! The rows of `bindings/edits.txt`, which says their form.
+//! The rows of `edits.txt`, and what only Rust has of editing.
 #![cfg(feature = "alloc")]
 mod rows;
 
-use langtag_verified::{EditError, LangTag, LangTagBuf};
+use langtag_verified::{EditError, Kind, LangTag, LangTagBuf};
+use rows::Row;
 
 /// Sets a part by its name; `none` takes it out.
 fn set<'a>(tag: &mut LangTagBuf, part: &str, text: &'a str) -> Result<(), EditError<&'a str>> {
@@ -31,30 +32,38 @@ fn is_as_read(tag: &LangTagBuf) -> bool {
     texts(kept) == texts(read)
 }
 
+fn answer(row: &Row) -> Option<String> {
+    let (text, part, given) = (row.text(0)?, row.text(1)?, row.text(2)?);
+    let mut tag = LangTagBuf::try_from(text).unwrap();
+    let found = match set(&mut tag, part, given) {
+        Ok(()) => tag.as_str().to_owned(),
+        Err(error) => {
+            let (wanted, found) = match tag.kind() {
+                Kind::Normal => (EditError::InvalidPart(given), "refused"),
+                _ => (EditError::NotNormal, "no parts"),
+            };
+            assert_eq!((error, tag.as_str()), (wanted, text));
+            for kept in [error.into_owned(), error.into()] {
+                assert_eq!(kept.to_string(), message(wanted));
+            }
+            assert_eq!(error.to_string(), message(wanted));
+            found.into()
+        }
+    };
+    assert!(is_as_read(&tag), "{tag:?}");
+    Some(found)
+}
+
+fn message(error: EditError<&str>) -> String {
+    match error {
+        EditError::NotNormal => "not a normal language tag".into(),
+        EditError::InvalidPart(text) => format!("invalid part of a language tag {text:?}"),
+    }
+}
+
 #[test]
 fn answers() {
-    let rows = rows::fields("edits.txt");
-    for row in &rows {
-        let row: Vec<&str> = row
-            .iter()
-            .map(|it| std::str::from_utf8(it).unwrap())
-            .collect();
-        let mut tag = LangTagBuf::try_from(row[0]).unwrap();
-        let found = match set(&mut tag, row[1], row[2]) {
-            Ok(()) => tag.as_str(),
-            Err(error) => {
-                assert_eq!(tag.as_str(), row[0]);
-                match error {
-                    EditError::NotNormal => "no parts",
-                    EditError::InvalidPart(text) if text == row[2] => "refused",
-                    EditError::InvalidPart(text) => panic!("{text:?} came back of {row:?}"),
-                }
-            }
-        };
-        assert_eq!(found, row[3], "{row:?}");
-        assert!(is_as_read(&tag), "{row:?}");
-    }
-    assert!(rows.len() > 70);
+    rows::ask(&rows::path("edits.txt"), &["edit"], 75, answer);
 }
 
 #[test]

@@ -1,10 +1,12 @@
-//! The rows of `bindings/negotiation.txt`, which says their form.
+//! The rows of `negotiation.txt`, and what only Rust has of headers and ranges.
 mod rows;
 
 use langtag_verified::{
     look_up, tag_for_header, tag_for_header_lenient, AcceptLanguage, ElementPart, LangTag,
     LanguageRange,
 };
+
+use rows::Row;
 
 /// A default that is none of the tags.
 const DEFAULT: &str = "x-default";
@@ -31,6 +33,22 @@ fn strict(header: &str, tags: &[LangTag<'_>], default: LangTag<'_>) -> String {
                 ElementPart::Weight => "weight",
             };
             assert_eq!(error.header, header);
+            let words = if part == "range" {
+                "language range"
+            } else {
+                part
+            };
+            let message = format!("element {} has a bad {words}", error.index);
+            assert_eq!(error.to_string(), message);
+            #[cfg(feature = "alloc")]
+            for kept in [error.into_owned(), error.into()] {
+                let found = (kept.header.as_str(), kept.index, kept.offset, kept.part);
+                assert_eq!(found, (header, error.index, error.offset, error.part));
+                assert_eq!(
+                    (kept.element(), kept.to_string()),
+                    (error.element(), message.clone())
+                );
+            }
             assert_eq!(
                 header.split(',').nth(error.index),
                 Some(error.element()),
@@ -50,34 +68,33 @@ fn by_sorted_ranges<'t>(header: &str, tags: &[LangTag<'t>], default: LangTag<'t>
     look_up(&ranges, tags, default)
 }
 
+fn answer(row: &Row) -> Option<String> {
+    let (asked, texts) = (row.text(0)?, row.text(1)?);
+    let default = LangTag::new(DEFAULT).unwrap();
+    let tags: Vec<LangTag> = words(texts).map(|it| LangTag::new(it).unwrap()).collect();
+    if row.call == "ranges" {
+        let ranges = words(asked).map(|it| LanguageRange::new(it).unwrap());
+        let ranges: Vec<LanguageRange> = ranges.collect();
+        return Some(named(look_up(&ranges, &tags, default)));
+    }
+    let lenient = tag_for_header_lenient(asked, &tags, default);
+    #[cfg(feature = "alloc")]
+    assert_eq!(
+        by_sorted_ranges(asked, &tags, default).as_str(),
+        lenient.as_str()
+    );
+    let strict = strict(asked, &tags, default);
+    Some(format!("{strict} | {}", named(lenient)))
+}
+
 #[test]
 fn answers() {
-    let rows = rows::fields("negotiation.txt");
-    let default = LangTag::new(DEFAULT).unwrap();
-    for row in &rows {
-        let row: Vec<&str> = row
-            .iter()
-            .map(|it| std::str::from_utf8(it).unwrap())
-            .collect();
-        let tags: Vec<LangTag> = words(row[2]).map(|it| LangTag::new(it).unwrap()).collect();
-        let found = match row[0] {
-            "header" => {
-                let lenient = tag_for_header_lenient(row[1], &tags, default);
-                #[cfg(feature = "alloc")]
-                assert_eq!(
-                    by_sorted_ranges(row[1], &tags, default).as_str(),
-                    lenient.as_str()
-                );
-                vec![strict(row[1], &tags, default), named(lenient)]
-            }
-            _ => {
-                let ranges = words(row[1]).map(|it| LanguageRange::new(it).unwrap());
-                vec![named(look_up(&ranges.collect::<Vec<_>>(), &tags, default))]
-            }
-        };
-        assert_eq!(found, row[3..], "{row:?}");
-    }
-    assert!(rows.len() > 90);
+    rows::ask(
+        &rows::path("negotiation.txt"),
+        &["header", "ranges"],
+        95,
+        answer,
+    );
 }
 
 #[test]

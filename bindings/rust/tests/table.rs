@@ -1,9 +1,8 @@
-//! The table of calls and answers, `bindings/table.txt`, which says its form; and where `LANGTAG_ANSWERS` names a file, the
-//! C library's answers to other calls.
+//! The rows of `table.txt`; and where `LANGTAG_ANSWERS` names a file, the C library's answers to other calls.
 #![cfg(feature = "alloc")]
 mod rows;
 
-use rows::{expand, unescape};
+use rows::Row;
 use std::hash::{Hash, Hasher};
 
 use langtag_verified::{
@@ -91,6 +90,16 @@ fn extensions_of(tag: LangTag) -> String {
     extensions.collect::<Vec<_>>().join(" ")
 }
 
+/// Where a singleton stands for the second time: Rust has the singleton itself, and not its place.
+fn second_place(tag: LangTag, singleton: char) -> usize {
+    let same = tag
+        .extensions()
+        .iter()
+        .filter(|extension| extension.singleton().eq_ignore_ascii_case(&singleton));
+    let places = same.map(|it| it.as_str().as_ptr() as usize - tag.as_str().as_ptr() as usize);
+    places.take(2).last().expect("it stands there")
+}
+
 /// The recommended case, in which the parts stay where they were.
 fn recommended(tag: LangTag) -> String {
     let owned = tag.to_recommended_case();
@@ -143,9 +152,10 @@ fn answer_tag(bytes: &[u8]) -> String {
     }
     if let Some(singleton) = tag.repeated_singleton() {
         line("repeated_singleton", singleton.to_string());
+        line("at_singleton", second_place(tag, singleton).to_string());
     }
     line("recommended", recommended(tag));
-    line("folded", text.to_ascii_lowercase());
+    line("folded", tag.to_folded());
     line("hash", format!("{:016x}", tag.fnv1a()));
     lines.join("\n")
 }
@@ -155,22 +165,28 @@ fn answer_validity(text: &str) -> String {
         return "none".into();
     };
     let Err(error) = tag.validate() else {
+        assert_eq!(tag.to_buf().validate(), Ok(()));
         return "valid".into();
     };
     let end = error.offset + error.subtag.len();
     assert_eq!(&text[error.offset..end], error.subtag);
-    assert!(error.to_string().contains(error.subtag));
-    assert_eq!(error.into_owned().to_string(), error.to_string());
-    let fault = match error.fault {
-        SubtagFault::Language => "language",
-        SubtagFault::Extlang => "extlang",
-        SubtagFault::SecondExtlang => "second-extlang",
-        SubtagFault::Script => "script",
-        SubtagFault::Region => "region",
-        SubtagFault::Variant => "variant",
-        SubtagFault::RepeatedVariant => "repeated-variant",
-        SubtagFault::RepeatedSingleton => "repeated-singleton",
+    assert_eq!(tag.to_buf().validate(), Err(error));
+    for kept in [error.into_owned(), error.into()] {
+        let found = (kept.subtag.as_str(), kept.offset, kept.fault);
+        assert_eq!(found, (error.subtag, error.offset, error.fault));
+        assert_eq!(kept.to_string(), error.to_string());
+    }
+    let (fault, kind, how) = match error.fault {
+        SubtagFault::Language => ("language", "language", "is not registered"),
+        SubtagFault::Extlang => ("extlang", "extended language", "is not registered"),
+        SubtagFault::SecondExtlang => ("second-extlang", "extended language", "is the second"),
+        SubtagFault::Script => ("script", "script", "is not registered"),
+        SubtagFault::Region => ("region", "region", "is not registered"),
+        SubtagFault::Variant => ("variant", "variant", "is not registered"),
+        SubtagFault::RepeatedVariant => ("repeated-variant", "variant", "is repeated"),
+        SubtagFault::RepeatedSingleton => ("repeated-singleton", "singleton", "is repeated"),
     };
+    assert_eq!(error.to_string(), format!("{kind} {} {how}", error.subtag));
     format!("{fault} {} {}", error.offset, error.subtag)
 }
 
@@ -186,6 +202,7 @@ fn answer_canonical(text: &str) -> String {
         (tag.is_canonical(), form.is_canonical()),
         (form == tag, true)
     );
+    assert_eq!(tag.to_buf().is_canonical(), tag.is_canonical());
     let mut buffer = vec![b'~'; len + 1];
     let written = tag.canonical_into(&mut buffer).map(|form| form.to_buf());
     assert_eq!(written.as_ref().map(LangTagBuf::as_str), Ok(form.as_str()));
@@ -209,6 +226,40 @@ fn answer_grandfathered(text: &[u8]) -> String {
         found.is_some()
     );
     format!("{} {}", index.unwrap_or(26), name_of(Kind::of(text)))
+}
+
+/// How many bytes decide the text, how many of its fronts are tags, and what it is, with the ends of its parts.
+fn answer_scan(bytes: &[u8]) -> String {
+    let fronts = (0..=bytes.len()).filter(|end| Kind::of(&bytes[..*end]).is_some());
+    let head = format!("{} {}", stop_len(bytes), fronts.count());
+    let what = name_of(Kind::of(bytes));
+    let Some(tag) = std::str::from_utf8(bytes)
+        .ok()
+        .and_then(|text| LangTag::new(text).ok())
+    else {
+        return format!("{head} {what}");
+    };
+    if let (Kind::Irregular, Some(text)) = (tag.kind(), tag.as_grandfathered()) {
+        let number = GRANDFATHERED.iter().position(|it| *it == text);
+        return format!("{head} {what} {}", number.unwrap_or(26));
+    }
+    let Some(language) = tag.language() else {
+        return format!("{head} {what}");
+    };
+    let mut end = language.as_str().len();
+    let mut out = format!("{head} {what} {end}");
+    let private_use = tag.private_use().map_or("", |part| part.as_str());
+    for part in [
+        tag.script().unwrap_or(""),
+        tag.region().unwrap_or(""),
+        tag.variants().as_str(),
+        tag.extensions().as_str(),
+        private_use,
+    ] {
+        end += part.len() + usize::from(!part.is_empty());
+        out += &format!(" {end}");
+    }
+    out
 }
 
 fn answer_range(text: &str) -> &'static str {
@@ -262,6 +313,10 @@ fn answer_order(a: &str, b: &str) -> &'static str {
     assert_eq!((order.is_eq(), Some(order)), (a == b, a.partial_cmp(b)));
     if let (Ok(a), Ok(b)) = (LangTag::new(a.as_str()), LangTag::new(b.as_str())) {
         assert_eq!((a.cmp(&b), a == b), (order, order.is_eq()));
+        let (key, other) = (a.to_folded(), b.to_buf().to_folded());
+        let is_prefix = key.starts_with(&other) || other.starts_with(&key);
+        let for_people = if is_prefix { order.reverse() } else { order };
+        assert_eq!(key.cmp(&other), for_people);
         assert_eq!(
             (a.to_buf().cmp(&b.to_buf()), a.to_buf() == b),
             (order, a == b)
@@ -274,63 +329,42 @@ fn answer_order(a: &str, b: &str) -> &'static str {
     }
 }
 
-/// The answer to a call; `None` where Rust has none, since a text is not UTF-8.
-fn answer(call: &str, arguments: &[Vec<u8>]) -> Option<String> {
-    let text = |index: usize| std::str::from_utf8(&arguments[index]).ok();
-    match call {
-        "tag" => Some(answer_tag(&arguments[0])),
-        "grandfathered" => Some(answer_grandfathered(&arguments[0])),
-        "viable" => Some(format!(
-            "{} {}",
-            viable_len(&arguments[0]),
-            stop_len(&arguments[0])
-        )),
-        "validity" => Some(text(0).map_or("none".into(), answer_validity)),
-        "canonical" => Some(text(0).map_or("-".into(), answer_canonical)),
-        "range" => Some(answer_range(text(0)?).into()),
-        "match" => Some(answer_match(text(0)?, text(1)?).into()),
-        "order" => Some(answer_order(text(0)?, text(1)?).into()),
-        _ => panic!("no call: {call}"),
-    }
-}
+/// The calls of the table.
+const CALLS: [&str; 8] = [
+    "tag",
+    "grandfathered",
+    "viable",
+    "validity",
+    "canonical",
+    "range",
+    "match",
+    "order",
+];
 
-fn check(path: &str) -> usize {
-    let table = std::fs::read_to_string(path).unwrap();
-    let mut lines = table
-        .lines()
-        .filter(|line| !line.is_empty() && !line.starts_with('#'))
-        .peekable();
-    let mut calls = 0;
-    while let Some(line) = lines.next() {
-        let head = expand(line);
-        let count = if ["match", "order"].contains(&line.split(' ').next().unwrap()) {
-            3
-        } else {
-            2
-        };
-        let pieces: Vec<&str> = head.splitn(count + 1, ' ').collect();
-        let mut wanted = String::from(pieces[count]);
-        while let Some(line) = lines.next_if(|line| line.starts_with(' ')) {
-            if !line.starts_with("  at_singleton") {
-                wanted = wanted + "\n" + &expand(line);
-            }
-        }
-        let arguments: Vec<Vec<u8>> = pieces[1..count].iter().map(|word| unescape(word)).collect();
-        if let Some(found) = answer(pieces[0], &arguments) {
-            assert!(
-                found == wanted,
-                "{line:.200}: {found:.900}\nand not {wanted:.900}"
-            );
-            calls += 1;
-        }
+/// The answer to a call; `None` where Rust has none, since a text is not UTF-8.
+fn answer(row: &Row) -> Option<String> {
+    let bytes = &row.arguments[0];
+    match row.call.as_str() {
+        "tag" => Some(answer_tag(bytes)),
+        "scan" => Some(answer_scan(bytes)),
+        "recommended" => Some(recommended(LangTag::new(row.text(0)?).ok()?)),
+        "grandfathered" => Some(answer_grandfathered(bytes)),
+        "viable" => Some(format!("{} {}", viable_len(bytes), stop_len(bytes))),
+        "validity" => Some(row.text(0).map_or("none".into(), answer_validity)),
+        "canonical" => Some(row.text(0).map_or("-".into(), answer_canonical)),
+        "range" => Some(answer_range(row.text(0)?).into()),
+        "match" => Some(answer_match(row.text(0)?, row.text(1)?).into()),
+        "order" => Some(answer_order(row.text(0)?, row.text(1)?).into()),
+        call => panic!("no call: {call}"),
     }
-    calls
 }
 
 #[test]
 fn answers() {
-    assert!(check(&rows::path("table.txt")) > 230);
+    rows::ask(&rows::path("table.txt"), &CALLS, 300, answer);
+    let texts = rows::path("texts.txt");
+    rows::ask(&texts, &["scan", "recommended"], 700, answer);
     if let Ok(path) = std::env::var("LANGTAG_ANSWERS") {
-        assert!(check(&path) > 1000);
+        rows::ask(&path, &CALLS, 1000, answer);
     }
 }

@@ -1,15 +1,15 @@
 -- What was found of a tag holds of each text that is alike.
 use Rattle.std.proofs.Common.{◌∙◌, ℕ, List}
-use Rattle.std.specs.Str.{IsAscii}
+use Rattle.std.specs.Str.{IsAscii, IsUtf8}
 use Rattle.langtag_scan.specs.Case.{Alike}
 use Rattle.langtag_scan.specs.Ends.{HasEnds}
 use Rattle.langtag_scan.specs.Found.{IsFoundOf}
 use Rattle.langtag_scan.specs.declared.ends.Ends.{Ends}
 use Rattle.langtag_scan.specs.declared.finding.Finding.{Finding}
 use Rattle.langtag_scan.specs.declared.finding.Finding.TheVariants.{Normal, PrivateUse, Irregular}
-use Rattle.langtag_scan.proofs.Ascii.{IsAscii-tag}
+use Rattle.langtag_scan.proofs.Ascii.{IsAscii-tag, IsUtf8-tag}
 use Rattle.langtag_scan.proofs.CaseLaw.{alike_parts, alike_private, alike_irregular}
-use Rattle.langtag_scan.proofs.FoundLaws.{found_had}
+use Rattle.langtag_scan.proofs.FoundLaws.{found_had, tag_found}
 use Rattle.langtag.proofs.KeptFound.{found_kept}
 
 -- the kind with its ends, or its index
@@ -25,6 +25,10 @@ found_alike t u found alike merely = ∣ by found (found_had t found merely) ∣
 -- the ends of the parts of a normal tag
 pub ends_alike : (t u : List ℕ) (ends : Ends) → Alike t u → ∥ HasEnds t ends ∥₁ → ∥ HasEnds u ends ∥₁
 ends_alike t u ends alike merely = found_alike t u (Normal ends) alike merely
+
+-- the bytes of a tag are UTF-8
+pub utf8_found : (text : List ℕ) (found : Finding) → IsFoundOf text found → IsUtf8 text
+utf8_found text found is = IsUtf8-tag text (tag_found text found is)
 
 -- the text of a tag is ASCII
 pub ascii_found : (text : List ℕ) (found : Finding) → ∥ IsFoundOf text found ∥₁ → IsAscii text

@@ -11,7 +11,7 @@ use Rattle.langtag_scan.specs.Tag.{IsPrivate}
 use Rattle.langtag_scan.specs.declared.ends.Ends.{Ends}
 use Rattle.langtag_scan.proofs.Joins.{hyphenated, join-hyphenated, join-append, drop-join, length-join, length-hyphenated, join-replaced, join-around}
 use Rattle.langtag_scan.proofs.PartOffsets.{ends_equal}
-use Rattle.langtag_scan.proofs.SpelledTexts.{ends_each, ends_had}
+use Rattle.langtag_scan.proofs.SpelledTexts.{ends_each}
 use Rattle.langtag_scan.proofs.SubtagFacts.{of_script, of_region, of_variant}
 use Rattle.langtag_language.specs.Language.{SpellsLanguage}
 use Rattle.langtag_place.specs.declared.region.Region.{Region}
@@ -74,34 +74,22 @@ pub record Replaces (part : List ℕ) (low high : Ends → ℕ) (with_length : L
   pub lengths : (r : Record) → with_length (part_lengths r) (length part) ≡ part_lengths (change r)
 
 -- so it is with the ends that a text keeps
-pub record IsEdited (old new : List ℕ) (ends : Ends) (change : Record → Record) : Type 0 where
-  pub spells : EachRecord old (λ r. Spells (change r) new)
-  pub kept : ∥ HasEnds new ends ∥₁
-
 module _ {part : List ℕ} {low high : Ends → ℕ} {with_length : Lengths → ℕ → Lengths} {change : Record → Record} (replaces : Replaces part low high with_length change) where
   ends-changed : (r : Record) → ends_from (with_length (lengths_of (ends_of r)) (length part)) ≡ ends_of (change r)
   ends-changed r = rw (lengths_of-ends_of r, replaces.lengths r) (ends_from-part_lengths (change r))
 
-  spells-edited :
+  pub spells-edited :
       (old new : List ℕ) (ends : Ends) → HasEnds old ends → new ≡ replace_range old (low ends) (high ends) part →
       EachRecord old (λ r. Spells (change r) new)
   spells-edited old new ends kept made r spells =
       (replaces.fits r spells.0, sym (made ∙ rw (ends_each old ends kept r spells, ← spells.1) (replaces.spelled r)))
 
-  ends-edited :
+  pub ends-edited :
       (old new : List ℕ) (ends : Ends) (count : ℕ) → HasEnds old ends → new ≡ replace_range old (low ends) (high ends) part →
       count ≡ length part → HasEnds new (ends_from (with_length (lengths_of ends) count))
   unfolding HasEnds
   ends-edited old new ends count (r, spells, is) made counted =
       (change r, spells-edited old new ends (r, spells, is) made r spells, rw (counted, is) (ends-changed r))
-
-  pub edited :
-      (old new : List ℕ) (ends : Ends) (count : ℕ) → ∥ HasEnds old ends ∥₁ →
-      new ≡ replace_range old (low ends) (high ends) part → count ≡ length part →
-      IsEdited old new (ends_from (with_length (lengths_of ends) count)) change
-  edited old new ends count merely made counted =
-      let kept = ends_had old ends merely in
-      record { spells = spells-edited old new ends kept made; kept = ∣ ends-edited old new ends count kept made counted ∣₁ }
 
 -- ---- one part among the subtags
 

@@ -1,5 +1,5 @@
 -- What the finding that a tag keeps says of its text.
-use Rattle.std.proofs.Common.{◌≡◌, ◌↔◌, ℕ, ◌<◌, List, Some, None, IsTrue, refl, sym, arith}
+use Rattle.std.proofs.Common.{◌≡◌, ◌↔◌, ℕ, ◌<◌, List, Some, IsTrue, sym, subst, arith}
 use Rattle.langtag_scan.specs.Case.{Alike}
 use Rattle.langtag_scan.specs.Found.{IsFoundOf, is_normal, is_private_use, irregular_index}
 use Rattle.langtag_scan.specs.Tag.{IsNormal, IsPrivate, IsIrregularAt, IsIrregular, IsTag}
@@ -12,8 +12,10 @@ use Rattle.langtag_scan.proofs.OneKind.{normal_no_private, normal_no_irregular, 
 use Rattle.langtag_scan.proofs.SpelledTexts.{offsets_kept}
 use Rattle.langtag_private.proofs.Rules.{IsPrivate-from_test}
 use Rattle.langtag.specs.Kinds.{IsOfKind, AreOfOneKind}
+use Rattle.langtag.specs.Recognised.{finding_of}
 use Rattle.langtag.specs.Registered.{index_of}
 use Rattle.langtag.specs.Typed.{IsTypedAs, kind_of}
+use Rattle.langtag.specs.declared.recognised.Recognised.{Recognised}
 use Rattle.langtag.specs.declared.typed_lang_tag.TypedLangTag.{TypedLangTag}
 use Rattle.langtag.specs.declared.typed_lang_tag.TypedLangTag.TheVariants.{Normal, PrivateUse, Grandfathered}
 
@@ -28,28 +30,23 @@ found_kept text found merely =
     let kept = found_had text found merely in
     record { tag = tag_found text found kept; normal = normal_found text found kept; private_use = private_found text found kept }
 
+-- ---- what is kept of what the recogniser found
+
 -- an irregular text, at the index that was found
 pub record IsAtIndex (text : List ℕ) (index : ℕ) : Type 0 where
   pub within : index < 26
   pub is : IsIrregularAt index text
 
-pub irregular_kept :
-    (text : List ℕ) (found : Finding) (index : ℕ) → ∥ IsFoundOf text found ∥₁ → Some index ≡ irregular_index found →
-    IsAtIndex text index
-irregular_kept text (found_at.Normal ends) index merely at = absurd cc
-irregular_kept text found_at.PrivateUse index merely at = absurd cc
-irregular_kept text (found_at.Irregular k) index merely at =
-    let kept = found_had text (found_at.Irregular k) merely in
+pub irregular_found : (text : List ℕ) (found : Finding) (index : ℕ) → IsFoundOf text found → Some index ≡ irregular_index found → IsAtIndex text index
+irregular_found text (found_at.Normal ends) index kept at = absurd cc
+irregular_found text found_at.PrivateUse index kept at = absurd cc
+irregular_found text (found_at.Irregular k) index kept at =
     let same : index ≡ k = cc in
     rw same (record { within = omega (arith, (irregular_fold text k kept).0); is = kept })
 
--- a tag that is neither normal nor irregular is private
-pub private_otherwise :
-    (text : List ℕ) (found : Finding) → ∥ IsFoundOf text found ∥₁ → (IsNormal text → ⊥) → None ≡ irregular_index found →
-    IsPrivate text
-private_otherwise text (found_at.Normal ends) merely other none = absurd (other ((found_kept text (found_at.Normal ends) merely).normal.0 refl))
-private_otherwise text found_at.PrivateUse merely other none = found_had text found_at.PrivateUse merely
-private_otherwise text (found_at.Irregular k) merely other none = absurd cc
+-- what is kept of a text holds of it
+pub kept_as : (text : List ℕ) (kept same : Recognised) → ∥ IsFoundOf text (finding_of kept) ∥₁ → kept ≡ same → IsFoundOf text (finding_of same)
+kept_as text kept same merely is = subst (λ found. IsFoundOf text (finding_of found)) is (found_had text (finding_of kept) merely)
 
 -- the variant of a typed tag says of which kind its text is
 pub typed_kind : (text : List ℕ) (typed : TypedLangTag) → IsTypedAs text typed → IsOfKind text (kind_of typed)

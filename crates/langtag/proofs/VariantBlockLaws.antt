@@ -9,11 +9,12 @@ use Rattle.std.proofs.lemmas.Grind.{get_or-set_at}
 use Rattle.std.proofs.lemmas.List.{get_or-set_other, get_or_default, get_or-map, get_or-take, get_or-drop, take-append-drop, take_more, at_drop_more, drop_all, length-take, length-drop, length-map, map_push}
 use Rattle.std.proofs.lemmas.List.Folds.{list_any_at, list_any_none, list_any-append, list_all-append}
 use Rattle.std.proofs.lemmas.List.Sorted.{list_any-IsPermutation}
-use Rattle.langtag_scan.specs.Case.{are_alike}
+use Rattle.langtag_scan.specs.Case.{are_alike, folded_number}
 use Rattle.langtag_scan.specs.Class.{is_variant}
 use Rattle.langtag.specs.Repeat.{repeat_index, repeat_index_after}
-use Rattle.langtag.specs.VariantBlocks.{folded_number, HasNoRepeatBefore, IsPlaceOf, AreMet, HoldsFrom}
-use Rattle.langtag.proofs.VariantNumbers.{folded_number-tells}
+use Rattle.langtag.specs.VariantBlocks.{HasNoRepeatBefore, IsPlaceOf, AreMet, HoldsFrom}
+use Rattle.langtag_scan.proofs.FoldedNumbers.{among-numbers, folded_number-tells}
+use Rattle.langtag_scan.proofs.SubtagFacts.{of_variant}
 use Rattle.langtag.proofs.RepeatLaws.{IsAt, repeat-found, repeat-later, repeat-none}
 
 -- ---- the place of a number in a block
@@ -141,22 +142,18 @@ numbers-more texts n text rest at =
     ap (map folded_number) (take_more texts n text at.below) ∙ map_push folded_number (take n texts) (get_or texts n text)
     ∙ ap (λ t. map folded_number (take n texts) ++ folded_number t ∷ []) (sym at.member)
 
--- the number of a text is among those of others where it is alike one of them
-among-numbers :
-    (text : List ℕ) (texts : List (List ℕ)) → IsTrue (is_variant text) → list_all is_variant texts ≡ true →
-    list_any (λ other. other == folded_number text) (map folded_number texts) ≡ list_any (are_alike text) texts
-among-numbers text [] variant all = refl
-among-numbers text (t ∷ texts) variant all =
-    let parts = and_parts (is_variant t) (list_all is_variant texts) all in
-    rw (folded_number-tells text t variant parts.0, among-numbers text texts variant parts.1) refl
+-- the number of a variant tells it from others but for case
+variant_tells : (a b : List ℕ) → is_variant a ≡ true → is_variant b ≡ true → (folded_number b == folded_number a) ≡ are_alike a b
+variant_tells a b av bv = folded_number-tells a b (of_variant a av).alphanumeric (of_variant b bv).alphanumeric
 
 pub among-earlier :
     (texts : List (List ℕ)) (n : ℕ) (text : List ℕ) → list_all is_variant texts ≡ true → IsTrue (is_variant text) →
     list_any (λ other. other == folded_number text) (map folded_number (take n texts)) ≡ list_any (are_alike text) (take n texts)
 among-earlier texts n text all variant =
-    among-numbers text (take n texts) variant
+    sym
+    (among-numbers folded_number is_variant variant_tells text (take n texts) variant
     (and_parts (list_all is_variant (take n texts)) (list_all is_variant (drop n texts))
-    (sym (list_all-append is_variant (take n texts) (drop n texts)) ∙ ap (list_all is_variant) (take-append-drop n texts) ∙ all)).0
+    (sym (list_all-append is_variant (take n texts) (drop n texts)) ∙ ap (list_all is_variant) (take-append-drop n texts) ∙ all)).0)
 
 -- the number of each text of a block is in it
 pub HoldsFrom-in :

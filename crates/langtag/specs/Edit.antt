@@ -7,6 +7,13 @@ use Rattle.langtag_scan.specs.Subtags.{join}
 use Rattle.langtag_language.specs.Language.{EachLanguageSpelling}
 use Rattle.langtag_place.specs.Variants.{SpellsVariants}
 use Rattle.langtag_extension.specs.Spelling.{SpellsExtensions}
+use Rattle.langtag_language.specs.Text.{language_text}
+use Rattle.langtag_place.specs.Text.{script_text, region_text, variants_text}
+use Rattle.langtag_extension.specs.Text.{extensions_text}
+use Rattle.langtag_private.specs.Text.{private_use_text}
+use Rattle.langtag.specs.declared.part.Part.{Part}
+use Rattle.langtag.specs.declared.part.Part.TheVariants.{Language, Script, Region, Variants, Extensions}
+use Rattle.langtag.specs.declared.part.Part.TheVariants as part
 
 -- ---- the record
 
@@ -80,6 +87,15 @@ pub record SpellsPrivateUse (part : Option PrivateUse) (text : Option (List ℕ)
 abbrev pub SetsPrivateUse : Option (List ℕ) → List ℕ → List ℕ → Type 0
 SetsPrivateUse text old new =
     EachRecord old (λ r. (part : Option PrivateUse) → SpellsPrivateUse part text → Spells (with_private_use r part) new)
+
+-- with the part
+abbrev pub SetsPart : Part → List ℕ → List ℕ → Type 0
+SetsPart (Language language) old new = SetsLanguage (language_text language) old new
+SetsPart (Script script) old new = SetsScript (option_map script_text script) old new
+SetsPart (Region region) old new = SetsRegion (option_map region_text region) old new
+SetsPart (Variants variants) old new = SetsVariants (variants_text variants) old new
+SetsPart (Extensions extensions) old new = SetsExtensions (extensions_text extensions) old new
+SetsPart (part.PrivateUse private_use) old new = SetsPrivateUse (option_map private_use_text private_use) old new
 
 -- to set a member to what it was gives the very text back: t is spelled by a record, u by the record with another member, and v
 -- is u with that member set back

@@ -3,6 +3,8 @@
 use Rattle.std.specs.Prelude.{ℕ, ◌+◌, ◌-◌, List, [], ◌∷◌}
 use Rattle.langtag_scan.specs.declared.ends.Ends.{Ends}
 use Rattle.langtag.specs.declared.lengths.Lengths.{Lengths}
+use Rattle.langtag.specs.declared.part.Part.{Part}
+use Rattle.langtag.specs.declared.part.Part.TheVariants.{Language, Script, Region, Variants, Extensions, PrivateUse}
 
 -- a part stands after a hyphen, and where it is absent there is nothing
 abbrev pub after_hyphen : List ℕ → List ℕ
@@ -31,3 +33,12 @@ ends_from lengths = record {
   whole =
       lengths.language + lengths.script + lengths.region + lengths.variants + lengths.extensions + lengths.private_use;
 }
+
+-- with this length of a part
+abbrev pub with_length : Part → Lengths → ℕ → Lengths
+with_length (Language language) lengths n = record lengths { language = n }
+with_length (Script script) lengths n = record lengths { script = n }
+with_length (Region region) lengths n = record lengths { region = n }
+with_length (Variants variants) lengths n = record lengths { variants = n }
+with_length (Extensions extensions) lengths n = record lengths { extensions = n }
+with_length (PrivateUse private_use) lengths n = record lengths { private_use = n }

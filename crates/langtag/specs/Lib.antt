@@ -1,10 +1,12 @@
 pub mod Edit
 pub mod Lengths
+pub mod PartPlaces
 pub mod Offsets
 pub mod Repeat
 pub mod VariantBlocks
 pub mod Text
 pub mod Registered
+pub mod Recognised
 pub mod LooksUp
 pub mod Kinds
 pub mod Typed

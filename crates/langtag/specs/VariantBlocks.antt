@@ -1,13 +1,9 @@
 -- What a block of variants keeps. Contracts of private functions alone speak of it.
-use Rattle.std.specs.Prelude.{◌≡◌, ℕ, ◌+◌, ◌*◌, ◌<◌, ◌≤◌, Bool, false, ◌==◌, List, fold, map, take, drop, length, slice_index, slice_index_or, [], Option, None, Some}
+use Rattle.std.specs.Prelude.{◌≡◌, ℕ, ◌<◌, ◌≤◌, Bool, false, ◌==◌, List, map, take, drop, length, slice_index, slice_index_or, [], Option, None, Some}
 use Rattle.std.specs.List.{list_any}
 use Rattle.std.specs.List.Sorted.{IsPermutation}
-use Rattle.langtag_scan.specs.Case.{fold_byte, are_alike}
+use Rattle.langtag_scan.specs.Case.{are_alike, folded_number}
 use Rattle.langtag.specs.Repeat.{repeat_index}
-
--- the folded bytes of a text as the digits of a number in base 256
-abbrev pub folded_number : List ℕ → ℕ
-folded_number text = fold (λ number byte. number * 256 + fold_byte byte) 0 text
 
 -- no text before an index equals an earlier one, ignoring case
 abbrev pub HasNoRepeatBefore : ℕ → List (List ℕ) → Type 0

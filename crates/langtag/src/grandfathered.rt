@@ -110,36 +110,6 @@ pub const GRANDFATHERED: [GrandfatheredLangTag; 26] = [
     GrandfatheredLangTag::ZhXiang,
 ];
 
-/// The registered spelling of each, and the primary language subtag of a regular one.
-static REGISTERED: [(&str, Option<&str>); 26] = [
-    ("en-GB-oed", None),
-    ("i-ami", None),
-    ("i-bnn", None),
-    ("i-default", None),
-    ("i-enochian", None),
-    ("i-hak", None),
-    ("i-klingon", None),
-    ("i-lux", None),
-    ("i-mingo", None),
-    ("i-navajo", None),
-    ("i-pwn", None),
-    ("i-tao", None),
-    ("i-tay", None),
-    ("i-tsu", None),
-    ("sgn-BE-FR", None),
-    ("sgn-BE-NL", None),
-    ("sgn-CH-DE", None),
-    ("art-lojban", Some("art")),
-    ("cel-gaulish", Some("cel")),
-    ("no-bok", Some("no")),
-    ("no-nyn", Some("no")),
-    ("zh-guoyu", Some("zh")),
-    ("zh-hakka", Some("zh")),
-    ("zh-min", Some("zh")),
-    ("zh-min-nan", Some("zh")),
-    ("zh-xiang", Some("zh")),
-];
-
 impl GrandfatheredLangTag {
     ghost use Rattle.langtag_language.specs.Text.{language_text};
     ghost use Rattle.langtag.specs.Text.{lang_tag_text};
@@ -182,21 +152,55 @@ impl GrandfatheredLangTag {
         GRANDFATHERED[index]
     }
 
-    /// Returns the primary language of a regular tag: `zh` of `zh-min-nan`. An irregular one has none: None of `i-lux`.
+    /// The registered spelling, and the primary language subtag of a regular tag.
     #[tactic(auto, unfolding(langtag_scan::specs::Grandfathered::grandfathered_tags))]
+    fn registered(&self) -> (&'static str, Option<&'static str>)
+        ensures text { result.0.now ≡ text_of self.now }
+        ensures language { option_map (λ language. language.now) result.1 ≡ language_of self.now }
+    {
+        match self {
+            GrandfatheredLangTag::EnGbOed => ("en-GB-oed", None),
+            GrandfatheredLangTag::IAmi => ("i-ami", None),
+            GrandfatheredLangTag::IBnn => ("i-bnn", None),
+            GrandfatheredLangTag::IDefault => ("i-default", None),
+            GrandfatheredLangTag::IEnochian => ("i-enochian", None),
+            GrandfatheredLangTag::IHak => ("i-hak", None),
+            GrandfatheredLangTag::IKlingon => ("i-klingon", None),
+            GrandfatheredLangTag::ILux => ("i-lux", None),
+            GrandfatheredLangTag::IMingo => ("i-mingo", None),
+            GrandfatheredLangTag::INavajo => ("i-navajo", None),
+            GrandfatheredLangTag::IPwn => ("i-pwn", None),
+            GrandfatheredLangTag::ITao => ("i-tao", None),
+            GrandfatheredLangTag::ITay => ("i-tay", None),
+            GrandfatheredLangTag::ITsu => ("i-tsu", None),
+            GrandfatheredLangTag::SgnBeFr => ("sgn-BE-FR", None),
+            GrandfatheredLangTag::SgnBeNl => ("sgn-BE-NL", None),
+            GrandfatheredLangTag::SgnChDe => ("sgn-CH-DE", None),
+            GrandfatheredLangTag::ArtLojban => ("art-lojban", Some("art")),
+            GrandfatheredLangTag::CelGaulish => ("cel-gaulish", Some("cel")),
+            GrandfatheredLangTag::NoBok => ("no-bok", Some("no")),
+            GrandfatheredLangTag::NoNyn => ("no-nyn", Some("no")),
+            GrandfatheredLangTag::ZhGuoyu => ("zh-guoyu", Some("zh")),
+            GrandfatheredLangTag::ZhHakka => ("zh-hakka", Some("zh")),
+            GrandfatheredLangTag::ZhMin => ("zh-min", Some("zh")),
+            GrandfatheredLangTag::ZhMinNan => ("zh-min-nan", Some("zh")),
+            GrandfatheredLangTag::ZhXiang => ("zh-xiang", Some("zh")),
+        }
+    }
+
+    /// Returns the primary language of a regular tag: `zh` of `zh-min-nan`. An irregular one has none: None of `i-lux`.
     pub fn language(&self) -> Option<Language<'static>>
         ensures { option_map language_text result ≡ language_of self.now }
     {
-        let language = REGISTERED[*self as usize].1?;
+        let language = self.registered().1?;
         Some(Language::from_checked(language))
     }
 
     /// Returns the registered spelling: `sgn-BE-FR` of `GrandfatheredLangTag::SgnBeFr`.
-    #[tactic(auto, unfolding(langtag_scan::specs::Grandfathered::grandfathered_tags))]
     pub fn as_str(&self) -> &'static str
         ensures { result.now ≡ text_of self.now }
     {
-        REGISTERED[*self as usize].0
+        self.registered().0
     }
 
     /// Returns the tag with the registered spelling: `GrandfatheredLangTag::ILux.as_lang_tag().kind()` is

@@ -5,25 +5,27 @@ ghost use Rattle.langtag_case.specs.RecommendedCase.{recommended_text};
 ghost use Rattle.langtag_case.specs.Text.{in_recommended_case_text};
 ghost use Rattle.langtag_scan.specs.AlikeRecords.{IsSpelledAlike};
 ghost use Rattle.langtag_scan.specs.Case.{EndsFirst, are_alike, case_cmp};
-ghost use Rattle.langtag_scan.specs.Found.{IsFoundOf, finding};
+ghost use Rattle.langtag_scan.specs.Found.{IsFoundOf};
 ghost use Rattle.langtag_scan.specs.Parts.{language_part, variants_part, extensions_part, private_use_part, private_use_subtags};
 ghost use Rattle.langtag_scan.specs.Record.{EachRecord, flat};
 ghost use Rattle.langtag_scan.specs.Subtags.{subtags};
 ghost use Rattle.langtag_scan.specs.Tag.{IsNormal, IsPrivate, IsIrregular, IsTag};
+ghost use Rattle.langtag.specs.Recognised.{finding_of};
 
 use crate::grandfathered::GrandfatheredLangTag;
 use crate::kind::Kind;
 use crate::lang_tag_buf::LangTagBuf;
 use crate::normal_lang_tag::NormalLangTag;
 use crate::private_use_lang_tag::PrivateUseLangTag;
-use crate::recognise_text::recognise_text;
+use crate::recognise_text::{recognise_bytes, recognise_text};
+use crate::recognised::Recognised;
 use crate::typed_lang_tag::TypedLangTag;
 use langtag_case::{InRecommendedCase, is_in_recommended_case};
 use langtag_extension::Extensions;
 use langtag_language::Language;
 use langtag_place::{Region, Script, Variants};
 use langtag_private::{PrivateUse, PrivateUseIter};
-use langtag_scan::{Caseless, Found, Subtags};
+use langtag_scan::{Caseless, Subtags};
 use std::alloc::{AllocError, Global};
 use std::cmp::Ordering;
 use std::fmt;
@@ -46,8 +48,8 @@ pub struct InvalidLangTag<T>(pub T);
 pub struct LangTag<'a> {
     text: Caseless<&'a str>,
     #[derive_where(skip)]
-    found: Found,
-    ghost kept_found: { ∥ IsFoundOf text.0.now (finding found) ∥₁ },
+    found: Recognised,
+    ghost kept_found: { ∥ IsFoundOf text.0.now (finding_of found) ∥₁ },
 }
 
 #[tactic(auto, using(crate::proofs::KeptFound::found_kept))]
@@ -82,6 +84,26 @@ impl<'a> LangTag<'a> {
         Ok(LangTag::with_found(text, found))
     }
 
+    /// Parses bytes as a tag: `LangTag::from_bytes(b"zh-Hant-TW")` is Ok. They need not be UTF-8: a tag is ASCII, so what is
+    /// not is no tag, and nothing looks at them before.
+    ///
+    /// # Errors
+    ///
+    /// Bytes that are not a tag come back, the same slice: `b"zh_Hant"`, and `b"fr\xFF"`.
+    #[tactic(auto, using(crate::proofs::KeptFound::found_kept, crate::proofs::AlikeFound::utf8_found))]
+    pub fn from_bytes(bytes: &'a [u8]) -> Result<LangTag<'a>, InvalidLangTag<&'a [u8]>>
+        ensures accepts { IsTrue (is_ok result) ↔ IsTag bytes.now }
+        ensures same_text { IfOk result (λ tag. lang_tag_text tag ≡ bytes.now) }
+        ensures given_back { IfErr result (λ error. error.0 ≡ bytes.entry) }
+    {
+        let Some(found) = recognise_bytes(bytes) else {
+            return Err(InvalidLangTag(bytes));
+        };
+        // SAFETY: a tag is ASCII, which is proved here.
+        let ascii = unsafe { str::from_utf8_unchecked(bytes) };
+        Ok(LangTag::with_found(ascii, found))
+    }
+
     /// Returns the tag of a text that is known to be one: `LangTag::from_checked(tag.as_str()) == tag` of each tag. The
     /// recogniser goes over the text once more, for what it finds.
     pub fn from_checked(text: &'a str) -> LangTag<'a>
@@ -95,8 +117,8 @@ impl<'a> LangTag<'a> {
     }
 
     /// The tag of a text of which this was found: it is not looked at again.
-    pub(crate) fn with_found(text: &'a str, found: Found) -> LangTag<'a>
-        requires { ∥ IsFoundOf text.now (finding found) ∥₁ }
+    pub(crate) fn with_found(text: &'a str, found: Recognised) -> LangTag<'a>
+        requires { ∥ IsFoundOf text.now (finding_of found) ∥₁ }
         ensures { lang_tag_text result ≡ text.now }
     {
         LangTag {
@@ -167,12 +189,14 @@ impl<'a> LangTag<'a> {
     pub fn as_typed(&self) -> TypedLangTag<'a>
         ensures { IsTypedAs (lang_tag_text self.now) result }
     {
-        if let Some(tag) = self.as_normal() {
-            return TypedLangTag::Normal(tag);
-        }
-        match self.found.irregular() {
-            Some(index) => TypedLangTag::Grandfathered(GrandfatheredLangTag::at(index)),
-            None => TypedLangTag::PrivateUse(PrivateUse::from_checked(self.text.0)),
+        match self.found {
+            Recognised::Normal(ends) => {
+                TypedLangTag::Normal(NormalLangTag::with_ends(self.text.0, ends))
+            }
+            Recognised::PrivateUse => {
+                TypedLangTag::PrivateUse(PrivateUse::from_checked(self.text.0))
+            }
+            Recognised::Irregular(tag) => TypedLangTag::Grandfathered(tag),
         }
     }
 
@@ -366,7 +390,7 @@ impl<'a> From<PrivateUse<'a>> for LangTag<'a> {
     ghost from_gives = { λ private_use tag. lang_tag_text tag ≡ private_use_text private_use };
 
     fn from(tag: PrivateUse<'a>) -> LangTag<'a> {
-        LangTag::with_found(tag.as_str(), Found::private_use())
+        LangTag::with_found(tag.as_str(), Recognised::PrivateUse)
     }
 }
 

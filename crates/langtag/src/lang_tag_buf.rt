@@ -6,28 +6,29 @@ ghost use Rattle.std.specs.Vec.{SameBlock};
 ghost use Rattle.langtag_case.specs.RecommendedCase.{recommended_record, recommended_text};
 ghost use Rattle.langtag_scan.specs.AlikeRecords.{IsSpelledAlike};
 ghost use Rattle.langtag_scan.specs.Case.{Alike};
-ghost use Rattle.langtag_scan.specs.Found.{finding, IsFoundOf};
+ghost use Rattle.langtag_scan.specs.Found.{IsFoundOf};
 ghost use Rattle.langtag_scan.specs.Record.{EachRecord, spell};
 ghost use Rattle.langtag_scan.specs.Tag.{IsNormal, IsTag};
 ghost use Rattle.langtag_language.specs.Text.{language_text};
 ghost use Rattle.langtag_place.specs.Text.{script_text, region_text, variants_text};
 ghost use Rattle.langtag_extension.specs.Text.{extensions_text};
 ghost use Rattle.langtag_private.specs.Text.{private_use_text};
+ghost use Rattle.langtag.specs.Recognised.{finding_of};
 ghost use Rattle.langtag.specs.Edit.{SetsLanguage, SetsScript, SetsRegion, SetsVariants, SetsExtensions, SetsPrivateUse};
 
-use crate::edit::{
-    put_extensions, put_language, put_private_use, put_region, put_script, put_variants,
-};
+use crate::edit::set_part;
 use crate::edit_error::EditError;
 use crate::lang_tag::{InvalidLangTag, LangTag};
 use crate::normal_lang_tag_buf::NormalLangTagBuf;
+use crate::part::Part;
 use crate::recognise_text::recognise_text;
+use crate::recognised::Recognised;
 use crate::recommended_case::put_recommended_case;
 use langtag_extension::Extensions;
 use langtag_language::Language;
 use langtag_place::{Region, Script, Variants};
 use langtag_private::{PrivateUse, PrivateUseBuf};
-use langtag_scan::{Caseless, Found};
+use langtag_scan::Caseless;
 use std::alloc::Global;
 use std::fmt;
 
@@ -37,8 +38,8 @@ use std::fmt;
 pub struct LangTagBuf {
     text: Caseless<String>,
     #[derive_where(skip)]
-    found: Found,
-    ghost kept_found: { ∥ IsFoundOf (string_bytes text.0) (finding found) ∥₁ },
+    found: Recognised,
+    ghost kept_found: { ∥ IsFoundOf (string_bytes text.0) (finding_of found) ∥₁ },
 }
 
 #[tactic(auto, using(crate::proofs::KeptFound::found_kept))]
@@ -65,8 +66,8 @@ impl LangTagBuf {
     }
 
     /// The tag of a text of which this was found: it is not looked at again.
-    pub(crate) fn with_found(text: String, found: Found) -> LangTagBuf
-        requires { ∥ IsFoundOf (string_bytes text) (finding found) ∥₁ }
+    pub(crate) fn with_found(text: String, found: Recognised) -> LangTagBuf
+        requires { ∥ IsFoundOf (string_bytes text) (finding_of found) ∥₁ }
         ensures { lang_tag_buf_string result ≡ text }
     {
         LangTagBuf {
@@ -158,12 +159,7 @@ impl LangTagBuf {
         ensures cloned { (error copy : EditError) → ⟦<EditError as Clone>⟧.is_clone error copy → copy ≡ error }
         ensures clone_succeeds { (error : EditError) → ⟦<EditError as Clone>⟧.is_infallible error }
     {
-        let Some(ends) = self.found.ends() else {
-            return Err(EditError::NotNormal);
-        };
-        let ends = put_language(&mut self.text.0, ends, alloc, language)?;
-        self.found = Found::normal(ends);
-        Ok(())
+        self.put(alloc, Part::Language(language))
     }
 
     /// Puts a script into a normal tag, or takes it out, as [`NormalLangTagBuf::set_script`] does: `Latn` put into `sl-IT`
@@ -178,12 +174,7 @@ impl LangTagBuf {
         ensures unchanged { OnErr result (self.new ≡ self.old) }
         ensures taken_out { IsNone script.entry → IsNormal (lang_tag_buf_text self.old) → IsOk result }
     {
-        let Some(ends) = self.found.ends() else {
-            return Err(EditError::NotNormal);
-        };
-        let ends = put_script(&mut self.text.0, ends, alloc, script)?;
-        self.found = Found::normal(ends);
-        Ok(())
+        self.put(alloc, Part::Script(script))
     }
 
     /// Puts a region into a normal tag, or takes it out, as [`NormalLangTagBuf::set_region`] does: `AT` put into `de-DE-1996`
@@ -198,12 +189,7 @@ impl LangTagBuf {
         ensures unchanged { OnErr result (self.new ≡ self.old) }
         ensures taken_out { IsNone region.entry → IsNormal (lang_tag_buf_text self.old) → IsOk result }
     {
-        let Some(ends) = self.found.ends() else {
-            return Err(EditError::NotNormal);
-        };
-        let ends = put_region(&mut self.text.0, ends, alloc, region)?;
-        self.found = Found::normal(ends);
-        Ok(())
+        self.put(alloc, Part::Region(region))
     }
 
     /// Puts variants into a normal tag, or takes them out, as [`NormalLangTagBuf::set_variants`] does: `1996` put into `de-AT`
@@ -218,12 +204,7 @@ impl LangTagBuf {
         ensures unchanged { OnErr result (self.new ≡ self.old) }
         ensures taken_out { variants_text variants.entry ≡ [] → IsNormal (lang_tag_buf_text self.old) → IsOk result }
     {
-        let Some(ends) = self.found.ends() else {
-            return Err(EditError::NotNormal);
-        };
-        let ends = put_variants(&mut self.text.0, ends, alloc, variants)?;
-        self.found = Found::normal(ends);
-        Ok(())
+        self.put(alloc, Part::Variants(variants))
     }
 
     /// Puts extensions into a normal tag, or takes them out, as [`NormalLangTagBuf::set_extensions`] does: `u-co-eor` put
@@ -242,12 +223,7 @@ impl LangTagBuf {
         ensures unchanged { OnErr result (self.new ≡ self.old) }
         ensures taken_out { extensions_text extensions.entry ≡ [] → IsNormal (lang_tag_buf_text self.old) → IsOk result }
     {
-        let Some(ends) = self.found.ends() else {
-            return Err(EditError::NotNormal);
-        };
-        let ends = put_extensions(&mut self.text.0, ends, alloc, extensions)?;
-        self.found = Found::normal(ends);
-        Ok(())
+        self.put(alloc, Part::Extensions(extensions))
     }
 
     /// Puts a private use part into a normal tag, or takes it out, as [`NormalLangTagBuf::set_private_use`] does: `x-mine`
@@ -266,11 +242,27 @@ impl LangTagBuf {
         ensures unchanged { OnErr result (self.new ≡ self.old) }
         ensures taken_out { IsNone private_use.entry → IsNormal (lang_tag_buf_text self.old) → IsOk result }
     {
+        self.put(alloc, Part::PrivateUse(private_use))
+    }
+}
+
+#[tactic(auto, using(crate::proofs::KeptFound::found_kept, langtag_scan::proofs::SpelledTexts::offsets_kept))]
+impl LangTagBuf {
+    ghost use Rattle.langtag.specs.Edit.{SetsPart};
+    ghost use Rattle.langtag.specs.Text.{lang_tag_buf_text, part_text};
+
+    /// Puts a part into a normal tag, or takes it out.
+    fn put(&mut self, alloc: Global, part: Part<'_>) -> Result<(), EditError>
+        ensures set { OnOk result (SetsPart part.entry (lang_tag_buf_text self.old) (lang_tag_buf_text self.new)) }
+        ensures not_normal { IsErrOf result EditError.NotNormal ↔ (IsNormal (lang_tag_buf_text self.old) → ⊥) }
+        ensures unchanged { OnErr result (self.new ≡ self.old) }
+        ensures taken_out { part_text part.entry ≡ [] → IsNormal (lang_tag_buf_text self.old) → IsOk result }
+    {
         let Some(ends) = self.found.ends() else {
             return Err(EditError::NotNormal);
         };
-        let ends = put_private_use(&mut self.text.0, ends, alloc, private_use)?;
-        self.found = Found::normal(ends);
+        let ends = set_part(&mut self.text.0, ends, alloc, part)?;
+        self.found = Recognised::Normal(ends);
         Ok(())
     }
 }
@@ -293,7 +285,7 @@ impl From<PrivateUseBuf> for LangTagBuf {
     ghost from_gives = { λ private_use tag. lang_tag_buf_string tag ≡ private_use_buf_string private_use };
 
     fn from(tag: PrivateUseBuf) -> LangTagBuf {
-        LangTagBuf::with_found(tag.into_string(), Found::private_use())
+        LangTagBuf::with_found(tag.into_string(), Recognised::PrivateUse)
     }
 }
 

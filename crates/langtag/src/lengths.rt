@@ -1,8 +1,9 @@
 //! How long the parts of a normal tag are.
 ghost use Rattle.std.specs.Prelude.{◌≡◌, ◌<◌, ◌^◌, length};
 ghost use Rattle.langtag_scan.specs.Parts.{AreInOrder};
-ghost use Rattle.langtag.specs.Lengths.{after_hyphen, lengths_of, ends_from};
+ghost use Rattle.langtag.specs.Lengths.{after_hyphen, lengths_of, ends_from, with_length};
 
+use crate::part::Part;
 use langtag_scan::Ends;
 
 /// How many bytes each part of a normal tag takes, with the hyphen before it: 0 where it is absent. In `en-Latn-x-a` they
@@ -37,6 +38,38 @@ impl Lengths {
             variants: ends.variants - ends.region,
             extensions: ends.extensions - ends.variants,
             private_use: ends.whole - ends.extensions,
+        }
+    }
+
+    /// The same lengths but for that of a part.
+    pub(crate) fn with(self, part: &Part<'_>, len: usize) -> Lengths
+        ensures { result ≡ with_length part.now self len }
+    {
+        match part {
+            Part::Language(_) => Lengths {
+                language: len,
+                ..self
+            },
+            Part::Script(_) => Lengths {
+                script: len,
+                ..self
+            },
+            Part::Region(_) => Lengths {
+                region: len,
+                ..self
+            },
+            Part::Variants(_) => Lengths {
+                variants: len,
+                ..self
+            },
+            Part::Extensions(_) => Lengths {
+                extensions: len,
+                ..self
+            },
+            Part::PrivateUse(_) => Lengths {
+                private_use: len,
+                ..self
+            },
         }
     }
 

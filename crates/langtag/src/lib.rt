@@ -43,8 +43,10 @@ mod lang_tag_buf;
 mod lengths;
 mod normal_lang_tag;
 mod normal_lang_tag_buf;
+mod part;
 mod private_use_lang_tag;
 mod recognise_text;
+mod recognised;
 mod recommended_case;
 mod repeats;
 mod text_of_parts;
@@ -83,5 +85,7 @@ pub use langtag_scan::{
 };
 pub use normal_lang_tag::{InvalidNormalLangTag, NormalLangTag};
 pub use normal_lang_tag_buf::NormalLangTagBuf;
+pub use part::{Part, Replacement, put_part};
 pub use private_use_lang_tag::{PrivateUseLangTag, PrivateUseLangTagBuf};
+pub use repeats::is_among_first;
 pub use typed_lang_tag::TypedLangTag;

@@ -16,13 +16,14 @@ ghost use Rattle.langtag.specs.Repeat.{repeat, repeat_index, IsFirstRepeat, IsFi
 use crate::lang_tag::LangTag;
 use crate::normal_lang_tag_buf::NormalLangTagBuf;
 use crate::recognise_text::normal_ends;
+use crate::recognised::Recognised;
 use crate::repeats::{first_repeated_singleton, first_repeated_variant};
 use langtag_case::{InRecommendedCase, is_in_recommended_case};
 use langtag_extension::{Extensions, Singleton};
 use langtag_language::Language;
 use langtag_place::{Region, Script, Variant, Variants};
 use langtag_private::{PrivateUse, PrivateUseIter};
-use langtag_scan::{Caseless, Ends, Found, Subtags};
+use langtag_scan::{Caseless, Ends, Subtags};
 use std::alloc::{AllocError, Global};
 use std::cmp::Ordering;
 use std::fmt;
@@ -152,7 +153,7 @@ impl<'a> NormalLangTag<'a> {
         ensures same_text { lang_tag_text result ≡ normal_lang_tag_text self.now }
         ensures kind { IsNormal (lang_tag_text result) }
     {
-        LangTag::with_found(self.as_str(), Found::normal(self.ends))
+        LangTag::with_found(self.as_str(), Recognised::Normal(self.ends))
     }
 
     /// Returns where the parts end, in bytes from the start of the text: of `sl-IT` the language at 2, and all others

@@ -19,20 +19,20 @@ ghost use Rattle.langtag_private.specs.Text.{private_use_text};
 ghost use Rattle.langtag.specs.Edit.{GivesBack, of_parts, with_language, with_script, with_region, with_variants, with_extensions, with_private_use};
 ghost use Rattle.langtag.specs.Edit.{SetsLanguage, SetsScript, SetsRegion, SetsVariants, SetsExtensions, SetsPrivateUse};
 
-use crate::edit::{
-    put_extensions, put_language, put_private_use, put_region, put_script, put_variants,
-};
+use crate::edit::set_part;
 use crate::lang_tag_buf::LangTagBuf;
 use crate::lengths::{Lengths, length_with_hyphen};
 use crate::normal_lang_tag::{InvalidNormalLangTag, NormalLangTag};
+use crate::part::Part;
 use crate::recognise_text::normal_ends;
+use crate::recognised::Recognised;
 use crate::recommended_case::put_recommended_case;
 use crate::text_of_parts::join_parts;
 use langtag_extension::Extensions;
 use langtag_language::Language;
 use langtag_place::{Region, Script, Variants};
 use langtag_private::PrivateUse;
-use langtag_scan::{Caseless, Ends, Found};
+use langtag_scan::{Caseless, Ends};
 use std::alloc::{AllocError, Global};
 use std::fmt;
 
@@ -137,7 +137,7 @@ impl NormalLangTagBuf {
         ensures same_string { lang_tag_buf_string result ≡ normal_lang_tag_buf_string self }
         ensures kind { IsNormal (lang_tag_buf_text result) }
     {
-        LangTagBuf::with_found(self.text.0, Found::normal(self.ends))
+        LangTagBuf::with_found(self.text.0, Recognised::Normal(self.ends))
     }
 
     /// Returns the text itself, without a copy: `sl-IT` of `sl-IT`.
@@ -174,8 +174,7 @@ impl NormalLangTagBuf {
         ensures unchanged { OnErr result (self.new ≡ self.old) }
         ensures set_back { GivesBack (List ℕ × List (List ℕ)) (λ r m. with_language r m.0 m.1) (λ r. SetsLanguage (language_part r)) }
     {
-        self.ends = put_language(&mut self.text.0, self.ends, alloc, language)?;
-        Ok(())
+        self.put(alloc, Part::Language(language))
     }
 
     /// Puts a script in the old one's place, or where one would stand (RFC 5646 section 2.2.3): `Latn` put into `sl-IT` makes
@@ -197,8 +196,7 @@ impl NormalLangTagBuf {
         ensures taken_out { IsNone script.entry → IsOk result }
         ensures set_back { GivesBack (Option (List ℕ)) with_script (λ r. SetsScript r.script) }
     {
-        self.ends = put_script(&mut self.text.0, self.ends, alloc, script)?;
-        Ok(())
+        self.put(alloc, Part::Script(script))
     }
 
     /// Puts a region in the old one's place, or where one would stand (RFC 5646 section 2.2.4): `AT` put into `de-DE-1996`
@@ -219,8 +217,7 @@ impl NormalLangTagBuf {
         ensures taken_out { IsNone region.entry → IsOk result }
         ensures set_back { GivesBack (Option (List ℕ)) with_region (λ r. SetsRegion r.region) }
     {
-        self.ends = put_region(&mut self.text.0, self.ends, alloc, region)?;
-        Ok(())
+        self.put(alloc, Part::Region(region))
     }
 
     /// Puts variants in the old ones' place, or where some would stand (RFC 5646 section 2.2.5): `1996` put into `de-AT-1901`
@@ -237,8 +234,7 @@ impl NormalLangTagBuf {
         ensures taken_out { variants_text variants.entry ≡ [] → IsOk result }
         ensures set_back { GivesBack (List (List ℕ)) with_variants (λ r. SetsVariants (variants_part r)) }
     {
-        self.ends = put_variants(&mut self.text.0, self.ends, alloc, variants)?;
-        Ok(())
+        self.put(alloc, Part::Variants(variants))
     }
 
     /// Puts extensions in the old ones' place, or where some would stand (RFC 5646 section 2.2.6): `u-co-phonebk` put into
@@ -259,8 +255,7 @@ impl NormalLangTagBuf {
         ensures taken_out { extensions_text extensions.entry ≡ [] → IsOk result }
         ensures set_back { GivesBack (List Extension) with_extensions (λ r. SetsExtensions (extensions_part r)) }
     {
-        self.ends = put_extensions(&mut self.text.0, self.ends, alloc, extensions)?;
-        Ok(())
+        self.put(alloc, Part::Extensions(extensions))
     }
 
     /// Puts a private use part in the old one's place, or at the end (RFC 5646 section 2.2.7): `x-mine` put into `de-x-a` makes
@@ -281,7 +276,22 @@ impl NormalLangTagBuf {
         ensures taken_out { IsNone private_use.entry → IsOk result }
         ensures set_back { GivesBack (Option model.PrivateUse) with_private_use (λ r. SetsPrivateUse (private_use_part r)) }
     {
-        self.ends = put_private_use(&mut self.text.0, self.ends, alloc, private_use)?;
+        self.put(alloc, Part::PrivateUse(private_use))
+    }
+}
+
+#[tactic(auto, using(langtag_scan::proofs::SpelledTexts::offsets_kept))]
+impl NormalLangTagBuf {
+    ghost use Rattle.langtag.specs.Edit.{SetsPart};
+    ghost use Rattle.langtag.specs.Text.{normal_lang_tag_buf_text, part_text};
+
+    /// Puts a part into the tag, or takes it out.
+    fn put(&mut self, alloc: Global, part: Part<'_>) -> Result<(), AllocError>
+        ensures set { OnOk result (SetsPart part.entry (normal_lang_tag_buf_text self.old) (normal_lang_tag_buf_text self.new)) }
+        ensures unchanged { OnErr result (self.new ≡ self.old) }
+        ensures taken_out { part_text part.entry ≡ [] → IsOk result }
+    {
+        self.ends = set_part(&mut self.text.0, self.ends, alloc, part)?;
         Ok(())
     }
 }

@@ -1,19 +1,43 @@
 //! The one place where this crate runs a recogniser.
 ghost use Rattle.std.specs.Prelude.{MatchOption};
 ghost use Rattle.langtag_scan.specs.Ends.{HasEnds};
-ghost use Rattle.langtag_scan.specs.Found.{finding, IsFoundOf};
+ghost use Rattle.langtag_scan.specs.Found.{IsFoundOf, finding};
 ghost use Rattle.langtag_scan.specs.Tag.{IsNormal, IsTag};
+ghost use Rattle.langtag.specs.Recognised.{finding_of};
 
+use crate::grandfathered::GrandfatheredLangTag;
+use crate::recognised::Recognised;
 use langtag_scan::{Ends, Found, Metered, recognise};
 
-/// What the recogniser finds of a text; None where the text is not a tag.
+/// What the recogniser finds of bytes; None where they are not a tag.
 ///
 /// Each constructor of the crate calls this function. It is not inlined, so that the recogniser's code is there once.
 #[inline(never)]
-pub(crate) fn recognise_text(text: &str) -> Option<Found>
-    ensures { MatchOption result (IsTag text.now → ⊥) (λ found. IsFoundOf text.now (finding found)) }
+pub(crate) fn recognise_bytes(bytes: &[u8]) -> Option<Recognised>
+    ensures { MatchOption result (IsTag bytes.now → ⊥) (λ found. IsFoundOf bytes.now (finding_of found)) }
 {
-    recognise(&mut Metered::new(text))
+    let found = found_in(bytes)?;
+    if let Some(ends) = found.ends() {
+        return Some(Recognised::Normal(ends));
+    }
+    match found.irregular() {
+        Some(index) => Some(Recognised::Irregular(GrandfatheredLangTag::at(index))),
+        None => Some(Recognised::PrivateUse),
+    }
+}
+
+/// What the recogniser finds of bytes, in its own form.
+fn found_in(bytes: &[u8]) -> Option<Found>
+    ensures { MatchOption result (IsTag bytes.now → ⊥) (λ found. IsFoundOf bytes.now (finding found)) }
+{
+    recognise(&mut Metered::of_bytes(bytes))
+}
+
+/// The same of a text.
+pub(crate) fn recognise_text(text: &str) -> Option<Recognised>
+    ensures { MatchOption result (IsTag text.now → ⊥) (λ found. IsFoundOf text.now (finding_of found)) }
+{
+    recognise_bytes(text.as_bytes())
 }
 
 /// Where the parts of a normal tag end; None where the text is not a normal tag.

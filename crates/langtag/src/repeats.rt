@@ -41,8 +41,11 @@ fn first_repeated_of_few(variants: Variants<'_>) -> Option<usize>
     None
 }
 
-/// Whether a variant is equal, but for case, to one of the first so many variants.
-fn is_among_first(variants: Variants<'_>, count: usize, variant: Variant<'_>) -> bool
+/// Returns whether a variant is equal, but for case, to one of the first so many variants of a list (RFC 5646 section 2.2.5),
+/// or of all where they are fewer.
+///
+/// Of `rozaj-1996-1996` and `1996` it is true with a count of 2, and false with a count of 1.
+pub fn is_among_first(variants: Variants<'_>, count: usize, variant: Variant<'_>) -> bool
     ensures { result ≡ list_any (are_alike (variant_text variant.entry)) (take count (subtags (variants_text variants.entry))) }
 {
     variants

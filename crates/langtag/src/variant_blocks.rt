@@ -2,14 +2,14 @@
 ghost use Rattle.std.specs.Prelude.{◌≡◌, ◌==◌, ◌&&◌, ◌+◌, ◌≤◌, ℕ, List, [], ◌∷◌, ◌++◌, length, take, drop, map};
 ghost use Rattle.std.specs.List.{list_any};
 ghost use Rattle.std.specs.List.Sorted.{IsNonDecreasing};
-ghost use Rattle.langtag_scan.specs.Case.{are_alike};
+ghost use Rattle.langtag_scan.specs.Case.{are_alike, folded_number};
 ghost use Rattle.langtag_scan.specs.Subtags.{subtags};
 ghost use Rattle.langtag_place.specs.Text.{variant_text, variants_text, variants_left};
 ghost use Rattle.langtag.specs.Repeat.{repeat_index};
-ghost use Rattle.langtag.specs.VariantBlocks.{folded_number, HasNoRepeatBefore, IsRepeatBefore, HoldsFrom, IsPlaceOf, AreMet};
+ghost use Rattle.langtag.specs.VariantBlocks.{HasNoRepeatBefore, IsRepeatBefore, HoldsFrom, IsPlaceOf, AreMet};
 
 use langtag_place::{Variant, Variants, VariantsIter};
-use langtag_scan::into_smallcase;
+use langtag_scan::folded_number;
 use std::mem;
 
 /// How many variants a block has, but for the last one. Each takes nine bytes of the stack, which are 72 kB together.
@@ -52,7 +52,7 @@ fn fill(block: &mut [u64], rest: &mut VariantsIter<'_>)
 {
     for number in block.iter_mut() {
         if let Some(variant) = rest.next() {
-            *number = folded_number(variant);
+            *number = number_of(variant);
         }
     }
 }
@@ -72,7 +72,7 @@ fn first_met_again(block: &[u64], variants: Variants<'_>, start: usize) -> Optio
         if index == start + block.len() {
             break;
         }
-        if meet(block, &mut met, folded_number(variant)) {
+        if meet(block, &mut met, number_of(variant)) {
             return Some(index);
         }
     }
@@ -103,13 +103,9 @@ fn place_of(number: u64, block: &[u64]) -> usize
     block.partition_point(|other| *other < number)
 }
 
-/// The folded bytes of a variant as the digits of one number. A variant has eight at most.
-fn folded_number(variant: Variant<'_>) -> u64
+/// The number by which a variant is known. A variant has eight bytes at most.
+fn number_of(variant: Variant<'_>) -> u64
     ensures { result ≡ folded_number (variant_text variant.entry) }
 {
-    let mut number = 0;
-    for byte in variant.as_bytes() {
-        number = number * 256 + u64::from(into_smallcase(*byte));
-    }
-    number
+    folded_number(variant.as_bytes())
 }

@@ -1,24 +1,22 @@
 //! Calls of langtag and langtag_match over one text; `bench/growth.sh` counts how their work grows with it.
-ghost use Rattle.std.specs.Prelude.{◌≡◌, ◌↔◌, List, length, IsTrue};
+ghost use Rattle.std.specs.Prelude.{◌≡◌, ◌↔◌, length, IsTrue};
 ghost use Rattle.std.specs.Str.{IsUtf8};
 ghost use Rattle.std.specs.declared.cmp.Ordering.TheVariants.{Less};
 ghost use Rattle.langtag_scan.specs.Case.{Alike, case_cmp};
 ghost use Rattle.langtag_scan.specs.Subtags.{subtags};
 ghost use Rattle.langtag_scan.specs.Tag.{IsTag};
-ghost use Rattle.langtag_match.specs.AcceptLanguage.{AreElements};
 ghost use Rattle.langtag_match.specs.Fallback.{fallbacks};
 ghost use Rattle.langtag_match.specs.Range.{is_language_range};
-ghost use Rattle.langtag_match.specs.declared.weighted_range.WeightedRange.{WeightedRange};
 
 use crate::matching::{range_of, read_tags, tag_of};
 use langtag::{
     ExtendedLangTag, ExtendedLangTagBuf, Extension, ExtensionBuf, ExtensionSubtag,
-    ExtensionSubtagBuf, Extensions, ExtensionsBuf, LangTag, LangTagBuf, Language, LanguageBuf,
+    ExtensionSubtagBuf, Extensions, ExtensionsBuf, LangTag, Language, LanguageBuf,
     LanguageExtension, LanguageExtensionBuf, PrimaryLanguage, PrimaryLanguageBuf, PrivateUse,
     PrivateUseBuf, PrivateUseSubtag, PrivateUseSubtagBuf, Region, RegionBuf, Script, ScriptBuf,
     Variant, VariantBuf, Variants, VariantsBuf,
 };
-use langtag_match::{AcceptLanguage, LanguageRange, filter_basic, filter_extended, look_up};
+use langtag_match::{LanguageRange, filter_basic, filter_extended, look_up};
 use std::alloc::{AllocError, Global};
 use std::cmp::Ordering;
 use std::hash::{DefaultHasher, Hash, Hasher};
@@ -82,38 +80,6 @@ pub extern "C" fn langtag_bench_walk(bytes: &[u8]) -> usize
     let extensions = tag.extensions().iter().count();
     let private_use = tag.private_use_subtags().count();
     variants.max(extensions).max(private_use)
-}
-
-/// Returns whether the bytes are a tag, and memory could be had for a copy in its recommended case.
-#[unsafe(no_mangle)]
-pub extern "C" fn langtag_bench_recommended(alloc: Global, bytes: &[u8]) -> bool
-    ensures { IsTrue result → IsTag bytes.now }
-{
-    let Some(tag) = tag_of(bytes) else {
-        return false;
-    };
-    match tag.try_to_recommended_case(alloc) {
-        Ok(owned) => owned.as_lang_tag().is_in_recommended_case(),
-        Err(_) => false,
-    }
-}
-
-/// Returns whether the bytes are a tag, and memory could be had for what is displayed of it in its recommended case, which
-/// is read again.
-#[unsafe(no_mangle)]
-pub extern "C" fn langtag_bench_displayed(alloc: Global, bytes: &[u8]) -> bool
-    ensures { IsTrue result → IsTag bytes.now }
-{
-    let Some(tag) = tag_of(bytes) else {
-        return false;
-    };
-    let Ok(displayed) = format!(in alloc; "{}", tag.in_recommended_case()) else {
-        return false;
-    };
-    match LangTagBuf::new(displayed) {
-        Ok(owned) => owned.as_lang_tag() == tag,
-        Err(_) => false,
-    }
 }
 
 /// Returns whether the bytes are a part of a tag, by the types that lend it, and by the owned ones, as far as memory can be
@@ -234,15 +200,4 @@ fn ranges_of(alloc: Global, text: &str) -> Result<Vec<LanguageRange<'_>>, AllocE
         }
     }
     Ok(ranges)
-}
-
-/// Returns whether the bytes are UTF-8, and memory could be had for the ranges that they have as a header.
-#[unsafe(no_mangle)]
-pub extern "C" fn langtag_bench_lenient(alloc: Global, header: &[u8]) -> bool
-    ensures { IsTrue result → (ordered : List WeightedRange) × AreElements header.now ordered }
-{
-    match str::from_utf8(header) {
-        Ok(header) => AcceptLanguage::lenient(alloc, header).is_ok(),
-        Err(_) => false,
-    }
 }

@@ -19,17 +19,13 @@ pub struct PartLengths {
     pub private_use: usize,
 }
 
-/// Returns whether the bytes are UTF-8 and a tag. A tag leaves the lengths of its parts.
-#[tactic(auto, using(crate::proofs::TagBytes::utf8_tag))]
+/// Returns whether the bytes are a tag. A tag leaves the lengths of its parts.
 #[unsafe(no_mangle)]
 pub extern "C" fn langtag_bench_lang_tag(bytes: &[u8], lengths: &mut PartLengths) -> bool
     ensures tag { IsTrue result ↔ IsTag bytes.now }
     ensures lengths { EachRecord bytes.now (λ r. lengths.new ≡ part_lengths r) }
 {
-    let Ok(text) = str::from_utf8(bytes) else {
-        return false;
-    };
-    match LangTag::new(text) {
+    match LangTag::from_bytes(bytes) {
         Ok(tag) => {
             keep(&tag, lengths);
             true
@@ -38,7 +34,7 @@ pub extern "C" fn langtag_bench_lang_tag(bytes: &[u8], lengths: &mut PartLengths
     }
 }
 
-/// Returns whether the bytes are UTF-8: what `langtag_bench_lang_tag` spends before it has a text.
+/// Returns whether the bytes are UTF-8: what a caller spends who makes a text of them before `LangTag::new`.
 #[unsafe(no_mangle)]
 pub extern "C" fn langtag_bench_is_utf8(bytes: &[u8]) -> bool
     ensures { IsTrue result ↔ IsUtf8 bytes.now }

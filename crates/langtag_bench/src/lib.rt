@@ -2,9 +2,13 @@
 #![tactic(auto)]
 
 mod growth;
+mod headers;
 mod lang_tag;
 mod loops;
+mod maps;
 mod matching;
 mod memory;
 mod recognise;
+mod registry;
 mod repeats;
+mod written;

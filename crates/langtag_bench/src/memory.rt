@@ -1,7 +1,6 @@
 //! Calls of langtag and langtag_match that take memory. `bench/growth.sh` refuses each of their allocations in turn.
 //!
-//! Each counts the calls to which memory was refused. One allocation at most is refused: where there is more to see,
-//! the call is made again.
+//! Each counts the calls to which memory was refused. One allocation at most is refused: a setter is called again after it.
 ghost use Rattle.std.specs.Prelude.{IsTrue, IfSome};
 ghost use Rattle.std.specs.Str.{IsUtf8};
 ghost use Rattle.langtag_scan.specs.Tag.{IsNormal, IsTag};
@@ -15,30 +14,38 @@ use langtag::{
 };
 use langtag_match::{AcceptLanguage, AcceptLanguageError, LanguageRangeBuf, tag_for_header};
 use std::alloc::Global;
+use std::fmt;
 
-/// Whether a call is Ok, now or, where memory was refused to it, when it is made again, and its answer is read as an
-/// owned value that is equal to the part.
-macro_rules! is_copied {
-    ($copy:expr, $part:expr, $owned:ident, $refused:ident) => {{
-        let copy = match $copy {
-            Ok(copy) => Ok(copy),
-            Err(_) => {
-                *$refused = $refused.saturating_add(1);
-                $copy
-            }
-        };
-        match copy {
+/// Whether a copy is read as an owned value that is equal to the part, and both are displayed as their texts; or memory was
+/// refused to it, which is counted.
+macro_rules! is_right {
+    ($alloc:ident, $copy:expr, $part:expr, $owned:ident, $refused:ident) => {
+        match $copy {
             Ok(copy) => match $owned::new(copy.into_string()) {
-                Ok(read) => $part.eq_str(read.as_str()),
+                Ok(read) => {
+                    $part.eq_str(read.as_str())
+                        && is_shown($alloc, &$part, $part.as_str(), $refused)
+                        && is_shown($alloc, &read, read.as_str(), $refused)
+                }
                 Err(_) => false,
             },
-            Err(_) => false,
+            Err(_) => {
+                *$refused = $refused.saturating_add(1);
+                true
+            }
         }
-    }};
+    };
 }
 
-/// Copies a tag, also in its recommended case, and each part of it, by all types. Returns whether the bytes are a tag
-/// and each copy is right.
+/// Whether a part is copied rightly.
+macro_rules! is_copied {
+    ($alloc:ident, $part:expr, $owned:ident, $refused:ident) => {
+        is_right!($alloc, $part.try_to_owned($alloc), $part, $owned, $refused)
+    };
+}
+
+/// Copies and displays a tag, also in its recommended case, and each part of it, by all types. Returns whether the bytes
+/// are a tag and each copy is right.
 #[unsafe(no_mangle)]
 pub extern "C" fn langtag_bench_copies(alloc: Global, bytes: &[u8], refused: &mut usize) -> bool
     ensures { IsTrue result → IsTag bytes.now }
@@ -46,9 +53,15 @@ pub extern "C" fn langtag_bench_copies(alloc: Global, bytes: &[u8], refused: &mu
     let (Some(tag), Some(range)) = (tag_of(bytes), range_of(bytes)) else {
         return false;
     };
-    let are_copied = is_copied!(tag.try_to_owned(alloc), tag, LangTagBuf, refused)
-        && is_copied!(tag.try_to_recommended_case(alloc), tag, LangTagBuf, refused)
-        && is_copied!(range.try_to_owned(alloc), range, LanguageRangeBuf, refused);
+    let are_copied = is_copied!(alloc, tag, LangTagBuf, refused)
+        && is_right!(
+            alloc,
+            tag.try_to_recommended_case(alloc),
+            tag,
+            LangTagBuf,
+            refused
+        )
+        && is_copied!(alloc, range, LanguageRangeBuf, refused);
     let are_parts_copied = match (tag.as_normal(), tag.as_private_use()) {
         (Some(normal), _) => is_normal_copied(alloc, normal, refused),
         (_, Some(private_use)) => is_private_use_copied(alloc, private_use, refused),
@@ -59,8 +72,9 @@ pub extern "C" fn langtag_bench_copies(alloc: Global, bytes: &[u8], refused: &mu
 
 /// Copies a normal tag and its parts.
 fn is_normal_copied(alloc: Global, tag: NormalLangTag<'_>, refused: &mut usize) -> bool {
-    is_copied!(tag.try_to_owned(alloc), tag, NormalLangTagBuf, refused)
-        && is_copied!(
+    is_copied!(alloc, tag, NormalLangTagBuf, refused)
+        && is_right!(
+            alloc,
             tag.try_to_recommended_case(alloc),
             tag,
             NormalLangTagBuf,
@@ -79,28 +93,13 @@ fn is_normal_copied(alloc: Global, tag: NormalLangTag<'_>, refused: &mut usize) 
 /// Copies a language and its subtags.
 fn is_language_copied(alloc: Global, language: Language<'_>, refused: &mut usize) -> bool {
     let primary = language.primary();
-    let mut are_copied = is_copied!(language.try_to_owned(alloc), language, LanguageBuf, refused)
-        && is_copied!(
-            primary.try_to_owned(alloc),
-            primary,
-            PrimaryLanguageBuf,
-            refused
-        );
+    let mut are_copied = is_copied!(alloc, language, LanguageBuf, refused)
+        && is_copied!(alloc, primary, PrimaryLanguageBuf, refused);
     if let Some(extension) = language.extension() {
-        are_copied &= is_copied!(
-            extension.try_to_owned(alloc),
-            extension,
-            LanguageExtensionBuf,
-            refused
-        );
+        are_copied &= is_copied!(alloc, extension, LanguageExtensionBuf, refused);
     }
     for subtag in language.extension_subtags() {
-        are_copied &= is_copied!(
-            subtag.try_to_owned(alloc),
-            subtag,
-            ExtendedLangTagBuf,
-            refused
-        );
+        are_copied &= is_copied!(alloc, subtag, ExtendedLangTagBuf, refused);
     }
     are_copied
 }
@@ -108,11 +107,11 @@ fn is_language_copied(alloc: Global, language: Language<'_>, refused: &mut usize
 /// Copies the script and the region of a tag.
 fn is_place_copied(alloc: Global, tag: NormalLangTag<'_>, refused: &mut usize) -> bool {
     let is_script_copied = match tag.script() {
-        Some(script) => is_copied!(script.try_to_owned(alloc), script, ScriptBuf, refused),
+        Some(script) => is_copied!(alloc, script, ScriptBuf, refused),
         None => true,
     };
     let is_region_copied = match tag.region() {
-        Some(region) => is_copied!(region.try_to_owned(alloc), region, RegionBuf, refused),
+        Some(region) => is_copied!(alloc, region, RegionBuf, refused),
         None => true,
     };
     is_script_copied && is_region_copied
@@ -120,21 +119,16 @@ fn is_place_copied(alloc: Global, tag: NormalLangTag<'_>, refused: &mut usize) -
 
 /// Copies variants, together and one by one.
 fn are_variants_copied(alloc: Global, variants: Variants<'_>, refused: &mut usize) -> bool {
-    let mut are_copied = is_copied!(variants.try_to_owned(alloc), variants, VariantsBuf, refused);
+    let mut are_copied = is_copied!(alloc, variants, VariantsBuf, refused);
     for variant in variants.iter() {
-        are_copied &= is_copied!(variant.try_to_owned(alloc), variant, VariantBuf, refused);
+        are_copied &= is_copied!(alloc, variant, VariantBuf, refused);
     }
     are_copied
 }
 
 /// Copies extensions, together and one by one.
 fn are_extensions_copied(alloc: Global, extensions: Extensions<'_>, refused: &mut usize) -> bool {
-    let mut are_copied = is_copied!(
-        extensions.try_to_owned(alloc),
-        extensions,
-        ExtensionsBuf,
-        refused
-    );
+    let mut are_copied = is_copied!(alloc, extensions, ExtensionsBuf, refused);
     for extension in extensions.iter() {
         are_copied &= is_extension_copied(alloc, extension, refused);
     }
@@ -143,39 +137,35 @@ fn are_extensions_copied(alloc: Global, extensions: Extensions<'_>, refused: &mu
 
 /// Copies an extension and its subtags.
 fn is_extension_copied(alloc: Global, extension: Extension<'_>, refused: &mut usize) -> bool {
-    let mut is_copied = is_copied!(
-        extension.try_to_owned(alloc),
-        extension,
-        ExtensionBuf,
-        refused
-    );
+    let mut is_copied = is_copied!(alloc, extension, ExtensionBuf, refused);
     for subtag in extension.iter() {
-        is_copied &= is_copied!(
-            subtag.try_to_owned(alloc),
-            subtag,
-            ExtensionSubtagBuf,
-            refused
-        );
+        is_copied &= is_copied!(alloc, subtag, ExtensionSubtagBuf, refused);
     }
     is_copied
 }
 
 /// Copies a private use part and its subtags.
 fn is_private_use_copied(alloc: Global, part: PrivateUse<'_>, refused: &mut usize) -> bool {
-    let mut is_copied = is_copied!(part.try_to_owned(alloc), part, PrivateUseBuf, refused);
+    let mut is_copied = is_copied!(alloc, part, PrivateUseBuf, refused);
     for subtag in part.iter() {
-        is_copied &= is_copied!(
-            subtag.try_to_owned(alloc),
-            subtag,
-            PrivateUseSubtagBuf,
-            refused
-        );
+        is_copied &= is_copied!(alloc, subtag, PrivateUseSubtagBuf, refused);
     }
     is_copied
 }
 
+/// Whether a value is displayed as a text, or memory was refused to that, which is counted.
+fn is_shown<T: fmt::Display>(alloc: Global, value: &T, text: &str, refused: &mut usize) -> bool {
+    match format!(in alloc; "{}", value) {
+        Ok(shown) => shown.as_str() == text,
+        Err(_) => {
+            *refused = refused.saturating_add(1);
+            true
+        }
+    }
+}
+
 /// The normal tag that the bytes are.
-fn normal_of(bytes: &[u8]) -> Option<NormalLangTag<'_>>
+pub(crate) fn normal_of(bytes: &[u8]) -> Option<NormalLangTag<'_>>
     ensures { IfSome result (λ tag. IsNormal bytes.now) }
 {
     let text = str::from_utf8(bytes).ok()?;

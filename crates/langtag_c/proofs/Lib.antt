@@ -4,12 +4,11 @@ mod StopLaws
 mod RangeLaws
 mod ExtensionSpans
 mod RepeatSpans
-mod SpaceLaws
 mod ItemLaws
 mod PlaceLaws
-mod ElementLaws
 mod ReadingLaws
 mod PartChanges
 mod PartTexts
 mod PutLaws
 mod TagLengths
+mod DateLaws

@@ -1,9 +1,10 @@
 -- What the functions answer, in numbers.
-use Rattle.std.specs.Prelude.{◌≡◌, ◌↔◌, ℕ, ℤ, pos, negsuc, ◌≤◌, ◌*◌, ◌%◌, ◌^◌, List, fold, ◌+◌, Bool, false, IsTrue, if◌then◌else◌}
+use Rattle.std.specs.Prelude.{◌≡◌, ◌↔◌, ℕ, ℤ, pos, negsuc, ◌≤◌, ◌*◌, ◌%◌, ◌^◌, List, fold, filter, ◌+◌, ◌-◌, Bool, false, IsTrue, if◌then◌else◌}
 use Rattle.std.specs.Int.Bits.{bit_xor}
 use Rattle.std.specs.declared.cmp.Ordering.{Ordering}
 use Rattle.std.specs.declared.cmp.Ordering.TheVariants.{Less, Equal, Greater}
 use Rattle.langtag_scan.specs.Case.{fold_byte}
+use Rattle.langtag_scan.specs.Class.{is_digit}
 use Rattle.langtag_scan.specs.Tag.{IsNormal, IsPrivate, IsIrregular, IsTag}
 use Rattle.langtag_match.specs.Range.{is_language_range, is_basic_range}
 
@@ -40,3 +41,7 @@ pub record IsMatch (Matches : List ℕ → List ℕ → Type 0) (range tag : Lis
   pub of_range : IsTrue (is_language_range range)
   pub of_tag : IsTag tag
   pub matches : Matches range tag
+
+-- the digits of a date, read as one number: 20051016 of 2005-10-16
+abbrev pub date_number : List ℕ → ℕ
+date_number text = fold (λ number digit. number * 10 + (digit - 48)) 0 (filter is_digit text)

@@ -8,13 +8,13 @@
 mod accepted;
 mod canonical;
 mod compare;
-mod element;
 mod fallback;
 mod grandfathered;
 mod parse;
 mod part;
 mod range;
 mod recommend;
+mod registry_date;
 mod repeats;
 mod span;
 mod validity;

@@ -60,10 +60,8 @@ fn range_of<'a>(bytes: &'a [u8]) -> Option<LanguageRange<'a>>
 }
 
 /// The tag that the bytes are.
-#[tactic(auto, using(crate::proofs::RangeLaws::utf8))]
 pub(crate) fn tag_of<'a>(bytes: &'a [u8]) -> Option<LangTag<'a>>
     ensures { MatchOption result (IsTag bytes.now → ⊥) (λ tag. (lang_tag_text tag ≡ bytes.now) × IsTag bytes.now) }
 {
-    let text = str::from_utf8(bytes).ok()?;
-    LangTag::new(text).ok()
+    LangTag::from_bytes(bytes).ok()
 }

@@ -62,7 +62,7 @@ fn normal_tag_of<'a>(bytes: &'a [u8]) -> Option<NormalLangTag<'a>>
 }
 
 /// Where the first repeated variant stands in a tag.
-pub(crate) fn repeated_variant(tag: &NormalLangTag<'_>) -> Option<Span>
+fn repeated_variant(tag: &NormalLangTag<'_>) -> Option<Span>
     requires normal { IsNormal (normal_lang_tag_text tag.now) }
     requires room { length (normal_lang_tag_text tag.now) < 2 ^ 64 }
     ensures { EachRecord (normal_lang_tag_text tag.now) (λ r. result ≡ member_span (variant_place r) r.variants (repeat_index are_alike r.variants)) }
@@ -89,17 +89,25 @@ pub(crate) fn variant_at(tag: &NormalLangTag<'_>, wanted: usize) -> Option<Span>
 }
 
 /// Where the first repeated singleton stands in a tag.
-pub(crate) fn repeated_singleton(tag: &NormalLangTag<'_>) -> Option<Span>
+fn repeated_singleton(tag: &NormalLangTag<'_>) -> Option<Span>
     requires normal { IsNormal (normal_lang_tag_text tag.now) }
     requires room { length (normal_lang_tag_text tag.now) < 2 ^ 64 }
     ensures { EachRecord (normal_lang_tag_text tag.now) (λ r.
         result ≡ member_span (singleton_place r) r.extensions (repeat_index are_alike_bytes (map (λ e. e.singleton) r.extensions))) }
 {
-    let repeated = tag.repeated_singleton_index()?;
+    singleton_at(tag, tag.repeated_singleton_index()?)
+}
+
+/// Where the singleton of the extension at an index stands in a tag.
+pub(crate) fn singleton_at(tag: &NormalLangTag<'_>, wanted: usize) -> Option<Span>
+    requires normal { IsNormal (normal_lang_tag_text tag.now) }
+    requires room { length (normal_lang_tag_text tag.now) < 2 ^ 64 }
+    ensures { EachRecord (normal_lang_tag_text tag.now) (λ r. result ≡ member_span (singleton_place r) r.extensions (Some wanted)) }
+{
     let mut end = tag.ends().variants;
     for (index, extension) in tag.extensions().iter().enumerate() {
         let start = end + 1;
-        if index == repeated {
+        if index == wanted {
             return Some(Span { start, len: 1 });
         }
         end = start + extension.as_str().len();

@@ -1,21 +1,18 @@
 //! Whether a tag is valid by the registry (RFC 5646 section 2.2.9).
-ghost use Rattle.std.specs.Prelude.{◌≡◌, ◌↔◌, ◌≤◌, ◌<◌, ◌^◌, Some, length, not, slice_get};
-ghost use Rattle.std.specs.List.{position};
+ghost use Rattle.std.specs.Prelude.{◌≡◌, ◌↔◌, ◌≤◌, ◌<◌, ◌^◌, Some, length, slice_get};
 ghost use Rattle.langtag_scan.specs.Record.{EachRecord};
 ghost use Rattle.langtag_scan.specs.Tag.{IsNormal, IsTag};
 ghost use Rattle.langtag.specs.Text.{normal_lang_tag_text};
-ghost use Rattle.langtag_registry.specs.Fault.{Told, faults, told};
-ghost use Rattle.langtag_registry.specs.Registered.{is_registered_variant};
+ghost use Rattle.langtag_registry.specs.Fault.{Told, faults, fault_index, told};
 ghost use Rattle.langtag_registry.specs.Valid.{IsValid};
-ghost use Rattle.langtag_c.specs.Repeats.{member_span, variant_place};
 ghost use Rattle.langtag_c.specs.Spans.{empty_at};
 ghost use Rattle.langtag_c.specs.Validity.{number_of, place_of};
 
 use crate::range::tag_of;
-use crate::repeats::{repeated_singleton, repeated_variant, variant_at};
+use crate::repeats::{singleton_at, variant_at};
 use crate::span::Span;
 use langtag::NormalLangTag;
-use langtag_registry::{InvalidSubtag, is_variant, validate};
+use langtag_registry::{InvalidSubtag, fault_at};
 
 /// Returns 1 where the bytes are a valid tag, 0 where they are not a tag, and else what is wrong first: 2 and 3 for a
 /// language and an extended language that is not registered, 4 for a second extended one, 5, 6 and 7 for a script, a
@@ -33,10 +30,10 @@ pub extern "C" fn langtag_validity(bytes: &[u8], invalid: &mut Span) -> u32
     let Some(tag) = tag_of(bytes) else {
         return 0;
     };
-    let (Some(normal), Err(fault)) = (tag.as_normal(), validate(tag)) else {
+    let (Some(normal), Some((fault, index))) = (tag.as_normal(), fault_at(tag)) else {
         return 1;
     };
-    *invalid = place(&normal, fault);
+    *invalid = place(&normal, fault, index);
     number(fault)
 }
 
@@ -56,11 +53,12 @@ fn number(fault: InvalidSubtag<'_>) -> u32
     }
 }
 
-/// Where the subtag that is wrong stands in its tag.
-fn place(tag: &NormalLangTag<'_>, fault: InvalidSubtag<'_>) -> Span
+/// Where the subtag that is wrong, and that has this index among its like, stands in its tag.
+fn place(tag: &NormalLangTag<'_>, fault: InvalidSubtag<'_>, index: usize) -> Span
     requires normal { IsNormal (normal_lang_tag_text tag.now) }
     requires room { length (normal_lang_tag_text tag.now) < 2 ^ 64 }
-    ensures { EachRecord (normal_lang_tag_text tag.now) (λ r. result ≡ place_of r (told fault.entry)) }
+    ensures { EachRecord (normal_lang_tag_text tag.now) (λ r. fault_index r (told fault.entry) ≡ Some index
+        → result ≡ place_of r (told fault.entry)) }
 {
     let ends = tag.ends();
     let none = Span { start: 0, len: 0 };
@@ -79,9 +77,9 @@ fn place(tag: &NormalLangTag<'_>, fault: InvalidSubtag<'_>) -> Span
         },
         InvalidSubtag::Script(_) => Span::between(ends.language, ends.script),
         InvalidSubtag::Region(_) => Span::between(ends.script, ends.region),
-        InvalidSubtag::Variant(_) => unregistered_variant(tag).unwrap_or(none),
-        InvalidSubtag::RepeatedVariant(_) => repeated_variant(tag).unwrap_or(none),
-        InvalidSubtag::RepeatedSingleton(_) => repeated_singleton(tag).unwrap_or(none),
+        InvalidSubtag::Variant(_) => variant_at(tag, index).unwrap_or(none),
+        InvalidSubtag::RepeatedVariant(_) => variant_at(tag, index).unwrap_or(none),
+        InvalidSubtag::RepeatedSingleton(_) => singleton_at(tag, index).unwrap_or(none),
     }
 }
 
@@ -91,23 +89,4 @@ fn primary_len(tag: &NormalLangTag<'_>) -> usize
     ensures few { result ≤ 8 }
 {
     tag.language().primary().as_str().len()
-}
-
-/// Where the first variant of a tag stands that is not registered.
-fn unregistered_variant(tag: &NormalLangTag<'_>) -> Option<Span>
-    requires normal { IsNormal (normal_lang_tag_text tag.now) }
-    requires room { length (normal_lang_tag_text tag.now) < 2 ^ 64 }
-    ensures { EachRecord (normal_lang_tag_text tag.now) (λ r.
-        result ≡ member_span (variant_place r) r.variants (position (λ v. not (is_registered_variant v)) r.variants)) }
-{
-    variant_at(tag, unregistered_index(tag)?)
-}
-
-/// Its index among the variants.
-fn unregistered_index(tag: &NormalLangTag<'_>) -> Option<usize>
-    ensures { EachRecord (normal_lang_tag_text tag.now) (λ r. result ≡ position (λ v. not (is_registered_variant v)) r.variants) }
-{
-    tag.variants()
-        .iter()
-        .position(|variant| !is_variant(variant))
 }

@@ -1,11 +1,10 @@
--- The report of an input: whether each of its lines is a valid tag, what is wrong if not, and its canonical form.
-use Rattle.std.specs.Prelude.{◌≡◌, ℕ, Option, Some, List, ◌++◌, slice_get, codes}
+-- The answer to a line: whether it is a valid tag, what is wrong if not, and its canonical form.
+use Rattle.std.specs.Prelude.{◌≡◌, ℕ, Some, List, ◌++◌, slice_get, codes}
 use Rattle.langtag_scan.specs.Record.{Record, Spells}
 use Rattle.langtag_scan.specs.Tag.{IsTag}
 use Rattle.langtag_registry.specs.Canonical.{IsCanonicalForm}
 use Rattle.langtag_registry.specs.Fault.{Told, faults, language, extlang, second_extlang, script, region, variant, repeated_variant, repeated_singleton}
 use Rattle.langtag_registry.specs.Valid.{IsValid}
-use Rattle.langtag_lines.specs.Report.{AreAnswersBy, AnswersBy}
 
 -- a subtag, as it stands in the tag, after what is wrong with it
 abbrev pub fault_text : Told → List ℕ
@@ -26,11 +25,3 @@ pub data IsAnswer (line : List ℕ) (text : List ℕ) : Type 0 where
       (r : Record) (fault : Told) (form : List ℕ) → ¬ (IsValid line) → Spells r line → slice_get (faults r) 0 ≡ Some fault →
       IsCanonicalForm line form → text ≡ codes "invalid " ++ fault_text fault ++ codes " canonical=" ++ form → IsAnswer line text
   refused : ¬ (IsTag line) → text ≡ codes "refused" → IsAnswer line text
-
--- the answers to lines, in order, each followed by LF
-abbrev pub AreAnswers : List (List ℕ) → List ℕ → Type 0
-AreAnswers = AreAnswersBy IsAnswer
-
--- a writer gained the answers to lines, and nothing else
-abbrev pub Answers : Option (List ℕ) → Option (List ℕ) → List (List ℕ) → Type 0
-Answers = AnswersBy IsAnswer

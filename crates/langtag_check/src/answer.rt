@@ -1,8 +1,6 @@
 //! The answer to one line.
-ghost use Rattle.std.specs.Prelude.{◌≡◌, ◌∷◌, ◌++◌, [], OnOk, IsOkUnless, MatchOption, codes};
+ghost use Rattle.std.specs.Prelude.{◌≡◌, ◌∷◌, ◌++◌, [], OnOk, IsOkUnless, codes};
 ghost use Rattle.std.specs.Io.KnownBytes.{Appends, append_known};
-ghost use Rattle.langtag_scan.specs.Tag.{IsTag};
-ghost use Rattle.langtag.specs.Text.{lang_tag_text};
 ghost use Rattle.langtag_registry.specs.Fault.{told};
 ghost use Rattle.langtag_lines.specs.Lines.{ended};
 ghost use Rattle.langtag_check.specs.AnswerLaws.{one_answer};
@@ -29,7 +27,7 @@ impl Answerer for Check {
         page: &mut Page,
         output: &mut W,
     ) -> Result<(), RunError> {
-        let Some(tag) = tag_of(line) else {
+        let Ok(tag) = LangTag::from_bytes(line) else {
             return page.put_line(&["refused"], output);
         };
         let Ok(form) = canonical(self.alloc, tag) else {
@@ -42,14 +40,6 @@ impl Answerer for Check {
     }
 
     ghost one_answer = { one_answer };
-}
-
-/// The tag that a line consists of, if it is one. A tag is ASCII, so a line that is not UTF-8 is not a tag.
-fn tag_of(line: &[u8]) -> Option<LangTag<'_>>
-    ensures { MatchOption result (¬ (IsTag line.now)) (λ tag. lang_tag_text tag ≡ line.now) }
-{
-    let text = std::str::from_utf8(line).ok()?;
-    LangTag::new(text).ok()
 }
 
 /// Adds the answer to a tag that is not valid to the page: its fault, and its canonical form.

@@ -14,15 +14,19 @@
 #![tactic(auto)]
 
 mod answer;
-mod run;
-#[cfg(test)]
-mod tests;
 
-use langtag_lines::conclude;
+use crate::answer::Check;
+use langtag_lines::{answer_lines, conclude};
 use std::io;
 use std::process::ExitCode;
 
 fn main(rt: HostRuntime) -> ExitCode {
-    let ended = run::run(rt.alloc(), &mut rt.stdin(), &mut io::writer(&rt));
+    let alloc = rt.alloc();
+    let ended = answer_lines(
+        alloc,
+        &Check { alloc },
+        &mut rt.stdin(),
+        &mut io::writer(&rt),
+    );
     conclude(ended, &mut rt.stderr())
 }

@@ -11,8 +11,6 @@ mod other_script;
 mod prefix;
 mod request;
 mod script;
-#[cfg(test)]
-mod tests;
 
 pub use broken::{BrokenTag, tag_or_break};
 pub use catalogue::Catalogue;

@@ -19,9 +19,12 @@ pub struct Literal<'a> {
 
 impl<'a> Literal<'a> {
     /// Returns whether two literals are the same: `color` in `en-US` is `color` in `EN-us`, and neither `Color` nor
-    /// `color` in `en-GB`.
+    /// `color` in `en-GB`. The contract also says that there always is a clone, which is the literal itself.
     pub fn is_same(&self, other: &Literal<'_>) -> bool
-        ensures { IsTrue result ↔ (self.now.text.now ≡ other.now.text.now) × IsTrue (are_alike (lang_tag_text self.now.language) (lang_tag_text other.now.language)) }
+        ensures same { IsTrue result ↔ (self.now.text.now ≡ other.now.text.now) × IsTrue (are_alike (lang_tag_text self.now.language) (lang_tag_text other.now.language)) }
+
+        ensures cloned { (literal copy : Literal) → ⟦<Literal<'a> as Clone>⟧.is_clone literal copy → copy ≡ literal }
+        ensures clone_succeeds { (literal : Literal) → ⟦<Literal<'a> as Clone>⟧.is_infallible literal }
     {
         self == other
     }

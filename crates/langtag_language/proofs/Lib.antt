@@ -1,4 +1,4 @@
-mod Rules
+pub mod Rules
 mod FirstHyphen
 mod Members
 mod Numbers

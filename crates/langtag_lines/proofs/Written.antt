@@ -1,10 +1,14 @@
 -- How the answers that a writer holds grow as bytes are taken.
-use Rattle.std.proofs.Common.{◌≡◌, ◌∙◌, ℕ, ◌+◌, false, Option, None, Some, ◌<◌, arith, List, [], ◌∷◌, ◌++◌, length, take, refl, sym, ap, append_assoc, append-nil, subst}
-use Rattle.std.specs.Io.KnownBytes.{Appends, Keeps, append_known}
+use Rattle.std.proofs.Common.{◌≡◌, ◌∙◌, ℕ, ◌+◌, ◌-◌, false, Option, None, Some, ◌<◌, ◌≤◌, arith, List, [], ◌∷◌, ◌++◌, length, length-append, take, drop, take-append-drop, refl, sym, ap, append_assoc, append-nil, subst, Result, Ok, Err, ◌≢◌}
+use Rattle.std.specs.Prelude.{OnOk, IfSome, IfErr, IsErrOf}
+use Rattle.std.proofs.lemmas.List.{take-append-le}
+use Rattle.std.specs.Io.KnownBytes.{Appends, IsAtEnd, Keeps, append_known}
 use Rattle.std.proofs.KnownBytes.{Appends-nil, Appends-trans, Appends-kept}
-use Rattle.std.proofs.Math.Seq.{take-append_seam, take-append-add}
+use Rattle.std.proofs.Math.Seq.{take-append_seam, take-append-add, take-length}
 use Rattle.langtag_lines.specs.Lines.{is_line_feed, complete_lines, rest_of, last_line, lines_of, ended, NoLineFeed}
-use Rattle.langtag_lines.specs.Report.{AreAnswersBy, none, one_more, AnswersBy}
+use Rattle.langtag_lines.specs.Report.{AreAnswersBy, none, one_more, AnswersBy, FirstAnswersBy, HasRun, HavingRead, read_len}
+use Rattle.langtag_lines.specs.declared.run_error.RunError.{RunError}
+use Rattle.langtag_lines.specs.declared.run_error.RunError.TheVariants.{Memory, Read}
 use Rattle.std.proofs.lemmas.List.Elements.{All-append}
 use Rattle.langtag_lines.proofs.Lines.{complete_lines-append, rest_of-append, lines_cut, complete_lines-ended, rest_of-ended, complete_lines-free, rest_of-free_text}
 
@@ -31,6 +35,23 @@ lines_more :
     (input rest more : List ℕ) → rest ≡ rest_of input →
     complete_lines (input ++ more) ≡ complete_lines input ++ complete_lines (rest ++ more)
 lines_more input rest more is = complete_lines-append input more ∙ ap (λ r. complete_lines input ++ complete_lines (r ++ more)) (sym is)
+
+-- the first bytes of an input have no more lines than all of it
+few_lines : (n : ℕ) (input : List ℕ) → length (complete_lines (take n input)) ≤ length (complete_lines input)
+few_lines n input =
+    let front = take n input in
+    let more = complete_lines (rest_of front ++ drop n input) in
+    let cut : complete_lines input ≡ complete_lines front ++ more = ap complete_lines (sym (take-append-drop n input)) ∙ complete_lines-append front (drop n input) in
+    omega (arith, ap length cut, length-append (complete_lines front) more)
+
+-- nor than what stood before a read, but for the bytes that a read may bring
+few_before :
+    (input more : List ℕ) → length more ≤ read_len →
+    length (complete_lines (take (length (input ++ more) - read_len) (input ++ more))) ≤ length (complete_lines input)
+few_before input more few =
+    let n : ℕ = length (input ++ more) - read_len in
+    let within : n ≤ length input = omega (arith, few, length-append input more) in
+    rw (take-append-le n input more within) (few_lines n input)
 
 pub free_rest : (input rest : List ℕ) → rest ≡ rest_of input → NoLineFeed rest
 free_rest input rest is = subst NoLineFeed (sym is) (lines_cut input).rest_free
@@ -116,16 +137,25 @@ module _ {IsAnswer : List ℕ → List ℕ → Type 0} where
       → AnswersBy IsAnswer a c (complete_lines (input ++ more))
   written_more a b c input rest more is p q = Answers-same a c _ _ (sym (lines_more input rest more is)) (Answers-trans a b c _ _ p q)
 
-  -- a run that stops keeps the answers to the first k lines
-  pub written_prefix : (a b c : Option (List ℕ)) (input rest more : List ℕ) → rest ≡ rest_of input → AnswersBy IsAnswer a b (complete_lines input)
-      → ((k : ℕ) × AnswersBy IsAnswer b c (take k (complete_lines (rest ++ more)))) → (k : ℕ) × AnswersBy IsAnswer a c (take k (complete_lines (input ++ more)))
-  written_prefix a b c input rest more is p (k, q) =
+  -- a run that stops has the answers to what stood, and to the first k lines that more bytes complete
+  pub written_first :
+      (a b c : Option (List ℕ)) (input rest more : List ℕ) → rest ≡ rest_of input → length more ≤ read_len → AnswersBy IsAnswer a b (complete_lines input) →
+      ((k : ℕ) × AnswersBy IsAnswer b c (take k (complete_lines (rest ++ more)))) → FirstAnswersBy IsAnswer a c (input ++ more)
+  written_first a b c input rest more is few p (k, q) =
       let lines = complete_lines input in
       let later = complete_lines (rest ++ more) in
       let prefix : take (length lines + k) (complete_lines (input ++ more)) ≡ lines ++ take k later =
       ap (take (length lines + k)) (lines_more input rest more is) ∙ take-append-add lines later k in
-      (length lines + k, Answers-same a c _ _ (sym prefix) (Answers-trans a b c _ _ p q))
+      let early : length (complete_lines (take (length (input ++ more) - read_len) (input ++ more))) ≤ length lines + k = omega (arith, few_before input more few) in
+      (length lines + k, early, Answers-same a c _ _ (sym prefix) (Answers-trans a b c _ _ p q))
 
+  -- or to all that were read
+  pub written_whole : (a b : Option (List ℕ)) (input : List ℕ) → AnswersBy IsAnswer a b (complete_lines input) → FirstAnswersBy IsAnswer a b input
+  written_whole a b input p =
+      let lines = complete_lines input in
+      (length lines, few_lines (length input - read_len) input, Answers-same a b _ _ (sym (take-length lines)) p)
+
+  -- the answers to what stood are those to the first lines of what came
   pub written_before :
       (a b : Option (List ℕ)) (input more : List ℕ) → AnswersBy IsAnswer a b (complete_lines input) →
       (k : ℕ) × AnswersBy IsAnswer a b (take k (complete_lines (input ++ more)))
@@ -140,3 +170,25 @@ module _ {IsAnswer : List ℕ → List ℕ → Type 0} where
       (a b c : Option (List ℕ)) (input rest : List ℕ) → rest ≡ rest_of input → AnswersBy IsAnswer a b (complete_lines input) →
       AnswersBy IsAnswer b c (last_line rest) → AnswersBy IsAnswer a c (lines_of input)
   written_all a b c input rest is p q = Answers-same a c _ _ (ap (λ r. complete_lines input ++ last_line r) is) (Answers-trans a b c _ _ p q)
+
+  -- ---- a run, by what ends it
+
+  module _ (unread left old new : Option (List ℕ)) where
+    -- the end of the input
+    pub run_ended :
+        (result : Result (Unit {0}) RunError) → IsAtEnd left → OnOk result (IfSome unread (λ input. AnswersBy IsAnswer old new (lines_of input))) →
+        IfErr result (λ e. e ≢ Read) → (IsErrOf result Memory → HavingRead unread left (FirstAnswersBy IsAnswer old new)) →
+        HasRun IsAnswer result unread left old new
+    run_ended (Ok done) end report other memory = record { whole = end; report = report; after_read = λ is. absurd cc; after_memory = memory }
+    run_ended (Err e) end report other memory = record { whole = tt; report = tt; after_read = λ is. absurd (other cc); after_memory = memory }
+
+    -- an error before it, but for a failed read
+    pub run_stopped :
+        (result : Result (Unit {0}) RunError) (e : RunError) → result ≡ Err e → e ≢ Read →
+        (IsErrOf result Memory → HavingRead unread left (FirstAnswersBy IsAnswer old new)) → HasRun IsAnswer result unread left old new
+    run_stopped result e is other memory = record {
+      whole = rw is tt;
+      report = rw is tt;
+      after_read = λ read. absurd (other cc);
+      after_memory = memory;
+    }

@@ -3,15 +3,21 @@ ghost use Rattle.std.specs.Prelude.{◌≡◌, ℕ, List, [], ◌++◌, OnOk};
 
 use std::alloc::AllocError;
 
-/// The bytes of a line so far. It is a trait, so that tests can refuse memory to any line.
-pub(crate) trait GatheredLine {
+/// The bytes of a line so far: a `Vec`, or what a caller of [`answer_lines_in`](crate::answer_lines_in) gathers them in, as
+/// an array that refuses longer lines.
+pub trait GatheredLine {
+    /// What has been added since the line was last cleared.
     ghost bytes: { Self → List ℕ };
 
-    /// All bytes of the line.
+    /// Returns all bytes of the line.
     fn as_bytes(&self) -> &[u8]
         ensures { result.now ≡ bytes self.now };
 
     /// Adds bytes at the end.
+    ///
+    /// # Errors
+    ///
+    /// If there is no room for them. A run ends then, and does not use the line again.
     fn extend(&mut self, more: &[u8]) -> Result<(), AllocError>
         ensures { OnOk result (bytes self.new ≡ bytes self.old ++ more.now) };
 

@@ -34,11 +34,10 @@ mod outcome;
 mod page;
 mod run;
 mod run_error;
-#[cfg(test)]
-mod tests;
 
 pub use answerer::Answerer;
+pub use gathered_line::GatheredLine;
 pub use outcome::conclude;
 pub use page::Page;
-pub use run::answer_lines;
+pub use run::{answer_lines, answer_lines_in};
 pub use run_error::RunError;

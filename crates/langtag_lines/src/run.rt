@@ -1,9 +1,9 @@
 //! A run: reads the input, and writes the answer to each line.
-ghost use Rattle.std.specs.Prelude.{◌≡◌, ◌≢◌, ℕ, List, [], ◌∷◌, ◌++◌, take, OnOk, IfErr, IfSome, IsErrOf};
-ghost use Rattle.std.specs.Io.KnownBytes.{Appends, Keeps, IsAtEnd, append_known};
+ghost use Rattle.std.specs.Prelude.{◌≡◌, ◌≢◌, ℕ, List, [], ◌∷◌, ◌++◌, take, OnOk, IfErr, IsErrOf};
+ghost use Rattle.std.specs.Io.KnownBytes.{Appends, Keeps, append_known};
 ghost use Rattle.std.specs.List.{position};
-ghost use Rattle.langtag_lines.specs.Lines.{IsCutInto, NoLineFeed, is_line_feed, complete_lines, rest_of, last_line, lines_of};
-ghost use Rattle.langtag_lines.specs.Report.{AreAnswersBy, AnswersBy, HavingRead};
+ghost use Rattle.langtag_lines.specs.Lines.{IsCutInto, NoLineFeed, is_line_feed, complete_lines, rest_of, last_line};
+ghost use Rattle.langtag_lines.specs.Report.{AreAnswersBy, AnswersBy, HasRun};
 
 use crate::answerer::Answerer;
 use crate::gathered_line::GatheredLine;
@@ -20,7 +20,8 @@ const LINE_FEED: u8 = b'\n';
 /// Writes the answer to each line of the input, each followed by LF, and flushes once at the end.
 ///
 /// Answers are gathered on a page, which is written out when it is full and before the next read. The page and the buffer
-/// for reads have fixed sizes. Memory is allocated only for a line that does not lie within one read, and by the answerer.
+/// for reads have fixed sizes. Memory is allocated only for a line that does not lie within one read, its LF too, as a last
+/// line without LF, and by the answerer.
 ///
 /// # Errors
 ///
@@ -32,40 +33,34 @@ pub fn answer_lines<A: Answerer, R: Read, W: Write>(
     input: &mut R,
     output: &mut W,
 ) -> Result<(), RunError>
-    ensures whole { OnOk result (IsAtEnd (R.remaining input.new)) }
-    ensures report { OnOk result (IfSome (R.remaining input.old) (λ i.
-        AnswersBy A.is_answer (W.contents output.old) (W.contents output.new) (lines_of i))) }
-    ensures after_read { IsErrOf result RunError.Read → HavingRead (R.remaining input.old) (R.remaining input.new)
-        (λ i. AnswersBy A.is_answer (W.contents output.old) (W.contents output.new) (complete_lines i)) }
-    ensures after_memory { IsErrOf result RunError.Memory → HavingRead (R.remaining input.old) (R.remaining input.new)
-        (λ i. (k : ℕ) × AnswersBy A.is_answer (W.contents output.old) (W.contents output.new) (take k (complete_lines i))) }
+    ensures report { HasRun A.is_answer result (R.remaining input.old) (R.remaining input.new) (W.contents output.old) (W.contents output.new) }
 
-    // These words have one meaning: there is one way to cut an input into lines, and one report of them.
+    // These words have one meaning: there is one way to cut an input into lines, one answer to a line, and one report.
     ensures cut { (i : List ℕ) → IsCutInto i (complete_lines i) (rest_of i) }
     ensures one_cut { (i : List ℕ) (lines others : List (List ℕ)) (rest other : List ℕ) →
         IsCutInto i lines rest → IsCutInto i others other → (lines ≡ others) × (rest ≡ other) }
+    ensures one_answer { (line text other : List ℕ) → A.is_answer line text → A.is_answer line other → text ≡ other }
     ensures one_report { (lines : List (List ℕ)) (texts others : List ℕ) →
         AreAnswersBy A.is_answer lines texts → AreAnswersBy A.is_answer lines others → texts ≡ others }
 {
     answer_lines_in(answerer, Vec::new(alloc), input, output)
 }
 
-/// Does what [`answer_lines`] does, and gathers lines in the given one, which is empty.
-pub(crate) fn answer_lines_in<A: Answerer, L: GatheredLine + Drop, R: Read, W: Write>(
+/// Does the same, and gathers a line that does not lie within one read in the given one: for a caller who bounds the length
+/// of such lines, or has memory for them. What the line has at the start is lost.
+///
+/// # Errors
+///
+/// As [`answer_lines`], and `Memory` if the line refuses bytes.
+pub fn answer_lines_in<A: Answerer, L: GatheredLine + Drop, R: Read, W: Write>(
     answerer: &A,
     mut line: L,
     input: &mut R,
     output: &mut W,
 ) -> Result<(), RunError>
-    requires { L.bytes line ≡ [] }
-    ensures whole { OnOk result (IsAtEnd (R.remaining input.new)) }
-    ensures report { OnOk result (IfSome (R.remaining input.old) (λ i.
-        AnswersBy A.is_answer (W.contents output.old) (W.contents output.new) (lines_of i))) }
-    ensures after_read { IsErrOf result RunError.Read → HavingRead (R.remaining input.old) (R.remaining input.new)
-        (λ i. AnswersBy A.is_answer (W.contents output.old) (W.contents output.new) (complete_lines i)) }
-    ensures after_memory { IsErrOf result RunError.Memory → HavingRead (R.remaining input.old) (R.remaining input.new)
-        (λ i. (k : ℕ) × AnswersBy A.is_answer (W.contents output.old) (W.contents output.new) (take k (complete_lines i))) }
+    ensures report { HasRun A.is_answer result (R.remaining input.old) (R.remaining input.new) (W.contents output.old) (W.contents output.new) }
 {
+    line.clear();
     let mut page = Page::new();
     let mut buffer = [0; BUFFER_LEN];
     for _ in 0..u64::MAX {

@@ -4,8 +4,8 @@ ghost use Rattle.std.specs.Prelude.{◌≡◌, ◌↔◌, IsTrue};
 /// An error that ended a run.
 #[derive(Clone, Copy, Debug, PartialEq, Eq)]
 pub enum RunError {
-    /// There was not enough memory for a line, or for its answer. What is written are whole answers, in order, from the
-    /// first line on.
+    /// There was not enough memory for a line, or for its answer. The answers to the complete lines before it are written: to
+    /// all that ended before the last read, and to the first ones that it brought.
     Memory,
     /// A read failed, or the input had not ended after 2^64 - 1 reads. The answers to all complete lines that were read
     /// are written.

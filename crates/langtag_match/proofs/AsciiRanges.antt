@@ -11,7 +11,8 @@ use Rattle.langtag_scan.specs.Class.{has_length, is_letter, are_letters, is_alph
 use Rattle.langtag_scan.specs.Subtags.{join, subtags}
 use Rattle.langtag_scan.proofs.Ascii.{IsAscii-each, alphanumeric_below, IsAscii-join}
 use Rattle.langtag_scan.proofs.SubtagLists.{join-subtags}
-use Rattle.langtag_match.specs.Range.{is_star, is_first_subtag, is_range_subtag, are_range_subtags, are_extended_range, is_language_range}
+use Rattle.langtag_match.specs.Range.{is_star, is_first_subtag, is_range_subtag, are_range_subtags, are_extended_range, is_language_range, is_basic_range}
+use Rattle.langtag_match.proofs.BasicRanges.{is_language_range-from_basic}
 
 -- ---- a star, a first subtag, any subtag, and the whole range
 
@@ -50,3 +51,8 @@ pub IsUtf8-range : (text : List ℕ) → is_language_range text ≡ true → IsU
 IsUtf8-range text is = IsUtf8-from_ascii text (subst IsAscii (join-subtags text) (IsAscii-range (subtags text) is))
 
 pub ruleset utf8_range = (IsUtf8-range)
+
+pub IsUtf8-basic : (text : List ℕ) → is_basic_range text ≡ true → IsUtf8 text
+IsUtf8-basic text is = IsUtf8-range text (is_language_range-from_basic text is)
+
+pub ruleset utf8_basic = (IsUtf8-basic)

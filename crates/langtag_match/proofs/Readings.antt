@@ -1,69 +1,31 @@
 -- A header has one reading: its elements have one order by falling weight, which is the one that a sort makes.
-use Rattle.std.proofs.Common.{◌≡◌, ℕ, ◌+◌, ◌<◌, ◌≤◌, inl, inr, Bool, true, false, not, ◌&&◌, eqb, nat_lt, suc, List, [], ◌∷◌, filter, map, get_or, ap, refl, sym, ◌∙◌, subst, arith}
+use Rattle.std.proofs.Common.{◌≡◌, ℕ, ◌+◌, ◌≤◌, Bool, true, false, not, ◌&&◌, eqb, nat_lt, suc, List, [], ◌∷◌, filter, map, get_or, ap, refl, sym, ◌∙◌, subst, arith}
 use Rattle.std.specs.List.{AllByRecursion}
 use Rattle.std.specs.List.Sorted.{ties, IsSorted, IsStable, IsPermutation}
 use Rattle.std.specs.Ordering.{is_lt, nat_cmp}
 use Rattle.std.specs.declared.cmp.Ordering.{Ordering}
-use Rattle.std.proofs.lemmas.Bool.{eqb-true, ne_eqb, eq-eqb, cases_lt}
 use Rattle.std.proofs.lemmas.Bool.Decides.{nat_tests}
 use Rattle.std.proofs.lemmas.List.{nil_from_length}
 use Rattle.std.proofs.lemmas.List.Sorted.{length_permutation}
-use Rattle.langtag_match.specs.AcceptLanguage.{Element, acceptable, IsFalling, with_weight, IsByWeight, reading, HasOneReading}
+use Rattle.langtag_match.specs.AcceptLanguage.{Element, FallsTo, HasOneReading, IsByWeight, acceptable, elements, items, reading, weight_in}
+use Rattle.langtag_match.specs.Stable.{IsOrderedBy, with_key}
+use Rattle.langtag_match.proofs.Stable.{stable_once}
 use Rattle.langtag_match.specs.declared.weighted_range.WeightedRange.{WeightedRange}
-
--- ---- two lists that fall are one where those of each weight are
-
-abbrev AtMost : ℕ → List Element → Type 0
-AtMost n elements = AllByRecursion (λ element. element.weight ≤ n) elements
-
-with_weight-none : (n m : ℕ) (es : List Element) → AtMost n es → n < m → with_weight m es ≡ []
-with_weight-none n m [] low above = refl
-with_weight-none n m (e ∷ es) low above =
-    let few = low.0 in
-    let other : eqb e.weight m ≡ false = ne_eqb e.weight m (λ same. omega arith) in
-    rw other (with_weight-none n m es low.1 above)
-
--- the first of a list weighs no more than the first of the other
-not_above : (e f : Element) (es fs : List Element) → AtMost e.weight es → with_weight f.weight (e ∷ es) ≡ with_weight f.weight (f ∷ fs) → f.weight ≤ e.weight
-not_above e f es fs low same = elim (cases_lt e.weight f.weight) [
-  | inl above ↦
-      let other : eqb e.weight f.weight ≡ false = ne_eqb e.weight f.weight (λ same. omega arith) in
-      let itself : eqb f.weight f.weight ≡ true = eq-eqb f.weight f.weight refl in
-      let none : [] ≡ f ∷ with_weight f.weight fs = rw (other, with_weight-none e.weight f.weight es low above, itself) at same in
-      absurd cc
-  | inr below ↦ below
-]
-
-falling_once : (es fs : List Element) → IsFalling es → IsFalling fs → ((n : ℕ) → with_weight n es ≡ with_weight n fs) → es ≡ fs
-falling_once [] [] first second same = refl
-falling_once [] (f ∷ fs) first second same =
-    let none : [] ≡ f ∷ with_weight f.weight fs = rw (eq-eqb f.weight f.weight refl) at (same f.weight) in
-    absurd cc
-falling_once (e ∷ es) [] first second same =
-    let none : e ∷ with_weight e.weight es ≡ [] = rw (eq-eqb e.weight e.weight refl) at (same e.weight) in
-    absurd cc
-falling_once (e ∷ es) (f ∷ fs) first second same =
-    let up = not_above e f es fs first.0 (same f.weight) in
-    let down = not_above f e fs es second.0 (sym (same e.weight)) in
-    let weights : f.weight ≡ e.weight = omega arith in
-    let heads : e ∷ with_weight e.weight es ≡ f ∷ with_weight e.weight fs = rw (eq-eqb e.weight e.weight refl, eq-eqb f.weight e.weight weights) at (same e.weight) in
-    let here : e ≡ f = cc in
-    let there : with_weight e.weight es ≡ with_weight e.weight fs = cc in
-    let others = falling_once es fs first.1 second.1 (λ n. of_weight n (eqb e.weight n) refl weights there) in
-    cc
-  where
-    of_weight : (n : ℕ) (is : Bool) → eqb e.weight n ≡ is → f.weight ≡ e.weight → with_weight e.weight es ≡ with_weight e.weight fs → with_weight n es ≡ with_weight n fs
-    of_weight n true is weights there = subst (λ m. with_weight m es ≡ with_weight m fs) (eqb-true e.weight n is) there
-    of_weight n false is weights there = rw (is, ap (λ m. eqb m n) weights ∙ is) at (same n)
 
 pub one_reading : (header : List ℕ) → HasOneReading header
 one_reading header first second (good, by) (also, order) =
-    falling_once (map reading first) (map reading second) by.falling order.falling (λ n. by.stable n ∙ sym (order.stable n))
+    stable_once weight_in FallsTo (λ j k above below. omega arith) (acceptable (elements (items header))) (map reading first) (map reading second) by order
 
 -- ---- a stable sort makes a list that falls, with those of each weight in their order
 
 abbrev pub by_weight : WeightedRange → WeightedRange → Ordering
 by_weight v w = nat_cmp w.weight v.weight
+
+abbrev IsFalling : List Element → Type 0
+IsFalling elements = IsOrderedBy weight_in FallsTo elements
+
+abbrev AtMost : ℕ → List Element → Type 0
+AtMost n elements = AllByRecursion (λ element. element.weight ≤ n) elements
 
 AtMost-weaker : (n m : ℕ) (es : List Element) → n ≤ m → AtMost n es → AtMost m es
 AtMost-weaker n m [] few low = tt
@@ -113,11 +75,11 @@ pub IsByWeight-sorted :
     (read kept sorted : List WeightedRange) → kept ≡ filter (λ w. nat_lt 0 w.weight) read → IsPermutation kept sorted →
     IsSorted by_weight sorted → IsStable by_weight kept sorted → IsByWeight (acceptable (map reading read)) (map reading sorted)
 IsByWeight-sorted read kept sorted some same falling stable = record {
-  falling = IsFalling-from_sorted sorted falling;
+  in_order = IsFalling-from_sorted sorted falling;
   stable = λ n.
       filter-reading (λ m. eqb m n) sorted
       ∙ ap (map reading) (stable_by_weight kept sorted same stable n)
       ∙ sym (filter-reading (λ m. eqb m n) kept)
-      ∙ ap (λ ws. with_weight n (map reading ws)) some
-      ∙ ap (with_weight n) (sym (filter-reading (nat_lt 0) read));
+      ∙ ap (λ ws. with_key weight_in n (map reading ws)) some
+      ∙ ap (with_key weight_in n) (sym (filter-reading (nat_lt 0) read));
 }

@@ -1,9 +1,10 @@
 -- The Accept-Language header (RFC 9110 section 12.5.4): #( language-range [ weight ] ).
-use Rattle.std.specs.Prelude.{◌≡◌, ℕ, ◌≤◌, ◌==◌, Bool, false, ◌||◌, if◌then◌else◌, IsTrue, List, [], ◌∷◌, ◌++◌, Option, Some, None, is_some, reverse, filter, map, nat_lt, length, count_by, take, slice_get}
-use Rattle.std.specs.List.{list_all, list_any, slice_split, before_first, after_first, filter_map, AllByRecursion}
+use Rattle.std.specs.Prelude.{◌≡◌, ℕ, ◌+◌, ◌≤◌, ◌==◌, Bool, false, ◌||◌, if◌then◌else◌, IsTrue, List, [], ◌∷◌, ◌++◌, Option, Some, None, is_some, reverse, filter, map, nat_lt, length, count_by, take, slice_get}
+use Rattle.std.specs.List.{slice_range, list_all, list_any, slice_split, before_first, after_first, filter_map}
 use Rattle.std.specs.Option.{option_map}
 use Rattle.std.specs.Borrow.{Bor}
 use Rattle.langtag_match.specs.Range.{is_basic_range}
+use Rattle.langtag_match.specs.Stable.{IsStableOrder}
 use Rattle.langtag_match.specs.Text.{weighted_range_text}
 use Rattle.langtag_match.specs.Weight.{weight}
 use Rattle.langtag_match.specs.declared.weighted_range.WeightedRange.{WeightedRange}
@@ -55,6 +56,12 @@ element item =
 unfoldable pub bad_part : List ℕ → ElementPart
 bad_part item = if is_basic_range (range_of item) then Weight else Range
 
+-- the range of an element begins at an offset in its item, with OWS alone before it
+pub record IsPlaceOf (item range : List ℕ) (start : ℕ) : Type 0 where
+  pub within : start + length range ≤ length item
+  pub there : slice_range item start (start + length range) ≡ range
+  pub space : IsTrue (is_ows (take start item))
+
 -- ","
 abbrev pub is_comma : ℕ → Bool
 is_comma b = b == 44
@@ -79,19 +86,16 @@ are_good items = list_all is_good items
 abbrev pub acceptable : List Element → List Element
 acceptable elements = filter (λ element. nat_lt 0 element.weight) elements
 
--- none weighs more than one before it
-abbrev pub IsFalling : List Element → Type 0
-IsFalling [] = Unit {0}
-IsFalling (first ∷ others) = AllByRecursion (λ other. other.weight ≤ first.weight) others × IsFalling others
+abbrev pub weight_in : Element → ℕ
+weight_in element = element.weight
 
--- those of one weight
-abbrev pub with_weight : ℕ → List Element → List Element
-with_weight weight elements = filter (λ element. element.weight == weight) elements
+-- a weight may stand before another that is not greater
+abbrev pub FallsTo : ℕ → ℕ → Type 0
+FallsTo weight later = later ≤ weight
 
 -- the elements by falling weight, and those of one weight as they were
-pub record IsByWeight (elements ordered : List Element) : Type 0 where
-  pub falling : IsFalling ordered
-  pub stable : (weight : ℕ) → with_weight weight ordered ≡ with_weight weight elements
+abbrev pub IsByWeight : List Element → List Element → Type 0
+IsByWeight elements ordered = IsStableOrder weight_in FallsTo elements ordered
 
 -- what a weighted range says
 abbrev pub reading : WeightedRange → Element

@@ -1,5 +1,5 @@
 -- Filtering of a list of tags by a language priority list (RFC 4647 section 3.3).
-use Rattle.std.specs.Prelude.{ℕ, Bool, not, ◌&&◌, List, [], ◌∷◌, ◌++◌, filter}
+use Rattle.std.specs.Prelude.{◌≡◌, ℕ, ◌+◌, ◌<◌, Bool, not, ◌&&◌, List, [], ◌∷◌, ◌++◌, length, take, drop, filter, slice_get, Option, Some, MatchOption}
 use Rattle.std.specs.List.{list_any}
 use Rattle.std.specs.List.Sorted.{IsPermutation}
 use Rattle.langtag.specs.declared.lang_tag.LangTag.{LangTag}
@@ -15,10 +15,13 @@ finds matches range tag = matches (language_range_text range) (lang_tag_text tag
 abbrev pub is_found : (List ℕ → List ℕ → Bool) → List LanguageRange → LangTag → Bool
 is_found matches ranges tag = list_any (λ range. finds matches range tag) ranges
 
+-- a range matches a tag, and none of the ranges before it does
+abbrev pub is_newly_found : (List ℕ → List ℕ → Bool) → List LanguageRange → LanguageRange → LangTag → Bool
+is_newly_found matches before range tag = finds matches range tag && not (is_found matches before tag)
+
 -- the tags that a range matches, and none of the ranges before it
 abbrev pub newly_found : (List ℕ → List ℕ → Bool) → List LanguageRange → LanguageRange → List LangTag → List LangTag
-newly_found matches before range tags =
-    filter (λ tag. finds matches range tag && not (is_found matches before tag)) tags
+newly_found matches before range tags = filter (is_newly_found matches before range) tags
 
 -- those of each range in turn, after some ranges
 abbrev pub found_after : (List ℕ → List ℕ → Bool) → List LanguageRange → List LanguageRange → List LangTag → List LangTag
@@ -40,3 +43,24 @@ abbrev pub found_from :
 found_from matches before [] left tags = []
 found_from matches before (range ∷ ranges) left tags =
     newly_found matches before range left ++ found_after matches (before ++ range ∷ []) ranges tags
+
+-- the same at the indices of the first of the ranges and of the first tag that it has still to look at
+abbrev pub found_at : (List ℕ → List ℕ → Bool) → List LanguageRange → List LangTag → ℕ → ℕ → List LangTag
+found_at matches ranges tags range_index tag_index =
+    found_from matches (take range_index ranges) (drop range_index ranges) (drop tag_index tags) tags
+
+-- the next tag that a walk returns, from these indices on, stands at the second of two indices, and is found by the range at the
+-- first; there are none where it returns nothing
+abbrev pub IsNextPlace : (List ℕ → List ℕ → Bool) → List LanguageRange → List LangTag → ℕ → ℕ → Option (ℕ × ℕ) → Type 0
+IsNextPlace matches ranges tags range_index tag_index result =
+    MatchOption result (found_at matches ranges tags range_index tag_index ≡ [])
+    (λ place. (place.0 < length ranges) × (place.1 < length tags) × ((next : LangTag) → slice_get tags place.1 ≡ Some next →
+    found_at matches ranges tags range_index tag_index ≡ next ∷ found_at matches ranges tags place.0 (place.1 + 1)))
+
+-- the same for one range: the next tag that it newly finds, from an index on, stands at this one
+abbrev pub IsNextFound :
+    (List ℕ → List ℕ → Bool) → List LanguageRange → LanguageRange → List LangTag → ℕ → Option ℕ → Type 0
+IsNextFound matches before range tags from result =
+    MatchOption result (newly_found matches before range (drop from tags) ≡ [])
+    (λ found. (found < length tags) × ((next : LangTag) → slice_get tags found ≡ Some next →
+    newly_found matches before range (drop from tags) ≡ next ∷ newly_found matches before range (drop (found + 1) tags)))

@@ -1,9 +1,9 @@
 -- The two rules of filtering (RFC 4647 sections 3.3.1 and 3.3.2), and what a walk over the tags found has left.
-use Rattle.std.specs.Prelude.{ℕ, Bool, List, take, drop}
+use Rattle.std.specs.Prelude.{ℕ, Bool, List}
 use Rattle.langtag.specs.declared.lang_tag.LangTag.{LangTag}
 use Rattle.langtag_match.specs.Basic.{test_basic}
 use Rattle.langtag_match.specs.Extended.{test_extended}
-use Rattle.langtag_match.specs.Filter.{found_from}
+use Rattle.langtag_match.specs.Filter.{found_at}
 use Rattle.langtag_match.specs.declared.filter_rule.FilterRule.{FilterRule}
 use Rattle.langtag_match.specs.declared.filter_rule.FilterRule.TheVariants.{Basic, Extended}
 use Rattle.langtag_match.specs.declared.filter.Filtered.{Filtered}
@@ -15,6 +15,4 @@ matches_by Extended range tag = test_extended range tag
 
 -- the tags that a walk has left to return
 abbrev pub filtered_left : Filtered → List LangTag
-filtered_left walk =
-    found_from (matches_by walk.rule) (take walk.range_index walk.ranges.now) (drop walk.range_index walk.ranges.now)
-    (drop walk.tag_index walk.tags.now) walk.tags.now
+filtered_left walk = found_at (matches_by walk.rule) walk.ranges.now walk.tags.now walk.range_index walk.tag_index

@@ -7,5 +7,6 @@ pub mod FilterRule
 pub mod Fallback
 pub mod LookUp
 pub mod Range
+pub mod Stable
 pub mod Text
 pub mod Weight

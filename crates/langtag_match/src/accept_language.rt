@@ -5,8 +5,9 @@ ghost use Rattle.langtag_match.specs.LookUp.{choice};
 ghost use Rattle.langtag_match.specs.declared.weighted_range.WeightedRange.{WeightedRange};
 
 use crate::accept_language_error::AcceptLanguageError;
+use crate::element::{element_at, is_empty_element};
 use crate::lookup::tag_for;
-use crate::weighted_range::{WeightedRange, element_of};
+use crate::weighted_range::WeightedRange;
 use langtag::LangTag;
 use std::alloc::{AllocError, Global};
 use std::cmp::Reverse;
@@ -119,9 +120,10 @@ fn elements(alloc: Global, header: &str) -> Result<Vec<WeightedRange<'_>>, Accep
 {
     let mut elements = Vec::new(alloc);
     for (index, item) in header.split(',').enumerate() {
-        match element_of(item) {
-            Ok(element) => elements.push(element).map_err(AllocError::from)?,
-            Err(_) if is_ows(item) => {}
+        let item = item.as_bytes();
+        match element_at(item) {
+            Ok(element) => elements.push(element.weighted).map_err(AllocError::from)?,
+            Err(_) if is_empty_element(item) => {}
             Err(part) => {
                 return Err(AcceptLanguageError::BadElement {
                     header,
@@ -141,18 +143,11 @@ fn good_elements(alloc: Global, header: &str) -> Result<Vec<WeightedRange<'_>>, 
 {
     let mut elements = Vec::new(alloc);
     for item in header.split(',') {
-        if let Ok(element) = element_of(item) {
-            elements.push(element).map_err(AllocError::from)?;
+        if let Ok(element) = element_at(item.as_bytes()) {
+            elements.push(element.weighted).map_err(AllocError::from)?;
         }
     }
     Ok(elements)
-}
-
-/// Returns whether a text is white space alone.
-fn is_ows(text: &str) -> bool
-    ensures { result ≡ spec.is_ows text.now }
-{
-    text.as_bytes().iter().all(|b| *b == b' ' || *b == b'\t')
 }
 
 /// Returns how many bytes stand before the item at an index.

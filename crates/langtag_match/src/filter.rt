@@ -1,8 +1,6 @@
 //! Filtering of a list of tags by a language priority list (RFC 4647 section 3.3).
-ghost use Rattle.std.specs.Prelude.{◌≡◌, ◌<◌, ◌≤◌, ◌+◌, ◌^◌, ◌∷◌, [], ℕ, length, take, drop, not, ◌&&◌, slice_get, Some, MatchOption};
+ghost use Rattle.std.specs.Prelude.{◌≡◌, ◌<◌, ◌^◌, length};
 ghost use Rattle.std.specs.Iterator.{YieldsFirst, item_count};
-ghost use Rattle.std.specs.List.{list_any};
-ghost use Rattle.langtag.specs.declared.lang_tag.LangTag.{LangTag};
 ghost use Rattle.langtag_match.specs.Basic.{test_basic};
 ghost use Rattle.langtag_match.specs.Extended.{test_extended};
 ghost use Rattle.langtag_match.specs.Filter as spec;
@@ -111,11 +109,7 @@ fn next_place(
     range_index: usize,
     tag_index: usize,
 ) -> Option<(usize, usize)>
-    ensures { MatchOption result
-        (spec.found_from (matches_by rule) (take range_index ranges.now) (drop range_index ranges.now) (drop tag_index tags.now) tags.now ≡ [])
-        (λ place. (place.0 < length ranges.now) × (place.1 < length tags.now) × ((next : LangTag) → slice_get tags.now place.1 ≡ Some next →
-        spec.found_from (matches_by rule) (take range_index ranges.now) (drop range_index ranges.now) (drop tag_index tags.now) tags.now
-        ≡ next ∷ spec.found_from (matches_by rule) (take place.0 ranges.now) (drop place.0 ranges.now) (drop (place.1 + 1) tags.now) tags.now)) }
+    ensures { spec.IsNextPlace (matches_by rule) ranges.now tags.now range_index tag_index result }
 {
     let mut from = tag_index;
     for index in range_index..ranges.len() {
@@ -135,11 +129,7 @@ fn next_found(
     tags: &[LangTag<'_>],
     from: usize,
 ) -> Option<usize>
-    ensures { MatchOption result
-        (spec.newly_found (matches_by rule) before.now range.entry (drop from tags.now) ≡ [])
-        (λ found. (found < length tags.now) × ((next : LangTag) → slice_get tags.now found ≡ Some next →
-        spec.newly_found (matches_by rule) before.now range.entry (drop from tags.now)
-        ≡ next ∷ spec.newly_found (matches_by rule) before.now range.entry (drop (found + 1) tags.now))) }
+    ensures { spec.IsNextFound (matches_by rule) before.now range.entry tags.now from result }
 {
     for index in from..tags.len() {
         if is_newly_found(rule, before, range, tags[index]) {
@@ -156,15 +146,14 @@ fn is_newly_found(
     range: LanguageRange<'_>,
     tag: LangTag<'_>,
 ) -> bool
-    ensures { result ≡ spec.finds (matches_by rule) range.entry tag.entry
-        && not (list_any (λ earlier. spec.finds (matches_by rule) earlier tag.entry) before.now) }
+    ensures { result ≡ spec.is_newly_found (matches_by rule) before.now range.entry tag.entry }
 {
     rule.matches(range, tag) && !is_found(rule, before, tag)
 }
 
 /// Returns whether one of some ranges matches a tag.
 fn is_found(rule: FilterRule, ranges: &[LanguageRange<'_>], tag: LangTag<'_>) -> bool
-    ensures { result ≡ list_any (λ range. spec.finds (matches_by rule) range tag.entry) ranges.now }
+    ensures { result ≡ spec.is_found (matches_by rule) ranges.now tag.entry }
 {
     ranges.iter().any(|range| rule.matches(*range, tag))
 }

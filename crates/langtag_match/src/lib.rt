@@ -21,6 +21,7 @@
 mod accept_language;
 mod accept_language_error;
 mod basic;
+mod element;
 mod extended;
 mod fallbacks;
 mod filter;
@@ -28,13 +29,12 @@ mod filter_rule;
 mod language_range;
 mod lookup;
 mod range_text;
-#[cfg(test)]
-mod tests;
 mod weight;
 mod weighted_range;
 
 pub use accept_language::{AcceptLanguage, tag_for_header};
 pub use accept_language_error::{AcceptLanguageError, ElementPart};
+pub use element::{Element, element_at, is_empty_element};
 pub use fallbacks::Fallbacks;
 pub use filter::{Filtered, filter_basic, filter_extended};
 pub use language_range::{InvalidLanguageRange, LanguageRange, LanguageRangeBuf};

@@ -1,2 +1,2 @@
-mod Rules
+pub mod Rules
 mod Numbers

@@ -33,7 +33,7 @@ module _ {X : Type 0} (f : X → X) (twice : (x : X) → f (f x) ≡ f x) where
   option_map-twice None = refl
   option_map-twice (Some x) = ap Some (twice x)
 
-fold_text-twice : (s : List ℕ) → fold_text (fold_text s) ≡ fold_text s
+pub fold_text-twice : (s : List ℕ) → fold_text (fold_text s) ≡ fold_text s
 fold_text-twice = map-twice fold_byte fold_byte-twice
 
 fold_extension-twice : (e : Extension) → fold_extension (fold_extension e) ≡ fold_extension e
@@ -51,14 +51,12 @@ fold_private_use-twice p =
 primary-fold : (p : List ℕ) (es : List (List ℕ)) → Alike (canonical_primary (fold_text p) (map fold_text es)) (canonical_primary p es)
 primary-fold p [] = replaced-alike preferred_language language-alike (fold_text p) p (fold_text-twice p)
 primary-fold p (e ∷ []) =
-    ap (λ o. fold_text (unwrap_or o (replaced preferred_language (fold_text p)))) (extlang-alike (fold_text e) e (fold_text-twice e))
-    ∙ by_option (preferred_extlang e) (replaced-alike preferred_language language-alike (fold_text p) p (fold_text-twice p))
+    ap (λ o. fold_text (replaced preferred_language (unwrap_or o (fold_text p)))) (extlang-alike (fold_text e) e (fold_text-twice e))
+    ∙ replaced-alike preferred_language language-alike _ _ (by_option (preferred_extlang e))
   where
-    by_option :
-        (o : Option (List ℕ)) → Alike (replaced preferred_language (fold_text p)) (replaced preferred_language p) →
-        Alike (unwrap_or o (replaced preferred_language (fold_text p))) (unwrap_or o (replaced preferred_language p))
-    by_option None alike = alike
-    by_option (Some new) alike = refl
+    by_option : (o : Option (List ℕ)) → Alike (unwrap_or o (fold_text p)) (unwrap_or o p)
+    by_option None = fold_text-twice p
+    by_option (Some new) = refl
 primary-fold p (e ∷ f ∷ es) = fold_text-twice p
 
 extended-fold : (es : List (List ℕ)) → map fold_text (canonical_extended (map fold_text es)) ≡ map fold_text (canonical_extended es)

@@ -13,7 +13,7 @@ use Rattle.langtag_scan.proofs.SubtagFacts.{of_primary}
 use Rattle.langtag_registry.specs.Fields.{preferred_language}
 use Rattle.langtag_registry.specs.Registered.{is_registered_extlang}
 use Rattle.langtag_registry.specs.Subtags.{extlang_subtags}
-use Rattle.langtag_registry.specs.Canonical.{preferred_extlang, canonical_primary, canonical_extended}
+use Rattle.langtag_registry.specs.Canonical.{canonical_language, preferred_extlang, canonical_primary, canonical_extended}
 use Rattle.langtag_registry.specs.declared.output.Output.{Output}
 use Rattle.langtag_registry.specs.Output.{Pushes}
 use Rattle.langtag_registry.proofs.Pushed.{pushes_both, pushes_same, pushes_joined}
@@ -70,10 +70,10 @@ several_pushed primary first second extended others text old new several joined 
     let stay : primary ∷ extended ≡ canonical_primary primary extended ∷ canonical_extended extended = rw several refl in
     pushes_same _ _ old new stay (pushes_joined primary extended old new (pushes_same _ _ old new (ap (λ t. t ∷ []) (sym joined)) these))
 
--- one that is registered takes the place of the language
+-- one that is registered takes the place of the language, and becomes its Preferred-Value as a language
 pub extlang_pushed :
     (primary extlang : List ℕ) (extended : List (List ℕ)) (text : List ℕ) (old new : Output) → extended ≡ extlang ∷ [] →
-    is_registered_extlang extlang ≡ true → text ≡ fold_text extlang → Pushes (text ∷ []) old new →
+    is_registered_extlang extlang ≡ true → text ≡ canonical_language (fold_text extlang) → Pushes (text ∷ []) old new →
     Pushes (canonical_primary primary extended ∷ canonical_extended extended) old new
 extlang_pushed primary extlang extended text old new one known same these =
     let becomes : text ∷ [] ≡ canonical_primary primary extended ∷ canonical_extended extended = rw (one, extlang_small extlang known, known, same) refl in

@@ -1,8 +1,9 @@
 -- The first fault of a record, part by part, and that a record is valid where it has no fault.
-use Rattle.std.proofs.Common.{append_assoc, ◌≡◌, ℕ, ◌+◌, ◌≤◌, Bool, true, false, not, cond, List, [], ◌∷◌, ◌++◌, length, map, take, drop, Option, None, Some, IsTrue, slice_get, refl, sym, ap, ◌∙◌, arith}
+use Rattle.std.proofs.Common.{append_assoc, ◌≡◌, ℕ, ◌+◌, ◌≤◌, Bool, true, false, not, cond, List, [], ◌∷◌, ◌++◌, length, map, take, drop, Option, None, Some, IsTrue, slice_get, refl, sym, ap, subst, ◌∙◌, arith}
 use Rattle.std.specs.Prelude.{IfSome}
-use Rattle.std.specs.List.{list_any, AllByRecursion}
+use Rattle.std.specs.List.{list_any, position, position_from, AllByRecursion}
 use Rattle.std.specs.Option.{option_map, option_or, option_and_then}
+use Rattle.std.proofs.lemmas.Iterator.Adapters.{position_from-zero}
 use Rattle.langtag_scan.specs.Case.{are_alike}
 use Rattle.langtag_scan.specs.Class.{is_variant}
 use Rattle.langtag_scan.specs.Parts.{language_part, variants_part}
@@ -11,12 +12,11 @@ use Rattle.langtag_scan.specs.Subtags.{subtags}
 use Rattle.langtag_scan.proofs.SubtagFacts.{of_variant}
 use Rattle.langtag_scan.proofs.SubtagLists.{each_subtag, subtags-joined}
 use Rattle.langtag_language.specs.Language.{SpellsLanguage}
-use Rattle.langtag_registry.specs.declared.invalid_subtag.InvalidSubtag.{InvalidSubtag}
-use Rattle.langtag.specs.Repeat.{repeat, repeat_index_after, are_alike_bytes}
-use Rattle.langtag.proofs.RepeatLaws.{IsAt-drop}
+use Rattle.langtag.specs.Repeat.{repeat, repeat_index, repeat_index_after, are_alike_bytes}
+use Rattle.langtag.proofs.RepeatLaws.{IsAt-drop, repeat-found, repeat-later}
 use Rattle.std.proofs.lemmas.List.{at_drop_more, take_more}
 use Rattle.langtag_registry.specs.Registered.{is_registered_language, is_registered_extlang, is_registered_script, is_registered_region, is_registered_variant}
-use Rattle.langtag_registry.specs.Fault.{Told, told, language, extlang, second_extlang, script, region, variant, repeated_variant, repeated_singleton, unless, extlang_faults, language_faults, script_faults, region_faults, variant_faults, singleton_faults, faults}
+use Rattle.langtag_registry.specs.Fault.{Told, language, extlang, second_extlang, script, region, variant, repeated_variant, repeated_singleton, unless, extlang_faults, language_faults, script_faults, region_faults, variant_faults, singleton_faults, faults}
 use Rattle.langtag_registry.specs.Valid.{IsValidRecord}
 
 abbrev pub first : List Told → Option Told
@@ -274,5 +274,39 @@ language_spelled r text well same = record { first = well.primary; others = well
 pub variants_listed : (r : Record) (text : List ℕ) → IsWellFormed r → text ≡ variants_part r → subtags text ≡ r.variants
 variants_listed r text well same = ap subtags same ∙ subtags-joined r.variants (each_subtag is_variant of_variant r.variants well.variants)
 
-pub first_at : (o : Option InvalidSubtag) (p : Option InvalidSubtag) (told_first : Option Told) → o ≡ p → option_map told o ≡ told_first → option_map told p ≡ told_first
-first_at o p list same is = ap (option_map told) (sym same) ∙ is
+pub first_at :
+    {A : Type 0} (view : A → Told) (o p : Option A) (told_first : Option Told) → o ≡ p → option_map view o ≡ told_first → option_map view p ≡ told_first
+first_at view o p list same is = ap (option_map view) (sym same) ∙ is
+
+-- ---- which of the variants it is
+
+abbrev is_unregistered : List ℕ → Bool
+is_unregistered v = not (is_registered_variant v)
+
+-- none is, and none is repeated, among the first so many
+pub record AreGoodUntil (n : ℕ) (all : List (List ℕ)) : Type 0 where
+  pub registered : position is_unregistered all ≡ position_from is_unregistered n (drop n all)
+  pub apart : repeat_index are_alike all ≡ repeat_index_after are_alike (take n all) (drop n all)
+
+pub good_at_start : (all : List (List ℕ)) → AreGoodUntil 0 all
+good_at_start all = record { registered = position_from-zero is_unregistered all; apart = refl }
+
+module _ (all : List (List ℕ)) (n : ℕ) (v : List ℕ) (rest : List (List ℕ)) (good : AreGoodUntil n all) (left : drop n all ≡ v ∷ rest) where
+  pub unregistered_here : is_registered_variant v ≡ false → position is_unregistered all ≡ Some n
+  unregistered_here other =
+      good.registered ∙ ap (position_from is_unregistered n) left ∙ ap (λ b. cond (not b) (Some n) (position_from is_unregistered (n + 1) rest)) other
+
+  pub repeated_here : list_any (are_alike v) (take n all) ≡ true → repeat_index are_alike all ≡ Some n
+  repeated_here seen = repeat-found are_alike all n v rest good.apart left seen
+
+  pub good_later : is_registered_variant v ≡ true → list_any (are_alike v) (take n all) ≡ false → AreGoodUntil (n + 1) all
+  good_later known new = record {
+    registered =
+        good.registered ∙ ap (position_from is_unregistered n) left
+        ∙ ap (λ b. cond (not b) (Some n) (position_from is_unregistered (n + 1) rest)) known
+        ∙ ap (position_from is_unregistered (n + 1)) (sym (IsAt-drop all n v rest left).later);
+    apart = repeat-later are_alike all n v rest good.apart left new;
+  }
+
+pub some_holds : {A : Type 0} (P : A → Type 0) (o : Option A) (x : A) → o ≡ Some x → IfSome o P → P x
+some_holds P o x is holds = subst (λ p. IfSome p P) is holds

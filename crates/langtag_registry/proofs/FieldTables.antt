@@ -1,4 +1,4 @@
--- The tables of fields have what the lists say: by computation.
+-- The tables of fields have what the lists say: by computation. Written by registry/generate.py. Do not edit.
 use Rattle.std.proofs.Common.{◌≡◌, true, ltb, length, get_or, map, [], refl}
 use Rattle.std.specs.List.{list_all}
 use Rattle.langtag_scan.specs.Case.{fold_byte}

@@ -1,16 +1,21 @@
 -- How long the canonical form of a tag may be.
-use Rattle.std.proofs.Common.{◌≡◌, ℕ, ◌+◌, ◌*◌, ◌≤◌, true, List, [], ◌∷◌, ◌++◌, length, Option, None, Some, IfSome, IsTrue, inl, inr, refl, sym, ap, ◌∙◌, arith, length-append}
-use Rattle.std.specs.List.{AllByRecursion, flat_map, sum_by}
+use Rattle.std.proofs.Common.{◌≡◌, ℕ, ◌+◌, ◌*◌, ◌≤◌, true, leb, List, [], ◌∷◌, ◌++◌, length, map, Option, None, Some, unwrap_or, IfSome, IsTrue, inl, inr, refl, sym, ap, ◌∙◌, arith, length-append}
+use Rattle.std.specs.List.{list_all, AllByRecursion, flat_map, sum_by}
+use Rattle.std.proofs.lemmas.Bool.{leb-true}
 use Rattle.std.proofs.lemmas.Bool.Decides.{nat_tests}
 use Rattle.std.proofs.lemmas.List.Sums.{sum_by-cons}
 use Rattle.langtag_scan.specs.Class.{is_region, is_variant}
-use Rattle.langtag_scan.specs.Record.{Extension, Record, IsWellFormed, extension_flat, private_part_flat, one_flat, spell}
+use Rattle.langtag_scan.specs.Record.{Extension, Record, IsWellFormed, Spells, extension_flat, private_part_flat, one_flat, spell}
 use Rattle.langtag_scan.proofs.Joins.{hyphenated, length-hyphenated, length-join}
 use Rattle.langtag_scan.proofs.SubtagFacts.{of_primary}
-use Rattle.langtag_registry.specs.Canonical.{canonical_record, canonical_primary, canonical_extended, canonical_region, canonical_variants, in_order}
+use Rattle.langtag_registry.specs.Canonical.{canonical_record, canonical_primary, canonical_extended, canonical_region, canonical_variants, in_order, canonical_bound, IsCanonicalForm}
+use Rattle.langtag_registry.specs.Fields.{preferred_tag}
+use Rattle.langtag_registry.specs.Subtags.{tag_preferred}
 use Rattle.langtag_registry.proofs.Lengths.{region_short, variant_short}
 use Rattle.langtag_registry.proofs.OrderLaws.{in_order-weight}
 use Rattle.langtag_registry.proofs.ReplacedSubtags.{extlang_cases}
+use Rattle.langtag_registry.proofs.TwiceLaws.{Way, as_whole, as_it_is, by_parts, way_of}
+use Rattle.langtag_registry.proofs.Values.{value_good}
 use Rattle.langtag_registry.proofs.WellFormedForms.{canonical_record_well_formed}
 
 -- the bytes of some subtags, each with its hyphen
@@ -91,3 +96,27 @@ form_length r well =
     let new_extensions = size-extensions (in_order r.extensions) in
     let extensions = in_order-weight extension_size r.extensions in
     omega (arith, old_all, new_all, old_parts, new_parts, primary, extended, region, variants, old_extensions, new_extensions, extensions)
+
+-- ---- every text
+
+values_short : list_all (λ value. leb (length value) 14) (map (λ e. e.value) tag_preferred) ≡ true
+unfolding tag_preferred
+values_short = refl
+
+preferred_short : (text new : List ℕ) → preferred_tag text ≡ Some new → length new ≤ 14
+unfolding preferred_tag
+preferred_short text new is = leb-true (length new) 14 (value_good (λ value. leb (length value) 14) tag_preferred text new values_short is)
+
+pub form_bounded : (old new : List ℕ) → IsCanonicalForm old new → length new ≤ canonical_bound (length old)
+form_bounded old new p = by_way (way_of old)
+  where
+    by_text :
+        (r : Record) → Spells r old → (o : Option (List ℕ)) → preferred_tag (spell (canonical_record r)) ≡ o →
+        new ≡ unwrap_or o (spell (canonical_record r)) → length new ≤ 2 * length old + 14
+    by_text r spells None none same = let long = form_length r spells.0 in omega (arith, long, ap length same, ap length spells.1)
+    by_text r spells (Some w) found same = let short = preferred_short (spell (canonical_record r)) w found in omega (arith, short, ap length same)
+
+    by_way : Way old → length new ≤ 2 * length old + 14
+    by_way (as_whole w is) = let short = preferred_short old w is in omega (arith, short, ap length (p.whole w is))
+    by_way (as_it_is none why) = omega (arith, ap length (p.kept none why))
+    by_way (by_parts none new_one r spells) = by_text r spells (preferred_tag (spell (canonical_record r))) refl (p.parts none new_one r spells)

@@ -1,4 +1,4 @@
--- The table of the variants' prefixes has what the list says, and each prefix is a language range: by computation.
+-- The table of the variants' prefixes has what the list says, and each prefix is a language range: by computation. Written by registry/generate.py. Do not edit.
 use Rattle.std.proofs.Common.{◌≡◌, true, map, refl}
 use Rattle.std.specs.List.{list_all}
 use Rattle.langtag_scan.specs.Case.{fold_byte}

@@ -142,10 +142,6 @@ extlangs_extended : list_all is_extended extlang_subtags ≡ true
 unfolding extlang_subtags is_extended is_letter
 extlangs_extended = refl
 
-extlangs_stay : list_all (λ n. not (is_some (preferred_language n))) extlang_subtags ≡ true
-unfolding extlang_subtags language_preferred preferred_language fold_byte
-extlangs_stay = refl
-
 -- what holds of each member holds of the one that is found
 pub found_good :
     (p is_good : List ℕ → Bool) (list : List (List ℕ)) (x : List ℕ) → list_all is_good list ≡ true → find p list ≡ Some x → is_good x ≡ true
@@ -186,12 +182,6 @@ extlang_cases s = by_option (find (are_alike s) extlang_subtags) refl (is_some-f
 pub new_extlang_extended : (s new : List ℕ) → preferred_extlang s ≡ Some new → is_extended new ≡ true
 unfolding preferred_extlang
 new_extlang_extended s new is = found_good (are_alike s) is_extended extlang_subtags new extlangs_extended is
-
--- it is not replaced once more
-pub new_extlang_settled : (s new : List ℕ) → preferred_extlang s ≡ Some new → preferred_language new ≡ None
-unfolding preferred_extlang
-new_extlang_settled s new is =
-    none_from_test (preferred_language new) (found_good (are_alike s) (λ n. not (is_some (preferred_language n))) extlang_subtags new extlangs_stay is)
 
 pub extlang-alike : IgnoresCase preferred_extlang
 unfolding preferred_extlang

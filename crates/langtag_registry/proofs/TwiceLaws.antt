@@ -14,7 +14,7 @@ use Rattle.langtag_registry.specs.Canonical.{canonical_primary, canonical_extend
 use Rattle.langtag_registry.specs.Fields.{preferred_language, preferred_region, preferred_variant, preferred_tag}
 use Rattle.langtag_registry.specs.Subtags.{language_preferred, region_preferred, variant_preferred, tag_preferred}
 use Rattle.langtag_registry.proofs.OrderLaws.{in_order-twice, in_order-risen}
-use Rattle.langtag_registry.proofs.ReplacedSubtags.{none_from_test, replaced, replaced-twice, language_settled, region_settled, variant_settled, extlang_cases, new_extlang_settled}
+use Rattle.langtag_registry.proofs.ReplacedSubtags.{none_from_test, replaced, replaced-twice, language_settled, region_settled, variant_settled, extlang_cases}
 use Rattle.langtag_registry.proofs.Values.{value_good}
 use Rattle.langtag_registry.proofs.WellFormedForms.{canonical_record_well_formed}
 use Rattle.langtag_registry.proofs.WholeTags.{record_of, simple_record, preferred_spelled}
@@ -29,7 +29,7 @@ language_twice : (p : List ℕ) (es : List (List ℕ)) → IsTwice p es
 language_twice p [] = record { first = replaced-twice preferred_language language_settled p; others = refl }
 language_twice p (e ∷ []) =
     elim (extlang_cases e) [
-      | inl (new, found, known) ↦ record { first = rw (found, known) (ap (λ o. unwrap_or o new) (new_extlang_settled e new found)); others = rw known refl }
+      | inl (new, found, known) ↦ record { first = rw (found, known) (replaced-twice preferred_language language_settled new); others = rw known refl }
       | inr (none, other) ↦ record { first = rw (none, other) (rw none (replaced-twice preferred_language language_settled p)); others = rw other (rw other refl) }
     ]
 language_twice p (e ∷ f ∷ es) = record { first = refl; others = refl }

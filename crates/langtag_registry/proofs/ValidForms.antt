@@ -91,7 +91,7 @@ canonical_primary_valid : (p : List ℕ) (es : List (List ℕ)) → IsValidLangu
 canonical_primary_valid p [] is = canonical_primary_known p is.first
 canonical_primary_valid p (e ∷ []) is =
     elim (extlang_cases e) [
-      | inl (new, found, known) ↦ rw found (new_extlang_known e new found)
+      | inl (new, found, known) ↦ rw found (canonical_primary_known new (new_extlang_known e new found))
       | inr (none, other) ↦ rw none (canonical_primary_known p is.first)
     ]
 canonical_primary_valid p (e ∷ f ∷ es) is = is.first

@@ -26,7 +26,7 @@ canonical_language_well_formed p (e ∷ []) is =
     elim (extlang_cases e) [
       | inl (new, found, known) ↦
           rw (found, known)
-          record { first = extended_primary new (new_extlang_extended e new found); others = tt; few = omega arith; short = inr refl }
+          record { first = canonical_primary_well_formed new (extended_primary new (new_extlang_extended e new found)); others = tt; few = omega arith; short = inr refl }
       | inr (none, other) ↦
           rw (none, other)
           record {

@@ -1,5 +1,5 @@
 -- The canonical form of a tag (RFC 5646 section 4.5).
-use Rattle.std.specs.Prelude.{◌≡◌, ℕ, ◌==◌, ◌⊎◌, Bool, List, [], ◌∷◌, length, map, filter, find, codes, Option, None, Some, if◌then◌else◌, unwrap_or}
+use Rattle.std.specs.Prelude.{◌≡◌, ℕ, ◌+◌, ◌*◌, ◌==◌, ◌⊎◌, Bool, List, [], ◌∷◌, length, map, filter, find, codes, Option, None, Some, if◌then◌else◌, unwrap_or}
 use Rattle.std.specs.List.{flat_map}
 use Rattle.std.specs.Option.{option_map, option_map_or}
 use Rattle.langtag_scan.specs.Case.{are_alike}
@@ -22,14 +22,19 @@ in_order extensions = flat_map (λ singleton. filter (λ e. are_alike_bytes sing
 
 -- ---- step 3: each subtag becomes its Preferred-Value
 
--- an extended subtag has itself as its Preferred-Value (section 3.1.7), in the registry's case
+-- a language becomes its Preferred-Value (section 3.1.7), or stays
+abbrev pub canonical_language : List ℕ → List ℕ
+canonical_language text = unwrap_or (preferred_language text) text
+
+-- an extended subtag has itself as its Preferred-Value, in the registry's case
 unfoldable pub preferred_extlang : List ℕ → Option (List ℕ)
 preferred_extlang text = find (are_alike text) extlang_subtags
 
--- one extended subtag becomes the language, in place of that before it; two stay, as no valid tag has them
+-- one extended subtag becomes the language, in place of that before it, and may be replaced as a language in turn; two stay,
+-- as no valid tag has them
 abbrev pub canonical_primary : List ℕ → List (List ℕ) → List ℕ
-canonical_primary primary [] = unwrap_or (preferred_language primary) primary
-canonical_primary primary (extlang ∷ []) = unwrap_or (preferred_extlang extlang) (unwrap_or (preferred_language primary) primary)
+canonical_primary primary [] = canonical_language primary
+canonical_primary primary (extlang ∷ []) = canonical_language (unwrap_or (preferred_extlang extlang) primary)
 canonical_primary primary (first ∷ second ∷ others) = primary
 
 abbrev pub canonical_extended : List (List ℕ) → List (List ℕ)
@@ -59,12 +64,18 @@ canonical_record r = record r {
 abbrev pub canonical_text : Record → List ℕ
 canonical_text r = unwrap_or (preferred_tag (spell (canonical_record r))) (spell (canonical_record r))
 
--- a whole tag becomes its Preferred-Value (step 2); another grandfathered tag stays, as does one that is not normal; any
--- other becomes the canonical text of its record
+-- The form of RFC 5646, and not that of CLDR, which replaces more. Step 2 is taken twice: of the tag as it is given, and, in
+-- `canonical_text`, of what steps 1 and 3 make of it.
+-- a whole tag becomes its Preferred-Value; another grandfathered tag stays, as does one that is not normal; any other
+-- becomes the canonical text of its record
 pub record IsCanonicalForm (old new : List ℕ) : Type 0 where
   pub whole : (w : List ℕ) → preferred_tag old ≡ Some w → new ≡ w
   pub kept : preferred_tag old ≡ None → IsGrandfathered old ⊎ (IsNormal old → ⊥) → new ≡ old
   pub parts : preferred_tag old ≡ None → (IsGrandfathered old → ⊥) → EachRecord old (λ r. new ≡ canonical_text r)
+
+-- the form of a text of so many bytes has no more than this
+abbrev pub canonical_bound : ℕ → ℕ
+canonical_bound len = 2 * len + 14
 
 -- ---- the extlang form: the canonical form, and before a language that is registered as an extended one, too, its Prefix
 -- (section 3.1.8); after three extended subtags, which no valid tag has, there is no room for one more

@@ -1,12 +1,12 @@
 -- What is wrong with a tag, and with which of its subtags (RFC 5646 sections 2.2.2 and 2.2.9).
 use Rattle.std.specs.Prelude.{ℕ, Bool, not, List, [], ◌∷◌, ◌++◌, map, Option, None, Some, if◌then◌else◌}
-use Rattle.std.specs.List.{list_any}
+use Rattle.std.specs.List.{list_any, position}
 use Rattle.langtag_scan.specs.Case.{are_alike}
 use Rattle.langtag_scan.specs.Record.{Record}
 use Rattle.langtag_language.specs.Text.{primary_language_text, extended_lang_tag_text}
 use Rattle.langtag_place.specs.Text.{script_text, region_text, variant_text}
 use Rattle.langtag_extension.specs.Text.{singleton_byte}
-use Rattle.langtag.specs.Repeat.{are_alike_bytes}
+use Rattle.langtag.specs.Repeat.{repeat_index, are_alike_bytes}
 use Rattle.langtag_registry.specs.declared.invalid_subtag.InvalidSubtag.{InvalidSubtag}
 use Rattle.langtag_registry.specs.declared.invalid_subtag.InvalidSubtag.TheVariants.{Language, Extlang, SecondExtlang, Script, Region, Variant, RepeatedVariant, RepeatedSingleton}
 use Rattle.langtag_registry.specs.Registered.{is_registered_language, is_registered_extlang, is_registered_script, is_registered_region, is_registered_variant}
@@ -67,3 +67,11 @@ faults r =
     ++ (script_faults r.script
     ++ (region_faults r.region
     ++ (variant_faults [] r.variants ++ singleton_faults [] (map (λ e. e.singleton) r.extensions))))
+
+-- which of the variants the first fault is, counted from 0, or which of the extensions has it as its singleton; 0 of a
+-- subtag of another kind
+abbrev pub fault_index : Record → Told → Option ℕ
+fault_index r (variant subtag) = position (λ v. not (is_registered_variant v)) r.variants
+fault_index r (repeated_variant subtag) = repeat_index are_alike r.variants
+fault_index r (repeated_singleton subtag) = repeat_index are_alike_bytes (map (λ e. e.singleton) r.extensions)
+fault_index r other = Some 0

@@ -20,6 +20,10 @@ is_deprecated_region text = is_among list.deprecated_regions text
 unfoldable pub is_deprecated_variant : List ℕ → Bool
 is_deprecated_variant text = is_among list.deprecated_variants text
 
+-- that of this grandfathered or redundant tag
+unfoldable pub is_deprecated_tag : List ℕ → Bool
+is_deprecated_tag text = is_among list.deprecated_tags text
+
 -- the Preferred-Value of a language (section 3.1.7)
 unfoldable pub preferred_language : List ℕ → Option (List ℕ)
 preferred_language text = value_for list.language_preferred text

@@ -1,11 +1,12 @@
 //! The canonical form of a tag (RFC 5646 section 4.5).
-ghost use Rattle.std.specs.Prelude.{◌≡◌, ◌↔◌, ℕ, List, true, IfOk};
+ghost use Rattle.std.specs.Prelude.{◌≡◌, ◌↔◌, ℕ, ◌-◌, ◌^◌, ◌≤◌, List, length, min, unwrap_or, true, IfOk};
 ghost use Rattle.std.specs.Option.{option_map};
 ghost use Rattle.langtag_scan.specs.Case.{Alike};
-ghost use Rattle.langtag_scan.specs.Record.{EachRecord, spell};
+ghost use Rattle.langtag_scan.specs.Record.{EachRecord};
 ghost use Rattle.langtag_place.specs.Text.{region_text};
 ghost use Rattle.langtag.specs.Text.{lang_tag_text, lang_tag_buf_text, normal_lang_tag_text};
 ghost use Rattle.langtag_registry.specs.CanonicalLaws.{IsOnlyForm, IsAlikeForm, IsValidForm, HasNoExtlang};
+ghost use Rattle.langtag_registry.specs.Canonical as form;
 ghost use Rattle.langtag_registry.specs.Canonical.{IsCanonicalForm, canonical_record, canonical_region, canonical_text};
 ghost use Rattle.langtag_registry.specs.Fields as field;
 ghost use Rattle.langtag_registry.specs.Writes.{Writes};
@@ -22,14 +23,19 @@ use std::alloc::{AllocError, Global};
 /// No text that is replaced as a whole has more bytes.
 const LONGEST_REPLACED: usize = 16;
 
+/// No text that replaces a whole one has more bytes.
+const LONGEST_PREFERRED: usize = 14;
+
 /// Returns the canonical form of a tag (RFC 5646 section 4.5): `he` of `iw`, `yue` of `zh-yue`, `en-MM` of `en-BU`,
 /// `jbo` of `art-lojban`, `en-a-aaa-b-ccc` of `en-b-ccc-a-aaa`, and `fr-FR` of `fr-FR`.
 ///
 /// What is put in has the registry's case; all else keeps its own, and the variants keep their order. Step 2 is taken again
-/// after step 3, so that a form is its own: `gsg` of `sgn-DD`. A tag need not be valid: a subtag that is not registered
-/// stays, as do two extended languages, and the language before them.
+/// after step 3, and an extended language that becomes the language is replaced as one, too, so that a form is its own:
+/// `gsg` of `sgn-DD`, `apc` of `ar-ajp`. A tag need not be valid: a subtag that is not registered stays, as do two extended
+/// languages, and the language before them. This is RFC 5646's form, and not that of CLDR, which replaces more.
 ///
-/// The form of a valid tag is valid, unless two variants become the same, as those of `ja-heploc-alalc97` do.
+/// The form of a valid tag is valid, unless two variants become the same, as those of `ja-heploc-alalc97` do. It has no
+/// extended language, unless it is `zh-min`.
 ///
 /// # Errors
 ///
@@ -56,9 +62,25 @@ pub fn is_canonical(tag: LangTag<'_>) -> bool
 }
 
 /// Writes the canonical form of a tag (RFC 5646 section 4.5), as [`canonical`] returns it, into a buffer, and returns its
-/// length in bytes. Where the buffer is too short it stays as it was: the length says how much room there has to be. No
-/// memory is taken.
+/// length in bytes. Where the buffer is too short it stays as it was: the length says how much room there has to be. A buffer
+/// of [`canonical_bound`] bytes always has the room. No memory is taken.
 pub fn write_canonical(tag: LangTag<'_>, buffer: &mut [u8]) -> usize
+    ensures canonical { Writes (IsCanonicalForm (lang_tag_text tag.entry)) buffer.old buffer.new result }
+    ensures bounded { result ≤ form.canonical_bound (length (lang_tag_text tag.entry)) }
+{
+    write_form(tag, buffer)
+}
+
+/// Returns how many bytes the canonical form of a tag of this length may have at most, so that a caller makes room for it
+/// before [`write_canonical`]: twice as many, and 14 more.
+pub fn canonical_bound(tag_len: usize) -> usize
+    ensures { result ≡ min (form.canonical_bound tag_len) (2 ^ 64 - 1) }
+{
+    tag_len.saturating_mul(2).saturating_add(LONGEST_PREFERRED)
+}
+
+/// Writes the canonical form of a tag.
+fn write_form(tag: LangTag<'_>, buffer: &mut [u8]) -> usize
     ensures { Writes (IsCanonicalForm (lang_tag_text tag.entry)) buffer.old buffer.new result }
 {
     if let Some(preferred) = preferred_tag(tag) {
@@ -94,8 +116,9 @@ fn canonical_form(alloc: Global, tag: LangTag<'_>) -> Result<LangTagBuf, AllocEr
 fn canonical_bytes(alloc: Global, tag: LangTag<'_>) -> Result<Vec<u8>, AllocError>
     ensures { IfOk result (λ bytes. IsCanonicalForm (lang_tag_text tag.entry) bytes.items) }
 {
-    let mut bytes = vec![in alloc; 0; write_canonical(tag, &mut [])]?;
-    write_canonical(tag, &mut bytes);
+    let mut bytes = vec![in alloc; 0; canonical_bound(tag.as_bytes().len())]?;
+    let len = write_canonical(tag, &mut bytes);
+    bytes.truncate(len);
     Ok(bytes)
 }
 
@@ -103,24 +126,25 @@ fn canonical_bytes(alloc: Global, tag: LangTag<'_>) -> Result<Vec<u8>, AllocErro
 fn write_parts(tag: NormalLangTag<'_>, buffer: &mut [u8]) -> usize
     ensures { EachRecord (normal_lang_tag_text tag.entry) (λ r. Writes (λ form. form ≡ canonical_text r) buffer.old buffer.new result) }
 {
-    if let Some(preferred) = preferred_to_parts(tag) {
-        return write_text(preferred.as_bytes(), buffer);
+    let mut start = [0; LONGEST_REPLACED];
+    let len = put_canonical_parts(tag, &mut start);
+    if let Some(parts) = start.get(..len) {
+        return write_text(preferred_to(parts), buffer);
     }
-    let len = put_canonical_parts(tag, &mut []);
     if len <= buffer.len() {
         put_canonical_parts(tag, buffer);
     }
     len
 }
 
-/// Returns what is preferred, as a whole, to a tag with its parts in their canonical forms: `gsg` to `sgn-DE`, which `sgn-DD`
-/// becomes.
-fn preferred_to_parts(tag: NormalLangTag<'_>) -> Option<LangTag<'static>>
-    ensures { EachRecord (normal_lang_tag_text tag.entry) (λ r. option_map lang_tag_text result ≡ field.preferred_tag (spell (canonical_record r))) }
+/// Returns what is preferred to a text as a whole, or that text: `gsg` for `sgn-DE`, which `sgn-DD` becomes by its parts.
+fn preferred_to(parts: &[u8]) -> &[u8]
+    ensures { result.now ≡ unwrap_or (field.preferred_tag parts.now) parts.now }
 {
-    let mut start = [0; LONGEST_REPLACED];
-    let len = put_canonical_parts(tag, &mut start);
-    preferred_for(start.get(..len)?)
+    match preferred_for(parts) {
+        Some(preferred) => preferred.as_bytes(),
+        None => parts,
+    }
 }
 
 /// Writes a text.

@@ -5,7 +5,7 @@ ghost use Rattle.langtag_language.specs.Text.{language_text};
 ghost use Rattle.langtag_registry.specs.Canonical.{canonical_primary, canonical_extended};
 
 use crate::language_fields::preferred_language;
-use crate::subtags::is_extlang;
+use crate::subtags::is_registered_extlang;
 use langtag_language::Language;
 
 /// Returns whether a language is its own canonical form: true of `he`, `zh-fra` and `zh-cmn-yue`, false of `iw`, `iw-fra`
@@ -21,7 +21,7 @@ pub(crate) fn is_canonical_language(language: Language<'_>) -> bool
     let None = extlangs.next() else {
         return true;
     };
-    if is_extlang(extlang) {
+    if is_registered_extlang(extlang) {
         return false;
     }
     preferred_language(language.primary()).is_none()

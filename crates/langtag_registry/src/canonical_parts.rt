@@ -1,5 +1,5 @@
 //! The canonical forms of a tag's parts (RFC 5646 section 4.5), put into an output in their order.
-ghost use Rattle.std.specs.Prelude.{◌≡◌, ◌∷◌, List, Option, map, filter};
+ghost use Rattle.std.specs.Prelude.{◌≡◌, ◌∷◌, [], List, Option, map, filter};
 ghost use Rattle.std.specs.List.{flat_map};
 ghost use Rattle.std.specs.Option.{option_map};
 ghost use Rattle.langtag_scan.specs.Case.{fold_text};
@@ -13,17 +13,17 @@ ghost use Rattle.langtag_extension.specs.Text.{extensions_text};
 ghost use Rattle.langtag_private.specs.Text.{private_use_text};
 ghost use Rattle.langtag.specs.Repeat.{are_alike_bytes};
 ghost use Rattle.langtag.specs.Text.{normal_lang_tag_text};
-ghost use Rattle.langtag_registry.specs.Canonical.{canonical_record, canonical_primary, canonical_extended, canonical_region, canonical_variants, in_order};
+ghost use Rattle.langtag_registry.specs.Canonical.{canonical_record, canonical_language, canonical_primary, canonical_extended, canonical_region, canonical_variants, in_order};
 ghost use Rattle.langtag_registry.specs.Output.{Pushes, IsCounted};
 
 use crate::extension_order::{SINGLETONS, are_in_order, folded_singleton};
 use crate::language_fields::preferred_language;
 use crate::output::Output;
 use crate::preferred::{preferred_region, preferred_variant};
-use crate::subtags::is_extlang;
+use crate::subtags::is_registered_extlang;
 use langtag::NormalLangTag;
 use langtag_extension::Extensions;
-use langtag_language::{ExtendedLangTag, Language};
+use langtag_language::{ExtendedLangTag, Language, PrimaryLanguage};
 use langtag_place::{Region, Script, Variants};
 use langtag_private::PrivateUse;
 use langtag_scan::into_smallcase;
@@ -49,7 +49,8 @@ fn push_parts(out: &mut Output<'_>, tag: NormalLangTag<'_>)
     push_private_use(out, tag.private_use());
 }
 
-/// An extended subtag that is registered takes the place of the language before it. Two stay, and so does what is before them.
+/// An extended subtag that is registered takes the place of the language before it, and may be replaced as a language in turn.
+/// Two stay, and so does what is before them.
 fn push_language(out: &mut Output<'_>, language: Language<'_>)
     ensures same_buffer { out.new.buffer.ghost_name ≡ out.old.buffer.ghost_name }
     ensures pushed { EachLanguageSpelling (language_text language.entry) (λ primary extended.
@@ -63,11 +64,22 @@ fn push_language(out: &mut Output<'_>, language: Language<'_>)
     let None = extlangs.next() else {
         return out.push_subtag(language.as_bytes());
     };
-    if is_extlang(extlang) {
-        return out.push_subtag(&in_small_letters(extlang));
+    if is_registered_extlang(extlang) {
+        return push_extlang(out, extlang);
     }
     out.push_subtag(preferred_language(primary).unwrap_or(primary).as_bytes());
     out.push_subtag(extlang.as_bytes());
+}
+
+/// Puts the language that an extended subtag becomes.
+fn push_extlang(out: &mut Output<'_>, extlang: ExtendedLangTag<'_>)
+    ensures same_buffer { out.new.buffer.ghost_name ≡ out.old.buffer.ghost_name }
+    ensures pushed { Pushes (canonical_language (fold_text (extended_lang_tag_text extlang.entry)) ∷ []) out.old out.new }
+{
+    match preferred_language(PrimaryLanguage::from_checked(extlang.as_str())) {
+        Some(preferred) => out.push_subtag(preferred.as_bytes()),
+        None => out.push_subtag(&in_small_letters(extlang)),
+    }
 }
 
 /// Returns an extended subtag in small letters, as the registry has it.

@@ -1,6 +1,9 @@
-//! Deprecated subtags (RFC 5646 section 3.1.6). They stay valid.
+//! Deprecated subtags and tags (RFC 5646 section 3.1.6). They stay valid.
 ghost use Rattle.std.specs.Prelude.{◌≡◌, map};
+ghost use Rattle.std.specs.List.{list_any};
 ghost use Rattle.std.specs.List.Sorted.{IsNonDecreasing};
+ghost use Rattle.langtag.specs.Text.{lang_tag_text};
+ghost use Rattle.langtag_scan.specs.Case.{are_alike};
 ghost use Rattle.langtag_language.specs.Text.{primary_language_text, extended_lang_tag_text};
 ghost use Rattle.langtag_place.specs.Text.{region_text, variant_text};
 ghost use Rattle.langtag_registry.specs.Numbers.{letter_number, folded_number};
@@ -10,11 +13,13 @@ ghost use Rattle.langtag_registry.specs.Fields as field;
 use crate::keys::{is_among, is_among_long, is_among_short, long_number, short_number};
 use crate::languages::letter_number;
 use crate::tables::{
-    DEPRECATED_EXTLANG_KEYS, DEPRECATED_LANGUAGE_KEYS, DEPRECATED_REGION_KEYS,
+    DEPRECATED_EXTLANG_KEYS, DEPRECATED_LANGUAGE_KEYS, DEPRECATED_REGION_KEYS, DEPRECATED_TAGS,
     DEPRECATED_VARIANT_KEYS,
 };
+use langtag::LangTag;
 use langtag_language::{ExtendedLangTag, PrimaryLanguage};
 use langtag_place::{Region, Variant};
+use langtag_scan::case_insensitive_eq;
 
 /// Returns whether a language is deprecated (RFC 5646 section 3.1.6): true for `iw`, false for `he` and for what is
 /// not registered.
@@ -52,6 +57,24 @@ pub fn is_deprecated_variant(variant: Variant<'_>) -> bool
     is_among_long(deprecated_variant_keys(), long_number(variant.as_bytes()))
 }
 
+/// Returns whether a tag is deprecated as a whole (RFC 5646 section 3.1.6), which some grandfathered and redundant tags are:
+/// true for `zh-min`, `art-lojban` and `sgn-DE`, false for `i-default`, for `iw`, which is deprecated as a language, and
+/// for what is not registered as a whole, as `sgn-DE-x-a`.
+pub fn is_deprecated_tag(tag: LangTag<'_>) -> bool
+    ensures { result ≡ field.is_deprecated_tag (lang_tag_text tag.entry) }
+{
+    is_listed(deprecated_tags(), tag.as_bytes())
+}
+
+/// Returns whether some bytes are one of these texts, but for case.
+fn is_listed(texts: &[&str], bytes: &[u8]) -> bool
+    ensures { result ≡ list_any (λ text. are_alike bytes.now text.now) texts.now }
+{
+    texts
+        .iter()
+        .any(|text| case_insensitive_eq(bytes, text.as_bytes()))
+}
+
 fn deprecated_language_keys() -> &'static [u16]
     ensures numbers { result.now ≡ map letter_number list.deprecated_languages }
     ensures rises { IsNonDecreasing result.now }
@@ -78,4 +101,10 @@ fn deprecated_variant_keys() -> &'static [u64]
     ensures rises { IsNonDecreasing result.now }
 {
     &DEPRECATED_VARIANT_KEYS
+}
+
+fn deprecated_tags() -> &'static [&'static str]
+    ensures { map (λ text. text.now) result.now ≡ list.deprecated_tags }
+{
+    &DEPRECATED_TAGS
 }

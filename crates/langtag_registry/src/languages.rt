@@ -3,7 +3,7 @@ ghost use Rattle.std.specs.Prelude.{◌≡◌, ◌≤◌, ◌<◌, IsTrue, lengt
 ghost use Rattle.langtag_scan.specs.Class as class;
 ghost use Rattle.langtag_language.specs.Text.{primary_language_text};
 ghost use Rattle.langtag_registry.specs.Numbers.{letter, letter_number, language_bit};
-ghost use Rattle.langtag_registry.specs.Registered.{is_registered_language};
+ghost use Rattle.langtag_registry.specs.Registered as registered;
 
 use crate::tables::LANGUAGE_BITS;
 use langtag_language::PrimaryLanguage;
@@ -11,8 +11,8 @@ use langtag_scan::into_smallcase;
 
 /// Returns whether a language is registered (RFC 5646 section 2.2.1), in any case: true for `fr`, `FR` and the private use
 /// `qaa`, false for `qt`.
-pub fn is_language(language: PrimaryLanguage<'_>) -> bool
-    ensures { result ≡ is_registered_language (primary_language_text language.entry) }
+pub fn is_registered_language(language: PrimaryLanguage<'_>) -> bool
+    ensures { result ≡ registered.is_registered_language (primary_language_text language.entry) }
 {
     let bytes = language.as_bytes();
     if bytes.len() > 3 {

@@ -1,12 +1,12 @@
 //! The IANA Language Subtag Registry over language tags: which subtags are registered, what the registry says of them
 //! (RFC 5646 section 3.1), which tags are valid (section 2.2.9), the canonical form of a tag (section 4.5), and which
-//! variants stand after none of their prefixes (section 3.1.8).
+//! variants and extended languages stand after none of their prefixes (section 3.1.8).
 //!
 //! ```
 //! use langtag::{LangTag, NormalLangTag};
 //! use langtag_language::PrimaryLanguage;
 //! use langtag_registry::{
-//!     InvalidSubtag, canonical, is_language, misplaced_variant, preferred_language, validate,
+//!     InvalidSubtag, canonical, is_registered_language, misplaced_variant, preferred_language, validate,
 //! };
 //!
 //! validate(LangTag::new("de-CH-1996")?)?; // valid
@@ -14,7 +14,7 @@
 //!     Err(InvalidSubtag::Language(language)) => language.as_str(), // "qt"
 //!     ..
 //! }
-//! is_language(PrimaryLanguage::new("fr")?);        // true
+//! is_registered_language(PrimaryLanguage::new("fr")?);        // true
 //! preferred_language(PrimaryLanguage::new("iw")?); // Some(he)
 //! canonical(alloc, LangTag::new("iw-BU")?)?;       // he-MM
 //! misplaced_variant(NormalLangTag::new("fr-nedis")?); // Some(nedis): it goes with `sl`
@@ -39,21 +39,22 @@ mod preferred;
 mod prefixes;
 mod subtags;
 mod tables;
-#[cfg(test)]
-mod tests;
 mod validity;
 
-pub use canonical_form::{canonical, is_canonical, write_canonical};
+pub use canonical_form::{canonical, canonical_bound, is_canonical, write_canonical};
 pub use deprecated::{
-    is_deprecated_extlang, is_deprecated_language, is_deprecated_region, is_deprecated_variant,
+    is_deprecated_extlang, is_deprecated_language, is_deprecated_region, is_deprecated_tag,
+    is_deprecated_variant,
 };
 pub use extlang_forms::extlang_form;
 pub use invalid_subtag::InvalidSubtag;
 pub use language_fields::{macrolanguage, preferred_language, suppress_script};
-pub use languages::is_language;
-pub use misplaced::misplaced_variant;
+pub use languages::is_registered_language;
+pub use misplaced::{misplaced_extlang, misplaced_variant};
 pub use preferred::{preferred_region, preferred_tag, preferred_variant};
 pub use prefixes::extlang_prefix;
-pub use subtags::{is_extlang, is_region, is_script, is_variant};
+pub use subtags::{
+    is_registered_extlang, is_registered_region, is_registered_script, is_registered_variant,
+};
 pub use tables::FILE_DATE;
-pub use validity::validate;
+pub use validity::{fault_at, validate};

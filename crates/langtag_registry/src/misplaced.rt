@@ -1,10 +1,10 @@
-//! Variants that do not stand after one of their prefixes (RFC 5646 section 3.1.8).
+//! Variants and extended languages that do not stand after one of their prefixes (RFC 5646 section 3.1.8).
 ghost use Rattle.std.specs.Prelude.{◌≡◌, map, IsTrue};
 ghost use Rattle.std.specs.Option.{option_map};
 ghost use Rattle.langtag_scan.specs.Record.{EachRecord};
-ghost use Rattle.langtag_scan.specs.Tag.{IsTag};
+ghost use Rattle.langtag_language.specs.Text.{extended_lang_tag_text};
 ghost use Rattle.langtag_place.specs.Text.{variant_text};
-ghost use Rattle.langtag.specs.Text.{normal_lang_tag_text};
+ghost use Rattle.langtag.specs.Text.{lang_tag_text, normal_lang_tag_text};
 ghost use Rattle.langtag_match.specs.Extended.{test_extended};
 ghost use Rattle.langtag_match.specs.Range.{is_language_range};
 ghost use Rattle.langtag_registry.specs.Numbers.{folded_number};
@@ -12,8 +12,10 @@ ghost use Rattle.langtag_registry.specs.Prefix as spec;
 ghost use Rattle.langtag_registry.specs.Subtags as list;
 
 use crate::keys::long_number;
+use crate::prefixes::extlang_prefix;
 use crate::tables::VARIANT_PREFIXES;
 use langtag::{LangTag, NormalLangTag};
+use langtag_language::ExtendedLangTag;
 use langtag_match::LanguageRange;
 use langtag_place::Variant;
 
@@ -28,7 +30,8 @@ pub fn misplaced_variant<'a>(tag: NormalLangTag<'a>) -> Option<Variant<'a>>
 {
     let mut end = tag.ends().region;
     for variant in tag.variants().iter() {
-        if !fits_after(&tag.as_str()[..end], variant) {
+        let before = LangTag::from_checked(&tag.as_str()[..end]);
+        if !fits_after(&before, variant) {
             return Some(variant);
         }
         end += 1 + variant.as_str().len();
@@ -36,10 +39,26 @@ pub fn misplaced_variant<'a>(tag: NormalLangTag<'a>) -> Option<Variant<'a>>
     None
 }
 
+/// Returns the extended language of a tag that stands after another language than its prefix (the field Prefix, RFC 5646
+/// section 3.1.8): `yue` of `de-yue`, as it goes with `zh`. None of `zh-yue`, and of `zh-fra`, as `fra` is not registered.
+///
+/// A tag is valid without its prefix. A second extended language, which no valid tag has, is not looked at.
+pub fn misplaced_extlang<'a>(tag: NormalLangTag<'a>) -> Option<ExtendedLangTag<'a>>
+    ensures { EachRecord (normal_lang_tag_text tag.entry) (λ r. option_map extended_lang_tag_text result ≡ spec.misplaced_extlang r.primary r.extended) }
+{
+    let language = tag.language();
+    let mut extlangs = language.extension_subtags();
+    let extlang = extlangs.next()?;
+    let prefix = extlang_prefix(extlang)?;
+    if prefix == language.primary() {
+        return None;
+    }
+    Some(extlang)
+}
+
 /// Returns whether some prefix of a variant matches the tag before it, or it has no prefix.
-fn fits_after(before: &str, variant: Variant<'_>) -> bool
-    requires { IsTag before.now }
-    ensures { result ≡ spec.fits_after before.now (variant_text variant.entry) }
+fn fits_after(before: &LangTag<'_>, variant: Variant<'_>) -> bool
+    ensures { result ≡ spec.fits_after (lang_tag_text before.now) (variant_text variant.entry) }
 {
     let number = long_number(variant.as_bytes());
     let mut has_none = true;
@@ -55,12 +74,11 @@ fn fits_after(before: &str, variant: Variant<'_>) -> bool
 }
 
 /// Returns whether a prefix matches a tag by extended filtering.
-fn matches_tag(prefix: &str, tag: &str) -> bool
-    requires range { IsTrue (is_language_range prefix.now) }
-    requires tag { IsTag tag.now }
-    ensures { result ≡ test_extended prefix.now tag.now }
+fn matches_tag(prefix: &str, tag: &LangTag<'_>) -> bool
+    requires { IsTrue (is_language_range prefix.now) }
+    ensures { result ≡ test_extended prefix.now (lang_tag_text tag.now) }
 {
-    LanguageRange::from_checked(prefix).matches_extended(&LangTag::from_checked(tag))
+    LanguageRange::from_checked(prefix).matches_extended(tag)
 }
 
 fn variant_prefixes() -> &'static [(u64, &'static str)]

@@ -5,7 +5,7 @@ ghost use Rattle.langtag_language.specs.Text.{extended_lang_tag_text};
 ghost use Rattle.langtag_place.specs.Text.{script_text, region_text, variant_text};
 ghost use Rattle.langtag_registry.specs.Numbers.{folded_number};
 ghost use Rattle.langtag_registry.specs.Subtags.{extlang_subtags, script_subtags, region_subtags, variant_subtags};
-ghost use Rattle.langtag_registry.specs.Registered.{is_registered_extlang, is_registered_script, is_registered_region, is_registered_variant};
+ghost use Rattle.langtag_registry.specs.Registered as registered;
 
 use crate::keys::{is_among, is_among_long, long_number, short_number};
 use crate::tables::{EXTLANG_KEYS, REGION_KEYS, SCRIPT_KEYS, VARIANT_KEYS};
@@ -14,32 +14,32 @@ use langtag_place::{Region, Script, Variant};
 
 /// Returns whether an extended language is registered (RFC 5646 section 2.2.2), in any case: true for `yue` and `YUE`,
 /// false for `fra`.
-pub fn is_extlang(extlang: ExtendedLangTag<'_>) -> bool
-    ensures { result ≡ is_registered_extlang (extended_lang_tag_text extlang.entry) }
+pub fn is_registered_extlang(extlang: ExtendedLangTag<'_>) -> bool
+    ensures { result ≡ registered.is_registered_extlang (extended_lang_tag_text extlang.entry) }
 {
     is_among(extlang_keys(), short_number(extlang.as_bytes()))
 }
 
 /// Returns whether a script is registered (RFC 5646 section 2.2.3), in any case: true for `Latn`, `latn` and the private
 /// use `Qaaa`, false for `Abcd`.
-pub fn is_script(script: Script<'_>) -> bool
-    ensures { result ≡ is_registered_script (script_text script.entry) }
+pub fn is_registered_script(script: Script<'_>) -> bool
+    ensures { result ≡ registered.is_registered_script (script_text script.entry) }
 {
     is_among(script_keys(), short_number(script.as_bytes()))
 }
 
 /// Returns whether a region is registered (RFC 5646 section 2.2.4), in any case: true for `FR`, `fr`, `419` and the
 /// private use `XA`, false for `FQ`.
-pub fn is_region(region: Region<'_>) -> bool
-    ensures { result ≡ is_registered_region (region_text region.entry) }
+pub fn is_registered_region(region: Region<'_>) -> bool
+    ensures { result ≡ registered.is_registered_region (region_text region.entry) }
 {
     is_among(region_keys(), short_number(region.as_bytes()))
 }
 
 /// Returns whether a variant is registered (RFC 5646 section 2.2.5), in any case: true for `rozaj`, `ROZAJ` and `1996`,
 /// false for `1997`.
-pub fn is_variant(variant: Variant<'_>) -> bool
-    ensures { result ≡ is_registered_variant (variant_text variant.entry) }
+pub fn is_registered_variant(variant: Variant<'_>) -> bool
+    ensures { result ≡ registered.is_registered_variant (variant_text variant.entry) }
 {
     is_among_long(variant_keys(), long_number(variant.as_bytes()))
 }

@@ -1,23 +1,24 @@
 //! Valid tags (RFC 5646 section 2.2.9).
-ghost use Rattle.std.specs.Prelude.{◌≡◌, ◌↔◌, [], IsNone, Some, IfErr, is_ok, true, take, slice_get};
+ghost use Rattle.std.specs.Prelude.{◌≡◌, ◌↔◌, [], IsNone, Some, IfSome, IfErr, is_ok, true, take, slice_get};
 ghost use Rattle.std.specs.List.{list_any};
 ghost use Rattle.std.specs.Option.{option_map};
 ghost use Rattle.langtag_scan.specs.Case.{are_alike};
-ghost use Rattle.langtag_scan.specs.Record.{EachRecord};
+ghost use Rattle.langtag_scan.specs.Record.{Record, EachRecord};
 ghost use Rattle.langtag_scan.specs.Subtags.{subtags};
 ghost use Rattle.langtag_language.specs.Language.{EachLanguageSpelling};
 ghost use Rattle.langtag_language.specs.Text.{language_text};
 ghost use Rattle.langtag_place.specs.Text.{script_text, region_text, variant_text, variants_text};
-ghost use Rattle.langtag.specs.Registered.{IsGrandfathered};
 ghost use Rattle.langtag.specs.Text.{lang_tag_text, normal_lang_tag_text};
 ghost use Rattle.langtag_registry.specs.Compared.{FaultsCompareByKind};
-ghost use Rattle.langtag_registry.specs.Fault.{told, faults, language_faults, script_faults, region_faults, variant_faults};
+ghost use Rattle.langtag_registry.specs.Fault.{told, faults, fault_index, language_faults, script_faults, region_faults, variant_faults};
 ghost use Rattle.langtag_registry.specs.Valid.{IsValid};
 ghost use Rattle.langtag_registry.specs.declared.invalid_subtag.InvalidSubtag.{InvalidSubtag};
 
 use crate::invalid_subtag::InvalidSubtag;
-use crate::languages::is_language;
-use crate::subtags::{is_extlang, is_region, is_script, is_variant};
+use crate::languages::is_registered_language;
+use crate::subtags::{
+    is_registered_extlang, is_registered_region, is_registered_script, is_registered_variant,
+};
 use langtag::{LangTag, NormalLangTag};
 use langtag_language::Language;
 use langtag_place::{Region, Script, Variant, Variants};
@@ -39,17 +40,19 @@ pub fn validate<'a>(tag: LangTag<'a>) -> Result<(), InvalidSubtag<'a>>
     ensures cloned { (invalid copy : InvalidSubtag) → ⟦<InvalidSubtag<'a> as Clone>⟧.is_clone invalid copy → copy ≡ invalid }
     ensures clone_succeeds { (invalid : InvalidSubtag) → ⟦<InvalidSubtag<'a> as Clone>⟧.is_infallible invalid }
 {
-    match find_fault(tag) {
-        Some(fault) => Err(fault),
+    match fault_at(tag) {
+        Some((fault, _)) => Err(fault),
         None => Ok(()),
     }
 }
 
-/// Returns what is wrong with a tag, if it is not valid.
-fn find_fault<'a>(tag: LangTag<'a>) -> Option<InvalidSubtag<'a>>
+/// Returns the fault for which [`validate`] refuses a tag, and where it stands among its like: which of the variants it is,
+/// or which of the extensions has the repeated singleton, counted from 0, as the variant `1996` and 1 of `de-1996-1996`; and
+/// 0 with a subtag of another kind. None of a valid tag. No memory is taken.
+pub fn fault_at<'a>(tag: LangTag<'a>) -> Option<(InvalidSubtag<'a>, usize)>
     ensures valid { IsNone result ↔ IsValid (lang_tag_text tag.entry) }
-    ensures first { (IsGrandfathered (lang_tag_text tag.entry) → ⊥)
-        → EachRecord (lang_tag_text tag.entry) (λ r. option_map told result ≡ slice_get (faults r) 0) }
+    ensures first { IfSome result (λ fault. EachRecord (lang_tag_text tag.entry) (λ r. slice_get (faults r) 0 ≡ Some (told fault.0))) }
+    ensures index { IfSome result (λ fault. EachRecord (lang_tag_text tag.entry) (λ r. fault_index r (told fault.0) ≡ Some fault.1)) }
 {
     let Some(normal) = tag.as_normal() else {
         return None;
@@ -64,39 +67,40 @@ fn find_fault<'a>(tag: LangTag<'a>) -> Option<InvalidSubtag<'a>>
 }
 
 /// Returns the first fault of a normal tag, without a look at whether it is grandfathered.
-fn find_fault_of_normal<'a>(tag: NormalLangTag<'a>) -> Option<InvalidSubtag<'a>>
-    ensures { EachRecord (normal_lang_tag_text tag.entry) (λ r. option_map told result ≡ slice_get (faults r) 0) }
+fn find_fault_of_normal<'a>(tag: NormalLangTag<'a>) -> Option<(InvalidSubtag<'a>, usize)>
+    ensures first { EachRecord (normal_lang_tag_text tag.entry) (λ r. option_map (λ fault. told fault.0) result ≡ slice_get (faults r) 0) }
+    ensures index { IfSome result (λ fault. EachRecord (normal_lang_tag_text tag.entry) (λ r. fault_index r (told fault.0) ≡ Some fault.1)) }
 {
     if let Some(fault) = find_language_fault(tag.language()) {
-        return Some(fault);
+        return Some((fault, 0));
     }
     if let Some(fault) = find_script_fault(tag.script()) {
-        return Some(fault);
+        return Some((fault, 0));
     }
     if let Some(fault) = find_region_fault(tag.region()) {
-        return Some(fault);
+        return Some((fault, 0));
     }
     if let Some(fault) = find_variant_fault(tag.variants()) {
         return Some(fault);
     }
-    if let Some(singleton) = tag.repeated_singleton() {
-        return Some(InvalidSubtag::RepeatedSingleton(singleton));
-    }
-    None
+    let index = tag.repeated_singleton_index()?;
+    let singleton = tag.repeated_singleton()?;
+    Some((InvalidSubtag::RepeatedSingleton(singleton), index))
 }
 
 /// Returns the first fault of a language.
 fn find_language_fault<'a>(language: Language<'a>) -> Option<InvalidSubtag<'a>>
-    ensures { EachLanguageSpelling (language_text language.entry) (λ primary extended.
+    ensures first { EachLanguageSpelling (language_text language.entry) (λ primary extended.
         option_map told result ≡ slice_get (language_faults primary extended) 0) }
+    ensures index { IfSome result (λ fault. (r : Record) → fault_index r (told fault) ≡ Some 0) }
 {
     let primary = language.primary();
-    if !is_language(primary) {
+    if !is_registered_language(primary) {
         return Some(InvalidSubtag::Language(primary));
     }
     let mut extlangs = language.extension_subtags();
     let first = extlangs.next()?;
-    if !is_extlang(first) {
+    if !is_registered_extlang(first) {
         return Some(InvalidSubtag::Extlang(first));
     }
     let second = extlangs.next()?;
@@ -105,10 +109,11 @@ fn find_language_fault<'a>(language: Language<'a>) -> Option<InvalidSubtag<'a>>
 
 /// Returns the fault of a script, where there is one.
 fn find_script_fault<'a>(script: Option<Script<'a>>) -> Option<InvalidSubtag<'a>>
-    ensures { option_map told result ≡ slice_get (script_faults (option_map script_text script.entry)) 0 }
+    ensures first { option_map told result ≡ slice_get (script_faults (option_map script_text script.entry)) 0 }
+    ensures index { IfSome result (λ fault. (r : Record) → fault_index r (told fault) ≡ Some 0) }
 {
     let script = script?;
-    if is_script(script) {
+    if is_registered_script(script) {
         return None;
     }
     Some(InvalidSubtag::Script(script))
@@ -116,26 +121,29 @@ fn find_script_fault<'a>(script: Option<Script<'a>>) -> Option<InvalidSubtag<'a>
 
 /// Returns the fault of a region, where there is one.
 fn find_region_fault<'a>(region: Option<Region<'a>>) -> Option<InvalidSubtag<'a>>
-    ensures { option_map told result ≡ slice_get (region_faults (option_map region_text region.entry)) 0 }
+    ensures first { option_map told result ≡ slice_get (region_faults (option_map region_text region.entry)) 0 }
+    ensures index { IfSome result (λ fault. (r : Record) → fault_index r (told fault) ≡ Some 0) }
 {
     let region = region?;
-    if is_region(region) {
+    if is_registered_region(region) {
         return None;
     }
     Some(InvalidSubtag::Region(region))
 }
 
-/// Returns the first fault of variants.
+/// Returns the first fault of variants, and which of them it is.
 // Each is compared to those before it. These are registered and all different, so they are few.
-fn find_variant_fault<'a>(variants: Variants<'a>) -> Option<InvalidSubtag<'a>>
-    ensures { option_map told result ≡ slice_get (variant_faults [] (subtags (variants_text variants.entry))) 0 }
+fn find_variant_fault<'a>(variants: Variants<'a>) -> Option<(InvalidSubtag<'a>, usize)>
+    ensures first { option_map (λ fault. told fault.0) result ≡ slice_get (variant_faults [] (subtags (variants_text variants.entry))) 0 }
+    ensures index { IfSome result (λ fault. (r : Record) → r.variants ≡ subtags (variants_text variants.entry)
+        → fault_index r (told fault.0) ≡ Some fault.1) }
 {
     for (index, variant) in variants.iter().enumerate() {
-        if !is_variant(variant) {
-            return Some(InvalidSubtag::Variant(variant));
+        if !is_registered_variant(variant) {
+            return Some((InvalidSubtag::Variant(variant), index));
         }
         if is_among_first(variants, index, variant) {
-            return Some(InvalidSubtag::RepeatedVariant(variant));
+            return Some((InvalidSubtag::RepeatedVariant(variant), index));
         }
     }
     None

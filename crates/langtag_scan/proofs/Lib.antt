@@ -32,3 +32,5 @@ pub mod SpelledTexts
 pub mod FoundLaws
 pub mod RegisteredTags
 mod ViableLaws
+pub mod Digits
+pub mod FoldedNumbers

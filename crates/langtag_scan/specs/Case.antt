@@ -1,6 +1,6 @@
 -- The case of ASCII letters, to which tags are indifferent (RFC 5646 section 2.1.1): the fold, texts that
 -- are alike, how texts are ordered, and what a text feeds to a hasher.
-use Rattle.std.specs.Prelude.{◌≡◌, ℕ, ◌<◌, Bool, List, [], ◌∷◌, ◌++◌, map, length, take}
+use Rattle.std.specs.Prelude.{◌≡◌, ℕ, ◌+◌, ◌*◌, ◌<◌, Bool, List, [], ◌∷◌, ◌++◌, fold, map, length, take}
 use Rattle.std.specs.Char.{to_ascii_lowercase}
 use Rattle.std.specs.Str.{bytes_eq}
 use Rattle.std.specs.declared.cmp.Ordering.{Ordering}
@@ -40,3 +40,7 @@ EndsFirst a b = (length a < length b) × Alike a (take (length a) b)
 -- what a text feeds to a hasher: its folded bytes, each by a write of its own
 abbrev pub case_writes : List ℕ → HashWrites
 case_writes text = map (λ b. fold_byte b ∷ []) text
+
+-- the folded bytes of a text as the digits of a number in base 256
+unfoldable pub folded_number : List ℕ → ℕ
+folded_number text = fold (λ number b. number * 256 + fold_byte b) 0 text

@@ -1,7 +1,8 @@
 //! The case of ASCII letters, to which tags are indifferent (RFC 5646 section 2.1.1): texts are compared and hashed by
 //! their folded bytes, in which each capital letter is small. Nothing else is folded, so `[` and `{` stay apart.
-ghost use Rattle.std.specs.Prelude.{◌≡◌, ◌↔◌, IsTrue, fold};
-ghost use Rattle.langtag_scan.specs.Case.{fold_byte, Alike, are_alike, case_cmp, EndsFirst, case_writes};
+ghost use Rattle.std.specs.Prelude.{◌≡◌, ◌↔◌, ◌≤◌, ℕ, List, ◌==◌, IsTrue, fold, length};
+ghost use Rattle.langtag_scan.specs.Case.{fold_byte, Alike, are_alike, case_cmp, EndsFirst, case_writes, folded_number};
+ghost use Rattle.langtag_scan.specs.Class.{are_alphanumeric};
 
 use std::cmp::Ordering;
 use std::hash::Hasher;
@@ -53,4 +54,23 @@ pub fn case_insensitive_hash<H: Hasher>(bytes: &[u8], hasher: &mut H)
     for byte in bytes {
         hasher.write_u8(into_smallcase(*byte));
     }
+}
+
+/// Returns the folded bytes (RFC 5646 section 2.1.1) of a text of at most eight as the digits of one number, in base 256:
+/// `folded_number(b"FR")` is 26,226, which is 256 times `b'f'` and `b'r'`.
+///
+/// The contract also says that of two texts of letters and digits, as subtags are, the numbers are equal where the texts are
+/// but for the case of letters.
+pub fn folded_number(bytes: &[u8]) -> u64
+    requires { length bytes.now ≤ 8 }
+    ensures number { result ≡ folded_number bytes.now }
+
+    ensures tells { (a b : List ℕ) → IsTrue (are_alphanumeric a) → IsTrue (are_alphanumeric b)
+        → (folded_number b == folded_number a) ≡ are_alike a b }
+{
+    let mut number = 0;
+    for byte in bytes {
+        number = number * 256 + u64::from(into_smallcase(*byte));
+    }
+    number
 }

@@ -16,25 +16,6 @@ pub struct Found {
 }
 
 impl Found {
-    /// Returns what is found of a normal tag whose parts end at these offsets, for a caller that knows them without
-    /// reading the text: `Found::normal(ends).ends()` is `Some(ends)`.
-    pub fn normal(ends: Ends) -> Self
-        ensures { finding result ≡ Finding.Normal ends }
-    {
-        Found {
-            finding: Finding::Normal(ends),
-        }
-    }
-
-    /// Returns what is found of a private use tag (section 2.2.7): `Found::private_use().is_private_use()` is true.
-    pub fn private_use() -> Self
-        ensures { finding result ≡ Finding.PrivateUse }
-    {
-        Found {
-            finding: Finding::PrivateUse,
-        }
-    }
-
     /// Returns whether the text is a normal tag. The regular grandfathered tags are: true of `zh-min`, false of `i-lux`
     /// and `x-a`.
     pub fn is_normal(&self) -> bool

@@ -15,13 +15,12 @@
 //! viable_len(b"zh_Hant");                                // 2: no tag begins with `zh_`
 //! ```
 //!
-//! `Caseless` serves the crates of this workspace that build the text types.
+//! `Caseless` and `folded_number` serve the crates of this workspace that build the text types.
 #![tactic(auto)]
 
 mod case;
 mod caseless;
 mod class;
-mod ended_bytes;
 mod ends;
 mod finding;
 mod found;
@@ -36,7 +35,9 @@ mod stage;
 mod subtags;
 mod viable;
 
-pub use case::{case_insensitive_cmp, case_insensitive_eq, case_insensitive_hash, into_smallcase};
+pub use case::{
+    case_insensitive_cmp, case_insensitive_eq, case_insensitive_hash, folded_number, into_smallcase,
+};
 pub use caseless::Caseless;
 pub use class::{
     are_letters, is_extended, is_extension_subtag, is_mark, is_primary, is_private_subtag,

@@ -1,15 +1,21 @@
 //! Bytes, with a count of the reads.
-ghost use Rattle.std.specs.Prelude.{◌≡◌};
+ghost use Rattle.std.specs.Prelude.{◌≡◌, ◌≤◌, ◌++◌, ◌∷◌, [], length};
 
 use crate::source::ByteSource;
+
+/// The byte after all others, where one more is read. No tag has it, but any other would serve.
+const END: &[u8] = b"\xFF";
 
 /// The bytes of a text, or any others, with a count of the reads, to show how much of them is read to recognise a tag (RFC
 /// 5646 section 2.1). There is no other way to them.
 #[derive(Drop)]
 pub struct Metered<'a> {
     bytes: &'a [u8],
+    /// What is read after the bytes: one more, or none.
+    end: &'static [u8],
     reads: u128,
     reach: usize,
+    ghost short: { length end.now ≤ 1 },
 }
 
 impl<'a> Metered<'a> {
@@ -22,14 +28,35 @@ impl<'a> Metered<'a> {
         Metered::of_bytes(text.as_bytes())
     }
 
-    /// Bytes that need not be UTF-8: `Metered::of_bytes(b"fr\xFF").len()` is 3.
+    /// Returns bytes that need not be UTF-8, of which none was read yet: `Metered::of_bytes(b"fr\xFF").len()` is 3.
     pub fn of_bytes(bytes: &'a [u8]) -> Self
         ensures bytes { ⟦<Metered<'a> as ByteSource>⟧.bytes result ≡ bytes.now }
         ensures reads { ⟦<Metered<'a> as ByteSource>⟧.reads result ≡ 0 }
         ensures reach { ⟦<Metered<'a> as ByteSource>⟧.reach result ≡ 0 }
     {
+        Metered::followed(bytes, b"")
+    }
+
+    /// The bytes and one more after them: a recogniser reads that one where some tag begins with all before it, and stops
+    /// before it where none does.
+    pub(crate) fn ended(bytes: &'a [u8]) -> Self
+        ensures bytes { ⟦<Metered<'a> as ByteSource>⟧.bytes result ≡ bytes.now ++ 255 ∷ [] }
+        ensures reads { ⟦<Metered<'a> as ByteSource>⟧.reads result ≡ 0 }
+        ensures reach { ⟦<Metered<'a> as ByteSource>⟧.reach result ≡ 0 }
+    {
+        Metered::followed(bytes, END)
+    }
+
+    /// The bytes, and what is read after them.
+    fn followed(bytes: &'a [u8], end: &'static [u8]) -> Self
+        requires { length end.now ≤ 1 }
+        ensures bytes { ⟦<Metered<'a> as ByteSource>⟧.bytes result ≡ bytes.now ++ end.now }
+        ensures reads { ⟦<Metered<'a> as ByteSource>⟧.reads result ≡ 0 }
+        ensures reach { ⟦<Metered<'a> as ByteSource>⟧.reach result ≡ 0 }
+    {
         Metered {
             bytes,
+            end,
             reads: 0,
             reach: 0,
         }
@@ -37,14 +64,14 @@ impl<'a> Metered<'a> {
 }
 
 impl<'a> ByteSource for Metered<'a> {
-    ghost bytes = { λ s. s.bytes.now };
+    ghost bytes = { λ s. s.bytes.now ++ s.end.now };
 
     ghost reads = { λ s. s.reads };
 
     ghost reach = { λ s. s.reach };
 
     fn len(&self) -> usize {
-        self.bytes.len()
+        self.bytes.len() + self.end.len()
     }
 
     fn reads(&self) -> u128 {
@@ -60,6 +87,10 @@ impl<'a> ByteSource for Metered<'a> {
         if self.reach <= index {
             self.reach = index + 1;
         }
-        self.bytes[index]
+        if index < self.bytes.len() {
+            self.bytes[index]
+        } else {
+            self.end[index - self.bytes.len()]
+        }
     }
 }

@@ -1,7 +1,7 @@
 //! How far bytes are the beginning of a tag.
 ghost use Rattle.langtag_scan.specs.Viable.{IsViableLength};
 
-use crate::ended_bytes::EndedBytes;
+use crate::metered::Metered;
 use crate::recogniser::recognise;
 use crate::source::ByteSource;
 
@@ -12,7 +12,7 @@ use crate::source::ByteSource;
 pub fn viable_len(bytes: &[u8]) -> usize
     ensures { IsViableLength bytes.now result }
 {
-    let mut source = EndedBytes::new(bytes);
+    let mut source = Metered::ended(bytes);
     // The last byte that was read is the first after which no tag can follow, or the one after all others.
     let _ = recognise(&mut source);
     source.reach() - 1

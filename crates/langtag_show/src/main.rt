@@ -12,16 +12,12 @@
 //! If a read, a write or an allocation fails, the program says so on standard error and by its status.
 #![tactic(auto)]
 
-mod answer;
-mod run;
-#[cfg(test)]
-mod tests;
-
 use langtag_lines::conclude;
+pub use langtag_report::{ShowError, run};
 use std::io;
 use std::process::ExitCode;
 
 fn main(rt: HostRuntime) -> ExitCode {
-    let ended = run::run(rt.alloc(), &mut rt.stdin(), &mut io::writer(&rt));
+    let ended = run(rt.alloc(), &mut rt.stdin(), &mut io::writer(&rt));
     conclude(ended, &mut rt.stderr())
 }

@@ -86,6 +86,9 @@ fn feeds_a_folded_byte_a_call(rt: HostRuntime) {
     let mut calls = Calls(0);
     case_insensitive_hash(b"Fr", &mut calls);
     assert_same!(rt; calls.0, 0x166_172);
+    let mut calls = Calls(0);
+    case_insensitive_hash(b"dE-AraB-lY", &mut calls);
+    assert_same!(rt; calls.0, 0x164_165_12d_161_172_161_162_12d_16c_179);
     let mut none = Calls(0);
     case_insensitive_hash(b"", &mut none);
     assert_same!(rt; none.0, 0);

@@ -1,15 +1,16 @@
 //! How tags of every kind and normal ones are shown, kept and compared (RFC 5646 section 2.1.1).
 use crate::tags::parts::tag;
-use langtag::{EditError, Kind};
+use langtag::{EditError, Kind, ScriptBuf};
 use langtag_test_support::{assert_same, assert_that, with_memory};
 use std::alloc::{AllocError, Global};
 use std::cmp::Ordering;
 use std::process::Abort;
 
 /// Two tags and how they are ordered.
-const PAIRS: [(&str, &str, Ordering); 7] = [
+const PAIRS: [(&str, &str, Ordering); 8] = [
     ("dE-AraB-lY", "DE-aRaB-LY", Ordering::Equal),
     ("fr-FR", "Fr-fr", Ordering::Equal),
+    ("EN-gb", "en-GB", Ordering::Equal),
     ("x-fr-CH", "X-FR-ch", Ordering::Equal),
     ("I-kLINgon", "i-KLINGON", Ordering::Equal),
     ("zh", "zh-Latn", Ordering::Greater),
@@ -22,6 +23,25 @@ fn tags_are_ordered_without_regard_to_case(rt: HostRuntime) {
     for (text, other, order) in PAIRS {
         assert_same!(rt; tag(&rt, text).cmp(&tag(&rt, other)), order, text);
     }
+}
+
+#[test]
+fn owned_tags_compare_as_lent_ones(rt: HostRuntime) {
+    with_memory!(rt, check_owned_tags(&rt, rt.alloc()));
+}
+
+fn check_owned_tags(rt: &impl Abort, alloc: Global) -> Result<(), AllocError> {
+    for (text, other, order) in PAIRS {
+        let owned = tag(rt, text).try_to_owned(alloc)?;
+        let other = tag(rt, other).try_to_owned(alloc)?;
+        assert_same!(rt; owned.cmp(&other), order, text);
+        assert_same!(rt; owned == other, order == Ordering::Equal, text);
+    }
+    if let Ok(script) = ScriptBuf::new(String::from_str(alloc, "hANT")?) {
+        assert_same!(rt; script.as_script().as_str(), "hANT");
+        assert_that!(rt; script.as_script().eq_str("Hant"));
+    }
+    Ok(())
 }
 
 #[test]

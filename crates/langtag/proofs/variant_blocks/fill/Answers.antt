@@ -1,7 +1,7 @@
 use Rattle.std.proofs.Common.{◌+◌, ◌++◌, ◌∷◌, [], length, take, map, arith, sym, ap, ◌∙◌}
 use Rattle.std.proofs.lemmas.List.{length-drop, take_more_set}
 use Rattle.langtag_place.specs.Text.{variant_text, variants_left}
-use Rattle.langtag.specs.VariantBlocks.{folded_number}
+use Rattle.langtag_scan.specs.Case.{folded_number}
 use Rattle.langtag.proofs.RepeatLaws.{IsAt-drop}
 use Rattle.langtag.proofs.VariantBlockLaws.{numbers-more}
 use Rattle.langtag.proofs.variant_blocks.fill.Goals.{in-Some, in_default}
@@ -20,9 +20,9 @@ loop-number-preserved c =
             long = c.match-next.auto.block ∙ invariant.long;
             filled =
                 ap (take (index + 1)) w.block-is
-                ∙ take_more_set c.loop-number.block index w.folded_number.result (omega (arith, invariant.long, inside))
-                ∙ ap (λ numbers. numbers ++ w.folded_number.result ∷ []) invariant.filled
-                ∙ ap (λ number. map folded_number (take index all) ++ number ∷ []) w.folded_number.ensures
+                ∙ take_more_set c.loop-number.block index w.number_of.result (omega (arith, invariant.long, inside))
+                ∙ ap (λ numbers. numbers ++ w.number_of.result ∷ []) invariant.filled
+                ∙ ap (λ number. map folded_number (take index all) ++ number ∷ []) w.number_of.ensures
                 ∙ sym (numbers-more all index (variant_text w.in-Some.variant) _ at);
             left = sym at.later;
           }

@@ -1,6 +1,6 @@
 use Rattle.std.proofs.Common.{◌≡◌, length, take, drop, map}
 use Rattle.langtag_place.specs.Text.{variants_left}
-use Rattle.langtag.specs.VariantBlocks.{folded_number}
+use Rattle.langtag_scan.specs.Case.{folded_number}
 use Rattle.langtag.proofs.variant_blocks.fill.Given as goal
 
 -- so much of the block has the numbers of the variants so far, and the walk has the others

@@ -4,7 +4,8 @@ use Rattle.std.proofs.lemmas.List.{get_or-replicate}
 use Rattle.langtag_scan.specs.Subtags.{subtags}
 use Rattle.langtag_place.specs.Text.{variant_text, variants_text}
 use Rattle.langtag.specs.declared.variant_blocks.TheConstants.{BLOCK}
-use Rattle.langtag.specs.VariantBlocks.{folded_number, AreMet}
+use Rattle.langtag_scan.specs.Case.{folded_number}
+use Rattle.langtag.specs.VariantBlocks.{AreMet}
 use Rattle.langtag.proofs.VariantBlockLaws.{numbers-more, new-here, met-again, repeat-at, HasNoRepeatBefore-more}
 use Rattle.langtag.proofs.RepeatLaws.{IsAt-drop}
 use Rattle.langtag.proofs.variant_blocks.first_met_again.Goals as goal
@@ -32,7 +33,7 @@ returns-then-meet c =
     let earlier = map folded_number (take index all) in
     let again =
     sym c.if-meet.true ∙ c.meet.ensures.again earlier c.loop-index.invariant.met
-    ∙ ap (λ n. list_any (λ other. other == n) c.args.block.now && list_any (λ other. other == n) earlier) c.folded_number.ensures in
+    ∙ ap (λ n. list_any (λ other. other == n) c.args.block.now && list_any (λ other. other == n) earlier) c.number_of.ensures in
     sym (repeat-at all index text _ c.loop-index.invariant.new (IsAt-drop all index text _ here) here
     (met-again all index text c.args.block.now c.args.variants.in_class c.in-Some.variant.in_class again))
 
@@ -45,7 +46,7 @@ loop-index-preserved c =
     let earlier = map folded_number (take index all) in
     let again =
     sym c.if-meet.false ∙ c.meet.ensures.again earlier c.loop-index.invariant.met
-    ∙ ap (λ n. list_any (λ other. other == n) c.args.block.now && list_any (λ other. other == n) earlier) c.folded_number.ensures in
+    ∙ ap (λ n. list_any (λ other. other == n) c.args.block.now && list_any (λ other. other == n) earlier) c.number_of.ensures in
     let within = c.loop-index.invariant.within in
     let apart = c.if-index-start.false in
     record {
@@ -55,7 +56,7 @@ loop-index-preserved c =
       within = omega (arith, within, apart);
       flags = c.meet.ensures.room ∙ c.loop-index.invariant.flags;
       met = subst (AreMet c.args.block.now c.meet.new.met)
-          (ap (λ n. earlier ++ n ∷ []) c.folded_number.ensures ∙ sym (numbers-more all index text _ at))
+          (ap (λ n. earlier ++ n ∷ []) c.number_of.ensures ∙ sym (numbers-more all index text _ at))
           (c.meet.ensures.met earlier c.loop-index.invariant.met);
       new = HasNoRepeatBefore-more all index c.loop-index.invariant.new
           (new-here all c.args.start index text _ c.args.block.now c.args.variants.in_class c.in-Some.variant.in_class c.requires.new c.requires.from_start at

@@ -3,7 +3,8 @@ use Prim.Native.Nat.{◌^◌}
 use Rattle.langtag_scan.specs.Subtags.{subtags}
 use Rattle.langtag_place.specs.Text.{variants_text, variants_left}
 use Rattle.langtag.specs.declared.variant_blocks.TheConstants.{BLOCK}
-use Rattle.langtag.specs.VariantBlocks.{folded_number, HasNoRepeatBefore, AreMet}
+use Rattle.langtag_scan.specs.Case.{folded_number}
+use Rattle.langtag.specs.VariantBlocks.{HasNoRepeatBefore, AreMet}
 use Rattle.langtag.proofs.variant_blocks.first_met_again.Given as goal
 
 -- the variants before this index were met, none of them is a repeat, and the walk has the others

@@ -1,4 +1,4 @@
-use Rattle.std.proofs.Common.{◌≡◌, IsTrue, ◌++◌, ◌∷◌, [], Some, false, refl, sym, ap, ◌∙◌, subst, lit<, length, take, arith}
+use Rattle.std.proofs.Common.{◌≡◌, IsTrue, ◌++◌, ◌∷◌, [], None, Some, false, refl, sym, ap, ◌∙◌, subst, lit<, length, take, arith}
 use Rattle.std.proofs.lemmas.Grind.{common_steps}
 use Rattle.std.specs.List.{slice_get}
 use Rattle.std.proofs.lemmas.Option.{slice_get_read}
@@ -6,7 +6,7 @@ use Rattle.std.proofs.lemmas.List.{take_all}
 use Rattle.std.proofs.lemmas.List.FromFn.{length-enumerate_from}
 use Rattle.std.proofs.lemmas.Iterator.Splits.{YieldsList-from_str_split}
 use Rattle.std.proofs.lemmas.Iterator.Consumers.{YieldsList-from_enumerate, YieldsList-at, YieldsList-turn, YieldsList-end}
-use Rattle.langtag_match.specs.AcceptLanguage.{items, elements, is_ows, are_good}
+use Rattle.langtag_match.specs.AcceptLanguage.{bad_part, element, elements, items, is_ows, are_good}
 use Rattle.langtag_match.proofs.Elements.{turn_at, after_empty, after_element}
 use Rattle.langtag_match.proofs.accept_language.elements.Goals as goal
 
@@ -16,8 +16,8 @@ loop-index-preserved-in-Continue-1 c =
     let road = YieldsList-from_enumerate {s = c.into_iter-index-iterator.result} (YieldsList-at (cc) pieces) cc in
     let turn = YieldsList-turn road c.loop-index.yielded _ c.loop-index.yielded_by _ _ (c.in-Some.index, c.in-Some.item) c.in-Some.is c.next.ensures.steps in
     let (below, nth, here) = turn_at (items c.args.header.now) _ _ _ turn in
-    let pushed : c.push.new.self.items ≡ c.loop-index.elements.items ++ c.in-Ok.element ∷ [] = grind (arith, common_steps) in
-    rw pushed (after_element (items c.args.header.now) c.loop-index.yielded _ c.in-Some.item.now below here c.loop-index.elements.items c.in-Ok.element c.loop-index.invariant c.in-Ok.ensures.read)
+    let pushed : c.push.new.self.items ≡ c.loop-index.elements.items ++ c.in-Ok.element.weighted ∷ [] = grind (arith, common_steps) in
+    rw pushed (after_element (items c.args.header.now) c.loop-index.yielded _ c.in-Some.item.now below here c.loop-index.elements.items c.in-Ok.element.weighted c.loop-index.invariant (ap element (sym c.as_bytes-item.ensures.value) ∙ c.in-Ok.ensures.read))
 
 pub loop-index-preserved : goal.loop-index-preserved
 loop-index-preserved c =
@@ -25,7 +25,7 @@ loop-index-preserved c =
     let road = YieldsList-from_enumerate {s = c.into_iter-index-iterator.result} (YieldsList-at (cc) pieces) cc in
     let turn = YieldsList-turn road c.loop-index.yielded _ c.loop-index.yielded_by _ _ (c.in-Some.index, c.in-Some.item) c.in-Some.is c.next.ensures.steps in
     let (below, nth, here) = turn_at (items c.args.header.now) _ _ _ turn in
-    after_empty (items c.args.header.now) c.loop-index.yielded _ c.in-Some.item.now below here c.loop-index.elements.items c.loop-index.invariant c.in-Err.ensures.none (sym c.is_ows.ensures ∙ c.if-is_ows.true)
+    after_empty (items c.args.header.now) c.loop-index.yielded _ c.in-Some.item.now below here c.loop-index.elements.items c.loop-index.invariant (ap element (sym c.as_bytes-item.ensures.value) ∙ c.in-Err.ensures.none) (ap is_ows (sym c.as_bytes-item.ensures.value) ∙ sym c.is_empty_element.ensures ∙ c.if-is_empty_element.true)
 
 pub returns-in-Err-2-clause-refused : goal.returns-in-Err-2-clause-refused
 returns-in-Err-2-clause-refused c =
@@ -35,14 +35,16 @@ returns-in-Err-2-clause-refused c =
     let (below, nth, here) = turn_at (items c.args.header.now) _ _ _ turn in
     let there : slice_get (items c.args.header.now) c.in-Some.index ≡ Some c.in-Some.item.now =
     ap (slice_get (items c.args.header.now)) nth ∙ slice_get_read (items c.args.header.now) _ _ c.in-Some.item.now refl below here in
-    let blank : is_ows c.in-Some.item.now ≡ false = sym c.is_ows.ensures ∙ c.if-is_ows.false in (
+    let bytes : c.as_bytes-item.result.now ≡ c.in-Some.item.now = c.as_bytes-item.ensures.value in
+    let blank : is_ows c.in-Some.item.now ≡ false = ap is_ows (sym bytes) ∙ sym c.is_empty_element.ensures ∙ c.if-is_empty_element.false in
+    let none : element c.in-Some.item.now ≡ None = ap element (sym bytes) ∙ c.in-Err.ensures.none in (
       refl,
       record {
         item = c.in-Some.item.now;
         there = there;
         place = c.offset_of.ensures c.in-Some.item.now there;
-        bad = rw (blank, c.in-Err.ensures.none) refl;
-        which = c.in-Err.ensures.bad;
+        bad = rw (blank, none) refl;
+        which = c.in-Err.ensures.bad ∙ ap bad_part bytes;
         before = subst (λ n. IsTrue (are_good (take n (items c.args.header.now)))) (sym nth) c.loop-index.invariant.good;
       },
     )

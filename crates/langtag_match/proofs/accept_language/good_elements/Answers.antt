@@ -1,9 +1,9 @@
-use Rattle.std.proofs.Common.{◌≡◌, ◌++◌, ◌∷◌, [], ap, ◌∙◌, lit<, length, arith}
+use Rattle.std.proofs.Common.{◌≡◌, ◌++◌, ◌∷◌, [], ap, sym, ◌∙◌, lit<, length, arith}
 use Rattle.std.proofs.lemmas.Grind.{common_steps}
 use Rattle.std.proofs.lemmas.List.{take_all}
 use Rattle.std.proofs.lemmas.Iterator.Splits.{YieldsList-from_str_split}
 use Rattle.std.proofs.lemmas.Iterator.Consumers.{YieldsList-at, YieldsList-turn, YieldsList-end}
-use Rattle.langtag_match.specs.AcceptLanguage.{items, elements}
+use Rattle.langtag_match.specs.AcceptLanguage.{element, elements, items}
 use Rattle.langtag_match.proofs.Elements.{elements-more, elements-same}
 use Rattle.langtag_match.proofs.accept_language.good_elements.Goals as goal
 
@@ -12,15 +12,15 @@ loop-item-preserved-in-Continue-1 c =
     let pieces = YieldsList-from_str_split {s = c.split-item-items.result} 44 c.args.header.now (lit< tt) c.split-item-items.ensures.text c.split-item-items.ensures.has_more c.split-item-items.ensures.pattern in
     let road = YieldsList-at {s = c.into_iter-item-iterator.result} (cc) pieces in
     let (below, here) = YieldsList-turn road c.loop-item.yielded _ c.loop-item.yielded_by _ _ c.in-Some.item c.in-Some.is c.next.ensures.steps in
-    let pushed : c.push.new.self.items ≡ c.loop-item.elements.items ++ c.in-Ok.element ∷ [] = grind (arith, common_steps) in
-    rw pushed (elements-more (items c.args.header.now) c.loop-item.yielded c.in-Some.item c.in-Some.item.now below here c.loop-item.elements.items c.in-Ok.element c.loop-item.invariant c.in-Ok.ensures.read)
+    let pushed : c.push.new.self.items ≡ c.loop-item.elements.items ++ c.in-Ok.element.weighted ∷ [] = grind (arith, common_steps) in
+    rw pushed (elements-more (items c.args.header.now) c.loop-item.yielded c.in-Some.item c.in-Some.item.now below here c.loop-item.elements.items c.in-Ok.element.weighted c.loop-item.invariant (ap element (sym c.as_bytes.ensures.value) ∙ c.in-Ok.ensures.read))
 
 pub loop-item-preserved : goal.loop-item-preserved
 loop-item-preserved c =
     let pieces = YieldsList-from_str_split {s = c.split-item-items.result} 44 c.args.header.now (lit< tt) c.split-item-items.ensures.text c.split-item-items.ensures.has_more c.split-item-items.ensures.pattern in
     let road = YieldsList-at {s = c.into_iter-item-iterator.result} (cc) pieces in
     let (below, here) = YieldsList-turn road c.loop-item.yielded _ c.loop-item.yielded_by _ _ c.in-Some.item c.in-Some.is c.next.ensures.steps in
-    elements-same (items c.args.header.now) c.loop-item.yielded c.in-Some.item c.in-Some.item.now below here c.loop-item.elements.items c.loop-item.invariant c.in_default.ensures.none
+    elements-same (items c.args.header.now) c.loop-item.yielded c.in-Some.item c.in-Some.item.now below here c.loop-item.elements.items c.loop-item.invariant (ap element (sym c.as_bytes.ensures.value) ∙ c.in_default.ensures.none)
 
 pub returns : goal.returns
 returns c =

@@ -1,9 +1,11 @@
-use Rattle.std.proofs.Common.{◌≡◌, ◌<◌, ◌^◌, ◌++◌, None, length, drop, option_map, unwrap_or, refl, sym, ap, ◌∙◌, arith}
+use Rattle.std.proofs.Common.{◌≡◌, ◌<◌, ◌^◌, ◌++◌, None, length, drop, unwrap_or, inl, inr, refl, sym, ap, ◌∙◌, arith}
+use Rattle.std.proofs.lemmas.Bool.{cases_lt, false≢true}
 use Rattle.langtag_scan.specs.Record.{spell}
-use Rattle.langtag.specs.Text.{lang_tag_text, normal_lang_tag_text}
+use Rattle.langtag.specs.Text.{normal_lang_tag_text}
 use Rattle.langtag_registry.specs.Canonical.{canonical_record}
 use Rattle.langtag_registry.specs.Fields.{preferred_tag}
 use Rattle.langtag_registry.proofs.FormLengths.{form_length}
+use Rattle.langtag_registry.proofs.WholeTags.{none_longer}
 use Rattle.langtag_registry.proofs.canonical_form.write_parts.Goals as goal
 
 pub returns-then-len-buffer : goal.returns-then-len-buffer
@@ -13,7 +15,12 @@ returns-then-len-buffer c = λ r spells.
     let counted = (c.put_canonical_parts-len.ensures r spells).counted in
     let room : length (normal_lang_tag_text c.args.tag) < 2 ^ 63 = omega arith in
     let whole : len ≡ length form = omega (arith, counted, form_length r spells.0, ap length spells.1, room) in
-    let none : preferred_tag form ≡ None = sym (ap (option_map lang_tag_text) (sym c.in_default.is) ∙ c.preferred_to_parts.ensures r spells) in
+    let long : 16 < length form =
+    elim (cases_lt len 17) [
+      | inl short ↦ absurd (false≢true (c.in_default.ensures.lookup.1 (omega arith, omega (arith, short))))
+      | inr long ↦ omega (arith, long, whole)
+    ] in
+    let none : preferred_tag form ≡ None = sym (none_longer form long) in
     record {
       text = form;
       is_so = sym (ap (λ o. unwrap_or o form) none);
@@ -29,7 +36,12 @@ returns-else-len-buffer c = λ r spells.
     let counted = (c.put_canonical_parts-len.ensures r spells).counted in
     let room : length (normal_lang_tag_text c.args.tag) < 2 ^ 63 = omega arith in
     let whole : len ≡ length form = omega (arith, counted, form_length r spells.0, ap length spells.1, room) in
-    let none : preferred_tag form ≡ None = sym (ap (option_map lang_tag_text) (sym c.in_default.is) ∙ c.preferred_to_parts.ensures r spells) in
+    let long : 16 < length form =
+    elim (cases_lt len 17) [
+      | inl short ↦ absurd (false≢true (c.in_default.ensures.lookup.1 (omega arith, omega (arith, short))))
+      | inr long ↦ omega (arith, long, whole)
+    ] in
+    let none : preferred_tag form ≡ None = sym (none_longer form long) in
     record {
       text = form;
       is_so = sym (ap (λ o. unwrap_or o form) none);

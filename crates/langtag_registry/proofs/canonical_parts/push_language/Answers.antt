@@ -1,5 +1,7 @@
-use Rattle.std.proofs.Common.{◌≡◌, ◌∷◌, [], unwrap_or, sym, ap, ◌∙◌}
+use Rattle.std.proofs.Common.{◌≡◌, ◌∷◌, [], unwrap_or, refl, sym, ap, ◌∙◌}
 use Rattle.langtag_language.specs.Text.{language_text, primary_language_text, extended_lang_tag_text}
+use Rattle.langtag_scan.specs.Case.{fold_text}
+use Rattle.langtag_registry.specs.Canonical.{canonical_language}
 use Rattle.langtag_registry.specs.Fields.{preferred_language}
 use Rattle.langtag_registry.proofs.CanonicalLanguages.{several_pushed, extlang_pushed, other_pushed}
 use Rattle.langtag_registry.proofs.CanonicalVariants.{view_of}
@@ -13,12 +15,12 @@ returns-in_default-next-clause-pushed c = λ primary extended spells.
     ∙ ap (λ rest. extended_lang_tag_text c.in-Some.extlang ∷ rest) c.in_default-next.ensures.steps)
     spells.joined (pushes_same _ _ _ _ (ap (λ t. t ∷ []) c.as_bytes-in_default-next.ensures) c.push_subtag-in_default-next.ensures.pushed)
 
-pub returns-then-is_extlang-clause-pushed : goal.returns-then-is_extlang-clause-pushed
-returns-then-is_extlang-clause-pushed c = λ primary extended spells.
+pub returns-then-is_registered_extlang-clause-pushed : goal.returns-then-is_registered_extlang-clause-pushed
+returns-then-is_registered_extlang-clause-pushed c = λ primary extended spells.
     let extlang = extended_lang_tag_text c.in-Some.extlang in
-    extlang_pushed primary extlang extended c.in_small_letters.result _ _
+    extlang_pushed primary extlang extended (canonical_language (fold_text extlang)) _ _
     (sym (c.extension_subtags-extlangs.ensures.members primary extended spells) ∙ c.in-Some.ensures.steps ∙ ap (λ rest. extlang ∷ rest) c.in-None.ensures.steps.0)
-    (sym c.is_extlang.ensures ∙ c.if-is_extlang.true) c.in_small_letters.ensures c.push_subtag-then-is_extlang.ensures.pushed
+    (sym c.is_registered_extlang.ensures ∙ c.if-is_registered_extlang.true) refl c.push_extlang.ensures.pushed
 
 pub returns-clause-pushed : goal.returns-clause-pushed
 returns-clause-pushed c = λ primary extended spells.
@@ -30,5 +32,5 @@ returns-clause-pushed c = λ primary extended spells.
     ∙ ap (λ p. unwrap_or (preferred_language p) p) here in
     other_pushed primary c.as_bytes-2.result.now extlang extended _ _ _ spells.first
     (sym (c.extension_subtags-extlangs.ensures.members primary extended spells) ∙ c.in-Some.ensures.steps ∙ ap (λ rest. extlang ∷ rest) c.in-None.ensures.steps.0)
-    (sym c.is_extlang.ensures ∙ c.if-is_extlang.false) value c.push_subtag-2.ensures.pushed
+    (sym c.is_registered_extlang.ensures ∙ c.if-is_registered_extlang.false) value c.push_subtag-2.ensures.pushed
     (pushes_same _ _ _ _ (ap (λ t. t ∷ []) c.as_bytes-3.ensures) c.push_subtag-3.ensures.pushed)

@@ -7,12 +7,12 @@ pub overflow_sub-result : goal.overflow_sub-result
 overflow_sub-result c =
     let t = c.args.bytes.now in
     let (n, stop, reads, reach) = c.recognise.ensures.reads in
-    let at_stop : IsStop (t ++ 255 ∷ []) n = subst (λ q. IsStop q n) c.new-source.ensures.bytes stop in
-    omega (arith, stop_positive t 255 n at_stop, reach, c.reach.ensures, c.new-source.ensures.reach)
+    let at_stop : IsStop (t ++ 255 ∷ []) n = subst (λ q. IsStop q n) c.ended-source.ensures.bytes stop in
+    omega (arith, stop_positive t 255 n at_stop, reach, c.reach.ensures, c.ended-source.ensures.reach)
 
 pub returns : goal.returns
 returns c =
     let t = c.args.bytes.now in
     let (n, stop, reads, reach) = c.recognise.ensures.reads in
-    let at_stop : IsStop (t ++ 255 ∷ []) n = subst (λ q. IsStop q n) c.new-source.ensures.bytes stop in
-    viable_length t 255 n _ at_stop (omega (arith, stop_positive t 255 n at_stop, reach, c.reach.ensures, c.new-source.ensures.reach))
+    let at_stop : IsStop (t ++ 255 ∷ []) n = subst (λ q. IsStop q n) c.ended-source.ensures.bytes stop in
+    viable_length t 255 n _ at_stop (omega (arith, stop_positive t 255 n at_stop, reach, c.reach.ensures, c.ended-source.ensures.reach))

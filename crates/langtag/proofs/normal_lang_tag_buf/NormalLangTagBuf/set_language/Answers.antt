@@ -1,8 +1,5 @@
 use Rattle.langtag.proofs.SetBack.{language_back}
 use Rattle.langtag.proofs.normal_lang_tag_buf.NormalLangTagBuf.set_language.Goals as goal
 
-pub returns-in_err-self-clause-set_back : goal.returns-in_err-self-clause-set_back
-returns-in_err-self-clause-set_back c = language_back
-
 pub returns-clause-set_back : goal.returns-clause-set_back
 returns-clause-set_back c = language_back

@@ -1,8 +1,5 @@
 use Rattle.langtag.proofs.SetBack.{script_back}
 use Rattle.langtag.proofs.normal_lang_tag_buf.NormalLangTagBuf.set_script.Goals as goal
 
-pub returns-in_err-self-clause-set_back : goal.returns-in_err-self-clause-set_back
-returns-in_err-self-clause-set_back c = script_back
-
 pub returns-clause-set_back : goal.returns-clause-set_back
 returns-clause-set_back c = script_back

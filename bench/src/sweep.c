@@ -1,0 +1,208 @@
+/*
+ * Calls that may fail, over texts of each length to EACH bytes and by steps to MOST, and over all regions, scripts and short
+ * languages: none says that memory was refused, and each answer is the one that is expected here. By its contract a call could
+ * refuse whatever text it likes, and Display could fail on it: that neither does is seen here alone.
+ */
+#include "memory.h"
+#include <stdio.h>
+#include <string.h>
+
+enum { EACH = 4200, MOST = 2000000 };
+
+static char text[MOST + 64], wanted[2 * MOST + 64], written[2 * MOST + 64];
+static size_t calls, faults, refused;
+
+/* Notes a call over the text, and says where it was wrong or refused. */
+static void check(const char *name, size_t len, bool is_right) {
+    calls++;
+    if (is_right && !refused) return;
+    const char *what = refused ? "refused" : "wrong";
+    if (faults++ < 30) printf("sweep: %s of %zu bytes, %.*s: %s\n", name, len, len < 40 ? (int)len : 40, text, what);
+    refused = 0;
+}
+
+/* A text of a shape: a head, so many times a piece, and a tail. */
+struct shape {
+    const char *head, *piece, *tail;
+};
+
+static size_t append(char *to, size_t at, const char *from) {
+    size_t len = strlen(from);
+    memcpy(to + at, from, len);
+    return at + len;
+}
+
+static size_t write_shape(char *to, const struct shape *shape, size_t times) {
+    size_t at = append(to, 0, shape->head);
+    while (times-- > 0) at = append(to, at, shape->piece);
+    return append(to, at, shape->tail);
+}
+
+/* Writes the next longer text of a shape; false where that is longer than any. */
+static bool grow(const struct shape *shape, size_t *times, size_t *len) {
+    *times += *len < EACH ? 1 : *times / 2;
+    if (strlen(shape->head) + *times * strlen(shape->piece) + strlen(shape->tail) > MOST) return false;
+    *len = write_shape(text, shape, *times);
+    return true;
+}
+
+/* Whether a text of so many bytes was written, and it is the one that is wanted. */
+static bool is_wanted(size_t len, size_t wanted_len) {
+    return len == wanted_len && memcmp(written, wanted, len) == 0;
+}
+
+#define LENGTH(array) (sizeof array / sizeof *array)
+#define OTHER "sl-IT-rozaj-a-bb-x-a", 20
+
+/* Tags that are copied and displayed, whole and in their parts, and put into another tag, and that into them. */
+static const struct shape tags[] = {
+    {"x", "-a", ""},          {"x-aa", "-a", ""},
+    {"fr-x", "-a", ""},       {"fra-x", "-a", ""},
+    {"fr", "-abcde", ""},     {"DE-LATN-DE", "-1996", ""},
+    {"de", "-A-BB", ""},      {"de-a", "-12345678", ""},
+    {"zh-yue", "-1abc", "-x-a"},
+};
+
+static void sweep_tags(const struct shape *shape) {
+    for (size_t times = 0, len = 0; grow(shape, &times, &len);) {
+        check("copies", len, langtag_bench_copies(text, len, &refused));
+        if (text[0] == 'x') continue;
+        check("set_normal", len, langtag_bench_set_normal(OTHER, text, len, &refused));
+        check("set_normal", len, langtag_bench_set_normal(text, len, OTHER, &refused));
+        check("set_of_any", len, langtag_bench_set_of_any(OTHER, text, len, &refused));
+        check("set_of_any", len, langtag_bench_set_of_any(text, len, OTHER, &refused));
+        check("from_parts", len, langtag_bench_from_parts(text, len, &refused));
+    }
+}
+
+/* Calls that write a text, and the text that is wanted. */
+typedef size_t write_call(const char *, size_t, char *, size_t, size_t *);
+static const struct {
+    const char *name;
+    write_call *call;
+    struct shape given, wanted;
+} texts[] = {
+    {"canonical", langtag_bench_canonical, {"hak-Hant-419-1996-u-co-x", "-a", ""}, {"hak-Hant-419-1996-u-co-x", "-a", ""}},
+    {"canonical", langtag_bench_canonical, {"hak-Hant-419-1996-x-aa", "-a", ""}, {"hak-Hant-419-1996-x-aa", "-a", ""}},
+    {"canonical", langtag_bench_canonical, {"x", "-a", ""}, {"x", "-a", ""}},
+    {"canonical", langtag_bench_canonical, {"iw-BU", "-heploc", ""}, {"he-MM", "-alalc97", ""}},
+    {"canonical", langtag_bench_canonical, {"en-b-cc-a", "-dd", "-x-e"}, {"en-a", "-dd", "-b-cc-x-e"}},
+    {"canonical", langtag_bench_canonical, {"zh-yue-b-cc-A", "-d8", ""}, {"yue-A", "-d8", "-b-cc"}},
+    {"extlang_form", langtag_bench_extlang_form, {"hak-Hant-419-1996-u-co-x", "-a", ""}, {"zh-hak-Hant-419-1996-u-co-x", "-a", ""}},
+    {"extlang_form", langtag_bench_extlang_form, {"hak-x-aa", "-a", ""}, {"zh-hak-x-aa", "-a", ""}},
+    {"extlang_form", langtag_bench_extlang_form, {"iw", "-heploc", ""}, {"he", "-alalc97", ""}},
+    {"extlang_form", langtag_bench_extlang_form, {"x", "-a", ""}, {"x", "-a", ""}},
+    {"recommended", langtag_bench_recommended, {"X", "-A", ""}, {"x", "-a", ""}},
+    {"recommended", langtag_bench_recommended, {"X-AA", "-A", ""}, {"x-aa", "-a", ""}},
+    {"recommended", langtag_bench_recommended, {"MN-cYRL-mn", "-1ABC", "-X-a"}, {"mn-Cyrl-MN", "-1abc", "-x-a"}},
+    {"recommended", langtag_bench_recommended, {"DE-LATN-DE", "-A-BB", ""}, {"de-Latn-DE", "-a-bb", ""}},
+    {"displayed", langtag_bench_displayed, {"X", "-A", ""}, {"x", "-a", ""}},
+    {"displayed", langtag_bench_displayed, {"X-AA", "-A", ""}, {"x-aa", "-a", ""}},
+    {"displayed", langtag_bench_displayed, {"MN-cYRL-mn", "-1ABC", "-X-a"}, {"mn-Cyrl-MN", "-1abc", "-x-a"}},
+    {"displayed", langtag_bench_displayed, {"DE-LATN-DE", "-A-BB", ""}, {"de-Latn-DE", "-a-bb", ""}},
+};
+
+static void sweep_texts(const char *name, write_call *call, const struct shape *given, const struct shape *other) {
+    for (size_t times = 0, len = 0; grow(given, &times, &len);) {
+        size_t wanted_len = write_shape(wanted, other, times);
+        check(name, len, is_wanted(call(text, len, written, sizeof written, &refused), wanted_len));
+    }
+}
+
+/* Headers, and how many ranges each has: so many at first, and so many more for each piece; bad ones are passed over. */
+static const struct {
+    struct shape header;
+    size_t first, each;
+    bool is_bad;
+} headers[] = {
+    {{"", " ", "de"}, 1, 0, false},
+    {{"", "de,", ""}, 0, 1, false},
+    {{"de;q=0.5", ",fr;q=0.25", ""}, 1, 1, false},
+    {{"en;q=0", ",", ""}, 0, 0, false},
+    {{"de", "-a", ""}, 1, 0, false},
+    {{"deu", "-a", ", en;q=0.5"}, 2, 0, false},
+    {{"*, de", ",a-12345678", ""}, 2, 1, false},
+    {{"de,", "_", ",fr"}, 2, 0, true},
+    {{"", "de_a,", "fr"}, 1, 0, true},
+    {{"de,a", "a", "_a;q=0.5,fr"}, 2, 0, true},
+    {{"de;q=1.5", ",fr", ""}, 0, 1, true},
+};
+
+static void sweep_headers(const struct shape *header, size_t first, size_t each, bool is_bad) {
+    for (size_t times = 0, len = 0; grow(header, &times, &len);) {
+        bool are_all = langtag_bench_lenient(text, len, &refused) == first + times * each;
+        check("lenient", len, are_all);
+        if (!is_bad) check("header", len, langtag_bench_header(text, len, &refused));
+    }
+}
+
+/* The tag for a header among more and more tags, which is the last of them, and for longer and longer headers. */
+static void sweep_tags_for_headers(void) {
+    static const struct shape many = {"", "en,", "DE-ch"}, header = {"", "fr;q=0.5,", "de-ch-1996;q=0.1"};
+    for (size_t times = 0, len = 0; grow(&many, &times, &len);)
+        check("chosen", len, langtag_bench_chosen("fr, de-ch-1996;q=0.9", 20, text, len, &refused) == times);
+    for (size_t times = 0, len = 0; grow(&header, &times, &len);)
+        check("chosen", len, langtag_bench_chosen(text, len, "en,de-CH,de", 11, &refused) == 1);
+}
+
+/* Maps of so many tags, all different. */
+static void sweep_maps(void) {
+    for (size_t number = 1; number <= 100000; number += number / 2 + 1) {
+        size_t len = 0;
+        for (size_t tag = 0; tag < number; tag++) len += (size_t)sprintf(text + len, tag ? ",x-%zu" : "x-%zu", tag);
+        check("maps", len, langtag_bench_maps(text, len, &refused) == number);
+    }
+}
+
+/* A tag of few subtags. */
+static void check_short(size_t len) {
+    check("copies", len, langtag_bench_copies(text, len, &refused));
+    check("set_normal", len, langtag_bench_set_normal("sl-IT", 5, text, len, &refused));
+    check("set_of_any", len, langtag_bench_set_of_any("sl-IT", 5, text, len, &refused));
+    check("from_parts", len, langtag_bench_from_parts(text, len, &refused));
+    check("header", len, langtag_bench_header(text, len, &refused));
+    check("canonical", len, langtag_bench_canonical(text, len, written, sizeof written, &refused) > 0);
+    check("extlang_form", len, langtag_bench_extlang_form(text, len, written, sizeof written, &refused) > 0);
+}
+
+/* A tag in its recommended case, and in small letters. */
+static void check_subtag(const char *recommended) {
+    size_t len = append(text, 0, recommended), wanted_len = append(wanted, 0, recommended);
+    check_short(len);
+    for (size_t at = 0; at < len; at++) text[at] |= 0x20; /* a hyphen and a digit stay */
+    check_short(len);
+    check("recommended", len, is_wanted(langtag_bench_recommended(text, len, written, sizeof written, &refused), wanted_len));
+    check("displayed", len, is_wanted(langtag_bench_displayed(text, len, written, sizeof written, &refused), wanted_len));
+}
+
+/* All tags with so many letters, or digits, at some place: the first is of the first set, the others are of the other. */
+static void sweep_places(char *tag, size_t at, size_t count, char first, char others, size_t range) {
+    if (count == 0) return check_subtag(tag);
+    for (size_t index = 0; index < range; index++) {
+        tag[at] = (char)(first + index);
+        sweep_places(tag, at + 1, count - 1, others, others, range);
+    }
+}
+
+static void sweep_subtags(void) {
+    char two[] = "aa", three[] = "aaa", extended[] = "zh-aaa", region[] = "de-AA", number[] = "de-000", script[] = "de-Aaaa";
+    sweep_places(two, 0, 2, 'a', 'a', 26);
+    sweep_places(three, 0, 3, 'a', 'a', 26);
+    sweep_places(extended, 3, 3, 'a', 'a', 26);
+    sweep_places(region, 3, 2, 'A', 'A', 26);
+    sweep_places(number, 3, 3, '0', '0', 10);
+    sweep_places(script, 3, 4, 'A', 'a', 26);
+}
+
+int main(void) {
+    for (size_t row = 0; row < LENGTH(tags); row++) sweep_tags(&tags[row]);
+    for (size_t row = 0; row < LENGTH(texts); row++)
+        sweep_texts(texts[row].name, texts[row].call, &texts[row].given, &texts[row].wanted);
+    for (size_t row = 0; row < LENGTH(headers); row++)
+        sweep_headers(&headers[row].header, headers[row].first, headers[row].each, headers[row].is_bad);
+    sweep_tags_for_headers();
+    sweep_maps();
+    sweep_subtags();
+    printf("sweep: %zu calls, %zu faults\n", calls, faults);
+    return faults != 0;
+}

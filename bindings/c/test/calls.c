@@ -1,0 +1,301 @@
+/* What the library answers to the calls of the rows, in their words. */
+#include "rows.h"
+
+#include "../../examples/accept_language.h"
+#include "check.h"
+#include <stdlib.h>
+
+/* An entry for each number of an enum, whose names are those of the header. */
+static const char *named(const char *const *names, size_t count, uint32_t number) {
+    return number < count && names[number] ? names[number] : "unknown";
+}
+#define NAMED(names, number) named(names, sizeof(names) / sizeof *(names), number)
+
+/* Bytes as the rows have them. */
+static void put_bytes(text *to, const char *bytes, size_t len) {
+    char escaped[8];
+    put_word(to, len == 0 ? " ''" : " ");
+    for (size_t index = 0; index < len; index++) {
+        unsigned char byte = (unsigned char)bytes[index];
+        if (byte > ' ' && byte < 0x7f && !strchr("\\{}", byte)) {
+            put(to, bytes + index, 1);
+            continue;
+        }
+        snprintf(escaped, sizeof escaped, "\\x%02x", byte);
+        put_word(to, escaped);
+    }
+}
+
+static void put_number(text *to, const char *name, unsigned long long number) {
+    char digits[32];
+    snprintf(digits, sizeof digits, " %llu", number);
+    put_word(to, name);
+    put_word(to, digits);
+}
+
+/* A part, as its name and its subtags. */
+static void put_part(text *to, const char *name, text from, langtag_span part) {
+    langtag_span rest = part, subtag;
+    if (part.len > 0) put_word(to, name);
+    while (langtag_next_subtag(from.at, from.len, &rest, &subtag)) put_bytes(to, from.at + subtag.start, subtag.len);
+}
+
+static void put_changed(text *to, const char *name, text from, void (*change)(char *, size_t)) {
+    text copy = {NULL, 0, 0};
+    put(&copy, from.at, from.len);
+    change(copy.at, copy.len);
+    put_word(to, name);
+    put_bytes(to, copy.at, copy.len);
+    free(copy.at);
+}
+
+static const char *name_of_kind(uint32_t kind) {
+    static const char *const names[] = {
+        [LANGTAG_NONE] = "none",
+        [LANGTAG_NORMAL] = "normal",
+        [LANGTAG_PRIVATE_USE] = "private",
+        [LANGTAG_IRREGULAR] = "irregular",
+    };
+    return NAMED(names, kind);
+}
+
+static void put_repeats(text *to, text from) {
+    langtag_repeated repeated;
+    uint32_t answer = langtag_repeats(from.at, from.len, &repeated);
+    if (answer & LANGTAG_REPEATED_VARIANT) {
+        put_part(to, "\n  repeated_variant", from, repeated.variant);
+        put_number(to, "\n  at_variant", repeated.variant.start);
+    }
+    if (answer & LANGTAG_REPEATED_SINGLETON) {
+        put_part(to, "\n  repeated_singleton", from, repeated.singleton);
+        put_number(to, "\n  at_singleton", repeated.singleton.start);
+    }
+}
+
+static void answer_tag(text *to, const text *arguments) {
+    text a = arguments[0];
+    langtag_parts parts;
+    langtag_span rest, extension;
+    char hash[32];
+    uint32_t kind = langtag_parse(a.at, a.len, &parts);
+    put_word(to, " "), put_word(to, name_of_kind(kind));
+    if (kind == LANGTAG_NONE) return;
+    put_part(to, "\n  language", a, parts.language);
+    put_part(to, "\n  script", a, parts.script);
+    put_part(to, "\n  region", a, parts.region);
+    put_part(to, "\n  variants", a, parts.variants);
+    if (parts.extensions.len > 0) put_word(to, "\n  extensions");
+    for (rest = parts.extensions; langtag_next_extension(a.at, a.len, &rest, &extension);)
+        put_bytes(to, a.at + extension.start, extension.len);
+    put_part(to, "\n  private_use", a, parts.private_use);
+    put_repeats(to, a);
+    put_changed(to, "\n  recommended", a, langtag_recommend);
+    put_changed(to, "\n  folded", a, langtag_fold);
+    snprintf(hash, sizeof hash, "\n  hash %016llx", (unsigned long long)langtag_hash(LANGTAG_HASH, a.at, a.len));
+    put_word(to, hash);
+}
+
+static void answer_validity(text *to, const text *arguments) {
+    static const char *const names[] = {
+        [LANGTAG_VALIDITY_NONE] = "none",
+        [LANGTAG_VALID] = "valid",
+        [LANGTAG_INVALID_LANGUAGE] = "language",
+        [LANGTAG_INVALID_EXTLANG] = "extlang",
+        [LANGTAG_INVALID_SECOND_EXTLANG] = "second-extlang",
+        [LANGTAG_INVALID_SCRIPT] = "script",
+        [LANGTAG_INVALID_REGION] = "region",
+        [LANGTAG_INVALID_VARIANT] = "variant",
+        [LANGTAG_INVALID_REPEATED_VARIANT] = "repeated-variant",
+        [LANGTAG_INVALID_REPEATED_SINGLETON] = "repeated-singleton",
+    };
+    text a = arguments[0];
+    langtag_span invalid = {1, 2}; /* what is out is not read */
+    uint32_t answer = langtag_validity(a.at, a.len, &invalid);
+    put_word(to, " "), put_word(to, NAMED(names, answer));
+    if (answer == LANGTAG_VALIDITY_NONE || answer == LANGTAG_VALID) {
+        if (invalid.start != 0 || invalid.len != 0) put_word(to, " with a span");
+        return;
+    }
+    put_number(to, "", invalid.start);
+    put_bytes(to, a.at + invalid.start, invalid.len);
+}
+
+/* The form in more room than is wanted, in just as much, and in less, of which only the form may change a byte. */
+static void answer_canonical(text *to, const text *arguments) {
+    text a = arguments[0];
+    size_t len = langtag_canonical(a.at, a.len, (char[]){'~'}, 0);
+    size_t rooms[] = {len + 8, len, len > 0 ? len - 1 : 0};
+    if (len == 0) put_word(to, langtag_is_canonical(a.at, a.len) ? " - that is canonical" : " -");
+    for (int k = 0; k < 3; k++) {
+        size_t room = rooms[k], at = len <= room ? len : 0;
+        char *buffer = malloc(room ? room : 1);
+        if (!buffer) abort();
+        memset(buffer, '~', room);
+        if (langtag_canonical(a.at, a.len, buffer, room) != len) put_word(to, " whose length changes with the room");
+        if (at > 0 && k == 0) put_bytes(to, buffer, len);
+        if (at > 0 && memcmp(to->at + 1, buffer, len) != 0) put_word(to, " that changes with the room");
+        if (at > 0 && langtag_is_canonical(a.at, a.len) != langtag_eq(a.at, a.len, buffer, len))
+            put_word(to, " but langtag_is_canonical says otherwise");
+        for (; at < room; at++)
+            if (buffer[at] != '~') put_word(to, " and a byte after it");
+        free(buffer);
+    }
+}
+
+static void answer_grandfathered(text *to, const text *arguments) {
+    text a = arguments[0];
+    put_number(to, "", langtag_grandfathered(a.at, a.len));
+    put_word(to, " "), put_word(to, name_of_kind(langtag_kind(a.at, a.len)));
+}
+
+static void answer_viable(text *to, const text *arguments) {
+    text a = arguments[0];
+    put_number(to, "", langtag_viable(a.at, a.len));
+    put_number(to, "", langtag_stop(a.at, a.len));
+}
+
+/* Where each part of a normal tag ends, also of one that is absent. */
+static void put_ends(text *to, langtag_parts parts) {
+    const langtag_span spans[] = {parts.language, parts.script,     parts.region,
+                                  parts.variants, parts.extensions, parts.private_use};
+    for (size_t k = 0; k < sizeof spans / sizeof *spans; k++) put_number(to, "", spans[k].start + spans[k].len);
+}
+
+/* How many bytes decide the text, how many of its fronts are tags, and what it is. */
+static void answer_scan(text *to, const text *arguments) {
+    text a = arguments[0];
+    size_t tags = 0;
+    langtag_parts parts;
+    uint32_t kind = langtag_parse(a.at, a.len, &parts);
+    for (size_t len = 0; len <= a.len; len++) tags += langtag_kind(a.at, len) != LANGTAG_NONE;
+    put_number(to, "", langtag_stop(a.at, a.len)), put_number(to, "", tags);
+    put_word(to, " "), put_word(to, name_of_kind(kind));
+    if (kind == LANGTAG_NORMAL) put_ends(to, parts);
+    if (kind == LANGTAG_IRREGULAR) put_number(to, "", langtag_grandfathered(a.at, a.len));
+}
+
+static void answer_recommended(text *to, const text *arguments) {
+    put_changed(to, "", arguments[0], langtag_recommend);
+}
+
+static void answer_range(text *to, const text *arguments) {
+    static const char *const names[] = {
+        [LANGTAG_RANGE_NONE] = "none",
+        [LANGTAG_RANGE_BASIC] = "basic",
+        [LANGTAG_RANGE_EXTENDED] = "extended",
+    };
+    put_word(to, " "), put_word(to, NAMED(names, langtag_range_kind(arguments[0].at, arguments[0].len)));
+}
+
+static void answer_match(text *to, const text *arguments) {
+    text a = arguments[0], b = arguments[1];
+    bool basic = langtag_matches_basic(a.at, a.len, b.at, b.len);
+    bool extended = langtag_matches_extended(a.at, a.len, b.at, b.len);
+    put_word(to, basic ? extended ? " both" : " basic" : extended ? " extended" : " neither");
+}
+
+static void answer_order(text *to, const text *arguments) {
+    text a = arguments[0], b = arguments[1];
+    int32_t order = langtag_cmp(a.at, a.len, b.at, b.len);
+    bool is_equal = langtag_eq(a.at, a.len, b.at, b.len);
+    put_word(to, order == -1 ? " before" : order == 0 ? " equal" : order == 1 ? " after" : " unknown");
+    if (is_equal != (order == 0)) put_word(to, " but langtag_eq says otherwise");
+}
+
+static uint32_t part_named(text name) {
+    static const char *const names[] = {
+        [LANGTAG_PART_LANGUAGE] = "language",     [LANGTAG_PART_SCRIPT] = "script",
+        [LANGTAG_PART_REGION] = "region",         [LANGTAG_PART_VARIANTS] = "variants",
+        [LANGTAG_PART_EXTENSIONS] = "extensions", [LANGTAG_PART_PRIVATE_USE] = "private_use",
+    };
+    uint32_t part = 0;
+    while (part < 6 && (strlen(names[part]) != name.len || memcmp(names[part], name.at, name.len) != 0)) part++;
+    return part;
+}
+
+/* Into more room than is wanted, of which only the new tag may change a byte, and into too little. */
+static void put_edited(text *to, text tag, uint32_t part, text given) {
+    size_t room = tag.len + given.len + 2, at;
+    char *buffer = malloc(room);
+    if (!buffer) abort();
+    memset(buffer, '~', room);
+    size_t len = langtag_with_part(tag.at, tag.len, part, given.at, given.len, buffer, room);
+    if (len == 0) put_word(to, langtag_kind(tag.at, tag.len) == LANGTAG_NORMAL ? " refused" : " no parts");
+    else if (len < room) put_bytes(to, buffer, len);
+    else put_word(to, " longer than there is room");
+    for (at = len; at < room; at++)
+        if (buffer[at] != '~') put_word(to, " and a byte after it");
+    memset(buffer, '~', room);
+    if (len > 0 && langtag_with_part(tag.at, tag.len, part, given.at, given.len, buffer, len - 1) != len)
+        put_word(to, " whose length changes with the room");
+    for (at = 0; at < room; at++)
+        if (buffer[at] != '~') put_word(to, " and a byte in too little room");
+    free(buffer);
+}
+
+/* In C the empty text takes any part out, as `none` does: of a script, a region and a private use part there is no other. */
+static void answer_edit(text *to, const text *arguments) {
+    text tag = arguments[0], given = arguments[2];
+    uint32_t part = part_named(arguments[1]);
+    bool is_optional = part == LANGTAG_PART_SCRIPT || part == LANGTAG_PART_REGION || part == LANGTAG_PART_PRIVATE_USE;
+    if (given.len == 0 && is_optional && langtag_kind(tag.at, tag.len) == LANGTAG_NORMAL) return;
+    if (given.len == 4 && memcmp(given.at, "none", 4) == 0) given.len = 0;
+    put_edited(to, tag, part, given);
+}
+
+/* The tag that a header finds, by accept_language.c of the examples: strictly, and leniently. */
+static void put_chosen(text *to, text header, text texts) {
+    char *words = malloc(texts.len + 1);
+    const char *tags[64];
+    size_t count = 0, found;
+    if (!words) abort();
+    memcpy(words, texts.at, texts.len), words[texts.len] = '\0';
+    for (char *word = strtok(words, " "); word && count < 63; word = strtok(NULL, " ")) tags[count++] = word;
+    tags[count] = "-";
+    uint32_t answer = choose_tag_strict(header.at, header.len, tags, count, &found);
+    if (answer == LANGTAG_ACCEPTED_END) {
+        put_word(to, " "), put_word(to, tags[found]);
+    } else {
+        size_t commas = 0;
+        for (size_t at = 0; at < found; at++) commas += header.at[at] == ',';
+        put_number(to, " bad", commas), put_number(to, "", found);
+        put_word(to, answer == LANGTAG_ACCEPTED_BAD_RANGE    ? " range"
+                     : answer == LANGTAG_ACCEPTED_BAD_WEIGHT ? " weight"
+                                                             : " unknown");
+    }
+    put_word(to, " | "), put_word(to, tags[choose_tag_lenient(header.at, header.len, tags, count)]);
+    free(words);
+}
+
+static void answer_header(text *to, const text *arguments) { put_chosen(to, arguments[0], arguments[1]); }
+
+/* Basic ranges are a header, too. The example reads no extended ones. */
+static void answer_ranges(text *to, const text *arguments) {
+    text header = {NULL, 0, 0}, both = {NULL, 0, 0};
+    if (memchr(arguments[0].at, '*', arguments[0].len)) return;
+    put(&header, arguments[0].at, arguments[0].len);
+    for (size_t at = 0; at < header.len; at++)
+        if (header.at[at] == ' ') header.at[at] = ',';
+    put(&both, "", 0), put_chosen(&both, header, arguments[1]);
+    const char *lenient = strstr(both.at, " | ");
+    put(to, both.at, (size_t)(lenient - both.at));
+    if (strlen(lenient + 2) != to->len || memcmp(to->at, lenient + 2, to->len) != 0) put_word(to, lenient);
+    free(header.at), free(both.at);
+}
+
+call calls[] = {
+    {"tag", 1, answer_tag, 0},
+    {"validity", 1, answer_validity, 0},
+    {"canonical", 1, answer_canonical, 0},
+    {"grandfathered", 1, answer_grandfathered, 0},
+    {"viable", 1, answer_viable, 0},
+    {"range", 1, answer_range, 0},
+    {"scan", 1, answer_scan, 0},
+    {"recommended", 1, answer_recommended, 0},
+    {"match", 2, answer_match, 0},
+    {"order", 2, answer_order, 0},
+    {"edit", 3, answer_edit, 0},
+    {"header", 2, answer_header, 0},
+    {"ranges", 2, answer_ranges, 0},
+    {NULL, 0, NULL, 0},
+};

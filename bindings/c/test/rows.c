@@ -1,0 +1,134 @@
+/* Reads rows, and compares what the calls answer. */
+#include "rows.h"
+
+#include "check.h"
+#include <stdlib.h>
+
+void put(text *to, const char *bytes, size_t len) {
+    if (to->len + len + 1 > to->room) {
+        to->room = 2 * (to->len + len + 1);
+        to->at = realloc(to->at, to->room);
+        if (!to->at) abort();
+    }
+    if (len > 0) memcpy(to->at + to->len, bytes, len);
+    to->len += len;
+    to->at[to->len] = '\0';
+}
+
+void put_word(text *to, const char *word) { put(to, word, strlen(word)); }
+
+/* Puts a line with each {N:piece} written out. */
+static void put_expanded(text *to, const char *line, size_t len) {
+    const char *end = line + len;
+    while (line < end) {
+        const char *piece, *brace = memchr(line, '{', (size_t)(end - line));
+        if (!brace) brace = end;
+        put(to, line, (size_t)(brace - line));
+        if ((line = brace) == end) break;
+        unsigned long times = strtoul(line + 1, (char **)&piece, 10);
+        line = memchr(piece, '}', (size_t)(end - piece));
+        if (*piece++ != ':' || !line) abort();
+        while (times-- > 0) put(to, piece, (size_t)(line - piece));
+        line++;
+    }
+}
+
+/* Takes a word off a row, up to what separates words. */
+static text take_word(const char **row, const char *by) {
+    const char *end = strstr(*row, by);
+    size_t len = end ? (size_t)(end - *row) : strlen(*row);
+    text word = {(char *)*row, len, len};
+    *row += end ? len + strlen(by) : len;
+    return word;
+}
+
+/* The bytes of a word, in memory of their number, so that a sanitizer sees who reads behind them. */
+static text argument_of(text word) {
+    text out = {malloc(word.len ? word.len : 1), 0, word.len};
+    const char *at = word.at, *end = at + word.len;
+    if (!out.at) abort();
+    if (word.len == 2 && memcmp(at, "''", 2) == 0) at = end;
+    for (; at < end; at++) {
+        char byte = *at;
+        if (byte == '\\') {
+            byte = (char)strtoul((char[]){at[2], at[3], '\0'}, NULL, 16);
+            at += 3;
+        }
+        out.at[out.len++] = byte;
+    }
+    out.at = out.len == 0 ? out.at : realloc(out.at, out.len);
+    return out;
+}
+
+static call *call_named(text name) {
+    call *it = calls;
+    while (it->name && (strlen(it->name) != name.len || memcmp(it->name, name.at, name.len) != 0)) it++;
+    return it;
+}
+
+static void tell(const char *name, int line, const char *row, const char *wanted, const char *found) {
+    static int told;
+    failures++;
+    if (told++ < 3) printf("%s:%d: %.300s\n  wanted%.300s\n  found %.300s\n", name, line, row, wanted, found);
+}
+
+/* The calls whose fields stand between bars and that C has not. */
+static const char *const lacking[] = {"elements", "fallbacks", "filter"};
+
+/* The call of a row; a row of edits begins with the tag. One without a name where C has not the call. */
+static call *call_of(const char *row, const char *by, const char **rest) {
+    text name = take_word(rest, by);
+    call *found = call_named(name);
+    if (found->name || strcmp(by, " ") == 0) return found;
+    for (size_t k = 0; k < sizeof lacking / sizeof *lacking; k++)
+        if (strlen(lacking[k]) == name.len && memcmp(lacking[k], name.at, name.len) == 0) return found;
+    *rest = row;
+    return call_named((text){(char *)"edit", 4, 4});
+}
+
+/* Asks one row, with the lines that belong to it behind it. */
+static bool ask(const char *name, int line, const char *row, const char *more) {
+    const char *by = strstr(row, " | ") ? " | " : " ", *rest = row;
+    text arguments[ARGUMENTS], found = {NULL, 0, 0}, wanted = {NULL, 0, 0};
+    call *asked = call_of(row, by, &rest);
+    if (!asked->name) return false;
+    for (int k = 0; k < asked->arguments; k++) arguments[k] = argument_of(take_word(&rest, by));
+    put(&found, "", 0), put(&wanted, by, rest[0] != '\0' ? 1 : 0);
+    put_word(&wanted, rest), put_word(&wanted, more);
+    asked->answer(&found, arguments);
+    bool is_asked = found.len > 0;
+    if (is_asked && wanted.len == 0) printf("%s%s%s\n", row, by[1] != '\0' ? " |" : "", found.at);
+    else if (is_asked && (checks++, strcmp(found.at, wanted.at) != 0)) tell(name, line, row, wanted.at, found.at);
+    asked->asked += is_asked;
+    for (int k = 0; k < asked->arguments; k++) free(arguments[k].at);
+    free(found.at), free(wanted.at);
+    return is_asked;
+}
+
+static text read_all(FILE *file) {
+    text out = {NULL, 0, 0};
+    char piece[4096];
+    put(&out, "", 0);
+    for (size_t got; (got = fread(piece, 1, sizeof piece, file)) > 0;) put(&out, piece, got);
+    return out;
+}
+
+int ask_rows(FILE *file, const char *name) {
+    text all = read_all(file);
+    int asked = 0, line = 0;
+    for (const char *at = all.at; *at;) {
+        size_t len = strcspn(at, "\n");
+        text row = {NULL, 0, 0}, more = {NULL, 0, 0};
+        int begun = ++line;
+        put(&row, "", 0), put(&more, "", 0);
+        if (len > 0 && *at != '#') put_expanded(&row, at, len);
+        for (at += len + (at[len] != '\0'); *at == ' '; at += len + (at[len] != '\0'), line++) {
+            len = strcspn(at, "\n");
+            put(&more, "\n", 1), put_expanded(&more, at, len);
+        }
+        if (row.len > 0) asked += ask(name, begun, row.at, more.at);
+        free(row.at), free(more.at);
+    }
+    free(all.at);
+    return asked;
+}

@@ -1,0 +1,354 @@
+/*
+ * Asks langtag.hpp the rows that the tests of all languages read: rows FILE FLOOR .. A row whose answer is another is
+ * told, three at most; a row without an answer is written with one; and a file in which fewer rows than its floor were
+ * asked, or a call that no row asks, is a failure. The files say their form.
+ */
+#include <langtag.hpp>
+
+#include <cstdio>
+#include <fstream>
+#include <iostream>
+#include <map>
+
+using langtag::tag;
+using strings = std::vector<std::string>;
+
+/* What a row says of the text that follows. */
+static void say(std::string &out, const char *name, std::string_view part) {
+    if (part.empty()) return;
+    out.append("\n  ").append(name);
+    for (std::string_view subtag : langtag::subtags(part)) out.append(1, ' ').append(subtag);
+}
+
+static std::string kind_of(std::string_view text) {
+    const auto one = tag::parse(text);
+    if (!one) return "none";
+    switch (one->kind()) {
+    case langtag::kind::normal: return "normal";
+    case langtag::kind::private_use: return "private";
+    case langtag::kind::irregular: return "irregular";
+    }
+    return "unknown";
+}
+
+static std::string parts_of(const tag &one) {
+    std::string out;
+    const auto offset = [&](std::string_view part) { return std::to_string(part.data() - one.text().data()); };
+    say(out, "language", one.language());
+    say(out, "script", one.script());
+    say(out, "region", one.region());
+    say(out, "variants", one.variants());
+    if (!one.extensions().empty()) out += "\n  extensions";
+    for (std::string_view extension : langtag::extensions(one.extensions())) out.append(1, ' ').append(extension);
+    say(out, "private_use", one.private_use());
+    const std::string_view variant = one.repeated_variant(), singleton = one.repeated_singleton();
+    say(out, "repeated_variant", variant);
+    if (!variant.empty()) say(out, "at_variant", offset(variant));
+    say(out, "repeated_singleton", singleton);
+    if (!singleton.empty()) say(out, "at_singleton", offset(singleton));
+    return out;
+}
+
+static std::string tag_of(const strings &asked) {
+    const auto one = tag::parse(asked[0]);
+    auto owned = langtag::owned_tag::parse(asked[0]);
+    std::string out = kind_of(asked[0]);
+    if (!one) return owned ? "an owned one" : out;
+    const langtag::owned_tag copy(*one), moved(std::move(*owned));
+    out += parts_of(*one);
+    if (parts_of(moved.view()) != parts_of(*one) || parts_of(copy.view()) != parts_of(*one))
+        out += "\n  owned ones have others";
+    if (moved.text() != asked[0] || copy != moved || moved.view().kind() != one->kind())
+        out += "\n  owned ones are others";
+    const std::string recommended = langtag::recommended(asked[0]), folded = langtag::folded(asked[0]);
+    out += "\n  recommended " + recommended + "\n  folded " + folded;
+    char digits[17];
+    std::snprintf(digits, sizeof digits, "%016llx", static_cast<unsigned long long>(one->fnv1a()));
+    out += std::string("\n  hash ") + digits;
+    const auto other = tag::parse(folded);
+    if (one->text() != asked[0]) out += "\n  text " + std::string(one->text());
+    if (!other || *one != *other || std::hash<tag>()(*one) != std::hash<tag>()(*other)) out += "\n  case is seen";
+    return out;
+}
+
+static std::string validity_of(const strings &asked) {
+    const auto one = tag::parse(asked[0]);
+    if (!one) return "none";
+    const auto wrong = one->invalid_subtag();
+    if (one->is_valid() != !wrong) return "is_valid says otherwise";
+    if (!wrong) return "valid";
+    const std::string subtag(wrong->subtag), at = " " + std::to_string(wrong->offset) + " " + subtag;
+    if (wrong->subtag.data() != one->text().data() + wrong->offset) return "another offset than" + at;
+    const auto said = [&](const char *name, const char *what, const char *how) {
+        const std::string message = std::string(what) + " " + subtag + " is " + how;
+        return wrong->message() == message ? name + at : name + at + ", and says: " + wrong->message();
+    };
+    switch (wrong->fault) {
+    case langtag::fault::language: return said("language", "language", "not registered");
+    case langtag::fault::extlang: return said("extlang", "extended language", "not registered");
+    case langtag::fault::second_extlang: return said("second-extlang", "extended language", "the second");
+    case langtag::fault::script: return said("script", "script", "not registered");
+    case langtag::fault::region: return said("region", "region", "not registered");
+    case langtag::fault::variant: return said("variant", "variant", "not registered");
+    case langtag::fault::repeated_variant: return said("repeated-variant", "variant", "repeated");
+    case langtag::fault::repeated_singleton: return said("repeated-singleton", "singleton", "repeated");
+    }
+    return "unknown" + at;
+}
+
+static std::string canonical_of(const strings &asked) {
+    const auto one = tag::parse(asked[0]);
+    if (!one) return "-";
+    const std::string form = one->canonical();
+    const auto same = tag::parse(form);
+    if (!same || !same->is_canonical() || one->is_canonical() != (*one == *same))
+        return form + ", and is_canonical says otherwise";
+    return form;
+}
+
+static std::string grandfathered_of(const strings &asked) {
+    const auto one = tag::parse(asked[0]);
+    const auto text = one ? one->grandfathered() : std::string_view();
+    const auto *end = std::end(langtag::grandfathered_tags), *at = std::find(langtag::grandfathered_tags, end, text);
+    if (at != end && *one != *at) return "another one: " + std::string(text);
+    return std::to_string(at - langtag::grandfathered_tags) + " " + kind_of(asked[0]);
+}
+
+static std::string viable_of(const strings &asked) {
+    return std::to_string(langtag::viable(asked[0])) + " " + std::to_string(langtag::stop(asked[0]));
+}
+
+/* How many bytes decide the text, how many of its fronts are tags, and what it is, with the ends of its parts. */
+static std::string scan_of(const strings &asked) {
+    const std::string_view text = asked[0];
+    const auto one = tag::parse(text);
+    int tags = 0;
+    for (std::size_t len = 0; len <= text.size(); len++) tags += tag::parse(text.substr(0, len)).has_value();
+    std::string out = std::to_string(langtag::stop(text)) + " " + std::to_string(tags) + " " + kind_of(text);
+    if (one && one->kind() == langtag::kind::irregular)
+        out += " " + grandfathered_of(asked).substr(0, grandfathered_of(asked).find(' '));
+    if (!one || one->kind() != langtag::kind::normal) return out;
+    for (std::string_view part :
+         {one->language(), one->script(), one->region(), one->variants(), one->extensions(), one->private_use()})
+        out += " " + std::to_string(part.data() + part.size() - text.data());
+    return out;
+}
+
+/* Bytes as the rows have them. */
+static std::string escaped(const std::string &text) {
+    std::string out = text.empty() ? "''" : "";
+    char digits[8];
+    for (const char byte : text) {
+        const bool is_plain = byte > ' ' && byte < 0x7f && byte != '\\' && byte != '{' && byte != '}';
+        std::snprintf(digits, sizeof digits, "\\x%02x", static_cast<unsigned>(static_cast<unsigned char>(byte)));
+        out += is_plain ? std::string(1, byte) : digits;
+    }
+    return out;
+}
+
+static std::string recommended_of(const strings &asked) { return escaped(langtag::recommended(asked[0])); }
+
+static std::string range_of(const strings &asked) {
+    const auto one = langtag::range::parse(asked[0]);
+    return !one ? "none" : one->is_basic() ? "basic" : "extended";
+}
+
+static std::string match_of(const strings &asked) {
+    const auto range = langtag::range::parse(asked[0]);
+    const auto one = tag::parse(asked[1]);
+    if (!one) return "neither";
+    const bool basic = langtag::matches_basic(asked[0], *one), extended = langtag::matches_extended(asked[0], *one);
+    const bool by_range = range && range->matches_basic(*one),
+               extended_by_range = range && range->matches_extended(*one);
+    if (basic != by_range || extended != extended_by_range) return "the range says otherwise";
+    return basic ? extended ? "both" : "basic" : extended ? "extended" : "neither";
+}
+
+/* Of tags; none where a text is not one. */
+static std::string order_of(const strings &asked) {
+    const auto one = tag::parse(asked[0]), other = tag::parse(asked[1]);
+    if (!one || !other) return "";
+    const bool before = *one<*other, after = *one> * other, equal = *one == *other;
+    if ((*one <= *other) == after || (*one >= *other) == before || (*one != *other) == equal ||
+        before + after + equal != 1)
+        return "the operators disagree";
+    if ((*one == other->text()) != equal || (other->text() == *one) != equal) return "the text says otherwise";
+    const std::string key = langtag::folded(asked[0]), other_key = langtag::folded(asked[1]);
+    const bool is_prefix = other_key.rfind(key, 0) == 0, has_prefix = key.rfind(other_key, 0) == 0;
+    if ((key < other_key) != (!equal && (is_prefix || (before && !has_prefix)))) return "the keys say otherwise";
+    return before ? "before" : after ? "after" : "equal";
+}
+
+static strings split(const std::string &text, const std::string &by) {
+    strings out;
+    std::size_t from = 0;
+    for (auto to = text.find(by); to != text.npos; from = to + by.size(), to = text.find(by, from))
+        out.push_back(text.substr(from, to - from));
+    out.push_back(text.substr(from));
+    return out;
+}
+
+static std::vector<tag> tags_of(const strings &texts) {
+    std::vector<tag> out;
+    for (const std::string &text : texts)
+        if (const auto one = tag::parse(text)) out.push_back(*one);
+    return out;
+}
+
+static std::string found_or_default(const std::optional<tag> &found) {
+    return found ? std::string(found->text()) : "-";
+}
+
+static std::string header_of(const strings &asked) {
+    const strings texts = split(asked[1], " ");
+    const langtag::accept_language accepted(asked[0]);
+    const std::string found = found_or_default(accepted.look_up(tags_of(texts)));
+    const auto bad = accepted.bad_element();
+    if (!bad) return found + " | " + found;
+    const char *part = bad->part == langtag::element_part::range    ? "range"
+                       : bad->part == langtag::element_part::weight ? "weight"
+                                                                    : "unknown";
+    return "bad " + std::to_string(bad->index) + " " + std::to_string(bad->offset) + " " + part + " | " + found;
+}
+
+static std::string ranges_of(const strings &asked) {
+    const strings texts = split(asked[1], " "), words = split(asked[0], " ");
+    std::vector<langtag::range> ranges;
+    for (const std::string &word : words)
+        if (const auto range = langtag::range::parse(word)) ranges.push_back(*range);
+    return found_or_default(langtag::look_up(ranges, tags_of(texts)));
+}
+
+/* With a part set; and where a tag has no parts, with no part set. An empty text takes each part out, as `none` does. */
+static std::string edit_of(const strings &asked) {
+    using langtag::part;
+    static const std::map<std::string, part> parts = {
+        {"language", part::language}, {"script", part::script},         {"region", part::region},
+        {"variants", part::variants}, {"extensions", part::extensions}, {"private_use", part::private_use}};
+    const auto one = tag::parse(asked[0]);
+    const std::string given = asked[2] == "none" ? "" : asked[2];
+    const part which = parts.at(asked[1]);
+    const bool is_optional = which == part::script || which == part::region || which == part::private_use;
+    if (!one) return "not a tag";
+    if (one->kind() == langtag::kind::normal && is_optional && asked[2].empty()) return "";
+    const auto made = one->with(which, given);
+    langtag::owned_tag kept(*one);
+    if (!made && (kept.set(which, given) || kept.text() != asked[0] || one->with({{which, given}})))
+        return "others have one";
+    if (!made) return one->kind() == langtag::kind::normal ? "refused" : "no parts";
+    const auto again = tag::parse(*made);
+    if (!again) return "not a tag: " + *made;
+    langtag::owned_tag owned(*one);
+    if (!owned.set(which, given) || owned.text() != *made || one->with({{which, given}}) != made)
+        return "others have another";
+    const auto whole = langtag::from_parts(again->language(), again->script(), again->region(), again->variants(),
+                                           again->extensions(), again->private_use());
+    return whole == made ? *made : "from_parts has another: " + whole.value_or("none");
+}
+
+static const struct call {
+    std::size_t arguments;
+    std::string (*answer)(const strings &asked); /* empty where C++ does not answer */
+} no_call = {0, nullptr};
+static const std::map<std::string, call> calls = {
+    {"tag", {1, tag_of}},
+    {"validity", {1, validity_of}},
+    {"canonical", {1, canonical_of}},
+    {"viable", {1, viable_of}},
+    {"range", {1, range_of}},
+    {"grandfathered", {1, grandfathered_of}},
+    {"scan", {1, scan_of}},
+    {"recommended", {1, recommended_of}},
+    {"match", {2, match_of}},
+    {"order", {2, order_of}},
+    {"edit", {3, edit_of}},
+    {"header", {2, header_of}},
+    {"ranges", {2, ranges_of}},
+};
+
+/* A line with each {N:piece} written out. */
+static std::string expand(const std::string &line) {
+    std::string out;
+    std::size_t from = 0;
+    for (auto at = line.find('{'); at != line.npos; at = line.find('{', from)) {
+        const auto colon = line.find(':', at), end = line.find('}', at);
+        out.append(line, from, at - from);
+        for (int times = std::stoi(line.substr(at + 1)); times > 0; times--)
+            out.append(line, colon + 1, end - colon - 1);
+        from = end + 1;
+    }
+    return out.append(line, from, line.npos);
+}
+
+/* The bytes of a word: '' is empty, and \xNN a byte. */
+static std::string unescape(const std::string &word) {
+    if (word == "''") return "";
+    const strings pieces = split(word, "\\x");
+    std::string out = pieces[0];
+    for (std::size_t k = 1; k < pieces.size(); k++)
+        out.append(1, static_cast<char>(std::stoi(pieces[k].substr(0, 2), nullptr, 16))).append(pieces[k], 2);
+    return out;
+}
+
+static std::string join(const strings &words, std::size_t from, const std::string &by) {
+    std::string out;
+    for (std::size_t k = from; k < words.size(); k++) out.append(k > from ? by : "").append(words[k]);
+    return out;
+}
+
+static std::map<std::string, int> times_asked;
+static int differing;
+
+/* The calls whose fields stand between bars; a row of edits has them too, and begins with the tag. */
+static bool has_bars(const std::string &call) {
+    static const strings names = {"header", "ranges", "elements", "fallbacks", "filter"};
+    return std::find(names.begin(), names.end(), call) != names.end();
+}
+
+/* Asks one row, the lines that belong to it behind it. */
+static bool ask(const std::string &place, const std::string &row, const std::string &more) {
+    const std::string by = row.find(" | ") == row.npos ? " " : " | ";
+    strings words = split(row, by);
+    if (by != " " && !has_bars(words[0])) words.insert(words.begin(), "edit");
+    const auto found_call = calls.find(words[0]);
+    const call &call = found_call == calls.end() ? no_call : found_call->second;
+    if (!call.answer) return false;
+    strings asked;
+    for (std::size_t k = 1; k <= call.arguments; k++) asked.push_back(unescape(words.at(k)));
+    const std::string wanted = join(words, call.arguments + 1, by) + more, found = call.answer(asked);
+    if (found.empty()) return false;
+    times_asked[words[0]]++;
+    if (wanted.empty()) std::cout << row << by << found << "\n";
+    else if (found != wanted && ++differing <= 3)
+        std::cout << place << ": " << row.substr(0, 300) << "\n  wanted " << wanted.substr(0, 300) << "\n  found  "
+                  << found.substr(0, 300) << "\n";
+    return true;
+}
+
+static int ask_all(const char *name) {
+    std::ifstream file(name);
+    strings lines;
+    int asked = 0;
+    for (std::string line; std::getline(file, line);) lines.push_back(line);
+    for (std::size_t at = 0; at < lines.size();) {
+        const std::string &line = lines[at], place = std::string(name) + ":" + std::to_string(++at);
+        if (line.empty() || line[0] == '#') continue;
+        std::string row = expand(line), more;
+        for (; at < lines.size() && lines[at][0] == ' '; at++) more += "\n" + expand(lines[at]);
+        asked += ask(place, row, more);
+    }
+    return asked;
+}
+
+int main(int count, char **arguments) {
+    int failures = 0;
+    for (int k = 1; k + 1 < count; k += 2) {
+        const int asked = ask_all(arguments[k]), floor = std::stoi(arguments[k + 1]);
+        std::cout << arguments[k] << ": " << asked << " rows\n";
+        if (asked < floor) failures++, std::cout << "at least " << floor << " were to be asked\n";
+    }
+    for (const auto &it : calls)
+        if (times_asked[it.first] == 0) failures++, std::cout << "no row asks " << it.first << "\n";
+    if (differing > 0) std::cout << differing << " differ\n";
+    return failures > 0 || differing > 0;
+}

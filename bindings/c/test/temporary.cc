@@ -1,0 +1,7 @@
+/* Must not compile: the tag would be a view of a string that is gone at the end of the line. */
+#include <langtag.hpp>
+
+int main() {
+    const auto tag = langtag::tag::parse(langtag::recommended("DE-ch"));
+    return tag ? 0 : 1;
+}

@@ -1,0 +1,122 @@
+#!/usr/bin/env python3
+"""Tests of the extension for SQLite: test_sqlite.py EXTENSION. It asks the rows that the tests of all languages read, and
+beside them what only SQL has."""
+import re
+import subprocess
+import sys
+import unittest
+
+import rows
+
+PARTS = ("language", "script", "region", "variants", "extensions", "private_use")
+
+
+def sqlite(script):
+    """What SQLite says, and what it complains of, with the extension loaded."""
+    command = ["sqlite3", ":memory:", "-cmd", f".load {EXTENSION}"]
+    run = subprocess.run(command, input=script, capture_output=True, text=True)
+    return run.stdout, run.stderr
+
+
+def text(data):
+    """A text of any bytes, as an expression of SQL."""
+    return f"CAST(X'{data.hex()}' AS TEXT)"
+
+
+def shown(expression):
+    """A text as its bytes, or NULL."""
+    return f"quote(CAST({expression} AS BLOB))"
+
+
+# A call of the rows as a statement, whose answer is one line.
+QUERIES = {
+    "tag": lambda tag: f"SELECT {','.join(shown(f'langtag_part({text(tag)}, {name!r})') for name in PARTS)}",
+    "canonical": lambda tag: f"SELECT {shown(f'langtag_canonical({text(tag)})')}",
+    "validity": lambda tag: f"SELECT coalesce(langtag_is_valid({text(tag)}), 'none')",
+    "match": lambda range, tag: f"SELECT langtag_matches_basic({text(range)}, {text(tag)}),"
+                                f" langtag_matches_extended({text(range)}, {text(tag)})",
+    "order": lambda a, b: "SELECT " + ", ".join(f"{text(a)} {how} {text(b)} COLLATE langtag" for how in "<=>"),
+}
+
+
+def bytes_of(word):
+    """What was shown; None of NULL."""
+    return None if word == "NULL" else bytes.fromhex(word[2:-1]).decode("ascii")
+
+
+def answer_tag(said):
+    found = zip(PARTS, map(bytes_of, said.split("|")))
+    return "".join(f"\n  {name} {part}" for name, part in found if part is not None)
+
+
+# What a line says, in the words of the rows.
+ANSWERS = {
+    "tag": answer_tag,
+    "canonical": lambda said: "-" if said == "NULL" else bytes_of(said),
+    "validity": {"none": "none", "1": "valid", "0": "invalid"}.get,
+    "match": {"1|1": "both", "1|0": "basic", "0|1": "extended", "0|0": "neither"}.get,
+    "order": {"1|0|0": "before", "0|1|0": "equal", "0|0|1": "after"}.get,
+}
+
+
+def adapted(row):
+    """Of a tag its parts, each as one text; of an invalid one that it is invalid."""
+    if row.call == "validity":
+        return row.wanted if row.wanted in ("none", "valid") else "invalid"
+    if row.call != "tag":
+        return row.wanted
+    lines = [line.split() for line in row.wanted.split("\n")[1:]]
+    return "".join(f"\n  {name} {'-'.join(subtags)}" for name, *subtags in lines if name in PARTS)
+
+
+TABLE = "CREATE TABLE texts (tag TEXT PRIMARY KEY COLLATE langtag); INSERT INTO texts VALUES ('zh-Hant'), ('de'), ('zh'), ('');"
+# Statements, and what SQLite says to them.
+STATEMENTS = [
+    ("SELECT langtag_part(NULL, 'script') IS NULL, langtag_part('zh-Hant', NULL) IS NULL;", "1|1"),
+    ("SELECT langtag_canonical(NULL) IS NULL, langtag_is_valid(NULL) IS NULL;", "1|1"),
+    ("SELECT langtag_matches_basic('de', NULL) IS NULL, langtag_matches_extended(NULL, 'de') IS NULL;", "1|1"),
+    ("SELECT langtag_part('zh-Hant', 'script'), typeof(langtag_canonical('iw')), typeof(langtag_is_valid('iw'));",
+     "Hant|text|integer"),
+    (TABLE + "CREATE INDEX forms ON texts (langtag_canonical(tag), langtag_part(tag, 'script')); SELECT 1;", "1"),
+    (TABLE + "CREATE INDEX valid ON texts (langtag_is_valid(tag), langtag_matches_basic('de', tag)); SELECT 1;", "1"),
+    (TABLE + "SELECT tag FROM texts WHERE tag = 'ZH-hant';", "zh-Hant"),
+    (TABLE + "SELECT tag FROM texts WHERE langtag_matches_extended('*-Hant', tag);", "zh-Hant"),
+    (TABLE + "SELECT group_concat(tag) FROM (SELECT tag FROM texts ORDER BY tag);", "de,zh-Hant,zh,"),
+    (TABLE + "SELECT group_concat(tag) FROM (SELECT tag FROM texts ORDER BY lower(tag));", ",de,zh,zh-Hant"),
+    (TABLE + "INSERT OR IGNORE INTO texts VALUES ('DE'); SELECT count(*) FROM texts;", "4"),
+]
+
+
+class Sqlite(unittest.TestCase):
+    def test_rows(self):
+        asked = [row for row in rows.read(rows.FOLDER / "table.txt") if row.call in QUERIES]
+        said, complaint = sqlite("".join(f"{QUERIES[row.call](*row.arguments)};\n" for row in asked))
+        self.assertEqual(complaint, "")
+        lines = dict(zip(((row.call, *row.arguments) for row in asked), said.splitlines()))
+        asker = rows.Asker({call: lambda *arguments, call=call: ANSWERS[call](lines[(call, *arguments)]) for call in QUERIES},
+                           adapted)
+        asker.ask(rows.FOLDER / "table.txt", 240)
+        if asker.failures():
+            self.fail("\n" + asker.failures())
+
+    def test_statements(self):
+        for statements, said in STATEMENTS:
+            self.assertEqual(sqlite(statements), (said + "\n", ""))
+        self.assertIn("no part has that name", sqlite("SELECT langtag_part('de', 'skript');")[1])
+
+    def test_memory(self):
+        """What SQLite's allocator has given stays the same over 20,000 calls of each."""
+        numbers = "WITH RECURSIVE n(k) AS (SELECT 1 UNION ALL SELECT k + 1 FROM n WHERE k < {})"
+        calls = ("langtag_part('de-x-a' || k, 'private_use')", "langtag_canonical('iw-x-a' || k)", "langtag_is_valid('de' || k)",
+                 "langtag_matches_basic('de', 'de-x-a' || k)", "langtag_matches_extended('de', 'de-x-a' || k)")
+        asked = ", ".join(f"count({call})" for call in calls)
+        statements = "".join(f"{numbers.format(count)} SELECT {asked} FROM n;\n" for count in (100, 20_000))
+        said, complaint = sqlite(".stats on\n" + statements)
+        before, after = map(int, re.findall(r"Memory Used: +(\d+)", said))
+        self.assertEqual(complaint, "")
+        self.assertLess(after - before, 20_000)
+
+
+if __name__ == "__main__":
+    EXTENSION = sys.argv[1]
+    unittest.main(argv=sys.argv[:1])

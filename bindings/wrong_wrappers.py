@@ -1,0 +1,229 @@
+#!/usr/bin/env python3
+"""Whether wrong wrappers are refused: plants one fault after the other into the C header, langtag.hpp, the Rust crate, the
+Python module and the extension of SQLite, builds what comes of it, and lets the tests of that language ask the rows.
+
+    wrong_wrappers.py LIBRARIES [LANGUAGE..]    LIBRARIES has liblangtag_verified.a and liblangtag_verified.so.1
+
+A fault is refused where the tests fail and say the words that belong to it, as of a row that differs. What does not build is
+not refused. Each language is first asked without a fault, and has to pass.
+"""
+from __future__ import annotations
+
+import concurrent.futures
+import os
+import pathlib
+import shutil
+import subprocess
+import sys
+import tempfile
+from typing import NamedTuple
+
+HERE = pathlib.Path(__file__).resolve().parent
+ROWS = HERE.parent / "crates/langtag_rows/data"
+H, HPP, SQL, PY = "include/langtag.h", "include/langtag.hpp", "examples/sqlite_langtag.c", "python/langtag/__init__.py"
+
+
+class Fault(NamedTuple):
+    """What is planted: in which file which text becomes which; what the refusal says, and which tests refuse it, where there
+    are several."""
+
+    file: str
+    old: str
+    new: str
+    says: str = "wanted"
+    test: str | None = None
+
+
+def swapped(file: str, one: str, other: str, test: str | None = None) -> Fault:
+    """The first of one text, and the first of the other behind it, each in the other's place."""
+    text = (HERE / file).read_text()
+    begin = text.index(one)
+    between = text[begin + len(one) : text.index(other, begin)]
+    return Fault(file, one + between + other, other + between + one, test=test)
+
+
+def rust(file: str, old: str, new: str, test: str = "table") -> Fault:
+    return Fault(f"rust/src/{file}.rs", old, new, test=test)
+
+
+FAULTS = {
+    "C": [
+        swapped(H, "LANGTAG_INVALID_SCRIPT", "LANGTAG_INVALID_REGION"),
+        swapped(H, "LANGTAG_INVALID_EXTLANG", "LANGTAG_INVALID_SECOND_EXTLANG"),
+        swapped(H, "LANGTAG_PART_SCRIPT", "LANGTAG_PART_REGION"),
+        swapped(H, "LANGTAG_PRIVATE_USE = ", "LANGTAG_IRREGULAR = "),
+        swapped(H, "LANGTAG_RANGE_BASIC", "LANGTAG_RANGE_EXTENDED"),
+        swapped(H, "LANGTAG_ACCEPTED_BAD_RANGE", "LANGTAG_ACCEPTED_BAD_WEIGHT"),
+        swapped(H, "langtag_span variants;", "langtag_span extensions;"),
+        swapped(H, "langtag_span variant;", "langtag_span singleton;"),
+        swapped(H, "LANGTAG_REPEATED_VARIANT", "LANGTAG_REPEATED_SINGLETON"),
+        Fault(H, "UINT64_C(0xcbf29ce484222325)", "UINT64_C(0xcbf29ce484222326)"),
+    ],
+    "C++": [
+        Fault(HPP, "return cut(parts_.variants)", "return cut(parts_.extensions)"),
+        swapped(HPP, "LANGTAG_PART_SCRIPT", "LANGTAG_PART_REGION"),
+        swapped(HPP, "LANGTAG_INVALID_SCRIPT", "LANGTAG_INVALID_REGION"),
+        swapped(HPP, '"script "', '"region "'),
+        Fault(HPP, "found <= LANGTAG_VALID)", "found <= LANGTAG_INVALID_LANGUAGE)"),
+        Fault(HPP, "if (found == LANGTAG_NONE)", "if (found != LANGTAG_NORMAL)"),
+        Fault(HPP, "langtag_parse(langtag_bytes(text.data()), text.size(), &",
+              "langtag_parse(text.data(), __builtin_strlen(text.data()), &"),
+        Fault(HPP, "text_.size() + given.size() + 1, ", "text_.size() + given.size(), "),
+        Fault(HPP, "made.resize(len);", "made.resize(len < 40 ? len : 40);"),
+        Fault(HPP, "&made[0], made.size());\n        return made;",
+              "&made[0], made.size());\n        return made.substr(0, 1000);"),
+        Fault(HPP, "return langtag_matches_extended(", "return langtag_matches_basic("),
+        Fault(HPP, "return langtag_cmp(a.text_.data(), a.text_.size(), b.text_.data(), b.text_.size()) < 0;",
+              "return a.text_ < b.text_;"),
+        Fault(HPP, "return langtag_eq(a.text_.data(), a.text_.size(), langtag_bytes(b.data()), b.size());",
+              "return a.text_ == b;"),
+        Fault(HPP, "found == LANGTAG_RANGE_BASIC", "found != LANGTAG_RANGE_BASIC"),
+        Fault(HPP, "cut(repeated().variant)", "cut(repeated().singleton)"),
+        swapped(HPP, "LANGTAG_ACCEPTED_BAD_RANGE", "LANGTAG_ACCEPTED_BAD_WEIGHT"),
+        Fault(HPP, "answer == LANGTAG_ACCEPTED_RANGE && weight > 0", "answer == LANGTAG_ACCEPTED_RANGE"),
+        Fault(HPP, "a.weight > b.weight", "a.weight < b.weight"),
+        Fault(HPP, "static_cast<std::size_t>(commas), element.start}", "element.start, static_cast<std::size_t>(commas)}"),
+        Fault(HPP, "basic.erase(at, 2)", "at += 2"),
+        Fault(HPP, " {part::extensions, extensions},", ""),
+    ],
+    "Rust": [
+        rust("invalid_subtag", "offset: self.offset,", "offset: 0,"),
+        rust("invalid_subtag", "fault: self.fault,", "fault: SubtagFault::Language,"),
+        rust("invalid_subtag", "5 => SubtagFault::Script,\n            6 => SubtagFault::Region",
+             "6 => SubtagFault::Script,\n            5 => SubtagFault::Region"),
+        rust("invalid_subtag", '("variant", "is repeated")', '("variant", "is not registered")'),
+        rust("lang_tag", "InvalidSubtag::of(self.as_str()).map_or(Ok(()), Err)", "Ok(())"),
+        rust("lang_tag_buf", "self.as_lang_tag().validate()", "Ok(())"),
+        rust("lang_tag_buf", "self.as_lang_tag().is_canonical()", "true"),
+        swapped("rust/src/ffi.rs", "self.parts.script", "self.parts.region", test="table"),
+        rust("ffi", "    Script,\n    Region,\n", "    Region,\n    Script,\n", "edits"),
+        rust("language_range", "ffi::matches_extended(self.text", "ffi::matches_basic(self.text"),
+        rust("language_range_buf", "self.as_language_range().matches_basic(", "self.as_language_range().matches_extended("),
+        rust("canonical", "&mut form);\n", "&mut form);\n        form.truncate(514);\n"),
+        rust("caseless", "        ffi::fold(folded);\n", ""),
+        rust("error", "index: self.index,\n            offset: self.offset,",
+             "index: self.offset,\n            offset: self.index,", "negotiation"),
+        rust("error", "EditError::InvalidPart(text) => EditError::InvalidPart(text.into()),",
+             "EditError::InvalidPart(_) => EditError::NotNormal,", "edits"),
+        rust("error", '"element {} has a bad {}", self.index', '"element {} has a bad {}", self.offset', "negotiation"),
+        swapped("rust/src/error.rs", '"language range"', '"weight"', test="negotiation"),
+        rust("edit", 'text == Some("") && self.kind() == Kind::Normal', "false", "edits"),
+        rust("accept_language", "Element::Range(text, weight) if weight > 0", "Element::Range(text, weight)", "negotiation"),
+        rust("look_up", 'filter(|subtag| *subtag != "*")', "filter(|subtag| !subtag.is_empty())", "negotiation"),
+    ],
+    "Python": [
+        Fault(PY, '"second-extlang", "script", "region"', '"second-extlang", "region", "script"'),
+        Fault(PY, '_PARTS = ("language", "script", "region"', '_PARTS = ("language", "region", "script"'),
+        swapped(PY, "self._part(self._parts.script)", "self._part(self._parts.region)"),
+        swapped(PY, "_c.langtag_matches_basic(self", "_c.langtag_matches_extended(self"),
+        Fault(PY, "        return Tag(buffer.raw)\n", "        return Tag(buffer.raw[:514])\n"),
+        Fault(PY, "return text if type(text) is bytes", 'return text.split(b"\\0")[0] if type(text) is bytes'),
+        Fault(PY, "return self.invalid_subtag is None", "return True"),
+        Fault(PY, '"repeated": "is repeated"', '"repeated": "is not registered"'),
+        Fault(PY, "{self.subtag!r} {how}", "{how}"),
+        Fault(PY, "(self.header, self.index, self.offset, self.part)", "(self.header, self.index, 0, self.part)"),
+        Fault(PY, 'data.count(b",", 0, span.start), span.start', 'span.start, data.count(b",", 0, span.start)'),
+        Fault(PY, '{2: "language range", 3: "weight"}', '{3: "language range", 2: "weight"}'),
+        Fault(PY, "self.part, self.text = part, text", "self.part, self.text = part, None"),
+        Fault(PY, "hash(self._data.lower())", "hash(self._data)"),
+        Fault(PY, "if answer == 1 and weight > 0", "if answer == 1"),
+        Fault(PY, 'range._data.replace(b"-*", b"")', "range._data"),
+        Fault(PY, "        parts = _Parts()\n",
+              "        parts = _Parts()\n        _FUNCTIONS.setdefault('kept', []).append(data)\n",
+              "test_that_nothing_is_kept", "test_langtag.Memory"),
+    ],
+    "SQLite": [
+        swapped(SQL, "&parts->script", "&parts->region"),
+        Fault(SQL, '{"private_use", &parts->private_use}', '{"private_use", &parts->extensions}'),
+        Fault(SQL, "langtag_parse(tag, (size_t)sqlite3_value_bytes(values[0]), &", "langtag_parse(tag, strlen(tag), &"),
+        Fault(SQL, "size_t len = (size_t)sqlite3_value_bytes(values[0]);", "size_t len = tag ? strlen(tag) : 0;"),
+        Fault(SQL, "(int)span->len, SQLITE_TRANSIENT", "(int)(span->len < 255 ? span->len : 255), SQLITE_TRANSIENT"),
+        Fault(SQL, "form, form_len, sqlite3_free", "form, form_len < 512 ? form_len : 512, sqlite3_free"),
+        Fault(SQL, "form, form_len, sqlite3_free", "form, form_len, SQLITE_TRANSIENT", "test_memory"),
+        Fault(SQL, "    langtag_canonical(tag, len, form, form_len);\n",
+              "    langtag_canonical(tag, len, form, form_len);\n    langtag_recommend(form, form_len);\n"),
+        Fault(SQL, "kind != LANGTAG_NONE && span->len > 0", "kind != LANGTAG_NONE"),
+        Fault(SQL, "kind != LANGTAG_NONE && span->len > 0", "kind == LANGTAG_NORMAL && span->len > 0"),
+        Fault(SQL, "answer == LANGTAG_VALID)", "answer != LANGTAG_VALIDITY_NONE)"),
+        swapped(SQL, "values, langtag_matches_basic)", "values, langtag_matches_extended)"),
+        Fault(SQL, "values, langtag_matches_extended)", "values, langtag_matches_basic)"),
+        Fault(SQL, "langtag_bytes(a), (size_t)a_len, langtag_bytes(b), (size_t)b_len",
+              "langtag_bytes(b), (size_t)b_len, langtag_bytes(a), (size_t)a_len"),
+        Fault(SQL, "return langtag_cmp(langtag_bytes(a), (size_t)a_len, langtag_bytes(b), (size_t)b_len);",
+              "return memcmp(a, b, (size_t)(a_len < b_len ? a_len : b_len));"),
+    ],
+}
+
+# How the tests of a language are built and run, in a copy of bindings/.
+ASKED = "$ROWS/table.txt 300 $ROWS/texts.txt 800 $ROWS/negotiation.txt 85 $ROWS/edits.txt 70"
+RUSTC = "rustc --edition 2021 -A warnings --cfg 'feature=\"alloc\"' -L native=$LIBRARIES"
+BUILD = {
+    "C": "cc -w -std=c11 -Iinclude c/test/*.c examples/accept_language.c $LIBRARIES/liblangtag_verified.a -o test",
+    "C++": "c++ -w -std=c++17 -Iinclude c/test/rows.cc $LIBRARIES/liblangtag_verified.a -o test",
+    "Rust": f"{RUSTC} --crate-name langtag_verified --crate-type rlib -l static=langtag_verified rust/src/lib.rs"
+            f" -o liblangtag.rlib && {RUSTC} --extern langtag_verified=liblangtag.rlib --test rust/tests/$TEST.rs -o test",
+    "Python": "true",
+    "SQLite": "cc -w -fPIC -shared -Iinclude examples/sqlite_langtag.c $LIBRARIES/liblangtag_verified.a"
+              " -o sqlite_langtag.so",
+}
+RUN = {
+    "C": f"./test {ASKED}",
+    "C++": f"./test {ASKED}",
+    "Rust": "./test answers",
+    "Python": "cd python && python3 -m unittest $TEST",
+    "SQLite": "PYTHONPATH=python python3 examples/test_sqlite.py ./sqlite_langtag.so",
+}
+TESTS = {"Rust": ["table", "edits", "negotiation"], "Python": ["test_rows", "test_langtag.Memory"]}
+
+
+def asked(libraries: pathlib.Path, language: str, fault: Fault | None, test: str) -> str | None:
+    """What goes against the expectation, if anything does."""
+    with tempfile.TemporaryDirectory() as name:
+        folder = pathlib.Path(name)
+        copy = folder / "bindings"
+        shutil.copytree(HERE, copy, ignore=shutil.ignore_patterns("target", "dist", "__pycache__", "build"))
+        (folder / "crates/langtag_rows").mkdir(parents=True)
+        (folder / "crates/langtag_rows/data").symlink_to(ROWS)
+        if fault:
+            text = (copy / fault.file).read_text()
+            if fault.old not in text:
+                return "the text is not there"
+            (copy / fault.file).write_text(text.replace(fault.old, fault.new, 1))
+        environment = {**os.environ, "LIBRARIES": str(libraries), "ROWS": str(ROWS), "TEST": test,
+                       "PYTHONDONTWRITEBYTECODE": "1", "CARGO_MANIFEST_DIR": str(copy / "rust"),
+                       "LANGTAG_LIBRARY": str(libraries / "liblangtag_verified.so.1")}
+        environment.pop("LANGTAG_ANSWERS", None)
+
+        def shell(command: str) -> subprocess.CompletedProcess[str]:
+            return subprocess.run(["sh", "-c", command], cwd=copy, env=environment, text=True, errors="replace",
+                                  stdout=subprocess.PIPE, stderr=subprocess.STDOUT)
+
+        built = shell(BUILD[language])
+        if built.returncode != 0:
+            return f"does not build: {built.stdout[-2000:]}"
+        run = shell(RUN[language])
+        if not fault:
+            return None if run.returncode == 0 else f"is refused without a fault: {run.stdout[-2000:]}"
+        if run.returncode == 0:
+            return "PASSES"
+        return None if fault.says in run.stdout else f"is refused, and not by {fault.says!r}: {run.stdout[-2000:]}"
+
+
+def main(libraries: pathlib.Path, languages: list[str]) -> int:
+    wanted: list[tuple[str, Fault | None, str]] = []
+    for language in languages or FAULTS:
+        tests = TESTS.get(language, [""])
+        wanted += [(language, None, test) for test in tests]
+        wanted += [(language, fault, fault.test or tests[0]) for fault in FAULTS[language]]
+    with concurrent.futures.ThreadPoolExecutor(os.cpu_count()) as pool:
+        found = list(pool.map(lambda it: asked(libraries, *it), wanted))
+    bad = [(it, what) for it, what in zip(wanted, found) if what]
+    for (language, fault, _), what in bad:
+        print(f"{language}: {fault.file if fault else 'no fault'}: {fault.new if fault else ''!r}\n  {what}")
+    counts = ", ".join(f"{language} {len(FAULTS[language])}" for language in languages or FAULTS)
+    print(f"faults: {counts}; {len(bad)} of what was asked were amiss")
+    return len(bad) > 0
+
+
+if __name__ == "__main__":
+    sys.exit(main(pathlib.Path(sys.argv[1]).resolve(), sys.argv[2:]))

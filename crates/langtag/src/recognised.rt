@@ -1,0 +1,44 @@
+//! What a tag keeps of what the recogniser found of its text.
+ghost use Rattle.std.specs.Prelude.{◌≡◌};
+ghost use Rattle.langtag_scan.specs.Found.{is_normal, is_private_use, normal_ends};
+ghost use Rattle.langtag.specs.Recognised.{finding_of};
+
+use crate::grandfathered::GrandfatheredLangTag;
+use langtag_scan::Ends;
+
+/// Of which kind a tag is (RFC 5646 section 2.1), with what is known of one of that kind, so that its text is not read again.
+#[derive(Clone, Copy)]
+pub(crate) enum Recognised {
+    /// A normal tag, and where its parts end.
+    Normal(Ends),
+    /// A tag for private use as a whole.
+    PrivateUse,
+    /// An irregular grandfathered tag.
+    Irregular(GrandfatheredLangTag),
+}
+
+impl Recognised {
+    /// Whether this is a normal tag.
+    pub(crate) fn is_normal(&self) -> bool
+        ensures { result ≡ is_normal (finding_of self.now) }
+    {
+        matches!(self, Recognised::Normal(_))
+    }
+
+    /// Whether this is a tag for private use as a whole.
+    pub(crate) fn is_private_use(&self) -> bool
+        ensures { result ≡ is_private_use (finding_of self.now) }
+    {
+        matches!(self, Recognised::PrivateUse)
+    }
+
+    /// Where the parts of a normal tag end.
+    pub(crate) fn ends(&self) -> Option<Ends>
+        ensures { result ≡ normal_ends (finding_of self.now) }
+    {
+        match self {
+            Recognised::Normal(ends) => Some(*ends),
+            _ => None,
+        }
+    }
+}

@@ -1,0 +1,67 @@
+//! Headers, and tags for them; `bench/growth.sh` compares what is found with what it expects.
+ghost use Rattle.std.specs.Prelude.{◌≡◌, ◌≤◌, length};
+ghost use Rattle.std.specs.Str.{IsUtf8};
+
+use crate::written::count;
+use langtag::LangTag;
+use langtag_examples::tag_for_request;
+use langtag_match::AcceptLanguage;
+use std::alloc::{AllocError, Global};
+
+/// Returns how many ranges a header has that is read without its bad elements; 0 where the bytes are not UTF-8, and where
+/// memory was refused, which is counted.
+#[unsafe(no_mangle)]
+pub extern "C" fn langtag_bench_lenient(alloc: Global, header: &[u8], refused: &mut usize) -> usize
+    ensures { (IsUtf8 header.now → ⊥) → result ≡ 0 }
+{
+    let Ok(header) = str::from_utf8(header) else {
+        return 0;
+    };
+    match AcceptLanguage::lenient(alloc, header) {
+        Ok(accepted) => accepted.ranges().len(),
+        Err(_) => count(refused),
+    }
+}
+
+/// Returns the index of the tag for a header among tags that have commas between them, and their number where it is for
+/// none of them; 0 where the bytes are not UTF-8, and where memory was refused, which is counted.
+#[unsafe(no_mangle)]
+pub extern "C" fn langtag_bench_chosen(
+    alloc: Global,
+    header: &[u8],
+    tags: &[u8],
+    refused: &mut usize,
+) -> usize
+    ensures { (IsUtf8 header.now → ⊥) → result ≡ 0 }
+{
+    let (Ok(header), Ok(tags)) = (str::from_utf8(header), str::from_utf8(tags)) else {
+        return 0;
+    };
+    match chosen_index(alloc, header, tags) {
+        Ok(index) => index,
+        Err(_) => count(refused),
+    }
+}
+
+/// The same index.
+fn chosen_index(alloc: Global, header: &str, tags: &str) -> Result<usize, AllocError> {
+    let tags = tags_of(alloc, tags)?;
+    let tags = tags.as_slice();
+    let Ok(none) = LangTag::new("x-none") else {
+        return Ok(tags.len());
+    };
+    let chosen = tag_for_request(alloc, Some(header), tags, none)?;
+    let index = tags.iter().position(|tag| *tag == chosen);
+    Ok(index.unwrap_or(tags.len()))
+}
+
+/// The tags of a text, with commas between them.
+fn tags_of(alloc: Global, text: &str) -> Result<Vec<LangTag<'_>>, AllocError> {
+    let mut tags = Vec::new(alloc);
+    for item in text.split(',') {
+        if let Ok(tag) = LangTag::new(item) {
+            tags.push(tag).map_err(AllocError::from)?;
+        }
+    }
+    Ok(tags)
+}

@@ -1,0 +1,191 @@
+//! Calls of langtag_registry over one tag.
+ghost use Rattle.std.specs.Prelude.{◌≡◌, ◌↔◌, IsTrue};
+ghost use Rattle.langtag_scan.specs.Tag.{IsTag, IsNormal};
+ghost use Rattle.langtag_registry.specs.Canonical.{IsCanonicalForm};
+ghost use Rattle.langtag_registry.specs.Valid.{IsValid};
+
+use crate::matching::tag_of;
+use crate::memory::normal_of;
+use crate::written::{count, write_text};
+use langtag::{ExtendedLangTag, LangTag, NormalLangTag, PrimaryLanguage, Region, Script, Variant};
+use langtag_registry::{
+    canonical, extlang_form, extlang_prefix, is_canonical, is_deprecated_extlang,
+    is_deprecated_language, is_deprecated_region, is_deprecated_tag, is_deprecated_variant,
+    is_registered_extlang, is_registered_language, is_registered_region, is_registered_script,
+    is_registered_variant, macrolanguage, misplaced_extlang, misplaced_variant, preferred_language,
+    preferred_region, preferred_tag, preferred_variant, suppress_script, validate, write_canonical,
+};
+use std::alloc::Global;
+
+/// Writes the canonical form of a tag into a buffer, where there is room, and returns its length; 0 for another text, and
+/// where memory was refused, which is counted.
+#[unsafe(no_mangle)]
+pub extern "C" fn langtag_bench_canonical(
+    alloc: Global,
+    bytes: &[u8],
+    into: &mut [u8],
+    refused: &mut usize,
+) -> usize
+    ensures { (IsTag bytes.now → ⊥) → result ≡ 0 }
+{
+    let Some(tag) = tag_of(bytes) else {
+        return 0;
+    };
+    match canonical(alloc, tag) {
+        Ok(form) => write_text(form.as_str(), into),
+        Err(_) => count(refused),
+    }
+}
+
+/// Does the same with the extlang form.
+#[unsafe(no_mangle)]
+pub extern "C" fn langtag_bench_extlang_form(
+    alloc: Global,
+    bytes: &[u8],
+    into: &mut [u8],
+    refused: &mut usize,
+) -> usize
+    ensures { (IsTag bytes.now → ⊥) → result ≡ 0 }
+{
+    let Some(tag) = tag_of(bytes) else {
+        return 0;
+    };
+    match extlang_form(alloc, tag) {
+        Ok(form) => write_text(form.as_str(), into),
+        Err(_) => count(refused),
+    }
+}
+
+/// Writes the canonical form without memory.
+#[unsafe(no_mangle)]
+pub extern "C" fn langtag_bench_write_canonical(bytes: &[u8], into: &mut [u8]) -> usize
+    ensures { (IsTag bytes.now → ⊥) → result ≡ 0 }
+{
+    match tag_of(bytes) {
+        Some(tag) => write_canonical(tag, into),
+        None => 0,
+    }
+}
+
+/// Returns whether the bytes are a tag, and its canonical form.
+#[unsafe(no_mangle)]
+pub extern "C" fn langtag_bench_is_canonical(bytes: &[u8]) -> bool
+    ensures { IsTrue result ↔ (IsTag bytes.now × IsCanonicalForm bytes.now bytes.now) }
+{
+    match tag_of(bytes) {
+        Some(tag) => is_canonical(tag),
+        None => false,
+    }
+}
+
+/// Returns whether the bytes are a valid tag.
+#[unsafe(no_mangle)]
+pub extern "C" fn langtag_bench_is_valid(bytes: &[u8]) -> bool
+    ensures { IsTrue result ↔ (IsTag bytes.now × IsValid bytes.now) }
+{
+    match tag_of(bytes) {
+        Some(tag) => validate(tag).is_ok(),
+        None => false,
+    }
+}
+
+/// Returns the length of the first variant of a normal tag that stands after none of its prefixes; 0 where none does.
+#[unsafe(no_mangle)]
+pub extern "C" fn langtag_bench_misplaced_variant(bytes: &[u8]) -> usize
+    ensures { (IsNormal bytes.now → ⊥) → result ≡ 0 }
+{
+    let Some(tag) = normal_of(bytes) else {
+        return 0;
+    };
+    misplaced_variant(tag).map_or(0, |variant| variant.as_str().len())
+}
+
+/// Returns the length of the extended language of a normal tag that stands after another language than its prefix; 0 where
+/// none does.
+#[unsafe(no_mangle)]
+pub extern "C" fn langtag_bench_misplaced_extlang(bytes: &[u8]) -> usize
+    ensures { (IsNormal bytes.now → ⊥) → result ≡ 0 }
+{
+    let Some(tag) = normal_of(bytes) else {
+        return 0;
+    };
+    misplaced_extlang(tag).map_or(0, |extlang| extlang.as_str().len())
+}
+
+/// Asks all that the registry has of the subtags of a normal tag. Returns whether it has something of one of them.
+#[unsafe(no_mangle)]
+pub extern "C" fn langtag_bench_fields(bytes: &[u8]) -> bool
+    ensures { IsTrue result → IsNormal bytes.now }
+{
+    match normal_of(bytes) {
+        Some(tag) => is_replaced(tag.as_lang_tag()) | is_known(tag),
+        None => false,
+    }
+}
+
+/// Whether a tag is deprecated, or replaced, as a whole.
+fn is_replaced(tag: LangTag<'_>) -> bool {
+    is_deprecated_tag(tag) | preferred_tag(tag).is_some()
+}
+
+/// Whether the registry has something of a subtag of a tag.
+fn is_known(tag: NormalLangTag<'_>) -> bool {
+    is_known_language(tag) | is_known_place(tag) | has_known_variant(tag)
+}
+
+/// Whether it has something of a language, or of one of its extended subtags.
+fn is_known_language(tag: NormalLangTag<'_>) -> bool {
+    let language = tag.language();
+    let mut is_known = is_known_primary(language.primary());
+    for extlang in language.extension_subtags() {
+        is_known |= is_known_extlang(extlang);
+    }
+    is_known
+}
+
+/// Whether it has something of a primary language.
+fn is_known_primary(language: PrimaryLanguage<'_>) -> bool {
+    is_registered_language(language)
+        | is_deprecated_language(language)
+        | preferred_language(language).is_some()
+        | macrolanguage(language).is_some()
+        | suppress_script(language).is_some()
+}
+
+/// Whether it has something of an extended language.
+fn is_known_extlang(extlang: ExtendedLangTag<'_>) -> bool {
+    is_registered_extlang(extlang)
+        | is_deprecated_extlang(extlang)
+        | extlang_prefix(extlang).is_some()
+}
+
+/// Whether it has something of the script or the region of a tag.
+fn is_known_place(tag: NormalLangTag<'_>) -> bool {
+    tag.script().map_or(false, is_known_script) | tag.region().map_or(false, is_known_region)
+}
+
+/// Whether it has a script.
+fn is_known_script(script: Script<'_>) -> bool {
+    is_registered_script(script)
+}
+
+/// Whether it has something of a region.
+fn is_known_region(region: Region<'_>) -> bool {
+    is_registered_region(region) | is_deprecated_region(region) | preferred_region(region).is_some()
+}
+
+/// Whether it has something of one of the variants of a tag, all of which are asked for.
+fn has_known_variant(tag: NormalLangTag<'_>) -> bool {
+    let mut is_known = false;
+    for variant in tag.variants().iter() {
+        is_known |= is_known_variant(variant);
+    }
+    is_known
+}
+
+/// Whether it has something of a variant.
+fn is_known_variant(variant: Variant<'_>) -> bool {
+    is_registered_variant(variant)
+        | is_deprecated_variant(variant)
+        | preferred_variant(variant).is_some()
+}

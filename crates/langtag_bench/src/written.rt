@@ -1,0 +1,64 @@
+//! Texts that calls of langtag return, written into the caller's buffer; `bench/growth.sh` compares them with its own.
+ghost use Rattle.std.specs.Prelude.{◌≡◌, ◌≤◌, length};
+ghost use Rattle.langtag_scan.specs.Tag.{IsTag};
+
+use crate::matching::tag_of;
+use std::alloc::Global;
+
+/// Writes a tag in its recommended case into a buffer, where there is room, and returns its length; 0 for another text, and
+/// where memory was refused, which is counted.
+#[unsafe(no_mangle)]
+pub extern "C" fn langtag_bench_recommended(
+    alloc: Global,
+    bytes: &[u8],
+    into: &mut [u8],
+    refused: &mut usize,
+) -> usize
+    ensures { (IsTag bytes.now → ⊥) → result ≡ 0 }
+{
+    let Some(tag) = tag_of(bytes) else {
+        return 0;
+    };
+    match tag.try_to_recommended_case(alloc) {
+        Ok(owned) => write_text(owned.as_str(), into),
+        Err(_) => count(refused),
+    }
+}
+
+/// Does the same with what is displayed of a tag in its recommended case.
+#[unsafe(no_mangle)]
+pub extern "C" fn langtag_bench_displayed(
+    alloc: Global,
+    bytes: &[u8],
+    into: &mut [u8],
+    refused: &mut usize,
+) -> usize
+    ensures { (IsTag bytes.now → ⊥) → result ≡ 0 }
+{
+    let Some(tag) = tag_of(bytes) else {
+        return 0;
+    };
+    match format!(in alloc; "{}", tag.in_recommended_case()) {
+        Ok(displayed) => write_text(displayed.as_str(), into),
+        Err(_) => count(refused),
+    }
+}
+
+/// Writes a text at the start of a buffer, where there is room, and returns its length.
+pub(crate) fn write_text(text: &str, into: &mut [u8]) -> usize
+    ensures len { result ≡ length text.now }
+    ensures room { length into.new ≡ length into.old }
+{
+    if text.len() <= into.len() {
+        into[..text.len()].copy_from_slice(text.as_bytes());
+    }
+    text.len()
+}
+
+/// Counts one more call to which memory was refused, and returns the length of no text.
+pub(crate) fn count(refused: &mut usize) -> usize
+    ensures { result ≡ 0 }
+{
+    *refused = refused.saturating_add(1);
+    0
+}

@@ -1,0 +1,141 @@
+//! An element of an Accept-Language header: a language range, and a weight (RFC 9110 section 12.5.4).
+ghost use Rattle.std.specs.Prelude.{◌≡◌, ◌≤◌, IsTrue, Some, None, IfOk, IfErr, MatchOption, drop, length, reverse, take, false};
+ghost use Rattle.std.specs.List.{position, position_or_len, slice_range};
+ghost use Rattle.langtag_match.specs.AcceptLanguage as spec;
+ghost use Rattle.langtag_match.specs.Range.{is_basic_range};
+ghost use Rattle.langtag_match.specs.Text.{language_range_text, weighted_range_text};
+
+use crate::accept_language_error::ElementPart;
+use crate::language_range::LanguageRange;
+use crate::range_text::is_basic_range;
+use crate::weight::weight_of;
+use crate::weighted_range::WeightedRange;
+
+/// An element of a header, and where its range stands.
+#[derive(Debug, Drop)]
+pub struct Element<'a> {
+    /// The number of bytes before the range: spaces and tabs.
+    pub start: usize,
+    /// The range and its weight.
+    pub weighted: WeightedRange<'a>,
+}
+
+/// Reads what stands between two commas of an Accept-Language header (RFC 9110 section 12.5.4), which need not be UTF-8: of
+/// ` fr;q=0.5` the range is `fr`, which begins at 1, and the weight 500. Without a weight it is 1000.
+///
+/// # Errors
+///
+/// Returns the part that is bad where it is not an element: of `fr_FR` the range, of `fr;q=2` the weight, and the range where
+/// both are. It is the range too where nothing stands there, or white space alone, which [`is_empty_element`] tells.
+pub fn element_at(item: &[u8]) -> Result<Element<'_>, ElementPart>
+    ensures read { IfOk result (λ found. spec.element item.now ≡ Some (spec.reading found.weighted)) }
+    ensures place { IfOk result (λ found. spec.IsPlaceOf item.now (weighted_range_text found.weighted) found.start) }
+    ensures none { IfErr result (λ part. spec.element item.now ≡ None) }
+    ensures bad { IfErr result (λ part. part ≡ spec.bad_part item.now) }
+{
+    let end = len_before_semicolon(item);
+    let before = &item[..end];
+    let (start, stop) = trimmed_place(before);
+    let Some(range) = basic_range(&before[start..stop]) else {
+        return Err(ElementPart::Range);
+    };
+    let Some(weight) = weight_after(item, end) else {
+        return Err(ElementPart::Weight);
+    };
+    let weighted = WeightedRange { range, weight };
+    Ok(Element { start, weighted })
+}
+
+/// Returns whether what stands between two commas of a header is empty, but for spaces and tabs: such an element is to be
+/// passed over (RFC 9110 section 5.6.1.2).
+pub fn is_empty_element(item: &[u8]) -> bool
+    ensures { result ≡ spec.is_ows item.now }
+{
+    item.iter().all(|byte| is_space(*byte))
+}
+
+/// Returns the weight that stands after the first `;`, and 1000 where there is none.
+fn weight_after(item: &[u8], semicolon: usize) -> Option<u32>
+    requires within { semicolon ≤ length item.now }
+    requires first { semicolon ≡ position_or_len spec.is_semicolon item.now }
+    ensures { result ≡ spec.weight_of item.now }
+{
+    if semicolon == item.len() {
+        return Some(1000);
+    }
+    let text = &item[semicolon + 1..];
+    let (start, end) = trimmed_place(text);
+    weight_of(&text[start..end])
+}
+
+/// Returns how many bytes stand before the first `;`, all where there is none.
+#[tactic(auto, using(crate::proofs::Places::first_or_length))]
+fn len_before_semicolon(item: &[u8]) -> usize
+    ensures within { result ≤ length item.now }
+    ensures first { result ≡ position_or_len spec.is_semicolon item.now }
+{
+    first_semicolon(item).unwrap_or(item.len())
+}
+
+fn first_semicolon(item: &[u8]) -> Option<usize>
+    ensures { result ≡ position spec.is_semicolon item.now }
+{
+    item.iter().position(|byte| *byte == b';')
+}
+
+/// Returns the basic language range that the bytes are, if they are one.
+#[tactic(auto, using(crate::proofs::BasicRanges::basic_ranges, crate::proofs::AsciiRanges::utf8_basic))]
+fn basic_range(bytes: &[u8]) -> Option<LanguageRange<'_>>
+    ensures { MatchOption result (is_basic_range bytes.now ≡ false)
+        (λ range. (language_range_text range ≡ bytes.now) × IsTrue (is_basic_range bytes.now)) }
+{
+    let text = std::str::from_utf8(bytes).ok()?;
+    if !is_basic_range(text) {
+        return None;
+    }
+    Some(LanguageRange::from_checked(text))
+}
+
+/// Returns where a text begins and ends without the white space around it.
+fn trimmed_place(text: &[u8]) -> (usize, usize)
+    ensures ordered { result.0 ≤ result.1 }
+    ensures within { result.1 ≤ length text.now }
+    ensures space { IsTrue (spec.is_ows (take result.0 text.now)) }
+    ensures trimmed { slice_range text.now result.0 result.1 ≡ spec.trimmed text.now }
+{
+    let start = leading_spaces(text);
+    (start, start + len_without_spaces(&text[start..]))
+}
+
+/// Returns how many bytes of white space a text begins with.
+#[tactic(auto, using(crate::proofs::Spaces::ows_more, crate::proofs::Spaces::from_first_more, crate::proofs::Spaces::from_first_stops, crate::proofs::Spaces::from_first_ends))]
+fn leading_spaces(text: &[u8]) -> usize
+    ensures within { result ≤ length text.now }
+    ensures space { IsTrue (spec.is_ows (take result text.now)) }
+    ensures rest { drop result text.now ≡ spec.from_first text.now }
+{
+    let mut start = 0;
+    while start < text.len() && is_space(text[start]) {
+        start += 1;
+    }
+    start
+}
+
+/// Returns the length without the white space at the end.
+#[tactic(auto, using(crate::proofs::Spaces::last_space, crate::proofs::Spaces::last_stops))]
+fn len_without_spaces(text: &[u8]) -> usize
+    ensures within { result ≤ length text.now }
+    ensures rest { take result text.now ≡ reverse (spec.from_first (reverse text.now)) }
+{
+    let mut len = text.len();
+    while len > 0 && is_space(text[len - 1]) {
+        len -= 1;
+    }
+    len
+}
+
+fn is_space(byte: u8) -> bool
+    ensures { result ≡ spec.is_space byte }
+{
+    byte == b' ' || byte == b'\t'
+}

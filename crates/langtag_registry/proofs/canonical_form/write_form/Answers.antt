@@ -1,0 +1,54 @@
+use Rattle.std.proofs.Common.{◌≡◌, None, option_map, inr, refl, sym, ap, subst, ◌∙◌}
+use Rattle.std.proofs.lemmas.Bool.{both_ways}
+use Rattle.langtag.specs.Text.{lang_tag_text}
+use Rattle.langtag_scan.specs.Tag.{IsNormal}
+use Rattle.langtag_registry.specs.Fields.{preferred_tag}
+use Rattle.langtag_registry.specs.Canonical.{IsCanonicalForm}
+use Rattle.langtag_registry.proofs.TwiceLaws.{itself}
+use Rattle.langtag_registry.proofs.CanonicalParts.{kept_form, record_form}
+use Rattle.langtag_registry.proofs.canonical_form.write_form.Goals as goal
+
+pub returns-in_default-as_normal : goal.returns-in_default-as_normal
+returns-in_default-as_normal c =
+    let old = lang_tag_text c.args.tag in
+    let w = c.write_text-in_default-as_normal.ensures in
+    let none : preferred_tag old ≡ None = sym (ap (option_map lang_tag_text) (sym c.in_default.is) ∙ c.preferred_tag.ensures) in
+    record {
+      text = w.text;
+      is_so = kept_form old w.text none (inr (λ normal. let no = c.in_default-as_normal.ensures.kind.1 normal in absurd cc))
+          (w.is_so ∙ c.as_bytes-in_default-as_normal.ensures);
+      whole = w.whole;
+      written = w.written;
+      untouched = w.untouched;
+    }
+
+pub returns-then-has_canonical_parts : goal.returns-then-has_canonical_parts
+unfolding IsNormal
+returns-then-has_canonical_parts c =
+    let old = lang_tag_text c.args.tag in
+    let none : preferred_tag old ≡ None = sym (ap (option_map lang_tag_text) (sym c.in_default.is) ∙ c.preferred_tag.ensures) in
+    let (r, spells) = c.in-Some-as_normal.ensures.kind.0 refl in
+    let stays = (c.has_canonical_parts.ensures r (spells.0, spells.1 ∙ sym c.in-Some-as_normal.ensures.same_text)).0 c.if-has_canonical_parts.true in
+    let w = c.write_text-then-has_canonical_parts.ensures in
+    record {
+      text = w.text;
+      is_so = subst (IsCanonicalForm old) (sym (w.is_so ∙ c.as_bytes-then-has_canonical_parts.ensures)) (itself old r none spells stays);
+      whole = w.whole;
+      written = w.written;
+      untouched = w.untouched;
+    }
+
+pub returns : goal.returns
+unfolding IsNormal
+returns c =
+    let old = lang_tag_text c.args.tag in
+    let none : preferred_tag old ≡ None = sym (ap (option_map lang_tag_text) (sym c.in_default.is) ∙ c.preferred_tag.ensures) in
+    let (r, spells) = c.in-Some-as_normal.ensures.kind.0 refl in
+    let w = c.write_parts.ensures r (spells.0, spells.1 ∙ sym c.in-Some-as_normal.ensures.same_text) in
+    record {
+      text = w.text;
+      is_so = record_form old w.text r none (λ is. both_ways _ c.if-is_grandfathered.false (c.is_grandfathered.ensures.1 is)) spells w.is_so;
+      whole = w.whole;
+      written = w.written;
+      untouched = w.untouched;
+    }

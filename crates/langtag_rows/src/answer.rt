@@ -1,0 +1,58 @@
+//! The answer to a call.
+use crate::case::recommended;
+use crate::edits::edit;
+use crate::matching::{elements, fallbacks, filter, header, ranges};
+use crate::registry::{extlang_form_of, fault, misplaced, registered, subtag};
+use crate::scan::{class, scan};
+use crate::types::{extension, fronts, new, spelling, types};
+use crate::walks::walk;
+use std::alloc::{AllocError, Global};
+use std::str::from_utf8;
+
+/// Whether a call is asked here. The others are calls that C has too, whose functions are proved to be the library's: C's
+/// tests ask them, and the stored runs of `langtag_show` and `langtag_check`.
+pub(crate) fn is_asked(call: &str) -> bool {
+    !matches!(
+        call,
+        "tag" | "validity" | "canonical" | "grandfathered" | "viable" | "range" | "match" | "order"
+    )
+}
+
+/// The answer to a call.
+pub(crate) fn answer(
+    alloc: Global,
+    call: &str,
+    arguments: [&[u8]; 3],
+) -> Result<String, AllocError> {
+    let [first, second, third] = arguments;
+    match call {
+        "scan" => return scan(alloc, first),
+        "class" => return class(alloc, first),
+        "recommended" => return recommended(alloc, first),
+        _ => {}
+    }
+    let (Ok(first), Ok(second), Ok(third)) = (from_utf8(first), from_utf8(second), from_utf8(third))
+    else {
+        return String::from_str(alloc, "not UTF-8");
+    };
+    match call {
+        "types" => types(alloc, first),
+        "new" => new(alloc, first, second),
+        "fronts" => fronts(alloc, first, second),
+        "spelling" => spelling(alloc, first),
+        "extension" => extension(alloc, first, second),
+        "walk" => walk(alloc, first, second, third),
+        "edit" => edit(alloc, first, second, third),
+        "header" => header(alloc, first, second),
+        "ranges" => ranges(alloc, first, second),
+        "elements" => elements(alloc, first),
+        "fallbacks" => fallbacks(alloc, first),
+        "filter" => filter(alloc, first, second, third),
+        "extlang-form" => extlang_form_of(alloc, first),
+        "fault" => fault(alloc, first),
+        "misplaced" => misplaced(alloc, first),
+        "subtag" => subtag(alloc, first),
+        "registered" => registered(alloc, first),
+        _ => String::from_str(alloc, "not a call"),
+    }
+}
