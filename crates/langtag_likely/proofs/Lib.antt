@@ -4,7 +4,6 @@ pub mod FirstIndex
 pub mod FormLaws
 pub mod GoodForms
 pub mod KeyNumbers
-pub mod LookedUp
 pub mod PutLaws
 pub mod RowLaws
 pub mod RowsFound

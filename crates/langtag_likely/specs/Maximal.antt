@@ -45,6 +45,7 @@ put_fields r f = record r { primary = put_language r.primary r.extended f.langua
 unfoldable pub maximal_record : Record → Record
 maximal_record r = option_map_or (put_fields r) (add_likely likely_subtags (fields_of r)) r
 
+-- of a tag with likely subtags: without those that are likely anyway; any other stays
 unfoldable pub minimal_record : Record → Record
 minimal_record r = option_map_or (put_fields r) (remove_likely likely_subtags (fields_of r)) r
 
@@ -52,6 +53,10 @@ minimal_record r = option_map_or (put_fields r) (remove_likely likely_subtags (f
 pub record IsForm (form_of : Record → Record) (old new : List ℕ) : Type 0 where
   pub kept : (IsNormal old → ⊥) → new ≡ old
   pub parts : EachRecord old (λ r. new ≡ spell (form_of r))
+
+-- and it is the only such text
+abbrev pub IsOnlyForm : (Record → Record) → List ℕ → List ℕ → Type 0
+IsOnlyForm form_of old new = (form : List ℕ) → IsForm form_of old form → form ≡ new
 
 -- Add Likely Subtags
 abbrev pub IsMaximalForm : List ℕ → List ℕ → Type 0

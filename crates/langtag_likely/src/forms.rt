@@ -3,7 +3,7 @@ ghost use Rattle.std.specs.Prelude.{◌≡◌, IfOk};
 ghost use Rattle.langtag.specs.Text.{lang_tag_text, lang_tag_buf_text};
 ghost use Rattle.langtag_scan.specs.Tag.{IsTag};
 ghost use Rattle.langtag_registry.specs.Writes.{Writes};
-ghost use Rattle.langtag_likely.specs.Maximal.{IsMaximalForm, IsMinimalForm};
+ghost use Rattle.langtag_likely.specs.Maximal.{IsMaximalForm, IsMinimalForm, IsOnlyForm, maximal_record, minimal_record};
 
 use crate::likely::{add_likely, remove_likely};
 use crate::put::write_fields;
@@ -23,6 +23,7 @@ use std::alloc::{AllocError, Global};
 /// Out of memory.
 pub fn maximized(alloc: Global, tag: LangTag<'_>) -> Result<LangTagBuf, AllocError>
     ensures maximal { IfOk result (λ form. IsMaximalForm (lang_tag_text tag.entry) (lang_tag_buf_text form)) }
+    ensures one { IfOk result (λ form. IsOnlyForm maximal_record (lang_tag_text tag.entry) (lang_tag_buf_text form)) }
 {
     Ok(tag_of(maximal_bytes(alloc, tag)?))
 }
@@ -35,6 +36,7 @@ pub fn maximized(alloc: Global, tag: LangTag<'_>) -> Result<LangTagBuf, AllocErr
 /// Out of memory.
 pub fn minimized(alloc: Global, tag: LangTag<'_>) -> Result<LangTagBuf, AllocError>
     ensures minimal { IfOk result (λ form. IsMinimalForm (lang_tag_text tag.entry) (lang_tag_buf_text form)) }
+    ensures one { IfOk result (λ form. IsOnlyForm minimal_record (lang_tag_text tag.entry) (lang_tag_buf_text form)) }
 {
     Ok(tag_of(minimal_bytes(alloc, tag)?))
 }
