@@ -28,31 +28,40 @@ impl Seen {
     /// An accepted text is shown as it stands, in one piece, and in Debug by the name of its type and its text, and its
     /// copy has no room to spare. A refusal says its message, in one piece, and is `InvalidRegion("F")` in Debug where the
     /// type is `Region` and the text `F`.
-    pub(crate) fn told(self, alloc: Global, text: &str) -> Result<String, AllocError> {
+    pub(crate) fn told(&self, alloc: Global, text: &str) -> Result<String, AllocError> {
+        match &self.message {
+            None => self.told_accepted(alloc, text),
+            Some(message) => self.told_refused(alloc, text, message.as_str()),
+        }
+    }
+
+    fn told_accepted(&self, alloc: Global, text: &str) -> Result<String, AllocError> {
         let name = self.name;
-        let Some(message) = self.message else {
-            let end = if name == "LangTag" || name == "NormalLangTag" {
-                ", .. }"
-            } else {
-                " }"
-            };
-            let debug = format!(in alloc; "{{ text: Caseless({text:?}){end}")?;
-            let wanted = format!(in alloc; "1 1 {text} {text} {name} {debug} {name}Buf {debug}")?;
-            return if self.shown != wanted {
-                Ok(self.shown)
-            } else if self.room != text.len() {
-                String::from_str(alloc, "a copy with room to spare")
-            } else {
-                String::from_str(alloc, "accepted")
-            };
+        let end = if name == "LangTag" || name == "NormalLangTag" {
+            ", .. }"
+        } else {
+            " }"
         };
+        let debug = format!(in alloc; "{{ text: Caseless({text:?}){end}")?;
+        let wanted = format!(in alloc; "1 1 {text} {text} {name} {debug} {name}Buf {debug}")?;
+        if self.shown != wanted {
+            return String::from_str(alloc, self.shown.as_str());
+        }
+        if self.room != text.len() {
+            return String::from_str(alloc, "a copy with room to spare");
+        }
+        String::from_str(alloc, "accepted")
+    }
+
+    fn told_refused(&self, alloc: Global, text: &str, message: &str) -> Result<String, AllocError> {
+        let name = self.name;
         let debug = format!(in alloc; "Invalid{name}({text:?})")?;
         let wanted = format!(in alloc; "1 1 {message} {message} {debug} {debug}")?;
-        Ok(if self.shown == wanted {
-            message
+        if self.shown == wanted {
+            String::from_str(alloc, message)
         } else {
-            self.shown
-        })
+            String::from_str(alloc, self.shown.as_str())
+        }
     }
 }
 

@@ -155,7 +155,7 @@ pub(crate) fn types(alloc: Global, text: &str) -> Result<String, AllocError> {
     Ok(out)
 }
 
-/// How many prefixes of a text a type accepts.
+/// How many prefixes of a text a type accepts, and shows and copies as it should.
 pub(crate) fn fronts(alloc: Global, name: &str, text: &str) -> Result<String, AllocError> {
     let mut accepted: u32 = 0;
     for len in 0..=text.len() {
@@ -163,7 +163,8 @@ pub(crate) fn fronts(alloc: Global, name: &str, text: &str) -> Result<String, Al
         let Some(seen) = see(alloc, name, front) else {
             return String::from_str(alloc, "not a type");
         };
-        accepted = accepted.saturating_add(u32::from(seen?.is_accepted()));
+        let told = seen?.told(alloc, front)?;
+        accepted = accepted.saturating_add(u32::from(told.as_str() == "accepted"));
     }
     format!(in alloc; "{accepted}")
 }

@@ -8,7 +8,6 @@ mod broken;
 mod catalogue;
 mod counts;
 mod direction;
-mod header_rows;
 mod keyword;
 mod literal;
 mod other_script;

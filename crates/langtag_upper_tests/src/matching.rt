@@ -10,7 +10,6 @@ mod fallbacks;
 mod filtering;
 mod hostile;
 mod language_range;
-mod lengths;
 mod look_up;
 
 /// Asserts what a function answers to each text, as a text.

@@ -17,6 +17,24 @@ const CASES: [(&str, bool); 11] = [
     ("i-klingon", false),
 ];
 
+/// All scripts that Unicode writes from right to left and that are in common use, with the Nastaliq variant of the Arabic one.
+const SCRIPTS: [&str; 11] = [
+    "Adlm", "Arab", "Aran", "Hebr", "Mand", "Mend", "Nkoo", "Rohg", "Samr", "Syrc", "Thaa",
+];
+
+/// Languages whose script is Arabic, Hebrew or Thaana where a tag does not say it.
+const LANGUAGES: [&str; 10] = ["ar", "ckb", "dv", "fa", "he", "ps", "sd", "ug", "ur", "yi"];
+
+#[test]
+fn the_lists_have_these_names_and_no_others(rt: HostRuntime) {
+    expect_true(&rt, RIGHT_TO_LEFT_SCRIPTS == SCRIPTS.as_slice(), "scripts");
+    expect_true(
+        &rt,
+        RIGHT_TO_LEFT_LANGUAGES == LANGUAGES.as_slice(),
+        "languages",
+    );
+}
+
 #[test]
 fn the_script_decides_and_else_the_language(rt: HostRuntime) {
     for (text, wanted) in CASES {

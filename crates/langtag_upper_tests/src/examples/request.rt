@@ -1,5 +1,4 @@
 //! The language to answer a request in.
-use super::header_rows::ROWS;
 use super::tag;
 use crate::support::expect_same;
 use langtag_examples::tag_for_request;
@@ -19,23 +18,6 @@ fn check_request(
     Ok(())
 }
 
-/// A header of a length, and one that cannot be read.
-fn check_length(rt: &impl Abort, alloc: Global, len: usize) -> Result<(), AllocError> {
-    let header = format!(in alloc; "{}de-ch-1996", " ".repeat(alloc, len)?)?;
-    check_request(rt, alloc, Some(header.as_str()), "de-CH")?;
-    let header = format!(in alloc; "de-CH{}?", ",".repeat(alloc, len)?)?;
-    check_request(rt, alloc, Some(header.as_str()), "en")
-}
-
-/// Headers of each length, and of three million bytes.
-fn check_lengths(rt: &impl Abort, alloc: Global) -> Result<(), AllocError> {
-    for len in 0..=300 {
-        check_length(rt, alloc, len)?;
-    }
-    let header = format!(in alloc; "{}de-ch-1996", " ".repeat(alloc, 3_000_000)?)?;
-    check_request(rt, alloc, Some(header.as_str()), "de-CH")
-}
-
 const CASES: [(Option<&str>, &str); 5] = [
     (None, "en"),
     (Some("fr, de-ch-1996;q=0.9"), "de-CH"),
@@ -51,34 +33,7 @@ fn check_cases(rt: &impl Abort, alloc: Global) -> Result<(), AllocError> {
     Ok(())
 }
 
-/// One of the rows, beside a default that none of them finds.
-fn check_row(
-    rt: &impl Abort,
-    alloc: Global,
-    header: &str,
-    tags: &str,
-    wanted: Option<&str>,
-) -> Result<(), AllocError> {
-    let mut known = Vec::new(alloc);
-    for text in tags.split(' ') {
-        known.push(tag(rt, text))?;
-    }
-    let default = tag(rt, "x-default");
-    let chosen = tag_for_request(alloc, Some(header), known.as_slice(), default)?;
-    expect_same(rt, chosen.as_str(), wanted.unwrap_or("x-default"), header);
-    Ok(())
-}
-
-fn check_rows(rt: &impl Abort, alloc: Global) -> Result<(), AllocError> {
-    for (header, tags, wanted) in ROWS {
-        check_row(rt, alloc, *header, *tags, *wanted)?;
-    }
-    Ok(())
-}
-
 #[test]
 fn requests_are_answered(rt: HostRuntime) {
     with_memory!(rt, check_cases(&rt, rt.alloc()));
-    with_memory!(rt, check_lengths(&rt, rt.alloc()));
-    with_memory!(rt, check_rows(&rt, rt.alloc()));
 }
