@@ -1,11 +1,11 @@
 -- What the class of a field says of its letters and its length.
-use Rattle.std.proofs.Common.{◌≡◌, ℕ, ◌<◌, ◌≤◌, true, false, Bool, cond, List, [], ◌∷◌, length, refl, sym, ap, ◌∙◌, arith}
+use Rattle.std.proofs.Common.{◌≡◌, ℕ, ◌<◌, ◌≤◌, true, false, Bool, List, [], ◌∷◌, length, refl, ap, ◌∙◌, arith}
 use Rattle.std.specs.Prelude.{◌&&◌, ◌||◌, ◌==◌}
 use Rattle.std.proofs.lemmas.Bool.{and_parts}
 use Rattle.std.proofs.lemmas.Bool.Decides.{nat_tests}
-use Rattle.langtag_scan.specs.Class.{is_letter, is_digit, are_letters, are_digits, are_alphanumeric, is_alphanumeric, is_primary, is_extended, is_script, is_region, has_length}
+use Rattle.langtag_scan.specs.Class.{is_letter, is_digit, are_letters, are_digits, are_alphanumeric, is_primary, is_extended, is_script, is_region}
 use Rattle.langtag_registry.specs.Numbers.{letter_number}
-use Rattle.langtag_registry.proofs.Letters.{primary_letters, primary_length, extended_primary}
+use Rattle.langtag_registry.proofs.Letters.{primary_letters, extended_primary}
 use Rattle.langtag_likely.specs.Good.{is_language_field, is_script_field, is_region_field}
 use Rattle.langtag_likely.specs.Likely.{Fields}
 use Rattle.langtag_likely.proofs.KeyNumbers.{are_plain}

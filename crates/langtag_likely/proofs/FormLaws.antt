@@ -1,5 +1,5 @@
 -- What a tag becomes where its record becomes another.
-use Rattle.std.proofs.Common.{◌≡◌, ℕ, true, false, Bool, List, Option, None, Some, inl, inr, ◌⊎◌, refl, sym, ap, subst, ◌∙◌}
+use Rattle.std.proofs.Common.{◌≡◌, ℕ, true, false, Bool, List, None, Some, inl, inr, ◌⊎◌, refl, sym, ap, subst, ◌∙◌}
 use Rattle.std.proofs.lemmas.Bool.{both_ways}
 use Rattle.langtag_scan.specs.Record.{Record, Spells, IsWellFormed, spell}
 use Rattle.langtag_scan.specs.Tag.{IsNormal, IsTag}

@@ -1,7 +1,7 @@
 -- The maximal and the minimal record of a well-formed one are well-formed.
 use Rattle.std.specs.Option.{option_map_or}
-use Rattle.std.proofs.Common.{◌≡◌, ℕ, ◌≤◌, ◌⊎◌, true, false, Bool, cond, List, [], ◌∷◌, length, Option, None, Some, option_map, unwrap_or, IfSome, IsTrue, inl, inr, refl, sym, ap, ◌∙◌, arith}
-use Rattle.std.specs.Prelude.{◌&&◌, ◌||◌, ◌==◌, codes}
+use Rattle.std.proofs.Common.{◌≡◌, ℕ, ◌≤◌, ◌⊎◌, true, false, Bool, cond, List, [], ◌∷◌, length, Option, None, Some, option_map, unwrap_or, IfSome, IsTrue, inr, refl, sym, ap, ◌∙◌}
+use Rattle.std.specs.Prelude.{◌&&◌, codes}
 use Rattle.std.specs.List.{list_all, AllByRecursion}
 use Rattle.std.proofs.lemmas.Bool.{and_parts}
 use Rattle.langtag_scan.specs.Case.{fold_byte, are_alike}

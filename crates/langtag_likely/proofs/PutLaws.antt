@@ -1,14 +1,14 @@
 -- A tag with other fields, piece by piece.
-use Rattle.std.proofs.Common.{◌≡◌, ℕ, ◌+◌, ◌<◌, ◌≤◌, true, false, Bool, cond, List, [], ◌∷◌, ◌++◌, length, drop, refl, sym, ap, ◌∙◌, arith, append_assoc}
+use Rattle.std.proofs.Common.{◌≡◌, ℕ, ◌+◌, ◌≤◌, true, false, Bool, cond, List, [], ◌∷◌, ◌++◌, length, drop, refl, sym, ap, ◌∙◌, arith, append_assoc}
 use Rattle.std.specs.Prelude.{codes}
-use Rattle.std.specs.List.{AllByRecursion, flat_map}
+use Rattle.std.specs.List.{flat_map}
 use Rattle.std.proofs.lemmas.List.{length-append, length-drop}
 use Rattle.langtag_scan.specs.Case.{are_alike}
 use Rattle.langtag_scan.specs.CaseLaws.{are_alike-decides}
 use Rattle.langtag_scan.specs.Ends.{ends_of}
-use Rattle.langtag_scan.specs.Record.{Record, Spells, IsWellFormed, one_flat, extension_flat, private_part_flat, spell}
+use Rattle.langtag_scan.specs.Record.{Record, one_flat, extension_flat, private_part_flat, spell}
 use Rattle.langtag_scan.specs.Subtags.{join}
-use Rattle.langtag_scan.proofs.Joins.{hyphenated, hyphenated-append, join-append, join-hyphenated, length-join, length-join-append, drop-join}
+use Rattle.langtag_scan.proofs.Joins.{hyphenated, hyphenated-append, join-append, length-join, length-join-append, drop-join}
 use Rattle.langtag_scan.proofs.PartOffsets.{ends_in_order}
 use Rattle.langtag_language.specs.Language.{SpellsLanguage}
 use Rattle.langtag_registry.proofs.Letters.{primary_length, extended_primary}

@@ -1,5 +1,5 @@
 -- The rows of the tables are those of the lists.
-use Rattle.std.proofs.Common.{◌≡◌, ℕ, ◌+◌, ◌<◌, ◌≤◌, true, false, ◌==◌, Bool, ltb, List, [], ◌∷◌, ◌++◌, length, get_or, map, Option, None, Some, option_map, refl, sym, ap, ◌∙◌, arith}
+use Rattle.std.proofs.Common.{◌≡◌, ℕ, ◌+◌, ◌<◌, true, ◌==◌, Bool, ltb, List, [], ◌∷◌, length, get_or, map, Option, None, Some, option_map, refl, sym, ap, ◌∙◌, arith}
 use Rattle.std.specs.Prelude.{◌&&◌}
 use Rattle.std.proofs.Math.Bool.{and-true}
 use Rattle.std.proofs.lemmas.Bool.{and_parts, ltb-true}
@@ -8,13 +8,13 @@ use Rattle.langtag_scan.specs.Case.{are_alike}
 use Rattle.langtag_scan.specs.Class.{are_letters}
 use Rattle.langtag_registry.specs.Numbers.{letter_number}
 use Rattle.langtag_registry.proofs.Letters.{letter_number-tells}
-use Rattle.langtag_likely.specs.Likely.{Fields, Likely, are_alike_fields, likely_for, or_else, or_other, filled}
+use Rattle.langtag_likely.specs.Likely.{Fields, Likely, are_alike_fields, likely_for, or_else, filled}
 use Rattle.langtag_likely.specs.LikelySubtags.{language_rows, other_rows, likely_subtags}
 use Rattle.langtag_likely.specs.Numbers.{first_index, key_number}
 use Rattle.langtag_likely.specs.Rows.{of_language, places_of, places_for}
 use Rattle.langtag_likely.proofs.FirstIndex.{first_index-is}
 use Rattle.langtag_likely.proofs.KeyNumbers.{are_plain, is_numbered, key_number-tells}
-use Rattle.langtag_likely.proofs.RowsFound.{no_row, found_by_number, likely_for-append, is_short, is_alone, is_other, long_nowhere, alone_nowhere, other_nowhere}
+use Rattle.langtag_likely.proofs.RowsFound.{no_row, found_by_number, likely_for-append, is_alone, long_nowhere, alone_nowhere, other_nowhere}
 use Rattle.langtag_likely.proofs.TableRows.{languages_alone, languages_short, languages_only, others_numbered, others_other, others_short}
 
 abbrev is_language : Likely → Bool

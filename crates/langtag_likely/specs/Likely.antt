@@ -1,6 +1,6 @@
 -- Likely subtags (UTS #35, part 1, section 'Likely Subtags'): the script and the region that a language has most likely, and
 -- the language that most likely goes with a script or a region.
-use Rattle.std.specs.Prelude.{◌≡◌, ℕ, ◌==◌, ◌&&◌, Bool, false, List, [], ◌∷◌, Option, None, Some, codes, if◌then◌else◌}
+use Rattle.std.specs.Prelude.{ℕ, ◌&&◌, Bool, false, List, [], ◌∷◌, Option, None, Some, codes, if◌then◌else◌}
 use Rattle.std.specs.Option.{option_map, option_map_or}
 use Rattle.langtag_scan.specs.Case.{are_alike}
 

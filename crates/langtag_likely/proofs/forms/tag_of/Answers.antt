@@ -1,7 +1,6 @@
-use Rattle.std.proofs.Common.{IsOk, sym, ap, subst}
+use Rattle.std.proofs.Common.{IsOk, subst}
 use Rattle.std.proofs.lemmas.Bool.{false≢true}
 use Rattle.langtag_scan.proofs.Ascii.{IsUtf8-tag}
-use Rattle.langtag_scan.specs.Tag.{IsTag}
 use Rattle.langtag_likely.proofs.forms.tag_of.Goals as goal
 
 pub unreachable-requires : goal.unreachable-requires

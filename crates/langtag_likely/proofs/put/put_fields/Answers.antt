@@ -1,6 +1,5 @@
-use Rattle.std.proofs.Common.{◌≡◌, [], ◌∷◌, ◌++◌, drop, subst, sym, ap, ◌∙◌, rules}
+use Rattle.std.proofs.Common.{◌≡◌, [], ◌∷◌, ◌++◌, subst, ap, ◌∙◌, rules}
 use Rattle.langtag_registry.proofs.FaultLaws.{language_spelled}
-use Rattle.langtag_scan.specs.Ends.{ends_of}
 use Rattle.langtag_scan.specs.Record.{spell}
 use Rattle.langtag_scan.specs.Subtags.{join}
 use Rattle.langtag_likely.specs.Maximal.{put_fields, put_language}

@@ -1,4 +1,4 @@
-use Rattle.std.proofs.Common.{◌≡◌, sym, ap, ◌∙◌}
+use Rattle.std.proofs.Common.{sym, ap, ◌∙◌}
 use Rattle.langtag_language.specs.Text.{language_text}
 use Rattle.langtag_likely.specs.Likely.{or_other}
 use Rattle.langtag_likely.proofs.PutLaws.{und_alone}

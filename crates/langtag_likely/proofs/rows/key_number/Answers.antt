@@ -1,6 +1,6 @@
 use Rattle.std.proofs.Common.{◌+◌, ◌*◌, ap, ◌∙◌}
 use Rattle.langtag_registry.specs.Numbers.{letter_number}
-use Rattle.langtag_likely.specs.declared.tables.TheConstants.{SCRIPT_KEYS, REGION_KEYS}
+use Rattle.langtag_likely.specs.declared.tables.TheConstants.{SCRIPT_KEYS}
 use Rattle.langtag_likely.specs.Numbers.{key_number, place}
 use Rattle.langtag_likely.proofs.FieldClasses.{script_length, region_length}
 use Rattle.langtag_likely.proofs.rows.key_number.Goals as goal

@@ -1,4 +1,4 @@
-use Rattle.std.proofs.Common.{◌<◌, length, map, get_or, arith}
+use Rattle.std.proofs.Common.{◌<◌, map, get_or, arith}
 use Rattle.langtag_registry.proofs.Values.{index_inside}
 use Rattle.langtag_likely.specs.Good.{is_language_field}
 use Rattle.langtag_likely.specs.LikelySubtags.{other_rows}

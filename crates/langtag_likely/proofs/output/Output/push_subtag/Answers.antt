@@ -1,6 +1,6 @@
-use Rattle.std.proofs.Common.{◌≡◌, ◌∷◌, ◌++◌, [], ap, subst, ◌∙◌, arith, append_assoc}
+use Rattle.std.proofs.Common.{◌∷◌, ◌++◌, [], ap, subst, ◌∙◌, arith, append_assoc}
 use Rattle.std.proofs.lemmas.Bool.Decides.{nat_tests}
-use Rattle.langtag_likely.specs.Output.{HasText, after_hyphen}
+use Rattle.langtag_likely.specs.Output.{HasText}
 use Rattle.langtag_likely.proofs.PutLaws.{hyphen_before}
 use Rattle.langtag_likely.proofs.output.Output.push_subtag.Goals as goal
 
