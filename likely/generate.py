@@ -1,5 +1,5 @@
 #!/usr/bin/env python3
-"""Writes the tables and the lists of the crate langtag_likely from Unicode's CLDR, whose data stand as text in data/.
+"""Writes the tables and the lists of the crate langtag_likely from Unicode's CLDR, whose likely subtags are data/likely.txt.
 
 usage: generate.py [--check]
 
@@ -12,25 +12,22 @@ import pathlib
 import sys
 
 HERE = pathlib.Path(__file__).resolve().parent
+DATA = HERE / "data" / "likely.txt"
 CRATE = HERE.parent / "crates" / "langtag_likely"
 
 CLDR_VERSION = "41"
-CHECKSUM = "33bc99d15542eb39b76ad8c0f7e0bb3ce7ec842bcd2dc8500f232dba335b1cf7"
+CHECKSUM = "a59c78b7f9825a2d1749592c28eba703cbfe0608cf6669605a68e68922d7467c"
 
 EMPTY = "-"
 
 
-def read(name):
-    """The lines of a file of data, in words."""
-    return [line.split() for line in (HERE / "data" / name).read_text(encoding="utf-8").splitlines() if not line.startswith("#")]
+def read():
+    """The rows of the data, in words."""
+    return [line.split() for line in DATA.read_text(encoding="utf-8").splitlines() if not line.startswith("#")]
 
 
 def checksum():
-    """The SHA-256 of all files of data, in the order of their names."""
-    total = hashlib.sha256()
-    for path in sorted((HERE / "data").glob("*.txt")):
-        total.update(path.read_bytes())
-    return total.hexdigest()
+    return hashlib.sha256(DATA.read_bytes()).hexdigest()
 
 
 def letter_number(text):
@@ -169,7 +166,7 @@ def main():
         sys.exit(__doc__)
     if checksum() != CHECKSUM:
         sys.exit(f"the data are not those of CLDR {CLDR_VERSION}: {checksum()}")
-    likely = Likely(read("likely.txt"))
+    likely = Likely(read())
     differs = False
     for path, text in ((CRATE / "src" / "tables.rt", tables(likely)), (CRATE / "specs" / "LikelySubtags.antt", lists(likely))):
         if not check:
