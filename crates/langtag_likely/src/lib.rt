@@ -1,4 +1,5 @@
-//! The language that a reader reads: likely subtags (UTS #35, part 1, section 'Likely Subtags') over Unicode's CLDR.
+//! Likely subtags (UTS #35, part 1, section 'Likely Subtags') over Unicode's CLDR: the script and the region that a language has
+//! most likely, added to a tag or taken out of it.
 //!
 //! ```
 //! use langtag::LangTag;
