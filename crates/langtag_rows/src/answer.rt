@@ -1,6 +1,7 @@
 //! The answer to a call.
 use crate::case::recommended;
 use crate::edits::edit;
+use crate::likely::{maximal_form, minimal_form};
 use crate::matching::{elements, fallbacks, filter, header, ranges};
 use crate::registry::{extlang_form_of, fault, misplaced, registered, subtag};
 use crate::scan::{class, scan};
@@ -53,6 +54,8 @@ pub(crate) fn answer(
         "misplaced" => misplaced(alloc, first),
         "subtag" => subtag(alloc, first),
         "registered" => registered(alloc, first),
+        "maximized" => maximal_form(alloc, first),
+        "minimized" => minimal_form(alloc, first),
         _ => String::from_str(alloc, "not a call"),
     }
 }

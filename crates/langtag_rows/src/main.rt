@@ -10,6 +10,7 @@ mod answer;
 mod case;
 mod edits;
 mod file;
+mod likely;
 mod matching;
 mod registry;
 mod row;

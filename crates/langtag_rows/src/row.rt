@@ -60,7 +60,9 @@ fn argument_count(call: &str) -> usize {
         | "fault"
         | "subtag"
         | "misplaced"
-        | "registered" => 1,
+        | "registered"
+        | "maximized"
+        | "minimized" => 1,
         "tag" | "validity" | "canonical" | "grandfathered" | "viable" | "range" => 1,
         _ => 0,
     }

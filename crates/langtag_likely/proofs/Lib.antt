@@ -1,0 +1,10 @@
+pub mod Columns
+pub mod FieldClasses
+pub mod FirstIndex
+pub mod FormLaws
+pub mod GoodForms
+pub mod KeyNumbers
+pub mod PutLaws
+pub mod RowLaws
+pub mod RowsFound
+pub mod TableRows

@@ -1,0 +1,122 @@
+-- The rows of the tables are those of the lists.
+use Rattle.std.proofs.Common.{◌≡◌, ℕ, ◌+◌, ◌<◌, true, ◌==◌, Bool, ltb, List, [], ◌∷◌, length, get_or, map, Option, None, Some, option_map, refl, sym, ap, ◌∙◌, arith}
+use Rattle.std.specs.Prelude.{◌&&◌}
+use Rattle.std.proofs.Math.Bool.{and-true}
+use Rattle.std.proofs.lemmas.Bool.{and_parts, ltb-true}
+use Rattle.std.proofs.lemmas.List.{get_or-map, length-map, nil_from_length}
+use Rattle.langtag_scan.specs.Case.{are_alike}
+use Rattle.langtag_scan.specs.Class.{are_letters}
+use Rattle.langtag_registry.specs.Numbers.{letter_number}
+use Rattle.langtag_registry.proofs.Letters.{letter_number-tells}
+use Rattle.langtag_likely.specs.Likely.{Fields, Likely, are_alike_fields, likely_for, or_else, filled}
+use Rattle.langtag_likely.specs.LikelySubtags.{language_rows, other_rows, likely_subtags}
+use Rattle.langtag_likely.specs.Numbers.{first_index, key_number}
+use Rattle.langtag_likely.specs.Rows.{of_language, places_of, places_for}
+use Rattle.langtag_likely.proofs.FirstIndex.{first_index-is}
+use Rattle.langtag_likely.proofs.KeyNumbers.{are_plain, is_numbered, key_number-tells}
+use Rattle.langtag_likely.proofs.RowsFound.{no_row, found_by_number, likely_for-append, is_alone, long_nowhere, alone_nowhere, other_nowhere}
+use Rattle.langtag_likely.proofs.TableRows.{languages_alone, languages_short, languages_only, others_numbered, others_other, others_short}
+
+abbrev is_language : Likely → Bool
+is_language row = are_letters row.from.language && is_alone row
+
+abbrev language_number : Fields → ℕ
+language_number f = letter_number f.language
+
+language-tells :
+    (l : List ℕ) → are_letters l ≡ true → (row : Likely) → is_language row ≡ true →
+    (language_number (of_language l) == language_number row.from) ≡ are_alike_fields row.from (of_language l)
+language-tells l letters row good =
+    let k = and_parts (are_letters row.from.language) (is_alone row) good in
+    let alone = and_parts (ltb 0 (length row.from.language)) (ltb (length row.from.script + length row.from.region) 1) k.1 in
+    let none = ltb-true (length row.from.script + length row.from.region) 1 alone.1 in
+    let script : row.from.script ≡ [] = nil_from_length row.from.script (omega (arith, none)) in
+    let region : row.from.region ≡ [] = nil_from_length row.from.region (omega (arith, none)) in
+    letter_number-tells row.from.language l k.0 letters
+    ∙ sym (and-true (are_alike row.from.language l))
+    ∙ ap (λ s. are_alike row.from.language l && (are_alike s [] && are_alike [] [])) (sym script)
+    ∙ ap (λ r. are_alike row.from.language l && (are_alike row.from.script [] && are_alike r [])) (sym region)
+
+-- ---- what is found by a number
+
+language_found : (l : List ℕ) → are_letters l ≡ true → option_map (λ i. (get_or language_rows i no_row).to) (first_index (map (λ row. letter_number row.from.language) language_rows) (letter_number l)) ≡ likely_for language_rows (of_language l)
+language_found l letters = found_by_number language_number is_language (of_language l) (language-tells l letters) language_rows languages_alone
+
+other_found : (key : Fields) → are_plain key ≡ true → option_map (λ i. (get_or other_rows i no_row).to) (first_index (map (λ row. key_number row.from) other_rows) (key_number key)) ≡ likely_for other_rows key
+other_found key plain = found_by_number key_number is_numbered key (λ row good. key_number-tells key row plain good) other_rows others_numbered
+
+pub index_inside : (rows : List Likely) (number : Likely → ℕ) (key i : ℕ) → first_index (map number rows) key ≡ Some i → i < length rows
+index_inside rows number key i is = let at = (first_index-is (map number rows) key i is).inside in omega (arith, at, length-map rows number)
+
+-- a language at an index
+pub language_at :
+    (l : List ℕ) (i : ℕ) (script region : List ℕ) → are_letters l ≡ true →
+    first_index (map (λ row. letter_number row.from.language) language_rows) (letter_number l) ≡ Some i →
+    script ≡ get_or (map (λ row. row.to.script) language_rows) i [] → region ≡ get_or (map (λ row. row.to.region) language_rows) i [] →
+    Some (record { language = []; script = script; region = region }) ≡ places_for l
+language_at l i script region letters is script_is region_is =
+    let inside = index_inside language_rows (λ row. letter_number row.from.language) (letter_number l) i is in
+    ap (λ s. Some (record { language = []; script = s; region = region })) (script_is ∙ get_or-map (λ row. row.to.script) language_rows i no_row [] inside)
+    ∙ ap (λ r. Some (record { language = []; script = (get_or language_rows i no_row).to.script; region = r })) (region_is ∙ get_or-map (λ row. row.to.region) language_rows i no_row [] inside)
+    ∙ ap (option_map places_of) (sym (ap (option_map (λ j. (get_or language_rows j no_row).to)) is) ∙ language_found l letters)
+
+pub language_absent :
+    (l : List ℕ) → are_letters l ≡ true → first_index (map (λ row. letter_number row.from.language) language_rows) (letter_number l) ≡ None → None ≡ places_for l
+language_absent l letters none =
+    ap (option_map places_of) (sym (ap (option_map (λ j. (get_or language_rows j no_row).to)) none) ∙ language_found l letters)
+
+-- any other row at an index
+pub other_at :
+    (key : Fields) (i : ℕ) (language script region : List ℕ) → are_plain key ≡ true →
+    first_index (map (λ row. key_number row.from) other_rows) (key_number key) ≡ Some i →
+    language ≡ get_or (map (λ row. row.to.language) other_rows) i [] → script ≡ get_or (map (λ row. row.to.script) other_rows) i [] →
+    region ≡ get_or (map (λ row. row.to.region) other_rows) i [] →
+    Some (record { language = language; script = script; region = region }) ≡ likely_for other_rows key
+other_at key i language script region plain is language_is script_is region_is =
+    let inside = index_inside other_rows (λ row. key_number row.from) (key_number key) i is in
+    ap (λ l. Some (record { language = l; script = script; region = region })) (language_is ∙ get_or-map (λ row. row.to.language) other_rows i no_row [] inside)
+    ∙ ap (λ s. Some (record { language = (get_or other_rows i no_row).to.language; script = s; region = region })) (script_is ∙ get_or-map (λ row. row.to.script) other_rows i no_row [] inside)
+    ∙ ap (λ r. Some (record { language = (get_or other_rows i no_row).to.language; script = (get_or other_rows i no_row).to.script; region = r })) (region_is ∙ get_or-map (λ row. row.to.region) other_rows i no_row [] inside)
+    ∙ sym (ap (option_map (λ j. (get_or other_rows j no_row).to)) is) ∙ other_found key plain
+
+pub other_absent :
+    (key : Fields) → are_plain key ≡ true → first_index (map (λ row. key_number row.from) other_rows) (key_number key) ≡ None → None ≡ likely_for other_rows key
+other_absent key plain none = sym (ap (option_map (λ j. (get_or other_rows j no_row).to)) none) ∙ other_found key plain
+
+-- ---- all rows
+
+either : (key : Fields) → likely_for likely_subtags key ≡ or_else (likely_for language_rows key) (likely_for other_rows key)
+unfolding likely_subtags
+either key = likely_for-append language_rows other_rows key
+
+or_none : {A : Type 0} (o : Option A) → or_else o None ≡ o
+or_none None = refl
+or_none (Some x) = refl
+
+pub all_long : (key : Fields) → 3 < length key.language → likely_for likely_subtags key ≡ None
+all_long key long =
+    either key ∙ ap (λ o. or_else o (likely_for other_rows key)) (long_nowhere language_rows key long languages_short)
+    ∙ long_nowhere other_rows key long others_short
+
+fill_places : (l : List ℕ) → 0 < length l → (o : Option Fields) → option_map (filled (of_language l)) (option_map places_of o) ≡ option_map (filled (of_language l)) o
+fill_places [] some o = absurd (omega (arith, some))
+fill_places (b ∷ l) some None = refl
+fill_places (b ∷ l) some (Some to) = refl
+
+-- a language and no more
+pub all_alone :
+    (key : Fields) → 0 < length key.language → length key.script ≡ 0 → length key.region ≡ 0 →
+    option_map (filled key) (places_for key.language) ≡ option_map (filled key) (likely_for likely_subtags key)
+all_alone key some no_script no_region =
+    let script : key.script ≡ [] = nil_from_length key.script no_script in
+    let region : key.region ≡ [] = nil_from_length key.region no_region in
+    let same : key ≡ of_language key.language =
+    ap (λ s. record { language = key.language; script = s; region = key.region }) script ∙ ap (λ r. record { language = key.language; script = []; region = r }) region in
+    ap (λ k. option_map (filled k) (places_for key.language)) same
+    ∙ fill_places key.language some (likely_for language_rows (of_language key.language))
+    ∙ ap (λ k. option_map (filled k) (likely_for language_rows k)) (sym same)
+    ∙ ap (option_map (filled key)) (sym (either key ∙ ap (or_else (likely_for language_rows key)) (alone_nowhere other_rows key some no_script no_region others_other) ∙ or_none (likely_for language_rows key)))
+
+-- any other left side
+pub all_other : (key : Fields) → (0 < length key.language → length key.script + length key.region ≡ 0 → ⊥) → likely_for other_rows key ≡ likely_for likely_subtags key
+all_other key other = sym (either key ∙ ap (λ o. or_else o (likely_for other_rows key)) (other_nowhere language_rows key other languages_only))

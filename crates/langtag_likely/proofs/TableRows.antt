@@ -1,0 +1,136 @@
+-- The tables have the rows of the lists: by computation.
+use Rattle.std.proofs.Common.{◌≡◌, true, ltb, length, map, refl}
+use Rattle.std.specs.Prelude.{◌&&◌}
+use Rattle.std.specs.List.{list_all}
+use Rattle.langtag_scan.specs.Case.{fold_byte}
+use Rattle.langtag_scan.specs.Class.{is_letter, is_digit, are_letters, is_primary, is_script, is_region}
+use Rattle.langtag_registry.specs.Numbers.{letter_number, folded_number, climbs_from}
+use Rattle.langtag_registry.proofs.Rising.{rises_from}
+use Rattle.langtag_likely.specs.declared.tables.TheConstants as table
+use Rattle.langtag_likely.specs.Good.{is_language_field, is_script_field, is_region_field}
+use Rattle.langtag_likely.specs.LikelySubtags.{language_rows, other_rows}
+use Rattle.langtag_likely.specs.Numbers.{key_number, name_at, name_text}
+use Rattle.langtag_likely.proofs.KeyNumbers.{is_numbered}
+use Rattle.langtag_likely.proofs.RowsFound.{is_short, is_alone, is_other}
+
+-- ---- the rows of a language alone
+
+pub language_numbers : table.LANGUAGE_KEYS ≡ map (λ row. letter_number row.from.language) language_rows
+unfolding language_rows letter_number fold_byte
+language_numbers = refl
+
+pub language_scripts : map (name_at table.SCRIPT_NAMES) table.LANGUAGE_SCRIPTS ≡ map (λ row. row.to.script) language_rows
+unfolding language_rows fold_byte
+language_scripts = refl
+
+pub language_regions : map (name_at table.REGION_NAMES) table.LANGUAGE_REGIONS ≡ map (λ row. row.to.region) language_rows
+unfolding language_rows fold_byte
+language_regions = refl
+
+-- a language and no more, of two or three letters
+pub languages_alone : list_all (λ row. are_letters row.from.language && is_alone row) language_rows ≡ true
+unfolding language_rows is_letter fold_byte
+languages_alone = refl
+
+pub languages_only : list_all is_alone language_rows ≡ true
+unfolding language_rows fold_byte
+languages_only = refl
+
+pub language_count : length language_rows ≡ 1327
+unfolding language_rows fold_byte
+language_count = refl
+
+pub languages_short : list_all is_short language_rows ≡ true
+unfolding language_rows fold_byte
+languages_short = refl
+
+-- ---- the other rows
+
+pub other_numbers : table.OTHER_KEYS ≡ map (λ row. key_number row.from) other_rows
+unfolding other_rows key_number letter_number folded_number fold_byte
+other_numbers = refl
+
+pub other_languages : map (name_at table.LANGUAGE_NAMES) table.OTHER_LANGUAGES ≡ map (λ row. row.to.language) other_rows
+unfolding other_rows fold_byte
+other_languages = refl
+
+pub other_scripts : map (name_at table.SCRIPT_NAMES) table.OTHER_SCRIPTS ≡ map (λ row. row.to.script) other_rows
+unfolding other_rows fold_byte
+other_scripts = refl
+
+pub other_regions : map (name_at table.REGION_NAMES) table.OTHER_REGIONS ≡ map (λ row. row.to.region) other_rows
+unfolding other_rows fold_byte
+other_regions = refl
+
+pub others_numbered : list_all is_numbered other_rows ≡ true
+unfolding other_rows is_letter is_digit folded_number fold_byte
+others_numbered = refl
+
+pub others_other : list_all is_other other_rows ≡ true
+unfolding other_rows fold_byte
+others_other = refl
+
+pub other_count : length other_rows ≡ 524
+unfolding other_rows fold_byte
+other_count = refl
+
+pub others_short : list_all is_short other_rows ≡ true
+unfolding other_rows fold_byte
+others_short = refl
+
+-- ---- the numbers rise
+
+pub scripts_rise : rises_from 0 table.SCRIPT_KEYS ≡ true
+scripts_rise = refl
+
+pub scripts_climb : climbs_from 0 table.SCRIPT_KEYS ≡ true
+scripts_climb = refl
+
+pub regions_rise : rises_from 0 table.REGION_KEYS ≡ true
+regions_rise = refl
+
+pub regions_climb : climbs_from 0 table.REGION_KEYS ≡ true
+regions_climb = refl
+
+pub languages_rise : rises_from 0 table.LANGUAGE_KEYS ≡ true
+languages_rise = refl
+
+pub languages_climb : climbs_from 0 table.LANGUAGE_KEYS ≡ true
+languages_climb = refl
+
+pub others_rise : rises_from 0 table.OTHER_KEYS ≡ true
+others_rise = refl
+
+pub others_climb : climbs_from 0 table.OTHER_KEYS ≡ true
+others_climb = refl
+
+-- ---- the classes of names
+
+pub scripts_good : list_all (λ name. is_script_field (name_text name)) table.SCRIPT_NAMES ≡ true
+unfolding is_script is_letter
+scripts_good = refl
+
+pub regions_good : list_all (λ name. is_region_field (name_text name)) table.REGION_NAMES ≡ true
+unfolding is_region is_letter is_digit
+regions_good = refl
+
+pub languages_good : list_all (λ name. is_language_field (name_text name)) table.LANGUAGE_NAMES ≡ true
+unfolding is_primary is_letter
+languages_good = refl
+
+-- ---- the indices are inside
+
+pub language_scripts_inside : list_all (λ i. ltb i 165) table.LANGUAGE_SCRIPTS ≡ true
+language_scripts_inside = refl
+
+pub language_regions_inside : list_all (λ i. ltb i 256) table.LANGUAGE_REGIONS ≡ true
+language_regions_inside = refl
+
+pub other_languages_inside : list_all (λ i. ltb i 223) table.OTHER_LANGUAGES ≡ true
+other_languages_inside = refl
+
+pub other_scripts_inside : list_all (λ i. ltb i 165) table.OTHER_SCRIPTS ≡ true
+other_scripts_inside = refl
+
+pub other_regions_inside : list_all (λ i. ltb i 256) table.OTHER_REGIONS ≡ true
+other_regions_inside = refl

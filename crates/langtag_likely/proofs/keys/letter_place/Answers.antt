@@ -1,0 +1,17 @@
+use Rattle.std.proofs.Common.{arith}
+use Rattle.langtag_registry.proofs.Letters.{letter_place}
+use Rattle.langtag_likely.proofs.keys.letter_place.Goals as goal
+
+pub overflow_sub-result : goal.overflow_sub-result
+overflow_sub-result c =
+    let some = (letter_place c.args.byte c.requires).some in
+    let same = c.from.ensures in
+    let folded = c.into_smallcase.ensures in
+    omega (arith, some, same, folded)
+
+pub returns-clause-most : goal.returns-clause-most
+returns-clause-most c =
+    let most = (letter_place c.args.byte c.requires).most in
+    let same = c.from.ensures in
+    let folded = c.into_smallcase.ensures in
+    omega (arith, most, same, folded)

@@ -1,0 +1,21 @@
+use Rattle.std.proofs.Common.{◌<◌, map, get_or, arith}
+use Rattle.langtag_registry.proofs.Values.{index_inside}
+use Rattle.langtag_likely.specs.Good.{is_region_field}
+use Rattle.langtag_likely.specs.LikelySubtags.{language_rows}
+use Rattle.langtag_likely.specs.declared.tables.TheConstants.{REGION_NAMES, LANGUAGE_REGIONS}
+use Rattle.langtag_likely.proofs.Columns.{column_text, column_good}
+use Rattle.langtag_likely.proofs.TableRows.{language_count, language_regions, language_regions_inside, regions_good}
+use Rattle.langtag_likely.proofs.rows.language_region.Goals as goal
+
+pub bounds-index : goal.bounds-index
+bounds-index c = omega (arith, c.requires, language_count)
+
+pub returns-clause-text : goal.returns-clause-text
+returns-clause-text c =
+    column_text REGION_NAMES LANGUAGE_REGIONS (map (λ row. row.to.region) language_rows) c.name_at.result.now c.args.index language_regions
+    (omega (arith, c.requires, language_count)) c.name_at.ensures
+
+pub returns-clause-in_class : goal.returns-clause-in_class
+returns-clause-in_class c =
+    let within : get_or LANGUAGE_REGIONS c.args.index 0 < 256 = index_inside 256 LANGUAGE_REGIONS c.args.index language_regions_inside (omega (arith, c.requires, language_count)) in
+    column_good is_region_field REGION_NAMES c.name_at.result.now (get_or LANGUAGE_REGIONS c.args.index 0) regions_good within c.name_at.ensures

@@ -1,0 +1,23 @@
+-- What the tables have. Contracts of private functions alone speak of this page.
+use Rattle.std.specs.Prelude.{ℕ, IsTrue, List, [], Option}
+use Rattle.std.specs.Option.{option_map}
+use Rattle.std.specs.List.Sorted.{IsNonDecreasing}
+use Rattle.langtag_registry.specs.Numbers.{climbs_from}
+use Rattle.langtag_likely.specs.Likely.{Fields, likely_for}
+use Rattle.langtag_likely.specs.LikelySubtags.{language_rows}
+
+-- numbers among which one is searched
+pub record AreKeys (keys : List ℕ) : Type 0 where
+  pub rises : IsNonDecreasing keys
+  pub climbs : IsTrue (climbs_from 0 keys)
+
+-- a language and no more
+abbrev pub of_language : List ℕ → Fields
+of_language language = record { language = language; script = []; region = [] }
+
+-- the script and the region that a language becomes
+abbrev pub places_of : Fields → Fields
+places_of to = record { language = []; script = to.script; region = to.region }
+
+abbrev pub places_for : List ℕ → Option Fields
+places_for language = option_map places_of (likely_for language_rows (of_language language))

@@ -1,0 +1,72 @@
+//! The texts of fields: the empty text where there is none, or none that is known.
+ghost use Rattle.std.specs.Prelude.{◌≡◌, IsTrue, [], codes, unwrap_or};
+ghost use Rattle.std.specs.Option.{option_map};
+ghost use Rattle.langtag_language.specs.Language.{EachLanguageSpelling};
+ghost use Rattle.langtag_language.specs.Text.{language_text};
+ghost use Rattle.langtag_place.specs.Text.{script_text, region_text};
+ghost use Rattle.langtag_likely.specs.Good.{is_language_field, is_script_field, is_region_field};
+ghost use Rattle.langtag_likely.specs.Likely.{known, or_other};
+ghost use Rattle.langtag_likely.specs.Maximal.{language_field};
+
+use langtag_language::Language;
+use langtag_place::{Region, Script};
+use langtag_scan::case_insensitive_eq;
+
+/// Returns a text, or another where it is empty.
+pub(crate) fn or_other<'a>(text: &'a [u8], other: &'a [u8]) -> &'a [u8]
+    ensures { result.now ≡ or_other text.now other.now }
+{
+    if text.is_empty() { other } else { text }
+}
+
+/// Returns a text, or the empty one where it says that what it stands for is unknown.
+pub(crate) fn known<'a>(unknown: &[u8], text: &'a [u8]) -> &'a [u8]
+    ensures { result.now ≡ known unknown.now text.now }
+{
+    if case_insensitive_eq(unknown, text) {
+        b""
+    } else {
+        text
+    }
+}
+
+/// Returns the last of at most three extended subtags, or else the primary one; the empty text for `und`.
+#[tactic(auto, using(crate::proofs::FieldClasses::from_extended))]
+pub(crate) fn language_field<'a>(language: Language<'a>) -> &'a [u8]
+    ensures field { EachLanguageSpelling (language_text language.entry) (λ primary extended. result.now ≡ language_field primary extended) }
+    ensures in_class { IsTrue (is_language_field result.now) }
+{
+    let mut extlangs = language.extension_subtags();
+    let Some(first) = extlangs.next() else {
+        return known(b"und", language.primary().as_bytes());
+    };
+    let Some(second) = extlangs.next() else {
+        return first.as_bytes();
+    };
+    match extlangs.next() {
+        Some(third) => third.as_bytes(),
+        None => second.as_bytes(),
+    }
+}
+
+/// Returns a script, or the empty text for none and for `Zzzz`.
+pub(crate) fn script_field<'a>(script: Option<Script<'a>>) -> &'a [u8]
+    ensures field { result.now ≡ known (codes "Zzzz") (unwrap_or (option_map script_text script.entry) []) }
+    ensures in_class { IsTrue (is_script_field result.now) }
+{
+    match script {
+        Some(script) => known(b"Zzzz", script.as_bytes()),
+        None => b"",
+    }
+}
+
+/// Returns a region, or the empty text for none and for `ZZ`.
+pub(crate) fn region_field<'a>(region: Option<Region<'a>>) -> &'a [u8]
+    ensures field { result.now ≡ known (codes "ZZ") (unwrap_or (option_map region_text region.entry) []) }
+    ensures in_class { IsTrue (is_region_field result.now) }
+{
+    match region {
+        Some(region) => known(b"ZZ", region.as_bytes()),
+        None => b"",
+    }
+}

@@ -1,0 +1,73 @@
+//! Likely subtags of fields, added and removed (UTS #35, part 1, section 'Likely Subtags').
+ghost use Rattle.std.specs.Prelude.{◌≡◌};
+ghost use Rattle.std.specs.Option.{option_map};
+ghost use Rattle.langtag_likely.specs.Likely.{filled, add_likely, looked_up, suffices, least, remove_likely};
+ghost use Rattle.langtag_likely.specs.LikelySubtags.{likely_subtags};
+ghost use Rattle.langtag_likely.specs.Texts.{field_texts};
+
+use crate::rows::likely_for;
+use crate::tag_fields::TagFields;
+
+/// Returns the fields with what is likely in place of each that is empty; None where nothing is known.
+pub(crate) fn add_likely<'a>(fields: TagFields<'a>) -> Option<TagFields<'a>>
+    ensures { option_map field_texts result ≡ add_likely likely_subtags (field_texts fields.entry) }
+{
+    match looked_up(fields) {
+        Some(likely) => Some(fields.filled(likely)),
+        None => None,
+    }
+}
+
+/// Returns the right side of the first row that fits.
+fn looked_up(fields: TagFields<'_>) -> Option<TagFields<'static>>
+    ensures { option_map (filled (field_texts fields.entry)) (option_map field_texts result)
+        ≡ option_map (filled (field_texts fields.entry)) (looked_up likely_subtags (field_texts fields.entry)) }
+{
+    if let Some(likely) = likely_for(fields) {
+        return Some(likely);
+    }
+    if let Some(likely) = likely_for(fields.without_region()) {
+        return Some(likely);
+    }
+    if let Some(likely) = likely_for(fields.without_script()) {
+        return Some(likely);
+    }
+    likely_for(fields.language_alone())
+}
+
+/// Returns the fewest fields that have the same maximal form; None where nothing is known.
+pub(crate) fn remove_likely<'a>(fields: TagFields<'a>) -> Option<TagFields<'a>>
+    ensures { option_map field_texts result ≡ remove_likely likely_subtags (field_texts fields.entry) }
+{
+    match add_likely(fields) {
+        Some(most) => Some(least(most)),
+        None => None,
+    }
+}
+
+/// Returns the fewest fields of a maximal form that have it too: a region goes before a script.
+fn least<'a>(most: TagFields<'a>) -> TagFields<'a>
+    ensures { field_texts result ≡ least likely_subtags (field_texts most.entry) }
+{
+    let known = most.known();
+    if suffices(most, known.language_alone()) {
+        return known.language_alone();
+    }
+    if suffices(most, known.without_script()) {
+        return known.without_script();
+    }
+    if suffices(most, known.without_region()) {
+        return known.without_region();
+    }
+    most
+}
+
+/// Returns whether few fields have this maximal form.
+fn suffices(most: TagFields<'_>, few: TagFields<'_>) -> bool
+    ensures { result ≡ suffices likely_subtags (field_texts most.entry) (field_texts few.entry) }
+{
+    match add_likely(few) {
+        Some(form) => most.are_alike(form),
+        None => false,
+    }
+}

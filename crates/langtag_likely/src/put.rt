@@ -1,0 +1,67 @@
+//! A tag with other fields.
+ghost use Rattle.std.specs.Prelude.{◌≡◌, drop};
+ghost use Rattle.langtag_scan.specs.Ends.{ends_of};
+ghost use Rattle.langtag_scan.specs.Record.{EachRecord, spell};
+ghost use Rattle.langtag_scan.specs.Subtags.{join};
+ghost use Rattle.std.specs.Prelude.{◌∷◌};
+ghost use Rattle.langtag_language.specs.Language.{EachLanguageSpelling};
+ghost use Rattle.langtag_language.specs.Text.{language_text};
+ghost use Rattle.langtag.specs.Text.{normal_lang_tag_text};
+ghost use Rattle.langtag_registry.specs.Writes.{Writes};
+ghost use Rattle.langtag_likely.specs.Maximal.{put_fields, put_language};
+ghost use Rattle.langtag_likely.specs.Output.{IsCounted};
+ghost use Rattle.langtag_likely.specs.Texts.{field_texts};
+
+use crate::fields::or_other;
+use crate::output::Output;
+use crate::tag_fields::TagFields;
+use langtag::NormalLangTag;
+use langtag_language::Language;
+
+/// Writes a tag with these fields into a buffer, where it has room, and returns how long that tag is.
+pub(crate) fn write_fields(
+    tag: NormalLangTag<'_>,
+    fields: TagFields<'_>,
+    buffer: &mut [u8],
+) -> usize
+    ensures { EachRecord (normal_lang_tag_text tag.entry)
+        (λ r. Writes (λ form. form ≡ spell (put_fields r (field_texts fields.entry))) buffer.old buffer.new result) }
+{
+    let len = put_fields(tag, fields, &mut []);
+    if len <= buffer.len() {
+        put_fields(tag, fields, buffer);
+    }
+    len
+}
+
+/// Puts a tag with these fields into a buffer, as far as it has room. Returns how long that tag is.
+fn put_fields(tag: NormalLangTag<'_>, fields: TagFields<'_>, buffer: &mut [u8]) -> usize
+    ensures { EachRecord (normal_lang_tag_text tag.entry)
+        (λ r. IsCounted (spell (put_fields r (field_texts fields.entry))) buffer.old buffer.new result) }
+{
+    let mut out = Output::new(buffer);
+    out.push(put_language(tag.language(), fields.language));
+    out.push_subtag(fields.script);
+    out.push_subtag(fields.region);
+    out.push(after_region(tag));
+    out.len()
+}
+
+/// Returns what stands in a tag after its region, with the hyphen before it.
+fn after_region<'a>(tag: NormalLangTag<'a>) -> &'a [u8]
+    ensures { EachRecord (normal_lang_tag_text tag.entry) (λ r. result.now ≡ drop (ends_of r).region (spell r)) }
+{
+    let text = tag.as_str();
+    &text.as_bytes()[tag.ends().region..]
+}
+
+/// Returns the language of a tag, or another in place of `und`.
+fn put_language<'a>(language: Language<'a>, other: &'a [u8]) -> &'a [u8]
+    ensures { EachLanguageSpelling (language_text language.entry)
+        (λ primary extended. result.now ≡ join (put_language primary extended other.now ∷ extended)) }
+{
+    if language.eq_str("und") {
+        return or_other(other, language.as_bytes());
+    }
+    language.as_bytes()
+}

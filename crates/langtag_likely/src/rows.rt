@@ -1,0 +1,152 @@
+//! The rows of likely subtags, in tables: those of a language alone, and the others.
+ghost use Rattle.std.specs.Prelude.{◌≡◌, ◌≤◌, ◌<◌, IsTrue, [], length, map, slice_index_or};
+ghost use Rattle.std.specs.Option.{option_map};
+ghost use Rattle.langtag_scan.specs.Class as class;
+ghost use Rattle.langtag_registry.specs.Numbers.{letter_number};
+ghost use Rattle.langtag_likely.specs.Good.{is_language_field, is_script_field, is_region_field};
+ghost use Rattle.langtag_likely.specs.Likely.{filled, likely_for};
+ghost use Rattle.langtag_likely.specs.LikelySubtags.{likely_subtags, language_rows, other_rows};
+ghost use Rattle.langtag_likely.specs.Numbers.{key_number};
+ghost use Rattle.langtag_likely.specs.Rows.{AreKeys, places_for};
+ghost use Rattle.langtag_likely.specs.Texts.{field_texts};
+ghost use Rattle.langtag_likely.specs.declared.tables.TheConstants.{SCRIPT_KEYS, REGION_KEYS};
+
+use crate::keys::{index_of, index_of_short, letter_number, place};
+use crate::names::name_at;
+use crate::tables;
+use crate::tag_fields::TagFields;
+
+/// Returns the right side of the row with this left side. Its language is empty where the left side has one.
+pub(crate) fn likely_for(key: TagFields<'_>) -> Option<TagFields<'static>>
+    ensures { option_map (filled (field_texts key.entry)) (option_map field_texts result)
+        ≡ option_map (filled (field_texts key.entry)) (likely_for likely_subtags (field_texts key.entry)) }
+{
+    if key.language.len() > 3 {
+        return None;
+    }
+    if !key.language.is_empty() && key.script.is_empty() && key.region.is_empty() {
+        return language_row(key.language);
+    }
+    other_row(key)
+}
+
+/// Returns the script and the region of a language alone.
+fn language_row(language: &[u8]) -> Option<TagFields<'static>>
+    requires primary { IsTrue (class.is_primary language.now) }
+    requires short { length language.now ≤ 3 }
+    ensures { option_map field_texts result ≡ places_for language.now }
+{
+    let index = index_of_short(language_keys(), letter_number(language) as u16)?;
+    Some(TagFields {
+        language: b"",
+        script: language_script(index),
+        region: language_region(index),
+    })
+}
+
+/// Returns the right side of a row whose left side is no language alone.
+fn other_row(key: TagFields<'_>) -> Option<TagFields<'static>>
+    requires { length key.language.now ≤ 3 }
+    ensures { option_map field_texts result ≡ likely_for other_rows (field_texts key.entry) }
+{
+    let index = index_of(other_keys(), key_number(key))?;
+    Some(TagFields {
+        language: other_language(index),
+        script: other_script(index),
+        region: other_region(index),
+    })
+}
+
+/// Returns fields as one number, which is not 0.
+fn key_number(key: TagFields<'_>) -> u32
+    requires { length key.language.now ≤ 3 }
+    ensures { result ≡ key_number (field_texts key.entry) }
+{
+    let places = place(script_keys(), key.script) * 512 + (place(region_keys(), key.region) + 1);
+    language_number(key.language) * 131072 + places
+}
+
+/// Returns the letters of a language as the digits of a number in base 26; 0 where there is none.
+#[tactic(auto, using(crate::proofs::FieldClasses::language_primary, crate::proofs::FieldClasses::number_of_none))]
+fn language_number(language: &[u8]) -> u32
+    requires in_class { IsTrue (is_language_field language.now) }
+    requires short { length language.now ≤ 3 }
+    ensures number { result ≡ letter_number language.now }
+    ensures most { result ≤ 18278 }
+{
+    if language.is_empty() {
+        return 0;
+    }
+    letter_number(language) as u32
+}
+
+fn script_keys() -> &'static [u32]
+    ensures numbers { result.now ≡ SCRIPT_KEYS }
+    ensures searched { AreKeys result.now }
+    ensures few { length result.now ≤ 256 }
+{
+    &tables::SCRIPT_KEYS
+}
+
+fn region_keys() -> &'static [u32]
+    ensures numbers { result.now ≡ REGION_KEYS }
+    ensures searched { AreKeys result.now }
+    ensures few { length result.now ≤ 256 }
+{
+    &tables::REGION_KEYS
+}
+
+fn language_keys() -> &'static [u16]
+    ensures numbers { result.now ≡ map (λ row. letter_number row.from.language) language_rows }
+    ensures searched { AreKeys result.now }
+{
+    &tables::LANGUAGE_KEYS
+}
+
+fn other_keys() -> &'static [u32]
+    ensures numbers { result.now ≡ map (λ row. key_number row.from) other_rows }
+    ensures searched { AreKeys result.now }
+{
+    &tables::OTHER_KEYS
+}
+
+fn language_script(index: usize) -> &'static [u8]
+    requires { index < length language_rows }
+    ensures text { result.now ≡ slice_index_or (map (λ row. row.to.script) language_rows) index [] }
+    ensures in_class { IsTrue (is_script_field result.now) }
+{
+    name_at(&tables::SCRIPT_NAMES, tables::LANGUAGE_SCRIPTS[index])
+}
+
+fn language_region(index: usize) -> &'static [u8]
+    requires { index < length language_rows }
+    ensures text { result.now ≡ slice_index_or (map (λ row. row.to.region) language_rows) index [] }
+    ensures in_class { IsTrue (is_region_field result.now) }
+{
+    name_at(&tables::REGION_NAMES, tables::LANGUAGE_REGIONS[index])
+}
+
+/// Returns the language of the right side, which is empty where none is known.
+fn other_language(index: usize) -> &'static [u8]
+    requires { index < length other_rows }
+    ensures text { result.now ≡ slice_index_or (map (λ row. row.to.language) other_rows) index [] }
+    ensures in_class { IsTrue (is_language_field result.now) }
+{
+    name_at(&tables::LANGUAGE_NAMES, tables::OTHER_LANGUAGES[index])
+}
+
+fn other_script(index: usize) -> &'static [u8]
+    requires { index < length other_rows }
+    ensures text { result.now ≡ slice_index_or (map (λ row. row.to.script) other_rows) index [] }
+    ensures in_class { IsTrue (is_script_field result.now) }
+{
+    name_at(&tables::SCRIPT_NAMES, tables::OTHER_SCRIPTS[index])
+}
+
+fn other_region(index: usize) -> &'static [u8]
+    requires { index < length other_rows }
+    ensures text { result.now ≡ slice_index_or (map (λ row. row.to.region) other_rows) index [] }
+    ensures in_class { IsTrue (is_region_field result.now) }
+{
+    name_at(&tables::REGION_NAMES, tables::OTHER_REGIONS[index])
+}
