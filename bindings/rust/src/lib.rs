@@ -45,8 +45,8 @@
 //! `lib`, or in the one that `LANGTAG_LIB_DIR` names.
 //!
 //! What a program has to see to, since neither the compiler nor the crate does: it runs on an x86-64 processor with SSE4.2
-//! (x86-64-v2), and a thread that calls [`LangTag::repeated_variant`], [`LangTag::repeated_singleton`] or
-//! [`LangTag::validate`] has 96 KiB of free stack, and 1 KiB for all else.
+//! (x86-64-v2), and a thread that calls [`LangTag::repeated_variant`] or [`LangTag::repeated_singleton`] has 96 KiB of free
+//! stack, and 1 KiB for all else.
 #![no_std]
 // The page speaks of owned forms, which are not there without that feature.
 #![cfg_attr(not(feature = "alloc"), allow(rustdoc::broken_intra_doc_links))]
