@@ -2,9 +2,10 @@
 ghost use Rattle.std.specs.Prelude.{◌≡◌, map, IsTrue};
 ghost use Rattle.std.specs.Option.{option_map};
 ghost use Rattle.langtag_scan.specs.Record.{EachRecord};
+ghost use Rattle.langtag_scan.specs.Tag.{IsTag};
 ghost use Rattle.langtag_language.specs.Text.{extended_lang_tag_text};
 ghost use Rattle.langtag_place.specs.Text.{variant_text};
-ghost use Rattle.langtag.specs.Text.{lang_tag_text, normal_lang_tag_text};
+ghost use Rattle.langtag.specs.Text.{normal_lang_tag_text};
 ghost use Rattle.langtag_match.specs.Extended.{test_extended};
 ghost use Rattle.langtag_match.specs.Range.{is_language_range};
 ghost use Rattle.langtag_registry.specs.Numbers.{folded_number};
@@ -30,8 +31,7 @@ pub fn misplaced_variant<'a>(tag: NormalLangTag<'a>) -> Option<Variant<'a>>
 {
     let mut end = tag.ends().region;
     for variant in tag.variants().iter() {
-        let before = LangTag::from_checked(&tag.as_str()[..end]);
-        if !fits_after(&before, variant) {
+        if !fits_after(&tag.as_str()[..end], variant) {
             return Some(variant);
         }
         end += 1 + variant.as_str().len();
@@ -57,8 +57,9 @@ pub fn misplaced_extlang<'a>(tag: NormalLangTag<'a>) -> Option<ExtendedLangTag<'
 }
 
 /// Returns whether some prefix of a variant matches the tag before it, or it has no prefix.
-fn fits_after(before: &LangTag<'_>, variant: Variant<'_>) -> bool
-    ensures { result ≡ spec.fits_after (lang_tag_text before.now) (variant_text variant.entry) }
+fn fits_after(before: &str, variant: Variant<'_>) -> bool
+    requires { IsTag before.now }
+    ensures { result ≡ spec.fits_after before.now (variant_text variant.entry) }
 {
     let number = long_number(variant.as_bytes());
     let mut has_none = true;
@@ -74,11 +75,12 @@ fn fits_after(before: &LangTag<'_>, variant: Variant<'_>) -> bool
 }
 
 /// Returns whether a prefix matches a tag by extended filtering.
-fn matches_tag(prefix: &str, tag: &LangTag<'_>) -> bool
-    requires { IsTrue (is_language_range prefix.now) }
-    ensures { result ≡ test_extended prefix.now (lang_tag_text tag.now) }
+fn matches_tag(prefix: &str, tag: &str) -> bool
+    requires range { IsTrue (is_language_range prefix.now) }
+    requires tag { IsTag tag.now }
+    ensures { result ≡ test_extended prefix.now tag.now }
 {
-    LanguageRange::from_checked(prefix).matches_extended(tag)
+    LanguageRange::from_checked(prefix).matches_extended(&LangTag::from_checked(tag))
 }
 
 fn variant_prefixes() -> &'static [(u64, &'static str)]

@@ -2,7 +2,6 @@ use Rattle.std.proofs.Common.{length, ap, sym, subst, true, false, ◌∙◌, �
 use Rattle.std.proofs.lemmas.Bool.{eq-eqb, ne_eqb}
 use Rattle.langtag_scan.proofs.SubtagFacts.{of_variant}
 use Rattle.langtag_place.specs.Text.{variant_text}
-use Rattle.langtag.specs.Text.{lang_tag_text}
 use Rattle.langtag_match.specs.Extended.{test_extended}
 use Rattle.langtag_match.specs.Range.{is_language_range}
 use Rattle.langtag_registry.specs.Numbers.{folded_number}
@@ -18,10 +17,10 @@ pub long_number-number-requires : goal.long_number-number-requires
 long_number-number-requires c = rw c.as_bytes.ensures (variant_short (variant_text c.args.variant) c.args.variant.in_class)
 
 pub loop-key-init : goal.loop-key-init
-loop-key-init c = left_first (lang_tag_text c.args.before.now) (variant_text c.args.variant)
+loop-key-init c = left_first c.args.before.now (variant_text c.args.variant)
 
-pub matches_tag-requires : goal.matches_tag-requires
-matches_tag-requires c =
+pub matches_tag-requires-clause-range : goal.matches_tag-requires-clause-range
+matches_tag-requires-clause-range c =
     let items = c.variant_prefixes-key-items.ensures in
     let long = length-same (λ pair. pair.1.now) (λ e. e.value) _ _ items.values in
     let inside = c.loop-key-test.true in
@@ -36,12 +35,12 @@ returns-then-matches_tag c =
     let long = length-same (λ pair. pair.1.now) (λ e. e.value) _ _ items.values in
     let inside = c.loop-key-test.true in
     let within : i < length variant_prefixes = omega (arith, inside, long) in
-    left_matched (lang_tag_text c.args.before.now) text c.loop-key.has_none i c.loop-key.invariant within
+    left_matched c.args.before.now text c.loop-key.has_none i c.loop-key.invariant within
     (number_tells (get_or variant_prefixes i no_entry) text _ _ true
     (list_all_get (λ e. _) variant_prefixes i no_entry prefixed_alphanumeric within) (of_variant text c.args.variant.in_class).alphanumeric
     (c.long_number-number.ensures ∙ ap folded_number c.as_bytes.ensures)
     (same_at (λ pair. pair.0) (λ e. folded_number e.subtag) _ _ items.numbers i _ no_entry 0 inside) (eq-eqb _ _ c.if-number-key.true))
-    (ap (λ prefix. test_extended prefix (lang_tag_text c.args.before.now)) (sym (same_at (λ pair. pair.1.now) (λ e. e.value) _ _ items.values i _ no_entry [] inside))
+    (ap (λ prefix. test_extended prefix c.args.before.now) (sym (same_at (λ pair. pair.1.now) (λ e. e.value) _ _ items.values i _ no_entry [] inside))
     ∙ sym c.matches_tag.ensures ∙ c.if-matches_tag.true)
 
 pub loop-key-preserved : goal.loop-key-preserved
@@ -58,12 +57,12 @@ loop-key-preserved c =
     let key = same_at (λ pair. pair.0) (λ e. folded_number e.subtag) _ _ items.numbers i _ no_entry 0 inside in
     elim c.if-number-key.branch [
       | then-number-key+else-matches_tag w ↦ rw w.has_none-is (
-          left_unmatched (lang_tag_text c.args.before.now) text c.loop-key.has_none i c.loop-key.invariant within
+          left_unmatched c.args.before.now text c.loop-key.has_none i c.loop-key.invariant within
           (number_tells (get_or variant_prefixes i no_entry) text _ _ true good also number key (eq-eqb _ _ w.if-number-key.true))
-          (ap (λ prefix. test_extended prefix (lang_tag_text c.args.before.now)) (sym (same_at (λ pair. pair.1.now) (λ e. e.value) _ _ items.values i _ no_entry [] inside))
+          (ap (λ prefix. test_extended prefix c.args.before.now) (sym (same_at (λ pair. pair.1.now) (λ e. e.value) _ _ items.values i _ no_entry [] inside))
           ∙ sym w.matches_tag.ensures ∙ w.if-matches_tag.false))
       | else-number-key w ↦ rw w.has_none-is (
-          left_other (lang_tag_text c.args.before.now) text c.loop-key.has_none i c.loop-key.invariant within
+          left_other c.args.before.now text c.loop-key.has_none i c.loop-key.invariant within
           (number_tells (get_or variant_prefixes i no_entry) text _ _ false good also number key (ne_eqb _ _ w.if-number-key.false)))
     ]
 
@@ -71,4 +70,4 @@ pub returns : goal.returns
 returns c =
     let ends = c.loop-key-test.false in
     let long = length-same (λ pair. pair.1.now) (λ e. e.value) _ _ c.variant_prefixes-key-items.ensures.values in
-    left_ended (lang_tag_text c.args.before.now) (variant_text c.args.variant) c.loop-key.has_none c.loop-key.key-index c.loop-key.invariant (omega (arith, ends, long))
+    left_ended c.args.before.now (variant_text c.args.variant) c.loop-key.has_none c.loop-key.key-index c.loop-key.invariant (omega (arith, ends, long))

@@ -1,8 +1,7 @@
-use Rattle.langtag.specs.Text.{lang_tag_text}
 use Rattle.langtag_place.specs.Text.{variant_text}
 use Rattle.langtag_registry.proofs.PrefixLaws.{IsLeft}
 use Rattle.langtag_registry.proofs.misplaced.fits_after.Given as goal
 
 -- no prefix before this index matches, and there is none for the variant where that is remembered
 abbrev pub invariant-loop-key : goal.invariant-loop-key
-invariant-loop-key l = IsLeft (lang_tag_text l.fn.before) (variant_text l.fn.variant) l.has_none l.key-index
+invariant-loop-key l = IsLeft l.fn.before (variant_text l.fn.variant) l.has_none l.key-index

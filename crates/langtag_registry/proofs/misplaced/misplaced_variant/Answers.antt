@@ -26,8 +26,8 @@ range-requires-clause-end_boundary c =
     let long = ap length text.1.1 in
     IsCharBoundary-from_ascii c.as_str.result.now c.loop-variant.end (IsAscii-normal c.as_str.result.now normal) (omega (arith, within, long))
 
-pub from_checked-before-requires : goal.from_checked-before-requires
-from_checked-before-requires c =
+pub fits_after-requires : goal.fits_after-requires
+fits_after-requires c =
     let same = c.as_str.ensures.same_text in
     let text = some_record c.as_str.result.now c.as_str.ensures.in_class in
     subst IsTag (take_spelled text.0 _ _ _ text.1.1 c.range.ensures.value)
@@ -36,7 +36,7 @@ from_checked-before-requires c =
 pub returns-then-not-fits_after : goal.returns-then-not-fits_after
 returns-then-not-fits_after c = λ r spells.
     walk_stopped r _ _ (c.loop-variant.invariant.walked r spells) (variant_text c.in-Some.variant) _ c.in-Some.ensures.steps
-    (ap (λ text. fits_after text (variant_text c.in-Some.variant)) (take_spelled r _ _ _ (spells.1 ∙ sym c.as_str.ensures.same_text) c.range.ensures.value ∙ sym c.from_checked-before.ensures)
+    (ap (λ text. fits_after text (variant_text c.in-Some.variant)) (take_spelled r _ _ _ (spells.1 ∙ sym c.as_str.ensures.same_text) c.range.ensures.value)
     ∙ sym c.fits_after.ensures ∙ c.if-not-fits_after.true)
 
 pub loop-variant-preserved : goal.loop-variant-preserved
@@ -45,7 +45,7 @@ loop-variant-preserved c = record {
   is_finite = tt;
   walked = λ r spells.
       walk_later r _ _ (c.loop-variant.invariant.walked r spells) (variant_text c.in-Some.variant) _ c.in-Some.ensures.steps _ c.as_str-in-loop-variant.ensures.same_text
-      (ap (λ text. fits_after text (variant_text c.in-Some.variant)) (take_spelled r _ _ _ (spells.1 ∙ sym c.as_str.ensures.same_text) c.range.ensures.value ∙ sym c.from_checked-before.ensures)
+      (ap (λ text. fits_after text (variant_text c.in-Some.variant)) (take_spelled r _ _ _ (spells.1 ∙ sym c.as_str.ensures.same_text) c.range.ensures.value)
       ∙ sym c.fits_after.ensures ∙ c.if-not-fits_after.false);
 }
 
