@@ -11,64 +11,39 @@ const FR: &str = "normal language=fr script= region= variants= extensions= priva
 
 const TEXT: &[u8] = b"fr\nx-a\nfr\nx-a\nen-x";
 
+const LINES: &[u8] = b"fr\nx-a\nfr\nx-a\n";
+
 const TWO: &[&str] = &[FR, "private x-a"];
 
 const FOUR: &[&str] = &[FR, "private x-a", FR, "private x-a"];
 
-// The input, the output, how the run ends, the answers that stand, and the flushes.
-type Row<'a> = (Feed<'a>, Sheet, ShowError, &'a [&'a str], u64);
-
 // Each read brings two lines, `fr` and `x-a`, but for the last, whose line has no LF.
 #[test]
-fn a_fault_ends_the_run(rt: HostRuntime) {
-    let other = ErrorKind::Other;
-    let rows: [Row<'_>; 6] = [
-        (
-            Feed::failing(TEXT, 7, 1, other),
-            Sheet::new(),
-            ShowError::Read,
-            &[],
-            0,
-        ),
-        (
-            Feed::failing(TEXT, 7, 2, other),
-            Sheet::new(),
-            ShowError::Read,
-            TWO,
-            0,
-        ),
-        (
-            Feed::failing(TEXT, 7, 4, other),
-            Sheet::new(),
-            ShowError::Read,
-            FOUR,
-            0,
-        ),
-        (
-            Feed::new(TEXT, 7),
-            Sheet::failing(1, other),
-            ShowError::Write,
-            &[],
-            0,
-        ),
-        (
-            Feed::new(TEXT, 7),
-            Sheet::failing(2, other),
-            ShowError::Write,
-            TWO,
-            0,
-        ),
-        (
-            Feed::new(b"fr\nx-a\n", 7),
-            Sheet::failing_to_flush(),
-            ShowError::Write,
-            TWO,
-            1,
-        ),
+fn a_failing_read_ends_the_run(rt: HostRuntime) {
+    let rows: [(u64, &[&str]); 3] = [(1, &[]), (2, TWO), (4, FOUR)];
+    for (read, answers) in rows {
+        let input = Feed::failing(TEXT, 7, read, ErrorKind::Other);
+        let (ended, output) = run_on(rt.alloc(), input, Sheet::new());
+        assert_same!(rt; ended, Err(ShowError::Read));
+        assert_same!(rt; output.flushes, 0);
+        assert_that!(rt; is_report(output.text(), answers), answers);
+    }
+}
+
+// The output, the answers that stand, and the flushes.
+type FailingWrite<'a> = (Sheet, &'a [&'a str], u64);
+
+#[test]
+fn a_failing_write_ends_the_run(rt: HostRuntime) {
+    let rows: [FailingWrite<'_>; 3] = [
+        (Sheet::failing(1, ErrorKind::Other), &[], 0),
+        (Sheet::failing(2, ErrorKind::Other), TWO, 0),
+        (Sheet::failing_to_flush(), FOUR, 1),
     ];
-    for (input, sheet, wanted, answers, flushes) in rows {
+    for (sheet, answers, flushes) in rows {
+        let input = Feed::new(LINES, 7);
         let (ended, output) = run_on(rt.alloc(), input, sheet);
-        assert_same!(rt; ended, Err(wanted));
+        assert_same!(rt; ended, Err(ShowError::Write));
         assert_same!(rt; output.flushes, flushes);
         assert_that!(rt; is_report(output.text(), answers), answers);
     }
