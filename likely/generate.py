@@ -1,5 +1,6 @@
 #!/usr/bin/env python3
-"""Writes the tables and the lists of the crate langtag_likely from Unicode's CLDR, whose likely subtags are data/likely.txt.
+"""Writes the tables and the lists of the crate langtag_likely from Unicode's CLDR, whose likely subtags and whose data of language
+matching are in data/.
 
 usage: generate.py [--check]
 
@@ -11,35 +12,27 @@ import hashlib
 import pathlib
 import sys
 
+from matching import Matching, folded_number, letter_number
+
 HERE = pathlib.Path(__file__).resolve().parent
-DATA = HERE / "data" / "likely.txt"
+DATA = HERE / "data"
 CRATE = HERE.parent / "crates" / "langtag_likely"
 
 CLDR_VERSION = "41"
-CHECKSUM = "a59c78b7f9825a2d1749592c28eba703cbfe0608cf6669605a68e68922d7467c"
+CHECKSUM = "7d5ced39d0fd9d302fe881f13338bc66d18c912dd3f89b4ea65c8d82a330e502"
 
 EMPTY = "-"
 
-
-def read():
+def read(name):
     """The rows of the data, in words."""
-    return [line.split() for line in DATA.read_text(encoding="utf-8").splitlines() if not line.startswith("#")]
+    return [line.split() for line in (DATA / name).read_text(encoding="utf-8").splitlines() if not line.startswith("#")]
 
 
 def checksum():
-    return hashlib.sha256(DATA.read_bytes()).hexdigest()
-
-
-def letter_number(text):
-    """The letters of a text as the digits of a number in base 26, the first letter being 1."""
-    number = 0
-    for letter in text.lower():
-        number = number * 26 + ord(letter) - 96
-    return number
-
-
-def folded_number(text):
-    return int.from_bytes(text.lower().encode(), "big")
+    sums = hashlib.sha256()
+    for path in sorted(DATA.glob("*.txt")):
+        sums.update(path.read_bytes())
+    return sums.hexdigest()
 
 
 def given(text):
@@ -49,9 +42,9 @@ def given(text):
 class Likely:
     """The likely subtags: those of a language alone, and the others, each in the order of its key."""
 
-    def __init__(self, rows):
+    def __init__(self, rows, scripts):
         rows = [tuple(map(given, row)) for row in rows]
-        self.scripts = sorted({row[i] for row in rows for i in (1, 4)} - {""}, key=folded_number)
+        self.scripts = sorted({row[i] for row in rows for i in (1, 4)} - {""} | scripts, key=folded_number)
         self.regions = sorted({row[i] for row in rows for i in (2, 5)} - {""}, key=folded_number)
         self.of_languages = sorted((row for row in rows if row[0] and not row[1] and not row[2]), key=lambda row: letter_number(row[0]))
         others = [row for row in rows if not (row[0] and not row[1] and not row[2])]
@@ -137,6 +130,64 @@ def tables(likely):
     ])
 
 
+def matching_tables(matching):
+    return "\n".join([
+        f"//! What Unicode's CLDR {CLDR_VERSION} says of language matching, in tables (the notice: likely/LICENSE-UNICODE). Written by likely/generate.py. Do not edit.\n",
+        numbers("ALIAS_KEYS", "The languages that are replaced: their letters as the digits of a number, in rising order.", 16, [letter_number(row[0]) for row in matching.aliases]),
+        names("ALIAS_LANGUAGES", "What each of them becomes.", [row[1] for row in matching.aliases]),
+        names("ALIAS_SCRIPTS", "The script that this brings.", [row[2] for row in matching.aliases]),
+        numbers("REGION_ALIAS_KEYS", "The regions that are replaced: their lowercase bytes as the digits of a number, in rising order.", 32,
+                [folded_number(row[0]) for row in matching.region_aliases]),
+        names("REGION_ALIAS_NAMES", "What each of them becomes.", [row[1] for row in matching.region_aliases]),
+        numbers("LANGUAGE_RULE_KEYS", "A desired and a supported language as one number, in rising order.", 32, map(matching.language_key, matching.languages)),
+        numbers("LANGUAGE_RULE_DISTANCES", "The distance of each such pair.", 8, [row[2] for row in matching.languages]),
+        numbers("SCRIPT_RULE_KEYS", "A desired and a supported language, each with its script, as one number, in rising order.", 64, map(matching.script_key, matching.scripts)),
+        numbers("SCRIPT_RULE_DISTANCES", "The distance of each such pair.", 8, [row[2] for row in matching.scripts]),
+    ] + [
+        numbers(f"{const}_{part.upper()}", f"The regions that lie {part} {name}: their lowercase bytes as the digits of a number, in rising order.", 32, map(folded_number, texts))
+        for name, const in SETS for part, texts in zip(("inside", "partly"), matching.sets[name])
+    ])
+
+
+SETS = [("maghreb", "MAGHREB"), ("enUS", "EN_US"), ("americas", "AMERICAS"), ("cnsar", "CNSAR")]
+
+
+def word_list(name, doc, kind, reader, rows):
+    """A list of words, some rows a text."""
+    rows = [" ".join(row) for row in rows]
+    texts = "\n    ∷ ".join(f"codes \"{' '.join(rows[i:i + 24])}\"" for i in range(0, len(rows), 24))
+    text = f"flat_map (λ text. {reader} (words text))" if reader else "flat_map words"
+    return f"-- {doc}\nunfoldable pub {name} : List {kind}\n{name} =\n    {text}\n    ({texts}\n    ∷ [])\n"
+
+
+def matching_lists(matching):
+    def fields(*texts):
+        return " ".join(text or EMPTY for text in texts)
+    return "\n".join([
+        f"-- What Unicode's CLDR {CLDR_VERSION} says of language matching (the notice: likely/LICENSE-UNICODE). Written by likely/generate.py. Do not edit.\n"
+        "use Rattle.std.specs.Prelude.{ℕ, [], ◌∷◌, List, codes}\nuse Rattle.std.specs.List.{flat_map}\n"
+        "use Rattle.langtag_registry.specs.Subtags.{words}\n"
+        "use Rattle.langtag_likely.specs.Likely.{Likely, likely_of_fields}\n"
+        "use Rattle.langtag_likely.specs.Rules.{Rule, rules_of_languages, rules_of_scripts}\n",
+        word_list("language_aliases", "languages that are replaced, and what replaces them: language, script and region", "Likely", "likely_of_fields",
+                  [[fields(row[0], "", "", *row[1:])] for row in matching.aliases]),
+        word_list("region_aliases", "regions that are replaced, and what replaces them", "Likely", "likely_of_fields",
+                  [[fields("", "", row[0], "", "", row[1])] for row in matching.region_aliases]),
+        word_list("language_rules", "a desired and a supported language, and their distance: the rules, in each direction in which they hold", "Rule", "rules_of_languages",
+                  [[row[0], row[1], in_ones(row[2])] for row in matching.languages]),
+        word_list("script_rules", "a desired language with its script and a supported one, and the distance of the scripts: the rules, in each direction in which they hold", "Rule",
+                  "rules_of_scripts", [[*row[0], *row[1], in_ones(row[2])] for row in matching.scripts]),
+    ] + [
+        word_list(f"{const.lower()}_{part}", f"the regions of ${name}, and groups of which all countries are" if part == "inside" else f"groups of which some countries are in ${name}, but not all",
+                  "(List ℕ)", "", [[text] for text in texts])
+        for name, const in SETS for part, texts in zip(("inside", "partly"), matching.sets[name])
+    ])
+
+
+def in_ones(number):
+    return str(number)
+
+
 def likely_list(name, doc, reader, rows):
     """A list of rows, in a text for each first letter, as one literal of it all passes the step limit."""
     groups = {}
@@ -166,9 +217,13 @@ def main():
         sys.exit(__doc__)
     if checksum() != CHECKSUM:
         sys.exit(f"the data are not those of CLDR {CLDR_VERSION}: {checksum()}")
-    likely = Likely(read())
+    likely = Likely(read("likely.txt"), {row[i] for row in read("script-distance.txt") for i in (1, 3)})
+    matching = Matching(read, likely)
     differs = False
-    for path, text in ((CRATE / "src" / "tables.rt", tables(likely)), (CRATE / "specs" / "LikelySubtags.antt", lists(likely))):
+    written = {"src/tables.rt": tables(likely), "specs/LikelySubtags.antt": lists(likely),
+               "src/matching_tables.rt": matching_tables(matching), "specs/MatchingData.antt": matching_lists(matching)}
+    for name, text in written.items():
+        path = CRATE / name
         if not check:
             path.write_text(text, encoding="utf-8")
         elif not path.is_file() or path.read_text(encoding="utf-8") != text:

@@ -13,7 +13,7 @@ decided : {P : Type 0} (b : Bool) → (b ≡ true → P) → (P → b ≡ true) 
 decided true holds is = inl (holds refl)
 decided false holds is = inr (λ p. both_ways false refl (is p))
 
-normal_or_not : (text : List ℕ) → IsNormal text ⊎ (IsNormal text → ⊥)
+pub normal_or_not : (text : List ℕ) → IsNormal text ⊎ (IsNormal text → ⊥)
 normal_or_not text = decided _ (normal_from_runs text) (runs_from_normal text)
 
 module _ (form_of : Record → Record) where

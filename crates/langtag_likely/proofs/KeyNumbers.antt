@@ -96,9 +96,9 @@ are_plain f = are_letters f.language && (are_alphanumeric f.script && are_alphan
 
 -- a row whose left side has a script and a region of the tables
 abbrev pub is_numbered : Likely → Bool
-is_numbered row = are_plain row.from && (ltb (place SCRIPT_KEYS row.from.script) 166 && ltb (place REGION_KEYS row.from.region) 257)
+is_numbered row = are_plain row.from && (ltb (place SCRIPT_KEYS row.from.script) 167 && ltb (place REGION_KEYS row.from.region) 257)
 
-script_count : length SCRIPT_KEYS ≡ 165
+script_count : length SCRIPT_KEYS ≡ 166
 script_count = refl
 
 region_count : length REGION_KEYS ≡ 256
@@ -107,11 +107,11 @@ region_count = refl
 pub key_number-tells : (key : Fields) (row : Likely) → are_plain key ≡ true → is_numbered row ≡ true → (key_number key == key_number row.from) ≡ are_alike_fields row.from key
 unfolding key_number
 key_number-tells key row plain numbered =
-    let k = and_parts (are_plain row.from) (ltb (place SCRIPT_KEYS row.from.script) 166 && ltb (place REGION_KEYS row.from.region) 257) numbered in
+    let k = and_parts (are_plain row.from) (ltb (place SCRIPT_KEYS row.from.script) 167 && ltb (place REGION_KEYS row.from.region) 257) numbered in
     let kl = and_parts (are_letters row.from.language) (are_alphanumeric row.from.script && are_alphanumeric row.from.region) k.0 in
     let ks = and_parts (are_alphanumeric row.from.script) (are_alphanumeric row.from.region) kl.1 in
-    let within = and_parts (ltb (place SCRIPT_KEYS row.from.script) 166) (ltb (place REGION_KEYS row.from.region) 257) k.1 in
-    let script = ltb-true (place SCRIPT_KEYS row.from.script) 166 within.0 in
+    let within = and_parts (ltb (place SCRIPT_KEYS row.from.script) 167) (ltb (place REGION_KEYS row.from.region) 257) k.1 in
+    let script = ltb-true (place SCRIPT_KEYS row.from.script) 167 within.0 in
     let region = ltb-true (place REGION_KEYS row.from.region) 257 within.1 in
     let l = and_parts (are_letters key.language) (are_alphanumeric key.script && are_alphanumeric key.region) plain in
     let ls = and_parts (are_alphanumeric key.script) (are_alphanumeric key.region) l.1 in

@@ -17,13 +17,13 @@ use Rattle.langtag_likely.proofs.KeyNumbers.{are_plain, is_numbered, key_number-
 use Rattle.langtag_likely.proofs.RowsFound.{no_row, found_by_number, likely_for-append, is_alone, long_nowhere, alone_nowhere, other_nowhere}
 use Rattle.langtag_likely.proofs.TableRows.{languages_alone, languages_short, languages_only, others_numbered, others_other, others_short}
 
-abbrev is_language : Likely → Bool
+abbrev pub is_language : Likely → Bool
 is_language row = are_letters row.from.language && is_alone row
 
-abbrev language_number : Fields → ℕ
+abbrev pub language_number : Fields → ℕ
 language_number f = letter_number f.language
 
-language-tells :
+pub language-tells :
     (l : List ℕ) → are_letters l ≡ true → (row : Likely) → is_language row ≡ true →
     (language_number (of_language l) == language_number row.from) ≡ are_alike_fields row.from (of_language l)
 language-tells l letters row good =

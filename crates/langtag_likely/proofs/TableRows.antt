@@ -120,7 +120,7 @@ languages_good = refl
 
 -- ---- the indices are inside
 
-pub language_scripts_inside : list_all (λ i. ltb i 165) table.LANGUAGE_SCRIPTS ≡ true
+pub language_scripts_inside : list_all (λ i. ltb i 166) table.LANGUAGE_SCRIPTS ≡ true
 language_scripts_inside = refl
 
 pub language_regions_inside : list_all (λ i. ltb i 256) table.LANGUAGE_REGIONS ≡ true
@@ -129,7 +129,7 @@ language_regions_inside = refl
 pub other_languages_inside : list_all (λ i. ltb i 223) table.OTHER_LANGUAGES ≡ true
 other_languages_inside = refl
 
-pub other_scripts_inside : list_all (λ i. ltb i 165) table.OTHER_SCRIPTS ≡ true
+pub other_scripts_inside : list_all (λ i. ltb i 166) table.OTHER_SCRIPTS ≡ true
 other_scripts_inside = refl
 
 pub other_regions_inside : list_all (λ i. ltb i 256) table.OTHER_REGIONS ≡ true

@@ -31,3 +31,11 @@ name_text name = take (name_length name) name
 -- the text of the name at an index
 abbrev pub name_at : List (List ℕ) → ℕ → List ℕ
 name_at names index = slice_index_or (map name_text names) index []
+
+-- two languages as one number
+abbrev pub language_pair : Fields → Fields → ℕ
+language_pair desired supported = letter_number desired.language * 32768 + letter_number supported.language
+
+-- two languages, each with its script, as one number
+abbrev pub script_pair : Fields → Fields → ℕ
+script_pair desired supported = key_number desired * 4294967296 + key_number supported

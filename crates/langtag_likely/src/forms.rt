@@ -4,6 +4,7 @@ ghost use Rattle.langtag.specs.Text.{lang_tag_text, lang_tag_buf_text};
 ghost use Rattle.langtag_scan.specs.Tag.{IsTag};
 ghost use Rattle.langtag_registry.specs.Writes.{Writes};
 ghost use Rattle.langtag_likely.specs.Maximal.{IsMaximalForm, IsMinimalForm, IsOnlyForm, maximal_record, minimal_record};
+ghost use Rattle.langtag_likely.specs.MaximalLaws.{IsAlikeForm, KeepsOthers, TellsAsMaximal, UndoesMaximal, UndoesMinimal};
 
 use crate::likely::{add_likely, remove_likely};
 use crate::put::write_fields;
@@ -24,6 +25,10 @@ use std::alloc::{AllocError, Global};
 pub fn maximized(alloc: Global, tag: LangTag<'_>) -> Result<LangTagBuf, AllocError>
     ensures maximal { IfOk result (λ form. IsMaximalForm (lang_tag_text tag.entry) (lang_tag_buf_text form)) }
     ensures one { IfOk result (λ form. IsOnlyForm maximal_record (lang_tag_text tag.entry) (lang_tag_buf_text form)) }
+    ensures settled { IfOk result (λ form. IsMaximalForm (lang_tag_buf_text form) (lang_tag_buf_text form)) }
+    ensures alike { IfOk result (λ form. IsAlikeForm IsMaximalForm (lang_tag_text tag.entry) (lang_tag_buf_text form)) }
+    ensures undoes { IfOk result (λ form. UndoesMinimal (lang_tag_text tag.entry) (lang_tag_buf_text form)) }
+    ensures others { IfOk result (λ form. KeepsOthers (lang_tag_text tag.entry) (lang_tag_buf_text form)) }
 {
     Ok(tag_of(maximal_bytes(alloc, tag)?))
 }
@@ -37,6 +42,11 @@ pub fn maximized(alloc: Global, tag: LangTag<'_>) -> Result<LangTagBuf, AllocErr
 pub fn minimized(alloc: Global, tag: LangTag<'_>) -> Result<LangTagBuf, AllocError>
     ensures minimal { IfOk result (λ form. IsMinimalForm (lang_tag_text tag.entry) (lang_tag_buf_text form)) }
     ensures one { IfOk result (λ form. IsOnlyForm minimal_record (lang_tag_text tag.entry) (lang_tag_buf_text form)) }
+    ensures settled { IfOk result (λ form. IsMinimalForm (lang_tag_buf_text form) (lang_tag_buf_text form)) }
+    ensures alike { IfOk result (λ form. IsAlikeForm IsMinimalForm (lang_tag_text tag.entry) (lang_tag_buf_text form)) }
+    ensures undoes { IfOk result (λ form. UndoesMaximal (lang_tag_text tag.entry) (lang_tag_buf_text form)) }
+    ensures tells { IfOk result (λ form. TellsAsMaximal (lang_tag_text tag.entry) (lang_tag_buf_text form)) }
+    ensures others { IfOk result (λ form. KeepsOthers (lang_tag_text tag.entry) (lang_tag_buf_text form)) }
 {
     Ok(tag_of(minimal_bytes(alloc, tag)?))
 }
@@ -86,7 +96,7 @@ fn minimal_bytes(alloc: Global, tag: LangTag<'_>) -> Result<Vec<u8>, AllocError>
 }
 
 /// Returns the tag that these bytes are.
-fn tag_of(bytes: Vec<u8>) -> LangTagBuf
+pub(crate) fn tag_of(bytes: Vec<u8>) -> LangTagBuf
     requires { IsTag bytes.items }
     ensures { lang_tag_buf_text result ≡ bytes.items }
 {
@@ -100,7 +110,7 @@ fn tag_of(bytes: Vec<u8>) -> LangTagBuf
 }
 
 /// Writes a text.
-fn write_text(text: &[u8], buffer: &mut [u8]) -> usize
+pub(crate) fn write_text(text: &[u8], buffer: &mut [u8]) -> usize
     ensures { Writes (λ new. new ≡ text.now) buffer.old buffer.new result }
 {
     if text.len() <= buffer.len() {

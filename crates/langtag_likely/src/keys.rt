@@ -25,6 +25,15 @@ pub(crate) fn index_of_short(keys: &[u16], key: u16) -> Option<usize>
     keys.binary_search(&key).ok()
 }
 
+/// Returns where a longer number stands among others, which rise.
+pub(crate) fn index_of_long(keys: &[u64], key: u64) -> Option<usize>
+    requires rises { IsNonDecreasing keys.now }
+    requires climbs { IsTrue (climbs_from 0 keys.now) }
+    ensures { result ≡ first_index keys.now key }
+{
+    keys.binary_search(&key).ok()
+}
+
 /// Returns the place of a text among those whose numbers are keys, from 1 on: 0 of the empty text, and of one that is not
 /// among them the place after the last.
 pub(crate) fn place(keys: &[u32], text: &[u8]) -> u32
@@ -45,7 +54,7 @@ pub(crate) fn place(keys: &[u32], text: &[u8]) -> u32
 }
 
 /// Returns the lowercase bytes of a text of at most four as the digits of one number.
-fn short_number(bytes: &[u8]) -> u32
+pub(crate) fn short_number(bytes: &[u8]) -> u32
     requires { length bytes.now ≤ 4 }
     ensures { result ≡ folded_number bytes.now }
 {

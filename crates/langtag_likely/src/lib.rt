@@ -10,16 +10,38 @@
 //! ```
 #![tactic(auto)]
 
+mod aliases;
+mod best;
+mod candidate;
+mod direction;
 mod fields;
 mod forms;
 mod keys;
 mod likely;
+mod matching;
+mod matching_tables;
 mod names;
+mod nearness;
 mod output;
+mod posix;
+mod posix_error;
 mod put;
+mod read_range;
+mod refused;
+mod region_distance;
 mod rows;
+mod rule_distance;
 mod tables;
+mod tag_distance;
 mod tag_fields;
+mod tag_list;
+mod text_fields;
 
+pub use best::{best_among, best_for_header};
+pub use direction::is_right_to_left;
 pub use forms::{maximized, minimized, write_maximized, write_minimized};
+pub use posix::{from_posix, write_from_posix};
+pub use posix_error::PosixError;
 pub use tables::CLDR_VERSION;
+pub use tag_distance::{FORMLESS_DISTANCE, distance};
+pub use tag_list::TagList;

@@ -58,7 +58,7 @@ fn other_row(key: TagFields<'_>) -> Option<TagFields<'static>>
 }
 
 /// Returns fields as one number, which is not 0.
-fn key_number(key: TagFields<'_>) -> u32
+pub(crate) fn key_number(key: TagFields<'_>) -> u32
     requires { length key.language.now ≤ 3 }
     ensures { result ≡ key_number (field_texts key.entry) }
 {
@@ -68,7 +68,7 @@ fn key_number(key: TagFields<'_>) -> u32
 
 /// Returns the letters of a language as the digits of a number in base 26; 0 where there is none.
 #[tactic(auto, using(crate::proofs::FieldClasses::language_primary, crate::proofs::FieldClasses::number_of_none))]
-fn language_number(language: &[u8]) -> u32
+pub(crate) fn language_number(language: &[u8]) -> u32
     requires in_class { IsTrue (is_language_field language.now) }
     requires short { length language.now ≤ 3 }
     ensures number { result ≡ letter_number language.now }

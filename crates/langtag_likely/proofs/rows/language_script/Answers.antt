@@ -11,7 +11,7 @@ pub bounds-index : goal.bounds-index
 bounds-index c = omega (arith, c.requires, language_count)
 
 pub name_at-requires : goal.name_at-requires
-name_at-requires c = index_inside 165 LANGUAGE_SCRIPTS c.args.index language_scripts_inside (omega (arith, c.requires, language_count))
+name_at-requires c = index_inside 166 LANGUAGE_SCRIPTS c.args.index language_scripts_inside (omega (arith, c.requires, language_count))
 
 pub returns-clause-text : goal.returns-clause-text
 returns-clause-text c =
@@ -20,5 +20,5 @@ returns-clause-text c =
 
 pub returns-clause-in_class : goal.returns-clause-in_class
 returns-clause-in_class c =
-    let within : get_or LANGUAGE_SCRIPTS c.args.index 0 < 165 = index_inside 165 LANGUAGE_SCRIPTS c.args.index language_scripts_inside (omega (arith, c.requires, language_count)) in
+    let within : get_or LANGUAGE_SCRIPTS c.args.index 0 < 166 = index_inside 166 LANGUAGE_SCRIPTS c.args.index language_scripts_inside (omega (arith, c.requires, language_count)) in
     column_good is_script_field SCRIPT_NAMES c.name_at.result.now (get_or LANGUAGE_SCRIPTS c.args.index 0) scripts_good within c.name_at.ensures

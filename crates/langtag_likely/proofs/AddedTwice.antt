@@ -1,0 +1,417 @@
+-- Likely subtags that are added again change nothing.
+use Rattle.std.proofs.Common.{◌≡◌, ℕ, true, false, Bool, cond, not, List, [], ◌∷◌, Option, None, Some, option_map, is_some, inl, inr, ◌⊎◌, refl, sym, ap, ◌∙◌}
+use Rattle.std.specs.Prelude.{◌&&◌, ◌||◌, codes}
+use Rattle.std.specs.List.{list_all}
+use Rattle.std.specs.Option.{option_map_or}
+use Rattle.std.proofs.lemmas.Bool.{and_parts}
+use Rattle.langtag_scan.specs.Case.{Alike, are_alike, fold_text}
+use Rattle.langtag_likely.specs.Likely.{Fields, Likely, are_alike_fields, likely_for, looked_up, or_else, or_other, filled, known, known_fields, add_likely, language_alone, without_script, without_region}
+use Rattle.langtag_likely.specs.LikelySubtags.{likely_subtags}
+use Rattle.langtag_likely.proofs.AlikeFields.{AlikeFields, alike_is, alike_fields, likely_for-alike, looked_up-alike, alone_alike}
+use Rattle.langtag_likely.proofs.SettledRows.{is_there, is_language_row, is_kept, is_whole, stays_unknown, is_other_row, is_settled, rows_settled}
+
+-- ---- texts that are there
+
+clash : {P : Type 0} (b : Bool) → b ≡ true → b ≡ false → P
+clash true t f = absurd cc
+clash false t f = absurd cc
+
+from_not : (b : Bool) → not b ≡ true → b ≡ false
+from_not true h = absurd cc
+from_not false h = refl
+
+-- what holds either way
+pub either_way : {P : Type 0} (b : Bool) → (b ≡ true → P) → (b ≡ false → P) → P
+either_way true one other = one refl
+either_way false one other = other refl
+
+by_or : {P : Type 0} (a b : Bool) → (a ≡ true → P) → (b ≡ true → P) → (a || b) ≡ true → P
+by_or true b f g h = f refl
+by_or false b f g h = g h
+
+pub absent : (a : List ℕ) → is_there a ≡ false → a ≡ []
+absent [] h = refl
+absent (x ∷ a) h = absurd cc
+
+there_alike : (a b : List ℕ) → Alike a b → is_there a ≡ is_there b
+there_alike [] [] h = refl
+there_alike [] (y ∷ b) h = absurd cc
+there_alike (x ∷ a) [] h = absurd cc
+there_alike (x ∷ a) (y ∷ b) h = refl
+
+pub or_other_there : (a b : List ℕ) → is_there a ≡ true → or_other a b ≡ a
+or_other_there [] b h = absurd cc
+or_other_there (x ∷ a) b h = refl
+
+pub or_other_absent : (a b : List ℕ) → is_there a ≡ false → or_other a b ≡ b
+or_other_absent [] b h = refl
+or_other_absent (x ∷ a) b h = absurd cc
+
+there_other : (a b : List ℕ) → is_there b ≡ true → is_there (or_other a b) ≡ true
+there_other [] b h = h
+there_other (x ∷ a) b h = refl
+
+there_first : (a b : List ℕ) → is_there a ≡ true → is_there (or_other a b) ≡ true
+there_first [] b h = absurd cc
+there_first (x ∷ a) b h = refl
+
+other_test : (unknown a b : List ℕ) → are_alike unknown a ≡ false → are_alike unknown b ≡ false → are_alike unknown (or_other a b) ≡ false
+other_test unknown [] b ha hb = hb
+other_test unknown (x ∷ a) b ha hb = ha
+
+pub known_stays : (unknown a : List ℕ) → are_alike unknown a ≡ false → known unknown a ≡ a
+known_stays unknown a h = ap (λ t. cond t [] a) h
+
+pub known_goes : (unknown a : List ℕ) → are_alike unknown a ≡ true → known unknown a ≡ []
+known_goes unknown a h = ap (λ t. cond t [] a) h
+
+-- ---- the row that was found
+
+record RowOf (key to : Fields) : Type 0 where
+  row : Likely
+  to_is : row.to ≡ to
+  from_is : AlikeFields row.from key
+  settled : is_settled row ≡ true
+
+row_of : (rows : List Likely) (key to : Fields) → list_all is_settled rows ≡ true → likely_for rows key ≡ Some to → RowOf key to
+row_of [] key to all is = absurd cc
+row_of (row ∷ rows) key to all is =
+    let k = and_parts (is_settled row) (list_all is_settled rows) all in
+    by_test (are_alike_fields row.from key) refl (likely_for rows key) is (λ later. row_of rows key to k.1 later) k.0
+  where
+    by_test :
+        (b : Bool) → are_alike_fields row.from key ≡ b → (o : Option Fields) → cond b (Some row.to) o ≡ Some to → (o ≡ Some to → RowOf key to) →
+        is_settled row ≡ true → RowOf key to
+    by_test true same o is later good = record { row = row; to_is = cc; from_is = alike_fields row.from key same; settled = good }
+    by_test false same o is later good = later is
+
+-- the fields that were looked up have the language, and each of the others has it or has none
+record IsKey (f key : Fields) : Type 0 where
+  language : key.language ≡ f.language
+  script : (key.script ≡ f.script) ⊎ (key.script ≡ [])
+  region : (key.region ≡ f.region) ⊎ (key.region ≡ [])
+
+record Found (f to : Fields) : Type 0 where
+  key : Fields
+  is_key : IsKey f key
+  found : likely_for likely_subtags key ≡ Some to
+
+first_found :
+    {P : Type 0} (a b c d : Option Fields) (to : Fields) → or_else a (or_else b (or_else c d)) ≡ Some to →
+    (a ≡ Some to → P) → (b ≡ Some to → P) → (c ≡ Some to → P) → (d ≡ Some to → P) → P
+first_found (Some v) b c d to is p q r s = p is
+first_found None (Some v) c d to is p q r s = q is
+first_found None None (Some v) d to is p q r s = r is
+first_found None None None d to is p q r s = s is
+
+found_of : (f to : Fields) → looked_up likely_subtags f ≡ Some to → Found f to
+found_of f to is =
+    first_found (likely_for likely_subtags f) (likely_for likely_subtags (without_region f)) (likely_for likely_subtags (without_script f)) (likely_for likely_subtags (language_alone f)) to is
+    (λ h. record { key = f; is_key = record { language = refl; script = inl refl; region = inl refl }; found = h })
+    (λ h. record { key = without_region f; is_key = record { language = refl; script = inl refl; region = inr refl }; found = h })
+    (λ h. record { key = without_script f; is_key = record { language = refl; script = inr refl; region = inl refl }; found = h })
+    (λ h. record { key = language_alone f; is_key = record { language = refl; script = inr refl; region = inr refl }; found = h })
+
+last_found : (a b c d : Option Fields) → is_some d ≡ true → (v : Fields) × (or_else a (or_else b (or_else c d)) ≡ Some v)
+last_found (Some v) b c d h = (v, refl)
+last_found None (Some v) c d h = (v, refl)
+last_found None None (Some v) d h = (v, refl)
+last_found None None None (Some v) h = (v, refl)
+last_found None None None None h = absurd cc
+
+-- ---- fields that are all there stay, where something is looked up
+
+filled_whole : (m v : Fields) → is_there m.language ≡ true → is_there m.script ≡ true → is_there m.region ≡ true → filled m v ≡ m
+filled_whole m v l s r = rw (or_other_there m.language v.language l, or_other_there m.script v.script s, or_other_there m.region v.region r) refl
+
+whole_again :
+    (m : Fields) → is_there m.language ≡ true → is_there m.script ≡ true → is_there m.region ≡ true → is_some (likely_for likely_subtags (language_alone m)) ≡ true →
+    add_likely likely_subtags m ≡ Some m
+whole_again m l s r alone =
+    let (v, found) = last_found (likely_for likely_subtags m) (likely_for likely_subtags (without_region m)) (likely_for likely_subtags (without_script m)) (likely_for likely_subtags (language_alone m)) alone in
+    ap (option_map (filled m)) found ∙ ap Some (filled_whole m v l s r)
+
+-- ---- what a row says
+
+record IsWhole (row : Likely) : Type 0 where
+  script : is_there row.to.script ≡ true
+  script_known : are_alike (codes "Zzzz") row.to.script ≡ false
+  region : is_there row.to.region ≡ true
+  language_known : are_alike (codes "und") row.to.language ≡ false
+  kept : is_kept row.from.language row.to.language ≡ true
+
+whole_of : (row : Likely) → is_whole row ≡ true → IsWhole row
+whole_of row h =
+    let a = and_parts _ _ h in
+    let b = and_parts _ _ a.0 in
+    let c = and_parts _ _ a.1 in
+    let d = and_parts _ _ c.1 in
+    record { script = b.0; script_known = from_not _ b.1; region = c.0; language_known = from_not _ d.0; kept = d.1 }
+
+record IsOther (row : Likely) : Type 0 where
+  region : are_alike (codes "ZZ") row.to.region ≡ false
+  language : cond (is_there row.to.language) (is_some (likely_for likely_subtags (language_alone row.to))) (stays_unknown row) ≡ true
+  from_language : (not (is_there row.from.language) || option_map_or (λ v. not (are_alike (codes "ZZ") v.region)) (likely_for likely_subtags (language_alone row.from)) true) ≡ true
+
+other_of : (row : Likely) → is_other_row row ≡ true → IsOther row
+other_of row h =
+    let a = and_parts _ _ h in
+    let b = and_parts _ _ a.1 in
+    record { region = from_not _ a.0; language = b.0; from_language = b.1 }
+
+record IsOfLanguage (row : Likely) : Type 0 where
+  language : is_there row.from.language ≡ true
+  script : row.from.script ≡ []
+  region : row.from.region ≡ []
+
+language_of : (row : Likely) → is_language_row row ≡ true → IsOfLanguage row
+language_of row h =
+    let a = and_parts _ _ h in
+    let b = and_parts _ _ a.1 in
+    record { language = a.0; script = absent _ (from_not _ b.0); region = absent _ (from_not _ b.1) }
+
+record StaysUnknown (row : Likely) : Type 0 where
+  from_language : is_there row.from.language ≡ false
+  some : (is_there row.from.script || is_there row.from.region) ≡ true
+  script : is_kept row.from.script row.to.script ≡ true
+  region : is_kept row.from.region row.to.region ≡ true
+  settles : option_map_or (λ v. not (is_there v.language)) (looked_up likely_subtags row.to) false ≡ true
+
+unknown_of : (row : Likely) → stays_unknown row ≡ true → StaysUnknown row
+unknown_of row h =
+    let a = and_parts _ _ h in
+    let b = and_parts _ _ a.0 in
+    let c = and_parts _ _ a.1 in
+    let d = and_parts _ _ c.0 in
+    record { from_language = from_not _ b.0; some = b.1; script = d.0; region = d.1; settles = c.1 }
+
+-- a field is alike that of the right side, which keeps the left side, if it is on the left side where it is written
+field_alike :
+    (field to from key : List ℕ) → (key ≡ field) ⊎ (key ≡ []) → Alike from key → is_kept from to ≡ true → (is_there field ≡ true → is_there from ≡ true) →
+    Alike (or_other field to) to
+field_alike [] to from key is same kept there = refl
+field_alike (x ∷ a) to from key (inl is) same kept there =
+    sym (same ∙ ap fold_text is) ∙ alike_is from to (sym (ap (λ b. not b || are_alike from to) (there refl)) ∙ kept)
+field_alike (x ∷ a) to from key (inr none) same kept there = clash _ (there refl) (there_alike from key same ∙ ap is_there none)
+
+not_first : (a b : List ℕ) → is_there (or_other a b) ≡ false → is_there a ≡ false
+not_first [] b h = refl
+not_first (x ∷ a) b h = h
+
+and_false : (a b : Bool) → (a && b) ≡ false → a ≡ true → b ≡ false
+and_false true b h it = h
+and_false false b h it = absurd cc
+
+and_false-turned : (a b : Bool) → (a && b) ≡ false → b ≡ true → a ≡ false
+and_false-turned true b h it = clash b it h
+and_false-turned false b h it = refl
+
+absent_key : (field from key : List ℕ) → (key ≡ field) ⊎ (key ≡ []) → Alike from key → is_there field ≡ false → is_there from ≡ false
+absent_key field from key (inl is) same none = there_alike from key same ∙ ap is_there is ∙ none
+absent_key field from key (inr is) same none = there_alike from key same ∙ ap is_there is
+
+-- ---- fields, the row that was found for them, and what it makes of them
+
+module _ (f : Fields) (row : Likely) (key : Fields) (is_key : IsKey f key) (from_is : AlikeFields row.from key) (whole : IsWhole row)
+    (kind : (is_language_row row || is_other_row row) ≡ true) (found : likely_for likely_subtags key ≡ Some row.to)
+    (looked : looked_up likely_subtags f ≡ Some row.to) (script_known : are_alike (codes "Zzzz") f.script ≡ false) (region_known : are_alike (codes "ZZ") f.region ≡ false) where
+  abbrev most : Fields
+  most = filled f row.to
+
+  -- a text that is there on the left side is there in the key
+  language_same : Alike row.from.language f.language
+  language_same = from_is.language ∙ ap fold_text is_key.language
+
+  -- the row of the language alone is found for each language that is alike
+  alone_by : (language : List ℕ) → Alike row.from.language language → IsOfLanguage row → likely_for likely_subtags (record { language = language; script = []; region = [] }) ≡ Some row.to
+  alone_by language same is =
+      sym (likely_for-alike likely_subtags key (record { language = language; script = []; region = [] })
+      (record { language = sym from_is.language ∙ same; script = sym from_is.script ∙ ap fold_text is.script; region = sym from_is.region ∙ ap fold_text is.region }))
+      ∙ found
+
+  alone_other : IsOther row → is_there row.to.language ≡ true → Alike row.to.language most.language → is_some (likely_for likely_subtags (language_alone most)) ≡ true
+  alone_other other there same =
+      ap is_some (sym (likely_for-alike likely_subtags (language_alone row.to) (language_alone most) (alone_alike row.to most same)))
+      ∙ sym (ap (λ b. cond b (is_some (likely_for likely_subtags (language_alone row.to))) (stays_unknown row)) there) ∙ other.language
+
+  kept_language : is_there row.from.language ≡ true → Alike row.from.language row.to.language
+  kept_language there = alike_is _ _ (sym (ap (λ b. not b || are_alike row.from.language row.to.language) there) ∙ whole.kept)
+
+  alone_found : is_there most.language ≡ true → is_some (likely_for likely_subtags (language_alone most)) ≡ true
+  alone_found there = either_way (is_there f.language) written unwritten
+    where
+      written : is_there f.language ≡ true → is_some (likely_for likely_subtags (language_alone most)) ≡ true
+      written it =
+          let same : most.language ≡ f.language = or_other_there f.language row.to.language it in
+          let from_there : is_there row.from.language ≡ true = there_alike _ _ language_same ∙ it in
+          let from_same : Alike row.from.language most.language = language_same ∙ ap fold_text (sym same) in
+          by_or (is_language_row row) (is_other_row row)
+          (λ is. ap is_some (alone_by most.language from_same (language_of row is)))
+          (λ is. alone_other (other_of row is) (sym (there_alike _ _ (kept_language from_there)) ∙ from_there) (sym (kept_language from_there) ∙ from_same))
+          kind
+
+      unwritten : is_there f.language ≡ false → is_some (likely_for likely_subtags (language_alone most)) ≡ true
+      unwritten it =
+          let same : most.language ≡ row.to.language = or_other_absent f.language row.to.language it in
+          by_or (is_language_row row) (is_other_row row)
+          (λ is. clash _ (language_of row is).language (there_alike _ _ language_same ∙ it))
+          (λ is. alone_other (other_of row is) (sym (ap is_there same) ∙ there) (ap fold_text (sym same)))
+          kind
+
+  script_there : is_there most.script ≡ true
+  script_there = there_other f.script row.to.script whole.script
+
+  region_there : is_there most.region ≡ true
+  region_there = there_other f.region row.to.region whole.region
+
+  script_not : are_alike (codes "Zzzz") most.script ≡ false
+  script_not = other_test (codes "Zzzz") f.script row.to.script script_known whole.script_known
+
+  -- ---- no language is known
+
+  unknown_again : is_there most.language ≡ false → add_likely likely_subtags most ≡ Some most
+  unknown_again none = either_way (is_there f.script && is_there f.region) written unwritten
+    where
+      f_none : is_there f.language ≡ false
+      f_none = not_first f.language row.to.language none
+
+      to_none : is_there row.to.language ≡ false
+      to_none = sym (ap is_there (or_other_absent f.language row.to.language f_none)) ∙ none
+
+      unknown : StaysUnknown row
+      unknown =
+          by_or (is_language_row row) (is_other_row row)
+          (λ is. clash _ (language_of row is).language (there_alike _ _ language_same ∙ f_none))
+          (λ is. unknown_of row (sym (ap (λ b. cond b (is_some (likely_for likely_subtags (language_alone row.to))) (stays_unknown row)) to_none) ∙ (other_of row is).language))
+          kind
+
+      no_language : most.language ≡ []
+      no_language = or_other_absent f.language row.to.language f_none ∙ absent row.to.language to_none
+
+      written : (is_there f.script && is_there f.region) ≡ true → add_likely likely_subtags most ≡ Some most
+      written both =
+          let k = and_parts (is_there f.script) (is_there f.region) both in
+          let same : most ≡ f =
+          rw (or_other_absent f.language row.to.language f_none ∙ absent row.to.language to_none ∙ sym (absent f.language f_none), or_other_there f.script row.to.script k.0, or_other_there f.region row.to.region k.1) refl in
+          ap (add_likely likely_subtags) same ∙ ap (option_map (filled f)) looked
+
+      unwritten : (is_there f.script && is_there f.region) ≡ false → add_likely likely_subtags most ≡ Some most
+      unwritten one =
+          let script_from : is_there f.script ≡ true → is_there row.from.script ≡ true =
+          λ there. by_or (is_there row.from.script) (is_there row.from.region) (λ h. h)
+          (λ h. clash _ h (absent_key f.region row.from.region key.region is_key.region from_is.region (and_false (is_there f.script) (is_there f.region) one there))) unknown.some in
+          let region_from : is_there f.region ≡ true → is_there row.from.region ≡ true =
+          λ there. by_or (is_there row.from.script) (is_there row.from.region)
+          (λ h. clash _ h (absent_key f.script row.from.script key.script is_key.script from_is.script (and_false-turned (is_there f.script) (is_there f.region) one there))) (λ h. h) unknown.some in
+          let same : AlikeFields most row.to = record {
+            language = ap fold_text (or_other_absent f.language row.to.language f_none);
+            script = field_alike f.script row.to.script row.from.script key.script is_key.script from_is.script unknown.script script_from;
+            region = field_alike f.region row.to.region row.from.region key.region is_key.region from_is.region unknown.region region_from;
+          } in
+          ap (option_map (filled most)) (looked_up-alike most row.to same) ∙ by_row (looked_up likely_subtags row.to) unknown.settles
+        where
+          by_row : (o : Option Fields) → option_map_or (λ v. not (is_there v.language)) o false ≡ true → option_map (filled most) o ≡ Some most
+          by_row None h = absurd cc
+          by_row (Some v) h =
+              let no_other : or_other most.language v.language ≡ most.language =
+              or_other_absent most.language v.language none ∙ absent v.language (from_not (is_there v.language) h) ∙ sym no_language in
+              let same : filled most v ≡ most = rw (no_other, or_other_there most.script v.script script_there, or_other_there most.region v.region region_there) refl in
+              ap Some same
+
+  -- ---- the region of a right side is unknown
+
+  zz_again : are_alike (codes "ZZ") most.region ≡ true → add_likely likely_subtags (known_fields most) ≡ Some most
+  zz_again zz =
+      ap (add_likely likely_subtags) same
+      ∙ ap (λ o. option_map (filled k) (or_else o (or_else o (or_else (likely_for likely_subtags (without_script k)) (likely_for likely_subtags (language_alone k)))))) (none (likely_for likely_subtags k) refl)
+      ∙ ap (λ o. option_map (filled k) (or_else o (likely_for likely_subtags (language_alone k)))) (alone_by most.language to_most of_language)
+      ∙ ap Some whole_most
+    where
+      f_none : is_there f.region ≡ false
+      f_none = either_way (is_there f.region) (λ there. clash _ (sym (ap (are_alike (codes "ZZ")) (or_other_there f.region row.to.region there)) ∙ zz) region_known) (λ h. h)
+
+      to_zz : are_alike (codes "ZZ") row.to.region ≡ true
+      to_zz = sym (ap (are_alike (codes "ZZ")) (or_other_absent f.region row.to.region f_none)) ∙ zz
+
+      of_language : IsOfLanguage row
+      of_language = by_or (is_language_row row) (is_other_row row) (language_of row) (λ is. clash _ to_zz (other_of row is).region) kind
+
+      f_there : is_there f.language ≡ true
+      f_there = sym (there_alike _ _ language_same) ∙ of_language.language
+
+      to_most : Alike row.from.language most.language
+      to_most = language_same ∙ ap fold_text (sym (or_other_there f.language row.to.language f_there))
+
+      most_there : is_there most.language ≡ true
+      most_there = there_first f.language row.to.language f_there
+
+      k : Fields
+      k = record { language = most.language; script = most.script; region = [] }
+
+      same : known_fields most ≡ k
+      same = rw (known_stays (codes "Zzzz") most.script script_not, known_goes (codes "ZZ") most.region zz) refl
+
+      no_row : (w : Fields) → likely_for likely_subtags k ≡ Some w → ⊥
+      no_row w is =
+          let r = row_of likely_subtags k w rows_settled is in
+          by_or (is_language_row r.row) (is_other_row r.row)
+          (λ h. clash _ (there_alike _ _ r.from_is.script ∙ script_there) (ap is_there (language_of r.row h).script))
+          (λ h.
+          let there : is_there r.row.from.language ≡ true = there_alike _ _ r.from_is.language ∙ most_there in
+          let alone = alone_by r.row.from.language (to_most ∙ sym r.from_is.language) of_language in
+          let known_region =
+          sym (ap (λ b. not b || option_map_or (λ v. not (are_alike (codes "ZZ") v.region)) (likely_for likely_subtags (language_alone r.row.from)) true) there
+          ∙ ap (λ o. option_map_or (λ v. not (are_alike (codes "ZZ") v.region)) o true) alone)
+          ∙ (other_of r.row h).from_language in
+          clash _ to_zz (from_not (are_alike (codes "ZZ") row.to.region) known_region))
+          (and_parts (is_whole r.row) (is_language_row r.row || is_other_row r.row) r.settled).1
+
+      none : (o : Option Fields) → likely_for likely_subtags k ≡ o → likely_for likely_subtags k ≡ None
+      none None is = is
+      none (Some w) is = absurd (no_row w is)
+
+      whole_most : filled k row.to ≡ most
+      whole_most = rw (or_other_there most.language row.to.language most_there, or_other_there most.script row.to.script script_there, or_other_absent f.region row.to.region f_none) refl
+
+  added_again : add_likely likely_subtags (known_fields most) ≡ Some most
+  added_again = either_way (are_alike (codes "ZZ") most.region) zz_again known_region
+    where
+      known_region : are_alike (codes "ZZ") most.region ≡ false → add_likely likely_subtags (known_fields most) ≡ Some most
+      known_region h =
+          let same : known_fields most ≡ most = rw (known_stays (codes "Zzzz") most.script script_not, known_stays (codes "ZZ") most.region h) refl in
+          ap (add_likely likely_subtags) same
+          ∙ either_way (is_there most.language) (λ there. whole_again most there script_there region_there (alone_found there)) unknown_again
+
+-- ---- whatever is added to fields that are known
+
+-- fields without `Zzzz` and `ZZ`
+pub record AreKnown (f : Fields) : Type 0 where
+  pub script : are_alike (codes "Zzzz") f.script ≡ false
+  pub region : are_alike (codes "ZZ") f.region ≡ false
+
+-- what was added: a right side, whose language is not `und`
+pub record IsAdded (f m : Fields) : Type 0 where
+  pub to : Fields
+  pub filled_is : filled f to ≡ m
+  pub language : are_alike (codes "und") to.language ≡ false
+  pub again : add_likely likely_subtags (known_fields m) ≡ Some m
+
+pub added : (f m : Fields) → AreKnown f → add_likely likely_subtags f ≡ Some m → IsAdded f m
+added f m known is = by_row (looked_up likely_subtags f) refl is
+  where
+    by_row : (o : Option Fields) → looked_up likely_subtags f ≡ o → option_map (filled f) o ≡ Some m → IsAdded f m
+    by_row None looked is = absurd cc
+    by_row (Some to) looked is =
+        let found = found_of f to looked in
+        let r = row_of likely_subtags found.key to rows_settled found.found in
+        let parts = and_parts (is_whole r.row) (is_language_row r.row || is_other_row r.row) r.settled in
+        let whole = whole_of r.row parts.0 in
+        let same : filled f to ≡ m = cc in
+        let again = added_again f r.row found.key found.is_key r.from_is whole parts.1 (found.found ∙ ap Some (sym r.to_is)) (looked ∙ ap Some (sym r.to_is)) known.script known.region in
+        let made : filled f r.row.to ≡ m = ap (filled f) r.to_is ∙ same in
+        record {
+          to = to;
+          filled_is = same;
+          language = sym (ap (λ v. are_alike (codes "und") v.language) r.to_is) ∙ whole.language_known;
+          again = ap (λ n. add_likely likely_subtags (known_fields n)) (sym made) ∙ again ∙ ap Some made;
+        }

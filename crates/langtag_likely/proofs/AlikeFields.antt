@@ -1,0 +1,187 @@
+-- Fields that are equal but for case have likely subtags that are.
+use Rattle.std.proofs.Common.{◌≡◌, ℕ, true, false, Bool, cond, List, [], ◌∷◌, Option, None, Some, option_map, refl, sym, ap, ◌∙◌}
+use Rattle.std.specs.Prelude.{◌&&◌, codes}
+use Rattle.std.specs.Option.{option_map_or}
+use Rattle.std.specs.Str.{bytes_eq}
+use Rattle.std.proofs.lemmas.Bool.{and_parts}
+use Rattle.langtag_scan.specs.Case.{Alike, are_alike, fold_text}
+use Rattle.langtag_scan.specs.CaseLaws.{are_alike-decides}
+use Rattle.langtag_likely.specs.Likely.{Fields, Likely, are_alike_fields, likely_for, looked_up, or_other, filled, known, known_fields, add_likely, remove_likely, least, suffices, language_alone, without_script, without_region}
+use Rattle.langtag_likely.specs.LikelySubtags.{likely_subtags}
+
+pub record AlikeFields (a b : Fields) : Type 0 where
+  pub language : Alike a.language b.language
+  pub script : Alike a.script b.script
+  pub region : Alike a.region b.region
+
+pub alike_refl : (a : Fields) → AlikeFields a a
+alike_refl a = record { language = refl; script = refl; region = refl }
+
+pub alike_sym : (a b : Fields) → AlikeFields a b → AlikeFields b a
+alike_sym a b h = record { language = sym h.language; script = sym h.script; region = sym h.region }
+
+pub alike_trans : (a b c : Fields) → AlikeFields a b → AlikeFields b c → AlikeFields a c
+alike_trans a b c h k = record { language = h.language ∙ k.language; script = h.script ∙ k.script; region = h.region ∙ k.region }
+
+pub alike_is : (a b : List ℕ) → are_alike a b ≡ true → Alike a b
+alike_is a b is = (are_alike-decides a b).0 is
+
+pub alike_fields : (a b : Fields) → are_alike_fields a b ≡ true → AlikeFields a b
+alike_fields a b is =
+    let k = and_parts (are_alike a.language b.language) (are_alike a.script b.script && are_alike a.region b.region) is in
+    let l = and_parts (are_alike a.script b.script) (are_alike a.region b.region) k.1 in
+    record { language = alike_is _ _ k.0; script = alike_is _ _ l.0; region = alike_is _ _ l.1 }
+
+pub alike_test : (a b : Fields) → AlikeFields a b → are_alike_fields a b ≡ true
+alike_test a b h =
+    rw ((are_alike-decides a.language b.language).1 h.language, (are_alike-decides a.script b.script).1 h.script, (are_alike-decides a.region b.region).1 h.region) refl
+
+-- ---- a test answers alike of texts that are alike
+
+pub are_alike-right : (a b c : List ℕ) → Alike b c → are_alike a b ≡ are_alike a c
+are_alike-right a b c h = ap (bytes_eq (fold_text a)) h
+
+pub are_alike-left : (a b c : List ℕ) → Alike a b → are_alike a c ≡ are_alike b c
+are_alike-left a b c h = ap (λ t. bytes_eq t (fold_text c)) h
+
+pub fields-right : (a b c : Fields) → AlikeFields b c → are_alike_fields a b ≡ are_alike_fields a c
+fields-right a b c h =
+    rw (are_alike-right a.language _ _ h.language, are_alike-right a.script _ _ h.script, are_alike-right a.region _ _ h.region) refl
+
+fields-left : (a b c : Fields) → AlikeFields a b → are_alike_fields a c ≡ are_alike_fields b c
+fields-left a b c h =
+    rw (are_alike-left _ _ c.language h.language, are_alike-left _ _ c.script h.script, are_alike-left _ _ c.region h.region) refl
+
+-- ---- likely subtags added
+
+pub likely_for-alike : (rows : List Likely) (a b : Fields) → AlikeFields a b → likely_for rows a ≡ likely_for rows b
+likely_for-alike [] a b h = refl
+likely_for-alike (row ∷ rows) a b h =
+    ap (λ t. cond t (Some row.to) (likely_for rows a)) (fields-right row.from a b h) ∙ ap (cond (are_alike_fields row.from b) (Some row.to)) (likely_for-alike rows a b h)
+
+pub alone_alike : (a b : Fields) → Alike a.language b.language → AlikeFields (language_alone a) (language_alone b)
+alone_alike a b h = record { language = h; script = refl; region = refl }
+
+pub looked_up-alike : (a b : Fields) → AlikeFields a b → looked_up likely_subtags a ≡ looked_up likely_subtags b
+looked_up-alike a b h =
+    let one = likely_for-alike likely_subtags a b h in
+    let two = likely_for-alike likely_subtags (without_region a) (without_region b) (record { language = h.language; script = h.script; region = refl }) in
+    let three = likely_for-alike likely_subtags (without_script a) (without_script b) (record { language = h.language; script = refl; region = h.region }) in
+    let four = likely_for-alike likely_subtags (language_alone a) (language_alone b) (alone_alike a b h.language) in
+    rw (one, two, three, four) refl
+
+pub or_other-alike : (a b v : List ℕ) → Alike a b → Alike (or_other a v) (or_other b v)
+or_other-alike [] [] v h = refl
+or_other-alike [] (y ∷ b) v h = absurd cc
+or_other-alike (x ∷ a) [] v h = absurd cc
+or_other-alike (x ∷ a) (y ∷ b) v h = h
+
+filled-alike : (a b v : Fields) → AlikeFields a b → AlikeFields (filled a v) (filled b v)
+filled-alike a b v h = record {
+  language = or_other-alike a.language b.language v.language h.language;
+  script = or_other-alike a.script b.script v.script h.script;
+  region = or_other-alike a.region b.region v.region h.region;
+}
+
+-- none and none, or some that are alike
+abbrev pub AlikeOptions : Option Fields → Option Fields → Type 0
+AlikeOptions None None = Unit {0}
+AlikeOptions None (Some b) = ⊥
+AlikeOptions (Some a) None = ⊥
+AlikeOptions (Some a) (Some b) = AlikeFields a b
+
+pub added-alike : (a b : Fields) → AlikeFields a b → AlikeOptions (add_likely likely_subtags a) (add_likely likely_subtags b)
+added-alike a b h = by_rows (looked_up likely_subtags a) (looked_up likely_subtags b) (looked_up-alike a b h)
+  where
+    by_rows : (o p : Option Fields) → o ≡ p → AlikeOptions (option_map (filled a) o) (option_map (filled b) p)
+    by_rows None None same = tt
+    by_rows None (Some w) same = absurd cc
+    by_rows (Some v) None same = absurd cc
+    by_rows (Some v) (Some w) same =
+        let one : v ≡ w = cc in
+        rw (← one) (filled-alike a b v h)
+
+-- ---- and removed
+
+pub known-alike : (unknown a b : List ℕ) → Alike a b → Alike (known unknown a) (known unknown b)
+known-alike unknown a b h = by_test (are_alike unknown a) (are_alike unknown b) (are_alike-right unknown a b h)
+  where
+    by_test : (s t : Bool) → s ≡ t → Alike (cond s [] a) (cond t [] b)
+    by_test true true same = refl
+    by_test true false same = absurd cc
+    by_test false true same = absurd cc
+    by_test false false same = h
+
+pub known_fields-alike : (a b : Fields) → AlikeFields a b → AlikeFields (known_fields a) (known_fields b)
+known_fields-alike a b h = record {
+  language = h.language;
+  script = known-alike (codes "Zzzz") a.script b.script h.script;
+  region = known-alike (codes "ZZ") a.region b.region h.region;
+}
+
+pub suffices-alike : (m n a b : Fields) → AlikeFields m n → AlikeFields a b → suffices likely_subtags m a ≡ suffices likely_subtags n b
+suffices-alike m n a b most few = by_options (add_likely likely_subtags a) (add_likely likely_subtags b) (added-alike a b few)
+  where
+    by_options :
+        (o p : Option Fields) → AlikeOptions o p → option_map_or (λ form. are_alike_fields m form) o false ≡ option_map_or (λ form. are_alike_fields n form) p false
+    by_options None None same = refl
+    by_options None (Some w) same = absurd same
+    by_options (Some v) None same = absurd same
+    by_options (Some v) (Some w) same = fields-left m n v most ∙ fields-right n v w same
+
+least-alike : (m n : Fields) → AlikeFields m n → AlikeFields (least likely_subtags m) (least likely_subtags n)
+least-alike m n h =
+    by_tests (suffices likely_subtags m a) (suffices likely_subtags n a2) (suffices likely_subtags m b) (suffices likely_subtags n b2) (suffices likely_subtags m c) (suffices likely_subtags n c2)
+    (suffices-alike m n a a2 h ha) (suffices-alike m n b b2 h hb) (suffices-alike m n c c2 h hc)
+  where
+    a : Fields
+    a = language_alone (known_fields m)
+
+    a2 : Fields
+    a2 = language_alone (known_fields n)
+
+    b : Fields
+    b = without_script (known_fields m)
+
+    b2 : Fields
+    b2 = without_script (known_fields n)
+
+    c : Fields
+    c = without_region (known_fields m)
+
+    c2 : Fields
+    c2 = without_region (known_fields n)
+
+    k : AlikeFields (known_fields m) (known_fields n)
+    k = known_fields-alike m n h
+
+    ha : AlikeFields a a2
+    ha = record { language = k.language; script = refl; region = refl }
+
+    hb : AlikeFields b b2
+    hb = record { language = k.language; script = refl; region = k.region }
+
+    hc : AlikeFields c c2
+    hc = record { language = k.language; script = k.script; region = refl }
+
+    by_tests :
+        (s s2 t t2 u u2 : Bool) → s ≡ s2 → t ≡ t2 → u ≡ u2 → AlikeFields (cond s a (cond t b (cond u c m))) (cond s2 a2 (cond t2 b2 (cond u2 c2 n)))
+    by_tests true true t t2 u u2 e f g = ha
+    by_tests true false t t2 u u2 e f g = absurd cc
+    by_tests false true t t2 u u2 e f g = absurd cc
+    by_tests false false true true u u2 e f g = hb
+    by_tests false false true false u u2 e f g = absurd cc
+    by_tests false false false true u u2 e f g = absurd cc
+    by_tests false false false false true true e f g = hc
+    by_tests false false false false true false e f g = absurd cc
+    by_tests false false false false false true e f g = absurd cc
+    by_tests false false false false false false e f g = h
+
+pub removed-alike : (a b : Fields) → AlikeFields a b → AlikeOptions (remove_likely likely_subtags a) (remove_likely likely_subtags b)
+removed-alike a b h = by_options (add_likely likely_subtags a) (add_likely likely_subtags b) (added-alike a b h)
+  where
+    by_options : (o p : Option Fields) → AlikeOptions o p → AlikeOptions (option_map (least likely_subtags) o) (option_map (least likely_subtags) p)
+    by_options None None same = tt
+    by_options None (Some w) same = absurd same
+    by_options (Some v) None same = absurd same
+    by_options (Some v) (Some w) same = least-alike v w same

@@ -1,0 +1,179 @@
+-- The distance does not change with the case of letters.
+use Rattle.std.proofs.Common.{◌≡◌, ℕ, ◌+◌, true, false, cond, Bool, List, [], ◌∷◌, Option, None, Some, refl, sym, ap, ◌∙◌}
+use Rattle.std.specs.Prelude.{◌&&◌, ◌||◌, codes}
+use Rattle.std.specs.Option.{option_map_or}
+use Rattle.langtag_scan.specs.AlikeRecords.{AlikeRecords}
+use Rattle.langtag_scan.specs.Case.{Alike, are_alike}
+use Rattle.langtag_scan.specs.Record.{Record, spell}
+use Rattle.langtag_scan.specs.Tag.{IsNormal}
+use Rattle.langtag_scan.proofs.CaseLaw.{alike_normal, alike_parts}
+use Rattle.langtag_registry.proofs.AlikeForms.{spelled_alike}
+use Rattle.langtag_likely.specs.Distance as Distance
+use Rattle.langtag_likely.specs.Likely.{Fields, are_alike_fields, likely_for, language_alone, without_region, add_likely}
+use Rattle.langtag_likely.specs.LikelySubtags.{likely_subtags}
+use Rattle.langtag_likely.specs.Matching.{OfForm, language_replaced, region_replaced, region_alone, with_language, with_region, without_language, keeping_language, most_unknown, most_likely, matching_fields, matching_form}
+use Rattle.langtag_likely.specs.MatchingData.{language_aliases, region_aliases, language_rules, script_rules}
+use Rattle.langtag_likely.specs.Maximal.{fields_of}
+use Rattle.langtag_likely.specs.Rules.{Rule, fits, distance_by}
+use Rattle.langtag_likely.proofs.AlikeFields.{AlikeFields, AlikeOptions, are_alike-left, are_alike-right, fields-right, likely_for-alike, alone_alike, or_other-alike, added-alike}
+use Rattle.langtag_likely.proofs.FormsTwice.{fields-alike}
+
+-- ---- the matching form
+
+language-alike : (a b : Fields) → AlikeFields a b → AlikeFields (language_replaced a) (language_replaced b)
+unfolding language_replaced
+language-alike a b h = by_rows (likely_for language_aliases (language_alone a)) (likely_for language_aliases (language_alone b))
+    (likely_for-alike language_aliases (language_alone a) (language_alone b) (alone_alike a b h.language))
+  where
+    by_rows : (o p : Option Fields) → o ≡ p → AlikeFields (option_map_or (with_language a) o a) (option_map_or (with_language b) p b)
+    by_rows None None same = h
+    by_rows None (Some w) same = absurd cc
+    by_rows (Some v) None same = absurd cc
+    by_rows (Some v) (Some w) same =
+        let one : v ≡ w = cc in
+        rw (← one) (record { language = refl; script = or_other-alike a.script b.script v.script h.script; region = or_other-alike a.region b.region v.region h.region })
+
+region-alike : (a b : Fields) → AlikeFields a b → AlikeFields (region_replaced a) (region_replaced b)
+unfolding region_replaced
+region-alike a b h = by_rows (likely_for region_aliases (region_alone a)) (likely_for region_aliases (region_alone b))
+    (likely_for-alike region_aliases (region_alone a) (region_alone b) (record { language = refl; script = refl; region = h.region }))
+  where
+    by_rows : (o p : Option Fields) → o ≡ p → AlikeFields (option_map_or (with_region a) o a) (option_map_or (with_region b) p b)
+    by_rows None None same = h
+    by_rows None (Some w) same = absurd cc
+    by_rows (Some v) None same = absurd cc
+    by_rows (Some v) (Some w) same =
+        let one : v ≡ w = cc in
+        rw (← one) (record { language = h.language; script = h.script; region = refl })
+
+unknown-alike : (a b : Fields) → AlikeFields a b → AlikeFields (most_unknown a) (most_unknown b)
+unknown-alike a b h = by_options (add_likely likely_subtags (without_language a)) (add_likely likely_subtags (without_language b))
+    (added-alike (without_language a) (without_language b) (record { language = refl; script = h.script; region = h.region }))
+  where
+    by_options : (o p : Option Fields) → AlikeOptions o p → AlikeFields (option_map_or (keeping_language a) o a) (option_map_or (keeping_language b) p b)
+    by_options None None same = h
+    by_options None (Some w) same = absurd same
+    by_options (Some v) None same = absurd same
+    by_options (Some v) (Some w) same = record { language = h.language; script = same.script; region = same.region }
+
+likely-alike : (a b : Fields) → AlikeFields a b → AlikeFields (most_likely a) (most_likely b)
+unfolding most_likely
+likely-alike a b h = by_options (add_likely likely_subtags a) (add_likely likely_subtags b) (added-alike a b h)
+  where
+    by_options : (o p : Option Fields) → AlikeOptions o p → AlikeFields (option_map_or (λ most. most) o (most_unknown a)) (option_map_or (λ most. most) p (most_unknown b))
+    by_options None None same = unknown-alike a b h
+    by_options None (Some w) same = absurd same
+    by_options (Some v) None same = absurd same
+    by_options (Some v) (Some w) same = same
+
+form-alike : (r q : Record) → AlikeRecords r q → AlikeOptions (matching_form r) (matching_form q)
+unfolding matching_form
+form-alike r q same =
+    by_tests (are_alike (codes "und") (spell r)) (are_alike (codes "und") (spell q)) (are_alike-right (codes "und") (spell r) (spell q) (spelled_alike r q same))
+  where
+    fields : AlikeFields (matching_fields (fields_of r)) (matching_fields (fields_of q))
+    fields = likely-alike _ _ (region-alike _ _ (language-alike _ _ (fields-alike r q same)))
+
+    by_tests : (s t : Bool) → s ≡ t → AlikeOptions (cond s None (Some (matching_fields (fields_of r)))) (cond t None (Some (matching_fields (fields_of q))))
+    by_tests true true same = tt
+    by_tests true false same = absurd cc
+    by_tests false true same = absurd cc
+    by_tests false false same = fields
+
+-- what is said of the form of a text is said of that of a text that is alike
+of_alike :
+    (text other : List ℕ) → Alike text other → (P Q : Option Fields → Type 0) → ((f g : Option Fields) → AlikeOptions f g → P f → Q g) → OfForm text P → OfForm other Q
+unfolding IsNormal
+of_alike text other alike P Q becomes of = record {
+  none = λ not_normal. becomes None None tt (of.none (λ normal. not_normal (alike_normal text other alike normal)));
+  parts = λ q spells.
+      let r = alike_parts other text (sym alike) q spells in
+      becomes (matching_form r.0) (matching_form q) (form-alike r.0 q (sym r.2)) (of.parts r.0 r.1);
+}
+
+-- ---- the distance of fields
+
+distance_by-alike :
+    (rules : List Rule) (otherwise : ℕ) (a b c d : Fields) → AlikeFields a b → AlikeFields c d → distance_by rules otherwise a c ≡ distance_by rules otherwise b d
+distance_by-alike [] otherwise a b c d h k = refl
+distance_by-alike (rule ∷ rules) otherwise a b c d h k =
+    ap (λ t. cond (t && are_alike_fields rule.supported c) rule.distance (distance_by rules otherwise a c)) (fields-right rule.desired a b h)
+    ∙ ap (λ t. cond (are_alike_fields rule.desired b && t) rule.distance (distance_by rules otherwise a c)) (fields-right rule.supported c d k)
+    ∙ ap (cond (fits b d rule) rule.distance) (distance_by-alike rules otherwise a b c d h k)
+
+both-alike : (a b c d : List ℕ) → Alike a b → Alike c d → are_alike a c ≡ are_alike b d
+both-alike a b c d h k = are_alike-left a b c h ∙ are_alike-right b c d k
+
+among-alike : (words : List (List ℕ)) (a b : List ℕ) → Alike a b → Distance.is_among words a ≡ Distance.is_among words b
+among-alike [] a b h = refl
+among-alike (word ∷ words) a b h = rw (are_alike-right word a b h, among-alike words a b h) refl
+
+outside-alike : (set : Distance.RegionSet) (a b : List ℕ) → Alike a b → Distance.is_outside set a ≡ Distance.is_outside set b
+outside-alike set a b h = rw (among-alike set.inside a b h, among-alike set.partly a b h) refl
+
+side-alike : (set : Distance.RegionSet) (a b c d : List ℕ) → Alike a b → Alike c d → Distance.by_side set a c ≡ Distance.by_side set b d
+side-alike set a b c d h k =
+    rw (among-alike set.inside a b h, among-alike set.inside c d k, among-alike set.partly a b h, among-alike set.partly c d k) refl
+
+british-alike : (a b c d : List ℕ) → Alike a b → Alike c d → Distance.is_british a c ≡ Distance.is_british b d
+british-alike a b c d h k = rw (are_alike-right (codes "GB") a b h, outside-alike Distance.en_us c d k) refl
+
+english-alike : (a b c d : List ℕ) → Alike a b → Alike c d → Distance.english a c ≡ Distance.english b d
+english-alike a b c d h k =
+    ap (λ t. cond (t || Distance.is_british c a) 3 (Distance.by_side Distance.en_us a c)) (british-alike a b c d h k)
+    ∙ ap (λ t. cond (Distance.is_british b d || t) 3 (Distance.by_side Distance.en_us a c)) (british-alike c d a b k h)
+    ∙ ap (cond (Distance.is_british b d || Distance.is_british d b) 3) (side-alike Distance.en_us a b c d h k)
+
+by_language-alike : (a b c d : Fields) → AlikeFields a b → AlikeFields c d → Distance.by_language a c ≡ Distance.by_language b d
+by_language-alike a b c d h k =
+    rw (
+      are_alike-right (codes "ar") _ _ h.language,
+      are_alike-right (codes "en") _ _ h.language,
+      are_alike-right (codes "es") _ _ h.language,
+      are_alike-right (codes "pt") _ _ h.language,
+      are_alike-right (codes "zh") _ _ h.language,
+      are_alike-right (codes "Hant") _ _ h.script,
+      are_alike-right (codes "Hant") _ _ k.script,
+      side-alike Distance.maghreb _ _ _ _ h.region k.region,
+      side-alike Distance.americas _ _ _ _ h.region k.region,
+      side-alike Distance.cnsar _ _ _ _ h.region k.region,
+      english-alike _ _ _ _ h.region k.region,
+    ) refl
+
+languages-alike : (a b c d : Fields) → AlikeFields a b → AlikeFields c d → Distance.language_distance a c ≡ Distance.language_distance b d
+unfolding Distance.language_distance
+languages-alike a b c d h k =
+    rw (both-alike _ _ _ _ h.language k.language, distance_by-alike language_rules 80 (language_alone a) (language_alone b) (language_alone c) (language_alone d) (alone_alike a b h.language) (alone_alike c d k.language)) refl
+
+scripts-alike : (a b c d : Fields) → AlikeFields a b → AlikeFields c d → Distance.script_distance a c ≡ Distance.script_distance b d
+unfolding Distance.script_distance
+scripts-alike a b c d h k =
+    rw (
+      both-alike _ _ _ _ h.script k.script,
+      distance_by-alike script_rules 50 (without_region a) (without_region b) (without_region c) (without_region d)
+          (record { language = h.language; script = h.script; region = refl }) (record { language = k.language; script = k.script; region = refl }),
+    ) refl
+
+regions-alike : (a b c d : Fields) → AlikeFields a b → AlikeFields c d → Distance.region_distance a c ≡ Distance.region_distance b d
+unfolding Distance.region_distance
+regions-alike a b c d h k =
+    rw (both-alike _ _ _ _ h.region k.region, both-alike _ _ _ _ h.language k.language, by_language-alike a b c d h k) refl
+
+-- ---- the law
+
+forms-alike :
+    (a b c d : List ℕ) → Alike a b → Alike c d → (f g v w : Option Fields) → AlikeOptions f g → AlikeOptions v w → Distance.distance_of_forms a c f v ≡ Distance.distance_of_forms b d g w
+forms-alike a b c d h k None None v w same also = rw (both-alike a b c d h k) refl
+forms-alike a b c d h k None (Some y) v w same also = absurd same
+forms-alike a b c d h k (Some x) None v w same also = absurd same
+forms-alike a b c d h k (Some x) (Some y) None None same also = rw (both-alike a b c d h k) refl
+forms-alike a b c d h k (Some x) (Some y) None (Some z) same also = absurd also
+forms-alike a b c d h k (Some x) (Some y) (Some z) None same also = absurd also
+forms-alike a b c d h k (Some x) (Some y) (Some z) (Some u) same also =
+    ap (λ n. n + (Distance.script_distance x z + Distance.region_distance x z)) (languages-alike x y z u same also)
+    ∙ ap (λ n. Distance.language_distance y u + (n + Distance.region_distance x z)) (scripts-alike x y z u same also)
+    ∙ ap (λ n. Distance.language_distance y u + (Distance.script_distance y u + n)) (regions-alike x y z u same also)
+
+pub ignores_case : (desired supported : List ℕ) (n : ℕ) → Distance.IsDistance desired supported n → Distance.IgnoresCase desired supported n
+ignores_case desired supported n is = λ d s h k.
+    of_alike desired d h _ _ (λ f g same inner. of_alike supported s k _ _ (λ v w also far. far ∙ forms-alike desired d supported s h k f g v w same also) inner) is

@@ -1,0 +1,22 @@
+use Rattle.std.proofs.Common.{◌<◌, get_or, ap, arith}
+use Rattle.langtag_registry.proofs.Values.{index_inside}
+use Rattle.langtag_likely.specs.declared.matching_tables.TheConstants.{SCRIPT_RULE_DISTANCES}
+use Rattle.langtag_likely.proofs.MatchingTables.{script_rule_count, script_rule_distances, script_rules_some, script_rules_most}
+use Rattle.langtag_likely.proofs.RulesFound.{some_at}
+use Rattle.langtag_likely.proofs.rule_distance.script_rule_distance.Goals as goal
+
+pub bounds-index : goal.bounds-index
+bounds-index c = omega (arith, c.requires, script_rule_count)
+
+pub returns-clause-distance : goal.returns-clause-distance
+returns-clause-distance c = ap (λ list. get_or list c.args.index 0) script_rule_distances
+
+pub returns-clause-some : goal.returns-clause-some
+returns-clause-some c =
+    let some : 0 < get_or SCRIPT_RULE_DISTANCES c.args.index 0 = some_at SCRIPT_RULE_DISTANCES c.args.index script_rules_some (omega (arith, c.requires, script_rule_count)) in
+    omega (arith, some)
+
+pub returns-clause-most : goal.returns-clause-most
+returns-clause-most c =
+    let most : get_or SCRIPT_RULE_DISTANCES c.args.index 0 < 51 = index_inside 51 SCRIPT_RULE_DISTANCES c.args.index script_rules_most (omega (arith, c.requires, script_rule_count)) in
+    omega (arith, most)

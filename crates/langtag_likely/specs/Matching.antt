@@ -1,0 +1,60 @@
+-- The matching form of a tag: the fields by which two tags are compared (UTS #35, part 1, section 'Language Matching': likely
+-- subtags are added to both first, in what is canonical).
+use Rattle.std.specs.Prelude.{ℕ, List, [], Option, None, Some, codes, if◌then◌else◌}
+use Rattle.std.specs.Option.{option_map_or}
+use Rattle.langtag_scan.specs.Case.{are_alike}
+use Rattle.langtag_scan.specs.Record.{Record, EachRecord, spell}
+use Rattle.langtag_scan.specs.Tag.{IsNormal}
+use Rattle.langtag_likely.specs.Likely.{Fields, likely_for, or_other, language_alone, add_likely}
+use Rattle.langtag_likely.specs.LikelySubtags.{likely_subtags}
+use Rattle.langtag_likely.specs.MatchingData.{language_aliases, region_aliases}
+use Rattle.langtag_likely.specs.Maximal.{fields_of}
+
+-- ---- what is deprecated is replaced
+
+abbrev pub region_alone : Fields → Fields
+region_alone f = record { language = []; script = []; region = f.region }
+
+-- another language, and what it brings where there is no script or no region
+abbrev pub with_language : Fields → Fields → Fields
+with_language f to = record { language = to.language; script = or_other f.script to.script; region = or_other f.region to.region }
+
+abbrev pub with_region : Fields → Fields → Fields
+with_region f to = record { language = f.language; script = f.script; region = to.region }
+
+unfoldable pub language_replaced : Fields → Fields
+language_replaced f = option_map_or (with_language f) (likely_for language_aliases (language_alone f)) f
+
+unfoldable pub region_replaced : Fields → Fields
+region_replaced f = option_map_or (with_region f) (likely_for region_aliases (region_alone f)) f
+
+-- ---- likely subtags are added
+
+abbrev pub without_language : Fields → Fields
+without_language f = record { language = []; script = f.script; region = f.region }
+
+-- the language as it was
+abbrev pub keeping_language : Fields → Fields → Fields
+keeping_language f likely = record { language = f.language; script = likely.script; region = likely.region }
+
+-- of a language of which nothing is known: script and region as if it were not there
+abbrev pub most_unknown : Fields → Fields
+most_unknown f = option_map_or (keeping_language f) (add_likely likely_subtags (without_language f)) f
+
+unfoldable pub most_likely : Fields → Fields
+most_likely f = option_map_or (λ most. most) (add_likely likely_subtags f) (most_unknown f)
+
+-- the matching form of fields
+abbrev pub matching_fields : Fields → Fields
+matching_fields f = most_likely (region_replaced (language_replaced f))
+
+-- ---- the form of a tag
+
+-- a tag `und` and no more has none; variants, extensions and private use are of no account
+unfoldable pub matching_form : Record → Option Fields
+matching_form r = if are_alike (codes "und") (spell r) then None else Some (matching_fields (fields_of r))
+
+-- what is said of the matching form of a tag: an irregular tag and one of private use have none
+pub record OfForm (tag : List ℕ) (P : Option Fields → Type 0) : Type 0 where
+  pub none : (IsNormal tag → ⊥) → P None
+  pub parts : EachRecord tag (λ r. P (matching_form r))

@@ -1,0 +1,46 @@
+-- Rules of language matching (UTS #35, part 1, section 'Language Matching'): the distance of two languages, or of two scripts.
+use Rattle.std.specs.Prelude.{ℕ, ◌+◌, ◌*◌, ◌-◌, ◌&&◌, Bool, List, [], ◌∷◌, fold, if◌then◌else◌}
+use Rattle.langtag_likely.specs.Likely.{Fields, are_alike_fields}
+
+-- the distance from what is desired to what is supported
+pub record Rule : Type 0 where
+  pub desired : Fields
+  pub supported : Fields
+  pub distance : ℕ
+
+-- ---- how the lists of data are read
+
+-- a number in decimal digits
+abbrev pub decimal : List ℕ → ℕ
+decimal digits = fold (λ number digit. number * 10 + (digit - 48)) 0 digits
+
+-- of words, three a row: two languages, and a distance
+abbrev pub rules_of_languages : List (List ℕ) → List Rule
+rules_of_languages [] = []
+rules_of_languages (d ∷ []) = []
+rules_of_languages (d ∷ s ∷ []) = []
+rules_of_languages (d ∷ s ∷ n ∷ words) =
+    record { desired = record { language = d; script = []; region = [] }; supported = record { language = s; script = []; region = [] }; distance = decimal n }
+    ∷ rules_of_languages words
+
+-- of words, five a row: a language and a script, twice, and a distance
+abbrev pub rules_of_scripts : List (List ℕ) → List Rule
+rules_of_scripts [] = []
+rules_of_scripts (d ∷ []) = []
+rules_of_scripts (d ∷ a ∷ []) = []
+rules_of_scripts (d ∷ a ∷ s ∷ []) = []
+rules_of_scripts (d ∷ a ∷ s ∷ b ∷ []) = []
+rules_of_scripts (d ∷ a ∷ s ∷ b ∷ n ∷ words) =
+    record { desired = record { language = d; script = a; region = [] }; supported = record { language = s; script = b; region = [] }; distance = decimal n }
+    ∷ rules_of_scripts words
+
+-- ---- a rule for two
+
+abbrev pub fits : Fields → Fields → Rule → Bool
+fits desired supported rule = are_alike_fields rule.desired desired && are_alike_fields rule.supported supported
+
+-- the distance by the rule for these, or else that of the rule for all
+abbrev pub distance_by : List Rule → ℕ → Fields → Fields → ℕ
+distance_by [] otherwise desired supported = otherwise
+distance_by (rule ∷ rules) otherwise desired supported =
+    if fits desired supported rule then rule.distance else distance_by rules otherwise desired supported

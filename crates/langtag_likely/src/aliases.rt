@@ -1,0 +1,103 @@
+//! What is deprecated in the fields of a tag, replaced.
+ghost use Rattle.std.specs.Prelude.{◌≡◌, map};
+ghost use Rattle.std.specs.Option.{option_map};
+ghost use Rattle.langtag_registry.specs.Numbers.{letter_number, folded_number};
+ghost use Rattle.langtag_likely.specs.Likely.{likely_for, language_alone};
+ghost use Rattle.langtag_likely.specs.Matching as spec;
+ghost use Rattle.langtag_likely.specs.MatchingData.{language_aliases, region_aliases};
+ghost use Rattle.langtag_likely.specs.Rows.{AreKeys};
+ghost use Rattle.langtag_likely.specs.Texts.{field_texts};
+
+use crate::fields::or_other;
+use crate::keys::{index_of, index_of_short, short_number};
+use crate::matching_tables as tables;
+use crate::names::name_at;
+use crate::rows::language_number;
+use crate::tag_fields::TagFields;
+
+/// Returns fields with another language in place of one that is deprecated, and with the script that it brings.
+#[tactic(auto, unfolding(crate::specs::Matching::language_replaced))]
+pub(crate) fn language_replaced<'a>(fields: TagFields<'a>) -> TagFields<'a>
+    ensures { field_texts result ≡ spec.language_replaced (field_texts fields.entry) }
+{
+    match language_alias(fields) {
+        Some(other) => fields.with_language(other),
+        None => fields,
+    }
+}
+
+/// Returns fields with another region in place of one that is deprecated.
+#[tactic(auto, unfolding(crate::specs::Matching::region_replaced))]
+pub(crate) fn region_replaced<'a>(fields: TagFields<'a>) -> TagFields<'a>
+    ensures { field_texts result ≡ spec.region_replaced (field_texts fields.entry) }
+{
+    match region_alias(fields) {
+        Some(other) => fields.with_region(other),
+        None => fields,
+    }
+}
+
+/// Returns what the language is replaced by.
+fn language_alias(fields: TagFields<'_>) -> Option<TagFields<'static>>
+    ensures { option_map field_texts result ≡ likely_for language_aliases (language_alone (field_texts fields.entry)) }
+{
+    if fields.language.len() > 3 {
+        return None;
+    }
+    let index = index_of_short(alias_keys(), language_number(fields.language) as u16)?;
+    Some(TagFields {
+        language: name_at(&tables::ALIAS_LANGUAGES, index as u8),
+        script: name_at(&tables::ALIAS_SCRIPTS, index as u8),
+        region: b"",
+    })
+}
+
+/// Returns what the region is replaced by.
+fn region_alias(fields: TagFields<'_>) -> Option<TagFields<'static>>
+    ensures { option_map field_texts result ≡ likely_for region_aliases (spec.region_alone (field_texts fields.entry)) }
+{
+    let index = index_of(region_alias_keys(), short_number(fields.region))?;
+    Some(TagFields {
+        language: b"",
+        script: b"",
+        region: name_at(&tables::REGION_ALIAS_NAMES, index as u8),
+    })
+}
+
+fn alias_keys() -> &'static [u16]
+    ensures numbers { result.now ≡ map (λ row. letter_number row.from.language) language_aliases }
+    ensures searched { AreKeys result.now }
+{
+    &tables::ALIAS_KEYS
+}
+
+fn region_alias_keys() -> &'static [u32]
+    ensures numbers { result.now ≡ map (λ row. folded_number row.from.region) region_aliases }
+    ensures searched { AreKeys result.now }
+{
+    &tables::REGION_ALIAS_KEYS
+}
+
+impl<'a> TagFields<'a> {
+    /// Returns another language with what it brings where these fields have no script or no region.
+    fn with_language(self, other: TagFields<'a>) -> TagFields<'a>
+        ensures { field_texts result ≡ spec.with_language (field_texts self.entry) (field_texts other.entry) }
+    {
+        TagFields {
+            language: other.language,
+            script: or_other(self.script, other.script),
+            region: or_other(self.region, other.region),
+        }
+    }
+
+    /// Returns these fields with the region of others.
+    fn with_region(self, other: TagFields<'a>) -> TagFields<'a>
+        ensures { field_texts result ≡ spec.with_region (field_texts self.entry) (field_texts other.entry) }
+    {
+        TagFields {
+            language: self.language,
+            script: self.script,
+            region: other.region,
+        }
+    }
+}

@@ -1,0 +1,70 @@
+//! The fields by which two tags are compared (UTS #35, part 1, section 'Language Matching').
+ghost use Rattle.std.specs.Prelude.{◌≡◌};
+ghost use Rattle.std.specs.Option.{option_map};
+ghost use Rattle.langtag.specs.Text.{lang_tag_text};
+ghost use Rattle.langtag_likely.specs.Matching as spec;
+ghost use Rattle.langtag_likely.specs.Texts.{field_texts};
+
+use crate::aliases::{language_replaced, region_replaced};
+use crate::likely::add_likely;
+use crate::tag_fields::TagFields;
+use langtag::LangTag;
+use langtag_scan::case_insensitive_eq;
+
+/// Returns the matching form of a tag: its fields, of which what is deprecated is replaced, with the likely ones in place of
+/// those that are empty. A tag `und`, an irregular tag and one of private use have none.
+pub(crate) fn matching_form<'a>(tag: LangTag<'a>) -> Option<TagFields<'a>>
+    ensures { spec.OfForm (lang_tag_text tag.entry) (λ form. option_map field_texts result ≡ form) }
+{
+    if case_insensitive_eq(b"und", tag.as_bytes()) {
+        return None;
+    }
+    let normal = tag.as_normal()?;
+    Some(matching_fields(TagFields::of(normal)))
+}
+
+/// Returns the matching form of fields.
+pub(crate) fn matching_fields<'a>(fields: TagFields<'a>) -> TagFields<'a>
+    ensures { field_texts result ≡ spec.matching_fields (field_texts fields.entry) }
+{
+    most_likely(region_replaced(language_replaced(fields)))
+}
+
+/// Returns fields with the likely ones in place of those that are empty. Where nothing is known of a language, script and region
+/// are as if there were none.
+#[tactic(auto, unfolding(crate::specs::Matching::most_likely))]
+fn most_likely<'a>(fields: TagFields<'a>) -> TagFields<'a>
+    ensures { field_texts result ≡ spec.most_likely (field_texts fields.entry) }
+{
+    if let Some(most) = add_likely(fields) {
+        return most;
+    }
+    match add_likely(fields.without_language()) {
+        Some(likely) => fields.keeping_language(likely),
+        None => fields,
+    }
+}
+
+impl<'a> TagFields<'a> {
+    /// Returns the script and the region.
+    fn without_language(self) -> TagFields<'a>
+        ensures { field_texts result ≡ spec.without_language (field_texts self.entry) }
+    {
+        TagFields {
+            language: b"",
+            script: self.script,
+            region: self.region,
+        }
+    }
+
+    /// Returns the language of these fields, and the script and the region of others.
+    fn keeping_language(self, others: TagFields<'a>) -> TagFields<'a>
+        ensures { field_texts result ≡ spec.keeping_language (field_texts self.entry) (field_texts others.entry) }
+    {
+        TagFields {
+            language: self.language,
+            script: others.script,
+            region: others.region,
+        }
+    }
+}

@@ -1,0 +1,108 @@
+"""The data of language matching: aliases, the distances of languages and scripts, and the sets of regions."""
+import sys
+
+# the languages of language-alias.txt that the matching form replaces
+ALIASES = "arb cmn in iw ji jw mo sh tl".split()
+
+# the rules of region-distance.txt, as specs/Distance.antt has them: language, script, the set, and what stands between its two sides
+SIDES = [("ar", "*", "maghreb"), ("en", "*", "enUS"), ("es", "*", "americas"), ("pt", "*", "americas"), ("zh", "Hant", "cnsar")]
+
+
+def letter_number(text):
+    """The letters of a text as the digits of a number in base 26, the first letter being 1."""
+    number = 0
+    for letter in text.lower():
+        number = number * 26 + ord(letter) - 96
+    return number
+
+
+def folded_number(text):
+    return int.from_bytes(text.lower().encode(), "big")
+
+
+def each(name, premise, holds, rows):
+    for row in rows:
+        if not holds(row):
+            sys.exit(f"{name}: {premise}: {row}")
+
+
+def once(name, rows):
+    seen = set()
+    each(name, "a left side once", lambda row: not (row in seen or seen.add(row)), rows)
+
+
+def is_language(text):
+    return len(text) in (2, 3) and text.isalpha() and text.islower()
+
+
+class Matching:
+    """The lists of language matching, each in the order of its key."""
+
+    def __init__(self, read, likely):
+        self.likely = likely
+        self.aliases = sorted(([row[0]] + [text.strip("-") for text in row[1:]] for row in read("language-alias.txt") if row[0] in ALIASES),
+                              key=lambda row: letter_number(row[0]))
+        self.region_aliases = sorted((row for row in read("region-alias.txt") if len(row[0]) == 2), key=lambda row: folded_number(row[0]))
+        self.languages = self.both_ways(((d, s), int(n), one_way) for d, s, n, one_way in read("language-distance.txt"))
+        self.languages.sort(key=self.language_key)
+        self.scripts = self.both_ways((((d, a), (s, b)), int(n), one_way) for d, a, s, b, n, one_way in read("script-distance.txt"))
+        self.scripts.sort(key=self.script_key)
+        self.sets = self.region_sets(read("region-sets.txt"), {row[0]: set(row[1:]) for row in read("region-groups.txt")})
+        self.test(read)
+
+    @staticmethod
+    def both_ways(rules):
+        """Each rule in the directions in which it holds."""
+        rows = []
+        for (desired, supported), distance, one_way in rules:
+            rows.append((desired, supported, distance))
+            if one_way == "0":
+                rows.append((supported, desired, distance))
+        return rows
+
+    @staticmethod
+    def region_sets(rows, groups):
+        """Of each set the regions that lie inside, and the groups that lie partly inside."""
+        sets = {}
+        for name, *regions in rows:
+            countries = {region for region in regions if region not in groups}
+            inside = countries | {group for group, its in groups.items() if its <= countries}
+            partly = {group for group, its in groups.items() if its & countries and not its <= countries}
+            sets[name.strip("$")] = (sorted(inside, key=folded_number), sorted(partly, key=folded_number))
+        return sets
+
+    @staticmethod
+    def language_key(row):
+        return letter_number(row[0]) * 32768 + letter_number(row[1])
+
+    def half_key(self, language, script):
+        """As the key of a left side of likely subtags without a region."""
+        return letter_number(language) * 131072 + (self.likely.scripts.index(script) + 1) * 512 + 1
+
+    def script_key(self, row):
+        return self.half_key(*row[0]) * 4294967296 + self.half_key(*row[1])
+
+    def test(self, read):
+        each("language-alias.txt", "a language of two or three letters", lambda row: is_language(row[0]) and is_language(row[1]), self.aliases)
+        each("language-alias.txt", "no target is an alias", lambda row: row[1] not in ALIASES, self.aliases)
+        once("language-alias.txt", [row[0] for row in self.aliases])
+        each("language-alias.txt", "each is there", lambda name: name in [row[0] for row in self.aliases], ALIASES)
+        each("region-alias.txt", "no target is an alias", lambda row: row[1] not in [other[0] for other in self.region_aliases], self.region_aliases)
+        each("region-alias.txt", "regions of two letters", lambda row: all(len(text) == 2 and text.isalpha() for text in row), self.region_aliases)
+        once("region-alias.txt", [row[0] for row in self.region_aliases])
+        once("language-distance.txt", [row[:2] for row in self.languages])
+        each("language-distance.txt", "a language of two or three letters", lambda row: is_language(row[0]) and is_language(row[1]), self.languages)
+        each("language-distance.txt", "a distance from 1 to 80", lambda row: 1 <= row[2] <= 80, self.languages)
+        once("script-distance.txt", [row[:2] for row in self.scripts])
+        each("script-distance.txt", "a language of two or three letters", lambda row: is_language(row[0][0]) and is_language(row[1][0]), self.scripts)
+        each("script-distance.txt", "a script of the likely subtags", lambda row: row[0][1] in self.likely.scripts and row[1][1] in self.likely.scripts, self.scripts)
+        each("script-distance.txt", "a distance from 1 to 50", lambda row: 1 <= row[2] <= 50, self.scripts)
+        rules = []
+        for language, script, name in SIDES:
+            rules.append([language, script, f"${name}", f"${name}", "4"])
+            if language == "en":
+                rules.append([language, script, f"$!{name}", "GB", "3"])
+            rules.append([language, script, f"$!{name}", f"$!{name}", "4"])
+            rules.append([language, script, "*", "*", "5"])
+        if read("region-distance.txt") != rules + [["*", "*", "*", "*", "4"]]:
+            sys.exit("region-distance.txt: other rules than those of specs/Distance.antt")
