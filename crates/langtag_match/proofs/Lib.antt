@@ -13,4 +13,5 @@ pub mod Readings
 pub mod Spaces
 pub mod Stable
 pub mod Thousandths
+pub mod WantedTexts
 pub mod Wildcards

@@ -9,4 +9,5 @@ pub mod LookUp
 pub mod Range
 pub mod Stable
 pub mod Text
+pub mod Wanted
 pub mod Weight

@@ -97,7 +97,7 @@ fn basic_range(bytes: &[u8]) -> Option<LanguageRange<'_>>
 }
 
 /// Returns where a text begins and ends without the white space around it.
-fn trimmed_place(text: &[u8]) -> (usize, usize)
+pub(crate) fn trimmed_place(text: &[u8]) -> (usize, usize)
     ensures ordered { result.0 ≤ result.1 }
     ensures within { result.1 ≤ length text.now }
     ensures space { IsTrue (spec.is_ows (take result.0 text.now)) }

@@ -21,6 +21,7 @@
 mod accept_language;
 mod accept_language_error;
 mod basic;
+mod cut;
 mod element;
 mod extended;
 mod fallbacks;
@@ -29,6 +30,8 @@ mod filter_rule;
 mod language_range;
 mod lookup;
 mod range_text;
+mod wanted;
+mod wanted_element;
 mod weight;
 mod weighted_range;
 
@@ -39,5 +42,6 @@ pub use fallbacks::Fallbacks;
 pub use filter::{Filtered, filter_basic, filter_extended};
 pub use language_range::{InvalidLanguageRange, LanguageRange, LanguageRangeBuf};
 pub use lookup::look_up;
+pub use wanted::{WantedRange, WantedRanges, wanted_ranges};
 pub use weight::weight_of;
 pub use weighted_range::WeightedRange;

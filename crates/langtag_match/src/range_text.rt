@@ -31,7 +31,7 @@ pub(crate) fn is_basic_range(text: &str) -> bool
 }
 
 /// Returns whether the bytes are 1 to 8 letters.
-fn is_first_subtag(bytes: &[u8]) -> bool
+pub(crate) fn is_first_subtag(bytes: &[u8]) -> bool
     ensures { result ≡ spec.is_first_subtag bytes.now }
 {
     !bytes.is_empty() && bytes.len() <= 8 && are_letters(bytes)

@@ -38,7 +38,7 @@ fn is_fraction(text: &[u8], greatest: u8) -> bool
 }
 
 /// Returns whether the bytes are digits, none above the greatest.
-fn are_digits(bytes: &[u8], greatest: u8) -> bool
+pub(crate) fn are_digits(bytes: &[u8], greatest: u8) -> bool
     ensures { result ≡ list_all (is_in_range 48 greatest) bytes.now }
 {
     bytes.iter().all(|digit| (b'0'..=greatest).contains(digit))
@@ -56,7 +56,7 @@ fn thousandths(qvalue: &[u8]) -> u32
 }
 
 /// Returns the digit at an index, 0 past the end.
-fn digit_at(text: &[u8], index: usize) -> u32
+pub(crate) fn digit_at(text: &[u8], index: usize) -> u32
     ensures value { result ≡ slice_index_or text.now index 48 - 48 }
     ensures small { result < 256 }
 {

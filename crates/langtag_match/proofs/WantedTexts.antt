@@ -1,0 +1,218 @@
+-- Ranges in which "_" is read as "-", and the parts of a list that is cut one after the other.
+use Rattle.std.proofs.Common.{◌≡◌, ◌⊎◌, take, not, nat_lt, inl, inr, cond, Option, ℕ, ◌+◌, ◌<◌, ◌≤◌, Bool, true, false, ◌&&◌, ◌||◌, List, [], ◌∷◌, Some, None, map, length, length-drop, ap, refl, sym, ◌∙◌, arith}
+use Rattle.std.specs.List.{list_all, list_any, slice_split, onto_first, before_first, after_first, position, position_or_len, cons_option, filter_map}
+use Rattle.std.proofs.lemmas.Bool.{and_parts}
+use Rattle.std.proofs.lemmas.Bool.Decides.{nat_tests, eqb_tells}
+use Rattle.std.proofs.lemmas.Grind.{common_steps}
+use Rattle.std.proofs.lemmas.List.{length-map}
+use Rattle.std.proofs.lemmas.List.Splits.{slice_split-cons_yes, slice_split-cons_no, length-slice_split}
+use Rattle.std.proofs.lemmas.List.Sums.{count_by-le-length, prefix_len-le-length}
+use Rattle.langtag.specs.Class.{has_length, is_letter, is_digit, is_alphanumeric, are_letters, is_private_subtag}
+use Rattle.langtag.specs.Subtags.{is_hyphen, segments, subtags}
+use Rattle.langtag_match.specs.AcceptLanguage.{items, is_comma, is_semicolon, trimmed}
+use Rattle.langtag_match.specs.Range.{is_star, is_first_subtag, are_basic_range, is_basic_range}
+use Rattle.langtag_match.proofs.BasicRanges.{list_all-weaker}
+use Rattle.langtag_match.proofs.Places.{any_at_first, none_at_length}
+use Rattle.langtag_match.specs.Wanted.{hyphened_byte, hyphened, is_mark, is_q_name, is_q_parameter, is_equals, value_weight, wanted_weight, wanted, wanted_elements}
+
+-- ---- a byte that is read as a hyphen is one
+
+is_hyphen-read : (b : ℕ) → is_hyphen (hyphened_byte b) ≡ is_mark b
+is_hyphen-read b = grind (arith, nat_tests)
+
+pub is_letter-read : (b : ℕ) → is_letter (hyphened_byte b) ≡ is_letter b
+unfolding is_letter
+is_letter-read b = elim (eqb_tells b 95) [
+  | inl same ↦ rw (same.0, same.1) refl
+  | inr other ↦ rw other.0 refl
+]
+
+pub is_digit-read : (b : ℕ) → is_digit (hyphened_byte b) ≡ is_digit b
+unfolding is_digit
+is_digit-read b = elim (eqb_tells b 95) [
+  | inl same ↦ rw (same.0, same.1) refl
+  | inr other ↦ rw other.0 refl
+]
+
+is_alphanumeric-read : (b : ℕ) → is_alphanumeric (hyphened_byte b) ≡ is_alphanumeric b
+is_alphanumeric-read b = rw (is_letter-read b, is_digit-read b) refl
+
+pub list_all-read : (test : ℕ → Bool) → ((b : ℕ) → test (hyphened_byte b) ≡ test b) → (text : List ℕ) → list_all test (hyphened text) ≡ list_all test text
+list_all-read test same [] = refl
+list_all-read test same (b ∷ text) = rw (same b, list_all-read test same text) refl
+
+pub length-read : (text : List ℕ) → length (hyphened text) ≡ length text
+length-read text = length-map text hyphened_byte
+
+is_first_subtag-read : (text : List ℕ) → is_first_subtag (hyphened text) ≡ is_first_subtag text
+is_first_subtag-read text = rw (length-read text, list_all-read is_letter is_letter-read text) refl
+
+is_private_subtag-read : (text : List ℕ) → is_private_subtag (hyphened text) ≡ is_private_subtag text
+unfolding is_private_subtag
+is_private_subtag-read text = rw (length-read text, list_all-read is_alphanumeric is_alphanumeric-read text) refl
+
+-- ---- the subtags of a text that is read so
+
+map-onto_first : (b : ℕ) (parts : List (List ℕ)) → map hyphened (onto_first b parts) ≡ onto_first (hyphened_byte b) (map hyphened parts)
+map-onto_first b [] = refl
+map-onto_first b (part ∷ parts) = refl
+
+pub segments-read : (text : List ℕ) → segments (hyphened text) ≡ map hyphened (slice_split is_mark text)
+segments-read [] = refl
+segments-read (b ∷ text) = by_first (is_mark b) refl (segments-read text)
+  where
+    by_first : (cut : Bool) → is_mark b ≡ cut → segments (hyphened text) ≡ map hyphened (slice_split is_mark text) → segments (hyphened (b ∷ text)) ≡ map hyphened (slice_split is_mark (b ∷ text))
+    by_first true is others =
+        slice_split-cons_yes is_hyphen (hyphened_byte b) (hyphened text) (is_hyphen-read b ∙ is)
+        ∙ ap (λ parts. [] ∷ parts) others
+        ∙ ap (map hyphened) (sym (slice_split-cons_yes is_mark b text is))
+    by_first false is others =
+        slice_split-cons_no is_hyphen (hyphened_byte b) (hyphened text) (is_hyphen-read b ∙ is)
+        ∙ ap (onto_first (hyphened_byte b)) others
+        ∙ sym (map-onto_first b (slice_split is_mark text))
+        ∙ ap (map hyphened) (sym (slice_split-cons_no is_mark b text is))
+
+-- ---- the parts of a list that is cut
+
+-- the first part, and those of the rest; nothing is left where it was not cut
+pub cut_or_whole :
+    (p : ℕ → Bool) (text : List ℕ) →
+    (slice_split p text ≡ before_first p text ∷ slice_split p (after_first p text)) ⊎ ((slice_split p text ≡ before_first p text ∷ []) × (after_first p text ≡ []))
+cut_or_whole p [] = inr (refl, refl)
+cut_or_whole p (b ∷ text) = by_first (p b) refl (cut_or_whole p text)
+  where
+    by_first :
+        (cut : Bool) → p b ≡ cut →
+        (slice_split p text ≡ before_first p text ∷ slice_split p (after_first p text)) ⊎ ((slice_split p text ≡ before_first p text ∷ []) × (after_first p text ≡ [])) →
+        (slice_split p (b ∷ text) ≡ before_first p (b ∷ text) ∷ slice_split p (after_first p (b ∷ text))) ⊎
+        ((slice_split p (b ∷ text) ≡ before_first p (b ∷ text) ∷ []) × (after_first p (b ∷ text) ≡ []))
+    by_first true is others = inl (rw is refl)
+    by_first false is others = elim others [
+      | inl more ↦ inl (rw (is, more) (grind (arith, common_steps)))
+      | inr whole ↦ inr (rw (is, whole.0) (grind (arith, common_steps)), grind (arith, common_steps))
+    ]
+
+-- ---- which texts are ranges so
+
+is_star-read : (text : List ℕ) → is_star (hyphened text) ≡ is_star text
+is_star-read [] = refl
+is_star-read (b ∷ []) = elim (eqb_tells b 95) [
+  | inl same ↦ rw (same.0, same.1) refl
+  | inr other ↦ rw other.0 refl
+]
+is_star-read (b ∷ c ∷ text) = elim (eqb_tells b 95) [
+  | inl same ↦ rw (same.0, same.1) refl
+  | inr other ↦ rw other.0 refl
+]
+
+are_private-read : (parts : List (List ℕ)) → list_all is_private_subtag (map hyphened parts) ≡ list_all is_private_subtag parts
+are_private-read [] = refl
+are_private-read (part ∷ parts) = rw (is_private_subtag-read part, are_private-read parts) refl
+
+letters_alphanumeric : (text : List ℕ) → are_letters text ≡ true → list_all is_alphanumeric text ≡ true
+letters_alphanumeric text letters = list_all-weaker is_letter is_alphanumeric (λ b letter. or_first (is_letter b) (is_digit b) letter) text letters
+  where
+    or_first : (x y : Bool) → x ≡ true → (x || y) ≡ true
+    or_first true y is = refl
+    or_first false y is = absurd cc
+
+first_private : (text : List ℕ) → is_first_subtag text ≡ true → is_private_subtag text ≡ true
+unfolding is_private_subtag
+first_private text is =
+    let k = and_parts (has_length 1 8 text) (are_letters text) is in
+    rw (k.0, letters_alphanumeric text k.1) refl
+
+-- a first part that passes a narrower test passes the wider one
+and_absorb : (a b c : Bool) → (a ≡ true → b ≡ true) → (a && c) ≡ (a && (b && c))
+and_absorb true b c both = rw (both refl) refl
+and_absorb false b c both = refl
+
+basic_parts :
+    (first : List ℕ) (others : List (List ℕ)) →
+    are_basic_range (map hyphened (first ∷ others)) ≡ (is_first_subtag first && list_all is_private_subtag (first ∷ others))
+basic_parts first others =
+    rw (is_first_subtag-read first, are_private-read others)
+    (and_absorb (is_first_subtag first) (is_private_subtag first) (list_all is_private_subtag others) (first_private first))
+
+are_basic-read :
+    (text : List ℕ) →
+    are_basic_range (segments (hyphened text)) ≡ (is_first_subtag (before_first is_mark text) && list_all is_private_subtag (slice_split is_mark text))
+are_basic-read text = elim (cut_or_whole is_mark text) [
+  | inl more ↦
+      ap are_basic_range (segments-read text ∙ ap (map hyphened) more)
+      ∙ basic_parts (before_first is_mark text) (slice_split is_mark (after_first is_mark text))
+      ∙ ap (λ parts. is_first_subtag (before_first is_mark text) && list_all is_private_subtag parts) (sym more)
+  | inr whole ↦
+      ap are_basic_range (segments-read text ∙ ap (map hyphened) whole.0)
+      ∙ basic_parts (before_first is_mark text) []
+      ∙ ap (λ parts. is_first_subtag (before_first is_mark text) && list_all is_private_subtag parts) (sym whole.0)
+]
+
+subtags_segments : (text : List ℕ) → are_basic_range (subtags text) ≡ are_basic_range (segments text)
+subtags_segments [] = refl
+subtags_segments (b ∷ text) = refl
+
+pub basic_read :
+    (text : List ℕ) →
+    is_basic_range (hyphened text) ≡ (is_star text || (is_first_subtag (before_first is_mark text) && list_all is_private_subtag (slice_split is_mark text)))
+basic_read text = rw (is_star-read text, subtags_segments (hyphened text), are_basic-read text) refl
+
+-- ---- the elements of a header, and the weight of an element, part by part
+
+pub elements_at : (header : List ℕ) → wanted_elements header ≡ cons_option (wanted (before_first is_comma header)) (wanted_elements (after_first is_comma header))
+unfolding wanted
+elements_at header = elim (cut_or_whole is_comma header) [
+  | inl more ↦ ap (filter_map wanted) more
+  | inr whole ↦ rw (whole.0, whole.1) refl
+]
+
+pub weight_at :
+    (parameters : List ℕ) →
+    wanted_weight (slice_split is_semicolon parameters) ≡
+    cond (is_q_parameter (before_first is_semicolon parameters)) (value_weight (trimmed (after_first is_equals (before_first is_semicolon parameters)))) (wanted_weight (slice_split is_semicolon (after_first is_semicolon parameters)))
+weight_at parameters = elim (cut_or_whole is_semicolon parameters) [
+  | inl more ↦ ap wanted_weight more
+  | inr whole ↦ rw (whole.0, whole.1) refl
+]
+
+-- what is left is shorter
+pub shorter : (p : ℕ → Bool) (text : List ℕ) → 0 < length text → length (after_first p text) < length text
+shorter p text some = omega (arith, length-drop (position_or_len p text + 1) text)
+
+-- no more ranges than bytes, and one
+length-filter_map : {X Y : Type 0} (f : X → Option Y) (xs : List X) → length (filter_map f xs) ≤ length xs
+length-filter_map {Y = Y} f [] = omega arith
+length-filter_map {Y = Y} f (x ∷ xs) = by_first (f x) (length-filter_map f xs)
+  where
+    by_first : (here : Option Y) → length (filter_map f xs) ≤ length xs → length (cons_option here (filter_map f xs)) ≤ length (x ∷ xs)
+    by_first None few = omega arith
+    by_first (Some y) few = omega arith
+
+pub few_wanted : (header : List ℕ) → length (wanted_elements header) ≤ length header + 1
+few_wanted header = omega (arith, length-filter_map wanted (items header), length-slice_split is_comma header, count_by-le-length is_comma header)
+
+-- ---- a parameter without a "=", and one with it
+
+pub no_equals : (parameter : List ℕ) → position is_equals parameter ≡ None → is_q_parameter parameter ≡ false
+no_equals parameter none =
+    let past : length parameter ≤ position_or_len is_equals parameter = grind (arith, nat_tests) in
+    rw (none_at_length is_equals parameter (omega (arith, prefix_len-le-length (λ b. not (is_equals b)) parameter))) refl
+
+pub some_equals :
+    (parameter : List ℕ) (place : ℕ) → position is_equals parameter ≡ Some place →
+    (place < length parameter) × (place ≡ position_or_len is_equals parameter) × (is_q_parameter parameter ≡ is_q_name (trimmed (take place parameter)))
+some_equals parameter place some = by_test (nat_lt (position_or_len is_equals parameter) (length parameter)) refl some
+  where
+    by_test :
+        (test : Bool) → nat_lt (position_or_len is_equals parameter) (length parameter) ≡ test →
+        cond test (Some (position_or_len is_equals parameter)) None ≡ Some place →
+        (place < length parameter) × (place ≡ position_or_len is_equals parameter) × (is_q_parameter parameter ≡ is_q_name (trimmed (take place parameter)))
+    by_test false is same = absurd cc
+    by_test true is same =
+        let there : position_or_len is_equals parameter ≡ place = cc in
+        let within : position_or_len is_equals parameter < length parameter = grind (arith, nat_tests) in
+        (omega arith, sym there, rw (any_at_first is_equals parameter within) (ap (λ n. is_q_name (trimmed (take n parameter))) there))
+
+pub nothing_wanted : wanted_elements [] ≡ []
+unfolding wanted
+nothing_wanted = refl

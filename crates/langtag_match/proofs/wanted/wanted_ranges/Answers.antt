@@ -1,0 +1,6 @@
+use Rattle.std.proofs.Common.{arith}
+use Rattle.langtag_match.proofs.WantedTexts.{few_wanted}
+use Rattle.langtag_match.proofs.wanted.wanted_ranges.Goals as goal
+
+pub returns-clause-few : goal.returns-clause-few
+returns-clause-few c = omega (arith, few_wanted c.args.header.now)
