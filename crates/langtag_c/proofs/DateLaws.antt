@@ -4,7 +4,8 @@ use Rattle.std.proofs.lemmas.Bool.{ltb-true}
 use Rattle.std.proofs.lemmas.List.{at_drop_more}
 use Rattle.langtag_scan.specs.Class.{is_digit}
 use Rattle.langtag_registry.specs.declared.tables.TheConstants.{FILE_DATE}
-use Rattle.langtag_c.specs.Answers.{date_number}
+use Rattle.langtag_likely.specs.declared.tables.TheConstants.{CLDR_VERSION}
+use Rattle.langtag_c.specs.Answers.{digits_number}
 
 -- what a number becomes by the digits of a text that follow it
 abbrev pub continued : ℕ → List ℕ → ℕ
@@ -26,18 +27,26 @@ continued_grows number (d ∷ digits) = let later = continued_grows (number * 10
 
 -- a digit more still fits where the whole number does
 pub digit_fits :
-    (number : ℕ) (date : List ℕ) (i : ℕ) → date_number date < 4294967296 → continued number (drop i date) ≡ date_number date → i < length date →
+    (number : ℕ) (date : List ℕ) (i : ℕ) → digits_number date < 4294967296 → continued number (drop i date) ≡ digits_number date → i < length date →
     is_digit (get_or date i 0) ≡ true → number * 10 + (get_or date i 0 - 48) < 4294967296
 digit_fits number date i fits rest below digit =
     let next = number * 10 + (get_or date i 0 - 48) in
-    let whole : continued next (drop (i + 1) date) ≡ date_number date = sym (continued_digit number date i below digit) ∙ rest in
+    let whole : continued next (drop (i + 1) date) ≡ digits_number date = sym (continued_digit number date i below digit) ∙ rest in
     let grows = continued_grows next (filter is_digit (drop (i + 1) date)) in
     omega (arith, whole, grows, fits)
 
 -- the date of the registry does: by computation
-date_digits : ltb (date_number FILE_DATE.now) 4294967296 ≡ true
+date_digits : ltb (digits_number FILE_DATE.now) 4294967296 ≡ true
 unfolding is_digit
 date_digits = refl
 
-pub date_fits : date_number FILE_DATE.now < 4294967296
-date_fits = ltb-true (date_number FILE_DATE.now) 4294967296 date_digits
+pub date_fits : digits_number FILE_DATE.now < 4294967296
+date_fits = ltb-true (digits_number FILE_DATE.now) 4294967296 date_digits
+
+-- so does the version of CLDR
+version_digits : ltb (digits_number CLDR_VERSION.now) 4294967296 ≡ true
+unfolding is_digit
+version_digits = refl
+
+pub version_fits : digits_number CLDR_VERSION.now < 4294967296
+version_fits = ltb-true (digits_number CLDR_VERSION.now) 4294967296 version_digits

@@ -1,7 +1,9 @@
 mod KindLaws
 mod SpanLaws
 mod StopLaws
+mod IrregularPrefixes
 mod RangeLaws
+mod RefusedLaws
 mod ExtensionSpans
 mod RepeatSpans
 mod ItemLaws
@@ -11,4 +13,6 @@ mod PartChanges
 mod PartTexts
 mod PutLaws
 mod TagLengths
+mod LikelyForms
 mod DateLaws
+mod TagsAt

@@ -1,8 +1,11 @@
 pub mod Answers
+pub mod Choice
 pub mod Negotiation
 pub mod PartPlaces
+pub mod Refused
 pub mod Repeats
 pub mod Setting
 pub mod Spans
+pub mod TagsAt
 pub mod Validity
 pub mod Walks

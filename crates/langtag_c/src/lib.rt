@@ -7,16 +7,22 @@
 
 mod accepted;
 mod canonical;
+mod choice;
 mod compare;
+mod direction;
 mod fallback;
 mod grandfathered;
+mod likely;
 mod parse;
 mod part;
+mod posix;
 mod range;
 mod recommend;
+mod refused;
 mod registry_date;
 mod repeats;
 mod span;
+mod spanned_tags;
 mod validity;
 mod viable;
 mod walk;

@@ -1,7 +1,7 @@
 //! The date of the registry (RFC 5646 section 3.1.1).
 ghost use Rattle.std.specs.Prelude.{◌≡◌, ◌<◌, ◌^◌};
 ghost use Rattle.langtag_registry.specs.declared.tables.TheConstants.{FILE_DATE};
-ghost use Rattle.langtag_c.specs.Answers.{date_number};
+ghost use Rattle.langtag_c.specs.Answers.{digits_number};
 
 use langtag_registry::FILE_DATE;
 
@@ -10,16 +10,16 @@ use langtag_registry::FILE_DATE;
 #[tactic(auto, using(crate::proofs::DateLaws::date_fits))]
 #[unsafe(no_mangle)]
 pub extern "C" fn langtag_registry_date() -> u32
-    ensures { result ≡ date_number FILE_DATE.now }
+    ensures { result ≡ digits_number FILE_DATE.now }
 {
     number_of(FILE_DATE.as_bytes())
 }
 
-/// The digits of a date, read as one number.
+/// The digits of a date or a version, read as one number.
 #[tactic(auto, using(crate::proofs::DateLaws::continued_digit, crate::proofs::DateLaws::continued_other, crate::proofs::DateLaws::digit_fits), unfolding(langtag_scan::specs::Class::is_digit))]
-fn number_of(date: &[u8]) -> u32
-    requires { date_number date.now < 2 ^ 32 }
-    ensures { result ≡ date_number date.now }
+pub(crate) fn number_of(date: &[u8]) -> u32
+    requires { digits_number date.now < 2 ^ 32 }
+    ensures { result ≡ digits_number date.now }
 {
     let mut number = 0;
     for byte in date {

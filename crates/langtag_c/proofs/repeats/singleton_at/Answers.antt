@@ -5,7 +5,7 @@ use Rattle.langtag_scan.specs.Tag.{IsNormal}
 use Rattle.langtag_extension.specs.Spelling.{extension_spelling}
 use Rattle.langtag_extension.specs.Text.{extension_text}
 use Rattle.langtag.proofs.RepeatLaws.{IsAt-drop, next_extension, no_extension}
-use Rattle.langtag_c.specs.Repeats.{member_span, singleton_place}
+use Rattle.langtag_c.specs.Repeats.{singleton_place}
 use Rattle.langtag_c.proofs.RepeatSpans.{extension_member, singleton_stands, span_past}
 use Rattle.langtag_c.proofs.repeats.singleton_at.Goals as goal
 

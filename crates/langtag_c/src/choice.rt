@@ -1,0 +1,44 @@
+//! The tag that a reader wants, and how far a tag is from one that they desire (UTS #35, part 1, section 'Language Matching').
+ghost use Rattle.std.specs.Prelude.{◌≡◌, ◌↔◌, ◌-◌, ◌^◌};
+ghost use Rattle.langtag_scan.specs.Tag.{IsTag};
+ghost use Rattle.langtag_likely.specs.Distance.{IsDistance};
+ghost use Rattle.langtag_c.specs.Choice.{IsBest};
+
+use crate::range::tag_of;
+use crate::span::Span;
+use crate::spanned_tags::SpannedTags;
+use langtag_likely::{best_among, distance};
+
+/// The distance where one of two texts is not a tag.
+const NO_DISTANCE: u32 = u32::MAX;
+
+/// Returns the distance from a tag that a reader desires to one that there is (UTS #35, Language Matching): 0 from `zh-TW` to
+/// `zh-Hant`, 4 from `de-AT` to `de`, at most 134, and 255 from a tag without a matching form, or to one, that is not equal but
+/// for case. [`NO_DISTANCE`] where one of the texts is not a tag.
+#[unsafe(no_mangle)]
+pub extern "C" fn langtag_distance(desired: &[u8], supported: &[u8]) -> u32
+    ensures distance { IsTag desired.now → IsTag supported.now → IsDistance desired.now supported.now result }
+    ensures no_tag { result ≡ 2 ^ 32 - 1 ↔ (IsTag desired.now × IsTag supported.now → ⊥) }
+{
+    match (tag_of(desired), tag_of(supported)) {
+        (Some(desired), Some(supported)) => u32::from(distance(desired, supported)),
+        _ => NO_DISTANCE,
+    }
+}
+
+/// Returns the index of the tag that the reader wants who sent an Accept-Language header, among tags that spans of a text are:
+/// 2 for `zh-TW,zh;q=0.9,en;q=0.8` and `en`, `zh-Hans` and `zh-Hant`. Their number where the reader wants none of them. A span
+/// that is no tag, or reaches out of the text, is passed over.
+#[unsafe(no_mangle)]
+pub extern "C" fn langtag_best_for_header(header: &[u8], bytes: &[u8], tags: &[Span]) -> usize
+    ensures { IsBest header.now bytes.now tags.now result }
+{
+    let spanned = SpannedTags {
+        text: bytes,
+        spans: tags,
+    };
+    match best_among(header, &spanned) {
+        Some(index) => index,
+        None => tags.len(),
+    }
+}

@@ -1,0 +1,20 @@
+//! Whether a tag is written from right to left.
+ghost use Rattle.std.specs.Prelude.{◌≡◌, false};
+ghost use Rattle.langtag_scan.specs.Tag.{IsTag};
+ghost use Rattle.langtag_likely.specs.Direction.{IsRightToLeft};
+
+use crate::range::tag_of;
+use langtag_likely::is_right_to_left;
+
+/// Returns whether the bytes are a tag that is written from right to left: true of `he`, `pa-PK` and `az-Arab`, false of
+/// `ar-Latn`, and of what is not a tag.
+#[unsafe(no_mangle)]
+pub extern "C" fn langtag_is_right_to_left(bytes: &[u8]) -> bool
+    ensures tag { IsTag bytes.now → IsRightToLeft bytes.now result }
+    ensures no_tag { (IsTag bytes.now → ⊥) → result ≡ false }
+{
+    match tag_of(bytes) {
+        Some(tag) => is_right_to_left(tag),
+        None => false,
+    }
+}

@@ -1,0 +1,53 @@
+//! The maximal and the minimal form of a tag, in the caller's buffer (UTS #35, part 1, section 'Likely Subtags').
+ghost use Rattle.std.specs.Prelude.{◌≡◌, ◌↔◌};
+ghost use Rattle.langtag_scan.specs.Tag.{IsTag};
+ghost use Rattle.langtag_registry.specs.Writes.{Writes};
+ghost use Rattle.langtag_likely.specs.Maximal.{IsMaximalForm, IsMinimalForm};
+ghost use Rattle.langtag_likely.specs.declared.tables.TheConstants.{CLDR_VERSION};
+ghost use Rattle.langtag_c.specs.Answers.{digits_number};
+
+use crate::range::tag_of;
+use crate::registry_date::number_of;
+use langtag_likely::{CLDR_VERSION, write_maximized, write_minimized};
+
+/// Writes a tag with its likely subtags (UTS #35, Add Likely Subtags), and returns its length in bytes: `zh-Hant-TW` of
+/// `zh-TW`. Where the buffer is too short it stays as it was, and the length says how much room there has to be.
+///
+/// 0 where the bytes are not a tag; the buffer then stays, too.
+#[unsafe(no_mangle)]
+pub extern "C" fn langtag_maximize(bytes: &[u8], buffer: &mut [u8]) -> usize
+    ensures maximal { IsTag bytes.now → Writes (IsMaximalForm bytes.now) buffer.old buffer.new result }
+    ensures no_tag { result ≡ 0 ↔ (IsTag bytes.now → ⊥) }
+    ensures nothing { result ≡ 0 → buffer.new ≡ buffer.old }
+{
+    match tag_of(bytes) {
+        Some(tag) => write_maximized(tag, buffer),
+        None => 0,
+    }
+}
+
+/// Writes a tag without the subtags that are likely anyway (UTS #35, Remove Likely Subtags), and returns its length in bytes:
+/// `zh-TW` of `zh-Hant-TW`. Where the buffer is too short it stays as it was, and the length says how much room there has to
+/// be.
+///
+/// 0 where the bytes are not a tag; the buffer then stays, too.
+#[unsafe(no_mangle)]
+pub extern "C" fn langtag_minimize(bytes: &[u8], buffer: &mut [u8]) -> usize
+    ensures minimal { IsTag bytes.now → Writes (IsMinimalForm bytes.now) buffer.old buffer.new result }
+    ensures no_tag { result ≡ 0 ↔ (IsTag bytes.now → ⊥) }
+    ensures nothing { result ≡ 0 → buffer.new ≡ buffer.old }
+{
+    match tag_of(bytes) {
+        Some(tag) => write_minimized(tag, buffer),
+        None => 0,
+    }
+}
+
+/// Returns the version of Unicode's CLDR whose likely subtags these are.
+#[tactic(auto, using(crate::proofs::DateLaws::version_fits))]
+#[unsafe(no_mangle)]
+pub extern "C" fn langtag_cldr_version() -> u32
+    ensures { result ≡ digits_number CLDR_VERSION.now }
+{
+    number_of(CLDR_VERSION.as_bytes())
+}

@@ -1,0 +1,38 @@
+//! The tags that spans of a text are.
+ghost use Rattle.std.specs.Prelude.{◌≡◌};
+ghost use Rattle.std.specs.Option.{option_map};
+ghost use Rattle.langtag.specs.Text.{lang_tag_text};
+ghost use Rattle.langtag_c.specs.Choice.{IsTagAt};
+ghost use Rattle.langtag_c.specs.TagsAt.{tags_at};
+
+use crate::range::tag_of;
+use crate::span::Span;
+use langtag::LangTag;
+use langtag_likely::TagList;
+
+/// A text, and spans of it.
+#[derive(Clone, Copy)]
+pub(crate) struct SpannedTags<'a> {
+    pub(crate) text: &'a [u8],
+    pub(crate) spans: &'a [Span],
+}
+
+#[tactic(auto, using(crate::proofs::TagsAt::one_tag_at, crate::proofs::TagsAt::tags_at_index))]
+impl TagList for SpannedTags<'_> {
+    ghost texts = { λ tags. tags_at tags.text.now tags.spans.now };
+
+    fn count(&self) -> usize {
+        self.spans.len()
+    }
+
+    fn tag_at(&self, index: usize) -> Option<LangTag<'_>> {
+        tag_in(self.text, self.spans[index])
+    }
+}
+
+/// Returns the tag that a span of a text is.
+fn tag_in<'a>(text: &'a [u8], span: Span) -> Option<LangTag<'a>>
+    ensures { IsTagAt text.now span (option_map lang_tag_text result) }
+{
+    tag_of(span.of(text)?)
+}
