@@ -1,8 +1,10 @@
 //! The answer to a call.
 use crate::case::recommended;
+use crate::choice::best;
 use crate::edits::edit;
-use crate::likely::{maximal_form, minimal_form};
+use crate::likely::{direction, distance_of, maximal_form, minimal_form};
 use crate::matching::{elements, fallbacks, filter, header, ranges};
+use crate::posix::tag_of_name;
 use crate::registry::{extlang_form_of, fault, misplaced, registered, subtag};
 use crate::scan::{class, scan};
 use crate::types::{extension, fronts, new, spelling, types};
@@ -45,6 +47,7 @@ pub(crate) fn answer(
         "walk" => walk(alloc, first, second, third),
         "edit" => edit(alloc, first, second, third),
         "header" => header(alloc, first, second),
+        "best" => best(alloc, first, second),
         "ranges" => ranges(alloc, first, second),
         "elements" => elements(alloc, first),
         "fallbacks" => fallbacks(alloc, first),
@@ -56,6 +59,9 @@ pub(crate) fn answer(
         "registered" => registered(alloc, first),
         "maximized" => maximal_form(alloc, first),
         "minimized" => minimal_form(alloc, first),
+        "right-to-left" => direction(alloc, first),
+        "posix" => tag_of_name(alloc, first),
+        "distance" => distance_of(alloc, first, second),
         _ => String::from_str(alloc, "not a call"),
     }
 }

@@ -1,6 +1,6 @@
 //! Calls of likely subtags.
 use langtag::LangTag;
-use langtag_likely::{maximized, minimized, write_maximized, write_minimized};
+use langtag_likely::{distance, is_right_to_left, maximized, minimized, write_maximized, write_minimized};
 use std::alloc::{AllocError, Global};
 
 /// The maximal form of a tag; a buffer is given the same one, or stays as it was where it is too short.
@@ -31,15 +31,30 @@ pub(crate) fn minimal_form(alloc: Global, text: &str) -> Result<String, AllocErr
     agreed(alloc, form, whole.as_slice(), short.as_slice(), lengths)
 }
 
+/// The distance of two tags.
+pub(crate) fn distance_of(
+    alloc: Global,
+    desired: &str,
+    supported: &str,
+) -> Result<String, AllocError> {
+    match (LangTag::new(desired), LangTag::new(supported)) {
+        (Ok(desired), Ok(supported)) => {
+            let far = distance(desired, supported);
+            format!(in alloc; "{far}")
+        }
+        _ => String::from_str(alloc, "-"),
+    }
+}
+
 /// A buffer with just the room for a form of this length, and one that is a byte too short.
-fn buffers(alloc: Global, len: usize) -> Result<(Vec<u8>, Vec<u8>), AllocError> {
+pub(crate) fn buffers(alloc: Global, len: usize) -> Result<(Vec<u8>, Vec<u8>), AllocError> {
     let whole = vec![in alloc; 0; len]?;
     let short = vec![in alloc; 0; len.saturating_sub(1)]?;
     Ok((whole, short))
 }
 
 /// The form, if it was written into the buffer that has room for it, and nothing into the one that is too short.
-fn agreed(
+pub(crate) fn agreed(
     alloc: Global,
     form: String,
     whole: &[u8],
@@ -51,4 +66,13 @@ fn agreed(
         return String::from_str(alloc, "another form in a buffer");
     }
     Ok(form)
+}
+
+/// Whether a tag is written from right to left.
+pub(crate) fn direction(alloc: Global, text: &str) -> Result<String, AllocError> {
+    match LangTag::new(text) {
+        Ok(tag) if is_right_to_left(tag) => String::from_str(alloc, "yes"),
+        Ok(_) => String::from_str(alloc, "no"),
+        Err(_) => String::from_str(alloc, "-"),
+    }
 }

@@ -8,10 +8,12 @@
 
 mod answer;
 mod case;
+mod choice;
 mod edits;
 mod file;
 mod likely;
 mod matching;
+mod posix;
 mod registry;
 mod row;
 mod scan;

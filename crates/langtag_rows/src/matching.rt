@@ -8,7 +8,7 @@ use langtag_match::{
 use std::alloc::{AllocError, Global};
 
 /// The tags of the words of a text.
-fn tags_of(alloc: Global, text: &str) -> Result<Vec<LangTag<'_>>, AllocError> {
+pub(crate) fn tags_of(alloc: Global, text: &str) -> Result<Vec<LangTag<'_>>, AllocError> {
     let mut tags = Vec::new(alloc);
     for word in text.split_whitespace() {
         if let Ok(tag) = LangTag::new(word) {

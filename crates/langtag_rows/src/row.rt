@@ -48,7 +48,15 @@ fn cut<'a>(text: &'a str, separator: &str) -> (&'a str, &'a str) {
 fn argument_count(call: &str) -> usize {
     match call {
         "filter" | "walk" => 3,
-        "header" | "ranges" | "new" | "fronts" | "extension" | "match" | "order" => 2,
+        "best"
+        | "header"
+        | "ranges"
+        | "new"
+        | "fronts"
+        | "extension"
+        | "match"
+        | "order"
+        | "distance" => 2,
         "scan"
         | "types"
         | "class"
@@ -62,7 +70,9 @@ fn argument_count(call: &str) -> usize {
         | "misplaced"
         | "registered"
         | "maximized"
-        | "minimized" => 1,
+        | "minimized"
+        | "posix"
+        | "right-to-left" => 1,
         "tag" | "validity" | "canonical" | "grandfathered" | "viable" | "range" => 1,
         _ => 0,
     }
