@@ -4,7 +4,6 @@
 mod broken;
 mod catalogue;
 mod counts;
-mod direction;
 mod keyword;
 mod literal;
 mod other_script;
@@ -15,7 +14,6 @@ mod script;
 pub use broken::{BrokenTag, tag_or_break};
 pub use catalogue::Catalogue;
 pub use counts::Counts;
-pub use direction::{RIGHT_TO_LEFT_LANGUAGES, RIGHT_TO_LEFT_SCRIPTS, is_right_to_left};
 pub use keyword::{Types, types_of};
 pub use literal::Literal;
 pub use other_script::{find_in_scripts, replace_script};

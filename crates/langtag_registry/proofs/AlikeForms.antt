@@ -132,7 +132,7 @@ one_flat-fold (Some s) = refl
 flat-fold : (r : Record) → flat (fold_record r) ≡ map fold_text (flat r)
 flat-fold r = simp (one_flat-fold, extensions-fold, private_part-fold, map-append)
 
-spelled_alike : (r q : Record) → AlikeRecords r q → Alike (spell r) (spell q)
+pub spelled_alike : (r q : Record) → AlikeRecords r q → Alike (spell r) (spell q)
 spelled_alike r q alike =
     sym (ap join (flat-fold r) ∙ join-fold (flat r)) ∙ ap spell alike ∙ ap join (flat-fold q) ∙ join-fold (flat q)
 

@@ -7,7 +7,6 @@ use std::process::Abort;
 mod broken;
 mod catalogue;
 mod counts;
-mod direction;
 mod keyword;
 mod literal;
 mod other_script;
