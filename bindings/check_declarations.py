@@ -56,6 +56,8 @@ def of_crate(root: pathlib.Path) -> Interface:
             if kind in ("&[u8]", "&mut [u8]"):
                 length = "len" if parameter == "bytes" else parameter + "_len"
                 found += [("const char *" if kind == "&[u8]" else "char *", parameter), ("size_t", length)]
+            elif kind == "&[Span]":
+                found += [("const langtag_span *", parameter), ("size_t", parameter + "_len")]
             elif kind.startswith("&mut "):
                 found.append(((STRUCTS | INTEGERS)[kind[5:]] + " *", parameter))
             else:
@@ -89,8 +91,8 @@ def of_header(root: pathlib.Path) -> Interface:
 
 def of_rust(root: pathlib.Path) -> Interface:
     source = without_comments((root / "bindings/rust/src/ffi.rs").read_text())
-    types = INTEGERS | {"*const u8": "const char *", "*mut u8": "char *"}
-    types |= {f"*mut {name}": f"{in_c} *" for name, in_c in (STRUCTS | {"u32": "uint32_t"}).items()}
+    types = INTEGERS | {"*const u8": "const char *", "*mut u8": "char *", "*const Span": "const langtag_span *"}
+    types |= {f"*mut {name}": f"{in_c} *" for name, in_c in (STRUCTS | {"u32": "uint32_t", "usize": "size_t"}).items()}
     functions = {}
     for name, parameters, result in re.findall(r"fn (langtag_\w+)\(([^)]*)\)(?: -> (\w+))?;", source):
         functions[name] = Function(types[result], [(types[kind], parameter) for parameter, kind in pairs(parameters)])
@@ -101,10 +103,12 @@ def of_python(root: pathlib.Path) -> Interface:
     """Reads the table _FUNCTIONS, of results and parameters, and the classes of structs."""
     types = {f"c_{name.removesuffix('_t')}": name for name in ("size_t", "uint64_t", "uint32_t", "int32_t", "bool")}
     types |= {"c_size_t": "size_t", "None": "void", "c_char_p": "const char *", "POINTER(c_char)": "char *"}
+    types |= {"_Spans": "const langtag_span *"}  # of POINTER(_Span), that are only read
     types |= {"_" + name: in_c for name, in_c in STRUCTS.items()}
-    types |= {f"POINTER(_{name})": f"{in_c} *" for name, in_c in STRUCTS.items()} | {"POINTER(c_uint32)": "uint32_t *"}
+    types |= {f"POINTER(_{name})": f"{in_c} *" for name, in_c in STRUCTS.items()}
+    types |= {"POINTER(c_uint32)": "uint32_t *", "POINTER(c_size_t)": "size_t *"}
     functions, structs = {}, {}
-    for node in ast.parse((root / "bindings/python/langtag/__init__.py").read_text()).body:
+    for node in ast.parse((root / "bindings/python/langtag/_ctypes.py").read_text()).body:
         if isinstance(node, ast.AnnAssign) and ast.unparse(node.target) == "_FUNCTIONS":
             for name, row in zip(node.value.keys, node.value.values):
                 result, *parameters = [types[ast.unparse(kind)] for kind in row.elts]
@@ -153,12 +157,12 @@ VERSIONS = [
 ]
 NUMBERS = [
     ("bindings/c/Makefile", r"\.so\.([0-9]+)"), ("bindings/c/langtag_verified.map", r"LANGTAG_VERIFIED_([0-9]+) "),
-    ("bindings/python/langtag/__init__.py", r"\.so\.([0-9]+)"), ("bindings/python/setup.py", r"\.so\.([0-9]+)"),
+    ("bindings/python/langtag/_ctypes.py", r"\.so\.([0-9]+)"), ("bindings/python/setup.py", r"\.so\.([0-9]+)"),
 ]
 
 # Where the registry's date stands, and the files that take it from the library and have no copy of it.
 DATED = "crates/langtag_registry/src/tables.rt"
-UNDATED = ["crates/langtag_c/src", "crates/langtag_rows/data", "bindings/include", "bindings/rust/src", "bindings/python/langtag"]
+UNDATED = ["crates/langtag_c/src", "crates/langtag_rows/data", "bindings/include", "bindings/rust/src", "bindings/python/langtag", "bindings/python/native"]
 
 
 def registry_date(root: pathlib.Path) -> str:

@@ -14,11 +14,12 @@ import unittest
 import check_declarations
 
 ROOT = pathlib.Path(sys.argv[1] if sys.argv[1:] else pathlib.Path(__file__).parent.parent).resolve()
-HEADER, RUST, PYTHON = "bindings/include/langtag.h", "bindings/rust/src/ffi.rs", "bindings/python/langtag/__init__.py"
+HEADER, RUST, PYTHON = "bindings/include/langtag.h", "bindings/rust/src/ffi.rs", "bindings/python/langtag/_ctypes.py"
+MODULE = "bindings/python/langtag/__init__.py"
 CRATE = "crates/langtag_c/src"
 NUMBERED = check_declarations.VERSIONS + check_declarations.NUMBERS
 DATE = check_declarations.registry_date(ROOT)
-FILES = {HEADER, RUST, PYTHON, check_declarations.DATED, "crates/langtag_rows/data/table.txt", *(name for name, _ in NUMBERED)}
+FILES = {HEADER, RUST, PYTHON, MODULE, check_declarations.DATED, "crates/langtag_rows/data/table.txt", *(name for name, _ in NUMBERED)}
 
 # A file, a text that stands in it, what is put in its place, and what the message has to name.
 PLANTED = [
@@ -49,11 +50,11 @@ PLANTED = [
     (HEADER, "LANGTAG_ABI_VERSION 1", "LANGTAG_ABI_VERSION 2", "LANGTAG_ABI_VERSION"),
     ("bindings/c/Makefile", "soname,$(NAME).so.1", "soname,$(NAME).so.2", "Makefile"),
     ("bindings/rust/Cargo.toml", 'version = "0.1.0"', 'version = "0.1.1"', "Cargo.toml"),
-    (PYTHON, '__version__ = "0.1.0"', '__version__ = "0.2.0"', "LANGTAG_VERSION"),
+    (MODULE, '__version__ = "0.1.0"', '__version__ = "0.2.0"', "LANGTAG_VERSION"),
     (HEADER, "uint32_t langtag_registry_date(void);", "uint64_t langtag_registry_date(void);", "langtag_registry_date"),
     (HEADER, "uint32_t langtag_registry_date(void);", "uint32_t langtag_registry_date(uint32_t kind);", "langtag_registry_date"),
     (HEADER, "year,\n * month and day", f"{DATE}, year,\n * month and day", DATE),
-    (PYTHON, "REGISTRY_DATE = _registry_date()", f'REGISTRY_DATE = "{DATE}"', DATE),
+    (MODULE, "REGISTRY_DATE = _registry_date()", f'REGISTRY_DATE = "{DATE}"', DATE),
     (RUST, "pub fn langtag_registry_date() -> u32;", f"pub fn langtag_registry_date() -> u32; // {DATE.replace('-', '')}", DATE),
     (check_declarations.DATED, "pub const FILE_DATE", "pub const DATE", "the registry's date"),
     (CRATE, "fn langtag_eq(a: &[u8], b: &[u8])", "fn langtag_eq(b: &[u8], a: &[u8])", "langtag_eq"),

@@ -1,6 +1,6 @@
 #!/usr/bin/env python3
 """Whether wrong wrappers are refused: plants one fault after the other into the C header, langtag.hpp, the Rust crate, the
-Python module and the extension of SQLite, builds what comes of it, and lets the tests of that language ask the rows.
+Python module, the JavaScript package and the extension of SQLite, builds what comes of it, and lets the tests of that language ask the rows.
 
     wrong_wrappers.py LIBRARIES [LANGUAGE..]    LIBRARIES has liblangtag_verified.a and liblangtag_verified.so.1
 
@@ -21,6 +21,8 @@ from typing import NamedTuple
 HERE = pathlib.Path(__file__).resolve().parent
 ROWS = HERE.parent / "crates/langtag_rows/data"
 H, HPP, SQL, PY = "include/langtag.h", "include/langtag.hpp", "examples/sqlite_langtag.c", "python/langtag/__init__.py"
+CT, NATIVE = "python/langtag/_ctypes.py", "python/native/"
+JS, CALLS = "js/index.js", "js/calls.js"
 
 
 class Fault(NamedTuple):
@@ -44,6 +46,11 @@ def swapped(file: str, one: str, other: str, test: str | None = None) -> Fault:
 
 def rust(file: str, old: str, new: str, test: str = "table") -> Fault:
     return Fault(f"rust/src/{file}.rs", old, new, test=test)
+
+
+def js(file: str, old: str, new: str, says: str) -> Fault:
+    """One that no row shows, and a test of what only JavaScript has."""
+    return Fault(file, old, new, f"not ok {says}", "langtag")
 
 
 FAULTS = {
@@ -95,9 +102,11 @@ FAULTS = {
         rust("lang_tag", "InvalidSubtag::of(self.as_str()).map_or(Ok(()), Err)", "Ok(())"),
         rust("lang_tag_buf", "self.as_lang_tag().validate()", "Ok(())"),
         rust("lang_tag_buf", "self.as_lang_tag().is_canonical()", "true"),
-        swapped("rust/src/ffi.rs", "self.parts.script", "self.parts.region", test="table"),
+        rust("ffi", "before + usize::from(before < end)", "before"),
         rust("ffi", "    Script,\n    Region,\n", "    Region,\n    Script,\n", "edits"),
-        rust("language_range", "ffi::matches_extended(self.text", "ffi::matches_basic(self.text"),
+        rust("language_range", "filter::matches_extended(self.text, tag", "filter::matches_basic(self.text, tag"),
+        rust("filter", "tag.len() == 1 || ", ""),
+        rust("filter", "[] | [b'-', ..]", "[..]"),
         rust("language_range_buf", "self.as_language_range().matches_basic(", "self.as_language_range().matches_extended("),
         rust("canonical", "&mut form);\n", "&mut form);\n        form.truncate(514);\n"),
         rust("caseless", "        ffi::fold(folded);\n", ""),
@@ -114,23 +123,72 @@ FAULTS = {
     "Python": [
         Fault(PY, '"second-extlang", "script", "region"', '"second-extlang", "region", "script"'),
         Fault(PY, '_PARTS = ("language", "script", "region"', '_PARTS = ("language", "region", "script"'),
-        swapped(PY, "self._part(self._parts.script)", "self._part(self._parts.region)"),
-        swapped(PY, "_c.langtag_matches_basic(self", "_c.langtag_matches_extended(self"),
-        Fault(PY, "        return Tag(buffer.raw)\n", "        return Tag(buffer.raw[:514])\n"),
-        Fault(PY, "return text if type(text) is bytes", 'return text.split(b"\\0")[0] if type(text) is bytes'),
-        Fault(PY, "return self.invalid_subtag is None", "return True"),
+        swapped(CT, "self._part(self._parts.script)", "self._part(self._parts.region)"),
+        swapped(CT, "_c.langtag_matches_basic(self", "_c.langtag_matches_extended(self"),
+        Fault(CT, "        return self._base(buffer.raw)\n", "        return self._base(buffer.raw[:514])\n"),
+        Fault(CT, "return text if type(text) is bytes", 'return text.split(b"\\0")[0] if type(text) is bytes'),
+        Fault(CT, "return self._validity()[0] == 1", "return True"),
         Fault(PY, '"repeated": "is repeated"', '"repeated": "is not registered"'),
         Fault(PY, "{self.subtag!r} {how}", "{how}"),
         Fault(PY, "(self.header, self.index, self.offset, self.part)", "(self.header, self.index, 0, self.part)"),
-        Fault(PY, 'data.count(b",", 0, span.start), span.start', 'span.start, data.count(b",", 0, span.start)'),
+        Fault(PY, 'data.count(b",", 0, start), start', 'start, data.count(b",", 0, start)'),
         Fault(PY, '{2: "language range", 3: "weight"}', '{3: "language range", 2: "weight"}'),
         Fault(PY, "self.part, self.text = part, text", "self.part, self.text = part, None"),
-        Fault(PY, "hash(self._data.lower())", "hash(self._data)"),
+        Fault(CT, "hash(self._data.lower())", "hash(self._data)"),
+        swapped(CT, "self._form(_c.langtag_maximize)", "self._form(_c.langtag_minimize)"),
         Fault(PY, "if answer == 1 and weight > 0", "if answer == 1"),
+        Fault(CT, "if answer == 1 and weight > 0", "if answer == 1"),
+        Fault(CT, "key=lambda it: -it[0]", "key=lambda it: it[0]"),
         Fault(PY, 'range._data.replace(b"-*", b"")', "range._data"),
-        Fault(PY, "        parts = _Parts()\n",
+        Fault(CT, "        parts = _Parts()\n",
               "        parts = _Parts()\n        _FUNCTIONS.setdefault('kept', []).append(data)\n",
               "test_that_nothing_is_kept", "test_langtag.Memory"),
+    ],
+    "Python's C": [
+        swapped(NATIVE + "parts.c", "(void *)1}", "(void *)2}"),
+        swapped(NATIVE + "range.c", "langtag_matches_basic)", "langtag_matches_extended)"),
+        Fault(NATIVE + "parts.c", "answer == LANGTAG_VALID)", "answer != LANGTAG_VALIDITY_NONE)"),
+        Fault(NATIVE + "parts.c", "langtag_fold(&singleton, 1);", ""),
+        Fault(NATIVE + "parts.c", "subtags_from(self, found, 1)", "subtags_from(self, found, 0)"),
+        Fault(NATIVE + "parts.c", "which ? found.singleton : found.variant", "which ? found.variant : found.singleton"),
+        Fault(NATIVE + "parts.c", "if (!there) there =", "there ="),
+        Fault(NATIVE + "value.c", "lt_changed(self, langtag_fold);\n    if (!folded) return -1;",
+              "lt_changed(self, langtag_recommend);\n    if (!folded) return -1;"),
+        Fault(NATIVE + "value.c", "case Py_LE: return order <= 0", "case Py_LE: return order < 0"),
+        Fault(NATIVE + "value.c", "== (operator == Py_EQ)", "== true"),
+        Fault(NATIVE + "forms.c", "if (wanted <= sizeof room) return", "if (wanted <= 514) return",
+              "test_lengths", "test_langtag.Values"),
+        Fault(NATIVE + "forms.c", "made->parts = like->parts;", ""),
+        swapped(NATIVE + "forms.c", "tag_by(self, langtag_maximize)", "tag_by(self, langtag_minimize)"),
+        Fault(NATIVE + "calls.c", "reach(text, langtag_stop)", "reach(text, langtag_viable)"),
+        Fault(NATIVE + "calls.c", "(Py_ssize_t)range.len,", "(Py_ssize_t)range.len - 1,"),
+        Fault(NATIVE + "negotiate.c", "WEIGHTS - 1; weight;", "WEIGHTS - 1; weight + 1;"),
+        Fault(NATIVE + "negotiate.c", "header->last[weight] = number;", "header->last[weight] = header->first[weight];",
+              "test_equal_weights", "test_langtag.Negotiation"),
+        Fault(NATIVE + "negotiate.c", "size_t room = header->room ? 2 * header->room : 16;", "size_t room = 16;", ""),
+        Fault(NATIVE + "text.c", "PyBytes_FromStringAndSize(data, len);", "PyBytes_FromString(data);",
+              "test_subclasses_of_texts", "test_langtag.Kinds"),
+        Fault(NATIVE + "value.c", "    Py_XDECREF(it->text.owner);\n", "", "test_that_nothing_is_kept", "test_langtag.Memory"),
+        Fault(NATIVE + "forms.c", "    PyObject *made = with_part(self, part, given);\n    Py_DECREF(given.owner);\n",
+              "    PyObject *made = with_part(self, part, given);\n", "test_that_nothing_is_kept", "test_langtag.Memory"),
+    ],
+    "JavaScript": [
+        swapped(JS, "this.#part(1)", "this.#part(2)"),
+        Fault(JS, '"second-extlang", "script", "region"', '"second-extlang", "region", "script"'),
+        Fault(JS, 'PARTS = ["language", "script", "region"', 'PARTS = ["language", "region", "script"'),
+        swapped(CALLS, '"langtag_matches_basic"', '"langtag_matches_extended"'),
+        js(CALLS, "return askText(name, text, length);", "return read(at, length);", "14 - a range, a tag or a text of a megabyte"),
+        Fault(CALLS, "Math.min(length, begin + 8192)", "Math.min(length, 8192)"),
+        Fault(JS, "if (!found.has(subtag.toLowerCase())) found", "found"),
+        Fault(JS, "(weight > 0)", "(answer === 1)"),
+        Fault(JS, "other.weight - one.weight", "one.weight - other.weight"),
+        Fault(JS, '.replaceAll("-*", "")', ""),
+        Fault(JS, "AcceptLanguageError(text, index, offset,", "AcceptLanguageError(text, offset, index,"),
+        Fault(JS, 'text === "" && value !== null && !isList', 'text === "" && value !== null'),
+        js(CALLS, "unit < 0x80 ? unit : 0xff", "unit & 0xff", "5 - texts that are refused, of any units"),
+        js(CALLS, "    if (isOpen) start();", "    if (calls === undefined) start();", "18 - calls that are cut off"),
+        js(CALLS, "    if (bytes.length > most) start();\n", "", "17 - the memory of a long text is given back"),
+        js(JS, "Object.freeze(this);", "", "10 - a tag does not change"),
     ],
     "SQLite": [
         swapped(SQL, "&parts->script", "&parts->region"),
@@ -163,6 +221,8 @@ BUILD = {
     "Rust": f"{RUSTC} --crate-name langtag_verified --crate-type rlib -l static=langtag_verified rust/src/lib.rs"
             f" -o liblangtag.rlib && {RUSTC} --extern langtag_verified=liblangtag.rlib --test rust/tests/$TEST.rs -o test",
     "Python": "true",
+    "Python's C": "python/native/compile $LIBRARIES/liblangtag_verified.a python/langtag/_native.abi3.so $PYTHON",
+    "JavaScript": "true",
     "SQLite": "cc -w -fPIC -shared -Iinclude examples/sqlite_langtag.c $LIBRARIES/liblangtag_verified.a"
               " -o sqlite_langtag.so",
 }
@@ -171,9 +231,12 @@ RUN = {
     "C++": f"./test {ASKED}",
     "Rust": "./test answers",
     "Python": "cd python && python3 -m unittest $TEST",
+    "Python's C": "cd python && env -u LANGTAG_LIBRARY python3 -m unittest $TEST",
+    "JavaScript": "node --test js/test/$TEST.test.js",
     "SQLite": "PYTHONPATH=python python3 examples/test_sqlite.py ./sqlite_langtag.so",
 }
-TESTS = {"Rust": ["table", "edits", "negotiation"], "Python": ["test_rows", "test_langtag.Memory"]}
+TESTS = {"Rust": ["table", "edits", "negotiation"], "Python": ["test_rows", "test_langtag.Memory"], "JavaScript": ["rows", "langtag"],
+         "Python's C": ["test_rows", "test_langtag.Memory"]}
 
 
 def asked(libraries: pathlib.Path, language: str, fault: Fault | None, test: str) -> str | None:
@@ -189,7 +252,7 @@ def asked(libraries: pathlib.Path, language: str, fault: Fault | None, test: str
             if fault.old not in text:
                 return "the text is not there"
             (copy / fault.file).write_text(text.replace(fault.old, fault.new, 1))
-        environment = {**os.environ, "LIBRARIES": str(libraries), "ROWS": str(ROWS), "TEST": test,
+        environment = {**os.environ, "LIBRARIES": str(libraries), "PYTHON": os.environ.get("PYTHON", ""), "ROWS": str(ROWS), "TEST": test,
                        "PYTHONDONTWRITEBYTECODE": "1", "CARGO_MANIFEST_DIR": str(copy / "rust"),
                        "LANGTAG_LIBRARY": str(libraries / "liblangtag_verified.so.1")}
         environment.pop("LANGTAG_ANSWERS", None)

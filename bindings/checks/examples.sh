@@ -9,6 +9,10 @@ negotiate() {
 check "C: the HTTP example builds" negotiate
 check "the HTTP examples in C and Python answer alike" python3 examples/test_examples.py "$work/built/negotiate"
 
+count_tags() { python3 examples/count_tags.py | diff - <(wanted_counts); }
+wanted_counts() { env -i PATH="$PATH" PYTHONPATH="$PYTHONPATH" LANGTAG_LIBRARY="$LANGTAG_LIBRARY" python3 -S examples/count_tags.py; }
+check "the example counts a million rows by pandas, where it is there, as without" count_tags
+
 sqlite_extension() {
     cc $strict -fPIC -shared -I"$work/usr/include" examples/sqlite_langtag.c "$work/usr/lib/liblangtag_verified.a" \
         -o "$work/built/sqlite_langtag.so"

@@ -5,17 +5,41 @@ check "Python: tests and doctests, and C's answers to random calls" unit_tests
 dated() { (cd python && python3 -c 'import langtag; print("File-Date:", langtag.REGISTRY_DATE)') | cmp - <(sed 1q "$root/registry/language-subtag-registry"); }
 check "Python: the date of the registry is that of its file" dated
 
-oldest() { cd python && python3.8 -m unittest; }
-if python3.8 -c '' 2>/dev/null; then
-    check "Python: the same by Python 3.8" oldest
-else
-    not_run "Python: the same by Python 3.8" "it is not there"
-fi
+# The C module, which each Python loads that is there: one binary.
+pythons=
+for python in python3 /usr/bin/python3 python3.8 python3.9 python3.10 python3.11 python3.12 python3.13 python3.14 ~/.pyenv/versions/3.*/bin/python3; do
+    if "$python" -c 'import sys; assert sys.version_info >= (3, 8)' 2>/dev/null; then pythons+=" $python"; fi
+done
+[[ $pythons == *3.8* ]] || not_run "Python: the tests by Python 3.8" "it is not there"
+
+native() { CFLAGS=-Werror python/native/compile "$archive" "$work/built/_native.abi3.so" "$1"; }
+native_tests() {
+    cp -r python "native-$1" && cp "$work/built/_native.abi3.so" "native-$1/langtag" && cd "native-$1" || return 1
+    env -u LANGTAG_LIBRARY "$2" -c 'import langtag; assert langtag._backend.__name__ == "langtag._native"' || return 1
+    env -u LANGTAG_LIBRARY LANGTAG_OTHER="$LANGTAG_LIBRARY" LANGTAG_ANSWERS="$work/answers" "$2" -m unittest
+}
+ctypes_tests() { cd python && "$1" -m unittest; }
+header=
+for python in $pythons; do
+    if [ -f "$("$python" -c 'import sysconfig; print(sysconfig.get_paths()["include"])')/Python.h" ]; then header=$python; break; fi
+done
+if [ -n "$header" ]; then check "Python: the C module builds without a warning" native "$header"; fi
+number=0
+for python in $pythons; do
+    number=$((number + 1))
+    check "Python: the tests by $python over ctypes" ctypes_tests "$python"
+    if [ -n "$header" ]; then
+        check "Python: the tests by $python over the C module" native_tests $number "$python"
+    else
+        not_run "Python: the C module by $python" "there is no Python.h (in Debian: apt-get install python3-dev)"
+    fi
+done
+if [ -n "$header" ]; then . "$here/checks/python_leaks.sh"; fi
 
 # mypy of this Python, or the program that Debian installs. It also reads a program of a user, whose mistake it has to see.
 mypy=
 if python3 -m mypy --version >/dev/null 2>&1; then mypy="python3 -m mypy"; elif has mypy; then mypy=mypy; fi
-type_check() { cd python && $mypy --strict langtag && $mypy --strict ../examples/parts.py ../examples/negotiate.py; }
+type_check() { cd python && $mypy --strict langtag && $mypy --strict ../examples/parts.py ../examples/negotiate.py ../examples/count_tags.py; }
 mistake() {
     cd python && printf '%s\n' 'import langtag' 'langtag.Tag("de").replace(script=5)' >"$work/mistake.py"
     ($mypy --strict "$work/mistake.py" || true) | grep 'mistake.py:2: error: Argument "script"'

@@ -4,16 +4,22 @@ if ! has rt && [ -z "${RT_VERSION:-}" ]; then RT_VERSION="not known: there was n
 
 releases() {
     cp "$root"/LICENSE-* "$work" || return 1
-    ./release "$archive" >"$work/sums" && mv dist "$work/dist" || return 1
-    ./release "$archive" | diff "$work/sums" - || return 1
-    (cd "$work/dist" && tar -xzOf langtag-verified-*-elf.tar.gz --wildcards '*/PROVED.txt') |
-        grep "^$(sha256sum <"$archive" | cut -c1-64)  liblangtag_c.a$"
+    local targets=()
+    if [ -n "${aarch64_archive:-}" ]; then targets+=(--target "aarch64-unknown-linux-gnu=$aarch64_archive"); fi
+    if [ -n "${wasm_archive:-}" ]; then targets+=(--target "wasm64-unknown-unknown=$wasm_archive"); fi
+    ./release "$archive" "${targets[@]}" >"$work/sums" && mv dist "$work/dist" || return 1
+    ./release "$archive" "${targets[@]}" | diff "$work/sums" - || return 1
+    proves langtag-verified-*-x86_64-elf.tar.gz "$archive" x86_64-unknown-linux-gnu && proves langtag-verified-*.crate "$archive" x86_64-unknown-linux-gnu
+}
+# proves FILE ARCHIVE TARGET: PROVED.txt of a release names the sum of the archive, and its target.
+proves() {
+    (cd "$work/dist" && tar -xzOf $1 --wildcards '*/PROVED.txt') | grep -A1 "^$(sha256sum <"$2" | cut -c1-64)  liblangtag_c.a$" | grep -x "target $3"
 }
 check "release: two runs give the same bytes, with the archive's sum" releases
 
 # What the tarball has by its own: the archive as the page names it, and the examples.
 by_itself() {
-    away 'tar -xzf ../dist/*-elf.tar.gz; cd langtag-verified-*; rm ../parts.*
+    away 'tar -xzf ../dist/*-x86_64-elf.tar.gz; cd langtag-verified-*; rm ../parts.*
         cc examples/negotiate.c examples/accept_language.c -Iinclude lib/liblangtag_verified.a -o negotiate
         c++ -std=c++17 examples/parts.cc -Iinclude lib/liblangtag_verified.a -o parts; ./parts zh-Hant-TW >cc
         cc examples/parts.c -Iinclude lib/liblangtag_verified.a -o parts; ./parts zh-Hant-TW | tee c; cmp c cc'
@@ -30,12 +36,12 @@ away() {
         "$folder" "$hide" "$root" "$work/bindings" "$1" | diff - <(wanted)
 }
 by_pkg_config() {
-    away 'tar -xzf ../dist/*-elf.tar.gz; export PKG_CONFIG_PATH=$(echo $PWD/*/lib/pkgconfig)
+    away 'tar -xzf ../dist/*-x86_64-elf.tar.gz; export PKG_CONFIG_PATH=$(echo $PWD/*/lib/pkgconfig)
         cc parts.c $(pkg-config --cflags --libs langtag_verified) -o parts
         LD_LIBRARY_PATH=$(echo $PWD/*/lib) ./parts zh-Hant-TW'
 }
 by_cmake() {
-    away 'tar -xzf ../dist/*-elf.tar.gz
+    away 'tar -xzf ../dist/*-x86_64-elf.tar.gz
         printf "%s\n" "cmake_minimum_required(VERSION 3.13)" "project(first C)" \
             "find_package(langtag_verified 0.1 CONFIG REQUIRED)" "find_package(langtag_verified 0.1 CONFIG REQUIRED)" \
             "add_executable(parts parts.c)" \
@@ -48,7 +54,7 @@ check "release: C by the tarball's own archive and examples" by_itself
 if has pkg-config; then check "release: C by pkg-config" by_pkg_config; else not_run "release: C by pkg-config" "it is not there"; fi
 if has cmake; then check "release: C by find_package" by_cmake; else not_run "release: C by find_package" "there is no cmake"; fi
 
-# The crate is built with no registry; and where there are sources of serde, with that feature.
+# The crate is built with no registry; and where there are sources of serde, beside the crate for it.
 crate() {
     away 'tar -xzf ../dist/*.crate; cargo new -q --vcs none first; cp parts.rs first/src/main.rs; cd first
         export CARGO_TARGET_DIR=$PWD/target CARGO_HOME=$PWD/cargo-home
@@ -57,7 +63,8 @@ crate() {
 crate_with_serde() {
     away 'tar -xzf ../dist/*.crate; cargo new -q --vcs none first; cp parts.rs first/src/main.rs; cd first
         cp -r ../../cargo-of-serde .cargo; export CARGO_TARGET_DIR=$PWD/target CARGO_HOME=$PWD/cargo-home
-        cargo add -q --offline --path ../langtag-verified-*/serde; cargo run -q --offline zh-Hant-TW'
+        for crate in ../langtag-verified-*/ ../langtag-verified-*/serde; do cargo add -q --offline --path $crate; done
+        cargo run -q --offline zh-Hant-TW'
 }
 if has cargo; then
     check "release: the Rust crate, with no registry" crate
@@ -70,7 +77,10 @@ if [ -d "$work/cargo-of-serde" ]; then check "release: the Rust crate with serde
 python_package() {
     away "\"$1\" -m venv v; $2 v/bin/python parts.py zh-Hant-TW"
 }
-wheel_released() { python_package "$1" 'v/bin/pip install -q --no-index ../dist/*.whl;'; }
+wheel_released() { python_package "$1" 'v/bin/pip install -q --no-index --find-links ../dist --only-binary :all: langtag-verified;'; }
+fallback_released() { python_package "$1" 'v/bin/pip install -q --no-index ../dist/*-py3-none-*x86_64.whl;'; }
+is_native() { away "\"$1\" -m venv v; v/bin/pip install -q --no-index --find-links ../dist --only-binary :all: langtag-verified;
+    v/bin/python -c 'import langtag; assert langtag._backend.__name__ == \"langtag._native\"'; v/bin/python parts.py zh-Hant-TW"; }
 sdist_released() {
     python_package "$1" "\"$1\" -m pip wheel -q --no-build-isolation --no-deps --no-index -w w ../dist/langtag_verified-*.tar.gz;
         v/bin/pip install -q --no-index w/*.whl;"
@@ -78,6 +88,10 @@ sdist_released() {
 for python in python3 python3.9 python3.12 python3.13; do
     if "$python" -c 'import venv, ensurepip' >/dev/null 2>&1; then
         check "release: the wheel by $python" wheel_released "$python"
+        if ls "$work"/dist/*-abi3-*.whl >/dev/null 2>&1; then
+            check "release: the wheel by $python has the C module" is_native "$python"
+            check "release: the wheel for other Pythons by $python" fallback_released "$python"
+        fi
     fi
 done
 for python in python3 /usr/bin/python3; do
@@ -86,3 +100,53 @@ for python in python3 /usr/bin/python3; do
         break
     fi
 done
+
+# For aarch64: the tarball, the wheel as pip unpacks it for that platform, and the crate's archive.
+released_aarch64() {
+    away 'tar -xzf ../dist/*-aarch64-elf.tar.gz; lib=$(echo $PWD/langtag-verified-*/lib)
+        aarch64-linux-gnu-gcc parts.c -I$lib/../include $lib/liblangtag_verified.a -o parts; on="qemu-aarch64 -L /usr/aarch64-linux-gnu"
+        $on parts zh-Hant-TW >static; aarch64-linux-gnu-gcc parts.c -I$lib/../include -L$lib -llangtag_verified -o parts
+        $on -E LD_LIBRARY_PATH=$lib parts zh-Hant-TW | tee shared; cmp static shared'
+}
+wheel_of_aarch64() {
+    python3 -m pip install -q --no-index --no-deps --target "$work/foreign" --platform manylinux_2_17_aarch64 --only-binary=:all: "$work"/dist/*_aarch64.whl &&
+        readelf -h "$work/foreign/langtag/liblangtag_verified.so.1" | grep 'Machine:.*AArch64'
+}
+crate_of_both() {
+    proves langtag-verified-*.crate "$aarch64_archive" aarch64-unknown-linux-gnu &&
+        tar -xzOf "$work"/dist/*.crate --wildcards '*/lib/aarch64/liblangtag_c.a' | cmp - "$aarch64_archive"
+}
+if [ -z "${aarch64_archive:-}" ] || [ -n "${missing:-}" ]; then
+    not_run "release: aarch64" "${missing:-there is no archive for it}"
+else
+    check "release: C for aarch64 by the tarball, under qemu" released_aarch64
+    check "release: the crate has the archives of both processors" crate_of_both
+    if python3 -m pip --version >/dev/null 2>&1; then check "release: the wheel for aarch64" wheel_of_aarch64; fi
+fi
+
+# The package for npm in an empty folder, in Node and in a page; and the page.
+npm_package() {
+    away 'mkdir empty && cd empty && npm install --offline --no-audit --no-fund --loglevel=error ../../dist/langtag-verified-*.tgz >&2
+        echo "import { LanguageTag } from \"langtag-verified\"; const tag = LanguageTag.parse(\"zh-Hant-TW\");
+            for (const name of [\"language\", \"script\", \"region\"]) console.log(name, tag[name]);" >first.mjs
+        node first.mjs; cp -r node_modules/langtag-verified ../../npm'
+}
+npm_pack() { cd "$work/npm" && diff <(npm pack --dry-run --json 2>/dev/null | sed -n 's/.*"path": "\(.*\)",/\1/p' | sort) <(find . -type f | cut -c3- | sort); }
+npm_bundled() {
+    away 'mkdir -p node_modules && cp -r ../npm node_modules/langtag-verified; echo "import { LanguageTag } from \"langtag-verified\";
+        const tag = LanguageTag.parse(\"zh-Hant-TW\"); for (const name of [\"language\", \"script\", \"region\"]) console.log(name, tag[name]);" >first.mjs
+        esbuild first.mjs --bundle --format=esm --outfile=esm.mjs --log-level=error; esbuild first.mjs --bundle --outfile=iife.cjs --log-level=error
+        node esm.mjs >esm; node iife.cjs | tee iife; cmp esm iife'
+}
+npm_in_page() { cd js && PACKAGE=$work/npm PAGE=$(echo "$work"/dist/langtag-*.html) node --test test/browser.test.js test/page.test.js; }
+if ! ls "$work"/dist/*.tgz >/dev/null 2>&1; then
+    not_run "release: the package for npm" "it was not made"
+elif ! has npm; then
+    not_run "release: the package for npm" "there is no npm"
+else
+    check "release: the package for npm in Node" npm_package
+    check "release: npm packs the same files" npm_pack
+    check "release: its archive" proves 'langtag-verified-*.tgz' "$wasm_archive" wasm64-unknown-unknown
+    if has esbuild; then check "release: the package for npm in a bundle" npm_bundled; else not_run "release: a bundle" "there is no esbuild"; fi
+    if [ -n "${CHROMIUM:-}" ]; then check "release: the package for npm in a page, and the page" npm_in_page; fi
+fi

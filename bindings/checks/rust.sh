@@ -8,7 +8,7 @@ if ! has cargo; then
     return 0
 fi
 
-# All but the feature serde is built as on a machine that has no registry.
+# All but the crate for serde is built as on a machine that has no registry.
 CARGO_HOME=$work/cargo-home
 CARGO_NET_OFFLINE=true
 
@@ -16,6 +16,7 @@ rust() { cd rust && cargo "$@"; }
 check "Rust: tests, the examples of its documents, and C's answers to random calls, with no registry" \
     env LANGTAG_ANSWERS="$work/answers" RUSTFLAGS=-Dwarnings bash -c 'cd rust && cargo test'
 check "Rust: without alloc" env RUSTFLAGS=-Dwarnings bash -c 'cd rust && cargo test -q --no-default-features --tests'
+check "Rust: the names of oxilangtag" env RUSTFLAGS=-Dwarnings bash -c 'cd rust && cargo test -q --features oxilangtag oxilangtag'
 under_valgrind() {
     CARGO_TARGET_X86_64_UNKNOWN_LINUX_GNU_RUNNER="valgrind -q --error-exitcode=9" rust test --tests -- --skip long_headers
 }
@@ -25,11 +26,11 @@ else
     not_run "Rust: tests under valgrind" "it is not there"
 fi
 if cargo clippy --version >/dev/null 2>&1; then
-    check "Rust: clippy" rust clippy --all-targets -- -D warnings
+    check "Rust: clippy" rust clippy --all-targets --all-features -- -D warnings
 else
     not_run "Rust: clippy" "it is not there"
 fi
-check "Rust: documents" env RUSTDOCFLAGS=-Dwarnings cargo doc --manifest-path rust/Cargo.toml --no-deps
+check "Rust: documents" env RUSTDOCFLAGS=-Dwarnings cargo doc --manifest-path rust/Cargo.toml --no-deps --all-features
 
 # serde comes of a folder of sources, or of crates.io.
 if ls "$registry"/serde-1.* >/dev/null 2>&1; then
@@ -43,13 +44,12 @@ END
     cp -r rust/serde/.cargo "$work/cargo-of-serde"
 fi
 with_serde() {
-    cd rust/serde && cargo test -q --features serde --test serde && cargo build -q --no-default-features --features serde &&
-        cargo doc -q --no-deps --all-features
+    cd rust/serde && cargo test -q && cargo doc -q --no-deps
 }
 if [ -d rust/serde/.cargo ] || (cd rust/serde && CARGO_NET_OFFLINE=false timeout 60 cargo fetch -q) >/dev/null 2>&1; then
-    check "Rust: the feature serde" env RUSTFLAGS=-Dwarnings RUSTDOCFLAGS=-Dwarnings bash -c with_serde
+    check "Rust: the crate for serde" env RUSTFLAGS=-Dwarnings RUSTDOCFLAGS=-Dwarnings bash -c with_serde
 else
-    not_run "Rust: the feature serde" "its source is not in $registry, and crates.io cannot be reached"
+    not_run "Rust: the crate for serde" "its source is not in $registry, and crates.io cannot be reached"
 fi
 
 # refused WORDS CARGO_ARGUMENTS..: that the build script refuses it in such words.
@@ -61,7 +61,8 @@ refused() {
 no_archive() { LANGTAG_LIB_DIR=$work/empty refused 'there is no liblangtag_c.a in'; }
 relative_folder() { LANGTAG_LIB_DIR=lib refused 'has to be an absolute path'; }
 other_platforms() {
-    refused 'this target is aarch64' --target aarch64-unknown-linux-gnu &&
+    refused 'this target is riscv64' --target riscv64gc-unknown-linux-gnu &&
+        refused 'big endian' --target aarch64_be-unknown-linux-gnu &&
         refused 'of 32 bits' --target x86_64-unknown-linux-gnux32 &&
         refused '64 bits, windows' --target x86_64-pc-windows-gnu
 }

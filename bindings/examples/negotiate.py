@@ -15,7 +15,7 @@ DEFAULT = Tag("en")
 
 class Handler(http.server.BaseHTTPRequestHandler):
     def do_GET(self) -> None:
-        tag = tag_for_header_lenient(self.headers.get("Accept-Language", ""), GREETINGS, DEFAULT)
+        tag = tag_for_header_lenient(self.headers.get("Accept-Language"), GREETINGS, DEFAULT)
         body = GREETINGS[tag].encode() + b"\n"
         self.send_response(200)
         self.send_header("Content-Type", "text/plain; charset=utf-8")

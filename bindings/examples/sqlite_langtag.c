@@ -1,18 +1,22 @@
 /*
- * A loadable extension for SQLite: the parts of language tags, their canonical forms, whether they are valid, which ranges
- * match them, and their order.
+ * A loadable extension for SQLite: the parts of language tags, their canonical forms, whether they are valid, likely
+ * subtags, the tag for a request, which ranges match, and their order.
  *
  *     cc -O2 -fPIC -shared sqlite_langtag.c -o sqlite_langtag.so $(pkg-config --cflags --libs langtag_verified)
  *     sqlite> .load ./sqlite_langtag
  *     sqlite> SELECT langtag_part('zh-Hant-TW', 'script');          -- Hant
  *     sqlite> SELECT langtag_canonical('iw-Hebr');                   -- he-Hebr
  *     sqlite> SELECT langtag_is_valid('de-1996-1996');               -- 0
+ *     sqlite> SELECT langtag_maximize('zh-TW');                      -- zh-Hant-TW
+ *     sqlite> SELECT langtag_best_for_header('zh-TW,zh;q=0.9', 'en', 'zh-Hans', 'zh-Hant'); -- zh-Hant
  *     sqlite> SELECT * FROM texts WHERE langtag_matches_basic('de', tag);
  *     sqlite> SELECT * FROM texts WHERE tag = 'ZH-hant' COLLATE langtag;
  *
  * langtag_part(tag, part) is NULL where the text is not a tag, and where the part is absent. The parts are language,
  * script, region, variants, extensions and private_use. langtag_canonical(tag) and langtag_is_valid(tag) are NULL where
- * the text is not a tag (RFC 5646 sections 4.5 and 2.2.9, by the registry of langtag_registry_date).
+ * the text is not a tag (RFC 5646 sections 4.5 and 2.2.9, by the registry of langtag_registry_date). So are
+ * langtag_maximize(tag), langtag_minimize(tag), langtag_is_right_to_left(tag) and langtag_distance(desired, supported)
+ * (UTS #35). langtag_best_for_header(header, tag, ..) is the tag that a reader wants, NULL where it is none of them.
  * langtag_matches_basic(range, tag) and langtag_matches_extended(range, tag) are 0 where a text is not a range, or not a
  * tag (RFC 4647 sections 3.3.1 and 3.3.2). Each call with a NULL is NULL. In the order of the collation a tag comes after
  * those that begin with it; ORDER BY lower(tag) is people's.
@@ -48,20 +52,78 @@ static void part(sqlite3_context *context, int count, sqlite3_value **values) {
         sqlite3_result_text(context, tag + span->start, (int)span->len, SQLITE_TRANSIENT);
 }
 
-static void canonical(sqlite3_context *context, int count, sqlite3_value **values) {
-    (void)count;
+typedef size_t writer(const char *tag, size_t len, char *buffer, size_t buffer_len);
+
+static void written(sqlite3_context *context, sqlite3_value **values, writer *write) {
     const char *tag = (const char *)sqlite3_value_text(values[0]);
     size_t len = (size_t)sqlite3_value_bytes(values[0]);
     char none;
-    size_t form_len = tag ? langtag_canonical(tag, len, &none, 0) : 0;
+    size_t form_len = tag ? write(tag, len, &none, 0) : 0;
     if (form_len == 0) return; /* NULL */
     char *form = sqlite3_malloc64(form_len);
     if (!form) {
         sqlite3_result_error_nomem(context);
         return;
     }
-    langtag_canonical(tag, len, form, form_len);
+    write(tag, len, form, form_len);
     sqlite3_result_text64(context, form, form_len, sqlite3_free, SQLITE_UTF8);
+}
+
+static void canonical(sqlite3_context *context, int count, sqlite3_value **values) {
+    (void)count;
+    written(context, values, langtag_canonical);
+}
+
+static void maximize(sqlite3_context *context, int count, sqlite3_value **values) {
+    (void)count;
+    written(context, values, langtag_maximize);
+}
+
+static void minimize(sqlite3_context *context, int count, sqlite3_value **values) {
+    (void)count;
+    written(context, values, langtag_minimize);
+}
+
+static void distance(sqlite3_context *context, int count, sqlite3_value **values) {
+    (void)count;
+    const char *desired = (const char *)sqlite3_value_text(values[0]), *supported = (const char *)sqlite3_value_text(values[1]);
+    size_t desired_len = (size_t)sqlite3_value_bytes(values[0]), supported_len = (size_t)sqlite3_value_bytes(values[1]);
+    uint32_t far = desired && supported ? langtag_distance(desired, desired_len, supported, supported_len) : LANGTAG_NO_DISTANCE;
+    if (far != LANGTAG_NO_DISTANCE) sqlite3_result_int(context, (int)far); /* else NULL */
+}
+
+static void is_right_to_left(sqlite3_context *context, int count, sqlite3_value **values) {
+    (void)count;
+    const char *tag = (const char *)sqlite3_value_text(values[0]);
+    size_t len = (size_t)sqlite3_value_bytes(values[0]);
+    if (tag && langtag_kind(tag, len)) sqlite3_result_int(context, langtag_is_right_to_left(tag, len)); /* else NULL */
+}
+
+/* The tags as spans of one text, in one block. */
+static void best_for_header(sqlite3_context *context, int count, sqlite3_value **values) {
+    if (count < 1) {
+        sqlite3_result_error(context, "langtag_best_for_header: a header is wanted", -1);
+        return;
+    }
+    const char *header = (const char *)sqlite3_value_text(values[0]);
+    size_t tags = (size_t)count - 1, header_len = (size_t)sqlite3_value_bytes(values[0]), len = 0;
+    if (!header) return; /* NULL */
+    for (size_t k = 1; k <= tags; k++) len += sqlite3_value_text(values[k]) ? (size_t)sqlite3_value_bytes(values[k]) : 0;
+    langtag_span *spans = sqlite3_malloc64(tags * sizeof *spans + len + 1);
+    if (!spans) {
+        sqlite3_result_error_nomem(context);
+        return;
+    }
+    char *text = (char *)(spans + tags);
+    for (size_t k = 0, at = 0; k < tags; k++) {
+        const unsigned char *tag = sqlite3_value_text(values[k + 1]);
+        spans[k] = (langtag_span){at, tag ? (size_t)sqlite3_value_bytes(values[k + 1]) : 0};
+        if (tag) memcpy(text + at, tag, spans[k].len);
+        at += spans[k].len;
+    }
+    size_t best = langtag_best_for_header(header, header_len, text, len, spans, tags);
+    if (best < tags) sqlite3_result_value(context, values[best + 1]); /* else NULL */
+    sqlite3_free(spans);
 }
 
 static void is_valid(sqlite3_context *context, int count, sqlite3_value **values) {
@@ -106,6 +168,11 @@ int sqlite3_sqlitelangtag_init(sqlite3 *db, char **message, const sqlite3_api_ro
         {"langtag_part", 2, part},
         {"langtag_canonical", 1, canonical},
         {"langtag_is_valid", 1, is_valid},
+        {"langtag_maximize", 1, maximize},
+        {"langtag_minimize", 1, minimize},
+        {"langtag_distance", 2, distance},
+        {"langtag_is_right_to_left", 1, is_right_to_left},
+        {"langtag_best_for_header", -1, best_for_header},
         {"langtag_matches_basic", 2, matches_basic},
         {"langtag_matches_extended", 2, matches_extended},
     };

@@ -32,6 +32,12 @@ def shown(expression):
 QUERIES = {
     "tag": lambda tag: f"SELECT {','.join(shown(f'langtag_part({text(tag)}, {name!r})') for name in PARTS)}",
     "canonical": lambda tag: f"SELECT {shown(f'langtag_canonical({text(tag)})')}",
+    "maximized": lambda tag: f"SELECT {shown(f'langtag_maximize({text(tag)})')}",
+    "minimized": lambda tag: f"SELECT {shown(f'langtag_minimize({text(tag)})')}",
+    "distance": lambda a, b: f"SELECT langtag_distance({text(a)}, {text(b)})",
+    "right-to-left": lambda tag: f"SELECT langtag_is_right_to_left({text(tag)})",
+    "best": lambda header, tags:
+        f"SELECT coalesce(langtag_best_for_header({', '.join(map(text, [header, *tags.split()]))}), '-')",
     "validity": lambda tag: f"SELECT coalesce(langtag_is_valid({text(tag)}), 'none')",
     "match": lambda range, tag: f"SELECT langtag_matches_basic({text(range)}, {text(tag)}),"
                                 f" langtag_matches_extended({text(range)}, {text(tag)})",
@@ -52,7 +58,12 @@ def answer_tag(said):
 # What a line says, in the words of the rows.
 ANSWERS = {
     "tag": answer_tag,
-    "canonical": lambda said: "-" if said == "NULL" else bytes_of(said),
+    "canonical": lambda said: bytes_of(said) or "-",
+    "maximized": lambda said: bytes_of(said) or "-",
+    "minimized": lambda said: bytes_of(said) or "-",
+    "distance": lambda said: said or "-",
+    "right-to-left": {"": "-", "1": "yes", "0": "no"}.get,
+    "best": lambda said: said,
     "validity": {"none": "none", "1": "valid", "0": "invalid"}.get,
     "match": {"1|1": "both", "1|0": "basic", "0|1": "extended", "0|0": "neither"}.get,
     "order": {"1|0|0": "before", "0|1|0": "equal", "0|0|1": "after"}.get,
@@ -69,6 +80,8 @@ def adapted(row):
     return "".join(f"\n  {name} {'-'.join(subtags)}" for name, *subtags in lines if name in PARTS)
 
 
+FLOORS = {"table.txt": 240, "likely.txt": 250, "distance.txt": 140, "direction.txt": 330, "choices.txt": 260}
+
 TABLE = "CREATE TABLE texts (tag TEXT PRIMARY KEY COLLATE langtag); INSERT INTO texts VALUES ('zh-Hant'), ('de'), ('zh'), ('');"
 # Statements, and what SQLite says to them.
 STATEMENTS = [
@@ -77,6 +90,10 @@ STATEMENTS = [
     ("SELECT langtag_matches_basic('de', NULL) IS NULL, langtag_matches_extended(NULL, 'de') IS NULL;", "1|1"),
     ("SELECT langtag_part('zh-Hant', 'script'), typeof(langtag_canonical('iw')), typeof(langtag_is_valid('iw'));",
      "Hant|text|integer"),
+    ("SELECT langtag_maximize(NULL) IS NULL, langtag_distance('de', NULL) IS NULL, langtag_best_for_header(NULL, 'de') IS NULL;",
+     "1|1|1"),
+    ("SELECT langtag_best_for_header('zh-TW,zh;q=0.9,en;q=0.8', 'en', 'zh-Hans', NULL, 'zh-Hant');", "zh-Hant"),
+    ("SELECT langtag_best_for_header('fi', 'en') IS NULL, langtag_best_for_header('fi') IS NULL;", "1|1"),
     (TABLE + "CREATE INDEX forms ON texts (langtag_canonical(tag), langtag_part(tag, 'script')); SELECT 1;", "1"),
     (TABLE + "CREATE INDEX valid ON texts (langtag_is_valid(tag), langtag_matches_basic('de', tag)); SELECT 1;", "1"),
     (TABLE + "SELECT tag FROM texts WHERE tag = 'ZH-hant';", "zh-Hant"),
@@ -89,13 +106,14 @@ STATEMENTS = [
 
 class Sqlite(unittest.TestCase):
     def test_rows(self):
-        asked = [row for row in rows.read(rows.FOLDER / "table.txt") if row.call in QUERIES]
+        asked = [row for name in FLOORS for row in rows.read(rows.FOLDER / name) if row.call in QUERIES]
         said, complaint = sqlite("".join(f"{QUERIES[row.call](*row.arguments)};\n" for row in asked))
         self.assertEqual(complaint, "")
         lines = dict(zip(((row.call, *row.arguments) for row in asked), said.splitlines()))
         asker = rows.Asker({call: lambda *arguments, call=call: ANSWERS[call](lines[(call, *arguments)]) for call in QUERIES},
                            adapted)
-        asker.ask(rows.FOLDER / "table.txt", 240)
+        for name, floor in FLOORS.items():
+            asker.ask(rows.FOLDER / name, floor)
         if asker.failures():
             self.fail("\n" + asker.failures())
 
@@ -107,7 +125,8 @@ class Sqlite(unittest.TestCase):
     def test_memory(self):
         """What SQLite's allocator has given stays the same over 20,000 calls of each."""
         numbers = "WITH RECURSIVE n(k) AS (SELECT 1 UNION ALL SELECT k + 1 FROM n WHERE k < {})"
-        calls = ("langtag_part('de-x-a' || k, 'private_use')", "langtag_canonical('iw-x-a' || k)", "langtag_is_valid('de' || k)",
+        calls = ("langtag_best_for_header('de', 'en', 'de-x-a' || k)", "langtag_maximize('de-x-a' || k)",
+                 "langtag_part('de-x-a' || k, 'private_use')", "langtag_canonical('iw-x-a' || k)", "langtag_is_valid('de' || k)",
                  "langtag_matches_basic('de', 'de-x-a' || k)", "langtag_matches_extended('de', 'de-x-a' || k)")
         asked = ", ".join(f"count({call})" for call in calls)
         statements = "".join(f"{numbers.format(count)} SELECT {asked} FROM n;\n" for count in (100, 20_000))

@@ -18,7 +18,7 @@
  *   4. What one argument lets a call write (an out struct, `rest`, a buffer, the bytes of langtag_fold and
  *      langtag_recommend), no other argument of the call leads to. Where two texts are only read, they may be the same,
  *      or share bytes.
- *   5. The processor has SSE4.2 (x86-64-v2), and calls follow the System V convention. 1 KiB of the stack is free for
+ *   5. The processor has SSE4.2 (x86-64-v2), and calls follow the System V convention. 2 KiB of the stack is free for
  *      each call, and 96 KiB for langtag_repeats.
  *
  * Offsets and lengths are numbers of bytes, offsets from the start of the text. Case is that of ASCII letters alone.
@@ -104,6 +104,22 @@ LANGTAG_PURE size_t langtag_viable(const char *bytes, size_t len);
  * that takes one byte after the other. "i-no": 4. "en-": 3.
  */
 LANGTAG_PURE size_t langtag_stop(const char *bytes, size_t len);
+
+/* What langtag_refused answers: that a text is a tag, or why it is not. */
+enum langtag_refused_answer {
+    LANGTAG_REFUSED_NONE = 0,   /* it is a tag */
+    LANGTAG_REFUSED_SUBTAG = 1, /* a subtag does not fit where it stands: DE of de-419-DE, the empty one of de--AT */
+    LANGTAG_REFUSED_BYTE = 2,   /* a subtag has a byte that is no letter and no digit: _ of de_CH */
+    LANGTAG_REFUSED_END = 3     /* it ends too soon: en-, en-a, i-kling */
+};
+
+/*
+ * Where a text that is not a tag goes wrong, for a message: an enum langtag_refused_answer, the subtag (out), which is the
+ * first one up to whose end the text is neither a tag nor, before a hyphen, the beginning of one, and the offset to point at
+ * (out): where that subtag begins, or its first byte that is no letter and no digit. Where the answer is
+ * LANGTAG_REFUSED_NONE or LANGTAG_REFUSED_END, the subtag has no byte, and both are at the end of the text.
+ */
+uint32_t langtag_refused(const char *bytes, size_t len, langtag_span *subtag, size_t *offset);
 
 /* Whether two texts, of any bytes, are equal but for case, which has no meaning in tags (RFC 5646 section 2.1.1). */
 LANGTAG_PURE bool langtag_eq(const char *a, size_t a_len, const char *b, size_t b_len);
@@ -255,6 +271,72 @@ LANGTAG_PURE bool langtag_is_canonical(const char *bytes, size_t len);
  * month and day as the digits of one number: 20051016 would be 2005-10-16. A later date is a greater number.
  */
 LANGTAG_PURE uint32_t langtag_registry_date(void);
+
+/*
+ * Writes a tag with its likely subtags to `buffer` (UTS #35, part 1, Add Likely Subtags, by langtag_cldr_version), and
+ * returns its length: zh-Hant-TW for zh-TW, en-Latn-US for en and for und. The buffer is written, or not, as by
+ * langtag_canonical. Each subtag that the tag has stays, and so does its case, but for und, Zzzz and ZZ. What is
+ * deprecated stays: langtag_canonical first replaces it. A tag of which nothing is known stays as it is, as x-a and qaa.
+ *
+ * 0, and nothing written, where the text is not a tag.
+ */
+size_t langtag_maximize(const char *bytes, size_t len, char *buffer, size_t buffer_len);
+
+/*
+ * The same for a tag without the subtags that are likely anyway (Remove Likely Subtags): zh-TW for zh-Hant-TW, en for
+ * en-Latn-US. Where either the script or the region says the other, the region stays.
+ */
+size_t langtag_minimize(const char *bytes, size_t len, char *buffer, size_t buffer_len);
+
+/*
+ * Whether the bytes are a tag that is written from right to left: by its script, and where it names none by the one that
+ * its language and its region have most likely. True of he, pa-PK and az-Arab, and false of ar-Latn, of und, of a tag for
+ * private use, and of what is not a tag.
+ */
+LANGTAG_PURE bool langtag_is_right_to_left(const char *bytes, size_t len);
+
+/*
+ * How far a supported tag is from one that a reader desires (UTS #35, part 1, Language Matching): 0 from zh-TW to
+ * zh-Hant, 4 from de-AT to de, 10 from yue to zh-HK, 84 from de to en, and 134 at most. Up to 15 the languages are nearly
+ * the same; below 50 most readers understand the one who read the other. Deprecated regions and the languages arb, cmn,
+ * in, iw, ji, jw, mo, sh and tl are replaced first; variants, extensions and private use are of no account. 255 where one
+ * of the two is und alone, irregular or for private use as a whole, but 0 where they are equal in any case.
+ *
+ * LANGTAG_NO_DISTANCE where one of the texts is not a tag.
+ */
+#define LANGTAG_NO_DISTANCE UINT32_MAX
+LANGTAG_PURE uint32_t langtag_distance(const char *desired, size_t desired_len, const char *supported, size_t supported_len);
+
+/*
+ * The index of the tag that the reader wants who sent an Accept-Language header, or `tags_len` where they want none. The
+ * tags are spans of one text; a span that is no tag, or reaches out of the text, is passed over.
+ *
+ *     const char *have = "en zh-Hans zh-Hant";
+ *     langtag_span tags[] = {{0, 2}, {3, 7}, {11, 7}};
+ *     size_t index = langtag_best_for_header(header, strlen(header), have, strlen(have), tags, 3);
+ *
+ * is 2 for zh-TW,zh;q=0.9,en;q=0.8. The first range, by weight, with a tag nearer than 16 gets the nearest one
+ * (langtag_distance); else the first with one nearer than 50; else what look-up finds (RFC 4647 section 3.4). A tag whose
+ * longest matching range has the weight 0 is not chosen, and "*" chooses nothing: the program's default stands. Each range
+ * that can be made out counts: _ is read as a hyphen, what follows . or @ is dropped, a weight that is no number is 1.
+ *
+ * The time grows with the length of the header times that of the tags; where a range has the weight 0, with the square of the
+ * header's length, which a server limits, as most do to 8 KiB.
+ */
+LANGTAG_PURE size_t langtag_best_for_header(const char *header, size_t header_len, const char *bytes, size_t len,
+                                            const langtag_span *tags, size_t tags_len);
+
+/*
+ * Writes the tag of a POSIX locale's name to `buffer` (IEEE Std 1003.1, section 8.2), and returns its length: pt-BR for
+ * pt_BR.UTF-8, sr-Latn-RS for sr_RS@latin, ca-ES-valencia for ca_ES@valencia. The buffer is written, or not, as by
+ * langtag_canonical. The codeset is dropped; of modifiers latin, cyrillic, devanagari and valencia count, in any case.
+ *
+ * 0, and nothing written, where language and territory are no tag, as in C, are POSIX, or have more than 255 bytes.
+ */
+size_t langtag_from_posix(const char *name, size_t name_len, char *buffer, size_t buffer_len);
+
+/* The version of Unicode's CLDR whose likely subtags and distances these are: 41. */
+LANGTAG_PURE uint32_t langtag_cldr_version(void);
 
 /*
  * The number of the text among the 26 grandfathered tags, in any case, by their order in RFC 5646 section 2.1, or

@@ -17,12 +17,19 @@
 #include <cstdint>
 #include <functional>
 #include <initializer_list>
+#include <iosfwd>
 #include <iterator>
 #include <optional>
+#include <stdexcept>
 #include <string>
 #include <string_view>
 #include <utility>
 #include <vector>
+#if defined(__has_include) && __cplusplus >= 202002L
+#if __has_include(<format>)
+#include <format>
+#endif
+#endif
 
 namespace langtag {
 
@@ -149,12 +156,14 @@ public:
     bool is_valid() const noexcept { return !invalid_subtag(); }
 
     /* The canonical form (RFC 5646 section 4.5), by the same registry: he of iw. */
-    std::string canonical() const {
-        char none;
-        std::string made(langtag_canonical(text_.data(), text_.size(), &none, 0), '\0');
-        langtag_canonical(text_.data(), text_.size(), &made[0], made.size());
-        return made;
-    }
+    std::string canonical() const { return written(langtag_canonical); }
+
+    /* The tag with its likely subtags (UTS #35), and without them: zh-Hant-TW of zh-TW, zh-TW of zh-Hant-TW. */
+    std::string maximized() const { return written(langtag_maximize); }
+    std::string minimized() const { return written(langtag_minimize); }
+
+    /* Whether it is written from right to left, by its own script or the likely one. */
+    bool is_right_to_left() const noexcept { return langtag_is_right_to_left(text_.data(), text_.size()); }
 
     /* Whether the tag is its own canonical form, whatever the case of its letters. */
     bool is_canonical() const noexcept { return langtag_is_canonical(text_.data(), text_.size()); }
@@ -184,6 +193,13 @@ private:
     friend class owned_tag;
     tag(std::string_view text, langtag::kind kind, const langtag_parts &parts) noexcept
         : text_(text), kind_(kind), parts_(parts) {}
+
+    std::string written(std::size_t (*write)(const char *, std::size_t, char *, std::size_t)) const {
+        char none;
+        std::string made(write(text_.data(), text_.size(), &none, 0), '\0');
+        write(text_.data(), text_.size(), &made[0], made.size());
+        return made;
+    }
 
     /* Each span lies within the text. */
     std::string_view cut(langtag_span span) const noexcept { return {text_.data() + span.start, span.len}; }
@@ -309,6 +325,14 @@ public:
         return read.has_value();
     }
 
+    /* A tag with a part set or taken out: t = t.with(part::script, "Latn").with(part::region, "RS"). Throws
+     * std::invalid_argument where `set` answers false. */
+    owned_tag with(part which, std::string_view given) const {
+        owned_tag made = *this;
+        if (!made.set(which, given)) throw std::invalid_argument(text_ + " can't have the part " + std::string(given));
+        return made;
+    }
+
     /* As tags are compared. */
     friend bool operator==(const owned_tag &a, const owned_tag &b) noexcept { return a.view() == b.view(); }
     friend bool operator!=(const owned_tag &a, const owned_tag &b) noexcept { return !(a == b); }
@@ -322,6 +346,41 @@ private:
     langtag::kind kind_;
     langtag_parts parts_;
 };
+
+/* Why a text is not a tag. */
+enum class refusal_kind : std::uint32_t {
+    subtag = LANGTAG_REFUSED_SUBTAG,
+    byte = LANGTAG_REFUSED_BYTE,
+    end = LANGTAG_REFUSED_END
+};
+
+/* Where a text goes wrong that is not a tag: the subtag that does not fit, and the offset to point at, which is its own or
+ * that of a byte that is no letter and no digit. Of a text that ends too soon the subtag is empty. */
+struct refusal {
+    refusal_kind kind;
+    std::string_view subtag;
+    std::size_t offset;
+
+    /* In words: "DE does not fit there", "it ends too soon". */
+    std::string message() const {
+        switch (kind) {
+        case refusal_kind::subtag: return subtag.empty() ? "a subtag is empty" : std::string(subtag) + " does not fit there";
+        case refusal_kind::byte: return std::string(subtag) + " has a byte that is no letter and no digit";
+        case refusal_kind::end: return "it ends too soon";
+        }
+        return {};
+    }
+};
+
+/* None where the text is a tag. */
+inline std::optional<refusal> refused(std::string_view text) noexcept {
+    langtag_span subtag;
+    std::size_t offset;
+    const std::uint32_t answer = langtag_refused(langtag_bytes(text.data()), text.size(), &subtag, &offset);
+    if (answer == LANGTAG_REFUSED_NONE) return std::nullopt;
+    return refusal{static_cast<refusal_kind>(answer), std::string_view(text.data() + subtag.start, subtag.len), offset};
+}
+template <class Allocator> std::optional<refusal> refused(temporary_string<Allocator>) = delete;
 
 /* The length of the longest prefix that some tag begins with: where a text goes wrong that is not a tag. */
 inline std::size_t viable(std::string_view text) noexcept {
@@ -468,6 +527,50 @@ private:
     std::string_view header_;
 };
 
+/* How far a supported tag is from one that a reader desires (UTS #35, Language Matching): 0 from zh-TW to zh-Hant, 134 at
+ * most; 255 where one of the two has no language that is known, and they are not equal. */
+inline std::uint32_t distance(const tag &desired, const tag &supported) noexcept {
+    const std::string_view a = desired.text(), b = supported.text();
+    return langtag_distance(a.data(), a.size(), b.data(), b.size());
+}
+
+/* The tag that a reader wants whose browser sends this Accept-Language header: zh-Hant for "zh-TW,zh;q=0.9,en;q=0.8". Bad
+ * elements are read as what they mean, as de_CH. None where it wants none of them: .value_or(..) */
+inline std::optional<tag> best_for_header(std::string_view header, const std::vector<tag> &tags) {
+    std::string text;
+    std::vector<langtag_span> spans;
+    for (const tag &tag : tags) {
+        spans.push_back({text.size(), tag.text().size()});
+        text.append(tag.text());
+    }
+    const langtag_span none = {0, 0};
+    const std::size_t best = langtag_best_for_header(langtag_bytes(header.data()), header.size(), text.data(), text.size(),
+                                                     spans.empty() ? &none : spans.data(), spans.size());
+    return best < tags.size() ? std::optional<tag>(tags[best]) : std::nullopt;
+}
+
+/* The tag of a POSIX locale's name: pt-BR of pt_BR.UTF-8. None where it names none, as C and POSIX. */
+inline std::optional<std::string> from_posix(std::string_view name) {
+    char none;
+    std::string made(langtag_from_posix(langtag_bytes(name.data()), name.size(), &none, 0), '\0');
+    if (made.empty()) return std::nullopt;
+    langtag_from_posix(name.data(), name.size(), &made[0], made.size());
+    return made;
+}
+
+/* The version of Unicode's CLDR whose likely subtags and distances these are. */
+inline std::uint32_t cldr_version() noexcept { return langtag_cldr_version(); }
+
+/* Writes the text of a tag. */
+template <class Traits>
+std::basic_ostream<char, Traits> &operator<<(std::basic_ostream<char, Traits> &out, const tag &tag) {
+    return out << tag.text();
+}
+template <class Traits>
+std::basic_ostream<char, Traits> &operator<<(std::basic_ostream<char, Traits> &out, const owned_tag &tag) {
+    return out << tag.text();
+}
+
 } // namespace langtag
 
 /* Equal tags hash alike. Whoever picks the tags can make them collide, as strings by most libraries. */
@@ -479,5 +582,19 @@ template <> struct std::hash<langtag::owned_tag> {
         return std::hash<langtag::tag>()(tag.view());
     }
 };
+
+/* The text of a tag, as std::format writes a text: {:>10} is ten wide. */
+#ifdef __cpp_lib_format
+template <> struct std::formatter<langtag::tag> : std::formatter<std::string_view> {
+    template <class Context> auto format(const langtag::tag &tag, Context &context) const {
+        return std::formatter<std::string_view>::format(tag.text(), context);
+    }
+};
+template <> struct std::formatter<langtag::owned_tag> : std::formatter<std::string_view> {
+    template <class Context> auto format(const langtag::owned_tag &tag, Context &context) const {
+        return std::formatter<std::string_view>::format(tag.text(), context);
+    }
+};
+#endif
 
 #endif

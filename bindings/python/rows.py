@@ -13,7 +13,7 @@ FOLDER = pathlib.Path(__file__).resolve().parent.parent.parent / "crates/langtag
 #: How many arguments each call has that is asked of the bindings.
 CALLS = {
     "tag": 1, "scan": 1, "recommended": 1, "validity": 1, "canonical": 1, "grandfathered": 1, "viable": 1, "range": 1,
-    "match": 2, "order": 2,
+    "refused": 1, "maximized": 1, "minimized": 1, "distance": 2, "right-to-left": 1, "posix": 1, "best": 2, "match": 2, "order": 2,
     "header": 2, "ranges": 2, "elements": 1, "fallbacks": 1, "filter": 3, "edit": 3,
 }
 

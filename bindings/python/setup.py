@@ -1,10 +1,14 @@
-"""Puts the shared library into the package: the one that stands there in an sdist, the one that LANGTAG_LIBRARY names, or
-the one that `make` in bindings/c writes."""
+"""Builds the package with its C module, one binary for each Python since 3.8; or, where that can't be, with the shared library,
+which the module reaches by ctypes. Both come from an sdist, or from the repository: the archive from crates/langtag_c/out, the
+library from bindings/c/build. LANGTAG_ARCHIVE and LANGTAG_LIBRARY name others."""
 import os
 import pathlib
+import platform
 import shutil
+import sys
+import sysconfig
 
-from setuptools import setup
+from setuptools import Extension, setup
 from setuptools.command.build_py import build_py
 
 try:
@@ -16,25 +20,56 @@ NAME = "liblangtag_verified.so.1"
 HERE = pathlib.Path(__file__).resolve().parent
 
 
+def found(variable, *paths):
+    """The file that a variable names, or else the first of the paths that is there; None where none is."""
+    paths = [os.environ[variable]] if os.environ.get(variable) else paths
+    return next((path for path in map(pathlib.Path, paths) if path.is_file()), None)
+
+
+ARCHIVE = found("LANGTAG_ARCHIVE", HERE / "liblangtag_c.a", HERE / "../../crates/langtag_c/out/liblangtag_c.a")
+LIBRARY = found("LANGTAG_LIBRARY", HERE / "langtag" / NAME, HERE / "../c/build" / NAME)
+HEADER = next((path for path in (HERE / "langtag.h", HERE / "../include/langtag.h") if path.is_file()), HERE / "langtag.h")
+
+
+def lacking():
+    """Why the C module can't be built, if so."""
+    if platform.python_implementation() != "CPython" or sysconfig.get_config_var("Py_GIL_DISABLED"):
+        return "this Python does not load modules of the stable ABI"
+    if not pathlib.Path(sysconfig.get_paths()["include"], "Python.h").is_file():
+        return "there is no Python.h (in Debian: apt-get install python3-dev)"
+    return None if ARCHIVE else "there is no liblangtag_c.a (`rt lib` in crates/langtag_c, or LANGTAG_ARCHIVE)"
+
+
+LACKING = lacking()
+if LACKING:
+    print(f"langtag: no C module, and ctypes instead: {LACKING}", file=sys.stderr)
+
+
 class WithLibrary(build_py):
     def run(self):
         super().run()
-        packed = HERE / "langtag" / NAME
-        library = packed if packed.is_file() else pathlib.Path(os.environ.get("LANGTAG_LIBRARY", HERE.parent / "c/build" / NAME))
-        if not library.is_file():
-            raise SystemExit(f"there is no {library}: run `make` in bindings/c, or name the library by LANGTAG_LIBRARY")
-        shutil.copy(library, pathlib.Path(self.build_lib, "langtag", NAME))
+        if not LACKING:
+            return
+        if not LIBRARY:
+            raise SystemExit(f"there is no {NAME} either: run `make` in bindings/c, or name the library by LANGTAG_LIBRARY")
+        shutil.copy(LIBRARY, pathlib.Path(self.build_lib, "langtag", NAME))
 
 
 class ForEachPython(bdist_wheel):
-    """One wheel for each Python of one platform: the module is Python alone, and the library no extension of it."""
+    """One wheel for each Python of one platform."""
 
     def finalize_options(self):
         super().finalize_options()
         self.root_is_pure = False
 
     def get_tag(self):
-        return ("py3", "none", super().get_tag()[2])
+        return ("py3", "none") + super().get_tag()[2:] if LACKING else ("cp38", "abi3") + super().get_tag()[2:]
 
 
-setup(cmdclass={"build_py": WithLibrary, "bdist_wheel": ForEachPython})
+MODULE = Extension(
+    "langtag._native", sorted(os.path.relpath(path, HERE) for path in (HERE / "native").glob("*.c")),
+    include_dirs=[str(HEADER.parent)], extra_objects=[str(ARCHIVE)], py_limited_api=True,
+    extra_compile_args=["-std=c11", "-fvisibility=hidden"],
+    extra_link_args=["-Wl,--exclude-libs,ALL", "-Wl,-z,relro,-z,now,-z,noexecstack", "-Wl,--gc-sections"],
+)
+setup(cmdclass={"build_py": WithLibrary, "bdist_wheel": ForEachPython}, ext_modules=[] if LACKING else [MODULE])

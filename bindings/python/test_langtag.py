@@ -6,10 +6,12 @@ import gc
 import itertools
 import os
 import pickle
+import pydoc
 import random
 import re
 import subprocess
 import sys
+import threading
 import time
 import tracemalloc
 import unittest
@@ -17,7 +19,7 @@ import weakref
 
 import langtag
 from langtag import (AcceptLanguage, EditError, InvalidRange, InvalidTag, Kind, Range, Tag, kind, look_up, parse, stop,
-                     tag_for_header_lenient, viable)
+                     tag_for_header, tag_for_header_lenient, viable)
 
 
 class Parts(unittest.TestCase):
@@ -59,6 +61,7 @@ class Kinds(unittest.TestCase):
         for text in (Short(b"zh-Hant"), Long(b"zh-Hant"), Odd("zh-Hant")):
             self.assertEqual((str(parse(text)), kind(text), viable(text), stop(text)), ("zh-Hant", Kind.NORMAL, 7, 7))
             self.assertEqual(str(Range(text)), "zh-Hant")
+        self.assertEqual((kind(Short(b"de\0")), viable(Short(b"de\0"))), (None, 2))
 
     def test_where_a_text_goes_wrong(self):
         self.assertEqual((viable("i-no"), stop("i-no"), viable("en-"), stop("en-")), (3, 4, 3, 3))
@@ -103,6 +106,21 @@ class Values(unittest.TestCase):
         self.assertEqual((str(parse("ZH-hant")), repr(parse("ZH-hant"))), ("ZH-hant", "Tag('ZH-hant')"))
         self.assertEqual((str(parse("EN-ca-X-CA").recommended()), parse("EN-ca-X-CA").folded()), ("en-CA-x-ca", "en-ca-x-ca"))
 
+    def test_lengths(self):
+        """Of a form, around the room that a call may have for it."""
+        for length in (*range(180, 200), *range(500, 530), 5000):
+            rest = ("-abcdefg" * length)[:length].rstrip("-")
+            tag = Tag("iw-x" + rest)
+            self.assertEqual(str(tag.canonical()), "he-x" + rest)
+            self.assertEqual((str(tag.replace(script="Hebr")), tag.folded()), ("iw-Hebr-x" + rest, str(tag)))
+
+    def test_key(self):
+        self.assertEqual({Tag(text).key() for text in ("IW-il", "he-IL", "iw-IL")}, {"he-IL"})
+
+    def test_single_letters(self):
+        """Bytes of one byte are shared by all of Python, and must not be changed in their place."""
+        self.assertEqual((hash(Range("A")), str(Range("A")), b"A"[0]), (hash(Range("a")), "A", 65))
+
     def test_habits(self):
         class Noted(Tag):
             pass
@@ -140,14 +158,27 @@ class Ranges(unittest.TestCase):
             self.assertEqual((caught.exception.text, str(caught.exception)), (text, f"{text!r} is not a language range"))
 
     def test_matching_of_no_tag(self):
-        for value in ("de", b"de", None, Range("de")):
+        for value in (5, None, Range("de")):
             with self.assertRaises(TypeError):
                 Range("de").matches_extended(value)
             with self.assertRaises(TypeError):
                 Range("de").matches_basic(value)
 
+    def test_matching_of_texts(self):
+        for text in ("DE-at", b"DE-at"):
+            self.assertTrue(Range("de").matches_basic(text) and Range("*-AT").matches_extended(text))
+        for text in ("de_AT", b"", "\ud800"):
+            with self.assertRaises(InvalidTag):
+                Range("*").matches_basic(text)
+
 
 class Negotiation(unittest.TestCase):
+    def test_no_header(self):
+        for call in (tag_for_header, tag_for_header_lenient):
+            self.assertEqual(call(None, [Tag("de")], 5), 5)
+            with self.assertRaises(TypeError):
+                call(5, [Tag("de")], None)
+
     def test_ranges(self):
         accepted = AcceptLanguage.lenient("FR;q=0.5, d!, de, *;q=0, nl;q=0.25")
         found = [(str(range), weight) for range, weight in accepted.ranges]
@@ -161,6 +192,10 @@ class Negotiation(unittest.TestCase):
         for ranges, tags in (([Range("de")], ["de"]), (["de"], [Tag("de")]), ([Tag("de")], [Tag("de")])):
             with self.assertRaises(TypeError):
                 look_up(ranges, tags, None)
+
+    def test_equal_weights(self):
+        for header in ("a, nl, b", "a;q=0.5, nl;q=0.5, b;q=0.5, c;q=0.5, fr;q=0.1"):
+            self.assertEqual(str(tag_for_header_lenient(header, [Tag("fr"), Tag("nl")], None)), "nl")
 
     def test_weights(self):
         """Every text of up to four bytes of these as a weight, and some longer ones, beside RFC 9110 section 12.4.2."""
@@ -245,6 +280,75 @@ class Memory(unittest.TestCase):
             self.calls(number)
         gc.collect()
         self.assertLess(tracemalloc.get_traced_memory()[0] - before, 2000 * 20)
+
+
+IS_NATIVE = langtag._backend.__name__ == "langtag._native"
+
+#: What each of several interpreters does.
+INTERPRETED = """
+import langtag
+tag = langtag.Tag("zh-Hant-TW")
+assert tag.script == "Hant" and tag == langtag.Tag("ZH-hant-tw") and langtag.Tag("iw").key() == "he"
+try:
+    langtag.Tag("de_CH")
+except langtag.InvalidTag:
+    pass
+"""
+
+
+class Threads(unittest.TestCase):
+    def test_that_others_run_during_a_long_call(self):
+        numbers = random.Random(1)
+        tag = Tag("de-" + "-".join(f"{number:05}" for number in numbers.sample(range(100_000), 50_000)))
+        seen, running = [], threading.Event()
+
+        def ask():
+            running.set()
+            tag.repeated_variant
+            running.clear()
+
+        for _ in range(5):
+            thread = threading.Thread(target=ask)
+            thread.start()
+            while thread.is_alive():
+                seen.append(running.is_set())
+            thread.join()
+        self.assertGreater(sum(seen), 100)
+
+    @unittest.skipUnless(IS_NATIVE, "ctypes itself is not for several interpreters in each Python")
+    def test_interpreters(self):
+        try:
+            import _interpreters as interpreters
+        except ImportError:
+            import _xxsubinterpreters as interpreters
+        for _ in range(3):
+            made = interpreters.create()
+            failed = interpreters.run_string(made, f"import sys; sys.path[:] = {sys.path!r}" + INTERPRETED)
+            self.assertIsNone(failed)
+            interpreters.destroy(made)
+        self.assertEqual(str(Tag("de")), "de")
+
+
+class Backends(unittest.TestCase):
+    @unittest.skipUnless(IS_NATIVE and "LANGTAG_OTHER" in os.environ, "there is one")
+    def test_that_both_say_the_same(self):
+        """Names and help; LANGTAG_OTHER names the library."""
+        code = """import inspect, langtag
+for name, value in [*vars(langtag._backend.TagBase).items(), *vars(langtag._backend.RangeBase).items()]:
+    if name[0] != "_": print(name, inspect.getdoc(value))"""
+        said = [sorted(" ".join(subprocess.run([sys.executable, "-c", code], capture_output=True, text=True, check=True,
+                                               env={**os.environ, "LANGTAG_LIBRARY": library}).stdout.split()))
+                for library in ("", os.environ["LANGTAG_OTHER"])]
+        self.assertEqual(*said)
+
+
+class Help(unittest.TestCase):
+    def test_that_it_shows_the_calls(self):
+        said = pydoc.render_doc(langtag, renderer=pydoc.plaintext)
+        for name in ("matches_basic", "canonical", "key", "tag_for_header_lenient", "viable", "invalid_subtag", "private_use"):
+            self.assertIn(name, said)
+        for name in ("with_traceback", "__getnewargs__", "_asdict", "add_note"):
+            self.assertNotIn(f" {name}(", said)
 
 
 class Library(unittest.TestCase):

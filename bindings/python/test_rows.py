@@ -30,6 +30,10 @@ def copied(error):
     return again
 
 
+def parts(tag):
+    return tag.kind, tag.language, tag.script, tag.region, tag.variants, tag.extensions, tag.private_use
+
+
 def answer_tag(text):
     tag, kind = made(Tag, text), KINDS[langtag.kind(text)]
     if tag is None:
@@ -48,6 +52,7 @@ def answer_tag(text):
     if tag.private_use:
         lines.append(f"  private_use {tag.private_use.replace('-', ' ')}")
     lines += [f"  {name} {getattr(tag, name)}" for name in ("repeated_variant", "repeated_singleton") if getattr(tag, name)]
+    assert parts(tag.recommended()) == parts(Tag(str(tag.recommended())))
     return "\n".join(lines + [f"  recommended {tag.recommended()}", f"  folded {tag.folded()}", f"  hash {tag.fnv1a():016x}"])
 
 
@@ -198,13 +203,59 @@ def answer_edit(tag, part, given):
     return found
 
 
+def likely(text, form):
+    tag = made(Tag, text)
+    return "-" if tag is None else str(form(tag))
+
+
+def answer_refused(text):
+    """The kind by the message."""
+    try:
+        Tag(text)
+    except InvalidTag as error:
+        assert text.decode("utf-8", "backslashreplace").find(error.subtag) >= 0 and error.viable <= len(text)
+        why = str(error).rpartition(": ")[2]
+        kind = "end" if why == "it ends too soon" else "byte" if why.endswith("stands in no subtag") else "subtag"
+        answer, start, length, offset = langtag._backend.refused(text)
+        assert offset == error.offset and text[start : start + length].decode("utf-8", "backslashreplace") == error.subtag
+        return f"{kind} {start} {length} {offset}"
+    return f"none {len(text)} 0 {len(text)}"
+
+
+def answer_distance(desired, supported):
+    desired, supported = made(Tag, desired), made(Tag, supported)
+    return "-" if desired is None or supported is None else str(langtag.distance(desired, supported))
+
+
+def answer_direction(text):
+    tag = made(Tag, text)
+    return "-" if tag is None else "yes" if tag.is_right_to_left else "no"
+
+
+def answer_posix(name):
+    try:
+        return str(Tag.from_posix(name))
+    except ValueError:
+        return "-"
+
+
+def answer_best(header, tags):
+    texts = tags.decode().split()
+    found = langtag.best_for_header(header, texts, DEFAULT)
+    assert langtag.best_for_header(header, map(Tag, texts), DEFAULT) == (found if found == DEFAULT else Tag(found))
+    return found
+
+
 ANSWERS = {
+    "refused": answer_refused, "distance": answer_distance, "right-to-left": answer_direction, "posix": answer_posix, "best": answer_best,
+    "maximized": lambda text: likely(text, Tag.maximized), "minimized": lambda text: likely(text, Tag.minimized),
     "tag": answer_tag, "scan": answer_scan, "recommended": answer_recommended, "validity": answer_validity,
     "canonical": answer_canonical, "grandfathered": answer_grandfathered,
     "viable": lambda text: f"{langtag.viable(text)} {langtag.stop(text)}", "range": answer_range, "match": answer_match,
     "order": answer_order, "header": answer_header, "ranges": answer_ranges, "edit": answer_edit,
 }
-FLOORS = {"table.txt": 300, "texts.txt": 700, "negotiation.txt": 95, "edits.txt": 75}
+FLOORS = {"table.txt": 300, "texts.txt": 700, "negotiation.txt": 95, "edits.txt": 75, "likely.txt": 250,
+          "refused.txt": 60, "distance.txt": 140, "direction.txt": 330, "posix.txt": 80, "choices.txt": 260}
 
 
 class Rows(unittest.TestCase):

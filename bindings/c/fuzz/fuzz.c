@@ -185,23 +185,67 @@ static void check_form(slice text, slice form) {
     SAME(split(new.parts[3]).count == split(old.parts[3]).count);
 }
 
-/* langtag_canonical, with more room than is wanted, just as much, or less, and of a text in another case. A form is longer
- * by a byte for each heploc, or by five for en-GB-oed. */
-static void check_canonical(slice text, slice other, pages out) {
-    char form[2 * ROOM], filled[2 * ROOM], others[2 * ROOM];
-    size_t len = langtag_canonical(text.at, text.len, out.last, 0), room = below(3) ? len : below(2 * ROOM);
-    SAME((len == 0) == (read_tag(text).kind == 0) && len <= text.len + text.len / 7 + 5);
+typedef size_t write_form(const char *, size_t, char *, size_t);
+
+/* A form with more room than is wanted, just as much, or less: only it changes a byte, and only where there is room. */
+static size_t check_room(slice text, write_form *write, char *form, pages out) {
+    char filled[2 * ROOM];
+    size_t len = write(text.at, text.len, out.last, 0), room = below(3) ? len : below(2 * ROOM);
     if (room > 0 && below(4) == 0) room--;
     memset(filled, 0x5a, sizeof filled);
     char *buffer = place(out, filled, room, below(2));
-    SAME(langtag_canonical(text.at, text.len, buffer, room) == len);
+    SAME(write(text.at, text.len, buffer, room) == len && len <= 2 * ROOM);
     size_t written = len <= room ? len : 0;
     SAME(memcmp(buffer + written, filled, room - written) == 0);
-    SAME(langtag_canonical(text.at, text.len, form, sizeof form) == len && memcmp(form, buffer, written) == 0);
+    SAME(write(text.at, text.len, form, 2 * ROOM) == len && memcmp(form, buffer, written) == 0);
+    return len;
+}
+
+/* langtag_canonical, also of a text in another case. A form is longer by a byte for each heploc, or by five for en-GB-oed. */
+static void check_canonical(slice text, slice other, pages out) {
+    char form[2 * ROOM], others[2 * ROOM];
+    size_t len = check_room(text, langtag_canonical, form, out);
+    SAME((len == 0) == (read_tag(text).kind == 0) && len <= text.len + text.len / 7 + 5);
     if (len > 0) check_form(text, (slice){form, len});
     if (!are_alike(text, other)) return;
     SAME(langtag_canonical(other.at, other.len, others, sizeof others) == len);
     SAME(are_alike((slice){others, len}, (slice){form, len}));
+}
+
+/* langtag_maximize or langtag_minimize: the form is its own, and has the tag's variants, extensions and private use. */
+static void check_likely(slice text, write_form *write, pages out) {
+    char form[2 * ROOM], again[2 * ROOM];
+    size_t len = check_room(text, write, form, out);
+    tag old = read_tag(text), new = read_tag((slice){form, len});
+    SAME(new.kind == old.kind && (len == 0) == (old.kind == 0));
+    for (int k = 3; k < 6; k++) SAME(has_same_bytes(new.parts[k], old.parts[k]));
+    SAME(write(form, len, again, sizeof again) == len && memcmp(form, again, len) == 0);
+}
+
+/* langtag_from_posix: of a tag with neither codeset nor modifier it is that tag. */
+static void check_posix(slice name, pages out) {
+    char form[2 * ROOM];
+    size_t len = check_room(name, langtag_from_posix, form, out);
+    SAME(len == 0 || read_tag((slice){form, len}).kind != 0);
+    SAME(read_tag(name).kind == 0 || name.len > 255 || has_same_bytes((slice){form, len}, name) ||
+         are_alike(name, (slice){"posix", 5}));
+}
+
+/* langtag_distance, langtag_is_right_to_left and langtag_best_for_header */
+static void check_choice(slice text, slice other, slice header) {
+    bool is_tag = read_tag(text).kind != 0, are_tags = is_tag && read_tag(other).kind != 0;
+    uint32_t distance = langtag_distance(text.at, text.len, other.at, other.len);
+    langtag_span tags[4];
+    SAME((distance == LANGTAG_NO_DISTANCE) == !are_tags);
+    SAME(!are_tags || distance <= 134 || distance == 255);
+    SAME(!are_tags || !are_alike(text, other) || distance == 0);
+    SAME(is_tag || !langtag_is_right_to_left(text.at, text.len));
+    for (int k = 0; k < 4; k++) tags[k] = (langtag_span){below(2) * below(text.len + 2), below(text.len + 2)};
+    size_t count = below(5), index = langtag_best_for_header(header.at, header.len, text.at, text.len, tags, count);
+    SAME(index <= count);
+    if (index == count) return;
+    SAME(tags[index].start <= text.len && tags[index].len <= text.len - tags[index].start);
+    SAME(read_tag(at(text, tags[index])).kind != 0);
 }
 
 /* langtag_range_kind and both ways to match */
@@ -266,12 +310,18 @@ static unsigned check_one(pages here, pages there, pages out) {
     check_odd_spans(placed);
     check_with_part(placed, neighbour, out);
     check_canonical(placed, neighbour, out);
+    check_likely(placed, langtag_maximize, out);
+    check_likely(placed, langtag_minimize, out);
+    check_posix(placed, out);
+    check_choice(placed, neighbour, neighbour);
     check_ranges(neighbour, placed);
     check_fallbacks(placed);
     check_header(placed);
     check_ranges((slice){place(there, range, range_len, at_the_end), range_len}, placed);
     check_fallbacks((slice){place(there, range, range_len, at_the_end), range_len});
-    check_header((slice){place(there, header, header_len, at_the_end), header_len});
+    slice sent = {place(there, header, header_len, at_the_end), header_len};
+    check_header(sent);
+    check_choice(placed, sent, sent);
     unsigned kind = langtag_kind(bytes, len);
     check_case(bytes, len);
     SAME(langtag_kind(bytes, len) == kind);

@@ -6,12 +6,14 @@ static langtag_parts parts;
 static langtag_span rest, found;
 static langtag_repeated repeated;
 static uint32_t weight;
+static size_t offset;
 static char buffer[2 * sizeof text];
 
 FUNCTION(parse, result = langtag_parse(text, len, &parts))
 FUNCTION(kind, result = langtag_kind(text, len))
 FUNCTION(viable, result = langtag_viable(text, len))
 FUNCTION(stop, result = langtag_stop(text, len))
+FUNCTION(refused, result = langtag_refused(text, len, &found, &offset))
 FUNCTION(eq, result = langtag_eq(text, len, other, len))
 FUNCTION(cmp, result = (uint64_t)langtag_cmp(text, len, other, len))
 FUNCTION(hash, result = langtag_hash(LANGTAG_HASH, text, len))
@@ -25,6 +27,15 @@ FUNCTION(repeats, result = langtag_repeats(text, len, &repeated))
 FUNCTION(validity, result = langtag_validity(text, len, &found))
 FUNCTION(canonical, result = langtag_canonical(text, len, buffer, sizeof buffer))
 FUNCTION(registry_date, result = langtag_registry_date())
+FUNCTION(maximize, result = langtag_maximize(text, len, buffer, sizeof buffer))
+FUNCTION(minimize, result = langtag_minimize(text, len, buffer, sizeof buffer))
+FUNCTION(is_right_to_left, result = langtag_is_right_to_left(text, len))
+FUNCTION(distance, result = langtag_distance(text, len, other, len))
+FUNCTION(best_for_header, found = (langtag_span){0, len};
+         result = langtag_best_for_header(text, len, "de-DE", 5, &(langtag_span){0, 5}, 1) +
+                  langtag_best_for_header("de", 2, text, len, &found, 1))
+FUNCTION(from_posix, result = langtag_from_posix(text, len, buffer, sizeof buffer))
+FUNCTION(cldr_version, result = langtag_cldr_version())
 FUNCTION(is_canonical, result = langtag_is_canonical(text, len))
 FUNCTION(grandfathered, result = langtag_grandfathered(text, len))
 FUNCTION(range_kind, result = langtag_range_kind(text, len))
@@ -43,6 +54,7 @@ static const struct function functions[] = {
     {"kind", kind},
     {"viable", viable},
     {"stop", stop},
+    {"refused", refused},
     {"eq", eq},
     {"cmp", cmp},
     {"hash", hash},
@@ -54,6 +66,13 @@ static const struct function functions[] = {
     {"validity", validity},
     {"canonical", canonical},
     {"registry_date", registry_date},
+    {"maximize", maximize},
+    {"minimize", minimize},
+    {"is_right_to_left", is_right_to_left},
+    {"distance", distance},
+    {"best_for_header", best_for_header},
+    {"from_posix", from_posix},
+    {"cldr_version", cldr_version},
     {"is_canonical", is_canonical},
     {"grandfathered", grandfathered},
     {"range_kind", range_kind},

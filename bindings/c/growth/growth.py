@@ -11,11 +11,13 @@ import tempfile
 
 FEW = 5000  # instructions that a text of any length may take
 MOST = 2.2
-# What is known, and documented, to grow with the square: repeated variants past 8192, by blocks, and variants with prefixes.
+# What is known, and documented, to grow with the square: repeated variants past 8192, by blocks, variants with prefixes, and a
+# header in which many ranges would have a tag that another of weight 0 refuses.
 SQUARES = {
     ("repeats", "many_variants"): 3,
     ("repeated_variant", "many_variants"): 3,
     ("misplaced_variant", "prefixed"): 4.4,
+    ("best_for_header", "refused"): 4.4,
 }
 # What a header declares, and a source of Rattle exports.
 DECLARED = re.compile(r'\blangtag_(\w+)\([^;{]*\);|extern "C" fn langtag_bench_(\w+)')

@@ -120,32 +120,74 @@ static void answer_validity(text *to, const text *arguments) {
     put_bytes(to, a.at + invalid.start, invalid.len);
 }
 
-/* The form in more room than is wanted, in just as much, and in less, of which only the form may change a byte. */
-static void answer_canonical(text *to, const text *arguments) {
-    text a = arguments[0];
-    size_t len = langtag_canonical(a.at, a.len, (char[]){'~'}, 0);
+typedef size_t write_form(const char *, size_t, char *, size_t);
+
+/* A form in more room than is wanted, in just as much, and in less, of which only the form may change a byte. */
+static void put_form(text *to, text a, write_form *write) {
+    size_t len = write(a.at, a.len, (char[]){'~'}, 0);
     size_t rooms[] = {len + 8, len, len > 0 ? len - 1 : 0};
-    if (len == 0) put_word(to, langtag_is_canonical(a.at, a.len) ? " - that is canonical" : " -");
+    if (len == 0) put_word(to, " -");
     for (int k = 0; k < 3; k++) {
         size_t room = rooms[k], at = len <= room ? len : 0;
         char *buffer = malloc(room ? room : 1);
         if (!buffer) abort();
         memset(buffer, '~', room);
-        if (langtag_canonical(a.at, a.len, buffer, room) != len) put_word(to, " whose length changes with the room");
+        if (write(a.at, a.len, buffer, room) != len) put_word(to, " whose length changes with the room");
         if (at > 0 && k == 0) put_bytes(to, buffer, len);
         if (at > 0 && memcmp(to->at + 1, buffer, len) != 0) put_word(to, " that changes with the room");
-        if (at > 0 && langtag_is_canonical(a.at, a.len) != langtag_eq(a.at, a.len, buffer, len))
-            put_word(to, " but langtag_is_canonical says otherwise");
         for (; at < room; at++)
             if (buffer[at] != '~') put_word(to, " and a byte after it");
         free(buffer);
     }
 }
 
+static void answer_canonical(text *to, const text *arguments) {
+    text a = arguments[0];
+    put_form(to, a, langtag_canonical);
+    bool is_tag = langtag_kind(a.at, a.len) != LANGTAG_NONE;
+    bool is_form = is_tag && to->len == a.len + 1 && langtag_eq(a.at, a.len, to->at + 1, a.len);
+    if (langtag_is_canonical(a.at, a.len) != is_form) put_word(to, " but langtag_is_canonical says otherwise");
+}
+
+static void answer_maximized(text *to, const text *arguments) { put_form(to, arguments[0], langtag_maximize); }
+static void answer_minimized(text *to, const text *arguments) { put_form(to, arguments[0], langtag_minimize); }
+
+static void answer_posix(text *to, const text *arguments) { put_form(to, arguments[0], langtag_from_posix); }
+
+static void answer_right_to_left(text *to, const text *arguments) {
+    text a = arguments[0];
+    bool is_tag = langtag_kind(a.at, a.len) != LANGTAG_NONE;
+    put_word(to, langtag_is_right_to_left(a.at, a.len) ? " yes" : is_tag ? " no" : " -");
+}
+
+static void answer_distance(text *to, const text *arguments) {
+    text a = arguments[0], b = arguments[1];
+    uint32_t distance = langtag_distance(a.at, a.len, b.at, b.len);
+    if (distance == LANGTAG_NO_DISTANCE) put_word(to, " -");
+    else put_number(to, "", distance);
+}
+
 static void answer_grandfathered(text *to, const text *arguments) {
     text a = arguments[0];
     put_number(to, "", langtag_grandfathered(a.at, a.len));
     put_word(to, " "), put_word(to, name_of_kind(langtag_kind(a.at, a.len)));
+}
+
+static void answer_refused(text *to, const text *arguments) {
+    static const char *const names[] = {
+        [LANGTAG_REFUSED_NONE] = "none",
+        [LANGTAG_REFUSED_SUBTAG] = "subtag",
+        [LANGTAG_REFUSED_BYTE] = "byte",
+        [LANGTAG_REFUSED_END] = "end",
+    };
+    text a = arguments[0];
+    langtag_span subtag = {1, 2}; /* what is out is not read */
+    size_t offset = 3;
+    uint32_t answer = langtag_refused(a.at, a.len, &subtag, &offset);
+    put_word(to, " "), put_word(to, NAMED(names, answer));
+    put_number(to, "", subtag.start);
+    put_number(to, "", subtag.len);
+    put_number(to, "", offset);
 }
 
 static void answer_viable(text *to, const text *arguments) {
@@ -283,12 +325,37 @@ static void answer_ranges(text *to, const text *arguments) {
     free(header.at), free(both.at);
 }
 
+/* The tags as spans of the text that has them, and one that reaches out of it. */
+static void answer_best(text *to, const text *arguments) {
+    text header = arguments[0], words = arguments[1];
+    langtag_span tags[64];
+    size_t count = 0;
+    for (size_t at = 0; at < words.len && count < 63;) {
+        const char *blank = memchr(words.at + at, ' ', words.len - at);
+        size_t end = blank ? (size_t)(blank - words.at) : words.len;
+        if (end > at) tags[count++] = (langtag_span){at, end - at};
+        at = end + 1;
+    }
+    tags[count] = (langtag_span){words.len, SIZE_MAX};
+    size_t index = langtag_best_for_header(header.at, header.len, words.at, words.len, tags, count);
+    if (index < count) put_bytes(to, words.at + tags[index].start, tags[index].len);
+    else put_word(to, index == count ? " -" : " beyond the tags");
+    size_t again = langtag_best_for_header(header.at, header.len, words.at, words.len, tags, count + 1);
+    if (again != (index < count ? index : count + 1)) put_word(to, " but another beside a span out of the text");
+}
+
 call calls[] = {
     {"tag", 1, answer_tag, 0},
     {"validity", 1, answer_validity, 0},
     {"canonical", 1, answer_canonical, 0},
+    {"maximized", 1, answer_maximized, 0},
+    {"minimized", 1, answer_minimized, 0},
+    {"posix", 1, answer_posix, 0},
+    {"right-to-left", 1, answer_right_to_left, 0},
+    {"distance", 2, answer_distance, 0},
     {"grandfathered", 1, answer_grandfathered, 0},
     {"viable", 1, answer_viable, 0},
+    {"refused", 1, answer_refused, 0},
     {"range", 1, answer_range, 0},
     {"scan", 1, answer_scan, 0},
     {"recommended", 1, answer_recommended, 0},
@@ -297,5 +364,6 @@ call calls[] = {
     {"edit", 3, answer_edit, 0},
     {"header", 2, answer_header, 0},
     {"ranges", 2, answer_ranges, 0},
+    {"best", 2, answer_best, 0},
     {NULL, 0, NULL, 0},
 };

@@ -246,6 +246,45 @@ static std::string edit_of(const strings &asked) {
     return whole == made ? *made : "from_parts has another: " + whole.value_or("none");
 }
 
+static std::string refused_of(const strings &asked) {
+    const auto found = langtag::refused(asked[0]);
+    const std::size_t len = asked[0].size();
+    if (!found) return "none " + std::to_string(len) + " 0 " + std::to_string(len);
+    const auto kind = found->kind == langtag::refusal_kind::subtag ? "subtag "
+                      : found->kind == langtag::refusal_kind::byte ? "byte "
+                                                                   : "end ";
+    const auto start = static_cast<std::size_t>(found->subtag.data() - asked[0].data());
+    return kind + std::to_string(start) + ' ' + std::to_string(found->subtag.size()) + ' ' +
+           std::to_string(found->offset);
+}
+
+static std::string maximized_of(const strings &asked) {
+    const auto one = tag::parse(asked[0]);
+    return one ? one->maximized() : "-";
+}
+
+static std::string minimized_of(const strings &asked) {
+    const auto one = tag::parse(asked[0]);
+    return one ? one->minimized() : "-";
+}
+
+static std::string right_to_left_of(const strings &asked) {
+    const auto one = tag::parse(asked[0]);
+    return !one ? "-" : one->is_right_to_left() ? "yes" : "no";
+}
+
+static std::string distance_of(const strings &asked) {
+    const auto desired = tag::parse(asked[0]), supported = tag::parse(asked[1]);
+    return desired && supported ? std::to_string(langtag::distance(*desired, *supported)) : "-";
+}
+
+static std::string posix_of(const strings &asked) { return langtag::from_posix(asked[0]).value_or("-"); }
+
+static std::string best_of(const strings &asked) {
+    const strings texts = split(asked[1], " ");
+    return found_or_default(langtag::best_for_header(asked[0], tags_of(texts)));
+}
+
 static const struct call {
     std::size_t arguments;
     std::string (*answer)(const strings &asked); /* empty where C++ does not answer */
@@ -264,6 +303,13 @@ static const std::map<std::string, call> calls = {
     {"edit", {3, edit_of}},
     {"header", {2, header_of}},
     {"ranges", {2, ranges_of}},
+    {"refused", {1, refused_of}},
+    {"maximized", {1, maximized_of}},
+    {"minimized", {1, minimized_of}},
+    {"right-to-left", {1, right_to_left_of}},
+    {"distance", {2, distance_of}},
+    {"posix", {1, posix_of}},
+    {"best", {2, best_of}},
 };
 
 /* A line with each {N:piece} written out. */
@@ -301,7 +347,7 @@ static int differing;
 
 /* The calls whose fields stand between bars; a row of edits has them too, and begins with the tag. */
 static bool has_bars(const std::string &call) {
-    static const strings names = {"header", "ranges", "elements", "fallbacks", "filter"};
+    static const strings names = {"header", "ranges", "best", "elements", "fallbacks", "filter"};
     return std::find(names.begin(), names.end(), call) != names.end();
 }
 

@@ -3,6 +3,7 @@
 
 #include <cstdio>
 #include <map>
+#include <sstream>
 #include <type_traits>
 #include <unordered_map>
 
@@ -79,8 +80,49 @@ static void check_keys() {
     CHECK(owned.set(langtag::part::script, "Latn") && owned.text() == "de-Latn-CH" && owned.view().script() == "Latn");
     CHECK(owners.count(langtag::owned_tag(*other)) == 1 && owners.count(owned) == 0 &&
           !langtag::owned_tag::parse("de_CH"));
+    owned = owned.with(langtag::part::script, "").with(langtag::part::region, "AT");
+    CHECK(owned.text() == "de-AT");
+    bool refused = false;
+    try {
+        owned = owned.with(langtag::part::script, "Latin");
+    } catch (const std::invalid_argument &error) {
+        refused = error.what() == std::string("de-AT can't have the part Latin");
+    }
+    CHECK(refused && owned.text() == "de-AT");
     CHECK(one->with({{langtag::part::script, "Latn"}, {langtag::part::region, "AT"}}) == "de-Latn-AT");
     CHECK(!one->with({{langtag::part::script, "Latin"}, {langtag::part::region, "AT"}}) && one->with({}) == "de-CH");
+}
+
+static void check_refused() {
+    const auto shown = [](std::string_view text) {
+        const auto found = langtag::refused(text);
+        return found ? std::string(found->subtag) + ' ' + std::to_string(found->offset) + ' ' + found->message() : "a tag";
+    };
+    CHECK(shown("de-419-DE") == "DE 7 DE does not fit there" && shown("de-DE") == "a tag");
+    CHECK(shown("de_CH") == "de_CH 2 de_CH has a byte that is no letter and no digit");
+    CHECK(shown("de--AT") == " 3 a subtag is empty" && shown("en-a") == " 4 it ends too soon" && shown({}) == " 0 it ends too soon");
+}
+
+static void check_likely() {
+    const auto one = tag::parse("zh-TW"), other = tag::parse("zh-Hant");
+    CHECK(one->maximized() == "zh-Hant-TW" && other->minimized() == "zh-TW" && langtag::distance(*one, *other) == 0);
+    CHECK(tag::parse("x-a")->maximized() == "x-a" && !one->is_right_to_left() && tag::parse("az-IR")->is_right_to_left());
+    const std::vector<tag> tags = {*tag::parse("en"), *tag::parse("zh-Hans"), *other};
+    const auto best = langtag::best_for_header("zh-TW,zh;q=0.9,en;q=0.8", tags);
+    CHECK(best && best->text().data() == other->text().data());
+    CHECK(langtag::best_for_header("zh_CN.UTF-8", tags) == tags[1] && !langtag::best_for_header("fi", tags));
+    CHECK(!langtag::best_for_header({}, tags) && !langtag::best_for_header("en", {}));
+    CHECK(langtag::from_posix("sr_RS@latin") == "sr-Latn-RS" && !langtag::from_posix("C") && !langtag::from_posix({}));
+    CHECK(langtag::cldr_version() == langtag_cldr_version());
+}
+
+static void check_written() {
+    std::ostringstream out;
+    out << *tag::parse("de-CH") << ' ' << *langtag::owned_tag::parse("x-a");
+    CHECK(out.str() == "de-CH x-a");
+#ifdef __cpp_lib_format
+    CHECK(std::format("{} {:>6}|", *tag::parse("de-CH"), *langtag::owned_tag::parse("x-a")) == "de-CH    x-a|");
+#endif
 }
 
 static void check_ranges() {
@@ -95,6 +137,9 @@ int main() {
     check_views();
     check_walks();
     check_keys();
+    check_refused();
+    check_likely();
+    check_written();
     check_ranges();
     return failures != 0;
 }

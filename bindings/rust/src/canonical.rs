@@ -5,7 +5,31 @@ use alloc::string::String;
 use crate::LangTagBuf;
 use crate::{ffi, BufferTooShort, LangTag};
 
-const IS_TAG: &str = "a canonical form is a tag";
+const IS_TAG: &str = "the form of a tag is a tag";
+
+/// How C writes a form of a tag: it returns the length of the form, and writes it where there is room.
+pub(crate) type Write = fn(&str, &mut [u8]) -> usize;
+
+/// Writes a form of a tag into a buffer, and returns it.
+pub(crate) fn write_into<'b>(
+    tag: LangTag<'_>,
+    buffer: &'b mut [u8],
+    write: Write,
+) -> Result<LangTag<'b>, BufferTooShort> {
+    let needed = write(tag.as_str(), buffer);
+    let form = buffer.get(..needed).ok_or(BufferTooShort { needed })?;
+    let form = core::str::from_utf8(form).expect(IS_TAG);
+    Ok(LangTag::new(form).expect(IS_TAG))
+}
+
+/// Returns a form of a tag.
+#[cfg(feature = "alloc")]
+pub(crate) fn written(tag: LangTag<'_>, write: Write) -> LangTagBuf {
+    let mut form = alloc::vec![0; write(tag.as_str(), &mut [])];
+    write(tag.as_str(), &mut form);
+    let form = String::from_utf8(form).expect(IS_TAG);
+    LangTagBuf::new(form).expect(IS_TAG)
+}
 
 /// The canonical form (RFC 5646 section 4.5), by IANA's registry of [`registry_date`](crate::registry_date): `he` of `iw`,
 /// `yue` of `zh-yue`, `jbo` of `art-lojban`, `en-a-aaa-b-ccc` of `en-b-ccc-a-aaa`, `fr-FR` of `fr-FR`.
@@ -31,10 +55,7 @@ impl LangTag<'_> {
     /// # Ok::<(), Box<dyn std::error::Error>>(())
     /// ```
     pub fn canonical_into<'b>(&self, buffer: &'b mut [u8]) -> Result<LangTag<'b>, BufferTooShort> {
-        let needed = ffi::canonical(self.as_str(), buffer);
-        let form = buffer.get(..needed).ok_or(BufferTooShort { needed })?;
-        let form = core::str::from_utf8(form).expect(IS_TAG);
-        Ok(LangTag::new(form).expect(IS_TAG))
+        write_into(*self, buffer, ffi::canonical)
     }
 
     /// The canonical form. It equals the tag exactly where [`is_canonical`](LangTag::is_canonical) is true.
@@ -46,10 +67,7 @@ impl LangTag<'_> {
     /// ```
     #[cfg(feature = "alloc")]
     pub fn to_canonical(&self) -> LangTagBuf {
-        let mut form = alloc::vec![0; ffi::canonical(self.as_str(), &mut [])];
-        ffi::canonical(self.as_str(), &mut form);
-        let form = String::from_utf8(form).expect(IS_TAG);
-        LangTagBuf::new(form).expect(IS_TAG)
+        written(*self, ffi::canonical)
     }
 
     /// Whether the tag is its own canonical form, whatever the case of its letters. No memory is taken.

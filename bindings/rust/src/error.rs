@@ -4,12 +4,18 @@ use core::error::Error;
 use core::fmt;
 
 use crate::prefix::viable_len;
+use crate::Refusal;
 
 /// The error for a text that is not a language tag. It hands the text back.
 #[derive(Clone, Copy, Debug, PartialEq, Eq)]
 pub struct InvalidLangTag<T>(pub T);
 
 impl<T: AsRef<str>> InvalidLangTag<T> {
+    /// The subtag that does not fit, and where to point at. None only of an error that was made of a tag.
+    pub fn refusal(&self) -> Option<Refusal<'_>> {
+        Refusal::of(self.0.as_ref())
+    }
+
     /// The length, in bytes, of the longest prefix that some tag begins with: where the text goes wrong. It is the whole
     /// length where the text ends too soon.
     pub fn viable_len(&self) -> usize {

@@ -7,6 +7,7 @@
 #[cfg(feature = "alloc")]
 use alloc::string::String;
 use core::mem::MaybeUninit;
+use core::ops::Range;
 
 use crate::{CaselessStr, Kind};
 
@@ -38,6 +39,22 @@ struct Parts {
     private_use: Span,
 }
 
+impl Parts {
+    /// Where each part ends, in the order of [`Part`].
+    #[inline]
+    fn ends(&self) -> [usize; 6] {
+        [
+            self.language,
+            self.script,
+            self.region,
+            self.variants,
+            self.extensions,
+            self.private_use,
+        ]
+        .map(|span| span.start + span.len)
+    }
+}
+
 #[repr(C)]
 #[derive(Clone, Copy)]
 struct Repeated {
@@ -53,6 +70,12 @@ mod c {
         pub fn langtag_kind(bytes: *const u8, len: usize) -> u32;
         pub fn langtag_viable(bytes: *const u8, len: usize) -> usize;
         pub fn langtag_stop(bytes: *const u8, len: usize) -> usize;
+        pub fn langtag_refused(
+            bytes: *const u8,
+            len: usize,
+            subtag: *mut Span,
+            offset: *mut usize,
+        ) -> u32;
         pub fn langtag_eq(a: *const u8, a_len: usize, b: *const u8, b_len: usize) -> bool;
         pub fn langtag_cmp(a: *const u8, a_len: usize, b: *const u8, b_len: usize) -> i32;
         pub fn langtag_hash(state: u64, bytes: *const u8, len: usize) -> u64;
@@ -91,14 +114,52 @@ mod c {
         ) -> usize;
         pub fn langtag_is_canonical(bytes: *const u8, len: usize) -> bool;
         pub fn langtag_registry_date() -> u32;
+        pub fn langtag_maximize(
+            bytes: *const u8,
+            len: usize,
+            buffer: *mut u8,
+            buffer_len: usize,
+        ) -> usize;
+        pub fn langtag_minimize(
+            bytes: *const u8,
+            len: usize,
+            buffer: *mut u8,
+            buffer_len: usize,
+        ) -> usize;
+        pub fn langtag_distance(
+            desired: *const u8,
+            desired_len: usize,
+            supported: *const u8,
+            supported_len: usize,
+        ) -> u32;
+        pub fn langtag_is_right_to_left(bytes: *const u8, len: usize) -> bool;
+        #[cfg(feature = "alloc")]
+        pub fn langtag_best_for_header(
+            header: *const u8,
+            header_len: usize,
+            bytes: *const u8,
+            len: usize,
+            tags: *const Span,
+            tags_len: usize,
+        ) -> usize;
+        #[cfg(feature = "alloc")]
+        pub fn langtag_from_posix(
+            name: *const u8,
+            name_len: usize,
+            buffer: *mut u8,
+            buffer_len: usize,
+        ) -> usize;
+        pub fn langtag_cldr_version() -> u32;
         pub fn langtag_grandfathered(bytes: *const u8, len: usize) -> u32;
         pub fn langtag_range_kind(bytes: *const u8, len: usize) -> u32;
+        #[cfg(all(test, feature = "alloc"))]
         pub fn langtag_matches_basic(
             range: *const u8,
             range_len: usize,
             tag: *const u8,
             tag_len: usize,
         ) -> bool;
+        #[cfg(all(test, feature = "alloc"))]
         pub fn langtag_matches_extended(
             range: *const u8,
             range_len: usize,
@@ -127,13 +188,66 @@ pub(crate) enum Part {
     PrivateUse,
 }
 
+/// What kind of tag a text is, and where its parts end. Of a text of 4 GiB or more, where an end has no room in 32 bits, the
+/// ends say nothing, and the parts are read anew at each call.
+#[derive(Clone, Copy)]
+pub(crate) struct Places {
+    kind: Kind,
+    ends: [u32; 6],
+}
+
+impl Places {
+    /// None where the text is not a tag.
+    #[inline]
+    pub(crate) fn of(text: &str) -> Option<Self> {
+        let (kind, parts) = parse(text)?;
+        Some(Places {
+            kind,
+            ends: parts.ends().map(|end| end as u32),
+        })
+    }
+
+    #[inline]
+    pub(crate) fn kind(&self) -> Kind {
+        self.kind
+    }
+
+    /// Where a part stands in the text that the places were read of; of no byte where it is absent. It is at most one hyphen
+    /// behind the part before it.
+    #[inline]
+    pub(crate) fn range(&self, text: &str, part: Part) -> Range<usize> {
+        let ends = if text.len() <= LONGEST {
+            self.ends.map(|end| end as usize)
+        } else {
+            long_ends(text)
+        };
+        let end = ends[part as usize];
+        let start = match part {
+            Part::Language => 0,
+            Part::PrivateUse if self.kind == Kind::PrivateUse => 0,
+            _ => {
+                let before = ends[part as usize - 1];
+                before + usize::from(before < end)
+            }
+        };
+        start..end
+    }
+}
+
+/// The longest text whose ends have room in 32 bits.
+const LONGEST: usize = u32::MAX as usize;
+
+#[cold]
+fn long_ends(text: &str) -> [usize; 6] {
+    parse(text).map_or([0; 6], |(_, parts)| parts.ends())
+}
+
 /// A text that is a tag, with where its parts stand in it. No other file can make one or change its fields: the text of each
-/// is one that `langtag_parse` took for a tag, and the spans are those that it wrote for that text.
+/// is one that `langtag_parse` took for a tag, and the places are those that it wrote for that text.
 #[derive(Clone, Copy)]
 pub(crate) struct Parsed<T> {
     text: T,
-    kind: Kind,
-    parts: Parts,
+    places: Places,
 }
 
 #[inline]
@@ -146,30 +260,11 @@ fn parse(text: &str) -> Option<(Kind, Parts)> {
     }
 }
 
-impl<T> Parsed<T> {
-    #[inline]
-    pub(crate) fn kind(&self) -> Kind {
-        self.kind
-    }
-
-    #[inline]
-    fn span(&self, part: Part) -> Span {
-        match part {
-            Part::Language => self.parts.language,
-            Part::Script => self.parts.script,
-            Part::Region => self.parts.region,
-            Part::Variants => self.parts.variants,
-            Part::Extensions => self.parts.extensions,
-            Part::PrivateUse => self.parts.private_use,
-        }
-    }
-}
-
 impl<'a> Parsed<&'a str> {
     #[inline]
     pub(crate) fn new(text: &'a str) -> Option<Self> {
-        let (kind, parts) = parse(text)?;
-        Some(Parsed { text, kind, parts })
+        let places = Places::of(text)?;
+        Some(Parsed { text, places })
     }
 
     #[inline]
@@ -177,13 +272,18 @@ impl<'a> Parsed<&'a str> {
         self.text
     }
 
+    #[inline]
+    pub(crate) fn kind(&self) -> Kind {
+        self.places.kind()
+    }
+
     /// The text of a part, empty where it is absent.
     #[inline]
     pub(crate) fn part(&self, part: Part) -> &'a str {
-        let Span { start, len } = self.span(part);
-        // SAFETY: each span lies within the text that it was written for, and all bytes of a tag are ASCII, so that each
-        // place in it is a boundary of characters.
-        unsafe { self.text.get_unchecked(start..start + len) }
+        let range = self.places.range(self.text, part);
+        // SAFETY: each part lies within the text that it was read of, and so does its end, behind which the next one starts;
+        // all bytes of a tag are ASCII, so that each place in it is a boundary of characters.
+        unsafe { self.text.get_unchecked(range) }
     }
 }
 
@@ -192,8 +292,8 @@ impl Parsed<String> {
     /// Hands back a text that is not a tag.
     #[inline]
     pub(crate) fn from_string(text: String) -> Result<Self, String> {
-        match parse(&text) {
-            Some((kind, parts)) => Ok(Parsed { text, kind, parts }),
+        match Places::of(&text) {
+            Some(places) => Ok(Parsed { text, places }),
             None => Err(text),
         }
     }
@@ -201,8 +301,7 @@ impl Parsed<String> {
     pub(crate) fn from_lent(lent: Parsed<&str>) -> Self {
         Parsed {
             text: lent.text.into(),
-            kind: lent.kind,
-            parts: lent.parts,
+            places: lent.places,
         }
     }
 
@@ -210,8 +309,7 @@ impl Parsed<String> {
     pub(crate) fn lend(&self) -> Parsed<&str> {
         Parsed {
             text: &self.text,
-            kind: self.kind,
-            parts: self.parts,
+            places: self.places,
         }
     }
 
@@ -256,6 +354,14 @@ pub(crate) fn viable_len(bytes: &[u8]) -> usize {
 pub(crate) fn stop_len(bytes: &[u8]) -> usize {
     // SAFETY: as above.
     unsafe { c::langtag_stop(bytes.as_ptr(), bytes.len()) }
+}
+
+/// Why a text is not a tag, the subtag that is wrong, and the offset to point at; 0 of a tag.
+pub(crate) fn refused(text: &str) -> (u32, core::ops::Range<usize>, usize) {
+    let (mut subtag, mut offset) = (Span::of(""), 0);
+    // SAFETY: as above.
+    let answer = unsafe { c::langtag_refused(text.as_ptr(), text.len(), &mut subtag, &mut offset) };
+    (answer, subtag.start..subtag.start + subtag.len, offset)
 }
 
 pub(crate) fn kind(bytes: &[u8]) -> Option<Kind> {
@@ -353,6 +459,75 @@ pub(crate) fn is_canonical(text: &str) -> bool {
     unsafe { c::langtag_is_canonical(text.as_ptr(), text.len()) }
 }
 
+/// Writes a tag with its likely subtags as [`canonical`] writes a form.
+pub(crate) fn maximize(tag: &str, buffer: &mut [u8]) -> usize {
+    let (to, room) = (buffer.as_mut_ptr(), buffer.len());
+    // SAFETY: as above.
+    unsafe { c::langtag_maximize(tag.as_ptr(), tag.len(), to, room) }
+}
+
+/// Writes a tag without its likely subtags as [`canonical`] writes a form.
+pub(crate) fn minimize(tag: &str, buffer: &mut [u8]) -> usize {
+    let (to, room) = (buffer.as_mut_ptr(), buffer.len());
+    // SAFETY: as above.
+    unsafe { c::langtag_minimize(tag.as_ptr(), tag.len(), to, room) }
+}
+
+/// How far a tag is from one that a reader desires.
+pub(crate) fn distance(desired: &str, supported: &str) -> u32 {
+    let (bytes, len) = (desired.as_ptr(), desired.len());
+    // SAFETY: as above.
+    unsafe { c::langtag_distance(bytes, len, supported.as_ptr(), supported.len()) }
+}
+
+pub(crate) fn is_right_to_left(text: &str) -> bool {
+    // SAFETY: as above.
+    unsafe { c::langtag_is_right_to_left(text.as_ptr(), text.len()) }
+}
+
+/// The index of the tag that a reader wants. The texts of the tags are put one behind the other.
+#[cfg(feature = "alloc")]
+pub(crate) fn best_for_header<'a>(
+    header: &str,
+    tags: impl Iterator<Item = &'a str>,
+) -> Option<usize> {
+    let (mut text, mut spans) = (String::new(), alloc::vec::Vec::new());
+    for tag in tags {
+        spans.push(Span {
+            start: text.len(),
+            len: tag.len(),
+        });
+        text.push_str(tag);
+    }
+    // SAFETY: as above.
+    let best = unsafe {
+        let (bytes, len) = (header.as_ptr(), header.len());
+        c::langtag_best_for_header(
+            bytes,
+            len,
+            text.as_ptr(),
+            text.len(),
+            spans.as_ptr(),
+            spans.len(),
+        )
+    };
+    (best < spans.len()).then_some(best)
+}
+
+/// Writes the tag of a locale's name as [`canonical`] writes a form; 0 where the name has none.
+#[cfg(feature = "alloc")]
+pub(crate) fn from_posix(name: &str, buffer: &mut [u8]) -> usize {
+    let (to, room) = (buffer.as_mut_ptr(), buffer.len());
+    // SAFETY: as above.
+    unsafe { c::langtag_from_posix(name.as_ptr(), name.len(), to, room) }
+}
+
+/// The version of CLDR.
+pub(crate) fn cldr_version() -> u32 {
+    // SAFETY: it takes nothing, and only returns a number.
+    unsafe { c::langtag_cldr_version() }
+}
+
 /// Year, month and day of the registry, as the digits of one number.
 pub(crate) fn registry_date() -> u32 {
     // SAFETY: it takes nothing, and only returns a number.
@@ -371,11 +546,13 @@ pub(crate) fn range_kind(text: &str) -> u32 {
     unsafe { c::langtag_range_kind(text.as_ptr(), text.len()) }
 }
 
+#[cfg(all(test, feature = "alloc"))]
 pub(crate) fn matches_basic(range: &str, tag: &str) -> bool {
     // SAFETY: as above.
     unsafe { c::langtag_matches_basic(range.as_ptr(), range.len(), tag.as_ptr(), tag.len()) }
 }
 
+#[cfg(all(test, feature = "alloc"))]
 pub(crate) fn matches_extended(range: &str, tag: &str) -> bool {
     // SAFETY: as above.
     unsafe { c::langtag_matches_extended(range.as_ptr(), range.len(), tag.as_ptr(), tag.len()) }

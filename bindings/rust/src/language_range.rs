@@ -1,5 +1,5 @@
 use crate::caseless::caseless;
-use crate::{ffi, Fallbacks, InvalidLanguageRange, LangTag};
+use crate::{ffi, filter, CaselessStr, Fallbacks, InvalidLanguageRange, LangTag};
 
 /// A language range over a borrowed text, basic or extended (RFC 4647 section 2): `de-CH`, `*`, `*-CH`, `de-*-DE`.
 ///
@@ -72,13 +72,32 @@ impl<'a> LanguageRange<'a> {
     /// Whether it matches a tag by basic filtering (RFC 4647 section 3.3.1): `de-DE` matches `de-DE-1996`, and neither
     /// `de-Deva` nor `de-Latn-DE`.
     pub fn matches_basic(&self, tag: &LangTag<'_>) -> bool {
-        ffi::matches_basic(self.text, tag.as_str())
+        filter::matches_basic(self.text, tag.as_str())
     }
 
     /// Whether it matches a tag by extended filtering (RFC 4647 section 3.3.2): `de-DE` and `de-*-DE` match
     /// `de-Latn-DE-1996`, and not `de-x-DE`, where a singleton would be left out.
     pub fn matches_extended(&self, tag: &LangTag<'_>) -> bool {
-        ffi::matches_extended(self.text, tag.as_str())
+        filter::matches_extended(self.text, tag.as_str())
+    }
+
+    /// Whether it matches a text by basic filtering, as it matches a tag. A store may hold texts that are no tags; what they
+    /// match is what their bytes say.
+    ///
+    /// ```
+    /// # use langtag_verified::{CaselessStr, LanguageRange};
+    /// let range = LanguageRange::new("de")?;
+    /// assert!(range.matches_text_basic(CaselessStr::new("DE-somethingelse")));
+    /// assert!(!range.matches_text_basic(CaselessStr::new("de_CH")));
+    /// # Ok::<(), langtag_verified::InvalidLanguageRange<&str>>(())
+    /// ```
+    pub fn matches_text_basic(&self, text: &CaselessStr) -> bool {
+        filter::matches_basic(self.text, text.as_str())
+    }
+
+    /// Whether it matches a text by extended filtering, as it matches a tag.
+    pub fn matches_text_extended(&self, text: &CaselessStr) -> bool {
+        filter::matches_extended(self.text, text.as_str())
     }
 }
 

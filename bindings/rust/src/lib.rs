@@ -39,14 +39,14 @@
 //! [`AcceptLanguage`] reads the header of a request, and finds the tag to answer it in; [`look_up()`] takes ranges. The
 //! setters of [`LangTagBuf`], as [`LangTagBuf::set_script`], put parts into a tag.
 //!
-//! The crate needs neither std nor, without the feature `alloc`, memory. The feature `serde`, which the same crate in the
-//! folder `serde` has, reads and writes tags and ranges as strings: cargo looks an optional dependency up even where it is
-//! off, and this crate needs no registry. It links the static library `liblangtag_c.a`, which stands in the crate's folder
-//! `lib`, or in the one that `LANGTAG_LIB_DIR` names.
+//! The crate needs neither std nor, without the feature `alloc`, memory. The feature `oxilangtag` has the names of the crate
+//! oxilangtag, for programs that are written for it; the crate langtag-verified-serde, in the folder `serde`, reads and writes
+//! tags and ranges as strings. It links the static library `liblangtag_c.a`, which stands in the crate's folder `lib`, or in the
+//! one that `LANGTAG_LIB_DIR` names.
 //!
 //! What a program has to see to, since neither the compiler nor the crate does: it runs on an x86-64 processor with SSE4.2
 //! (x86-64-v2), and a thread that calls [`LangTag::repeated_variant`] or [`LangTag::repeated_singleton`] has 96 KiB of free
-//! stack, and 1 KiB for all else.
+//! stack, and 2 KiB for all else.
 #![no_std]
 // The page speaks of owned forms, which are not there without that feature.
 #![cfg_attr(not(feature = "alloc"), allow(rustdoc::broken_intra_doc_links))]
@@ -66,6 +66,7 @@ mod extension;
 mod fallbacks;
 #[allow(unsafe_code)]
 mod ffi;
+mod filter;
 mod invalid_subtag;
 mod kind;
 mod lang_tag;
@@ -75,12 +76,14 @@ mod language;
 mod language_range;
 #[cfg(feature = "alloc")]
 mod language_range_buf;
+mod likely;
 mod look_up;
+#[cfg(feature = "oxilangtag")]
+pub mod oxilangtag;
 mod prefix;
 mod private_use;
+mod refusal;
 mod registry_date;
-#[cfg(feature = "serde")]
-mod serde;
 mod subtags;
 mod variants;
 
@@ -103,9 +106,13 @@ pub use language::Language;
 pub use language_range::LanguageRange;
 #[cfg(feature = "alloc")]
 pub use language_range_buf::LanguageRangeBuf;
+#[cfg(feature = "alloc")]
+pub use likely::{best_for_header, from_posix};
+pub use likely::{cldr_version, distance};
 pub use look_up::look_up;
 pub use prefix::{stop_len, viable_len};
 pub use private_use::PrivateUse;
+pub use refusal::{Refusal, RefusalKind};
 pub use registry_date::{registry_date, RegistryDate};
 pub use subtags::Subtags;
 pub use variants::Variants;

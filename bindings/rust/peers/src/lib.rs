@@ -1,9 +1,10 @@
-//! Types with the names and methods that the tests of oxilangtag and language-tags call, over `langtag_verified`: so that the
-//! tests of both run over this library. What the two do beyond it or in another way stands behind two features.
+//! What the tests of oxilangtag and language-tags call, over `langtag_verified`: for the first the module that it has, and for
+//! the second types with its names and methods. What language-tags does beyond it or in another way stands behind two features.
 mod parts;
 
 pub mod language_tags;
-pub mod oxilangtag;
+
+pub use langtag_verified::oxilangtag;
 
 use std::fmt;
 

@@ -5,7 +5,14 @@
 use std::panic::{catch_unwind, AssertUnwindSafe};
 
 /// The calls whose fields stand between bars.
-const BARRED: [&str; 5] = ["header", "ranges", "elements", "fallbacks", "filter"];
+const BARRED: [&str; 6] = [
+    "header",
+    "ranges",
+    "elements",
+    "fallbacks",
+    "filter",
+    "best",
+];
 
 /// A row. Without an answer it is a question.
 pub struct Row {
@@ -95,7 +102,7 @@ fn row(place: String, text: String) -> Row {
         words.insert(0, "edit"); // such a row begins with the tag
     }
     let count = match words[0] {
-        "match" | "order" | "header" | "ranges" => 2,
+        "match" | "order" | "header" | "ranges" | "best" | "distance" => 2,
         "edit" | "filter" => 3,
         _ => 1,
     };

@@ -1,0 +1,92 @@
+#!/usr/bin/env python3
+"""Times the Python package beside babel, in one run: each round takes every call once, in an order that is shuffled, and the
+median of the rounds is printed. What is to hold stands beside it; the status is 1 where something does not.
+
+    PYTHONPATH=FOLDER bench/python.py [ROUNDS]    FOLDER has the package langtag with its C module, and babel is installed
+"""
+from __future__ import annotations
+
+import gc
+import random
+import statistics
+import sys
+import time
+
+import babel.core
+import langtag
+
+ROUNDS = int(sys.argv[1]) if len(sys.argv) > 1 else 301
+TEXTS = ("en de fr es it ja ko ru ar he en-US de-CH de-AT fr-CA pt-BR pt-PT zh-Hant-TW zh-Hans-CN sr-Latn-RS sr-Cyrl es-419 "
+         "en-GB uz-Cyrl-UZ nb-NO").split()
+HEADER = "de-CH-1996;q=0.9, fr-CA, en;q=0.7, sr-Latn-RS;q=0.5, *;q=0.1"
+RANGES = [part.split(";")[0].strip() for part in HEADER.split(",")]
+OFFERED = "ar bg cs da de el en es et fi hr hu it ja ko nl pl pt-BR ro sv".split()
+NAMES = {
+    "Tag": langtag.Tag, "parse_locale": babel.core.parse_locale, "lenient": langtag.tag_for_header_lenient, "HEADER": HEADER,
+    "negotiate_locale": babel.core.negotiate_locale, "RANGES": RANGES, "OFFERED": OFFERED,
+    "TAGS": [langtag.Tag(text) for text in OFFERED],
+}
+KEPT = [langtag.Tag(text) for text in TEXTS]
+
+# What is timed: a call, over which values of `it`.
+CALLS = {
+    "nothing": ("pass", TEXTS),
+    "construct": ("Tag(it)", TEXTS),
+    "babel's parse_locale": ("parse_locale(it, sep='-')", TEXTS),
+    "a part": ("it.region", KEPT),
+    "hash": ("hash(it)", KEPT),
+    "equal": ("it == it", KEPT),
+    "canonical": ("it.canonical()", KEPT),
+    "is_valid": ("it.is_valid", KEPT),
+    "tag_for_header_lenient": ("lenient(HEADER, TAGS, None)", [None] * 4),
+    "babel's negotiate_locale": ("negotiate_locale(RANGES, OFFERED, sep='-')", [None] * 4),
+}
+
+
+def timed() -> dict[str, float]:
+    """The median of each call, in nanoseconds."""
+    runs = {}
+    for name, (call, values) in CALLS.items():
+        space = {**NAMES, "values": values}
+        exec(f"def run():\n for it in values: {call}", space)
+        runs[name] = (space["run"], len(values))
+    times: dict[str, list[float]] = {name: [] for name in runs}
+    order, numbers = list(runs), random.Random(1)
+    gc.disable()
+    for _ in range(ROUNDS):
+        numbers.shuffle(order)
+        for name in order:
+            run, count = runs[name]
+            begun = time.perf_counter_ns()
+            run()
+            times[name].append((time.perf_counter_ns() - begun) / count)
+    gc.enable()
+    return {name: statistics.median(found) for name, found in times.items()}
+
+
+def sorting() -> float:
+    """The processor's seconds for sorting 200,000 tags."""
+    numbers = random.Random(1)
+    tags = [langtag.Tag(f"{numbers.choice(TEXTS)}-x-{numbers.randrange(10**6)}") for _ in range(200_000)]
+    begun = time.process_time()
+    tags.sort()
+    return time.process_time() - begun
+
+
+def main() -> int:
+    found, seconds = timed(), sorting()
+    for name, nanoseconds in found.items():
+        print(f"{name:24} {nanoseconds:8.0f} ns")
+    limits = (
+        ("construct by parse_locale", found["construct"] / found["babel's parse_locale"], 0.45),
+        ("a part, in ns", found["a part"], 150.0),
+        ("header by negotiate_locale", found["tag_for_header_lenient"] / found["babel's negotiate_locale"], 1.0),
+        ("200,000 tags sorted, in s", seconds, 1.0),
+    )
+    for name, value, limit in limits:
+        print(f"{name:28} {value:8.2f}, at most {limit:6.2f}{'' if value <= limit else ': TOO SLOW'}")
+    return any(value > limit for _, value, limit in limits)
+
+
+if __name__ == "__main__":
+    sys.exit(main())

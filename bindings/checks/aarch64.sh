@@ -1,0 +1,86 @@
+# The library for aarch64, by Debian's cross compiler, and under qemu: nothing here ran on such a processor.
+cross=aarch64-linux-gnu
+qemu_root=/usr/$cross
+
+aarch64_missing() {
+    has $cross-gcc || echo "there is no $cross-gcc (in Debian: apt-get install gcc-aarch64-linux-gnu libc6-dev-arm64-cross)"
+    has qemu-aarch64 || echo "there is no qemu-aarch64 (in Debian: apt-get install qemu-user)"
+    [ -e "$qemu_root/lib/libc.so.6" ] || echo "there is no C library for it (in Debian: libc6-dev-arm64-cross)"
+}
+aarch64_archive=${LANGTAG_AARCH64_ARCHIVE:-$(python3 "$here/targets.py" archive aarch64-unknown-linux-gnu 2>"$work/log")}
+if [ -z "$aarch64_archive" ]; then
+    not_run "aarch64: everything" "there is no archive for it: $(tail -1 "$work/log")"
+    return 0
+fi
+
+# The same list of targets in the script of the Rust crate.
+targets_agree() {
+    diff <(sed -n 's/^    ("\(.*\)", "\(.*\)"),$/\1 \2/p' rust/build.rs) \
+        <(python3 -c 'import targets; [print(it.processor, it.name) for it in targets.TARGETS.values() if it.platform]')
+}
+check "the Rust crate and the releases have one list of targets" targets_agree
+
+missing=$(aarch64_missing | head -1)
+if [ -n "$missing" ]; then
+    not_run "aarch64: the tests under qemu" "$missing"
+    return 0
+fi
+on_aarch64() { qemu-aarch64 -L "$qemu_root" "$@"; }
+aarch64_compile() { $cross-gcc -std=c99 -O2 -Wall -Wextra -Wpedantic -Werror -Iinclude "$@" "$aarch64_archive"; }
+
+aarch64_example() {
+    aarch64_compile examples/parts.c -o "$work/built/parts-aarch64" || return 1
+    on_aarch64 "$work/built/parts-aarch64" zh-Hant-TW | diff - <(wanted)
+}
+aarch64_rows() {
+    aarch64_compile c/test/*.c examples/accept_language.c -o "$work/built/test-aarch64" || return 1
+    on_aarch64 "$work/built/test-aarch64" $(make -s -C c ROWS="$work/$rows" --eval 'asked: ; @echo $(ASKED)' asked)
+}
+check "aarch64: an example, under qemu" aarch64_example
+check "aarch64: C's tests, under qemu" aarch64_rows
+
+# The answers to random calls and about the registry's tags are those on this processor.
+aarch64_random() { on_aarch64 "$work/built/test-aarch64" --answer <"$work/calls" | cmp - "$work/answers"; }
+aarch64_tags() {
+    sed 's/.*/validity &\ncanonical &/' "$work/tags" | on_aarch64 "$work/built/test-aarch64" --answer | in_its_words | cmp - "$work/told"
+}
+check "aarch64: answers to random calls as on x86-64, under qemu" aarch64_random
+check "aarch64: validity and canonical form of 50,000 tags as on x86-64, under qemu" aarch64_tags
+
+# Symbols of archive and library, and the stack. How the work of a call grows is counted on x86-64 alone.
+aarch64_symbols() {
+    mkdir -p "$work/cross" && ln -sf "$(command -v $cross-nm)" "$work/cross/nm" || return 1
+    PATH=$work/cross:$PATH make -s -C c check-symbols CC=$cross-gcc ARCHIVE="$aarch64_archive" BUILD="$work/c-aarch64" || return 1
+    readelf -h "$work/c-aarch64/liblangtag_verified.so.1" | grep 'Machine:.*AArch64'
+}
+aarch64_libraries() {
+    ! readelf --version-info "$work/c-aarch64/liblangtag_verified.so.1" | grep -oE 'GLIBC_[0-9.]+' | grep -vx 'GLIBC_2.17'
+}
+check "aarch64: symbols" aarch64_symbols
+if [ -x "$root/.ci/stack" ]; then
+    check "aarch64: no function takes more of the stack than the header says" \
+        python3 "$root/.ci/stack" "$aarch64_archive" --header include/langtag.h
+fi
+check "aarch64: no symbol of a C library after 2.17, as the wheel says" aarch64_libraries
+
+# The Rust crate takes this archive, and a program runs where there is a standard library of Rust for this processor.
+aarch64_packed() { unset LANGTAG_LIB_DIR && mkdir -p rust/lib/aarch64 && cp "$aarch64_archive" rust/lib/aarch64/liblangtag_c.a; }
+aarch64_script() {
+    aarch64_packed || return 1
+    (rust build -q --target aarch64-unknown-linux-gnu || true)
+    find "$CARGO_TARGET_DIR" -path '*/build/langtag-verified-*/output' -exec grep -hx 'cargo:rustc-link-search=native=.*/lib/aarch64' {} +
+}
+aarch64_program() {
+    aarch64_packed && cd rust && CARGO_TARGET_AARCH64_UNKNOWN_LINUX_GNU_LINKER=$cross-gcc \
+        CARGO_TARGET_AARCH64_UNKNOWN_LINUX_GNU_RUNNER="qemu-aarch64 -L $qemu_root" \
+        cargo run -q --target aarch64-unknown-linux-gnu --example parts zh-Hant-TW | diff - <(wanted)
+}
+if ! has cargo; then
+    not_run "aarch64: the Rust crate" "there is no cargo"
+elif [ -d "$(rustc --print sysroot)/lib/rustlib/aarch64-unknown-linux-gnu" ]; then
+    check "aarch64: a program of the Rust crate, under qemu" aarch64_program
+else
+    check "aarch64: the Rust crate takes this archive" aarch64_script
+    not_run "aarch64: a program of the Rust crate" "there is no standard library of Rust for it (rustup target add aarch64-unknown-linux-gnu)"
+fi
+rm -rf rust/lib

@@ -1,0 +1,58 @@
+# The JavaScript package and its page, in Node and in headless Chromium.
+wasm_archive=${LANGTAG_WASM_ARCHIVE:-$(python3 "$here/targets.py" archive wasm64-unknown-unknown 2>"$work/log")}
+if [ -z "$wasm_archive" ]; then
+    not_run "JavaScript: everything" "there is no archive for WebAssembly: $(tail -1 "$work/log")"
+    return 0
+fi
+if ! has wasm-opt || ! has rt; then
+    not_run "JavaScript: everything" "there is no wasm-opt (in Debian: apt-get install binaryen), or no rt, which links the module"
+    return 0
+fi
+js_built() { js/build "$wasm_archive" && cp js/module.js "$work/module.js" && js/build "$wasm_archive" && cmp js/module.js "$work/module.js"; }
+check "JavaScript: the module and the page, twice the same" js_built
+# wasm_without_imports FILE: it exports what the header declares.
+wasm_symbols() {
+    sed -n 's/^[A-Za-z].* \**\(langtag_[a-z_]*\)(.*[,;]$/\1/p' include/langtag.h | sort >"$work/declared"
+    node -e 'const module = new WebAssembly.Module(require("fs").readFileSync("js/langtag32.wasm"));
+        if (WebAssembly.Module.imports(module).length > 0) throw new Error("it has imports");
+        for (const { name, kind } of WebAssembly.Module.exports(module)) if (kind === "function") console.log(name);' |
+        sort | diff "$work/declared" -
+}
+
+# node_is_new
+node_is_new() { has node && node -e 'process.exit(Number(process.versions.node.split(".")[0]) >= 20 ? 0 : 1)'; }
+if ! node_is_new; then
+    not_run "JavaScript: tests" "there is no Node of version 20 or later"
+    return 0
+fi
+echo "Node $(node --version), $(wasm-opt --version)"
+check "JavaScript: no import, and the functions of the header" wasm_symbols
+js_tests() { (cd js && LANGTAG_ANSWERS=$work/answers node --test test/rows.test.js test/langtag.test.js test/examples.test.js); }
+check "JavaScript: tests, the example, the rows, and C's answers to random calls" js_tests
+js_wide() { (cd js && node --experimental-wasm-memory64 test/lowering.js "$work/calls"); }
+if node --experimental-wasm-memory64 -e '' 2>/dev/null; then
+    check "JavaScript: the module of 32-bit addresses answers as that of 64" js_wide
+else
+    not_run "JavaScript: the module of 64-bit addresses" "this Node does not take it"
+fi
+js_types() {
+    mkdir -p "$work/types/node_modules/langtag-verified" && cd "$work/types" || return 1
+    cp "$work"/bindings/js/{package.json,index.d.ts,index.js} node_modules/langtag-verified && cp "$work/bindings/js/test/types.ts" . || return 1
+    echo '{"type": "module"}' >package.json
+    for resolution in "node16 --moduleResolution node16" "es2022 --moduleResolution node"; do
+        tsc --strict --noEmit --target es2022 --lib es2022,dom --module $resolution types.ts || return 1
+    done
+}
+if has tsc; then
+    check "JavaScript: types, by tsc $(tsc --version | sed 's/[^0-9.]//g')" js_types
+else
+    not_run "JavaScript: types" "there is no tsc (in Debian: apt-get install node-typescript)"
+fi
+CHROMIUM=$(command -v chromium || command -v google-chrome)
+js_in_browser() { (cd js && node --test test/browser.test.js test/page.test.js); }
+if [ -n "$CHROMIUM" ]; then
+    check "JavaScript: the rows, a worker and the page in $("$CHROMIUM" --version 2>/dev/null | sed 's/ built.*//')" js_in_browser
+else
+    not_run "JavaScript: a browser" "there is no chromium (in Debian: apt-get install chromium)"
+fi
+check "JavaScript: parsing with six parts takes at most half the time of Intl.Locale" node js/test/speed.js

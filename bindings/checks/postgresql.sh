@@ -1,0 +1,100 @@
+# The extension for PostgreSQL, in servers of its own: nothing is installed in the system, and they run on the loopback as
+# another user than root.
+pg_config=${PG_CONFIG:-pg_config}
+if ! has "$pg_config"; then
+    not_run "PostgreSQL: everything" "there is no pg_config (in Debian: apt-get install postgresql postgresql-server-dev-15)"
+    return 0
+elif [ ! -x "$("$pg_config" --bindir)/initdb" ]; then
+    not_run "PostgreSQL: everything" "there is no server (in Debian: apt-get install postgresql)"
+    return 0
+elif [ ! -f "$("$pg_config" --includedir-server)/postgres.h" ] || [ ! -f "$("$pg_config" --pgxs)" ]; then
+    not_run "PostgreSQL: everything" "its headers are not installed (in Debian: apt-get install postgresql-server-dev-15)"
+    return 0
+elif ! "$pg_config" --version | grep -q '^PostgreSQL 15\.'; then
+    not_run "PostgreSQL: everything" "this is $("$pg_config" --version), and 15 alone is asked"
+    return 0
+elif [ "$(id -u)" = 0 ] && ! has setpriv; then
+    not_run "PostgreSQL: everything" "a server does not run as root, and there is no setpriv"
+    return 0
+fi
+
+. "$here/postgresql/test/cluster.sh"
+path_before=$PATH
+trap 'end_all; rm -rf "$work"' EXIT
+
+# From the tarball, where it was unpacked in an empty folder: its header and its archive.
+postgresql_released() {
+    cd "$pg_folder" && tar -xzf "$work"/dist/langtag-postgresql-*.tar.gz && mv langtag-postgresql-* first || return 1
+    env -u LANGTAG_ARCHIVE -u LANGTAG_INCLUDE make -s -C first install PG_CONFIG="$pg_config" DESTDIR="$pg_folder/server" || return 1
+    local module exported
+    module=$pg_folder/server$("$pg_config" --pkglibdir)/langtag.so
+    exported=$(nm -D --defined-only "$module" | grep -c ' T langtag_')
+    [ "$exported" = 0 ] || { echo "$module exports $exported functions of the library"; return 1; }
+}
+
+# A user's first table.
+cat >"$work/first.sql" <<'END'
+CREATE EXTENSION langtag;
+CREATE TABLE texts (tag langtag NOT NULL, t text);
+CREATE UNIQUE INDEX texts_tag ON texts (tag);
+INSERT INTO texts VALUES ('de_CH', 'a');
+INSERT INTO texts VALUES ('ZH-hant-tw', 'b'), ('de', 'c'), ('zh', 'd');
+SET enable_seqscan = off;
+SELECT * FROM texts WHERE tag = 'zh-Hant-TW';
+EXPLAIN (COSTS OFF) SELECT * FROM texts WHERE tag = 'zh-Hant-TW';
+SELECT * FROM texts WHERE tag <@ 'zh' ORDER BY tag;
+SET enable_bitmapscan = off;
+EXPLAIN (COSTS OFF) SELECT * FROM texts WHERE tag <@ 'zh';
+DROP TABLE texts; DROP EXTENSION langtag;
+END
+cat >"$work/first.wanted" <<'END'
+ERROR:  invalid input syntax for type langtag: "de_CH"
+zh-Hant-TW|b
+Index Scan using texts_tag on texts
+  Index Cond: (tag = 'zh-Hant-TW'::langtag)
+zh|d
+zh-Hant-TW|b
+Index Scan using texts_tag on texts
+  Index Cond: ((tag >= 'zh'::langtag) AND (tag < 'zh.'::langtag))
+END
+postgresql_first() {
+    psql -X -q -At postgres <"$work/first.sql" 2>&1 | grep -v '^LINE\|^ *^$\|^DETAIL' | diff - "$work/first.wanted"
+}
+postgresql_regress() { make -s -C "$pg_folder/first" installcheck PG_CONFIG="$pg_config" || { cat "$pg_folder/first/regression.diffs"; return 1; }; }
+postgresql_later() { later "$here/postgresql" "$here/include" "$work/lib/liblangtag_c.a"; }
+in_postgresql() { cd postgresql/test && python3 "$@"; }
+postgresql_wrong() {
+    cp -r postgresql "$work/wrong_extension" && python3 "$work/wrong_extension/test/wrong_extension.py" PG_CONFIG="$pg_config" \
+        DESTDIR="$pg_folder/server" LANGTAG_ARCHIVE="$work/lib/liblangtag_c.a" LANGTAG_INCLUDE="$here/include"
+}
+
+if ! place "$(mktemp -d)" >"$work/log" 2>&1 || ! begin hub || ! begin shard_a || ! begin shard_b; then
+    failed=$((failed + 1))
+    echo "FAILED: PostgreSQL: three servers of its own"
+    tail -5 "$work/log"
+else
+    check "PostgreSQL: the tarball builds and installs, and exports no function of the library" postgresql_released
+    PGPORT=$(port_of hub)
+    SHARDS="$(port_of shard_a) $(port_of shard_b)"
+    check "PostgreSQL: a user's first table" postgresql_first
+    check "PostgreSQL: make installcheck" postgresql_regress
+    check "PostgreSQL: the rows, and tags of the registry beside a plain reading of it" in_postgresql test_rows.py "$root"
+    check "PostgreSQL: ranges by each scan" in_postgresql test_ranges.py
+    check "PostgreSQL: faults, lengths, memory, dump and restore" in_postgresql test_faults.py
+    if [ -f "$("$pg_config" --sharedir)/extension/postgres_fdw.control" ]; then
+        check "PostgreSQL: two shards and a hub" in_postgresql test_shards.py
+    else
+        not_run "PostgreSQL: shards" "there is no postgres_fdw"
+    fi
+    check "PostgreSQL: a release with another registry installs" postgresql_later
+    if [ -f "$("$pg_config" --sharedir)/extension/amcheck.control" ]; then
+        check "PostgreSQL: the update to another registry" in_postgresql test_update.py
+    else
+        not_run "PostgreSQL: the update to another registry" "there is no amcheck"
+    fi
+    check "PostgreSQL: planted faults are found by make installcheck" postgresql_wrong
+fi
+end_all
+trap 'rm -rf "$work"' EXIT
+PATH=$path_before
+unset PGHOST PGPORT PGUSER SHARDS

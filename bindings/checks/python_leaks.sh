@@ -1,0 +1,51 @@
+# Leaks of the C module, by three nets: references in a debug Python, blocks by valgrind, and sanitizers. Planted: a reference
+# that is lost, and a block that is not freed, each of which its net has to see.
+# leaks_of NAME CFLAGS PYTHON COMMAND..: builds the module in a copy of its own, and runs the command there.
+leaks_of() {
+    local folder=$work/leaks-$1 flags=$2 python=$3
+    shift 3
+    rm -rf "$folder" && cp -r python "$folder" && cd "$folder" || return 1
+    if [ -n "${PLANT:-}" ]; then sed -i "$PLANT" native/*.c; fi
+    INCLUDE=$here/include CFLAGS=$flags native/compile "$archive" langtag/_native.abi3.so "$python" || return 1
+    env -u LANGTAG_LIBRARY "$@"
+}
+lost='s/^    Py_DECREF(given.owner);$//'
+unfreed='s/^    PyMem_Free(header.ranges);$//'
+
+by_references() { leaks_of references -DPy_DEBUG "$header" $debug leaks.py; }
+by_blocks() {
+    PYTHONMALLOC=malloc leaks_of valgrind -g "$header" valgrind --leak-check=full --show-leak-kinds=definite --log-file=valgrind.log \
+        "$real" leaks.py 3 && ! grep -E '\((text|value|parts|forms|range|calls|negotiate|module)\.c:' "$work/leaks-valgrind/valgrind.log"
+}
+by_sanitizers() {
+    local runtime
+    runtime="$(cc -print-file-name=libasan.so) $(cc -print-file-name=libubsan.so)"
+    ASAN_OPTIONS=detect_leaks=0 LD_PRELOAD= leaks_of sanitized "-g -fsanitize=address,undefined -fno-sanitize-recover" "$header" \
+        env LD_PRELOAD="$runtime" ASAN_OPTIONS=detect_leaks=0 "$real" leaks.py 20
+}
+# seen PLANT WORDS COMMAND..: the command fails, and says the words.
+seen() {
+    local plant=$1 words=$2 said
+    shift 2
+    if said=$(PLANT=$plant "$@" 2>&1); then echo "it was not seen: $said" && return 1; fi
+    grep -E "$words" <<<"$said"
+}
+
+debug=
+for python in python3.11-dbg python3-dbg python3.12-dbg python3.13-dbg; do
+    if "$python" -c 'import sys; sys.gettotalrefcount()' 2>/dev/null; then debug=$python; break; fi
+done
+real=$("$header" -c 'import sys; print(sys.executable)')
+if [ -n "$debug" ]; then
+    check "Python: no reference is kept" by_references
+    check "Python: a lost reference is seen" seen "$lost" "replace: .* references more" by_references
+else
+    not_run "Python: references" "there is no debug Python (in Debian: apt-get install python3-dbg)"
+fi
+if has valgrind; then
+    check "Python: no block is kept, by valgrind" by_blocks
+    check "Python: a block that is not freed is seen" seen "$unfreed" "negotiate\.c" by_blocks
+else
+    not_run "Python: blocks" "there is no valgrind"
+fi
+check "Python: the C module under sanitizers" by_sanitizers

@@ -1,0 +1,408 @@
+/**
+ * Language tags and language ranges by BCP 47 (RFC 5646, RFC 4647), over code that is proved against the grammar. index.d.ts says
+ * what each thing does.
+ */
+import * as calls from "./calls.js";
+
+/** The 26 grandfathered tags as they are registered (RFC 5646 section 2.1): first the seventeen irregular ones. */
+export const GRANDFATHERED = Object.freeze([
+    "en-GB-oed", "i-ami", "i-bnn", "i-default", "i-enochian", "i-hak", "i-klingon", "i-lux", "i-mingo", "i-navajo", "i-pwn",
+    "i-tao", "i-tay", "i-tsu", "sgn-BE-FR", "sgn-BE-NL", "sgn-CH-DE", "art-lojban", "cel-gaulish", "no-bok", "no-nyn",
+    "zh-guoyu", "zh-hakka", "zh-min", "zh-min-nan", "zh-xiang",
+]);
+
+export const REGISTRY_DATE = String(calls.registryDate()).replace(/(....)(..)(..)/, "$1-$2-$3");
+
+/** The version of Unicode's CLDR by whose data likely subtags are put in, as 41. */
+export const CLDR_VERSION = calls.cldrVersion();
+
+const KINDS = [undefined, "normal", "private-use", "irregular"];
+const PARTS = ["language", "script", "region", "variants", "extensions", "privateUse"];
+const FAULTS = [
+    "language", "extlang", "second-extlang", "script", "region", "variant", "repeated-variant", "repeated-singleton",
+];
+
+/** How a message shows a text: escaped, and not all of a long one. */
+const quoted = (text) => JSON.stringify(text.length > 80 ? `${text.slice(0, 80)}…` : text);
+
+/** The text of what is one or has one, as a tag has, also one of another copy of this module, or one that was cloned. */
+function textOf(value) {
+    const text = typeof value === "object" && value !== null ? value.text : value;
+    if (typeof text === "string") return text;
+    throw new TypeError(`a text or a tag is wanted, and this is ${value === null ? "null" : `of type ${typeof value}`}`);
+}
+
+/** An error that tells the text that is refused. */
+class Refusal extends RangeError {
+    constructor(message, more) {
+        super(message);
+        Object.assign(this, more);
+    }
+}
+
+export class InvalidTag extends Refusal {
+    constructor(text) {
+        const [answer, start, length, offset] = calls.refused(text);
+        const subtag = answer < 3 ? text.slice(start, start + length) : undefined;
+        const reason = answer === 1 ? (subtag === "" ? `a subtag is empty at ${offset}` : `${quoted(subtag)} can't stand at ${offset}`) :
+            answer === 2 ? `no subtag has the ${quoted(String.fromCodePoint(text.codePointAt(offset)))} at ${offset}` : "it ends too soon";
+        super(`${quoted(text)} is not a language tag: ${reason}`, { text, subtag, offset, viable: calls.viable(text), reason });
+    }
+}
+
+export class InvalidRange extends Refusal {
+    constructor(text) {
+        super(`${quoted(text)} is not a language range`, { text });
+    }
+}
+
+export class EditError extends Refusal {
+    constructor(part, text) {
+        super(text === undefined ? "not a normal language tag" : `${quoted(text)} can't be the ${part} of a tag`, { part, text });
+    }
+}
+
+export class AcceptLanguageError extends Refusal {
+    constructor(header, index, offset, part) {
+        super(`element ${index} has a bad ${part}`, { header, index, offset, part });
+    }
+}
+
+for (const [name, type] of Object.entries({ InvalidTag, InvalidRange, EditError, AcceptLanguageError })) {
+    Object.defineProperty(type.prototype, "name", { value: name });
+}
+
+const HOW = { "second-extlang": "is the second", "repeated-variant": "is repeated", "repeated-singleton": "is repeated" };
+
+/** The first subtag that makes a tag invalid. */
+class InvalidSubtag {
+    constructor(fault, subtag, offset) {
+        Object.freeze(Object.assign(this, { fault, subtag, offset }));
+    }
+    toString() {
+        const kind = this.fault.replace("extlang", "extended language").replace(/^(second|repeated)-/, "");
+        return `${kind} '${this.subtag}' ${HOW[this.fault] ?? "is not registered"}`;
+    }
+}
+
+/** What a part is set to, as a text: null is none, and so is an empty list. */
+function partText(value) {
+    if (value === null) return "";
+    if (typeof value === "string") return value;
+    const members = typeof value === "object" && !(Symbol.iterator in value) ? Object.entries(value) : [...value];
+    return members.map((member) => {
+        if (typeof member === "string") return member;
+        const [singleton, subtags] = member;
+        return [singleton, ...(typeof subtags === "string" ? [subtags] : subtags)].join("-");
+    }).join("-");
+}
+
+export class LanguageTag {
+    #kind;
+    #spans;
+
+    constructor(value) {
+        const text = textOf(value);
+        const found = calls.parse(text);
+        if (found === undefined) throw new InvalidTag(text);
+        this.text = text;
+        this.#kind = found.kind;
+        this.#spans = found.spans;
+        Object.freeze(this);
+    }
+
+    static parse(text) {
+        return new this(text);
+    }
+
+    static canParse(text) {
+        return calls.kind(textOf(text)) !== 0;
+    }
+
+    static from(parts) {
+        if (parts.language === undefined) throw new TypeError("a tag has a language, and none is given");
+        return new LanguageTag("und").with(parts);
+    }
+
+    static fromPosix(name) {
+        const made = calls.fromPosix(textOf(name));
+        return made === "" ? undefined : new LanguageTag(made);
+    }
+
+    static compare(one, other) {
+        return calls.compare(tagOf(one).text, tagOf(other).text);
+    }
+
+    #at(offset, length) {
+        return this.text.slice(offset, offset + length);
+    }
+
+    /** The text of a part, of a number; "" where it is absent. */
+    #part(part) {
+        return this.#at(this.#spans[2 * part], this.#spans[2 * part + 1]);
+    }
+
+    #subtags(part) {
+        const text = this.#part(part);
+        return text === "" ? [] : text.split("-");
+    }
+
+    get kind() {
+        return KINDS[this.#kind];
+    }
+
+    get language() {
+        return this.#part(0) || undefined;
+    }
+
+    get primaryLanguage() {
+        return this.#subtags(0)[0];
+    }
+
+    get extendedLanguages() {
+        return this.#subtags(0).slice(1);
+    }
+
+    get script() {
+        return this.#part(1) || undefined;
+    }
+
+    get region() {
+        return this.#part(2) || undefined;
+    }
+
+    get variants() {
+        return this.#subtags(3);
+    }
+
+    get extensions() {
+        const found = new Map();
+        let subtags;
+        for (const subtag of this.#subtags(4)) {
+            if (subtag.length > 1) {
+                subtags.push(subtag);
+                continue;
+            }
+            subtags = [];
+            if (!found.has(subtag.toLowerCase())) found.set(subtag.toLowerCase(), subtags);
+        }
+        return found;
+    }
+
+    get privateUse() {
+        return this.#part(5) || undefined;
+    }
+
+    get grandfathered() {
+        return GRANDFATHERED[calls.grandfathered(this.text)];
+    }
+
+    get repeatedVariant() {
+        const [offset, length] = calls.repeats(this.text);
+        return this.#at(offset, length) || undefined;
+    }
+
+    get repeatedSingleton() {
+        const [, , offset, length] = calls.repeats(this.text);
+        return this.#at(offset, length) || undefined;
+    }
+
+    get isValid() {
+        return calls.validity(this.text)[0] === 1;
+    }
+
+    get invalidSubtag() {
+        const [answer, offset, length] = calls.validity(this.text);
+        return answer > 1 ? new InvalidSubtag(FAULTS[answer - 2], this.#at(offset, length), offset) : undefined;
+    }
+
+    get isCanonical() {
+        return calls.isCanonical(this.text);
+    }
+
+    canonical() {
+        return new LanguageTag(calls.canonical(this.text));
+    }
+
+    maximize() {
+        return new LanguageTag(calls.maximize(this.text));
+    }
+
+    minimize() {
+        return new LanguageTag(calls.minimize(this.text));
+    }
+
+    get isRightToLeft() {
+        return calls.isRightToLeft(this.text);
+    }
+
+    toRecommended() {
+        return new LanguageTag(calls.recommend(this.text));
+    }
+
+    toFolded() {
+        return calls.fold(this.text);
+    }
+
+    fnv1a() {
+        return calls.hash(this.text);
+    }
+
+    with(parts) {
+        for (const name of Object.keys(parts)) {
+            if (!PARTS.includes(name)) throw new TypeError(`a tag has no part ${quoted(name)}`);
+        }
+        let tag = this;
+        PARTS.forEach((name, part) => {
+            if (parts[name] !== undefined) tag = tag.#withPart(part, parts[name]);
+        });
+        return tag;
+    }
+
+    #withPart(part, value) {
+        if (this.#kind !== 1) throw new EditError(PARTS[part]);
+        const text = partText(value);
+        const isList = part === 3 || part === 4;
+        const made = text === "" && value !== null && !isList ? "" : calls.withPart(this.text, part, text);
+        if (made === "") throw new EditError(PARTS[part], text);
+        return new LanguageTag(made);
+    }
+
+    equals(other) {
+        return calls.isEqual(this.text, textOf(other));
+    }
+
+    toString() {
+        return this.text;
+    }
+
+    toJSON() {
+        return this.text;
+    }
+}
+
+const tagOf = (value) => (value instanceof LanguageTag ? value : new LanguageTag(value));
+
+export class LanguageRange {
+    #isBasic;
+
+    constructor(value) {
+        const text = textOf(value);
+        const kind = calls.rangeKind(text);
+        if (kind === 0) throw new InvalidRange(text);
+        this.text = text;
+        this.#isBasic = kind === 1;
+        Object.freeze(this);
+    }
+
+    static parse(text) {
+        return new this(text);
+    }
+
+    static canParse(text) {
+        return calls.rangeKind(textOf(text)) !== 0;
+    }
+
+    get isBasic() {
+        return this.#isBasic;
+    }
+
+    *fallbacks() {
+        for (const end of calls.fallbackEnds(this.text)) yield new LanguageRange(this.text.slice(0, end));
+    }
+
+    matchesBasic(tag) {
+        return calls.matchesBasic(this.text, tagOf(tag).text);
+    }
+
+    matchesExtended(tag) {
+        return calls.matchesExtended(this.text, tagOf(tag).text);
+    }
+
+    equals(other) {
+        return calls.isEqual(this.text, textOf(other));
+    }
+
+    toString() {
+        return this.text;
+    }
+
+    toJSON() {
+        return this.text;
+    }
+}
+
+const rangeOf = (value) => (value instanceof LanguageRange ? value : new LanguageRange(value));
+
+export function lookUp(ranges, tags, otherwise) {
+    const known = new Map();
+    let longest = 0;
+    for (const tag of tags) {
+        const text = tagOf(tag).text.toLowerCase();
+        if (!known.has(text)) known.set(text, tag);
+        longest = Math.max(longest, text.length);
+    }
+    for (const range of ranges) {
+        const text = rangeOf(range).text.replaceAll("-*", "").toLowerCase();
+        for (const end of calls.fallbackEnds(text)) {
+            const tag = end <= longest ? known.get(text.slice(0, end)) : undefined;
+            if (tag !== undefined) return tag;
+        }
+    }
+    return otherwise;
+}
+
+const BAD_PARTS = [, , "language range", "weight"];
+
+export class AcceptLanguage {
+    constructor(header, isLenient = false) {
+        const text = textOf(header);
+        const ranges = [];
+        for (const [answer, offset, length, weight] of calls.accepted(text)) {
+            if (answer > 1 && !isLenient) {
+                const index = text.slice(0, offset).split(",").length - 1;
+                throw new AcceptLanguageError(text, index, offset, BAD_PARTS[answer]);
+            }
+            if (weight > 0) ranges.push({ range: new LanguageRange(text.slice(offset, offset + length)), weight });
+        }
+        this.ranges = ranges.sort((one, other) => other.weight - one.weight);
+    }
+
+    static parse(header) {
+        return new this(header);
+    }
+
+    static lenient(header) {
+        return new this(header, true);
+    }
+
+    lookUp(tags, otherwise) {
+        return lookUp(this.ranges.map((weighted) => weighted.range), tags, otherwise);
+    }
+}
+
+export function tagForHeader(header, tags, otherwise) {
+    return AcceptLanguage.parse(header).lookUp(tags, otherwise);
+}
+
+export function tagForHeaderLenient(header, tags, otherwise) {
+    return AcceptLanguage.lenient(header).lookUp(tags, otherwise);
+}
+
+export function distance(desired, supported) {
+    return calls.distance(tagOf(desired).text, tagOf(supported).text);
+}
+
+export function bestForHeader(header, tags, otherwise) {
+    const list = [...tags];
+    const index = calls.bestForHeader(textOf(header), list.map((tag) => tagOf(tag).text));
+    return index < list.length ? list[index] : otherwise;
+}
+
+export function viableLength(text) {
+    return calls.viable(textOf(text));
+}
+
+export function stopLength(text) {
+    return calls.stop(textOf(text));
+}

@@ -1,0 +1,193 @@
+/* What the page shows of the texts that are typed: by textContent alone, so that each stands there as a text. */
+import {
+    AcceptLanguage, AcceptLanguageError, bestForHeader, distance, InvalidTag, LanguageRange, LanguageTag, REGISTRY_DATE, tagForHeaderLenient,
+} from "../index.js";
+
+const find = (id) => document.getElementById(id);
+
+/** An element with a class, and texts or elements in it. */
+function made(name, className, ...children) {
+    const element = document.createElement(name);
+    if (className) element.className = className;
+    element.append(...children);
+    return element;
+}
+
+/** So many ranges and tags are shown, the first of more. */
+const MOST = 100;
+
+/** What is shown of a text: all but the middle of a very long one, which stays in its field. */
+const short = (text) => (text.length > 1000 ? `${text.slice(0, 500)}…${text.slice(-400)}` : text);
+const cell = (text, className) => made("td", className, short(text));
+
+const PARTS = [
+    ["language", "language", "2.2.1"], ["script", "script", "2.2.3"], ["region", "region", "2.2.4"], ["variants", "variants", "2.2.5"],
+    ["extensions", "extensions", "2.2.6"], ["private use", "private", "2.2.7"],
+];
+
+/** The parts of a tag that there are: name, class, text, section. */
+function partsOf(tag) {
+    const extensions = [...tag.extensions].map(([singleton, subtags]) => [singleton, ...subtags].join("-")).join("-");
+    const { language, script, region } = tag;
+    const [primary, ...extended] = language ? [tag.primaryLanguage, ...tag.extendedLanguages] : [];
+    const rest = tag.text.slice([language, script, region, ...tag.variants].filter(Boolean).join("-").length + 1);
+    const written = extensions === "" ? undefined : rest.slice(0, rest.length - (tag.privateUse ? tag.privateUse.length + 1 : 0));
+    const texts = [primary, script, region, tag.variants.join("-"), written, tag.privateUse];
+    const parts = PARTS.map(([name, className, section], index) => ({ name, className, section, text: texts[index] }));
+    if (extended.length > 0) parts.splice(1, 0, { ...parts[0], name: "extended language", section: "2.2.2", text: extended.join("-") });
+    if (tag.kind === "irregular") return [{ name: "grandfathered", className: "private", section: "2.2.8", text: tag.text }];
+    return parts.filter((part) => part.text);
+}
+
+/** Shows pieces of a text, each with its name below it. */
+function showPieces(place, pieces) {
+    place.replaceChildren(...pieces.map(([text, className, name], index) => {
+        const isJoined = index > 0 && className !== "refused" && className !== "plain";
+        return made("span", `part ${className}`, isJoined ? "-" : "", made("b", "", short(text)), made("small", "", name));
+    }));
+}
+
+/** What may stand behind a front of a text: the part that it is of, whether it is all of the part, and an example. */
+const EXAMPLES = [
+    ["a language, of two to eight letters", "language", true, "de"],
+    ["an extended language, of three letters", "extended language", false, "yue"],
+    ["a script, of four letters", "script", true, "Latn"],
+    ["a region, of two letters or three digits", "region", true, "CH"],
+    ["a variant, of five to eight letters or digits, or of a digit and three more", "variants", false, "rozaj"],
+    ["one more subtag of the extension, of two to eight letters or digits", "extensions", false, "abcd"],
+    ["an extension, a letter or digit with subtags behind it", "extensions", false, "u-co"],
+    ["one more subtag for private use, of one to eight letters or digits", "private use", false, "a"],
+    ["private use, x with subtags behind it", "private use", true, "x-mine"],
+];
+
+/** What could stand behind a front: of each kind of subtag, whether the library takes an example as one of that part. */
+function couldStand(front) {
+    return EXAMPLES.filter(([, name, isWhole, example]) => {
+        if (!LanguageTag.canParse(front + example)) return false;
+        const last = partsOf(LanguageTag.parse(front + example)).at(-1);
+        return last.name === name && (isWhole ? last.text === example : last.text.endsWith(example));
+    }).map(([told, , , example]) => `${told}: ${example}`);
+}
+
+/** Shows a text of which some of it is refused, or what is missing at its end. */
+function showBroken(id, text, begin, end, name) {
+    const pieces = [[text.slice(0, begin), "plain", ""], [text.slice(begin, end) || "…", "refused", name], [text.slice(end), "plain", ""]];
+    showPieces(find(id), pieces.filter(([piece]) => piece !== ""));
+}
+
+/** The character at an offset, of one unit or two; "" at the end. */
+const characterAt = (text, offset) => (offset < text.length ? String.fromCodePoint(text.codePointAt(offset)) : "");
+
+function showRefused(text, error) {
+    const refused = /^[0-9a-z]+$/i.test(error.subtag ?? "") ? error.subtag : ""; // else one character of it
+    showBroken("tag-text", text, error.offset, error.offset + (refused || characterAt(text, error.offset)).length, "refused");
+    find("tag-summary").textContent = text === "" ? "Type a text." : `Not a tag: ${error.reason}.`;
+    const front = text.slice(0, text.slice(0, error.offset).lastIndexOf("-") + 1);
+    find("tag-could").hidden = false;
+    find("tag-could").querySelector("ul").replaceChildren(...couldStand(front).map((it) => made("li", "", it)));
+}
+
+function showTag() {
+    const text = find("tag").value;
+    let tag;
+    try {
+        tag = LanguageTag.parse(text);
+    } catch (error) {
+        if (!(error instanceof InvalidTag)) throw error;
+        showRefused(text, error);
+    }
+    find("tag").setAttribute("aria-invalid", String(tag === undefined && text !== ""));
+    find("tag-parts").hidden = tag === undefined;
+    find("tag-forms").hidden = tag === undefined;
+    if (tag === undefined) return;
+    find("tag-could").hidden = true;
+    const wrong = tag.invalidSubtag;
+    const parts = partsOf(tag);
+    const validity = wrong === undefined ? "valid" : `not valid: ${wrong}`;
+    find("tag-summary").textContent = `A tag, ${validity}, by IANA's registry of ${REGISTRY_DATE}.`;
+    let end = 0;
+    showPieces(find("tag-text"), parts.map((part) => {
+        const begin = end;
+        end += part.text.length + 1;
+        const isWrong = wrong !== undefined && begin <= wrong.offset && wrong.offset < end;
+        return [part.text, isWrong ? `${part.className} invalid` : part.className, isWrong ? `${part.name}, not valid` : part.name];
+    }));
+    find("tag-parts").tBodies[0].replaceChildren(...parts.map((part) =>
+        made("tr", "", made("th", part.className, part.name), cell(part.text, `code ${part.className}`), cell(`section ${part.section}`))));
+    for (const head of find("tag-parts").tBodies[0].querySelectorAll("th")) head.scope = "row";
+    const forms = [
+        ["Kind", tag.kind], ["Validity", validity], ["Recommended case", tag.toRecommended()], ["Canonical form", tag.canonical()],
+        ["With likely subtags", tag.maximize()], ["Without them", tag.minimize()],
+        ["Written", tag.isRightToLeft ? "from right to left" : "from left to right"],
+    ];
+    find("tag-forms").replaceChildren(...forms.flatMap(([name, form]) => [made("dt", "", name), made("dd", "", short(String(form)))]));
+}
+
+/** The tags at hand; words that are none are told, and left out. */
+function readTags() {
+    const words = find("tags").value.split(/[\s,]+/).filter(Boolean);
+    const bad = words.filter((word) => !LanguageTag.canParse(word));
+    find("tags").setAttribute("aria-invalid", String(bad.length > 0));
+    find("tags-summary").textContent = bad.length > 0 ? `Not tags, and left out: ${short(bad.join(" "))}` : "";
+    return words.filter((word) => LanguageTag.canParse(word)).map((word) => LanguageTag.parse(word));
+}
+
+/** How far the tags are from a range that is a tag. */
+function distances(range, tags) {
+    if (!LanguageTag.canParse(range)) return "";
+    const told = tags.slice(0, 20).map((tag) => `${short(tag.text)} ${distance(range, tag)}`);
+    return told.length > 0 ? `; distances: ${told.join(", ")}` : "";
+}
+
+function showHeader(tags) {
+    const header = find("header").value;
+    const { ranges } = AcceptLanguage.lenient(header);
+    find("header-ranges").replaceChildren(...ranges.slice(0, MOST).map(({ range, weight }) =>
+        made("li", "", made("b", "", short(range.text)), ` with the weight ${weight / 1000}${distances(range, tags)}`)));
+    const chosen = tagForHeaderLenient(header, tags);
+    let told = "";
+    find("header-text").replaceChildren();
+    try {
+        AcceptLanguage.parse(header);
+    } catch (error) {
+        if (!(error instanceof AcceptLanguageError)) throw error;
+        const end = `${header},`.indexOf(",", error.offset);
+        showBroken("header-text", header, error.offset, end, `bad ${error.part}`);
+        told = `A strict reader refuses it: ${error.message}. A lenient one passes that over. `;
+    }
+    find("header").setAttribute("aria-invalid", String(told !== ""));
+    const found = chosen === undefined ? "By look-up (RFC 4647) it finds none of the tags" : `By look-up (RFC 4647) it finds ${short(chosen.text)}`;
+    const best = bestForHeader(header, tags);
+    const nearest = best === undefined ? "by distance (UTS #35) none" : `by distance (UTS #35) ${short(best.text)}`;
+    find("header-summary").textContent = `${told}${found}, ${nearest}.`;
+}
+
+function showRange(tags) {
+    const text = find("range").value;
+    const isRange = LanguageRange.canParse(text);
+    find("range").setAttribute("aria-invalid", String(!isRange && text !== ""));
+    find("range-matches").hidden = !isRange;
+    find("range-summary").textContent = isRange ? "" : "Not a language range.";
+    if (!isRange) return;
+    const range = LanguageRange.parse(text);
+    const looked = new Set();
+    let left = 6;
+    for (const it of range.fallbacks()) {
+        if (!it.text.startsWith("*")) looked.add(left > 0 ? short(it.text.replaceAll("-*", "")) : "shorter ones");
+        if (left-- === 0) break;
+    }
+    find("range-summary").textContent = `${range.isBasic ? "A basic" : "An extended"} range, looked up as ${[...looked].join(", then ") || "nothing"}.`;
+    find("range-matches").tBodies[0].replaceChildren(...tags.slice(0, MOST).map((tag) =>
+        made("tr", "", cell(tag.text, "code"), ...[range.matchesBasic(tag), range.matchesExtended(tag)].map((it) => cell(it ? "yes" : "no")))));
+}
+
+function showTags() {
+    const tags = readTags();
+    showHeader(tags);
+    showRange(tags);
+}
+
+find("tag").addEventListener("input", showTag);
+for (const id of ["tags", "header", "range"]) find(id).addEventListener("input", showTags);
+showTag();
+showTags();

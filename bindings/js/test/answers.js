@@ -1,0 +1,231 @@
+/* What the package answers to a row, in the row's words. It runs in Node and in a page. */
+import {
+    AcceptLanguageError, bestForHeader, distance, EditError, GRANDFATHERED, InvalidRange, InvalidTag, LanguageRange, LanguageTag, lookUp, stopLength,
+    tagForHeader, tagForHeaderLenient, viableLength,
+} from "../index.js";
+import * as calls from "../calls.js";
+
+const KINDS = { normal: "normal", "private-use": "private", irregular: "irregular" };
+const DEFAULT = "-";
+
+function assert(holds, what) {
+    if (!holds) throw new Error(`not so: ${what}`);
+}
+
+/** What is made of a text; undefined where it is refused, by an error that tells it. */
+function made(type, text) {
+    try {
+        const value = type.parse(text);
+        assert(type.canParse(text) && String(value) === text && JSON.stringify({ value }) === JSON.stringify({ value: text }), "a text");
+        return value;
+    } catch (error) {
+        if (!(error instanceof InvalidTag || error instanceof InvalidRange)) throw error;
+        assert(error instanceof RangeError && error.text === text && !type.canParse(text), "a refusal");
+        return undefined;
+    }
+}
+
+const kindOf = (text) => {
+    const tag = made(LanguageTag, text);
+    return tag === undefined ? "none" : KINDS[tag.kind];
+};
+
+function answerTag(text) {
+    const tag = made(LanguageTag, text);
+    if (tag === undefined) return "none";
+    const lines = [KINDS[tag.kind]];
+    if (tag.language !== undefined) {
+        const languages = [tag.primaryLanguage, ...tag.extendedLanguages];
+        assert(tag.language === languages.join("-"), "the language");
+        lines.push(`  language ${languages.join(" ")}`);
+    }
+    for (const name of ["script", "region"]) if (tag[name] !== undefined) lines.push(`  ${name} ${tag[name]}`);
+    if (tag.variants.length > 0) lines.push(`  variants ${tag.variants.join(" ")}`);
+    if (tag.extensions.size > 0) lines.push(`  extensions ${[...tag.extensions].map(([key, subtags]) => [key, ...subtags].join("-")).join(" ")}`);
+    if (tag.privateUse !== undefined) lines.push(`  private_use ${tag.privateUse.replaceAll("-", " ")}`);
+    if (tag.repeatedVariant !== undefined) lines.push(`  repeated_variant ${tag.repeatedVariant}`);
+    if (tag.repeatedSingleton !== undefined) lines.push(`  repeated_singleton ${tag.repeatedSingleton}`);
+    lines.push(`  recommended ${tag.toRecommended()}`, `  folded ${tag.toFolded()}`, `  hash ${tag.fnv1a().toString(16).padStart(16, "0")}`);
+    return lines.join("\n");
+}
+
+/** Of a tag, the extensions that a map holds, by small singletons, the first of each; and no offsets of repeats. */
+export function adapted({ call, wanted }) {
+    if (call !== "tag") return wanted;
+    const lines = wanted.split("\n").filter((line) => !line.startsWith("  at_"));
+    return lines.map((line) => {
+        if (!line.startsWith("  extensions ")) return line;
+        const first = new Map();
+        for (const it of line.trim().split(" ").slice(1)) {
+            const key = it[0].toLowerCase();
+            if (!first.has(key)) first.set(key, key + it.slice(1));
+        }
+        return ["  extensions", ...first.values()].join(" ");
+    }).join("\n");
+}
+
+const FAULTS = {
+    language: "language 'SUBTAG' is not registered",
+    extlang: "extended language 'SUBTAG' is not registered",
+    "second-extlang": "extended language 'SUBTAG' is the second",
+    script: "script 'SUBTAG' is not registered",
+    region: "region 'SUBTAG' is not registered",
+    variant: "variant 'SUBTAG' is not registered",
+    "repeated-variant": "variant 'SUBTAG' is repeated",
+    "repeated-singleton": "singleton 'SUBTAG' is repeated",
+};
+
+function answerValidity(text) {
+    const tag = made(LanguageTag, text);
+    if (tag === undefined) return "none";
+    const wrong = tag.invalidSubtag;
+    assert(tag.isValid === (wrong === undefined), "valid");
+    if (wrong === undefined) return "valid";
+    assert(text.startsWith(wrong.subtag, wrong.offset), "the subtag");
+    assert(String(wrong) === FAULTS[wrong.fault].replace("SUBTAG", wrong.subtag), String(wrong));
+    return `${wrong.fault} ${wrong.offset} ${wrong.subtag}`;
+}
+
+function answerCanonical(text) {
+    const tag = made(LanguageTag, text);
+    if (tag === undefined) return "-";
+    const form = tag.canonical();
+    assert(tag.isCanonical === form.equals(tag) && form.isCanonical, "is canonical");
+    return String(form);
+}
+
+function answerGrandfathered(text) {
+    const found = made(LanguageTag, text)?.grandfathered;
+    assert(found === undefined || found.toLowerCase() === text.toLowerCase(), "grandfathered");
+    return `${found === undefined ? 26 : GRANDFATHERED.indexOf(found)} ${kindOf(text)}`;
+}
+
+/** How many bytes decide the text, how many of its fronts are tags, and what it is, with the ends of its parts. */
+function answerScan(text) {
+    const tag = made(LanguageTag, text);
+    let fronts = 0;
+    for (let end = 0; end <= text.length; end++) fronts += LanguageTag.canParse(text.slice(0, end)) ? 1 : 0;
+    const what = [stopLength(text), fronts, kindOf(text)];
+    if (tag?.kind === "irregular") what.push(GRANDFATHERED.indexOf(tag.grandfathered));
+    if (tag?.kind === "normal") {
+        if (tag.repeatedSingleton !== undefined) return undefined; // of one singleton, a map has the first extension alone
+        const extensions = [...tag.extensions].map(([key, subtags]) => [key, ...subtags].join("-")).join("-");
+        let end = tag.language.length;
+        what.push(end);
+        for (const part of [tag.script, tag.region, tag.variants.join("-"), extensions, tag.privateUse]) {
+            end += part ? 1 + part.length : 0;
+            what.push(end);
+        }
+    }
+    return what.join(" ");
+}
+
+function answerMatch(rangeText, tagText) {
+    const range = made(LanguageRange, rangeText), tag = made(LanguageTag, tagText);
+    const how = range && tag ? [range.matchesBasic(tag), range.matchesExtended(tag)] : [false, false];
+    return { "true,true": "both", "true,false": "basic", "false,true": "extended", "false,false": "neither" }[how.join()];
+}
+
+function answerOrder(one, other) {
+    const tags = [made(LanguageTag, one), made(LanguageTag, other)];
+    if (tags.includes(undefined)) {
+        const ranges = [made(LanguageRange, one), made(LanguageRange, other)];
+        return ranges.includes(undefined) ? undefined : ranges[0].equals(ranges[1]) ? "equal" : undefined;
+    }
+    const order = LanguageTag.compare(...tags);
+    assert((order === 0) === tags[0].equals(tags[1]) && LanguageTag.compare(tags[1], tags[0]) === 0 - order, "order and equality");
+    return { "-1": "before", 0: "equal", 1: "after" }[order];
+}
+
+function answerHeader(header, list) {
+    const texts = list.split(" ").filter((text) => text !== "");
+    const tags = texts.map((text) => LanguageTag.parse(text));
+    let strict;
+    try {
+        strict = String(tagForHeader(header, tags, DEFAULT));
+    } catch (error) {
+        if (!(error instanceof AcceptLanguageError)) throw error;
+        assert(error.header === header && error.message === `element ${error.index} has a bad ${error.part}`, "the error");
+        strict = `bad ${error.index} ${error.offset} ${{ "language range": "range", weight: "weight" }[error.part]}`;
+    }
+    const lenient = String(tagForHeaderLenient(header, tags, DEFAULT));
+    assert(tagForHeaderLenient(header, new Set(texts), DEFAULT) === lenient, "the tag of texts");
+    return `${strict} | ${lenient}`;
+}
+
+const answerRanges = (ranges, tags) =>
+    String(lookUp(ranges.split(" ").filter(Boolean), tags.split(" ").filter(Boolean).map((text) => LanguageTag.parse(text)), DEFAULT));
+
+function answerRefused(text) {
+    const [answer, start, length, offset] = calls.refused(text);
+    if (answer > 0) {
+        let error;
+        try {
+            LanguageTag.parse(text);
+        } catch (thrown) {
+            error = thrown;
+        }
+        assert(error.offset === offset && error.subtag === (answer < 3 ? text.slice(start, start + length) : undefined), "the error");
+    }
+    return `${["none", "subtag", "byte", "end"][answer]} ${start} ${length} ${offset}`;
+}
+
+function answerDistance(desired, supported) {
+    const [one, other] = [made(LanguageTag, desired), made(LanguageTag, supported)];
+    return one && other ? String(distance(one, other)) : "-";
+}
+
+function answerBest(header, list) {
+    const texts = list.split(" ").filter(Boolean);
+    const found = bestForHeader(header, texts, DEFAULT);
+    assert(String(bestForHeader(header, texts.map((text) => LanguageTag.parse(text)), DEFAULT)) === found, "the tag of tags");
+    return found;
+}
+
+function edited(tag, part, value) {
+    try {
+        return String(tag.with({ [part]: value }));
+    } catch (error) {
+        if (!(error instanceof EditError)) throw error;
+        assert(error.part === part && error instanceof RangeError, "the error");
+        assert((error.text === undefined) === (tag.kind !== "normal"), "its text");
+        return error.text === undefined ? "no parts" : "refused";
+    }
+}
+
+/** By a text, and of variants by a list too. */
+function answerEdit(text, name, given) {
+    const tag = LanguageTag.parse(text), part = name === "private_use" ? "privateUse" : name;
+    const found = edited(tag, part, given === "none" ? null : given);
+    assert(part !== "variants" || edited(tag, part, given === "" ? [] : given.split("-")) === found, "variants as a list");
+    assert(tag.text === text, "the tag stays");
+    return found;
+}
+
+export const answers = {
+    tag: answerTag,
+    scan: answerScan,
+    recommended: (text) => made(LanguageTag, text)?.toRecommended().toString(),
+    validity: answerValidity,
+    canonical: answerCanonical,
+    grandfathered: answerGrandfathered,
+    viable: (text) => `${viableLength(text)} ${stopLength(text)}`,
+    range: (text) => {
+        const range = made(LanguageRange, text);
+        return range === undefined ? "none" : range.isBasic ? "basic" : "extended";
+    },
+    match: answerMatch,
+    order: answerOrder,
+    refused: answerRefused,
+    posix: (name) => LanguageTag.fromPosix(name)?.text ?? "-",
+    "right-to-left": (text) => ({ true: "yes", false: "no", undefined: "-" })[made(LanguageTag, text)?.isRightToLeft],
+    distance: answerDistance,
+    best: answerBest,
+    maximized: (text) => made(LanguageTag, text)?.maximize().toString() ?? "-",
+    minimized: (text) => made(LanguageTag, text)?.minimize().toString() ?? "-",
+    header: answerHeader,
+    ranges: answerRanges,
+    edit: answerEdit,
+};
+
+export const FLOORS = { "table.txt": 300, "texts.txt": 700, "negotiation.txt": 95, "edits.txt": 75, "likely.txt": 200, "posix.txt": 75, "direction.txt": 300, "distance.txt": 130, "choices.txt": 250, "refused.txt": 60 };

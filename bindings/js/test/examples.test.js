@@ -1,0 +1,25 @@
+/* The example that answers requests. */
+import assert from "node:assert/strict";
+import { spawn } from "node:child_process";
+import { once } from "node:events";
+import test from "node:test";
+import { fileURLToPath } from "node:url";
+
+const HEADERS = [
+    ["", "en"], ["de", "de"], ["fr;q=0.3, DE-ch-1996;q=0.9", "de-CH"], ["fr;q=0, de;q=0.1", "de"], ["ja, *;q=0.1", "en"],
+    ["zh-Hant-TW", "zh-Hant"], ["fr_FR, de;q=0.1", "de"], [",,, ,de,", "de"],
+];
+
+test("the server answers in the language that is asked for", async () => {
+    const server = spawn(process.execPath, [fileURLToPath(new URL("../examples/negotiate.js", import.meta.url)), "0"]);
+    try {
+        const [line] = await once(server.stdout.setEncoding("utf8"), "data");
+        for (const [header, wanted] of HEADERS) {
+            const response = await fetch(line.trim(), { headers: { "Accept-Language": header } });
+            assert.equal(response.headers.get("Content-Language"), wanted);
+            assert.equal(await response.text(), { en: "Hello\n", de: "Guten Tag\n", "de-CH": "Grüezi\n", "zh-Hant": "你好\n" }[wanted]);
+        }
+    } finally {
+        server.kill();
+    }
+});

@@ -1,0 +1,254 @@
+/* What only JavaScript has: values, errors, texts of any units, and the module's memory. */
+import assert from "node:assert/strict";
+import { cpSync, mkdtempSync, readFileSync, rmSync } from "node:fs";
+import { tmpdir } from "node:os";
+import { join } from "node:path";
+import test from "node:test";
+import { pathToFileURL } from "node:url";
+import * as langtag from "../index.js";
+
+const {
+    AcceptLanguage, AcceptLanguageError, EditError, GRANDFATHERED, InvalidRange, InvalidTag, LanguageRange, LanguageTag, REGISTRY_DATE,
+    bestForHeader, CLDR_VERSION, distance, lookUp, stopLength, tagForHeader, tagForHeaderLenient, viableLength,
+} = langtag;
+
+/** How many bytes the module's memory has: of each module that is started, in their order. */
+const memories = [];
+const Instance = WebAssembly.Instance;
+WebAssembly.Instance = function (...given) {
+    const made = new Instance(...given);
+    memories.push(made.exports.memory);
+    return made;
+};
+const folder = mkdtempSync(join(tmpdir(), "langtag-"));
+for (const name of ["package.json", "index.js", "calls.js", "module.js"]) cpSync(new URL(`../${name}`, import.meta.url), join(folder, name));
+const other = await import(pathToFileURL(join(folder, "index.js")));
+rmSync(folder, { recursive: true });
+const calls = await import("../calls.js?watched");
+calls.kind("en");
+const watched = memories.length - 1; // the first of those that `calls` starts
+
+/** What is thrown. */
+function thrown(call) {
+    try {
+        call();
+    } catch (error) {
+        return error;
+    }
+    return undefined;
+}
+
+test("index.d.ts declares what there is", () => {
+    const declared = readFileSync(new URL("../index.d.ts", import.meta.url), "utf8");
+    assert.deepEqual(declared.match(/(?<=^export (?:const|function|class) )\w+/gm).sort(), Object.keys(langtag).sort());
+    const values = [
+        LanguageTag.parse("en"), LanguageRange.parse("en"), AcceptLanguage.parse(""), thrown(() => LanguageTag.parse("")),
+        thrown(() => LanguageRange.parse("")), thrown(() => LanguageTag.parse("en").with({ script: "x" })), thrown(() => AcceptLanguage.parse("_")),
+    ];
+    const classes = [...declared.matchAll(/^export class (\w+).*\{\n([^]*?)^\}/gm)];
+    assert.equal(classes.length, values.length);
+    for (const [, name, body] of classes) {
+        const type = langtag[name], value = values.find((it) => it instanceof type);
+        const members = (pattern) => [...body.matchAll(pattern)].map((found) => found[1]).sort();
+        const statics = Object.getOwnPropertyNames(type).filter((it) => !["length", "name", "prototype"].includes(it));
+        assert.deepEqual(members(/^    static (\w+)[(<]/gm), statics.sort(), name);
+        const own = [...Object.keys(value), ...Object.getOwnPropertyNames(type.prototype)].filter((it) => !["constructor", "name"].includes(it));
+        assert.deepEqual(members(/^    (?!static|private|constructor)(?:readonly |get )?(\w+)[(<:]/gm), own.sort(), name);
+    }
+});
+
+test("parts that are absent", () => {
+    const tag = LanguageTag.parse("de");
+    assert.deepEqual([tag.script, tag.region, tag.privateUse, tag.grandfathered], [undefined, undefined, undefined, undefined]);
+    assert.deepEqual([tag.variants, tag.extendedLanguages, tag.extensions], [[], [], new Map()]);
+    assert.deepEqual([tag.repeatedVariant, tag.repeatedSingleton, tag.invalidSubtag], [undefined, undefined, undefined]);
+});
+
+test("a tag for private use, and an irregular one, have no language", () => {
+    const tag = LanguageTag.parse("X-a");
+    assert.deepEqual([tag.kind, tag.privateUse, tag.language, tag.primaryLanguage], ["private-use", "X-a", undefined, undefined]);
+    assert.equal(LanguageTag.parse("I-KLINGON").grandfathered, "i-klingon");
+    assert.deepEqual(GRANDFATHERED.map((text) => LanguageTag.parse(text).grandfathered), [...GRANDFATHERED]);
+});
+
+test("extensions keep their order, with digits among them", () => {
+    const { extensions } = LanguageTag.parse("en-u-co-a-bb-1-cc");
+    assert.deepEqual([...extensions], [["u", ["co"]], ["a", ["bb"]], ["1", ["cc"]]]);
+});
+
+test("texts that are refused, of any units", () => {
+    const texts = ["", "f", "en_US", "zh-x-\u00e9", "en\0", "\ud800", "en\udc00", "en-\ud83d\ude00", "\u212a-ab", "i-notexist", "en\u0130", "\uff45n"];
+    for (const text of texts) {
+        assert.equal(LanguageTag.canParse(text), false);
+        assert.equal(LanguageRange.canParse(text), text === "f" || text === "i-notexist");
+        assert.throws(() => LanguageTag.parse(text), (error) => {
+            assert.ok(error instanceof InvalidTag && error instanceof RangeError && error.name === "InvalidTag");
+            assert.equal(error.text, text);
+            assert.ok(error.message.startsWith(JSON.stringify(text)), error.message);
+            return error.viable === viableLength(text) && error.viable <= text.length;
+        });
+        assert.ok(stopLength(text) <= text.length && stopLength(text) >= viableLength(text));
+    }
+    for (let unit = 0x80; unit < 0x10000; unit += 7) {
+        assert.ok(!LanguageTag.canParse(`de-${String.fromCharCode(unit)}ab`), unit.toString(16));
+    }
+});
+
+test("where a text is refused", () => {
+    for (const [text, subtag, offset, reason] of [["de-419-DE", "DE", 7, '"DE" can\'t stand at 7'], ["de_CH", "de_CH", 2, 'no subtag has the "_" at 2'],
+        ["en-", undefined, 3, "it ends too soon"], ["en-a", undefined, 4, "it ends too soon"], ["i", undefined, 1, "it ends too soon"],
+        ["en--us", "", 3, "a subtag is empty at 3"], ["de-\u{1f600}", "\u{1f600}", 3, 'no subtag has the "\u{1f600}" at 3']]) {
+        const error = thrown(() => LanguageTag.parse(text));
+        assert.deepEqual([error.subtag, error.offset, error.reason], [subtag, offset, reason]);
+        assert.equal(error.message, `${JSON.stringify(text)} is not a language tag: ${reason}`);
+    }
+});
+
+test("likely subtags, distances and the best tag", () => {
+    assert.equal(LanguageTag.parse("zh-TW").maximize().text, "zh-Hant-TW");
+    assert.equal(LanguageTag.parse("zh-Hant-TW").minimize().text, "zh-TW");
+    const tags = ["en", "de-CH", "fr", "zh-Hant", "sr-Latn"];
+    assert.equal(bestForHeader("zh-TW;q=0.5, _, gsw", tags), "de-CH");
+    assert.equal(bestForHeader("", tags), undefined);
+    assert.equal(bestForHeader("", tags, "en"), "en");
+    assert.equal(bestForHeader("fr", [], "en"), "en");
+    assert.equal(bestForHeader("no", [LanguageTag.parse("nb")])?.text, "nb");
+    assert.equal(distance("de", "de"), 0);
+    assert.ok(distance("de-AT", "de-DE") > 0 && distance("de-AT", "de-DE") < distance("de-AT", "ja"));
+    assert.deepEqual(["ar", "az-Arab", "he", "de", "ar-Latn"].map((text) => LanguageTag.parse(text).isRightToLeft), [true, true, true, false, false]);
+    assert.equal(LanguageTag.fromPosix("pt_BR.UTF-8")?.text, "pt-BR");
+    assert.equal(LanguageTag.fromPosix(""), undefined);
+    assert.ok(CLDR_VERSION >= 41);
+});
+
+test("what is no text is a TypeError", () => {
+    for (const value of [undefined, null, 5, ["en"], {}, Symbol("en"), 5n, { text: 5 }]) {
+        assert.throws(() => LanguageTag.parse(value), TypeError);
+        assert.throws(() => LanguageRange.parse(value), TypeError);
+        assert.throws(() => tagForHeader(value, ["en"]), TypeError);
+        assert.throws(() => LanguageTag.parse("en").equals(value), TypeError);
+    }
+    assert.throws(() => LanguageTag.parse("en").with({ scripts: "Latn" }), TypeError);
+    assert.throws(() => LanguageTag.parse("en").with({ variants: 5 }), TypeError);
+    assert.throws(() => LanguageTag.from({ script: "Latn" }), TypeError);
+});
+
+test("equality and order", () => {
+    const tag = LanguageTag.parse("zh-Hant");
+    assert.ok(tag.equals(LanguageTag.parse("ZH-HANT")) && tag.equals("zh-hant") && !tag.equals("zh") && !tag.equals("zh_Hant"));
+    assert.deepEqual(["zh", "ZH-Latn", "en", "EN-us"].sort(LanguageTag.compare), ["EN-us", "en", "ZH-Latn", "zh"]);
+    assert.equal(tag.fnv1a(), LanguageTag.parse("zh-hant").fnv1a());
+});
+
+test("a tag does not change", () => {
+    const tag = LanguageTag.parse("zh-Hant");
+    assert.throws(() => { tag.text = "en"; }, TypeError);
+    assert.throws(() => { tag.script = "Latn"; }, TypeError);
+    tag.variants.push("1996");
+    assert.deepEqual(tag.variants, []);
+});
+
+test("texts, JSON and clones", () => {
+    const tag = LanguageTag.parse("ZH-hant"), range = LanguageRange.parse("*-CH");
+    assert.equal(`${tag} ${range}`, "ZH-hant *-CH");
+    assert.equal(JSON.stringify({ tag, range }), '{"tag":"ZH-hant","range":"*-CH"}');
+    assert.deepEqual(structuredClone(tag), { text: "ZH-hant" });
+    assert.ok(LanguageTag.parse(structuredClone(tag)).equals(tag) && LanguageTag.parse(JSON.parse(JSON.stringify(tag))).equals(tag));
+    assert.deepEqual([String(LanguageTag.parse("EN-ca-X-CA").toRecommended()), LanguageTag.parse("EN-ca-X-CA").toFolded()], ["en-CA-x-ca", "en-ca-x-ca"]);
+});
+
+test("edits", () => {
+    const tag = LanguageTag.parse("sl-IT-rozaj-x-a");
+    assert.equal(String(tag.with({ script: "Latn", variants: ["nedis", "1994"], privateUse: null })), "sl-Latn-IT-nedis-1994");
+    assert.equal(String(tag.with({})), "sl-IT-rozaj-x-a");
+    assert.equal(String(tag.with({ script: undefined })), "sl-IT-rozaj-x-a");
+    for (const extensions of ["u-co-pinyin", { u: "co-pinyin" }, { u: ["co", "pinyin"] }, new Map([["u", ["co", "pinyin"]]])]) {
+        assert.equal(String(LanguageTag.from({ language: "zh-yue", script: "Hant", extensions })), "zh-yue-Hant-u-co-pinyin");
+    }
+    const of = LanguageTag.parse("en-1-ab-u-co-a-bb");
+    assert.equal(String(LanguageTag.parse("de").with({ extensions: of.extensions })), "de-1-ab-u-co-a-bb");
+    assert.throws(() => tag.with({ region: "Switzerland" }), (error) => error instanceof EditError && error instanceof RangeError &&
+        error.message === `"Switzerland" can't be the region of a tag` && error.part === "region" && error.text === "Switzerland");
+    assert.throws(() => LanguageTag.parse("x-a").with({ region: "CH" }), { name: "EditError", message: "not a normal language tag" });
+    for (const parts of [{ language: null }, { script: "" }, { region: "\u212aE" }, { script: "La\ud800n" }]) {
+        assert.throws(() => tag.with(parts), EditError);
+    }
+});
+
+test("ranges, headers and their errors", () => {
+    assert.deepEqual(Array.from(LanguageRange.parse("zh-Hant-CN-x-private1").fallbacks(), String), ["zh-Hant-CN-x-private1", "zh-Hant-CN", "zh-Hant", "zh"]);
+    assert.throws(() => LanguageRange.parse("de_"), (error) => error instanceof InvalidRange && error.text === "de_" && error.message.startsWith('"de_"'));
+    const { ranges } = AcceptLanguage.parse("fr;q=0.3, DE-ch-1996;q=0.9, *;q=0");
+    assert.deepEqual(ranges.map(({ range, weight }) => [String(range), weight]), [["DE-ch-1996", 900], ["fr", 300]]);
+    assert.throws(() => AcceptLanguage.parse("fr;q=0.3, de_CH"), (error) => error instanceof AcceptLanguageError && error instanceof RangeError &&
+        error.message === "element 1 has a bad language range" && error.index === 1 && error.offset === 9 && error.part === "language range");
+    assert.throws(() => AcceptLanguage.parse("fr, \u00e9\u00e9, de"), { index: 1, offset: 3 });
+    assert.equal(tagForHeader("fr;q=0.3, DE-ch-1996;q=0.9", ["de-CH", "fr"]), "de-CH");
+    assert.equal(tagForHeader("nl", ["de-CH", "fr"]), undefined);
+    assert.equal(tagForHeaderLenient("fr_FR, de-ch;q=0.5, *", ["de-CH", "fr"], "fr"), "de-CH");
+    assert.equal(lookUp([LanguageRange.parse("nl"), "ZH-hant-CN"], ["en", "zh-Hant", "zh"]), "zh-Hant");
+    assert.throws(() => tagForHeader("de", ["de_CH"]), InvalidTag);
+});
+
+test("a range, a tag or a text of a megabyte", () => {
+    const long = `de${"-abcdefgh".repeat(120_000)}`;
+    const tag = LanguageTag.parse(long);
+    assert.equal(tag.variants.length, 120_000);
+    assert.equal(String(tag.canonical()), long);
+    assert.equal(String(LanguageTag.parse(`ja${"-heploc".repeat(50)}`).canonical()), `ja${"-alalc97".repeat(50)}`);
+    assert.equal(String(tag.with({ region: "CH" })).length, long.length + 3);
+    assert.equal(tag.invalidSubtag.offset, 3);
+    assert.throws(() => LanguageTag.parse(`${long}_`), (error) => error.viable === long.length && error.message.length < 300);
+    assert.equal(LanguageRange.parse(long).matchesBasic(tag), true);
+    const header = `${"nl, ".repeat(100_000)}fr`;
+    assert.equal(tagForHeader(header, ["en", "fr"]), "fr");
+    assert.equal(LanguageTag.parse(`de${"-1996".repeat(9000)}`).repeatedVariant, "1996");
+});
+
+test("two copies of the module", () => {
+    const one = LanguageTag.parse("zh-Hant"), two = other.LanguageTag.parse("ZH-hant");
+    assert.ok(!(two instanceof LanguageTag) && one.equals(two) && two.equals(one));
+    assert.equal(LanguageRange.parse("zh").matchesBasic(two), true);
+    assert.equal(tagForHeader("zh", [two]), undefined);
+    assert.equal(tagForHeader("zh-hant", [two]), two);
+    for (let count = 0; count < 1000; count++) {
+        assert.ok(LanguageTag.canParse("de-CH") && !other.LanguageTag.canParse("de_CH"));
+    }
+});
+
+test("the date of the registry", () => assert.match(REGISTRY_DATE, /^\d{4}-\d\d-\d\d$/));
+
+test("the memory of a long text is given back", () => {
+    const memory = memories[watched], begin = memory.buffer.byteLength, count = memories.length;
+    calls.kind("de".repeat(100_000));
+    assert.ok(memories.length === count && memory.buffer.byteLength < begin + 300_000);
+    calls.canonical(`de${"-abcdefgh".repeat(200_000)}`);
+    assert.equal(memories.length, count + 1);
+    assert.equal(memories.at(-1).buffer.byteLength, begin);
+    assert.equal(calls.canonical("iw"), "he");
+});
+
+test("calls that are cut off at the end of JavaScript's stack leave the module as it was", () => {
+    const deep = () => {
+        calls.repeats("de-1996-1996");
+        calls.canonical("iw-BU");
+        deep();
+    };
+    for (let round = 0; round < 100; round++) {
+        assert.throws(deep, RangeError);
+        assert.equal(calls.canonical("iw-BU"), "he-MM");
+        assert.deepEqual(calls.repeats("de-1996-1996"), [8, 4, 0, 0]);
+    }
+});
+
+test("ten million calls leave the memory as it was", () => {
+    const texts = ["zh-Hant-TW", "en", "de_CH", "sl-rozaj-biske-1994"];
+    calls.kind("en");
+    const memory = memories.at(-1), size = memory.buffer.byteLength;
+    for (let count = 0; count < 10_000_000; count++) calls.kind(texts[count & 3]);
+    assert.ok(memories.at(-1) === memory && memory.buffer.byteLength === size);
+    for (let count = 0; count < 100_000; count++) LanguageTag.parse("zh-Hant-TW").toRecommended();
+    const heap = process.memoryUsage().heapUsed;
+    for (let count = 0; count < 1_000_000; count++) LanguageTag.parse("zh-Hant-TW").canonical();
+    assert.ok(process.memoryUsage().heapUsed - heap < 50_000_000);
+});

@@ -1,0 +1,28 @@
+/* The rows, and the answers of C to random calls where LANGTAG_ANSWERS names a file of them. */
+import assert from "node:assert/strict";
+import { readFileSync } from "node:fs";
+import test from "node:test";
+import { adapted, answers, FLOORS } from "./answers.js";
+import { ask } from "./rows.js";
+
+const FOLDER = new URL("../../../crates/langtag_rows/data/", import.meta.url);
+const asked = {};
+
+function askFile(name, content, floor) {
+    const found = ask(name, content, floor, answers, adapted);
+    for (const [call, count] of Object.entries(found.asked)) asked[call] = (asked[call] ?? 0) + count;
+    console.log(`${name}: ${found.count} rows`);
+    assert.ok(found.differing.length === 0, `${found.differing.slice(0, 3).join("\n")}\n${found.differing.length} differ`);
+}
+
+for (const [name, floor] of Object.entries(FLOORS)) {
+    test(name, () => askFile(name, readFileSync(new URL(name, FOLDER), "latin1"), floor));
+}
+
+test("the answers of C to random calls", { skip: process.env.LANGTAG_ANSWERS === undefined }, () => {
+    askFile("answers", readFileSync(process.env.LANGTAG_ANSWERS, "latin1"), 1000);
+});
+
+test("each call is asked", () => {
+    assert.deepEqual(Object.keys(answers).filter((call) => !asked[call]), []);
+});

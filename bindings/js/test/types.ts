@@ -1,0 +1,32 @@
+// What tsc has to take, and what it has to refuse.
+import { AcceptLanguage, EditError, InvalidTag, LanguageRange, LanguageTag, lookUp, REGISTRY_DATE, tagForHeader, type Fault } from "langtag-verified";
+
+const tag: LanguageTag = LanguageTag.parse("zh-Hant");
+const script: string | undefined = tag.script;
+const subtags: string[] | undefined = tag.extensions.get("u");
+const fault: Fault | undefined = tag.invalidSubtag?.fault;
+const other = tag.with({ script: "Latn", region: null, variants: ["1996"], extensions: { u: ["co", "pinyin"] }, privateUse: undefined });
+const again = LanguageTag.from({ language: "de", extensions: other.extensions });
+const found: "de" | "fr" = tagForHeader("fr", ["de", "fr"] as const, "de");
+const none: LanguageTag | undefined = lookUp(["fr", LanguageRange.parse("*")], [tag, again]);
+const weights: number[] = AcceptLanguage.lenient("fr").ranges.map(({ weight }) => weight);
+const sorted: string[] = ["zh", "de"].sort(LanguageTag.compare);
+const kinds: "normal" | "private-use" | "irregular" = tag.kind;
+try {
+    LanguageTag.parse(structuredClone(tag));
+} catch (error) {
+    if (error instanceof InvalidTag) console.log(error.text, error.offset, error.viable, error.message);
+    if (error instanceof EditError) console.log(error.part === "script");
+}
+console.log(script, subtags, fault, found, none, weights, sorted, kinds, REGISTRY_DATE.length, tag.fnv1a() > 0n, tag.equals("ZH"));
+
+// @ts-expect-error a number is not a text
+LanguageTag.parse(5);
+// @ts-expect-error the language can't be taken out
+tag.with({ language: null });
+// @ts-expect-error there is no such part
+tag.with({ scripts: "Latn" });
+// @ts-expect-error a tag does not change
+tag.text = "de";
+// @ts-expect-error a script may be absent
+const certain: string = tag.script;

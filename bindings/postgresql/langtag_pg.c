@@ -1,0 +1,619 @@
+/*
+ * PostgreSQL's types langtag (a language tag, RFC 5646), langtag_range (a language range, RFC 4647) and langtag_part (some
+ * subtags of a tag), over the proved C library. What a function answers is said in langtag--0.1.0.sql.
+ *
+ * A value is a varlena of its bytes and nothing else, as text is, so that the casts to text cost nothing. Those of langtag
+ * are in the case that RFC 5646 recommends: equal tags have equal bytes. The C names begin with pg_langtag_, as the
+ * library's own begin with langtag_.
+ *
+ * The module is installed twice: as langtag, and under a name with the registry's date for the functions that rest on the
+ * registry, so that a file that is replaced changes no value that an index or a generated column holds.
+ */
+#include "postgres.h"
+
+#include <langtag.h>
+
+#include "access/stratnum.h"
+#include "catalog/pg_am_d.h"
+#include "catalog/pg_type_d.h"
+#include "common/hashfn.h"
+#include "fmgr.h"
+#include "libpq/pqformat.h"
+#include "mb/pg_wchar.h"
+#include "miscadmin.h"
+#include "nodes/makefuncs.h"
+#include "nodes/nodeFuncs.h"
+#include "nodes/pathnodes.h"
+#include "nodes/supportnodes.h"
+#include "optimizer/optimizer.h"
+#include "parser/parse_func.h"
+#include "port/pg_bswap.h"
+#include "utils/array.h"
+#include "utils/builtins.h"
+#include "utils/lsyscache.h"
+#include "utils/sortsupport.h"
+
+PG_MODULE_MAGIC;
+
+void _PG_init(void);
+
+/* The archive is built for x86-64-v2, and would end the server on an older processor. */
+void _PG_init(void) {
+    if (!__builtin_cpu_supports("sse4.2"))
+        ereport(ERROR, (errcode(ERRCODE_FEATURE_NOT_SUPPORTED),
+                        errmsg("extension langtag needs a processor with SSE4.2 (x86-64-v2)")));
+}
+
+#define BYTES(value) ((const char *)VARDATA_ANY(value))
+#define LEN(value) ((size_t)VARSIZE_ANY_EXHDR(value))
+
+static struct varlena *value_of(const char *bytes, size_t len) {
+    return (struct varlena *)cstring_to_text_with_len(bytes, (int)len);
+}
+
+/* ---- what is refused ---- */
+
+/* As much of a text as a message should have, cut behind a character. */
+static char *shown(const char *text, size_t len) {
+    size_t cut = (size_t)pg_mbcliplen(text, (int)len, 60);
+    return cut == len ? pnstrdup(text, len) : psprintf("%s...", pnstrdup(text, cut));
+}
+
+/* Where a text that is no tag goes wrong: at which character, and with which subtag. */
+static char *why_no_tag(const char *text, size_t len) {
+    langtag_span subtag;
+    size_t offset = 0;
+    uint32 answer = langtag_refused(text, len, &subtag, &offset);
+    int place = pg_mbstrlen_with_len(text, (int)offset) + 1;
+    if (len == 0) return pstrdup("A language tag is not empty.");
+    if (answer == LANGTAG_REFUSED_BYTE)
+        return psprintf("\"%s\" at character %d stands in no subtag.", pnstrdup(text + offset, pg_mblen(text + offset)), place);
+    if (answer == LANGTAG_REFUSED_END) return pstrdup("The text ends inside of a language tag.");
+    if (subtag.len == 0) return psprintf("The subtag at character %d is empty.", place);
+    return psprintf("Subtag \"%s\" at character %d does not fit there.", shown(text + subtag.start, subtag.len), place);
+}
+
+static void refuse(const char *type, const char *text, size_t len, const char *why) {
+    ereport(ERROR, (errcode(ERRCODE_INVALID_TEXT_REPRESENTATION),
+                    errmsg("invalid input syntax for type %s: \"%s\"", type, shown(text, len)),
+                    errdetail_internal("%s", why)));
+}
+
+/* ---- the types ---- */
+
+static struct varlena *checked_tag(const char *text, size_t len) {
+    struct varlena *tag;
+    if (langtag_kind(text, len) == LANGTAG_NONE) refuse("langtag", text, len, why_no_tag(text, len));
+    tag = value_of(text, len);
+    langtag_recommend(VARDATA(tag), len);
+    return tag;
+}
+
+static struct varlena *checked_range(const char *text, size_t len) {
+    if (langtag_range_kind(text, len) == LANGTAG_RANGE_NONE)
+        refuse("langtag_range", text, len,
+               "A language range is subtags of 1 to 8 letters or digits, or *, with hyphens between them.");
+    return value_of(text, len);
+}
+
+/* Some subtags, or none: exactly what may stand behind the x- of a tag for private use. */
+static struct varlena *checked_part(const char *text, size_t len) {
+    char *tag = palloc(len + 2);
+    memcpy(tag, "x-", 2);
+    memcpy(tag + 2, text, len);
+    if (len > 0 && langtag_kind(tag, len + 2) != LANGTAG_PRIVATE_USE)
+        refuse("langtag_part", text, len, "A part is subtags of 1 to 8 letters or digits with hyphens between them.");
+    pfree(tag);
+    return value_of(text, len);
+}
+
+/* How a value comes in: as a text of C, as a message of the binary protocol, and by a cast from text. */
+#define INPUT(type, checked)                                                                                           \
+    PG_FUNCTION_INFO_V1(pg_##type##_in);                                                                               \
+    Datum pg_##type##_in(PG_FUNCTION_ARGS) {                                                                           \
+        const char *text = PG_GETARG_CSTRING(0);                                                                       \
+        PG_RETURN_POINTER(checked(text, strlen(text)));                                                                \
+    }                                                                                                                  \
+    PG_FUNCTION_INFO_V1(pg_##type##_recv);                                                                             \
+    Datum pg_##type##_recv(PG_FUNCTION_ARGS) {                                                                         \
+        StringInfo message = (StringInfo)PG_GETARG_POINTER(0);                                                         \
+        int len;                                                                                                       \
+        const char *text = pq_getmsgtext(message, message->len - message->cursor, &len);                               \
+        PG_RETURN_POINTER(checked(text, (size_t)len));                                                                 \
+    }                                                                                                                  \
+    PG_FUNCTION_INFO_V1(pg_##type##_from_text);                                                                        \
+    Datum pg_##type##_from_text(PG_FUNCTION_ARGS) {                                                                    \
+        text *given = PG_GETARG_TEXT_PP(0);                                                                            \
+        PG_RETURN_POINTER(checked(BYTES(given), LEN(given)));                                                          \
+    }
+INPUT(langtag, checked_tag)
+INPUT(langtag_range, checked_range)
+INPUT(langtag_part, checked_part)
+
+/* Of all three types. */
+PG_FUNCTION_INFO_V1(pg_langtag_out);
+Datum pg_langtag_out(PG_FUNCTION_ARGS) { PG_RETURN_CSTRING(TextDatumGetCString(PG_GETARG_DATUM(0))); }
+
+PG_FUNCTION_INFO_V1(pg_langtag_send);
+Datum pg_langtag_send(PG_FUNCTION_ARGS) {
+    struct varlena *value = PG_GETARG_VARLENA_PP(0);
+    StringInfoData message;
+    pq_begintypsend(&message);
+    pq_sendtext(&message, BYTES(value), (int)LEN(value));
+    PG_RETURN_BYTEA_P(pq_endtypsend(&message));
+}
+
+PG_FUNCTION_INFO_V1(pg_langtag_is_langtag);
+Datum pg_langtag_is_langtag(PG_FUNCTION_ARGS) {
+    text *given = PG_GETARG_TEXT_PP(0);
+    PG_RETURN_BOOL(langtag_kind(BYTES(given), LEN(given)) != LANGTAG_NONE);
+}
+
+PG_FUNCTION_INFO_V1(pg_langtag_viable);
+Datum pg_langtag_viable(PG_FUNCTION_ARGS) {
+    text *given = PG_GETARG_TEXT_PP(0);
+    PG_RETURN_INT32((int32)langtag_viable(BYTES(given), LEN(given)));
+}
+
+/* ---- order, equality and hash of tags and parts, without regard to case; two tags are equal by their bytes ---- */
+
+/* The order in which a text comes before those that it begins, so that what a basic range matches stands together:
+ * de, de-AT, de-CH, dea. langtag_cmp has those that a text begins before the text. */
+static int compare(const char *a, size_t a_len, const char *b, size_t b_len) {
+    size_t common = Min(a_len, b_len), same = 0;
+    int found;
+    while (same < common && a[same] == b[same]) same++; /* most of what an index compares begins alike */
+    found = same < common ? langtag_cmp(a + same, common - same, b + same, common - same) : 0;
+    return found != 0 ? found : (a_len > b_len) - (a_len < b_len);
+}
+
+#define COMPARISON(name, answer)                                                                                       \
+    PG_FUNCTION_INFO_V1(name);                                                                                         \
+    Datum name(PG_FUNCTION_ARGS) {                                                                                     \
+        struct varlena *a = PG_GETARG_VARLENA_PP(0), *b = PG_GETARG_VARLENA_PP(1);                                     \
+        int order = compare(BYTES(a), LEN(a), BYTES(b), LEN(b));                                                       \
+        PG_FREE_IF_COPY(a, 0);                                                                                         \
+        PG_FREE_IF_COPY(b, 1);                                                                                         \
+        answer;                                                                                                        \
+    }
+COMPARISON(pg_langtag_lt, PG_RETURN_BOOL(order < 0))
+COMPARISON(pg_langtag_le, PG_RETURN_BOOL(order <= 0))
+COMPARISON(pg_langtag_gt, PG_RETURN_BOOL(order > 0))
+COMPARISON(pg_langtag_ge, PG_RETURN_BOOL(order >= 0))
+COMPARISON(pg_langtag_cmp, PG_RETURN_INT32(order))
+COMPARISON(pg_langtag_part_eq, PG_RETURN_BOOL(order == 0))
+COMPARISON(pg_langtag_part_ne, PG_RETURN_BOOL(order != 0))
+
+PG_FUNCTION_INFO_V1(pg_langtag_smaller);
+Datum pg_langtag_smaller(PG_FUNCTION_ARGS) {
+    struct varlena *a = PG_GETARG_VARLENA_PP(0), *b = PG_GETARG_VARLENA_PP(1);
+    PG_RETURN_POINTER(compare(BYTES(a), LEN(a), BYTES(b), LEN(b)) <= 0 ? a : b);
+}
+
+PG_FUNCTION_INFO_V1(pg_langtag_larger);
+Datum pg_langtag_larger(PG_FUNCTION_ARGS) {
+    struct varlena *a = PG_GETARG_VARLENA_PP(0), *b = PG_GETARG_VARLENA_PP(1);
+    PG_RETURN_POINTER(compare(BYTES(a), LEN(a), BYTES(b), LEN(b)) >= 0 ? a : b);
+}
+
+/* The server's hash over the small letters. */
+static Datum hash(FunctionCallInfo fcinfo, bool extended) {
+    struct varlena *value = PG_GETARG_VARLENA_PP(0);
+    char room[128], *folded = room;
+    size_t len = LEN(value);
+    Datum answer;
+    if (len > sizeof room) folded = palloc(len);
+    memcpy(folded, BYTES(value), len);
+    langtag_fold(folded, len);
+    answer = extended ? hash_any_extended((unsigned char *)folded, (int)len, (uint64)PG_GETARG_INT64(1))
+                      : hash_any((unsigned char *)folded, (int)len);
+    if (folded != room) pfree(folded);
+    PG_FREE_IF_COPY(value, 0);
+    return answer;
+}
+
+PG_FUNCTION_INFO_V1(pg_langtag_hash);
+Datum pg_langtag_hash(PG_FUNCTION_ARGS) { return hash(fcinfo, false); }
+
+PG_FUNCTION_INFO_V1(pg_langtag_hash_extended);
+Datum pg_langtag_hash_extended(PG_FUNCTION_ARGS) { return hash(fcinfo, true); }
+
+static int sort_compare(Datum x, Datum y, SortSupport sort) {
+    struct varlena *a = PG_DETOAST_DATUM_PACKED(x), *b = PG_DETOAST_DATUM_PACKED(y);
+    int order = compare(BYTES(a), LEN(a), BYTES(b), LEN(b));
+    if ((Pointer)a != DatumGetPointer(x)) pfree(a);
+    if ((Pointer)b != DatumGetPointer(y)) pfree(b);
+    return order;
+}
+
+/* The first eight small letters as a number; zeros stand behind a shorter value, as no tag has such a byte. */
+static Datum sort_abbreviate(Datum original, SortSupport sort) {
+    struct varlena *value = PG_DETOAST_DATUM_PACKED(original);
+    char head[sizeof(Datum)] = {0};
+    Datum number;
+    memcpy(head, BYTES(value), Min(LEN(value), sizeof head));
+    langtag_fold(head, sizeof head);
+    memcpy(&number, head, sizeof number);
+    if ((Pointer)value != DatumGetPointer(original)) pfree(value);
+    return DatumBigEndianToNative(number);
+}
+
+/* Eight bytes tell most tags apart, and cost little where they do not. */
+static bool sort_abbreviate_abort(int count, SortSupport sort) { return false; }
+
+PG_FUNCTION_INFO_V1(pg_langtag_sortsupport);
+Datum pg_langtag_sortsupport(PG_FUNCTION_ARGS) {
+    SortSupport sort = (SortSupport)PG_GETARG_POINTER(0);
+    sort->comparator = sort_compare;
+    if (sort->abbreviate) {
+        sort->comparator = ssup_datum_unsigned_cmp;
+        sort->abbrev_converter = sort_abbreviate;
+        sort->abbrev_abort = sort_abbreviate_abort;
+        sort->abbrev_full_comparator = sort_compare;
+    }
+    PG_RETURN_VOID();
+}
+
+/* ---- parts ---- */
+
+static Datum span_or_null(FunctionCallInfo fcinfo, const char *bytes, langtag_span span) {
+    if (span.len == 0) PG_RETURN_NULL();
+    PG_RETURN_POINTER(value_of(bytes + span.start, span.len));
+}
+
+#define PART(name, member)                                                                                             \
+    PG_FUNCTION_INFO_V1(name);                                                                                         \
+    Datum name(PG_FUNCTION_ARGS) {                                                                                     \
+        struct varlena *tag = PG_GETARG_VARLENA_PP(0);                                                                 \
+        langtag_parts parts;                                                                                           \
+        langtag_parse(BYTES(tag), LEN(tag), &parts);                                                                   \
+        return span_or_null(fcinfo, BYTES(tag), parts.member);                                                         \
+    }
+PART(pg_langtag_script, script)
+PART(pg_langtag_region, region)
+PART(pg_langtag_private_use, private_use)
+
+/* The primary subtag, and in `rest` the extended ones after it. */
+static langtag_span primary_of(struct varlena *tag, langtag_span *rest) {
+    langtag_parts parts;
+    langtag_span primary = {0, 0};
+    langtag_parse(BYTES(tag), LEN(tag), &parts);
+    *rest = parts.language;
+    langtag_next_subtag(BYTES(tag), LEN(tag), rest, &primary);
+    return primary;
+}
+
+PG_FUNCTION_INFO_V1(pg_langtag_language);
+Datum pg_langtag_language(PG_FUNCTION_ARGS) {
+    struct varlena *tag = PG_GETARG_VARLENA_PP(0);
+    langtag_span rest;
+    return span_or_null(fcinfo, BYTES(tag), primary_of(tag, &rest));
+}
+
+PG_FUNCTION_INFO_V1(pg_langtag_extlang);
+Datum pg_langtag_extlang(PG_FUNCTION_ARGS) {
+    struct varlena *tag = PG_GETARG_VARLENA_PP(0);
+    langtag_span rest;
+    primary_of(tag, &rest);
+    return span_or_null(fcinfo, BYTES(tag), rest);
+}
+
+typedef bool (*walk)(const char *, size_t, langtag_span *, langtag_span *);
+
+/* What a walk over a part gives, as an array of langtag_part. */
+static Datum list(FunctionCallInfo fcinfo, struct varlena *tag, langtag_span rest, walk next) {
+    Oid type = get_element_type(get_func_rettype(fcinfo->flinfo->fn_oid));
+    ArrayBuildState *found = NULL;
+    langtag_span one;
+    while (next(BYTES(tag), LEN(tag), &rest, &one))
+        found = accumArrayResult(found, PointerGetDatum(value_of(BYTES(tag) + one.start, one.len)), false, type,
+                                 CurrentMemoryContext);
+    if (found == NULL) PG_RETURN_ARRAYTYPE_P(construct_empty_array(type));
+    return makeArrayResult(found, CurrentMemoryContext);
+}
+
+PG_FUNCTION_INFO_V1(pg_langtag_variants);
+Datum pg_langtag_variants(PG_FUNCTION_ARGS) {
+    struct varlena *tag = PG_GETARG_VARLENA_PP(0);
+    langtag_parts parts;
+    langtag_parse(BYTES(tag), LEN(tag), &parts);
+    return list(fcinfo, tag, parts.variants, langtag_next_subtag);
+}
+
+PG_FUNCTION_INFO_V1(pg_langtag_extensions);
+Datum pg_langtag_extensions(PG_FUNCTION_ARGS) {
+    struct varlena *tag = PG_GETARG_VARLENA_PP(0);
+    langtag_parts parts;
+    langtag_parse(BYTES(tag), LEN(tag), &parts);
+    return list(fcinfo, tag, parts.extensions, langtag_next_extension);
+}
+
+/* The labels of the enum langtag_kind, by the numbers of the library. */
+static const char *const kinds[] = {[LANGTAG_NORMAL] = "normal", [LANGTAG_PRIVATE_USE] = "private use",
+                                    [LANGTAG_IRREGULAR] = "irregular"};
+
+PG_FUNCTION_INFO_V1(pg_langtag_tag_kind);
+Datum pg_langtag_tag_kind(PG_FUNCTION_ARGS) {
+    struct varlena *tag = PG_GETARG_VARLENA_PP(0);
+    uint32 kind = langtag_kind(BYTES(tag), LEN(tag));
+    Datum *known = fcinfo->flinfo->fn_extra; /* the values of the enum, looked up once a statement */
+    if (known == NULL) {
+        Datum type = ObjectIdGetDatum(get_func_rettype(fcinfo->flinfo->fn_oid));
+        known = MemoryContextAlloc(fcinfo->flinfo->fn_mcxt, lengthof(kinds) * sizeof *known);
+        for (int k = LANGTAG_NORMAL; k < lengthof(kinds); k++)
+            known[k] = DirectFunctionCall2(enum_in, CStringGetDatum(kinds[k]), type);
+        fcinfo->flinfo->fn_extra = known;
+    }
+    PG_RETURN_DATUM(known[kind]);
+}
+
+static Datum with_part(FunctionCallInfo fcinfo, uint32 part, const char *name) {
+    struct varlena *tag = PG_GETARG_VARLENA_PP(0), *changed;
+    text *given = PG_GETARG_TEXT_PP(1);
+    size_t room = LEN(tag) + LEN(given) + 1, len;
+    changed = palloc(VARHDRSZ + room);
+    len = langtag_with_part(BYTES(tag), LEN(tag), part, BYTES(given), LEN(given), VARDATA(changed), room);
+    if (len == 0)
+        ereport(ERROR, (errcode(ERRCODE_INVALID_PARAMETER_VALUE),
+                        errmsg("the %s of language tag \"%s\" cannot be set to \"%s\"", name,
+                               shown(BYTES(tag), LEN(tag)), shown(BYTES(given), LEN(given))),
+                        langtag_kind(BYTES(tag), LEN(tag)) != LANGTAG_NORMAL
+                            ? errdetail("A tag for private use or an irregular one has no such part.")
+                            : 0));
+    SET_VARSIZE(changed, VARHDRSZ + len);
+    langtag_recommend(VARDATA(changed), len);
+    PG_RETURN_POINTER(changed);
+}
+
+#define SETTER(function, part, name)                                                                                   \
+    PG_FUNCTION_INFO_V1(function);                                                                                     \
+    Datum function(PG_FUNCTION_ARGS) { return with_part(fcinfo, part, name); }
+SETTER(pg_langtag_set_language, LANGTAG_PART_LANGUAGE, "language")
+SETTER(pg_langtag_set_script, LANGTAG_PART_SCRIPT, "script")
+SETTER(pg_langtag_set_region, LANGTAG_PART_REGION, "region")
+SETTER(pg_langtag_set_variants, LANGTAG_PART_VARIANTS, "variants")
+SETTER(pg_langtag_set_extensions, LANGTAG_PART_EXTENSIONS, "extensions")
+SETTER(pg_langtag_set_private_use, LANGTAG_PART_PRIVATE_USE, "private use")
+
+/* Each tag has had its recommended case since it came in. */
+PG_FUNCTION_INFO_V1(pg_langtag_recommended);
+Datum pg_langtag_recommended(PG_FUNCTION_ARGS) { PG_RETURN_POINTER(PG_GETARG_VARLENA_PP(0)); }
+
+/* ---- the registry, and likely subtags ---- */
+
+static uint32 validity(struct varlena *tag, langtag_span *invalid) {
+    check_stack_depth(); /* the call takes 96 KiB of the 512 KiB that PostgreSQL keeps free behind its limit */
+    return langtag_validity(BYTES(tag), LEN(tag), invalid);
+}
+
+PG_FUNCTION_INFO_V1(pg_langtag_is_valid);
+Datum pg_langtag_is_valid(PG_FUNCTION_ARGS) {
+    langtag_span invalid;
+    PG_RETURN_BOOL(validity(PG_GETARG_VARLENA_PP(0), &invalid) == LANGTAG_VALID);
+}
+
+PG_FUNCTION_INFO_V1(pg_langtag_invalid_subtag);
+Datum pg_langtag_invalid_subtag(PG_FUNCTION_ARGS) {
+    struct varlena *tag = PG_GETARG_VARLENA_PP(0);
+    langtag_span invalid;
+    validity(tag, &invalid);
+    return span_or_null(fcinfo, BYTES(tag), invalid);
+}
+
+typedef size_t (*form_of)(const char *, size_t, char *, size_t);
+
+/* A form of a tag, which may be longer than the tag, in its recommended case. */
+static Datum form(FunctionCallInfo fcinfo, form_of write) {
+    struct varlena *tag = PG_GETARG_VARLENA_PP(0), *form;
+    size_t room = LEN(tag) + 16, len;
+    form = palloc(VARHDRSZ + room);
+    len = write(BYTES(tag), LEN(tag), VARDATA(form), room);
+    if (len > room) {
+        pfree(form);
+        form = palloc(VARHDRSZ + len);
+        write(BYTES(tag), LEN(tag), VARDATA(form), len);
+    }
+    SET_VARSIZE(form, VARHDRSZ + len);
+    langtag_recommend(VARDATA(form), len);
+    PG_RETURN_POINTER(form);
+}
+
+PG_FUNCTION_INFO_V1(pg_langtag_canonical);
+Datum pg_langtag_canonical(PG_FUNCTION_ARGS) { return form(fcinfo, langtag_canonical); }
+
+PG_FUNCTION_INFO_V1(pg_langtag_maximized);
+Datum pg_langtag_maximized(PG_FUNCTION_ARGS) { return form(fcinfo, langtag_maximize); }
+
+PG_FUNCTION_INFO_V1(pg_langtag_minimized);
+Datum pg_langtag_minimized(PG_FUNCTION_ARGS) { return form(fcinfo, langtag_minimize); }
+
+PG_FUNCTION_INFO_V1(pg_langtag_distance);
+Datum pg_langtag_distance(PG_FUNCTION_ARGS) {
+    struct varlena *desired = PG_GETARG_VARLENA_PP(0), *supported = PG_GETARG_VARLENA_PP(1);
+    PG_RETURN_INT32((int32)langtag_distance(BYTES(desired), LEN(desired), BYTES(supported), LEN(supported)));
+}
+
+PG_FUNCTION_INFO_V1(pg_langtag_is_right_to_left);
+Datum pg_langtag_is_right_to_left(PG_FUNCTION_ARGS) {
+    struct varlena *tag = PG_GETARG_VARLENA_PP(0);
+    PG_RETURN_BOOL(langtag_is_right_to_left(BYTES(tag), LEN(tag)));
+}
+
+PG_FUNCTION_INFO_V1(pg_langtag_cldr_version);
+Datum pg_langtag_cldr_version(PG_FUNCTION_ARGS) { PG_RETURN_INT32((int32)langtag_cldr_version()); }
+
+PG_FUNCTION_INFO_V1(pg_langtag_registry_date);
+Datum pg_langtag_registry_date(PG_FUNCTION_ARGS) {
+    uint32 date = langtag_registry_date();
+    PG_RETURN_TEXT_P(cstring_to_text(psprintf("%04u-%02u-%02u", date / 10000, date / 100 % 100, date % 100)));
+}
+
+/* ---- ranges ---- */
+
+PG_FUNCTION_INFO_V1(pg_langtag_matches_basic);
+Datum pg_langtag_matches_basic(PG_FUNCTION_ARGS) {
+    struct varlena *tag = PG_GETARG_VARLENA_PP(0), *range = PG_GETARG_VARLENA_PP(1);
+    PG_RETURN_BOOL(langtag_matches_basic(BYTES(range), LEN(range), BYTES(tag), LEN(tag)));
+}
+
+PG_FUNCTION_INFO_V1(pg_langtag_matches_extended);
+Datum pg_langtag_matches_extended(PG_FUNCTION_ARGS) {
+    struct varlena *tag = PG_GETARG_VARLENA_PP(0), *range = PG_GETARG_VARLENA_PP(1);
+    PG_RETURN_BOOL(langtag_matches_extended(BYTES(range), LEN(range), BYTES(tag), LEN(tag)));
+}
+
+/* Bounds for what a range matches: the lower one is the least of it, the upper one stands behind all of it. Of de-CH they
+ * are de-CH and "de-CH.", as the byte after the hyphen; for extended filtering only the first subtag counts; of * they
+ * are the empty text and one that stands behind all letters. The bounds are compared with tags, and need not be any. */
+static Datum bound(FunctionCallInfo fcinfo, bool extended, bool upper) {
+    struct varlena *range = PG_GETARG_VARLENA_PP(0), *answer;
+    const char *bytes = BYTES(range);
+    size_t end = LEN(range);
+    if (bytes[0] == '*') end = 0;
+    else if (extended) end = strcspn(pnstrdup(bytes, end), "-");
+    answer = palloc(VARHDRSZ + end + 1);
+    memcpy(VARDATA(answer), bytes, end);
+    langtag_recommend(VARDATA(answer), end);
+    if (upper) {
+        VARDATA(answer)[end] = end == 0 ? '~' : '.';
+        end++;
+    }
+    SET_VARSIZE(answer, VARHDRSZ + end);
+    PG_RETURN_POINTER(answer);
+}
+
+#define BOUND(name, extended, upper)                                                                                   \
+    PG_FUNCTION_INFO_V1(name);                                                                                         \
+    Datum name(PG_FUNCTION_ARGS) { return bound(fcinfo, extended, upper); }
+BOUND(pg_langtag_basic_lower, false, false)
+BOUND(pg_langtag_basic_upper, false, true)
+BOUND(pg_langtag_extended_lower, true, false)
+BOUND(pg_langtag_extended_upper, true, true)
+
+/* A call of one of the functions above, in the schema where the extension stands. */
+static Node *bound_call(PlannerInfo *root, Oid schema, const char *name, Oid type, Node *range) {
+    Oid range_type = exprType(range);
+    List *names = list_make2(makeString(get_namespace_name(schema)), makeString(pstrdup(name)));
+    Oid function = LookupFuncName(names, 1, &range_type, false);
+    FuncExpr *call = makeFuncExpr(function, type, list_make1(copyObject(range)), InvalidOid, InvalidOid, COERCE_EXPLICIT_CALL);
+    return eval_const_expressions(root, (Node *)call);
+}
+
+/* Whether a range that is known when the query is planned is bounded; and whether its bounds hold more than it matches. */
+static bool bounded(Const *range, bool *lossy) {
+    struct varlena *value;
+    if (range->constisnull) return false;
+    value = PG_DETOAST_DATUM_PACKED(range->constvalue);
+    *lossy = *lossy || langtag_range_kind(BYTES(value), LEN(value)) != LANGTAG_RANGE_BASIC;
+    return BYTES(value)[0] != '*';
+}
+
+/* Turns a match into bounds on a btree index of tags, or gives NULL where it has none. */
+static List *index_condition(SupportRequestIndexCondition *request, bool extended) {
+    List *arguments = is_opclause(request->node)     ? ((OpExpr *)request->node)->args
+                      : is_funcclause(request->node) ? ((FuncExpr *)request->node)->args
+                                                     : NIL;
+    const char *lower = extended ? "langtag_extended_lower" : "langtag_basic_lower";
+    const char *upper = extended ? "langtag_extended_upper" : "langtag_basic_upper";
+    Oid schema = get_func_namespace(request->funcid), type, from, below;
+    Node *tag, *range;
+    bool lossy = extended;
+
+    if (request->indexarg != 0 || list_length(arguments) != 2 || request->index->relam != BTREE_AM_OID) return NIL;
+    tag = linitial(arguments);
+    range = lsecond(arguments);
+    if (!is_pseudo_constant_for_index(request->root, range, request->index)) return NIL;
+    if (!IsA(range, Const)) lossy = true;
+    else if (!bounded((Const *)range, &lossy)) return NIL;
+    type = exprType(tag);
+    from = get_opfamily_member(request->opfamily, type, type, BTGreaterEqualStrategyNumber);
+    below = get_opfamily_member(request->opfamily, type, type, BTLessStrategyNumber);
+    if (!OidIsValid(from) || !OidIsValid(below)) return NIL;
+    request->lossy = lossy;
+    return list_make2(
+        make_opclause(from, BOOLOID, false, copyObject((Expr *)tag),
+                      (Expr *)bound_call(request->root, schema, lower, type, range), InvalidOid, InvalidOid),
+        make_opclause(below, BOOLOID, false, copyObject((Expr *)tag),
+                      (Expr *)bound_call(request->root, schema, upper, type, range), InvalidOid, InvalidOid));
+}
+
+static Datum support(FunctionCallInfo fcinfo, bool extended) {
+    Node *request = (Node *)PG_GETARG_POINTER(0);
+    if (!IsA(request, SupportRequestIndexCondition)) PG_RETURN_POINTER(NULL);
+    PG_RETURN_POINTER(index_condition((SupportRequestIndexCondition *)request, extended));
+}
+
+PG_FUNCTION_INFO_V1(pg_langtag_basic_support);
+Datum pg_langtag_basic_support(PG_FUNCTION_ARGS) { return support(fcinfo, false); }
+
+PG_FUNCTION_INFO_V1(pg_langtag_extended_support);
+Datum pg_langtag_extended_support(PG_FUNCTION_ARGS) { return support(fcinfo, true); }
+
+/* ---- which tag a request gets ---- */
+
+/* The tags of an array, without its NULLs. */
+static struct varlena **tags_of(ArrayType *array, int *count) {
+    struct varlena **tags;
+    Datum *values;
+    bool *nulls;
+    int all;
+    deconstruct_array(array, ARR_ELEMTYPE(array), -1, false, TYPALIGN_INT, &values, &nulls, &all);
+    tags = palloc(all * sizeof *tags);
+    *count = 0;
+    for (int k = 0; k < all; k++)
+        if (!nulls[k]) tags[(*count)++] = PG_DETOAST_DATUM_PACKED(values[k]);
+    return tags;
+}
+
+/* The place of the tag that a range finds, or `count`. */
+static int look_up(const char *range, size_t len, struct varlena **tags, int count) {
+    langtag_span rest = {0, len};
+    do {
+        CHECK_FOR_INTERRUPTS();
+        for (int k = 0; k < count; k++)
+            if (langtag_eq(range, rest.len, BYTES(tags[k]), LEN(tags[k]))) return k;
+    } while (langtag_next_fallback(range, len, &rest));
+    return count;
+}
+
+PG_FUNCTION_INFO_V1(pg_langtag_tag_for_header);
+Datum pg_langtag_tag_for_header(PG_FUNCTION_ARGS) {
+    int count;
+    struct varlena **tags = tags_of(PG_GETARG_ARRAYTYPE_P(0), &count);
+    text *header = PG_GETARG_TEXT_PP(1);
+    langtag_span rest = {0, LEN(header)}, range;
+    uint32 answer, weight, best_weight = 0;
+    int best = count;
+    while ((answer = langtag_next_accepted(BYTES(header), LEN(header), &rest, &range, &weight)) != LANGTAG_ACCEPTED_END) {
+        int found;
+        if (answer != LANGTAG_ACCEPTED_RANGE || weight <= best_weight) continue;
+        found = look_up(BYTES(header) + range.start, range.len, tags, count);
+        if (found < count) best = found, best_weight = weight;
+    }
+    if (best == count) PG_RETURN_NULL();
+    PG_RETURN_POINTER(tags[best]);
+}
+
+/* How long a header may be of which one call of the library, that nothing interrupts, compares each range with each tag. */
+#define LONGEST_HEADER 8192
+
+PG_FUNCTION_INFO_V1(pg_langtag_best_for_header);
+Datum pg_langtag_best_for_header(PG_FUNCTION_ARGS) {
+    int count;
+    struct varlena **tags = tags_of(PG_GETARG_ARRAYTYPE_P(0), &count);
+    text *header = PG_GETARG_TEXT_PP(1);
+    langtag_span *spans = palloc(count * sizeof *spans);
+    StringInfoData all;
+    size_t best;
+    if (LEN(header) > LONGEST_HEADER)
+        ereport(ERROR, (errcode(ERRCODE_PROGRAM_LIMIT_EXCEEDED),
+                        errmsg("the header has %zu bytes, and may have %d", LEN(header), LONGEST_HEADER)));
+    initStringInfo(&all);
+    for (int k = 0; k < count; k++) {
+        spans[k] = (langtag_span){.start = (size_t)all.len, .len = LEN(tags[k])};
+        appendBinaryStringInfo(&all, BYTES(tags[k]), (int)LEN(tags[k]));
+    }
+    best = langtag_best_for_header(BYTES(header), LEN(header), all.data, (size_t)all.len, spans, (size_t)count);
+    if (best >= (size_t)count) PG_RETURN_NULL();
+    PG_RETURN_POINTER(tags[best]);
+}

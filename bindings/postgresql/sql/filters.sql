@@ -1,0 +1,58 @@
+\pset null NULL
+CREATE TABLE texts (tag langtag PRIMARY KEY, t text);
+INSERT INTO texts VALUES ('zh-Hant', 'a'), ('de', 'b'), ('zh', 'c'), ('de-CH', 'd'), ('de-Latn-CH', 'e'), ('del', 'f'), ('de-CH-1996', 'g'), ('x-de', 'h');
+SET enable_seqscan = off; SET enable_indexscan = off; SET enable_indexonlyscan = off;
+EXPLAIN (COSTS OFF) SELECT tag FROM texts WHERE tag <@ 'DE-ch';
+SELECT tag FROM texts WHERE tag <@ 'DE-ch' ORDER BY tag;
+EXPLAIN (COSTS OFF) SELECT tag FROM texts WHERE tag ~ 'DE-*-ch';
+SELECT tag FROM texts WHERE tag ~ 'DE-*-ch' ORDER BY tag;
+EXPLAIN (COSTS OFF) SELECT tag FROM texts WHERE tag ~ '*-CH';
+SELECT tag FROM texts WHERE tag ~ '*-CH' ORDER BY tag;
+EXPLAIN (COSTS OFF) SELECT tag FROM texts WHERE tag <@ '*';
+SELECT count(*) FROM texts WHERE tag <@ '*';
+-- An extended range matches nothing by basic filtering
+EXPLAIN (COSTS OFF) SELECT tag FROM texts WHERE tag <@ 'de-*';
+SELECT tag FROM texts WHERE tag <@ 'de-*' ORDER BY tag;
+-- An index scan needs no filter for <@, and has one for ~
+RESET enable_indexscan; SET enable_bitmapscan = off;
+EXPLAIN (COSTS OFF) SELECT * FROM texts WHERE tag <@ 'de-CH' ORDER BY tag;
+SELECT tag FROM texts WHERE tag <@ 'DE' ORDER BY tag;
+EXPLAIN (COSTS OFF) SELECT * FROM texts WHERE tag ~ 'de-CH' ORDER BY tag;
+SELECT tag FROM texts WHERE tag ~ 'de-CH' ORDER BY tag;
+EXPLAIN (COSTS OFF) SELECT * FROM texts WHERE matches_basic(tag, 'de');
+RESET enable_indexonlyscan;
+EXPLAIN (COSTS OFF) SELECT tag FROM texts WHERE tag <@ 'zh-hant';
+SELECT tag FROM texts WHERE tag <@ 'zh-hant';
+-- Ranges of another table
+RESET enable_bitmapscan;
+EXPLAIN (COSTS OFF) SELECT r, tag FROM unnest('{de,zh,*,de-*}'::langtag_range[]) AS r JOIN texts ON tag <@ r;
+SELECT r, tag FROM unnest('{de,zh,*,de-*}'::langtag_range[]) AS r JOIN texts ON tag <@ r ORDER BY r::text COLLATE "C", tag;
+SELECT r, tag FROM unnest('{de,*-ch,*,de-*,NULL}'::langtag_range[]) AS r JOIN texts ON tag ~ r ORDER BY r::text COLLATE "C", tag;
+PREPARE below (langtag_range) AS SELECT tag FROM texts WHERE tag <@ $1 ORDER BY tag;
+SET plan_cache_mode = force_generic_plan;
+EXPLAIN (COSTS OFF) EXECUTE below ('zh');
+EXECUTE below ('zh'); EXECUTE below ('*'); EXECUTE below (NULL);
+RESET plan_cache_mode;
+-- A tag is a range, by the index of the one side and not of the other
+EXPLAIN (COSTS OFF) SELECT a.tag, b.tag FROM texts a JOIN texts b ON a.tag <@ b.tag AND a.tag <> b.tag;
+SELECT a.tag, b.tag FROM texts a JOIN texts b ON a.tag <@ b.tag AND a.tag <> b.tag ORDER BY 1, 2;
+SELECT tag FROM texts WHERE 'de-ch' <@ tag ORDER BY tag;
+RESET enable_seqscan;
+-- What is no range is refused
+SELECT count(*) FROM texts WHERE tag <@ NULL;
+SELECT tag FROM texts WHERE tag <@ 'de_CH';
+-- A column that is no first index column, and an index of another kind, are not bounded
+CREATE INDEX ON texts USING hash (tag);
+CREATE INDEX ON texts (t, tag);
+SET enable_seqscan = off; SET enable_bitmapscan = off;
+EXPLAIN (COSTS OFF) SELECT * FROM texts WHERE t = 'd' AND tag <@ 'de';
+RESET enable_seqscan; RESET enable_bitmapscan;
+-- Estimates by the column's statistics
+CREATE TABLE counted AS SELECT CASE WHEN k % 10 = 0 THEN 'de-CH' WHEN k % 10 < 4 THEN 'de-Latn-CH' ELSE 'fr' END::langtag AS tag FROM generate_series(1, 10000) AS k;
+ANALYZE counted;
+CREATE FUNCTION estimate(query text) RETURNS text LANGUAGE plpgsql AS $$ DECLARE line text; BEGIN
+    EXECUTE 'EXPLAIN ' || query INTO line; RETURN substring(line FROM 'rows=(\d+)'); END $$;
+SELECT estimate('SELECT * FROM counted WHERE tag <@ ''de'''), estimate('SELECT * FROM counted WHERE tag ~ ''*-CH'''), estimate('SELECT * FROM counted WHERE tag = ''fr''');
+DROP FUNCTION estimate; DROP TABLE texts, counted;
+-- Bounds
+SELECT langtag_basic_lower('DE-ch'), langtag_basic_upper('DE-ch'), langtag_extended_lower('de-*-CH'), langtag_extended_upper('de-*-CH'), langtag_basic_upper('*');

@@ -1,0 +1,26 @@
+\pset null NULL
+SELECT t, is_valid(t), invalid_subtag(t), canonical(t)
+FROM unnest('{iw-HEBR,zh-yue,art-lojban,en-b-ccc-a-aaa,de-fq,de-1996-1996,fr-a-bb-A-cc,ja-heploc,sgn-DD,en-BU}'::langtag[]) AS t;
+-- A form that is longer than its tag, by more than the first room for it
+SELECT t, canonical(t) FROM (SELECT ('ja-Latn-hepburn-' || repeat('heploc-', 20) || 'heploc')::langtag AS t) s;
+SELECT is_valid(('de-x-' || repeat('abcdefgh-', 120000) || 'a')::langtag);
+SELECT langtag_registry_date();
+-- The module that has these functions is named by that date and CLDR's version, and no other function is in it.
+SELECT proname, probin = '$libdir/langtag-' || langtag_registry_date() || '-cldr' || langtag_cldr_version() AS dated FROM pg_proc WHERE probin ~ 'langtag-' ORDER BY 1;
+-- A generated column by the registry, and an index on it
+CREATE TABLE t (tag langtag, form langtag GENERATED ALWAYS AS (canonical(tag)) STORED CHECK (is_valid(form)));
+CREATE INDEX ON t (form); INSERT INTO t VALUES ('IW-hebr'); SELECT * FROM t WHERE form = 'he-Hebr';
+INSERT INTO t VALUES ('de-FQ');
+DROP TABLE t;
+-- Accept-Language
+SELECT tag_for_header_lenient('{en,de-CH,fr}', 'fr;q=0.3, DE-ch-1996;q=0.9'), tag_for_header_lenient('{en,NULL}', 'ja, *;q=0.1'), tag_for_header_lenient('{}', 'de'),
+    tag_for_header_lenient('{de,fr}', 'fr_FR, de;q=0.1'), tag_for_header_lenient('{de}', 'fr;q=2, DE'), tag_for_header_lenient('{NULL,DE,de}', 'de'), tag_for_header_lenient('{de}', ''),
+    tag_for_header_lenient('{de,fr}', 'fr;q=0.5, de;q=0.5');
+-- Likely subtags
+SELECT t, maximized(t), minimized(t), is_right_to_left(t), distance(t, 'zh-TW') FROM unnest('{zh-hk,az-Arab,zh-Hant,und-US,i-klingon,x-a,en-Latn-US-u-co-phonebk}'::langtag[]) AS t;
+-- The best tag for a reader
+SELECT best_for_header('{en,NULL,de-CH,zh-Hant}', 'gsw'), best_for_header('{en,zh-Hant}', 'zh-TW;q=0.5'), best_for_header('{}', 'de');
+SELECT best_for_header('{de}', repeat('a', 9000));
+-- A dropped extension leaves nothing.
+DROP EXTENSION langtag CASCADE;
+SELECT count(*) FROM pg_proc WHERE proname ~ 'langtag';

@@ -1,0 +1,141 @@
+#!/usr/bin/env python3
+"""Times statements over langtag, text, lower(text) and citext in turn, in sessions of one server, and prints the medians by
+langtag's: bench.py ROWS ROUNDS. `bench` starts the server for it."""
+import os
+import random
+import re
+import statistics
+import sys
+import tempfile
+
+import server
+
+FREQUENT = ("en de fr es zh ja pt it ru nl pl sv ko ar tr cs da fi nb he hu el uk th vi id ro bg hr sk en-US en-GB de-DE de-CH de-AT fr-FR fr-CA fr-CH es-ES "
+            "es-419 es-MX pt-BR pt-PT zh-CN zh-TW zh-Hant zh-Hans zh-Hant-TW zh-Hans-CN sr-Latn sr-Cyrl en-us EN-GB de-Latn-DE de-Latn-DE-1996 de-DE-1996 ja-JP "
+            "ko-KR sl-IT-rozaj zh-yue-HK").split()
+SCAN = "SET enable_indexscan = off; SET enable_bitmapscan = off; SET enable_indexonlyscan = off;"
+JOIN = "SET enable_mergejoin = off; SET enable_nestloop = off;"
+SORT = "SET work_mem = '1GB'; SET enable_indexscan = off; SET enable_indexonlyscan = off;"
+LOOK_UP = ("SET enable_memoize = off; SET enable_hashjoin = off; SET enable_mergejoin = off; SET enable_seqscan = off; "
+           "SET enable_bitmapscan = off;")
+
+
+def look_ups(expression, table):
+    """Each frequent tag in turn, 20,000 times: how long one takes hangs on where in a page of the index it begins."""
+    one = f"SELECT id FROM {table.replace('lower', 'tx')} WHERE {expression} = wanted LIMIT 1"
+    return f"SELECT count(*) FROM wanted_{table} CROSS JOIN LATERAL ({one}) s"
+
+
+STATEMENTS = [
+    ("equality, by a scan", SCAN, {
+        "langtag": "SELECT count(*) FROM lt WHERE tag = 'zh-Hant-TW'",
+        "text": "SELECT count(*) FROM tx WHERE tag = 'zh-Hant-TW'",
+        "lower": "SELECT count(*) FROM tx WHERE lower(tag) = 'zh-hant-tw'",
+        "citext": "SELECT count(*) FROM ci WHERE tag = 'zh-Hant-TW'"}),
+    ("groups", "", {
+        "langtag": "SELECT count(*) FROM (SELECT tag, count(*) FROM lt GROUP BY tag) s",
+        "text": "SELECT count(*) FROM (SELECT tag, count(*) FROM tx GROUP BY tag) s",
+        "lower": "SELECT count(*) FROM (SELECT lower(tag), count(*) FROM tx GROUP BY 1) s",
+        "citext": "SELECT count(*) FROM (SELECT tag, count(*) FROM ci GROUP BY tag) s"}),
+    ("hash join with all tags", JOIN, {
+        "langtag": "SELECT count(*) FROM lt JOIN names_lt USING (tag)",
+        "text": "SELECT count(*) FROM tx JOIN names_tx USING (tag)",
+        "lower": "SELECT count(*) FROM tx JOIN names_lower n ON lower(tx.tag) = n.tag",
+        "citext": "SELECT count(*) FROM ci JOIN names_ci USING (tag)"}),
+    ("sort", SORT, {
+        "langtag": "SELECT count(*) FROM (SELECT tag FROM lt ORDER BY tag OFFSET 0) s",
+        "text": "SELECT count(*) FROM (SELECT tag FROM tx ORDER BY tag OFFSET 0) s",
+        "lower": "SELECT count(*) FROM (SELECT tag FROM tx ORDER BY lower(tag) OFFSET 0) s",
+        "citext": "SELECT count(*) FROM (SELECT tag FROM ci ORDER BY tag OFFSET 0) s"}),
+    ("build of a btree", "", {
+        "langtag": "CREATE INDEX bench_i ON lt (tag)",
+        "text": "CREATE INDEX bench_i ON tx (tag)",
+        "lower": "CREATE INDEX bench_i ON tx (lower(tag))",
+        "citext": "CREATE INDEX bench_i ON ci (tag)"}),
+    ("look-ups of frequent tags, by btree", LOOK_UP, {
+        "langtag": look_ups("tag", "lt"),
+        "text": look_ups("tag", "tx"),
+        "lower": look_ups("lower(tag)", "lower"),
+        "citext": look_ups("tag", "ci")}),
+    ("de and all below, best plan", "", {
+        "langtag": "SELECT count(*) FROM lt WHERE tag <@ 'de'",
+        "text": "SELECT count(*) FROM tx WHERE tag ILIKE 'de' OR tag ILIKE 'de-%'",
+        "lower": "SELECT count(*) FROM tx WHERE lower(tag) = 'de' OR lower(tag) LIKE 'de-%'",
+        "citext": "SELECT count(*) FROM ci WHERE tag = 'de' OR tag LIKE 'de-%'"}),
+    ("de-*-DE, best plan", "", {
+        "langtag": "SELECT count(*) FROM lt WHERE tag ~ 'de-*-DE'",
+        "text": "SELECT count(*) FROM tx WHERE tag ~* '^de(-[a-z0-9]{2,8})*-DE(-|$)'",
+        "citext": "SELECT count(*) FROM ci WHERE tag ~ '^de(-[a-z0-9]{2,8})*-DE(-|$)'"}),
+    ("COPY", "", {"langtag": "COPY bench_lt FROM '{file}'",
+        "text": "COPY bench_tx FROM '{file}'",
+        "citext": "COPY bench_ci FROM '{file}'"}),
+    ("count of the column", SCAN, {"langtag": "SELECT count(tag) FROM lt",
+        "text": "SELECT count(tag) FROM tx"}),
+]
+
+
+def write_tags(file, rows):
+    """Seven tenths of a few frequent tags, the rest of rare ones."""
+    chosen, letters = random.Random(7), "abcdefghijklmnopqrstuvwxyz"
+    pieces = (letters, letters, ["", *letters], ["", "-Latn", "-Cyrl", "-latn"], ["", "-US", "-DE", "-419", "-Ca"],
+              ["", "", "-1996", "-u-co-phonebk", "-x-a"])
+    rare = ["".join(chosen.choice(of) for of in pieces) for _ in range(60_000)]
+    for _ in range(rows):
+        file.write((chosen.choice(FREQUENT) if chosen.random() < 0.7 else chosen.choice(rare)) + "\n")
+    file.flush()
+
+
+def prepare(path):
+    server.lines(f"""
+        CREATE EXTENSION citext;
+        CREATE TABLE raw (id serial, tag text);
+        COPY raw (tag) FROM '{path}';
+        CREATE TABLE lt AS SELECT id, tag::langtag AS tag FROM raw;
+        CREATE TABLE tx AS SELECT id, tag FROM raw;
+        CREATE TABLE ci AS SELECT id, tag::citext AS tag FROM raw;
+        CREATE INDEX lt_tag ON lt (tag);
+        CREATE INDEX tx_tag ON tx (tag);
+        CREATE INDEX tx_lower ON tx (lower(tag) text_pattern_ops);
+        CREATE INDEX ci_tag ON ci (tag);
+        CREATE TABLE names_lt AS SELECT DISTINCT tag FROM lt;
+        CREATE TABLE names_tx AS SELECT DISTINCT tag FROM tx;
+        CREATE TABLE names_lower AS SELECT DISTINCT lower(tag) AS tag FROM tx;
+        CREATE TABLE names_ci AS SELECT DISTINCT tag FROM ci;
+        CREATE TABLE bench_lt (tag langtag);
+        CREATE TABLE bench_tx (tag text);
+        CREATE TABLE bench_ci (tag citext);
+        CREATE TABLE wanted_tx AS SELECT (string_to_array('{" ".join(FREQUENT)}', ' '))[1 + k % {len(FREQUENT)}] AS wanted FROM generate_series(1, 20000) AS k;
+        CREATE TABLE wanted_lt AS SELECT wanted::langtag FROM wanted_tx;
+        CREATE TABLE wanted_lower AS SELECT lower(wanted) AS wanted FROM wanted_tx;
+        CREATE TABLE wanted_ci AS SELECT wanted::citext FROM wanted_tx;
+        VACUUM ANALYZE;""", "bench")
+
+
+def timed(statement, setting):
+    setting = f"SET client_min_messages = error; SET max_parallel_workers_per_gather = 0; SET jit = off; {setting}"
+    said = server.lines(f"SET max_parallel_maintenance_workers = 0; {setting}\n\\timing on\n{statement};\n\\timing off\n"
+                        "DROP INDEX IF EXISTS bench_i; TRUNCATE bench_lt, bench_tx, bench_ci;", "bench")
+    return float(re.search(r"Time: ([\d.]+) ms", "\n".join(said))[1])
+
+
+def main(rows, rounds):
+    server.lines("CREATE DATABASE bench")
+    server.lines("CREATE EXTENSION langtag", "bench")
+    with tempfile.NamedTemporaryFile("w") as file:
+        write_tags(file, rows)
+        os.chmod(file.name, 0o644)
+        prepare(file.name)
+        for name in ("lt_tag", "tx_tag", "tx_lower", "ci_tag"):
+            print(name, *server.lines(f"SELECT pg_size_pretty(pg_relation_size({server.quoted(name)}))", "bench"))
+        for name, setting, kinds in STATEMENTS:
+            times = {kind: [] for kind in kinds}
+            for _ in range(rounds):
+                for kind, statement in kinds.items():
+                    times[kind].append(timed(statement.replace("{file}", file.name), setting))
+            base = statistics.median(times["langtag"])
+            said = (f"{kind} {statistics.median(it) / base:.2f} ({statistics.median(it):.0f} ms)" for kind, it in times.items())
+            print(f"{name:38s}", *said, flush=True)
+
+
+if __name__ == "__main__":
+    main(int(sys.argv[1]), int(sys.argv[2]))

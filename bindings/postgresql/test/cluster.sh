@@ -1,0 +1,69 @@
+# Servers of PostgreSQL for tests, each in a folder of its own, on the loopback, and as another user than root:
+#
+#     . cluster.sh
+#     place FOLDER          copies the server that pg_config names to FOLDER, so that nothing is installed in the system
+#     into_place make ..    runs make with what leads an installation there
+#     begin NAME            makes a cluster and starts it; `port_of NAME` has its port
+#     end_all               ends what was started, each by its id, and removes FOLDER
+
+pg_config=$(command -v "${PG_CONFIG:-pg_config}")
+started=()
+
+place() {
+    local part path
+    pg_folder=$1
+    mkdir -p "$pg_folder" && chmod 755 "$pg_folder" || return 1
+    for part in bindir pkglibdir sharedir; do
+        path=$("$pg_config" --$part)
+        mkdir -p "$pg_folder/server$path" && cp -a "$path/." "$pg_folder/server$path" || return 1
+    done
+    pg_bin=$pg_folder/server$("$pg_config" --bindir)
+    PATH=$pg_bin:$PATH
+    if [ "$(id -u)" = 0 ]; then
+        pg_user=$(id -un postgres 2>/dev/null || echo nobody)
+        as_user=(setpriv "--reuid=$(id -u "$pg_user")" "--regid=$(id -g "$pg_user")" --clear-groups)
+    else
+        pg_user=$(id -un)
+        as_user=(env)
+    fi
+    export PGHOST=127.0.0.1 PGUSER=postgres
+}
+
+into_place() { "$@" PG_CONFIG="$pg_config" DESTDIR="$pg_folder/server"; }
+
+port_of() { sed -n 4p "$pg_folder/$1/postmaster.pid"; }
+
+begin() {
+    local data=$pg_folder/$1 port
+    mkdir "$data" && { [ "$(id -u)" != 0 ] || chown "$pg_user" "$data"; } || return 1
+    (cd "$data" && "${as_user[@]}" "$pg_bin/initdb" -D "$data" -U postgres -A trust --no-sync -E UTF8 --locale="${LOCALE:-C}") >/dev/null || return 1
+    port=$(python3 -c 'import socket; s = socket.socket(); s.bind(("127.0.0.1", 0)); print(s.getsockname()[1])')
+    (cd "$data" && exec "${as_user[@]}" "$pg_bin/postgres" -D "$data" -p "$port" -k "$data" -c listen_addresses=127.0.0.1 \
+        -c fsync=off -c max_connections=30 -c shared_buffers="${SHARED_BUFFERS:-64MB}" -c max_stack_depth=2MB \
+        >"$data/log" 2>&1) &
+    started+=($!)
+    for _ in $(seq 100); do
+        "$pg_bin/pg_isready" -q -p "$port" && return 0
+        sleep 0.1
+    done
+    tail "$data/log"
+    return 1
+}
+
+end_all() {
+    local id
+    for id in "${started[@]}"; do kill -INT "$id" 2>/dev/null; done
+    for id in "${started[@]}"; do wait "$id" 2>/dev/null; done
+    started=()
+    [ -z "${pg_folder:-}" ] || rm -rf "$pg_folder"
+}
+
+# later HERE INCLUDE ARCHIVE: installs a release 0.2.0 beside the first, as if its registry preferred xx for de.
+later() {
+    local at=$pg_folder/server
+    cc -O2 -fPIC -c -I"$2" "$1/test/later_registry.c" -o "$pg_folder/later_registry.o" || return 1
+    cc -O2 -fPIC -shared -I"$2" -I"$("$pg_config" --includedir-server)" -Dlangtag_canonical=later_canonical \
+        -Dlangtag_registry_date=later_registry_date "$1/langtag_pg.c" "$pg_folder/later_registry.o" "$3" \
+        -Wl,--exclude-libs,ALL -Wl,-Bsymbolic -o "$at$("$pg_config" --pkglibdir)/langtag-2031-01-01.so" || return 1
+    sed 's/langtag-DATE/langtag-2031-01-01/' "$1/update.sql.in" >"$at$("$pg_config" --sharedir)/extension/langtag--0.1.0--0.2.0.sql"
+}

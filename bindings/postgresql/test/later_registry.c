@@ -1,0 +1,15 @@
+/* For a test of updates: the library as if a later registry preferred xx for de. langtag_pg.c is built beside it with
+ * -Dlangtag_canonical=later_canonical -Dlangtag_registry_date=later_registry_date. */
+#include <langtag.h>
+#include <string.h>
+
+size_t later_canonical(const char *bytes, size_t len, char *buffer, size_t buffer_len);
+uint32_t later_registry_date(void);
+
+size_t later_canonical(const char *bytes, size_t len, char *buffer, size_t buffer_len) {
+    size_t form_len = langtag_canonical(bytes, len, buffer, buffer_len);
+    if (form_len >= 2 && form_len <= buffer_len && memcmp(buffer, "de", 2) == 0) memcpy(buffer, "xx", 2);
+    return form_len;
+}
+
+uint32_t later_registry_date(void) { return 20310101; }

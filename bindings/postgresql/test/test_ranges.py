@@ -1,0 +1,118 @@
+#!/usr/bin/env python3
+"""Filters by a sequential scan, an index scan, an index-only scan, a bitmap scan, and by the index for ranges of a table,
+beside each other and beside a plain reading of RFC 4647 section 3.3; and the order by a sort and by an index, beside
+Python's of the small letters."""
+import random
+import re
+import unittest
+
+import server
+
+COMMON = ("en de fr es zh ja pt it ru nl sr sl x i-klingon i-default x-a x-de en-US en-GB de-DE de-CH de-AT fr-CA es-419 pt-BR "
+          "zh-CN zh-TW zh-Hant "
+          "zh-Hans zh-Hant-TW zh-Hans-CN sr-Latn sr-Cyrl de-Latn-DE de-Latn-DE-1996 de-DE-1996 sl-IT-rozaj zh-yue-HK zh-min "
+          "zh-min-nan "
+          "de-x-de de-a-bb-de dea del deaa en-u-co-phonebk en-t-de-x-a art-lojban").split()
+KEEP = {"SET enable_seqscan = off; SET enable_bitmapscan = off; SET enable_indexonlyscan = off;": "Index Scan",
+        "SET enable_seqscan = off; SET enable_bitmapscan = off;": "Index Only Scan",
+        "SET enable_seqscan = off; SET enable_indexscan = off; SET enable_indexonlyscan = off;": "Bitmap Heap Scan",
+        "SET enable_indexscan = off; SET enable_indexonlyscan = off; SET enable_bitmapscan = off;": "Seq Scan"}
+
+
+def basic(range, tag):
+    range, tag = range.lower(), tag.lower()
+    return range == "*" or (range + "-" == (tag + "-")[: len(range) + 1] and "*" not in range)
+
+
+def extended(range, tag):
+    wanted, given = range.lower().split("-"), tag.lower().split("-")
+    if wanted[0] not in ("*", given[0]):
+        return False
+    at = 1
+    for subtag in wanted[1:]:
+        if subtag == "*":
+            continue
+        while at < len(given) and given[at] != subtag and len(given[at]) > 1:
+            at += 1
+        if at == len(given) or given[at] != subtag:
+            return False
+        at += 1
+    return True
+
+
+def some_tags(random):
+    """Distinct tags: common ones, and those that are near to them."""
+    found = set(COMMON)
+    pieces = ["Latn", "Hant", "DE", "CH", "419", "1996", "rozaj", "a-bb", "u-co-de", "x-de", "x-a-b", "yue", "aa", "DE-x"]
+    while len(found) < 3000:
+        tag = random.choice(COMMON) + "".join("-" + random.choice(pieces) for _ in range(random.randint(1, 3)))
+        found.add(tag if random.random() < 0.7 else tag.upper())
+    return sorted(found)
+
+
+def some_ranges(random, tags):
+    found = {"*", "de", "a", "DE-de", "*-CH", "zh-*", "de-*-DE", "x", "i", "x-a", "en-u", "*-*", "de-*-*", "zzz"}
+    while len(found) < 250:
+        subtags = random.choice(tags).split("-")
+        subtags = subtags[: random.randint(1, len(subtags))]
+        if random.random() < 0.3:
+            subtags[random.randrange(len(subtags))] = "*"
+        range = "-".join(subtags)
+        if random.random() < 0.2:
+            range = range[:-1]
+        if re.fullmatch(r"(?:[A-Za-z]{1,8}|\*)(?:-(?:[A-Za-z0-9]{1,8}|\*))*", range):
+            found.add(range)
+    return sorted(found)
+
+
+class Ranges(unittest.TestCase):
+    @classmethod
+    def setUpClass(cls):
+        cls.random = random.Random(3)
+        server.fresh("ranges")
+        given = [tag for tag in some_tags(cls.random)]
+        server.lines("CREATE TABLE t (tag langtag); CREATE TEMP TABLE raw (t text); COPY raw FROM STDIN;\n" + "\n".join(given) + "\n\\.\n"
+                     "INSERT INTO t SELECT DISTINCT t::langtag FROM raw WHERE is_langtag(t); CREATE INDEX t_tag ON t (tag); "
+                     "VACUUM ANALYZE t;", "ranges")
+        cls.tags = server.lines("SELECT tag FROM t", "ranges")
+        cls.ranges = some_ranges(cls.random, cls.tags)
+        cls.wanted = {range: (sum(basic(range, tag) for tag in cls.tags), sum(extended(range, tag) for tag in cls.tags)) for range in cls.ranges}
+
+    def test_scans(self):
+        for setting, scan in KEEP.items():
+            plan = server.lines(setting + "EXPLAIN SELECT * FROM t WHERE tag <@ 'de'; EXPLAIN SELECT * FROM t WHERE tag ~ "
+                                          "'de-DE'", "ranges")
+            self.assertEqual(sum(scan + " " in line for line in plan), 2, plan)
+            said = server.lines(setting + "".join(
+                f"SELECT (SELECT count(*) FROM t WHERE tag <@ {server.quoted(it)}), (SELECT count(*) FROM t WHERE tag ~ "
+                f"{server.quoted(it)});" for it in self.ranges), "ranges")
+            self.assertEqual([(it, line) for it, line in zip(self.ranges, said) if line != "{}|{}".format(*self.wanted[it])], [])
+        print(f"{len(self.ranges)} ranges, {len(self.tags)} tags, {len(KEEP)} scans; "
+              f"{sum(b > 0 for b, _ in self.wanted.values())} ranges match by <@, "
+              f"{sum(e > 0 for _, e in self.wanted.values())} by ~")
+
+    def test_ranges_of_a_table(self):
+        array = "ARRAY[" + ",".join(map(server.quoted, self.ranges)) + "]::langtag_range[]"
+        query = "SELECT r, (SELECT count(*) FROM t WHERE tag <@ r), (SELECT count(*) FROM t WHERE tag ~ r) FROM unnest({}) r"
+        plan = server.lines("SET enable_seqscan = off; EXPLAIN " + query.format(array), "ranges")
+        self.assertEqual(sum("langtag_basic_lower(" in line or "langtag_extended_upper(" in line for line in plan), 2, plan)
+        said = server.lines("SET enable_seqscan = off; " + query.format(array), "ranges")
+        self.assertEqual(said, ["{}|{}|{}".format(it, *self.wanted[it]) for it in self.ranges])
+
+    def test_which_tags(self):
+        """Not only how many."""
+        for range in self.ranges[::10]:
+            wanted = sorted(tag for tag in self.tags if extended(range, tag))
+            self.assertEqual(sorted(server.lines(f"SET enable_seqscan = off; SELECT tag FROM t WHERE tag ~ "
+                                                 f"{server.quoted(range)}", "ranges")), wanted)
+
+    def test_order(self):
+        wanted = sorted(self.tags, key=str.lower)
+        by_sort = "SET enable_indexscan = off; SET enable_indexonlyscan = off; SET enable_bitmapscan = off; "
+        self.assertEqual(server.lines(by_sort + "SELECT tag FROM t ORDER BY tag", "ranges"), wanted)
+        self.assertEqual(server.lines(by_sort + "SELECT tag FROM t ORDER BY tag DESC", "ranges"), wanted[::-1])
+        self.assertEqual(server.lines("SET enable_seqscan = off; SET enable_sort = off; SELECT tag FROM t ORDER BY tag", "ranges"), wanted)
+
+
+if __name__ == "__main__":
+    unittest.main()

@@ -1,0 +1,217 @@
+#!/usr/bin/env python3
+"""The rows that the tests of all languages read, asked by SQL, and tags of the registry's subtags beside a plain reading of
+the registry: test_rows.py ROOT, the repository. A tag has its recommended case here, and so have the answers: they are
+compared by their small letters."""
+import pathlib
+import subprocess
+import sys
+import unittest
+
+import server
+
+ROOT = pathlib.Path(sys.argv[1] if len(sys.argv) > 1 else __file__).resolve()
+if len(sys.argv) == 1:
+    ROOT = ROOT.parent.parent.parent.parent
+sys.path.insert(0, str(ROOT / "bindings/python"))
+import rows  # noqa: E402
+
+# Runs a query whose row is one text, and gives that, or the state of an error.
+ANSWER = """
+CREATE FUNCTION answer(query text) RETURNS text LANGUAGE plpgsql AS $$
+DECLARE said text; state text; why text;
+BEGIN
+    EXECUTE query INTO said;
+    RETURN coalesce(said, '-');
+EXCEPTION WHEN OTHERS THEN
+    GET STACKED DIAGNOSTICS state = RETURNED_SQLSTATE, why = PG_EXCEPTION_DETAIL;
+    RETURN state || CASE WHEN why ~ 'no such part' THEN ' no parts' ELSE '' END;
+END $$;
+-- All of a tag, as the rows have it, and that a tag is as its own text comes in.
+CREATE FUNCTION all_of(t langtag) RETURNS text LANGUAGE sql AS $$
+    SELECT concat_ws('/', CASE kind(t) WHEN 'private use' THEN 'private' ELSE kind(t)::text END,
+        '  language ' || nullif(concat_ws(' ', language(t)::text, replace(extlang(t)::text, '-', ' ')), ''),
+        '  script ' || script(t)::text, '  region ' || region(t)::text,
+        '  variants ' || nullif(array_to_string(variants(t), ' '), ''),
+        '  extensions ' || nullif(array_to_string(extensions(t), ' '), ''),
+        '  private_use ' || replace(private_use(t)::text, '-', ' '),
+        '  recommended ' || t::text, '  folded ' || lower(t::text),
+        CASE WHEN t::text::langtag::text <> t::text OR recommended(t) <> t THEN 'another' END) $$;
+-- What a text is, and how many of its prefixes are tags; the ends of the parts of a normal one.
+CREATE FUNCTION scan(given text) RETURNS text LANGUAGE sql AS $$
+    SELECT concat_ws(' ', (SELECT count(*) FROM generate_series(0, length(given)) AS n WHERE is_langtag(left(given, n))),
+        CASE WHEN NOT is_langtag(given) THEN 'none' ELSE (SELECT CASE kind(t) WHEN 'private use' THEN 'private' WHEN 'irregular' THEN 'irregular'
+            ELSE 'normal ' || (SELECT string_agg(total::text, ' ' ORDER BY at) FROM (SELECT at, sum(length(part)) OVER (ORDER BY at) AS total FROM unnest(ARRAY[
+                concat_ws('-', language(t)::text, extlang(t)::text), '-' || script(t)::text, '-' || region(t)::text,
+                '-' || nullif(array_to_string(variants(t), '-'), ''), '-' || nullif(array_to_string(extensions(t), '-'), ''), '-' || private_use(t)::text
+            ]) WITH ORDINALITY AS p(part, at)) s) END FROM (SELECT given::langtag AS t) s) END) $$;
+"""
+
+
+def text(data):
+    """A text of any bytes, as an expression of SQL."""
+    return f"convert_from('\\x{data.hex()}'::bytea, 'UTF8')"
+
+
+def tags(data):
+    return "ARRAY[" + ",".join(text(tag) for tag in data.split() if tag != b"''") + "]::text[]::langtag[]"
+
+
+def header(asked, names):
+    return f"SELECT tag_for_header_lenient({tags(names)}, {text(asked)})::text"
+
+
+def edit(tag, part, given):
+    if given == b"" and part in (b"script", b"region", b"private_use"):
+        return None  # as in C an empty text takes the part out, which the rows say by `none`
+    given = b"" if given == b"none" else given
+    return f"SELECT set_{part.decode()}({text(tag)}::langtag, {text(given)})::text"
+
+
+def ranges(asked, names):
+    return header(asked.replace(b" ", b", "), names) if b"*" not in asked and asked else None
+
+
+# A call of the rows as a query; None where SQL has no answer.
+QUERIES = {
+    "tag": lambda tag: f"SELECT all_of({text(tag)}::langtag)",
+    "scan": lambda given: f"SELECT scan({text(given)})",
+    "recommended": lambda tag: f"SELECT {text(tag)}::langtag::text",
+    "validity": lambda tag: f"SELECT CASE WHEN is_valid(t) THEN 'valid' ELSE 'invalid ' || invalid_subtag(t)::text END FROM "
+                            f"(SELECT {text(tag)}::langtag AS t) s",
+    "canonical": lambda tag: f"SELECT canonical(t)::text || CASE WHEN canonical(t)::text::langtag = canonical(t) THEN '' ELSE "
+                             f"'another' END FROM (SELECT {text(tag)}::langtag AS t) s",
+    "viable": lambda given: f"SELECT langtag_viable({text(given)})::text",
+    "range": lambda given: f"SELECT 'range ' || ({text(given)}::langtag_range::text = {text(given)})",
+    "match": lambda range, tag: f"SELECT concat_ws(' ', t <@ r, t ~ r) FROM (SELECT {text(tag)}::langtag AS t, "
+                                f"{text(range)}::langtag_range AS r) s",
+    "order": lambda a, b: f"SELECT langtag_cmp({text(a)}::langtag, {text(b)}::langtag)::text",
+    "maximized": lambda tag: f"SELECT maximized({text(tag)}::langtag)::text",
+    "minimized": lambda tag: f"SELECT minimized({text(tag)}::langtag)::text",
+    "distance": lambda desired, supported: f"SELECT distance({text(desired)}::langtag, {text(supported)}::langtag)::text",
+    "best": lambda asked, names: f"SELECT best_for_header({tags(names)}, {text(asked)})::text",
+    "header": header, "ranges": ranges, "edit": edit,
+}
+rows.CALLS.update({"best": 2, "distance": 2, "maximized": 1, "minimized": 1})
+NO_TAG = "22P02"
+HOW = {"t t": "both", "t f": "basic", "f t": "extended", "f f": "neither", NO_TAG: "neither"}
+# What SQL says, in the words of the rows.
+ANSWERS = {
+    "tag": lambda said: "none" if said == NO_TAG else said.lower().replace("/", "\n"),
+    "validity": lambda said: "none" if said == NO_TAG else said.lower(),
+    "canonical": lambda said: "-" if said == NO_TAG else said.lower(),
+    "maximized": lambda said: "-" if said == NO_TAG else said.lower(),
+    "minimized": lambda said: "-" if said == NO_TAG else said.lower(),
+    "range": lambda said: {NO_TAG: "none", "range true": "range"}.get(said, said),
+    "match": lambda said: HOW.get(said, said),
+    "order": lambda said: {"-1": "before", "0": "equal", "1": "after"}.get(said, said),
+    "edit": lambda said: {"22023": "refused", "22023 no parts": "no parts"}.get(said, said.lower()),
+}
+
+
+def adapted(row):
+    """What SQL answers where a row's answer is right."""
+    wanted = row.wanted
+    if row.call == "tag":
+        lines = [line for line in wanted.split("\n") if line.split()[0] not in ("hash", "at_variant", "at_singleton", "repeated_variant", "repeated_singleton")]
+        return "\n".join(lines).lower()
+    if row.call == "scan":
+        words = wanted.split()[1:]  # without how many bytes are read
+        return " ".join(words[:2] if words[1] == "irregular" else words)
+    if row.call == "validity":
+        return f"invalid {wanted.split()[2].lower()}" if wanted not in ("none", "valid") else wanted
+    if row.call == "viable":
+        return wanted.split()[0]
+    if row.call == "range":
+        return wanted if wanted == "none" else "range"
+    if row.call == "order":
+        a, b = (text.lower() for text in row.arguments)
+        return "before" if a != b and b.startswith(a) else "after" if a != b and a.startswith(b) else wanted
+    if row.call == "header":
+        return row.text.split(" | ")[-1].lower()
+    return wanted.lower() if row.call in ("canonical", "maximized", "minimized", "edit", "ranges", "best") else wanted
+
+
+def query(row):
+    if row.call not in QUERIES or any(b"\0" in it for it in row.arguments):
+        return None
+    try:
+        for argument in row.arguments:
+            argument.decode()
+    except UnicodeDecodeError:
+        return None  # no text of a database in UTF-8
+    return QUERIES[row.call](*row.arguments)
+
+
+class Rows(unittest.TestCase):
+    @classmethod
+    def setUpClass(cls):
+        server.fresh("rows")
+        server.lines(ANSWER, "rows")
+
+    def ask(self, name, floor):
+        path = rows.FOLDER / name
+        asked = [(row, query(row)) for row in rows.read(path)]
+        asked = [(row, statement) for row, statement in asked if statement]
+        said = server.lines("".join(f"SELECT answer($q${statement}$q$);\n" for _, statement in asked), "rows")
+        self.assertEqual(len(said), len(asked))
+        known = {(row.call, *row.arguments): line for (row, _), line in zip(asked, said)}
+
+        def answer(call):
+            def of(*arguments):
+                line = known.get((call, *arguments))
+                if line is None or (call in ("order", "recommended") and line == NO_TAG):
+                    return None  # SQL orders tags alone
+                return ANSWERS.get(call, str)(line) if call not in ("header", "ranges", "best") else line.lower()
+            return of
+        asker = rows.Asker({row.call: answer(row.call) for row, _ in asked}, adapted)
+        asker.ask(path, floor)
+        if asker.failures():
+            self.fail("\n" + asker.failures())
+
+    def test_table(self):
+        self.ask("table.txt", 280)
+
+    def test_texts(self):
+        self.ask("texts.txt", 500)
+
+    def test_negotiation(self):
+        self.ask("negotiation.txt", 80)
+
+    def test_edits(self):
+        self.ask("edits.txt", 60)
+
+    def test_likely(self):
+        self.ask("likely.txt", 280)
+
+    def test_distance(self):
+        self.ask("distance.txt", 100)
+
+    def test_choices(self):
+        self.ask("choices.txt", 250)
+
+
+class Registry(unittest.TestCase):
+    """Tags of the registry's subtags, by a plain reading of the registry."""
+
+    def test_oracle(self):
+        oracle = [sys.executable, str(ROOT / "registry/oracle.py"), str(ROOT / "registry/language-subtag-registry")]
+        texts = "".join(subprocess.run(oracle + more, capture_output=True, text=True, check=True).stdout for more in (["--each"], ["--make", "30000", "7"]))
+        wanted = subprocess.run(oracle + ["validity", "canonical"], input=texts, capture_output=True, text=True, check=True).stdout.lower()
+        wanted = [line if line == "refused" or line.startswith("valid") else "invalid " + line.split("=", 1)[1] for line in wanted.splitlines()]
+        server.fresh("registry")
+        said = server.lines("CREATE TABLE t (k serial, t text); COPY t (t) FROM STDIN;\n" + texts.replace("\\", "\\\\") + "\\.\n"
+                            "SELECT CASE WHEN NOT is_langtag(t) THEN 'refused' ELSE (SELECT lower(CASE WHEN is_valid(g) THEN "
+                            "'valid' "
+                            "ELSE 'invalid ' || invalid_subtag(g)::text END || ' canonical=' || canonical(g)::text) FROM "
+                            "(SELECT t::langtag AS g OFFSET 0) s) "
+                            "END FROM t ORDER BY k", "registry")
+        self.assertEqual(len(said), len(wanted))
+        differ = [f"{tag}: {a}, and not {b}" for tag, a, b in zip(texts.splitlines(), said, wanted) if a != b]
+        print(f"{len(said)} tags beside a plain reading of the registry, {sum(it != 'refused' for it in wanted)} of them well "
+              f"formed")
+        self.assertGreater(len(said), 40_000)
+        self.assertEqual(differ[:3], [])
+
+
+if __name__ == "__main__":
+    unittest.main(argv=sys.argv[:1])

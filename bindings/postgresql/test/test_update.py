@@ -1,0 +1,62 @@
+#!/usr/bin/env python3
+"""The update to a release with another registry, which `later` of cluster.sh installed: what it warns of, what is old
+afterwards, and what renews it."""
+import unittest
+
+import server
+
+TABLES = """
+CREATE EXTENSION amcheck;
+CREATE TABLE t (id serial, tag langtag CHECK (is_valid(tag)), form langtag GENERATED ALWAYS AS (canonical(tag)) STORED, other langtag DEFAULT canonical('iw'));
+INSERT INTO t (tag) VALUES ('de'), ('de-CH'), ('iw'), ('fr');
+CREATE UNIQUE INDEX t_canonical ON t (canonical(tag)); CREATE INDEX t_form ON t (form); CREATE INDEX t_tag ON t (tag);
+CREATE INDEX t_valid ON t (tag) WHERE is_valid(tag);
+CREATE MATERIALIZED VIEW m AS SELECT canonical(tag) AS form FROM t; CREATE VIEW v AS SELECT canonical(tag) AS form FROM t;
+CREATE MATERIALIZED VIEW through AS SELECT count(*) AS n FROM v; CREATE DOMAIN valid AS langtag CHECK (is_valid(VALUE));
+CREATE FUNCTION form_of(tag langtag) RETURNS langtag IMMUTABLE BEGIN ATOMIC SELECT canonical(tag); END; CREATE INDEX t_by_function ON t (form_of(tag));
+CREATE TABLE parted (tag langtag) PARTITION BY HASH (canonical(tag));
+"""
+WARNINGS = [
+    "check anew: constraint t_tag_check on table t", "check anew: constraint valid_check of the domain valid",
+    "move rows between the partitions of parted", "REFRESH MATERIALIZED VIEW m", "REFRESH MATERIALIZED VIEW through",
+    "REINDEX INDEX t_by_function", "REINDEX INDEX t_canonical", "REINDEX INDEX t_valid", "UPDATE t SET tag = tag, for form",
+]
+BY_INDEX = "SET enable_seqscan = off; SET enable_bitmapscan = off; "
+BY_SCAN = "SET enable_indexscan = off; SET enable_indexonlyscan = off; SET enable_bitmapscan = off; "
+
+
+class Update(unittest.TestCase):
+    def says(self, statement, *said):
+        self.assertEqual(server.lines(statement, "updated"), list(said), statement)
+
+    def test_update(self):
+        server.fresh("updated")
+        server.lines(TABLES, "updated")
+        self.says("SELECT canonical('de'), langtag_registry_date() > '2025'", "de|t")
+        # In one session, where the old module was loaded before.
+        said, complaint = server.run("SELECT canonical('de'); ALTER EXTENSION langtag UPDATE TO '0.2.0'; SELECT "
+                                     "canonical('de'), langtag_registry_date(), is_valid('de'), 'DE'::langtag", "updated")
+        self.assertEqual(said, ["de", "xx|2031-01-01|t|de"])
+        warned = sorted(line.split("WARNING:  ")[1] for line in complaint.splitlines() if "WARNING:" in line)
+        self.assertEqual(warned, sorted(f"values by the older registry: {what}" for what in WARNINGS))
+        # The index is old, the generated column too, but it is what it says.
+        self.says(BY_INDEX + "SELECT tag FROM t WHERE canonical(tag) = 'xx'")
+        self.says(BY_SCAN + "SELECT tag FROM t WHERE canonical(tag) = 'xx'", "de")
+        self.assertIn("lacks matching index tuple", server.run("SELECT bt_index_check('t_canonical', true)", "updated", stop=False)[1])
+        self.says("SELECT bt_index_check('t_form', true); SELECT bt_index_check('t_tag', true)", "", "")
+        self.says(BY_INDEX + "SELECT tag FROM t WHERE form = 'de'", "de")
+        # What the warnings say renews them.
+        self.says("REINDEX INDEX t_canonical; REINDEX INDEX t_by_function; REFRESH MATERIALIZED VIEW m; UPDATE t SET tag = tag "
+                  "WHERE form <> canonical(tag); "
+                  "SELECT bt_index_check('t_canonical', true); SELECT bt_index_check('t_form', true); SELECT count(*) FROM t "
+                  "WHERE form <> canonical(tag); "
+                  "SELECT form FROM m WHERE form <@ 'xx' ORDER BY 1", "", "", "0", "xx", "xx-CH")
+        self.says(BY_INDEX + "SELECT tag FROM t WHERE canonical(tag) = 'xx'", "de")
+
+    def test_a_new_database_has_the_first(self):
+        server.fresh("first")
+        self.assertEqual(server.lines("SELECT canonical('de')", "first"), ["de"])
+
+
+if __name__ == "__main__":
+    unittest.main()

@@ -1,0 +1,120 @@
+"""Every call and every refusal many times, each group after itself: python3 leaks.py [TIMES]. In a debug build of Python, with a
+C module built by -DPy_DEBUG, as many references stand afterwards as before. Under valgrind (PYTHONMALLOC=malloc) or sanitizers it
+is the program that they watch."""
+import copy
+import gc
+import pickle
+import sys
+import weakref
+
+import langtag
+from langtag import Range, Tag
+
+LONG = "zh-yue-Hant-HK-rozaj-1994-u-co-pinyin-x-mine"
+PARTS = ("kind language primary_language extended_language script region variants extensions private_use grandfathered "
+         "repeated_variant repeated_singleton is_valid invalid_subtag is_canonical _data").split()
+
+
+class Named(Tag):
+    def __init__(self, text, name):
+        super().__init__(text)
+        self.name = name
+
+
+class Lying(Tag):
+    _base = 5
+
+
+class Unshown(str):
+    def __repr__(self):
+        raise ZeroDivisionError
+
+
+class Unread:
+    def __iter__(self):
+        raise ZeroDivisionError
+
+
+def refused(call, *arguments, **named):
+    try:
+        call(*arguments, **named)
+    except Exception:
+        return
+    sys.exit(f"not refused: {call} {arguments}")
+
+
+def construct():
+    Tag("de-CH"), Tag(b"de"), Tag(text="en"), Tag(Tag("fr")), Named("en", 2), Range(Range("de-*")), Tag("de-" + "abcde-" * 1000 + "x-a")
+
+
+def refuse():
+    for text in ("en_", "\ud800", b"\xff", "é", 5, None, "", Unshown("en_")):
+        refused(Tag, text), refused(Range, text)
+    refused(Tag), refused(Tag, "a", "b"), refused(Tag, other=1), refused(Tag("de").__init__, "en")
+    made = Tag.__new__(Tag)
+    for call in (str, hash, repr, Tag, Tag.canonical, Tag.folded, lambda it: it == Tag("de"), lambda it: it.script):
+        refused(call, made)
+    refused(lambda: Tag("de") < Range("de")), refused(setattr, Tag("de"), "script", "Latn")
+    lying = Lying("iw")
+    refused(lying.canonical), refused(lying.recommended), refused(lying._set, 1, "Latn")
+
+
+def read():
+    for tag in (Tag(LONG), Tag("x-a"), Tag("i-klingon"), Tag("de-a-bb-A-cc-1996"), Tag("de-1996-1996")):
+        for name in PARTS:
+            getattr(tag, name)
+
+
+def make():
+    for tag in (Tag(LONG), Tag("iw"), Tag("de-" + "heploc-" * 60 + "1996"), Tag(b"DE")):
+        tag.recommended(), tag.canonical(), tag.folded(), tag.fnv1a(), hash(tag), str(tag), repr(tag), tag.maximized(), tag.minimized(), f"{tag:>9}", tag.key()
+        copy.deepcopy(tag), pickle.loads(pickle.dumps(tag)), weakref.ref(tag)()
+
+
+def replace():
+    Tag("de").replace(script="Latn", extensions={"u": ["co", "x1"]}, variants=())
+    for wrong in ("Latin", "\ud800", b"x"):
+        refused(Tag("de").replace, script=wrong)
+
+
+def compare():
+    Tag("de") == Tag("DE"), Tag("de") < Tag("en"), Tag("de") == 5, Tag("de") != Range("de"), sorted([Tag("de"), Tag("en")])
+
+
+def match():
+    Range("de-*").matches_extended(Tag("de-CH")), Range("de").matches_basic("de-CH"), list(Range("de-AT-x-a").fallbacks())
+    for wrong in ("de_", 5, Range("de"), Tag.__new__(Tag)):
+        refused(Range("de").matches_basic, wrong)
+    Range("*").is_basic
+
+
+def negotiate():
+    tags = [Tag("de-CH"), Tag("fr")]
+    langtag.tag_for_header_lenient("fr_FR, de-ch;q=0.5, " * 30 + "*", tags, None), langtag.tag_for_header("de", tags, None)
+    for header, offered in (("de", [5]), (5, tags), ("de", Unread()), ("de", [Tag.__new__(Tag)])):
+        refused(langtag.tag_for_header_lenient, header, offered, None)
+
+
+def ask():
+    langtag.kind("de"), langtag.viable("d_"), langtag.stop("d_"), refused(langtag.kind, 5), refused(langtag.viable, None)
+
+
+def main(times):
+    kept, count = [], getattr(sys, "gettotalrefcount", lambda: 0)
+    for group in (construct, refuse, read, make, replace, compare, match, negotiate, ask):
+        for _ in range(50):
+            group()
+        gc.collect()
+        before = count()
+        for _ in range(times):
+            group()
+        gc.collect()
+        more = count() - before
+        if more > times // 10 + 20:
+            kept.append(f"{group.__name__}: {more} references more after {times} calls")
+    print("\n".join(kept) or "nothing is kept")
+    return bool(kept)
+
+
+if __name__ == "__main__":
+    sys.exit(main(int(sys.argv[1]) if len(sys.argv) > 1 else 300))

@@ -1,0 +1,111 @@
+/* The functions of the module. */
+#include "native.h"
+
+static PyObject *kind(PyObject *module, PyObject *from) {
+    (void)module;
+    Text text;
+    if (lt_text(from, &text)) return NULL;
+    LET_GO(text.len);
+    uint32_t found = langtag_kind(text.data, (size_t)text.len);
+    TAKE_BACK();
+    Py_DECREF(text.owner);
+    return PyLong_FromUnsignedLong(found);
+}
+
+static PyObject *reach(PyObject *from, size_t (*how)(const char *, size_t)) {
+    Text text;
+    if (lt_text(from, &text)) return NULL;
+    LET_GO(text.len);
+    size_t found = how(text.data, (size_t)text.len);
+    TAKE_BACK();
+    Py_DECREF(text.owner);
+    return PyLong_FromSize_t(found);
+}
+
+/* Why a text is no tag: (answer of the call, start, length, offset). */
+static PyObject *refused(PyObject *module, PyObject *from) {
+    (void)module;
+    Text text;
+    if (lt_text(from, &text)) return NULL;
+    langtag_span subtag;
+    size_t offset;
+    LET_GO(text.len);
+    uint32_t answer = langtag_refused(text.data, (size_t)text.len, &subtag, &offset);
+    TAKE_BACK();
+    Py_DECREF(text.owner);
+    return Py_BuildValue("Innn", (unsigned)answer, (Py_ssize_t)subtag.start, (Py_ssize_t)subtag.len, (Py_ssize_t)offset);
+}
+
+static PyObject *viable(PyObject *module, PyObject *text) {
+    (void)module;
+    return reach(text, langtag_viable);
+}
+
+static PyObject *stop(PyObject *module, PyObject *text) {
+    (void)module;
+    return reach(text, langtag_stop);
+}
+
+/* The ends of the fallbacks of a range, itself first. */
+static PyObject *fallback_ends(PyObject *module, PyObject *from) {
+    (void)module;
+    Text text;
+    if (lt_text(from, &text)) return NULL;
+    langtag_span rest = {0, (size_t)text.len};
+    PyObject *list = PyList_New(0);
+    bool more = list != NULL;
+    while (more) {
+        PyObject *end = PyLong_FromSize_t(rest.len);
+        if (!end || PyList_Append(list, end)) Py_CLEAR(list);
+        Py_XDECREF(end);
+        more = list && langtag_next_fallback(text.data, (size_t)text.len, &rest);
+    }
+    Py_DECREF(text.owner);
+    return list;
+}
+
+/* The elements of a header that are not empty: (answer of the call, start, length, weight). */
+static PyObject *elements(PyObject *module, PyObject *from) {
+    (void)module;
+    Text text;
+    if (lt_text(from, &text)) return NULL;
+    langtag_span rest = {0, (size_t)text.len}, range;
+    uint32_t weight, answer;
+    PyObject *list = PyList_New(0);
+    while (list && (answer = langtag_next_accepted(text.data, (size_t)text.len, &rest, &range, &weight))) {
+        PyObject *element = Py_BuildValue("InnI", (unsigned)answer, (Py_ssize_t)range.start, (Py_ssize_t)range.len,
+                                          (unsigned)weight);
+        if (!element || PyList_Append(list, element)) Py_CLEAR(list);
+        Py_XDECREF(element);
+    }
+    Py_DECREF(text.owner);
+    return list;
+}
+
+static PyObject *registry_date(PyObject *module, PyObject *unused) {
+    (void)module;
+    (void)unused;
+    return PyLong_FromUnsignedLong(langtag_registry_date());
+}
+
+static PyObject *cldr_version(PyObject *module, PyObject *unused) {
+    (void)module;
+    (void)unused;
+    return PyLong_FromUnsignedLong(langtag_cldr_version());
+}
+
+PyMethodDef lt_functions[] = {
+    {"kind", kind, METH_O, NULL},
+    {"viable", viable, METH_O, NULL},
+    {"refused", refused, METH_O, NULL},
+    {"stop", stop, METH_O, NULL},
+    {"fallback_ends", fallback_ends, METH_O, NULL},
+    {"elements", elements, METH_O, NULL},
+    {"registry_date", registry_date, METH_NOARGS, NULL},
+    {"cldr_version", cldr_version, METH_NOARGS, NULL},
+    {"negotiate", lt_negotiate, METH_VARARGS, NULL},
+    {"distance", lt_distance, METH_VARARGS, NULL},
+    {"is_right_to_left", lt_is_right_to_left, METH_O, NULL},
+    {"from_posix", lt_from_posix, METH_O, NULL},
+    {"best_for_header", lt_best_for_header, METH_VARARGS, NULL},
+    {NULL, NULL, 0, NULL}};

@@ -1,0 +1,127 @@
+/* What is made of a tag. */
+#include "native.h"
+
+/* Of the class that Python calls Tag, `_base`; NULL with an exception where a subclass says that it is another one. */
+static PyTypeObject *tag_class(const Value *self) {
+    PyObject *type = PyObject_GetAttrString((PyObject *)self, "_base");
+    if (!type) return NULL;
+    if (PyType_Check(type) && lt_base((PyTypeObject *)type) == self->base) return (PyTypeObject *)type;
+    Py_DECREF(type);
+    PyErr_SetString(PyExc_TypeError, "langtag: _base is not Tag");
+    return NULL;
+}
+
+/* A Tag of bytes, whose reference it takes over, with the parts of `like`, or parsed where that is NULL. */
+static PyObject *tag_of(const Value *self, PyObject *owner, const Value *like) {
+    if (!owner) return NULL;
+    PyTypeObject *type = tag_class(self);
+    Value *made = type ? (Value *)lt_new(type, NULL, NULL) : NULL;
+    Py_XDECREF((PyObject *)type);
+    if (!made) {
+        Py_DECREF(owner);
+        return NULL;
+    }
+    made->text = (Text){owner, PyBytes_AsString(owner), PyBytes_Size(owner)};
+    if (like) {
+        made->kind = like->kind;
+        made->parts = like->parts;
+    } else {
+        made->kind = langtag_parse(made->text.data, (size_t)made->text.len, &made->parts);
+    }
+    if (made->kind) return (PyObject *)made;
+    Py_DECREF((PyObject *)made); /* can't be, by the contract of the call that wrote the bytes */
+    PyErr_SetString(PyExc_SystemError, "langtag: a form that is not a tag");
+    return NULL;
+}
+
+PyObject *lt_recommended(PyObject *object, PyObject *unused) {
+    (void)unused;
+    Value *self = (Value *)object;
+    return lt_lacks(self) ? NULL : tag_of(self, lt_changed(self, langtag_recommend), self);
+}
+
+typedef size_t Form(const char *bytes, size_t len, char *buffer, size_t buffer_len);
+
+/* A form, as bytes. */
+static PyObject *form_of(const Value *self, Form *form) {
+    char room[192];
+    const char *data = self->text.data;
+    size_t len = (size_t)self->text.len;
+    LET_GO(self->text.len);
+    size_t wanted = form(data, len, room, sizeof room);
+    TAKE_BACK();
+    if (wanted <= sizeof room) return PyBytes_FromStringAndSize(room, (Py_ssize_t)wanted);
+    PyObject *made = PyBytes_FromStringAndSize(NULL, (Py_ssize_t)wanted);
+    if (made) form(data, len, PyBytes_AsString(made), wanted);
+    return made;
+}
+
+static PyObject *tag_by(PyObject *object, Form *form) {
+    Value *self = (Value *)object;
+    return lt_lacks(self) ? NULL : tag_of(self, form_of(self, form), NULL);
+}
+
+PyObject *lt_canonical(PyObject *self, PyObject *unused) {
+    (void)unused;
+    return tag_by(self, langtag_canonical);
+}
+
+PyObject *lt_maximized(PyObject *self, PyObject *unused) {
+    (void)unused;
+    return tag_by(self, langtag_maximize);
+}
+
+PyObject *lt_minimized(PyObject *self, PyObject *unused) {
+    (void)unused;
+    return tag_by(self, langtag_minimize);
+}
+
+PyObject *lt_is_canonical(PyObject *object, void *unused) {
+    (void)unused;
+    Value *self = (Value *)object;
+    if (lt_lacks(self)) return NULL;
+    LET_GO(self->text.len);
+    bool answer = langtag_is_canonical(self->text.data, (size_t)self->text.len);
+    TAKE_BACK();
+    return PyBool_FromLong(answer);
+}
+
+PyObject *lt_folded(PyObject *object, PyObject *unused) {
+    (void)unused;
+    Value *self = (Value *)object;
+    PyObject *folded = lt_lacks(self) ? NULL : lt_changed(self, langtag_fold);
+    PyObject *text = folded ? lt_str(PyBytes_AsString(folded), (size_t)self->text.len) : NULL;
+    Py_XDECREF(folded);
+    return text;
+}
+
+PyObject *lt_fnv1a(PyObject *object, PyObject *unused) {
+    (void)unused;
+    Value *self = (Value *)object;
+    if (lt_lacks(self)) return NULL;
+    return PyLong_FromUnsignedLongLong(langtag_hash(LANGTAG_HASH, self->text.data, (size_t)self->text.len));
+}
+
+/* The tag with another part, or None where the library refuses. */
+static PyObject *with_part(const Value *self, uint32_t part, Text given) {
+    char nothing[1];
+    const char *data = self->text.data;
+    size_t len = (size_t)self->text.len, given_len = (size_t)given.len;
+    size_t wanted = langtag_with_part(data, len, part, given.data, given_len, nothing, 0);
+    if (!wanted) return lt_none();
+    PyObject *made = PyBytes_FromStringAndSize(NULL, (Py_ssize_t)wanted);
+    if (!made) return NULL;
+    langtag_with_part(data, len, part, given.data, given_len, PyBytes_AsString(made), wanted);
+    return tag_of(self, made, NULL);
+}
+
+PyObject *lt_set(PyObject *object, PyObject *arguments) {
+    Value *self = (Value *)object;
+    unsigned int part;
+    PyObject *from;
+    Text given;
+    if (lt_lacks(self) || !PyArg_ParseTuple(arguments, "IO", &part, &from) || lt_text(from, &given)) return NULL;
+    PyObject *made = with_part(self, part, given);
+    Py_DECREF(given.owner);
+    return made;
+}

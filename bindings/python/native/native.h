@@ -1,0 +1,76 @@
+/* langtag._native: what is hot of the Python package, by the limited API of 3.8. The classes are heap types and nothing is kept
+ * in the process, so that interpreters are apart. The Python layer subclasses TagBase and RangeBase; each of its classes has
+ * `_base`, itself, and `_error`, what refuses a text. */
+#ifndef LANGTAG_NATIVE_H
+#define LANGTAG_NATIVE_H
+#ifndef Py_LIMITED_API
+#define Py_LIMITED_API 0x03080000
+#endif
+#define PY_SSIZE_T_CLEAN
+#include <Python.h>
+#include <stdint.h>
+#include <string.h>
+#include "langtag.h"
+
+/* A text: `owner`, a str or bytes itself, keeps the bytes. */
+typedef struct {
+    PyObject *owner;
+    const char *data;
+    Py_ssize_t len;
+} Text;
+
+/* A Tag or a Range. It does not change after __init__. */
+typedef struct {
+    PyObject_HEAD
+    PyObject *weak;
+    Text text; /* without an owner before __init__ */
+    Py_hash_t hash; /* -1: not yet asked for */
+    PyTypeObject *base; /* TagBase or RangeBase, borrowed: the object's own type keeps it */
+    uint32_t kind;
+    langtag_parts parts; /* of a Tag alone */
+} Value;
+
+/* Lets other threads run during a call on a long text: where a stranger sends megabytes, langtag_validity and
+ * langtag_repeats may take seconds. */
+#define LONG_TEXT 4096
+#define LET_GO(len) PyThreadState *others = (len) >= LONG_TEXT ? PyEval_SaveThread() : NULL
+#define TAKE_BACK() do { if (others) PyEval_RestoreThread(others); } while (0)
+
+/* The bytes of a str or bytes: 0, or -1 with an exception. The caller lets go of the owner. */
+int lt_text(PyObject *from, Text *text);
+
+PyObject *lt_str(const char *data, size_t len);
+PyObject *lt_none(void);
+PyObject *lt_type_name(PyObject *of);
+PyObject *lt_span(const Value *self, langtag_span span); /* None where it is empty */
+
+int lt_lacks(Value *self); /* whether it was made by __new__ alone; with an exception */
+PyTypeObject *lt_base(PyTypeObject *type); /* TagBase or RangeBase; NULL with an exception */
+PyObject *lt_new(PyTypeObject *type, PyObject *arguments, PyObject *named);
+PyObject *lt_changed(const Value *self, void (*change)(char *, size_t)); /* a copy that was changed in its place, as bytes */
+int lt_init(PyObject *self, PyObject *arguments, PyObject *named, int is_tag);
+int lt_tag_init(PyObject *self, PyObject *arguments, PyObject *named);
+Value *lt_as_tag(PyObject *object, const char *message); /* NULL with the message where it is no Tag */
+
+#define FUNCTION(name) (PyCFunction)(void (*)(void))(name)
+
+extern PyType_Slot lt_value_slots[];
+extern PyGetSetDef lt_tag_members[], lt_range_members[];
+extern PyMethodDef lt_tag_methods[], lt_range_methods[], lt_functions[];
+PyObject *lt_negotiate(PyObject *module, PyObject *arguments);
+PyObject *lt_distance(PyObject *module, PyObject *arguments);
+PyObject *lt_is_right_to_left(PyObject *module, PyObject *from);
+PyObject *lt_from_posix(PyObject *module, PyObject *from);
+PyObject *lt_best_for_header(PyObject *module, PyObject *arguments);
+PyObject *lt_value_data(PyObject *self, void *unused);
+PyObject *lt_reduce(PyObject *self, PyObject *unused);
+PyObject *lt_format(PyObject *self, PyObject *form);
+PyObject *lt_recommended(PyObject *self, PyObject *unused);
+PyObject *lt_canonical(PyObject *self, PyObject *unused);
+PyObject *lt_maximized(PyObject *self, PyObject *unused);
+PyObject *lt_minimized(PyObject *self, PyObject *unused);
+PyObject *lt_folded(PyObject *self, PyObject *unused);
+PyObject *lt_fnv1a(PyObject *self, PyObject *unused);
+PyObject *lt_set(PyObject *self, PyObject *arguments);
+PyObject *lt_is_canonical(PyObject *self, void *unused);
+#endif

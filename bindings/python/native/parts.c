@@ -1,0 +1,176 @@
+#include "native.h"
+
+/* The parts of a tag, and what is said of them. */
+PyObject *lt_span(const Value *self, langtag_span span) {
+    return span.len ? lt_str(self->text.data + span.start, span.len) : lt_none();
+}
+
+/* The closure is the number of the part. */
+static PyObject *tag_part(PyObject *object, void *number) {
+    Value *self = (Value *)object;
+    if (lt_lacks(self)) return NULL;
+    return lt_span(self, ((const langtag_span *)&self->parts)[(intptr_t)number]);
+}
+
+/* The subtags behind the first `pass`. */
+static PyObject *subtags_from(const Value *self, langtag_span rest, size_t pass) {
+    PyObject *list = PyList_New(0);
+    langtag_span found;
+    while (list && langtag_next_subtag(self->text.data, (size_t)self->text.len, &rest, &found)) {
+        if (pass) {
+            pass--;
+            continue;
+        }
+        PyObject *text = lt_str(self->text.data + found.start, found.len);
+        if (!text || PyList_Append(list, text)) Py_CLEAR(list);
+        Py_XDECREF(text);
+    }
+    if (!list) return NULL;
+    PyObject *tuple = PyList_AsTuple(list);
+    Py_DECREF(list);
+    return tuple;
+}
+
+static PyObject *tag_primary(PyObject *object, void *unused) {
+    (void)unused;
+    Value *self = (Value *)object;
+    if (lt_lacks(self)) return NULL;
+    langtag_span rest = self->parts.language, found;
+    return langtag_next_subtag(self->text.data, (size_t)self->text.len, &rest, &found) ? lt_span(self, found) : lt_none();
+}
+
+static PyObject *tag_extended(PyObject *object, void *unused) {
+    (void)unused;
+    Value *self = (Value *)object;
+    if (lt_lacks(self)) return NULL;
+    return self->parts.language.len <= 8 && !memchr(self->text.data, '-', self->parts.language.len)
+               ? PyTuple_New(0) : subtags_from(self, self->parts.language, 1);
+}
+
+static PyObject *tag_variants(PyObject *object, void *unused) {
+    (void)unused;
+    Value *self = (Value *)object;
+    if (lt_lacks(self)) return NULL;
+    return self->parts.variants.len ? subtags_from(self, self->parts.variants, 0) : PyTuple_New(0);
+}
+
+/* Under its singleton in small letters, where there is none yet: 0, or -1 with an exception. */
+static int add_extension(const Value *self, langtag_span found, PyObject *dict) {
+    char singleton = self->text.data[found.start];
+    langtag_fold(&singleton, 1);
+    PyObject *key = lt_str(&singleton, 1), *subtags = key ? subtags_from(self, found, 1) : NULL;
+    int there = subtags ? PyDict_Contains(dict, key) : -1;
+    if (!there) there = PyDict_SetItem(dict, key, subtags);
+    Py_XDECREF(key);
+    Py_XDECREF(subtags);
+    return there < 0 ? -1 : 0;
+}
+
+static PyObject *tag_extensions(PyObject *object, void *unused) {
+    (void)unused;
+    Value *self = (Value *)object;
+    if (lt_lacks(self)) return NULL;
+    PyObject *dict = PyDict_New();
+    langtag_span rest = self->parts.extensions, found;
+    while (dict && langtag_next_extension(self->text.data, (size_t)self->text.len, &rest, &found))
+        if (add_extension(self, found, dict)) Py_CLEAR(dict);
+    return dict;
+}
+
+static PyObject *tag_kind(PyObject *object, void *unused) {
+    (void)unused;
+    return lt_lacks((Value *)object) ? NULL : PyLong_FromUnsignedLong(((Value *)object)->kind);
+}
+
+static PyObject *tag_is_valid(PyObject *object, void *unused) {
+    (void)unused;
+    Value *self = (Value *)object;
+    langtag_span span;
+    if (lt_lacks(self)) return NULL;
+    LET_GO(self->text.len);
+    uint32_t answer = langtag_validity(self->text.data, (size_t)self->text.len, &span);
+    TAKE_BACK();
+    return PyBool_FromLong(answer == LANGTAG_VALID);
+}
+
+static PyObject *tag_validity(PyObject *object, PyObject *unused) {
+    (void)unused;
+    Value *self = (Value *)object;
+    langtag_span span;
+    if (lt_lacks(self)) return NULL;
+    LET_GO(self->text.len);
+    uint32_t answer = langtag_validity(self->text.data, (size_t)self->text.len, &span);
+    TAKE_BACK();
+    return Py_BuildValue("INn", (unsigned int)answer, lt_span(self, span), (Py_ssize_t)span.start);
+}
+
+static PyObject *tag_repeated(PyObject *object, void *which) {
+    Value *self = (Value *)object;
+    langtag_repeated found;
+    if (lt_lacks(self)) return NULL;
+    LET_GO(self->text.len);
+    langtag_repeats(self->text.data, (size_t)self->text.len, &found);
+    TAKE_BACK();
+    return lt_span(self, which ? found.singleton : found.variant);
+}
+
+static PyObject *tag_grandfathered(PyObject *object, PyObject *unused) {
+    (void)unused;
+    Value *self = (Value *)object;
+    return lt_lacks(self) ? NULL : PyLong_FromUnsignedLong(langtag_grandfathered(self->text.data, (size_t)self->text.len));
+}
+
+PyGetSetDef lt_tag_members[] = {
+    {"_data", lt_value_data, NULL, NULL, NULL},
+    {"_kind", tag_kind, NULL, NULL, NULL},
+    {"language", tag_part, NULL, "The language of a normal tag, with its extended subtags: zh-yue.", (void *)0},
+    {"primary_language", tag_primary, NULL, "The primary language subtag of a normal tag: zh.", NULL},
+    {"extended_language", tag_extended, NULL, "The extended language subtags: ('yue',).", NULL},
+    {"script", tag_part, NULL, "The script: Hant.", (void *)1},
+    {"region", tag_part, NULL, "The region: HK, 419.", (void *)2},
+    {"variants", tag_variants, NULL, "The variants: ('rozaj', '1994').", NULL},
+    {"extensions", tag_extensions, NULL,
+     "The subtags of each extension by its singleton in small letters, and of a singleton that is repeated the first:\n"
+     "{'u': ('co', 'pinyin')}.", NULL},
+    {"private_use", tag_part, NULL, "The private use part with its mark: x-mine. A tag for private use is all of it.", (void *)5},
+    {"repeated_variant", tag_repeated, NULL,
+     "The first variant that equals an earlier one but for case. A tag with one is well formed, and not valid.", (void *)0},
+    {"repeated_singleton", tag_repeated, NULL,
+     "The first singleton that equals an earlier one but for case. A tag with one is well formed, and not valid.", (void *)1},
+    {"is_valid", tag_is_valid, NULL,
+     "Whether it is valid (RFC 5646 section 2.2.9) by IANA's registry of REGISTRY_DATE: grandfathered, or with a\n"
+     "registered language, script, region and variants, at most one extended language, registered too, and no variant or\n"
+     "singleton twice. Deprecated subtags are valid.", NULL},
+    {"is_canonical", lt_is_canonical, NULL, "Whether it is its own canonical form, whatever the case of its letters.", NULL},
+    {NULL, NULL, NULL, NULL, NULL}};
+
+PyMethodDef lt_tag_methods[] = {
+    {"__reduce__", lt_reduce, METH_NOARGS, NULL},
+    {"__format__", lt_format, METH_O, NULL},
+    {"recommended", lt_recommended, METH_NOARGS, "recommended($self, /)\n--\n\n"
+     "The equal tag in the case that RFC 5646 section 2.1.1 recommends: zh-Hant-TW."},
+    {"canonical", lt_canonical, METH_NOARGS,
+     "canonical($self, /)\n--\n\n"
+     "The canonical form (RFC 5646 section 4.5), by the registry of REGISTRY_DATE: he of iw. What is put in has the\n"
+     "registry's case, and all else keeps its own. Step 2 is taken again after step 3: gsg of sgn-DD. A tag need not be\n"
+     "valid: what is not registered stays."},
+    {"maximized", lt_maximized, METH_NOARGS,
+     "maximized($self, /)\n--\n\n"
+     "The tag with its likely subtags (UTS #35, part 1, Add Likely Subtags), by the CLDR of CLDR_VERSION: zh-Hant-TW of zh-TW.\n"
+     "What is deprecated stays: canonical() first replaces it."},
+    {"minimized", lt_minimized, METH_NOARGS,
+     "minimized($self, /)\n--\n\n"
+     "The tag without the subtags that are likely anyway (Remove Likely Subtags): zh-TW of zh-Hant-TW."},
+    {"folded", lt_folded, METH_NOARGS,
+     "folded($self, /)\n--\n\n"
+     "The text in small letters: the same for all tags that are equal, to keep where texts are compared byte by byte, and\n"
+     "the key to sort by for people, de before de-AT. Among such texts, those of all tags below de stand from \"de-\" up to\n"
+     "\"de.\"."},
+    {"fnv1a", lt_fnv1a, METH_NOARGS,
+     "fnv1a($self, /)\n--\n\n"
+     "FNV-1a of 64 bits over the folded text: the same number in every program and at every time. It does not withstand\n"
+     "whoever picks the tags; hash() does."},
+    {"_validity", tag_validity, METH_NOARGS, NULL},
+    {"_grandfathered", tag_grandfathered, METH_NOARGS, NULL},
+    {"_set", lt_set, METH_VARARGS, NULL},
+    {NULL, NULL, 0, NULL}};

@@ -1,0 +1,62 @@
+#include "native.h"
+
+static PyObject *is_basic(PyObject *object, void *unused) {
+    (void)unused;
+    Value *self = (Value *)object;
+    return lt_lacks(self) ? NULL : PyBool_FromLong(self->kind == LANGTAG_RANGE_BASIC);
+}
+
+typedef bool Match(const char *range, size_t range_len, const char *tag, size_t tag_len);
+
+static PyObject *matches_text(const Value *self, const char *data, Py_ssize_t len, Match *match) {
+    LET_GO(len + self->text.len);
+    bool answer = match(self->text.data, (size_t)self->text.len, data, (size_t)len);
+    TAKE_BACK();
+    return PyBool_FromLong(answer);
+}
+
+/* Refuses a text that is no tag as its class `_tag` does. */
+static PyObject *refuse(const Value *self, PyObject *from) {
+    PyObject *class = PyObject_GetAttrString((PyObject *)self, "_tag");
+    PyObject *made = class ? PyObject_CallFunctionObjArgs(class, from, NULL) : NULL;
+    Py_XDECREF(class);
+    if (made) PyErr_SetString(PyExc_SystemError, "langtag: a tag that is none");
+    Py_XDECREF(made);
+    return NULL;
+}
+
+static PyObject *matches(PyObject *object, PyObject *other, Match *match) {
+    Value *self = (Value *)object;
+    if (lt_lacks(self)) return NULL;
+    if (!PyUnicode_Check(other) && !PyBytes_Check(other)) {
+        Value *tag = lt_as_tag(other, "a range matches a Tag or a text, and not %S");
+        return tag ? matches_text(self, tag->text.data, tag->text.len, match) : NULL;
+    }
+    Text text;
+    if (lt_text(other, &text)) return NULL;
+    bool is_tag = langtag_kind(text.data, (size_t)text.len) != LANGTAG_NONE;
+    PyObject *answer = is_tag ? matches_text(self, text.data, text.len, match) : refuse(self, other);
+    Py_DECREF(text.owner);
+    return answer;
+}
+
+static PyObject *matches_basic(PyObject *self, PyObject *tag) { return matches(self, tag, langtag_matches_basic); }
+static PyObject *matches_extended(PyObject *self, PyObject *tag) { return matches(self, tag, langtag_matches_extended); }
+
+PyMethodDef lt_range_methods[] = {
+    {"__reduce__", lt_reduce, METH_NOARGS, NULL},
+    {"__format__", lt_format, METH_O, NULL},
+    {"matches_basic", matches_basic, METH_O,
+     "matches_basic($self, tag, /)\n--\n\n"
+     "Whether it matches a tag by basic filtering (section 3.3.1): de-DE matches de-DE-1996, and not de-Latn-DE. A text that\n"
+     "is no tag is an InvalidTag."},
+    {"matches_extended", matches_extended, METH_O,
+     "matches_extended($self, tag, /)\n--\n\n"
+     "Whether it matches a tag by extended filtering (section 3.3.2): de-DE matches de-Latn-DE. A text that is no tag is an\n"
+     "InvalidTag."},
+    {NULL, NULL, 0, NULL}};
+
+PyGetSetDef lt_range_members[] = {
+    {"_data", lt_value_data, NULL, NULL, NULL},
+    {"is_basic", is_basic, NULL, "Whether it is a basic range (section 2.1): de-CH, or * alone.", NULL},
+    {NULL, NULL, NULL, NULL, NULL}};

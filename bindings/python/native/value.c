@@ -1,0 +1,186 @@
+/* What Tag and Range have both. */
+#include <stddef.h>
+#include "native.h"
+#include <structmember.h>
+
+static void dealloc(PyObject *self) {
+    Value *it = (Value *)self;
+    PyTypeObject *type = Py_TYPE(self);
+    if (it->weak) PyObject_ClearWeakRefs(self);
+    Py_XDECREF(it->text.owner);
+    ((freefunc)PyType_GetSlot(type, Py_tp_free))(self);
+    Py_DECREF(type);
+}
+
+/* The first type whose tp_dealloc is ours; a Python class has its own. */
+PyTypeObject *lt_base(PyTypeObject *type) {
+    while (type && (PyType_GetFlags(type) & Py_TPFLAGS_HEAPTYPE)) {
+        if ((destructor)PyType_GetSlot(type, Py_tp_dealloc) == dealloc) return type;
+        type = (PyTypeObject *)PyType_GetSlot(type, Py_tp_base);
+    }
+    PyErr_SetString(PyExc_TypeError, "langtag: neither Tag nor Range");
+    return NULL;
+}
+
+PyObject *lt_new(PyTypeObject *type, PyObject *arguments, PyObject *named) {
+    (void)arguments;
+    (void)named;
+    PyTypeObject *base = lt_base(type);
+    Value *self = base ? (Value *)((allocfunc)PyType_GetSlot(type, Py_tp_alloc))(type, 0) : NULL;
+    if (!self) return NULL;
+    self->hash = -1;
+    self->base = base;
+    return (PyObject *)self;
+}
+
+int lt_lacks(Value *self) {
+    if (self->text.owner) return 0;
+    PyErr_SetString(PyExc_AttributeError, "_data");
+    return 1;
+}
+
+Value *lt_as_tag(PyObject *object, const char *message) {
+    PyTypeObject *base = lt_base(Py_TYPE(object));
+    if (!base) PyErr_Clear();
+    if (base && (initproc)PyType_GetSlot(base, Py_tp_init) == lt_tag_init)
+        return lt_lacks((Value *)object) ? NULL : (Value *)object;
+    PyObject *name = lt_type_name(object);
+    if (name) PyErr_Format(PyExc_TypeError, message, name);
+    Py_XDECREF(name);
+    return NULL;
+}
+
+static PyObject *only_argument(PyObject *arguments, PyObject *named) {
+    static char *names[] = {"text", NULL};
+    PyObject *text;
+    if ((!named || PyDict_Size(named) == 0) && PyTuple_Size(arguments) == 1) return PyTuple_GetItem(arguments, 0);
+    return PyArg_ParseTupleAndKeywords(arguments, named, "O", names, &text) ? text : NULL;
+}
+
+static int refuse_change(int is_tag) {
+    PyErr_SetString(PyExc_AttributeError, is_tag ? "a Tag does not change" : "a Range does not change");
+    return -1;
+}
+
+/* Raises the error of the Python class. */
+static int refuse(PyObject *self, PyObject *from) {
+    PyObject *error = PyObject_GetAttrString(self, "_error");
+    PyObject *made = error ? PyObject_CallFunctionObjArgs(error, from, NULL) : NULL;
+    if (made) PyErr_SetObject(error, made);
+    Py_XDECREF(error);
+    Py_XDECREF(made);
+    return -1;
+}
+
+static int copy(Value *self, Value *other) {
+    if (lt_lacks(other)) return -1;
+    Py_INCREF(other->text.owner);
+    self->text = other->text;
+    self->hash = other->hash;
+    self->kind = other->kind;
+    self->parts = other->parts;
+    return 0;
+}
+
+int lt_init(PyObject *object, PyObject *arguments, PyObject *named, int is_tag) {
+    Value *self = (Value *)object;
+    if (self->text.owner) return refuse_change(is_tag);
+    PyObject *from = only_argument(arguments, named);
+    if (!from) return -1;
+    if (PyObject_TypeCheck(from, self->base)) return copy(self, (Value *)from);
+    Text text;
+    if (lt_text(from, &text)) return -1;
+    langtag_parts parts = {{0, 0}, {0, 0}, {0, 0}, {0, 0}, {0, 0}, {0, 0}}; /* not self's, which another thread may know */
+    LET_GO(text.len);
+    uint32_t kind = is_tag ? langtag_parse(text.data, (size_t)text.len, &parts) : langtag_range_kind(text.data, (size_t)text.len);
+    TAKE_BACK();
+    if (!kind || self->text.owner) { /* in the latter case another thread was here meanwhile */
+        Py_DECREF(text.owner);
+        return kind ? refuse_change(is_tag) : refuse(object, from);
+    }
+    self->parts = parts;
+    self->kind = kind;
+    self->text = text;
+    return 0;
+}
+
+static PyObject *str(PyObject *object) {
+    Value *self = (Value *)object;
+    return lt_lacks(self) ? NULL : lt_str(self->text.data, (size_t)self->text.len);
+}
+
+PyObject *lt_value_data(PyObject *object, void *unused) {
+    (void)unused;
+    Value *self = (Value *)object;
+    if (lt_lacks(self)) return NULL;
+    Py_INCREF(self->text.owner);
+    return self->text.owner;
+}
+
+static PyObject *repr(PyObject *self) {
+    PyObject *text = str(self), *name = text ? lt_type_name(self) : NULL, *made = NULL;
+    if (name) made = PyUnicode_FromFormat("%U(%R)", name, text);
+    Py_XDECREF(text);
+    Py_XDECREF(name);
+    return made;
+}
+
+PyObject *lt_format(PyObject *self, PyObject *form) {
+    PyObject *text = str(self), *made = text ? PyObject_Format(text, form) : NULL;
+    Py_XDECREF(text);
+    return made;
+}
+
+PyObject *lt_reduce(PyObject *self, PyObject *unused) {
+    (void)unused;
+    PyObject *text = str(self);
+    return text ? Py_BuildValue("O(N)", (PyObject *)Py_TYPE(self), text) : NULL;
+}
+
+PyObject *lt_changed(const Value *self, void (*change)(char *, size_t)) {
+    PyObject *copied = PyBytes_FromStringAndSize(NULL, self->text.len); /* nobody else has it yet, not even one of one byte */
+    if (!copied) return NULL;
+    char *data = PyBytes_AsString(copied);
+    memcpy(data, self->text.data, (size_t)self->text.len);
+    change(data, (size_t)self->text.len);
+    return copied;
+}
+
+static Py_hash_t hash(PyObject *object) {
+    Value *self = (Value *)object;
+    if (self->hash != -1) return self->hash;
+    PyObject *folded = lt_lacks(self) ? NULL : lt_changed(self, langtag_fold);
+    if (!folded) return -1;
+    self->hash = PyObject_Hash(folded); /* keyed, as all hashes of Python are */
+    Py_DECREF(folded);
+    return self->hash;
+}
+
+static int ordered(int operator, int32_t order) {
+    switch (operator) {
+    case Py_LT: return order < 0;
+    case Py_LE: return order <= 0;
+    case Py_GT: return order > 0;
+    default: return order >= 0;
+    }
+}
+
+static PyObject *compare(PyObject *a, PyObject *b, int operator) {
+    Value *x = (Value *)a, *y = (Value *)b;
+    if (!PyObject_TypeCheck(b, x->base)) {
+        Py_INCREF(Py_NotImplemented);
+        return Py_NotImplemented;
+    }
+    if (lt_lacks(x) || lt_lacks(y)) return NULL;
+    size_t x_len = (size_t)x->text.len, y_len = (size_t)y->text.len;
+    if (operator == Py_EQ || operator == Py_NE)
+        return PyBool_FromLong(langtag_eq(x->text.data, x_len, y->text.data, y_len) == (operator == Py_EQ));
+    return PyBool_FromLong(ordered(operator, langtag_cmp(x->text.data, x_len, y->text.data, y_len)));
+}
+
+static PyMemberDef members[] = { /* read from 3.9 on; in 3.8 the Python class adds __weakref__ */
+    {"__weaklistoffset__", T_PYSSIZET, offsetof(Value, weak), READONLY, NULL}, {NULL, 0, 0, 0, NULL}};
+
+PyType_Slot lt_value_slots[] = {
+    {Py_tp_new, lt_new}, {Py_tp_dealloc, dealloc}, {Py_tp_str, str}, {Py_tp_repr, repr},
+    {Py_tp_hash, hash}, {Py_tp_richcompare, compare}, {Py_tp_members, members}, {0, NULL}};
