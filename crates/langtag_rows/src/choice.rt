@@ -6,8 +6,9 @@ use std::alloc::{AllocError, Global};
 /// The tag that the sender of a header wants.
 pub(crate) fn best(alloc: Global, header: &str, tags: &str) -> Result<String, AllocError> {
     let tags = tags_of(alloc, tags)?;
-    match best_for_header(header.as_bytes(), tags.as_slice()) {
-        Some(index) => String::from_str(alloc, tags[index].as_str()),
+    let chosen = best_for_header(header.as_bytes(), tags.as_slice());
+    match chosen.and_then(|index| tags.get(index)) {
+        Some(tag) => String::from_str(alloc, tag.as_str()),
         None => String::from_str(alloc, "-"),
     }
 }
