@@ -91,7 +91,7 @@ FAULTS = {
         Fault(HPP, "a.weight > b.weight", "a.weight < b.weight"),
         Fault(HPP, "static_cast<std::size_t>(commas), element.start}", "element.start, static_cast<std::size_t>(commas)}"),
         Fault(HPP, "basic.erase(at, 2)", "at += 2"),
-        Fault(HPP, " {part::extensions, extensions},", ""),
+        Fault(HPP, " {part::extensions, extension},", ""),
     ],
     "Rust": [
         rust("invalid_subtag", "offset: self.offset,", "offset: 0,"),

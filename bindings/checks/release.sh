@@ -20,7 +20,8 @@ check "release: two runs give the same bytes, with the archive's sum" releases
 # What the tarball has by its own: the archive as the page names it, and the examples.
 by_itself() {
     away 'tar -xzf ../dist/*-x86_64-elf.tar.gz; cd langtag-verified-*; rm ../parts.*
-        cc examples/negotiate.c examples/accept_language.c -Iinclude lib/liblangtag_verified.a -o negotiate
+        cc examples/negotiate.c -Iinclude lib/liblangtag_verified.a -o negotiate; cc -c examples/accept_language.c -Iinclude
+        c++ -std=c++17 examples/subtitles.cc -Iinclude lib/liblangtag_verified.a -o subtitles
         c++ -std=c++17 examples/parts.cc -Iinclude lib/liblangtag_verified.a -o parts; ./parts zh-Hant-TW >cc
         cc examples/parts.c -Iinclude lib/liblangtag_verified.a -o parts; ./parts zh-Hant-TW | tee c; cmp c cc'
 }
