@@ -1,4 +1,4 @@
-//! Times this library beside oxilangtag on a file of tags, one a line, in one run.
+//! Times this library beside oxilangtag, and beside ICU where `icu.cc` was built, on a file of tags, one a line, in one run.
 //!
 //! `against-oxilangtag FILE` times, and `against-oxilangtag once ENTRY FILE` calls one entry once for each tag, for a
 //! tool that counts instructions.
@@ -75,11 +75,46 @@ fn entry_langtag_canonical(text: &str) -> usize {
     len
 }
 
-const ENTRIES: [(&str, fn(&str) -> usize); 4] = [
+/// The canonical form by the Rust crate, with the parse before it.
+#[no_mangle]
+#[inline(never)]
+fn entry_to_canonical(text: &str) -> usize {
+    let tag = langtag_verified::LangTag::new(text);
+    tag.map_or(0, |tag| black_box(tag.to_canonical()).as_str().len())
+}
+
+/// Whether a tag is its canonical form, with the parse before it.
+#[no_mangle]
+#[inline(never)]
+fn entry_is_canonical(text: &str) -> usize {
+    let tag = langtag_verified::LangTag::new(text);
+    usize::from(tag.is_ok_and(|tag| tag.is_canonical()))
+}
+
+/// The same as `entry_oxilangtag` by ICU's class `Locale`, in C++.
+#[cfg(icu)]
+#[no_mangle]
+#[inline(never)]
+fn entry_icu(text: &str) -> usize {
+    extern "C" {
+        fn parts_by_icu(bytes: *const u8, len: usize) -> usize;
+    }
+    // SAFETY: the pointer and the length are those of a live slice.
+    unsafe { parts_by_icu(text.as_ptr(), text.len()) }
+}
+
+type Entry = (&'static str, fn(&str) -> usize);
+
+/// What is timed. The first one is that to which the others are compared.
+const ENTRIES: &[Entry] = &[
+    ("oxilangtag", entry_oxilangtag),
     ("langtag_parse", entry_langtag_parse),
     ("langtag_verified", entry_langtag_verified),
-    ("oxilangtag", entry_oxilangtag),
+    #[cfg(icu)]
+    ("icu", entry_icu),
     ("langtag_canonical", entry_langtag_canonical),
+    ("to_canonical", entry_to_canonical),
+    ("is_canonical", entry_is_canonical),
 ];
 
 /// Goes once over all tags, and gives the nanoseconds that it took.
@@ -108,7 +143,7 @@ fn time(tags: &[&str]) {
         println!(
             "{name:<18} {:>8.1} ns a tag {:>6.2} of oxilangtag",
             median / tags.len() as f64,
-            median / medians[2]
+            median / medians[0]
         );
     }
 }
