@@ -75,7 +75,7 @@ def picture(times: dict[str, dict[str, str]], note: str) -> str:
 
 def summary(times: dict[str, dict[str, str]]) -> str:
     """The picture in words."""
-    said = (f"{name}: " + ", ".join(f"{PARSERS[parser][0]} ({PARSERS[parser][1]}) {value}" for parser, value in found.items())
+    said = (f"{name}: " + ", ".join(f"{label} ({language}) {found.get(parser)}" for parser, (label, language) in PARSERS.items())
             for name, found in times.items())
     return escape(f"Nanoseconds to parse a tag and read its parts. {'; '.join(said)}")
 

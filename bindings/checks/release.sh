@@ -3,7 +3,8 @@
 if ! has rt && [ -z "${RT_VERSION:-}" ]; then RT_VERSION="not known: there was no rt"; fi
 
 releases() {
-    cp "$root"/LICENSE-* "$work" || return 1
+    mkdir -p "$work/likely" "$work/docs" && cp "$root"/LICENSE-* "$work" || return 1
+    cp "$root/likely/LICENSE-UNICODE" "$work/likely" && cp "$root/docs/BINDINGS.md" "$work/docs" || return 1
     local targets=()
     if [ -n "${aarch64_archive:-}" ]; then targets+=(--target "aarch64-unknown-linux-gnu=$aarch64_archive"); fi
     if [ -n "${wasm_archive:-}" ]; then targets+=(--target "wasm64-unknown-unknown=$wasm_archive"); fi
@@ -16,6 +17,22 @@ proves() {
     (cd "$work/dist" && tar -xzOf $1 --wildcards '*/PROVED.txt') | grep -A1 "^$(sha256sum <"$2" | cut -c1-64)  liblangtag_c.a$" | grep -x "target $3"
 }
 check "release: two runs give the same bytes, with the archive's sum" releases
+
+# Each package has the README of its language, and so has what pip shows of the wheel; its Python is asked.
+readmes() {
+    local pair
+    for pair in c:langtag-verified-*-x86_64-elf.tar.gz rust:langtag-verified-*.crate python:langtag_verified-*.tar.gz \
+        postgresql:langtag-postgresql-*.tar.gz js:langtag-verified-*.tgz; do
+        python3 readmes.py ${pair%%:*} >"$work/readme.md" || return 1
+        (cd "$work/dist" && if ls ${pair#*:}; then tar -xzOf ${pair#*:} --wildcards '*/README.md' | cmp - "$work/readme.md"; fi) || return 1
+    done
+    python3 readmes.py python >"$work/readme.md" && (cd python && python3 -m doctest "$work/readme.md") || return 1
+    for wheel in "$work"/dist/*.whl; do
+        rm -rf "$work/wheel" && python3 -m zipfile -e "$wheel" "$work/wheel" || return 1
+        sed -n '/^# /,$p' "$work"/wheel/*/METADATA | cmp - "$work/readme.md" && grep '^Project-URL: ' "$work"/wheel/*/METADATA || return 1
+    done
+}
+check "release: each package has a README" readmes
 
 # What the tarball has by its own: the archive as the page names it, and the examples.
 by_itself() {
