@@ -70,7 +70,7 @@ static void list(const std::vector<track> &tracks, const langtag::range &wanted)
 /* Sets a part of each track whose tag is this one, in any case. */
 static void set(std::vector<track> &tracks, std::string_view tag, langtag::part part, std::string_view text) {
     for (track &it : tracks)
-        if (it.tag.view() == tag) it.tag = it.tag.with(part, text);
+        if (it.tag == tag) it.tag = it.tag.with(part, text);
 }
 
 static void tidy(std::vector<track> &tracks) {

@@ -337,6 +337,13 @@ public:
     friend bool operator==(const owned_tag &a, const owned_tag &b) noexcept { return a.view() == b.view(); }
     friend bool operator!=(const owned_tag &a, const owned_tag &b) noexcept { return !(a == b); }
     friend bool operator<(const owned_tag &a, const owned_tag &b) noexcept { return a.view() < b.view(); }
+    friend bool operator>(const owned_tag &a, const owned_tag &b) noexcept { return b < a; }
+    friend bool operator<=(const owned_tag &a, const owned_tag &b) noexcept { return !(b < a); }
+    friend bool operator>=(const owned_tag &a, const owned_tag &b) noexcept { return !(a < b); }
+    friend bool operator==(const owned_tag &a, std::string_view b) noexcept { return a.view() == b; }
+    friend bool operator!=(const owned_tag &a, std::string_view b) noexcept { return !(a == b); }
+    friend bool operator==(std::string_view a, const owned_tag &b) noexcept { return b == a; }
+    friend bool operator!=(std::string_view a, const owned_tag &b) noexcept { return !(b == a); }
 
 private:
     owned_tag(std::string text, langtag::kind kind, const langtag_parts &parts) noexcept
