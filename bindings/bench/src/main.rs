@@ -126,25 +126,20 @@ fn pass(entry: fn(&str) -> usize, tags: &[&str]) -> u128 {
     start.elapsed().as_nanos()
 }
 
-/// The median over pieces of the list, over each of which the entries go in turns: a slow moment of the machine meets each of
-/// them, and few pieces.
+/// The least time over the pieces of the list, over each of which the entries go in turns: so a busy machine changes little.
 fn time(tags: &[&str]) {
     const PASSES: usize = 5;
     const PIECE: usize = 1000;
-    let mut times = [const { Vec::new() }; ENTRIES.len()];
+    let mut least = [f64::INFINITY; ENTRIES.len()];
     for piece in (0..PASSES).flat_map(|_| tags.chunks(PIECE)) {
-        for ((_, entry), times) in ENTRIES.iter().zip(&mut times) {
-            times.push(pass(*entry, piece) as f64 / piece.len() as f64);
+        for ((_, entry), least) in ENTRIES.iter().zip(&mut least) {
+            *least = least.min(pass(*entry, piece) as f64 / piece.len() as f64);
         }
     }
-    let medians = times.map(|mut times| {
-        times.sort_unstable_by(f64::total_cmp);
-        times[times.len() / 2]
-    });
-    for ((name, _), median) in ENTRIES.iter().zip(medians) {
+    for ((name, _), least_of_it) in ENTRIES.iter().zip(least) {
         println!(
-            "{name:<18} {median:>8.1} ns a tag {:>6.2} of oxilangtag",
-            median / medians[0]
+            "{name:<18} {least_of_it:>8.1} ns a tag {:>6.2} of oxilangtag",
+            least_of_it / least[0]
         );
     }
 }
