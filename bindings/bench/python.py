@@ -88,7 +88,7 @@ def main() -> int:
     found = timed()
     parse, negotiate = found["babel's parse_locale"], found["babel's negotiate_locale"]
     for name, nanoseconds in found.items():
-        print(f"{name:26} {nanoseconds:12.0f} ns {nanoseconds / parse:8.2f} of parse_locale")
+        print(f"{name:26} {nanoseconds:12.0f} ns" + (f" {nanoseconds / parse:8.2f} of parse_locale" if name in CALLS else ""))
     limits = (
         ("construct, by parse_locale", found["construct"] / parse, 0.45),
         ("a part, in ns", found["a part"], 150.0),
