@@ -11,7 +11,7 @@ check "C: the HTTP example builds" negotiate
 check "the HTTP examples in C and Python answer alike" python3 examples/test_examples.py "$work/built/negotiate"
 
 subtitles() {
-    c++ -std=c++17 -O2 -Wall -Wextra -Wpedantic -Wshadow -Wconversion -Werror -g -fsanitize=address,undefined -I"$work/usr/include" \
+    c++ -std=c++17 -Wall -Wextra -Wpedantic -Wshadow -Wconversion -Werror -g -fsanitize=address,undefined -I"$work/usr/include" \
         examples/subtitles.cc "$work/usr/lib/liblangtag_verified.a" -o "$work/built/subtitles" &&
         python3 examples/test_subtitles.py "$work/built/subtitles"
 }
