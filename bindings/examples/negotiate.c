@@ -19,21 +19,22 @@
 #include <sys/time.h>
 #include <unistd.h>
 
-static const char *const tags[] = {"en", "de", "de-CH", "fr", "zh-Hant"};
+static const char tags[] = "en de de-CH fr zh-Hant";
 static const char *const greetings[] = {"Hello", "Guten Tag", "Gr\u00fcezi", "Bonjour", "\u4f60\u597d"};
-enum { COUNT = sizeof tags / sizeof *tags, DEFAULT = 0, LONGEST = 8 };
+enum { COUNT = sizeof greetings / sizeof *greetings, DEFAULT = 0 };
 
-/* The index of the tag for a header. The library reads the tags as spans of one text. */
-static size_t choose(const char *accept, size_t len) {
-    char text[COUNT * LONGEST];
-    langtag_span spans[COUNT];
+/* Where each tag stands in their text, as the library reads them. */
+static void find_tags(langtag_span *spans) {
     size_t at = 0;
     for (size_t k = 0; k < COUNT; k++) {
-        spans[k] = (langtag_span){at, strlen(tags[k])};
-        memcpy(text + at, tags[k], spans[k].len);
-        at += spans[k].len;
+        spans[k] = (langtag_span){at, strcspn(tags + at, " ")};
+        at += spans[k].len + 1;
     }
-    size_t best = langtag_best_for_header(accept, len, text, at, spans, COUNT);
+}
+
+/* The index of the tag that the reader wants, or else of the default. */
+static size_t choose(const char *accept, size_t len, const langtag_span *spans) {
+    const size_t best = accept ? langtag_best_for_header(accept, len, tags, strlen(tags), spans, COUNT) : COUNT;
     return best < COUNT ? best : DEFAULT;
 }
 
@@ -68,15 +69,18 @@ static void receive(int connection, char *request, size_t room) {
 
 static void answer(int connection) {
     char request[8192], reply[512];
-    size_t len;
+    langtag_span spans[COUNT];
+    size_t len = 0;
     receive(connection, request, sizeof request);
+    find_tags(spans);
     const char *accept = header(request, "Accept-Language", &len);
-    size_t chosen = accept ? choose(accept, len) : DEFAULT;
+    const size_t chosen = choose(accept, len, spans);
     int size = snprintf(reply, sizeof reply,
-                        "HTTP/1.1 200 OK\r\nContent-Type: text/plain; charset=utf-8\r\nContent-Language: %s\r\nVary: "
+                        "HTTP/1.1 200 OK\r\nContent-Type: text/plain; charset=utf-8\r\nContent-Language: %.*s\r\nVary: "
                         "Accept-Language\r\n"
                         "Content-Length: %zu\r\nConnection: close\r\n\r\n%s\n",
-                        tags[chosen], strlen(greetings[chosen]) + 1, greetings[chosen]);
+                        (int)spans[chosen].len, tags + spans[chosen].start, strlen(greetings[chosen]) + 1,
+                        greetings[chosen]);
     if (send(connection, reply, (size_t)size, MSG_NOSIGNAL) != size) perror("send");
 }
 
