@@ -75,12 +75,12 @@ static void answer(int connection) {
     find_tags(spans);
     const char *accept = header(request, "Accept-Language", &len);
     const size_t chosen = choose(accept, len, spans);
-    int size = snprintf(reply, sizeof reply,
-                        "HTTP/1.1 200 OK\r\nContent-Type: text/plain; charset=utf-8\r\nContent-Language: %.*s\r\nVary: "
-                        "Accept-Language\r\n"
-                        "Content-Length: %zu\r\nConnection: close\r\n\r\n%s\n",
-                        (int)spans[chosen].len, tags + spans[chosen].start, strlen(greetings[chosen]) + 1,
-                        greetings[chosen]);
+    int size =
+        snprintf(reply, sizeof reply,
+                 "HTTP/1.1 200 OK\r\nContent-Type: text/plain; charset=utf-8\r\nContent-Language: %.*s\r\nVary: "
+                 "Accept-Language\r\n"
+                 "Content-Length: %zu\r\nConnection: close\r\n\r\n%s\n",
+                 (int)spans[chosen].len, tags + spans[chosen].start, strlen(greetings[chosen]) + 1, greetings[chosen]);
     if (send(connection, reply, (size_t)size, MSG_NOSIGNAL) != size) perror("send");
 }
 
