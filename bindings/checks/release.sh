@@ -79,7 +79,8 @@ crate() {
         cargo add -q --offline --path ../langtag-verified-*/; cargo run -q --offline zh-Hant-TW'
 }
 crate_with_serde() {
-    away 'tar -xzf ../dist/*.crate; cargo new -q --vcs none first; cp parts.rs first/src/main.rs; cd first
+    away 'tar -xzf ../dist/*.crate; cargo new -q --vcs none first; cp parts.rs first/src/main.rs
+        printf "%s\n" "[workspace]" "members = [\"first\", \"langtag-verified-*\", \"langtag-verified-*/serde\"]" "resolver = \"2\"" >Cargo.toml; cd first
         cp -r ../../cargo-of-serde .cargo; export CARGO_TARGET_DIR=$PWD/target CARGO_HOME=$PWD/cargo-home
         for crate in ../langtag-verified-*/ ../langtag-verified-*/serde; do cargo add -q --offline --path $crate; done
         cargo run -q --offline zh-Hant-TW'
@@ -89,7 +90,7 @@ if has cargo; then
 else
     not_run "release: the Rust crate" "there is no cargo"
 fi
-if [ -d "$work/cargo-of-serde" ]; then check "release: the Rust crate with serde" crate_with_serde; fi
+if [ -d "$work/cargo-of-serde" ]; then check "release: the Rust crate with serde, in a workspace" crate_with_serde; fi
 
 # python_package PYTHON FILE..
 python_package() {
