@@ -24,7 +24,7 @@ readmes() {
     for pair in c:langtag-verified-*-x86_64-elf.tar.gz rust:langtag-verified-*.crate python:langtag_verified-*.tar.gz \
         postgresql:langtag-postgresql-*.tar.gz js:langtag-verified-*.tgz; do
         python3 readmes.py ${pair%%:*} >"$work/readme.md" || return 1
-        (cd "$work/dist" && if ls ${pair#*:}; then tar -xzOf ${pair#*:} --wildcards '*/README.md' | cmp - "$work/readme.md"; fi) || return 1
+        (cd "$work/dist" && if ls ${pair#*:}; then tar -xzOf ${pair#*:} --wildcards --no-wildcards-match-slash '*/README.md' | cmp - "$work/readme.md"; fi) || return 1
     done
     python3 readmes.py python >"$work/readme.md" && (cd python && python3 -m doctest "$work/readme.md") || return 1
     for wheel in "$work"/dist/*.whl; do
