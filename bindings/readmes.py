@@ -26,7 +26,7 @@ package, and what proved it."""
 
 def description() -> str:
     """The sentence that all packages have in common, as their manifests say it."""
-    return re.search(r'^description = "(.*)"', (HERE / "python/pyproject.toml").read_text(), re.M)[1]
+    return re.findall(r'^description = "(.*)"', (HERE / "python/pyproject.toml").read_text(), re.M)[0]
 
 
 def sections() -> dict[str, str]:
