@@ -26,7 +26,8 @@ package, and what proved it."""
 
 def description() -> str:
     """The sentence that all packages have in common, as their manifests say it."""
-    return re.findall(r'^description = "(.*)"', (HERE / "python/pyproject.toml").read_text(), re.M)[0]
+    found = re.search(r'^description = "(.*)"', (HERE / "python/pyproject.toml").read_text(), re.M)
+    return found[1] if found else ""
 
 
 def sections() -> dict[str, str]:
