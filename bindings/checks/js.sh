@@ -4,8 +4,11 @@ if [ -z "$wasm_archive" ]; then
     not_run "JavaScript: everything" "there is no archive for WebAssembly: $(tail -1 "$work/log")"
     return 0
 fi
-if ! has wasm-opt || ! has rt; then
-    not_run "JavaScript: everything" "there is no wasm-opt (in Debian: apt-get install binaryen), or no rt, which links the module"
+if ! has wasm-opt; then
+    not_run "JavaScript: everything" "there is no wasm-opt (in Debian: apt-get install binaryen)"
+    return 0
+elif ! has rt && [ -z "${LANGTAG_WASM_MODULE:-}" ]; then
+    not_run "JavaScript: everything" "there is no rt, which links the module, and LANGTAG_WASM_MODULE names none"
     return 0
 fi
 js_built() { js/build "$wasm_archive" && cp js/module.js "$work/module.js" && js/build "$wasm_archive" && cmp js/module.js "$work/module.js"; }
