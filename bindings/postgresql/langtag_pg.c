@@ -462,9 +462,17 @@ Datum pg_langtag_matches_extended(PG_FUNCTION_ARGS) {
     PG_RETURN_BOOL(langtag_matches_extended(BYTES(range), LEN(range), BYTES(tag), LEN(tag)));
 }
 
+/* A bound is made of a range alone. */
+PG_FUNCTION_INFO_V1(pg_langtag_bound_in);
+Datum pg_langtag_bound_in(PG_FUNCTION_ARGS) {
+    ereport(ERROR, (errcode(ERRCODE_FEATURE_NOT_SUPPORTED), errmsg("cannot accept a value of type langtag_bound")));
+    PG_RETURN_NULL();
+}
+
 /* Bounds for what a range matches: the lower one is the least of it, the upper one stands behind all of it. Of de-CH they
  * are de-CH and "de-CH.", as the byte after the hyphen; for extended filtering only the first subtag counts; of * they
- * are the empty text and one that stands behind all letters. The bounds are compared with tags, and need not be any. */
+ * are the empty text and one that stands behind all letters. The bounds are compared with tags, and need not be any: so
+ * they are of a type of their own, else one could be put into a column of tags. */
 static Datum bound(FunctionCallInfo fcinfo, bool extended, bool upper) {
     struct varlena *range = PG_GETARG_VARLENA_PP(0), *answer;
     const char *bytes = BYTES(range);
@@ -490,13 +498,15 @@ BOUND(pg_langtag_basic_upper, false, true)
 BOUND(pg_langtag_extended_lower, true, false)
 BOUND(pg_langtag_extended_upper, true, true)
 
-/* A call of one of the functions above, in the schema where the extension stands. */
-static Node *bound_call(PlannerInfo *root, Oid schema, const char *name, Oid type, Node *range) {
+/* A call of one of the functions above, in the schema where the extension stands, for a comparison with tags. */
+static Expr *bound_call(PlannerInfo *root, Oid schema, const char *name, Oid type, Node *range) {
     Oid range_type = exprType(range);
     List *names = list_make2(makeString(get_namespace_name(schema)), makeString(pstrdup(name)));
     Oid function = LookupFuncName(names, 1, &range_type, false);
-    FuncExpr *call = makeFuncExpr(function, type, list_make1(copyObject(range)), InvalidOid, InvalidOid, COERCE_EXPLICIT_CALL);
-    return eval_const_expressions(root, (Node *)call);
+    FuncExpr *call = makeFuncExpr(function, get_func_rettype(function), list_make1(copyObject(range)), InvalidOid,
+                                  InvalidOid, COERCE_EXPLICIT_CALL);
+    RelabelType *as_tag = makeRelabelType((Expr *)call, type, -1, InvalidOid, COERCE_IMPLICIT_CAST);
+    return (Expr *)eval_const_expressions(root, (Node *)as_tag);
 }
 
 /* Whether a range that is known when the query is planned is bounded; and whether its bounds hold more than it matches. */
@@ -532,9 +542,9 @@ static List *index_condition(SupportRequestIndexCondition *request, bool extende
     request->lossy = lossy;
     return list_make2(
         make_opclause(from, BOOLOID, false, copyObject((Expr *)tag),
-                      (Expr *)bound_call(request->root, schema, lower, type, range), InvalidOid, InvalidOid),
+                      bound_call(request->root, schema, lower, type, range), InvalidOid, InvalidOid),
         make_opclause(below, BOOLOID, false, copyObject((Expr *)tag),
-                      (Expr *)bound_call(request->root, schema, upper, type, range), InvalidOid, InvalidOid));
+                      bound_call(request->root, schema, upper, type, range), InvalidOid, InvalidOid));
 }
 
 static Datum support(FunctionCallInfo fcinfo, bool extended) {

@@ -51,6 +51,7 @@ FAULTS = [
     (SQL, "LANGUAGE internal IMMUTABLE STRICT LEAKPROOF", "LANGUAGE internal IMMUTABLE STRICT"),
     (SQL, "'MODULE_PATHNAME', 'pg_langtag_hash_extended'", "'MODULE_PATHNAME', 'pg_langtag_hash'"),
     (SQL, "RESTRICT = matchingsel", "RESTRICT = eqsel"),
+    (SQL, "langtag_basic_upper(langtag_range) RETURNS langtag_bound", "langtag_basic_upper(langtag_range) RETURNS langtag"),
 ]
 
 
