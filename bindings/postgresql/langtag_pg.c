@@ -604,26 +604,45 @@ Datum pg_langtag_tag_for_header(PG_FUNCTION_ARGS) {
     PG_RETURN_POINTER(tags[best]);
 }
 
-/* How long a header may be of which one call of the library, that nothing interrupts, compares each range with each tag. */
+/* One call of the library, which nothing interrupts, compares each range of a header with each of some tags: so long may the
+ * header be, and so many are the tags. */
 #define LONGEST_HEADER 8192
+#define TAGS_AT_ONCE 64
 
-PG_FUNCTION_INFO_V1(pg_langtag_best_for_header);
-Datum pg_langtag_best_for_header(PG_FUNCTION_ARGS) {
-    int count;
-    struct varlena **tags = tags_of(PG_GETARG_ARRAYTYPE_P(0), &count);
-    text *header = PG_GETARG_TEXT_PP(1);
-    langtag_span *spans = palloc(count * sizeof *spans);
+/* The place of the best of some tags, or `count`. */
+static int best_of(text *header, struct varlena **tags, int count) {
+    langtag_span spans[TAGS_AT_ONCE];
     StringInfoData all;
     size_t best;
-    if (LEN(header) > LONGEST_HEADER)
-        ereport(ERROR, (errcode(ERRCODE_PROGRAM_LIMIT_EXCEEDED),
-                        errmsg("the header has %zu bytes, and may have %d", LEN(header), LONGEST_HEADER)));
     initStringInfo(&all);
     for (int k = 0; k < count; k++) {
         spans[k] = (langtag_span){.start = (size_t)all.len, .len = LEN(tags[k])};
         appendBinaryStringInfo(&all, BYTES(tags[k]), (int)LEN(tags[k]));
     }
     best = langtag_best_for_header(BYTES(header), LEN(header), all.data, (size_t)all.len, spans, (size_t)count);
-    if (best >= (size_t)count) PG_RETURN_NULL();
-    PG_RETURN_POINTER(tags[best]);
+    pfree(all.data);
+    return (int)Min(best, (size_t)count);
+}
+
+/* The best so far stands before the next tags: which of two tags goes before the other rests on no third one, and of two
+ * that are alike the first one stays. */
+PG_FUNCTION_INFO_V1(pg_langtag_best_for_header);
+Datum pg_langtag_best_for_header(PG_FUNCTION_ARGS) {
+    int count;
+    struct varlena **tags = tags_of(PG_GETARG_ARRAYTYPE_P(0), &count), *best = NULL;
+    text *header = PG_GETARG_TEXT_PP(1);
+    if (LEN(header) > LONGEST_HEADER)
+        ereport(ERROR, (errcode(ERRCODE_PROGRAM_LIMIT_EXCEEDED),
+                        errmsg("the header has %zu bytes, and may have %d", LEN(header), LONGEST_HEADER)));
+    for (int next = 0; next < count;) {
+        struct varlena *some[TAGS_AT_ONCE];
+        int taken = 0, found;
+        CHECK_FOR_INTERRUPTS();
+        if (best != NULL) some[taken++] = best;
+        while (taken < TAGS_AT_ONCE && next < count) some[taken++] = tags[next++];
+        found = best_of(header, some, taken);
+        if (found < taken) best = some[found];
+    }
+    if (best == NULL) PG_RETURN_NULL();
+    PG_RETURN_POINTER(best);
 }

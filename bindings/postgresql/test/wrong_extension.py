@@ -19,6 +19,7 @@ FAULTS = [
     (C, "return BYTES(value)[0] != '*';", "return true;"),
     (C, "weight <= best_weight", "weight < best_weight"),
     (C, "if (!nulls[k]) tags", "tags"),
+    (C, "        if (best != NULL) some[taken++] = best;\n", ""),
     (C, "if (len > room) {", "if (false) {"),
     (C, "    if (len > sizeof room) folded = palloc(len);\n", ""),
     (C, "(int)len, (uint64)PG_GETARG_INT64(1))", "(int)len, 0)"),
