@@ -81,6 +81,6 @@ elif [ -d "$(rustc --print sysroot)/lib/rustlib/aarch64-unknown-linux-gnu" ]; th
     check "aarch64: a program of the Rust crate, under qemu" aarch64_program
 else
     check "aarch64: the Rust crate takes this archive" aarch64_script
-    not_run "aarch64: a program of the Rust crate" "there is no standard library of Rust for it (rustup target add aarch64-unknown-linux-gnu)"
+    not_run "aarch64: a program of the Rust crate" "there is no standard library of Rust for it (rustup target add aarch64-unknown-linux-gnu; in Debian 12 rustc-web, libstd-rust-web-dev:arm64)"
 fi
 rm -rf rust/lib
