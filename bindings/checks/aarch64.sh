@@ -1,6 +1,8 @@
 # The library for aarch64, by Debian's cross compiler, and under qemu: nothing here ran on such a processor.
 cross=aarch64-linux-gnu
 qemu_root=/usr/$cross
+# Loader and C library are both the cross compiler's: this machine may have others for this processor, of another version.
+under_qemu="qemu-aarch64 -L $qemu_root -E LD_LIBRARY_PATH=$qemu_root/lib"
 
 aarch64_missing() {
     has $cross-gcc || echo "there is no $cross-gcc (in Debian: apt-get install gcc-aarch64-linux-gnu libc6-dev-arm64-cross)"
@@ -25,7 +27,7 @@ if [ -n "$missing" ]; then
     not_run "aarch64: the tests under qemu" "$missing"
     return 0
 fi
-on_aarch64() { qemu-aarch64 -L "$qemu_root" "$@"; }
+on_aarch64() { $under_qemu "$@"; }
 aarch64_compile() { $cross-gcc -std=c99 -O2 -Wall -Wextra -Wpedantic -Werror -Iinclude "$@" "$aarch64_archive"; }
 
 aarch64_example() {
@@ -72,7 +74,7 @@ aarch64_script() {
 }
 aarch64_program() {
     aarch64_packed && cd rust && CARGO_TARGET_AARCH64_UNKNOWN_LINUX_GNU_LINKER=$cross-gcc \
-        CARGO_TARGET_AARCH64_UNKNOWN_LINUX_GNU_RUNNER="qemu-aarch64 -L $qemu_root" \
+        CARGO_TARGET_AARCH64_UNKNOWN_LINUX_GNU_RUNNER=$under_qemu \
         cargo run -q --target aarch64-unknown-linux-gnu --example parts zh-Hant-TW | diff - <(wanted)
 }
 if ! has cargo; then
