@@ -72,17 +72,19 @@ aarch64_script() {
     (rust build -q --target aarch64-unknown-linux-gnu || true)
     find "$CARGO_TARGET_DIR" -path '*/build/langtag-verified-*/output' -exec grep -hx 'cargo:rustc-link-search=native=.*/lib/aarch64' {} +
 }
-aarch64_program() {
+rust_on_aarch64() {
     aarch64_packed && cd rust && CARGO_TARGET_AARCH64_UNKNOWN_LINUX_GNU_LINKER=$cross-gcc \
-        CARGO_TARGET_AARCH64_UNKNOWN_LINUX_GNU_RUNNER=$under_qemu \
-        cargo run -q --target aarch64-unknown-linux-gnu --example parts zh-Hant-TW | diff - <(wanted)
+        CARGO_TARGET_AARCH64_UNKNOWN_LINUX_GNU_RUNNER=$under_qemu cargo "$1" -q --target aarch64-unknown-linux-gnu "${@:2}"
 }
+aarch64_program() { rust_on_aarch64 run --example parts zh-Hant-TW | diff - <(wanted); }
+aarch64_rust_tests() { rust_on_aarch64 test --release --tests -- --skip long_headers; }
 if ! has cargo; then
     not_run "aarch64: the Rust crate" "there is no cargo"
 elif [ -d "$(rustc --print sysroot)/lib/rustlib/aarch64-unknown-linux-gnu" ]; then
     check "aarch64: a program of the Rust crate, under qemu" aarch64_program
+    check "aarch64: the tests of the Rust crate, under qemu" aarch64_rust_tests
 else
     check "aarch64: the Rust crate takes this archive" aarch64_script
-    not_run "aarch64: a program of the Rust crate" "there is no standard library of Rust for it (rustup target add aarch64-unknown-linux-gnu; in Debian 12 rustc-web, libstd-rust-web-dev:arm64)"
+    not_run "aarch64: a program and the tests of the Rust crate" "there is no standard library of Rust for it (rustup target add aarch64-unknown-linux-gnu; in Debian 12 rustc-web, libstd-rust-web-dev:arm64)"
 fi
 rm -rf rust/lib
