@@ -138,7 +138,7 @@ npm_bundled() {
         esbuild first.mjs --bundle --format=esm --outfile=esm.mjs --log-level=error; esbuild first.mjs --bundle --outfile=iife.cjs --log-level=error
         node esm.mjs >esm; node iife.cjs | tee iife; cmp esm iife'
 }
-npm_in_page() { cd js && PACKAGE=$work/npm PAGE=$(echo "$work"/dist/langtag-*.html) node --test test/browser.test.js test/page.test.js; }
+npm_in_page() { cd js && PACKAGE=$work/npm PAGE=$(echo "$work"/dist/langtag-*.html) node --test --test-reporter=spec test/browser.test.js test/page.test.js; }
 if ! ls "$work"/dist/*.tgz >/dev/null 2>&1; then
     not_run "release: the package for npm" "it was not made"
 elif ! has npm; then
