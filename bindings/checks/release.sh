@@ -123,9 +123,9 @@ done
 # For aarch64: the tarball, the wheel as pip unpacks it for that platform, and the crate's archive.
 released_aarch64() {
     away 'tar -xzf ../dist/*-aarch64-elf.tar.gz; lib=$(echo $PWD/langtag-verified-*/lib)
-        aarch64-linux-gnu-gcc parts.c -I$lib/../include $lib/liblangtag_verified.a -o parts; on="qemu-aarch64 -L /usr/aarch64-linux-gnu"
-        $on parts zh-Hant-TW >static; aarch64-linux-gnu-gcc parts.c -I$lib/../include -L$lib -llangtag_verified -o parts
-        $on -E LD_LIBRARY_PATH=$lib parts zh-Hant-TW | tee shared; cmp static shared'
+        aarch64-linux-gnu-gcc parts.c -I$lib/../include $lib/liblangtag_verified.a -o parts
+        $under_qemu parts zh-Hant-TW >static; aarch64-linux-gnu-gcc parts.c -I$lib/../include -L$lib -llangtag_verified -o parts
+        $under_qemu -E LD_LIBRARY_PATH=$lib:$qemu_root/lib parts zh-Hant-TW | tee shared; cmp static shared'
 }
 wheel_of_aarch64() {
     python3 -m pip install -q --no-index --no-deps --target "$work/foreign" --platform manylinux_2_17_aarch64 --only-binary=:all: "$work"/dist/*_aarch64.whl &&
@@ -157,7 +157,7 @@ npm_bundled() {
         esbuild first.mjs --bundle --format=esm --outfile=esm.mjs --log-level=error; esbuild first.mjs --bundle --outfile=iife.cjs --log-level=error
         node esm.mjs >esm; node iife.cjs | tee iife; cmp esm iife'
 }
-npm_in_page() { cd js && PACKAGE=$work/npm PAGE=$(echo "$work"/dist/langtag-*.html) node --test test/browser.test.js test/page.test.js; }
+npm_in_page() { cd js && PACKAGE=$work/npm PAGE=$(echo "$work"/dist/langtag-*.html) node --test --test-reporter=spec test/browser.test.js test/page.test.js; }
 if ! ls "$work"/dist/*.tgz >/dev/null 2>&1; then
     not_run "release: the package for npm" "it was not made"
 elif ! has npm; then
