@@ -34,8 +34,6 @@ static const struct {
     {"elements", "de", " ;q=0.1\t, aa-bb", 0},
     {"spaces", "de", " ", 0},
     {"tags", "de", ",x-######", 0},
-    {"german", "de-AT", ",de-CH-a######", 0},
-    {"zeros", "de-AT", ",a-######;q=0", 0},
     {"refused", "de-DE;q=0", ",de;q=0.5", 4000},
     {"prefixed", "sl-rozaj", "-biske", 4000},
     {"many_variants", "de", "-a######", 100000},
