@@ -50,10 +50,10 @@ as_the_oracle() {
 check "C: validity and canonical form of 50,000 tags, by a plain reading of the registry" as_the_oracle
 
 # What it answers about likely subtags, distances, directions, choices and names, beside a plain reading of CLDR's data.
-likely_oracle() { python3 "$root/likely/oracle.py" "$@"; }
 as_the_likely_oracle() {
-    { likely_oracle --each && likely_oracle --make rows 30000 "$FUZZ_SEED"; } >"$work/asked" || return 1
+    local likely=$root/likely
+    { "$likely/questions.py" each && "$likely/questions.py" rows 30000 "$FUZZ_SEED"; } >"$work/asked" || return 1
     "$work/c/test" --answer <"$work/asked" >"$work/told" || return 1
-    likely_oracle rows --compare "$work/told" <"$work/asked"
+    "$likely/oracle.py" rows --compare "$work/told" <"$work/asked"
 }
 check "C: 60,000 rows of likely subtags and choices, by a plain reading of the data" as_the_likely_oracle
