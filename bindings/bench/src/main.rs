@@ -14,6 +14,14 @@ extern "C" {
     fn langtag_parse(bytes: *const u8, len: usize, parts: *mut Parts) -> u32;
     fn langtag_canonical(bytes: *const u8, len: usize, buffer: *mut u8, buffer_len: usize)
         -> usize;
+    fn langtag_maximize(bytes: *const u8, len: usize, buffer: *mut u8, buffer_len: usize) -> usize;
+    fn langtag_minimize(bytes: *const u8, len: usize, buffer: *mut u8, buffer_len: usize) -> usize;
+    fn langtag_distance(
+        desired: *const u8,
+        desired_len: usize,
+        supported: *const u8,
+        supported_len: usize,
+    ) -> u32;
 }
 
 /// The C function alone.
@@ -63,16 +71,43 @@ fn entry_oxilangtag(text: &str) -> usize {
     1
 }
 
-/// The C function that writes a canonical form.
+type Write = unsafe extern "C" fn(*const u8, usize, *mut u8, usize) -> usize;
+
+/// Has a C function write a form of a tag.
+fn written(write: Write, text: &str) -> usize {
+    let mut buffer = MaybeUninit::<[u8; 64]>::uninit();
+    // SAFETY: the pointer and the length are those of a live slice, and 64 bytes can be written at `buffer`.
+    let len = unsafe { write(text.as_ptr(), text.len(), buffer.as_mut_ptr().cast(), 64) };
+    black_box(&buffer);
+    len
+}
+
+/// The C functions that write a form.
 #[no_mangle]
 #[inline(never)]
 fn entry_langtag_canonical(text: &str) -> usize {
-    let mut buffer = MaybeUninit::<[u8; 64]>::uninit();
-    // SAFETY: the pointer and the length are those of a live slice, and 64 bytes can be written at `buffer`.
-    let len =
-        unsafe { langtag_canonical(text.as_ptr(), text.len(), buffer.as_mut_ptr().cast(), 64) };
-    black_box(&buffer);
-    len
+    written(langtag_canonical, text)
+}
+
+#[no_mangle]
+#[inline(never)]
+fn entry_langtag_maximize(text: &str) -> usize {
+    written(langtag_maximize, text)
+}
+
+#[no_mangle]
+#[inline(never)]
+fn entry_langtag_minimize(text: &str) -> usize {
+    written(langtag_minimize, text)
+}
+
+/// The C function that says how far a supported tag is, `en-GB`.
+#[no_mangle]
+#[inline(never)]
+fn entry_langtag_distance(text: &str) -> usize {
+    // SAFETY: the pointers and the lengths are those of live slices.
+    let distance = unsafe { langtag_distance(text.as_ptr(), text.len(), "en-GB".as_ptr(), 5) };
+    distance as usize
 }
 
 /// The canonical form by the Rust crate, with the parse before it.
@@ -115,6 +150,9 @@ const ENTRIES: &[Entry] = &[
     ("langtag_canonical", entry_langtag_canonical),
     ("to_canonical", entry_to_canonical),
     ("is_canonical", entry_is_canonical),
+    ("langtag_maximize", entry_langtag_maximize),
+    ("langtag_minimize", entry_langtag_minimize),
+    ("langtag_distance", entry_langtag_distance),
 ];
 
 /// Goes once over all tags, and gives the nanoseconds that it took.
