@@ -38,6 +38,7 @@ def main(seed):
         beside = one[: numbers.randrange(len(one))] if numbers.random() < 0.4 and "\\" not in one else text(numbers)
         print(f"tag {one}\nviable {one}\ngrandfathered {one}\nvalidity {one}\ncanonical {one}\nrange {other}")
         print(f"order {one} {other}\nmatch {beside or '*'} {one}")
+        print(f"refused {one}\nmaximized {one}\nminimized {one}\nright-to-left {one}\nposix {one}\ndistance {one} {other}")
 
 
 if __name__ == "__main__":

@@ -4,14 +4,16 @@ matching are in data/.
 
 usage: generate.py [--check]
 
-With --check nothing is written: each file that differs from what the data give is named, and the status is then 1. Either
-way each premise on which a proof rests is tested first, and a row that breaks one is named. The data of another version
-have another checksum, which is to be put in here with its version.
+With --check nothing is written: each file that differs from what the data give is named, and each list of specs/ that a second
+reading of the data has otherwise (lists.py), and the status is then 1. Either way each premise on which a proof rests is tested
+first, and a row that breaks one is named. The data of another version have another checksum, which is to be put in here with its
+version.
 """
 import hashlib
 import pathlib
 import sys
 
+import lists as second_reading
 from matching import Matching, folded_number, letter_number
 
 HERE = pathlib.Path(__file__).resolve().parent
@@ -19,7 +21,7 @@ DATA = HERE / "data"
 CRATE = HERE.parent / "crates" / "langtag_likely"
 
 CLDR_VERSION = "41"
-CHECKSUM = "7d5ced39d0fd9d302fe881f13338bc66d18c912dd3f89b4ea65c8d82a330e502"
+CHECKSUM = "c42a653b54ded36f191e59849ad29c0ca643cbb8a77b09f80b3d1c4b134060c0"
 
 EMPTY = "-"
 
@@ -197,7 +199,7 @@ def likely_list(name, doc, reader, rows):
     return f"-- {doc}\nunfoldable pub {name} : List Likely\n{name} =\n    flat_map (λ text. {reader} (words text))\n    ({texts}\n    ∷ [])\n"
 
 
-def lists(likely):
+def likely_lists(likely):
     return "\n".join([
         f"-- The likely subtags of Unicode's CLDR {CLDR_VERSION} (the notice: likely/LICENSE-UNICODE). Written by likely/generate.py. Do not edit.\n"
         "use Rattle.std.specs.Prelude.{[], ◌∷◌, ◌++◌, List, codes}\nuse Rattle.std.specs.List.{flat_map}\n"
@@ -210,8 +212,7 @@ def lists(likely):
     ])
 
 
-def main():
-    words = sys.argv[1:]
+def main(words, crate):
     check = "--check" in words
     if [word for word in words if word != "--check"]:
         sys.exit(__doc__)
@@ -219,17 +220,21 @@ def main():
         sys.exit(f"the data are not those of CLDR {CLDR_VERSION}: {checksum()}")
     likely = Likely(read("likely.txt"), {row[i] for row in read("script-distance.txt") for i in (1, 3)})
     matching = Matching(read, likely)
-    differs = False
-    written = {"src/tables.rt": tables(likely), "specs/LikelySubtags.antt": lists(likely),
+    told = []
+    written = {"src/tables.rt": tables(likely), "specs/LikelySubtags.antt": likely_lists(likely),
                "src/matching_tables.rt": matching_tables(matching), "specs/MatchingData.antt": matching_lists(matching)}
     for name, text in written.items():
-        path = CRATE / name
+        path = crate / name
         if not check:
             path.write_text(text, encoding="utf-8")
         elif not path.is_file() or path.read_text(encoding="utf-8") != text:
-            print("differs:", path.relative_to(HERE.parent))
-            differs = True
-    sys.exit(differs)
+            told.append(f"differs: crates/{crate.name}/{name}")
+    if check:
+        told += second_reading.differences(crate / "specs")
+    for line in told:
+        print(line)
+    return len(told) > 0
 
 
-main()
+if __name__ == "__main__":
+    sys.exit(main(sys.argv[1:], CRATE))

@@ -1,26 +1,38 @@
 #!/usr/bin/env python3
-"""A plain reading of UTS #35 part 1, sections 'Likely Subtags' and 'Language Matching', over data/*.txt.
+"""A plain reading of UTS #35 part 1, sections 'Likely Subtags' and 'Language Matching', over data/*.txt, and of the choice for a
+request and the names of POSIX locales.
 
 usage: oracle.py forms < TAGS                          prints for each tag its maximal and its minimal form, tab separated
        oracle.py distance < PAIRS                      prints for each desired and supported tag, space separated, their distance
-       oracle.py forms|distance --compare ANSWERS < LINES   counts the lines whose answer differs from that of a program
-       oracle.py --make tags|pairs COUNT SEED          prints that many lines to ask
+       oracle.py rows < ROWS                           prints each row with its answer, in the form of crates/langtag_rows/data: of
+                                                       maximized, minimized, right-to-left, distance, best, posix
+       oracle.py COLUMN --compare ANSWERS < LINES      counts the lines whose answer differs from that of a program
+
+questions.py has lines to ask.
 """
+import decimal
 import functools
 import itertools
 import pathlib
-import random
 import re
 import sys
 
 DATA = pathlib.Path(__file__).resolve().parent / "data"
 TAG = re.compile(r"(?P<language>[a-z]{2,3})(?P<extended>(-[a-z]{3}){0,3})(?=-|$)(-(?P<script>[a-z]{4})(?=-|$))?(-(?P<region>[a-z]{2}|[0-9]{3})(?=-|$))?"
-                 r"(?P<rest>(-([a-z0-9]{5,8}|[0-9][a-z0-9]{3}))*(-[a-wyz0-9](-[a-z0-9]{2,8})+)*(-x(-[a-z0-9]{1,8})+)?)", re.I | re.A)
+                 r"(?P<variants>(-([a-z0-9]{5,8}|[0-9][a-z0-9]{3}))*)(?P<rest>(-[a-wyz0-9](-[a-z0-9]{2,8})+)*(-x(-[a-z0-9]{1,8})+)?)", re.I | re.A)
 LONG = re.compile(TAG.pattern.replace("[a-z]{2,3})", "[a-z]{4,8})", 1).replace("{0,3})(?=", "{0})(?=", 1), re.I | re.A)
+PRIVATE = re.compile(r"x(-[a-z0-9]{1,8})+", re.I | re.A)
+IRREGULAR = set("""en-gb-oed i-ami i-bnn i-default i-enochian i-hak i-klingon i-lux i-mingo i-navajo i-pwn i-tao i-tay i-tsu sgn-be-fr
+    sgn-be-nl sgn-ch-de""".split())
+# a range of a header need not be a tag: as far as it begins like one
+RANGE = re.compile(r"\*|[a-z]{1,8}(-[a-z0-9]{1,8})*", re.I | re.A)
+FRONT = re.compile(r"(?P<language>[a-z]{2,8})(?P<extended>(-[a-z]{3})*)(?=-|$)(-(?P<script>[a-z]{4})(?=-|$))?(-(?P<region>[a-z]{2}|[0-9]{3})(?=-|$))?(-.*)?",
+                   re.I | re.A)
+NUMBER = re.compile(r"[0-9]+(\.[0-9]*)?|\.[0-9]+", re.A)
 
 
 def rows(name):
-    for line in open(DATA / name, encoding="utf-8"):
+    for line in (DATA / name).read_text(encoding="utf-8").splitlines():
         if not line.startswith("#"):
             yield ["" if word == "-" else word for word in line.split()]
 
@@ -38,6 +50,8 @@ SETS = {row[0]: set(row[1:]) for row in rows("region-sets.txt")}
 LANGUAGE_RULES = [((d, s), int(far), one_way == "1") for d, s, far, one_way in rows("language-distance.txt")]
 SCRIPT_RULES = [((d + "-" + a, s + "-" + b), int(far), one_way == "1") for d, a, s, b, far, one_way in rows("script-distance.txt")]
 REGION_RULES = list(rows("region-distance.txt"))
+# and the variants of two of them that have codes of their own (ISO 15924)
+RIGHT_TO_LEFT = {row[0] for row in rows("right-to-left.txt")} | {"Aran", "Syre", "Syrj", "Syrn"}
 
 
 class Tag:
@@ -49,14 +63,23 @@ class Tag:
     def __init__(self, text):
         found = TAG.fullmatch(text) or LONG.fullmatch(text)
         self.language = found["language"] + found["extended"]
-        self.rest = found["rest"]
-        key = self.language.split("-")[-1]
-        empty = lambda text, unknown: "" if text is None or text.lower() == unknown else text
-        self.fields = ("" if self.language.lower() == "und" else key, empty(found["script"], "zzzz"), empty(found["region"], "zz"))
+        self.script, self.region, self.variants, self.rest = found["script"], found["region"], found["variants"], found["rest"]
+        self.fields = fields_of(found)
 
     def with_fields(self, fields):
         language = (fields[0] or self.language) if self.language.lower() == "und" else self.language
-        return "-".join(filter(None, (language, fields[1], fields[2]))) + self.rest
+        return "-".join(filter(None, (language, fields[1], fields[2]))) + self.variants + self.rest
+
+
+def fields_of(found):
+    """Language, script and region: the last extended language counts, and what says nothing is empty."""
+    empty = lambda text, unknown: "" if text is None or text.lower() == unknown else text
+    language = found["language"] + found["extended"]
+    return empty(language, "und").split("-")[-1], empty(found["script"], "zzzz"), empty(found["region"], "zz")
+
+
+def is_tag(text):
+    return bool(Tag(text) or PRIVATE.fullmatch(text) or text.lower() in IRREGULAR)
 
 
 def add_likely(fields):
@@ -94,9 +117,17 @@ def forms(text):
 @functools.lru_cache(None)
 def matching_form(text):
     tag = Tag(text)
-    if tag is None or text.lower() == "und":
-        return None
-    language, script, region = tag.fields
+    return form_of(tag.fields) if tag and text.lower() != "und" else None
+
+
+@functools.lru_cache(None)
+def range_form(text):
+    front = FRONT.fullmatch(text)
+    return form_of(fields_of(front)) if front and text.lower() != "und" else None
+
+
+def form_of(fields):
+    language, script, region = fields
     language = language.lower()
     if language in ALIASES:
         language, more_script, more_region = ALIASES[language]
@@ -133,9 +164,16 @@ def region_distance(desired, supported):
 
 def distance(line):
     desired, supported = line.split()
-    d, s = matching_form(desired), matching_form(supported)
+    if not (is_tag(desired) and is_tag(supported)):
+        return "-"
+    return str(between(desired, supported, matching_form))
+
+
+@functools.lru_cache(None)
+def between(desired, supported, find):
+    d, s = find(desired), find(supported)
     if d is None or s is None:
-        return "0" if desired.lower() == supported.lower() else "255"
+        return 0 if desired.lower() == supported.lower() else 255
     total = 0
     if d[0] != s[0]:
         total += by_rule(LANGUAGE_RULES, d[0], s[0], 80)
@@ -143,51 +181,133 @@ def distance(line):
         total += by_rule(SCRIPT_RULES, d[0] + "-" + d[1], s[0] + "-" + s[1], 50)
     if d[2] != s[2]:
         total += region_distance(d, s)
-    return str(total)
+    return total
 
 
-def random_pair(rng):
-    """Two tags, often of languages, scripts and regions that rules name."""
-    languages = [language for pair, _, _ in LANGUAGE_RULES for language in pair] + ["ar", "en", "es", "pt", "zh", "ja", "sr", "ko"] * 40 + list(ALIASES) * 4
-    def near():
-        if rng.random() < 0.3:
-            return random_tag(rng)
-        text = rng.choice(languages)
-        if rng.random() < 0.3:
-            text += "-" + rng.choice(["Latn", "Cyrl", "Arab", "Hant", "Hans", "Hani", "Kana", "Jpan", "Deva", "zzzz", "Qaaa"])
-        if rng.random() < 0.7:
-            text += "-" + rng.choice(sorted(GROUPS) + sorted(REGION_ALIASES) + ["GB", "US", "HK", "MO", "TW", "MA", "BR", "PT", "MX", "ES", "419", "ZZ", "qq"] * 6 + sorted(GROUPS["001"]))
-        return text
-    which = rng.random()
-    if which < 0.2:
-        pair = rng.choice(rng.choice((LANGUAGE_RULES, SCRIPT_RULES)))[0]
-        return " ".join(pair if rng.random() < 0.6 else pair[::-1])
-    first = near()
-    if which < 0.6:
-        language = first.split("-")[0]
-        second = "-".join([language] + near().split("-")[1:])
-        return first + " " + (second if Tag(second) else near())
-    return first + " " + near()
+def is_right_to_left(text):
+    form = matching_form(text)
+    return "-" if not is_tag(text) else "yes" if form and form[1] in RIGHT_TO_LEFT else "no"
 
 
-def random_tag(rng):
-    languages = sorted({row[0] or "und" for row in LIKELY} | {"iw", "sh", "qqq", "qaaaa", "x-a", "zh-yue", "zh-min-nan", "sgn-ase"})
-    scripts = sorted({row[1] for row in LIKELY} | {row[1] for row in LIKELY.values()} | {"Zzzz", "Qaaa"})
-    regions = sorted({row[2] for row in LIKELY} | {row[2] for row in LIKELY.values()} | {"ZZ", "QQ", "999"})
-    text = rng.choice(languages)
-    if rng.random() < 0.5 and rng.choice(scripts):
-        text += "-" + (rng.choice(scripts) or "Latn")
-    if rng.random() < 0.6:
-        text += "-" + (rng.choice(regions) or "US")
-    if rng.random() < 0.2:
-        text += rng.choice(["-1996", "-x-a", "-u-co-phonebk", "-valencia-x-y", "-a-bb"])
-    if rng.random() < 0.2:
-        text = "".join(rng.choice((letter.upper(), letter.lower())) for letter in text)
-    return text
+# ---- the choice for a request
 
 
-COLUMNS = {"forms": forms, "distance": distance}
-MAKERS = {"tags": random_tag, "pairs": random_pair}
+def element(text):
+    """The range of an element of a header and its weight in thousandths, of which a person would make something; None of another."""
+    name, *parameters = text.split(";")
+    wish = re.split("[.@]", name.strip(" \t"))[0].replace("_", "-")
+    pairs = [parameter.partition("=") for parameter in parameters]
+    values = [value.strip(" \t") for name, equals, value in pairs if equals and name.strip(" \t") in ("q", "Q")]
+    weight = decimal.Decimal(values[0]) if values and NUMBER.fullmatch(values[0]) else 1
+    return (wish, int(min(weight, 1) * 1000)) if RANGE.fullmatch(wish) else None
+
+
+def begins(wish, tag):
+    """Basic filtering, of a range other than "*"."""
+    return wish != "*" and (tag.lower() + "-").startswith(wish.lower() + "-")
+
+
+def is_refused(tag, elements):
+    longest = lambda weights: max((len(wish) for wish, weight in elements if weight in weights and begins(wish, tag)), default=0)
+    return longest(range(1, 1001)) < longest([0])
+
+
+def look_up(wish, tags):
+    """The place of the tag that RFC 4647's look-up finds (section 3.4), the first of equal ones."""
+    rest = wish.lower().split("-")
+    while rest:
+        for place, tag in enumerate(tags):
+            if tag.lower() == "-".join(rest):
+                return place
+        rest.pop()
+        while rest and len(rest[-1]) == 1:
+            rest.pop()
+    return None
+
+
+def unlikely(tag):
+    """Of tags that are as near: the likely region of its language and script, then one of the paradigms, then any other."""
+    form = range_form(tag)
+    if form is None:
+        return 2
+    most = add_likely((form[0], form[1], ""))
+    return 0 if most and lower(most) == lower(form) else 1 if form in PARADIGMS else 2
+
+
+def nearest(wish, near, tags):
+    """Of the indices of tags that are as near: what look-up finds among them, or else the likeliest."""
+    found = look_up(wish, [tags[index] for index in near])
+    return min(near, key=lambda index: unlikely(tags[index])) if found is None else near[found]
+
+
+def best(header, tags):
+    """The index of the tag that the reader wants, or None."""
+    elements = [found for found in map(element, header.split(",")) if found]
+    wishes = [wish for wish, weight in sorted(elements, key=lambda found: -found[1]) if weight > 0 and wish != "*"]
+    have = [index for index, tag in enumerate(tags) if is_tag(tag) and not is_refused(tag, elements)]
+    for limit in (16, 50):
+        for wish in wishes:
+            far = [between(wish, tags[index], range_form) for index in have]
+            if min(far, default=limit) < limit:
+                return nearest(wish, [index for index, distance in zip(have, far) if distance == min(far)], tags)
+    found = (look_up(wish, [tags[index] for index in have]) for wish in wishes)
+    return next((have[place] for place in found if place is not None), None)
+
+
+PARADIGMS = {tuple(most) for row in rows("paradigms.txt") for most in [add_likely(Tag(row[0]).fields)]}
+
+
+# ---- the names of POSIX locales
+
+
+def posix(name):
+    place, _, modifier = name.partition("@")
+    place = place.partition(".")[0].replace("_", "-")
+    if not is_tag(place) or place.lower() == "posix" or len(place) > 255:
+        return "-"
+    tag, modifier = Tag(place), modifier.lower()
+    if tag is None:
+        return place
+    script = {"latin": "Latn", "cyrillic": "Cyrl", "devanagari": "Deva"}.get(modifier, tag.script)
+    variants = "-valencia" if modifier == "valencia" else tag.variants
+    return "-".join(filter(None, (tag.language, script, tag.region))) + variants + tag.rest
+
+
+# ---- rows
+
+
+def plain(word):
+    """What a word of a row stands for."""
+    return "" if word == "''" else re.sub(r"\\x(..)", lambda found: chr(int(found[1], 16)), word)
+
+
+def escaped(text):
+    return "".join(letter if " " < letter < "\x7f" and letter not in "\\{}" else f"\\x{ord(letter):02x}" for letter in text) or "''"
+
+
+def answer(row):
+    by = " | " if " | " in row else " "
+    call, *words = row.split(by)
+    texts = [plain(word) for word in words]
+    if call == "best":
+        tags = texts[1].split()
+        index = best(texts[0], tags)
+        told = "-" if index is None else tags[index]
+    elif call == "distance":
+        told = distance(" ".join(texts))
+    else:
+        told = CALLS[call](texts[0])
+    return row + by + (told if told == "-" else escaped(told))
+
+
+def written(find):
+    return lambda text: form(text, find) if is_tag(text) else "-"
+
+
+CALLS = {"maximized": written(add_likely), "minimized": written(remove_likely), "right-to-left": is_right_to_left, "posix": posix}
+
+
+COLUMNS = {"forms": forms, "distance": distance, "rows": answer}
 
 
 def compare(ask, lines, answers):
@@ -204,11 +324,6 @@ def compare(ask, lines, answers):
 
 def main():
     words = sys.argv[1:]
-    if len(words) == 4 and words[0] == "--make" and words[1] in MAKERS:
-        rng = random.Random(int(words[3]))
-        for _ in range(int(words[2])):
-            print(MAKERS[words[1]](rng))
-        return
     if words[:1] and words[0] not in COLUMNS or words[1:2] not in ([], ["--compare"]) or len(words) not in (1, 3):
         sys.exit(__doc__)
     lines = (line.rstrip("\n") for line in sys.stdin)
@@ -218,4 +333,5 @@ def main():
         print(COLUMNS[words[0]](line))
 
 
-main()
+if __name__ == "__main__":
+    main()

@@ -1,6 +1,6 @@
 #!/usr/bin/env python3
 """Times the Python package beside babel, in one run: each round takes every call once, in an order that is shuffled, and the
-median of the rounds is printed. What is to hold stands beside it; the status is 1 where something does not.
+median of the rounds is printed. What is to hold stands beside it, and whether it does; the status is 1 where something does not.
 
     PYTHONPATH=FOLDER bench/python.py [ROUNDS]    FOLDER has the package langtag with its C module, and babel is installed
 """
@@ -23,7 +23,7 @@ RANGES = [part.split(";")[0].strip() for part in HEADER.split(",")]
 OFFERED = "ar bg cs da de el en es et fi hr hu it ja ko nl pl pt-BR ro sv".split()
 NAMES = {
     "Tag": langtag.Tag, "parse_locale": babel.core.parse_locale, "lenient": langtag.tag_for_header_lenient, "HEADER": HEADER,
-    "negotiate_locale": babel.core.negotiate_locale, "RANGES": RANGES, "OFFERED": OFFERED,
+    "best": langtag.best_for_header, "negotiate_locale": babel.core.negotiate_locale, "RANGES": RANGES, "OFFERED": OFFERED,
     "TAGS": [langtag.Tag(text) for text in OFFERED],
 }
 KEPT = [langtag.Tag(text) for text in TEXTS]
@@ -37,54 +37,68 @@ CALLS = {
     "hash": ("hash(it)", KEPT),
     "equal": ("it == it", KEPT),
     "canonical": ("it.canonical()", KEPT),
+    "is_canonical": ("it.is_canonical", KEPT),
     "is_valid": ("it.is_valid", KEPT),
     "tag_for_header_lenient": ("lenient(HEADER, TAGS, None)", [None] * 4),
+    "best_for_header": ("best(HEADER, TAGS, None)", [None] * 4),
     "babel's negotiate_locale": ("negotiate_locale(RANGES, OFFERED, sep='-')", [None] * 4),
 }
 
 
+SORTS = 5
+
+
+def tags_to_sort() -> list[langtag.Tag]:
+    numbers = random.Random(1)
+    return [langtag.Tag(f"{numbers.choice(TEXTS)}-x-{numbers.randrange(10**6)}") for _ in range(200_000)]
+
+
+def sorting(tags: list[langtag.Tag]) -> float:
+    """The processor's nanoseconds for sorting the tags."""
+    tags = list(tags)
+    begun = time.process_time_ns()
+    tags.sort()
+    return time.process_time_ns() - begun
+
+
 def timed() -> dict[str, float]:
-    """The median of each call, in nanoseconds."""
+    """The median of each call, in nanoseconds, and of some sorts, which stand between the rounds."""
     runs = {}
     for name, (call, values) in CALLS.items():
         space = {**NAMES, "values": values}
         exec(f"def run():\n for it in values: {call}", space)
         runs[name] = (space["run"], len(values))
-    times: dict[str, list[float]] = {name: [] for name in runs}
-    order, numbers = list(runs), random.Random(1)
+    times: dict[str, list[float]] = {name: [] for name in [*runs, "200,000 tags sorted"]}
+    order, numbers, tags = list(runs), random.Random(1), tags_to_sort()
     gc.disable()
-    for _ in range(ROUNDS):
+    for number in range(ROUNDS):
         numbers.shuffle(order)
         for name in order:
             run, count = runs[name]
             begun = time.perf_counter_ns()
             run()
             times[name].append((time.perf_counter_ns() - begun) / count)
+        if number % (ROUNDS // SORTS + 1) == 0:
+            times["200,000 tags sorted"].append(sorting(tags))
     gc.enable()
     return {name: statistics.median(found) for name, found in times.items()}
 
 
-def sorting() -> float:
-    """The processor's seconds for sorting 200,000 tags."""
-    numbers = random.Random(1)
-    tags = [langtag.Tag(f"{numbers.choice(TEXTS)}-x-{numbers.randrange(10**6)}") for _ in range(200_000)]
-    begun = time.process_time()
-    tags.sort()
-    return time.process_time() - begun
-
-
 def main() -> int:
-    found, seconds = timed(), sorting()
+    found = timed()
+    parse, negotiate = found["babel's parse_locale"], found["babel's negotiate_locale"]
     for name, nanoseconds in found.items():
-        print(f"{name:24} {nanoseconds:8.0f} ns")
+        print(f"{name:26} {nanoseconds:12.0f} ns" + (f" {nanoseconds / parse:8.2f} of parse_locale" if name in CALLS else ""))
     limits = (
-        ("construct by parse_locale", found["construct"] / found["babel's parse_locale"], 0.45),
+        ("construct, by parse_locale", found["construct"] / parse, 0.45),
         ("a part, in ns", found["a part"], 150.0),
-        ("header by negotiate_locale", found["tag_for_header_lenient"] / found["babel's negotiate_locale"], 1.0),
-        ("200,000 tags sorted, in s", seconds, 1.0),
+        ("tag_for_header_lenient, by negotiate_locale", found["tag_for_header_lenient"] / negotiate, 1.0),
+        ("best_for_header, by negotiate_locale", found["best_for_header"] / negotiate, 1.5),
+        ("200,000 tags sorted, in s", found["200,000 tags sorted"] / 1e9, 1.0),
+        ("is_canonical, by canonical", found["is_canonical"] / found["canonical"], 1.0),
     )
     for name, value, limit in limits:
-        print(f"{name:28} {value:8.2f}, at most {limit:6.2f}{'' if value <= limit else ': TOO SLOW'}")
+        print(f"{'pass' if value <= limit else 'FAIL'}: {name}: {value:.2f}, at most {limit:.2f}")
     return any(value > limit for _, value, limit in limits)
 
 

@@ -1,6 +1,8 @@
 # The library for aarch64, by Debian's cross compiler, and under qemu: nothing here ran on such a processor.
 cross=aarch64-linux-gnu
 qemu_root=/usr/$cross
+# Loader and C library are both the cross compiler's: this machine may have others for this processor, of another version.
+under_qemu="qemu-aarch64 -L $qemu_root -E LD_LIBRARY_PATH=$qemu_root/lib"
 
 aarch64_missing() {
     has $cross-gcc || echo "there is no $cross-gcc (in Debian: apt-get install gcc-aarch64-linux-gnu libc6-dev-arm64-cross)"
@@ -25,7 +27,7 @@ if [ -n "$missing" ]; then
     not_run "aarch64: the tests under qemu" "$missing"
     return 0
 fi
-on_aarch64() { qemu-aarch64 -L "$qemu_root" "$@"; }
+on_aarch64() { $under_qemu "$@"; }
 aarch64_compile() { $cross-gcc -std=c99 -O2 -Wall -Wextra -Wpedantic -Werror -Iinclude "$@" "$aarch64_archive"; }
 
 aarch64_example() {
@@ -70,17 +72,19 @@ aarch64_script() {
     (rust build -q --target aarch64-unknown-linux-gnu || true)
     find "$CARGO_TARGET_DIR" -path '*/build/langtag-verified-*/output' -exec grep -hx 'cargo:rustc-link-search=native=.*/lib/aarch64' {} +
 }
-aarch64_program() {
+rust_on_aarch64() {
     aarch64_packed && cd rust && CARGO_TARGET_AARCH64_UNKNOWN_LINUX_GNU_LINKER=$cross-gcc \
-        CARGO_TARGET_AARCH64_UNKNOWN_LINUX_GNU_RUNNER="qemu-aarch64 -L $qemu_root" \
-        cargo run -q --target aarch64-unknown-linux-gnu --example parts zh-Hant-TW | diff - <(wanted)
+        CARGO_TARGET_AARCH64_UNKNOWN_LINUX_GNU_RUNNER=$under_qemu cargo "$1" -q --target aarch64-unknown-linux-gnu "${@:2}"
 }
+aarch64_program() { rust_on_aarch64 run --example parts zh-Hant-TW | diff - <(wanted); }
+aarch64_rust_tests() { rust_on_aarch64 test --release --tests -- --skip long_headers; }
 if ! has cargo; then
     not_run "aarch64: the Rust crate" "there is no cargo"
 elif [ -d "$(rustc --print sysroot)/lib/rustlib/aarch64-unknown-linux-gnu" ]; then
     check "aarch64: a program of the Rust crate, under qemu" aarch64_program
+    check "aarch64: the tests of the Rust crate, under qemu" aarch64_rust_tests
 else
     check "aarch64: the Rust crate takes this archive" aarch64_script
-    not_run "aarch64: a program of the Rust crate" "there is no standard library of Rust for it (rustup target add aarch64-unknown-linux-gnu)"
+    not_run "aarch64: a program and the tests of the Rust crate" "there is no standard library of Rust for it (rustup target add aarch64-unknown-linux-gnu; in Debian 12 rustc-web, libstd-rust-web-dev:arm64)"
 fi
 rm -rf rust/lib

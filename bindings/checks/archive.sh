@@ -1,5 +1,5 @@
 # The archive: named, or built by the toolchain where it is not there or older than what it is made of.
-archive=$(realpath -m "${LANGTAG_ARCHIVE:-$root/crates/langtag_c/out/liblangtag_c.a}")
+archive=${LANGTAG_ARCHIVE:-$root/crates/langtag_c/out/liblangtag_c.a}
 
 is_old() {
     [ ! -f "$archive" ] || [ -n "$(find "$root"/crates/*/src "$root/crates.txt" -newer "$archive" -print -quit)" ]

@@ -18,6 +18,7 @@ if has clang && has clang++; then
 else
     not_run "C: the same by clang" "it is not there"
 fi
+check "C: forms, distances, choices and refusals of each length to 4,200 bytes, and to 2 MB" with_make sweep BUILD="$work/c"
 check "C: random texts against a second reading, each at the edge of a page" \
     with_make fuzz SECONDS="$FUZZ_SECONDS" SEED="$FUZZ_SEED" BUILD="$work/c"
 
@@ -47,3 +48,12 @@ as_the_oracle() {
     oracle validity canonical --compare "$work/told" <"$work/tags"
 }
 check "C: validity and canonical form of 50,000 tags, by a plain reading of the registry" as_the_oracle
+
+# What it answers about likely subtags, distances, directions, choices and names, beside a plain reading of CLDR's data.
+as_the_likely_oracle() {
+    local likely=$root/likely
+    { "$likely/questions.py" each && "$likely/questions.py" rows 30000 "$FUZZ_SEED"; } >"$work/asked" || return 1
+    "$work/c/test" --answer <"$work/asked" >"$work/told" || return 1
+    "$likely/oracle.py" rows --compare "$work/told" <"$work/asked"
+}
+check "C: 60,000 rows of likely subtags and choices, by a plain reading of the data" as_the_likely_oracle

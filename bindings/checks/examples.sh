@@ -1,13 +1,21 @@
-# The examples that are servers, and the extension of SQLite.
+# The examples that are servers, the subtitle editor, the count of a million rows, and the extension of SQLite. The store of RDF's
+# literals is run with the Rust crate.
 strict="-std=c99 -O2 -Wall -Wextra -Wpedantic -Werror"
 PYTHONPATH=$work/bindings/python
 
 negotiate() {
-    cc $strict -g -fsanitize=address,undefined -I"$work/usr/include" examples/negotiate.c examples/accept_language.c \
-        "$work/usr/lib/liblangtag_verified.a" -o "$work/built/negotiate"
+    cc $strict -g -fsanitize=address,undefined -I"$work/usr/include" examples/negotiate.c "$work/usr/lib/liblangtag_verified.a" \
+        -o "$work/built/negotiate"
 }
 check "C: the HTTP example builds" negotiate
 check "the HTTP examples in C and Python answer alike" python3 examples/test_examples.py "$work/built/negotiate"
+
+subtitles() {
+    c++ -std=c++17 -Wall -Wextra -Wpedantic -Wshadow -Wconversion -Werror -g -fsanitize=address,undefined -I"$work/usr/include" \
+        examples/subtitles.cc "$work/usr/lib/liblangtag_verified.a" -o "$work/built/subtitles" &&
+        python3 examples/test_subtitles.py "$work/built/subtitles"
+}
+check "C++: the subtitle editor, over the installed header" subtitles
 
 count_tags() { python3 examples/count_tags.py | diff - <(wanted_counts); }
 wanted_counts() { env -i PATH="$PATH" PYTHONPATH="$PYTHONPATH" LANGTAG_LIBRARY="$LANGTAG_LIBRARY" python3 -S examples/count_tags.py; }

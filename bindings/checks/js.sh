@@ -4,8 +4,11 @@ if [ -z "$wasm_archive" ]; then
     not_run "JavaScript: everything" "there is no archive for WebAssembly: $(tail -1 "$work/log")"
     return 0
 fi
-if ! has wasm-opt || ! has rt; then
-    not_run "JavaScript: everything" "there is no wasm-opt (in Debian: apt-get install binaryen), or no rt, which links the module"
+if ! has wasm-opt; then
+    not_run "JavaScript: everything" "there is no wasm-opt (in Debian: apt-get install binaryen)"
+    return 0
+elif ! has rt && [ -z "${LANGTAG_WASM_MODULE:-}" ]; then
+    not_run "JavaScript: everything" "there is no rt, which links the module, and LANGTAG_WASM_MODULE names none"
     return 0
 fi
 js_built() { js/build "$wasm_archive" && cp js/module.js "$work/module.js" && js/build "$wasm_archive" && cmp js/module.js "$work/module.js"; }
@@ -27,7 +30,7 @@ if ! node_is_new; then
 fi
 echo "Node $(node --version), $(wasm-opt --version)"
 check "JavaScript: no import, and the functions of the header" wasm_symbols
-js_tests() { (cd js && LANGTAG_ANSWERS=$work/answers node --test test/rows.test.js test/langtag.test.js test/examples.test.js); }
+js_tests() { (cd js && LANGTAG_ANSWERS=$work/answers node --test --test-reporter=spec test/rows.test.js test/langtag.test.js test/examples.test.js); }
 check "JavaScript: tests, the example, the rows, and C's answers to random calls" js_tests
 js_wide() { (cd js && node --experimental-wasm-memory64 test/lowering.js "$work/calls"); }
 if node --experimental-wasm-memory64 -e '' 2>/dev/null; then
@@ -49,7 +52,7 @@ else
     not_run "JavaScript: types" "there is no tsc (in Debian: apt-get install node-typescript)"
 fi
 CHROMIUM=$(command -v chromium || command -v google-chrome)
-js_in_browser() { (cd js && node --test test/browser.test.js test/page.test.js); }
+js_in_browser() { (cd js && node --test --test-reporter=spec test/browser.test.js test/page.test.js); }
 if [ -n "$CHROMIUM" ]; then
     check "JavaScript: the rows, a worker and the page in $("$CHROMIUM" --version 2>/dev/null | sed 's/ built.*//')" js_in_browser
 else

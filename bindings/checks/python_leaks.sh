@@ -15,7 +15,7 @@ unfreed='s/^    PyMem_Free(header.ranges);$//'
 by_references() { leaks_of references -DPy_DEBUG "$header" $debug leaks.py; }
 by_blocks() {
     PYTHONMALLOC=malloc leaks_of valgrind -g "$header" valgrind --leak-check=full --show-leak-kinds=definite --log-file=valgrind.log \
-        "$real" leaks.py 3 && ! grep -E '\((text|value|parts|forms|range|calls|negotiate|module)\.c:' "$work/leaks-valgrind/valgrind.log"
+        "$real" leaks.py 3 && ! grep -E '\((text|value|parts|forms|range|calls|likely|negotiate|module)\.c:' "$work/leaks-valgrind/valgrind.log"
 }
 by_sanitizers() {
     local runtime

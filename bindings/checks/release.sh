@@ -3,7 +3,8 @@
 if ! has rt && [ -z "${RT_VERSION:-}" ]; then RT_VERSION="not known: there was no rt"; fi
 
 releases() {
-    cp "$root"/LICENSE-* "$work" || return 1
+    mkdir -p "$work/likely" "$work/docs" && cp "$root"/LICENSE-* "$work" || return 1
+    cp "$root/likely/LICENSE-UNICODE" "$work/likely" && cp "$root/docs/BINDINGS.md" "$work/docs" || return 1
     local targets=()
     if [ -n "${aarch64_archive:-}" ]; then targets+=(--target "aarch64-unknown-linux-gnu=$aarch64_archive"); fi
     if [ -n "${wasm_archive:-}" ]; then targets+=(--target "wasm64-unknown-unknown=$wasm_archive"); fi
@@ -17,10 +18,27 @@ proves() {
 }
 check "release: two runs give the same bytes, with the archive's sum" releases
 
+# Each package has the README of its language, and so has what pip shows of the wheel; its Python is asked.
+readmes() {
+    local pair
+    for pair in c:langtag-verified-*-x86_64-elf.tar.gz rust:langtag-verified-*.crate python:langtag_verified-*.tar.gz \
+        postgresql:langtag-postgresql-*.tar.gz js:langtag-verified-*.tgz; do
+        python3 readmes.py ${pair%%:*} >"$work/readme.md" || return 1
+        (cd "$work/dist" && if ls ${pair#*:}; then tar -xzOf ${pair#*:} --wildcards --no-wildcards-match-slash '*/README.md' | cmp - "$work/readme.md"; fi) || return 1
+    done
+    python3 readmes.py python >"$work/readme.md" && (cd python && python3 -m doctest "$work/readme.md") || return 1
+    for wheel in "$work"/dist/*.whl; do
+        rm -rf "$work/wheel" && python3 -m zipfile -e "$wheel" "$work/wheel" || return 1
+        sed -n '/^# /,$p' "$work"/wheel/*/METADATA | cmp - "$work/readme.md" && grep '^Project-URL: ' "$work"/wheel/*/METADATA || return 1
+    done
+}
+check "release: each package has a README" readmes
+
 # What the tarball has by its own: the archive as the page names it, and the examples.
 by_itself() {
     away 'tar -xzf ../dist/*-x86_64-elf.tar.gz; cd langtag-verified-*; rm ../parts.*
-        cc examples/negotiate.c examples/accept_language.c -Iinclude lib/liblangtag_verified.a -o negotiate
+        cc examples/negotiate.c -Iinclude lib/liblangtag_verified.a -o negotiate; cc -c examples/accept_language.c -Iinclude
+        c++ -std=c++17 examples/subtitles.cc -Iinclude lib/liblangtag_verified.a -o subtitles
         c++ -std=c++17 examples/parts.cc -Iinclude lib/liblangtag_verified.a -o parts; ./parts zh-Hant-TW >cc
         cc examples/parts.c -Iinclude lib/liblangtag_verified.a -o parts; ./parts zh-Hant-TW | tee c; cmp c cc'
 }
@@ -61,7 +79,8 @@ crate() {
         cargo add -q --offline --path ../langtag-verified-*/; cargo run -q --offline zh-Hant-TW'
 }
 crate_with_serde() {
-    away 'tar -xzf ../dist/*.crate; cargo new -q --vcs none first; cp parts.rs first/src/main.rs; cd first
+    away 'tar -xzf ../dist/*.crate; cargo new -q --vcs none first; cp parts.rs first/src/main.rs
+        printf "%s\n" "[workspace]" "members = [\"first\", \"langtag-verified-*\", \"langtag-verified-*/serde\"]" "resolver = \"2\"" >Cargo.toml; cd first
         cp -r ../../cargo-of-serde .cargo; export CARGO_TARGET_DIR=$PWD/target CARGO_HOME=$PWD/cargo-home
         for crate in ../langtag-verified-*/ ../langtag-verified-*/serde; do cargo add -q --offline --path $crate; done
         cargo run -q --offline zh-Hant-TW'
@@ -71,7 +90,7 @@ if has cargo; then
 else
     not_run "release: the Rust crate" "there is no cargo"
 fi
-if [ -d "$work/cargo-of-serde" ]; then check "release: the Rust crate with serde" crate_with_serde; fi
+if [ -d "$work/cargo-of-serde" ]; then check "release: the Rust crate with serde, in a workspace" crate_with_serde; fi
 
 # python_package PYTHON FILE..
 python_package() {
@@ -104,9 +123,9 @@ done
 # For aarch64: the tarball, the wheel as pip unpacks it for that platform, and the crate's archive.
 released_aarch64() {
     away 'tar -xzf ../dist/*-aarch64-elf.tar.gz; lib=$(echo $PWD/langtag-verified-*/lib)
-        aarch64-linux-gnu-gcc parts.c -I$lib/../include $lib/liblangtag_verified.a -o parts; on="qemu-aarch64 -L /usr/aarch64-linux-gnu"
-        $on parts zh-Hant-TW >static; aarch64-linux-gnu-gcc parts.c -I$lib/../include -L$lib -llangtag_verified -o parts
-        $on -E LD_LIBRARY_PATH=$lib parts zh-Hant-TW | tee shared; cmp static shared'
+        aarch64-linux-gnu-gcc parts.c -I$lib/../include $lib/liblangtag_verified.a -o parts
+        $under_qemu parts zh-Hant-TW >static; aarch64-linux-gnu-gcc parts.c -I$lib/../include -L$lib -llangtag_verified -o parts
+        $under_qemu -E LD_LIBRARY_PATH=$lib:$qemu_root/lib parts zh-Hant-TW | tee shared; cmp static shared'
 }
 wheel_of_aarch64() {
     python3 -m pip install -q --no-index --no-deps --target "$work/foreign" --platform manylinux_2_17_aarch64 --only-binary=:all: "$work"/dist/*_aarch64.whl &&
@@ -138,7 +157,7 @@ npm_bundled() {
         esbuild first.mjs --bundle --format=esm --outfile=esm.mjs --log-level=error; esbuild first.mjs --bundle --outfile=iife.cjs --log-level=error
         node esm.mjs >esm; node iife.cjs | tee iife; cmp esm iife'
 }
-npm_in_page() { cd js && PACKAGE=$work/npm PAGE=$(echo "$work"/dist/langtag-*.html) node --test test/browser.test.js test/page.test.js; }
+npm_in_page() { cd js && PACKAGE=$work/npm PAGE=$(echo "$work"/dist/langtag-*.html) node --test --test-reporter=spec test/browser.test.js test/page.test.js; }
 if ! ls "$work"/dist/*.tgz >/dev/null 2>&1; then
     not_run "release: the package for npm" "it was not made"
 elif ! has npm; then

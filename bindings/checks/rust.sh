@@ -17,6 +17,21 @@ check "Rust: tests, the examples of its documents, and C's answers to random cal
     env LANGTAG_ANSWERS="$work/answers" RUSTFLAGS=-Dwarnings bash -c 'cd rust && cargo test'
 check "Rust: without alloc" env RUSTFLAGS=-Dwarnings bash -c 'cd rust && cargo test -q --no-default-features --tests'
 check "Rust: the names of oxilangtag" env RUSTFLAGS=-Dwarnings bash -c 'cd rust && cargo test -q --features oxilangtag oxilangtag'
+# The same program over the crate that it is written for, of which the line with `use` alone is changed.
+literals_elsewhere() {
+    local folder=$work/literals
+    cargo new -q --vcs none "$folder" && sed 's/^use langtag_verified::oxilangtag::/use oxilangtag::/' examples/literals.rs >"$folder/src/main.rs" || return 1
+    [ "$(diff examples/literals.rs "$folder/src/main.rs" | grep -c '^>')" = 1 ] && echo 'oxilangtag = "0.1"' >>"$folder/Cargo.toml" || return 1
+    (cd "$folder" && cargo build -q --config "source.crates-io.replace-with='folder'" --config "source.folder.directory='$registry'")
+}
+literals() {
+    (rust build -q --features oxilangtag --example literals) || return 1
+    local programs=("$CARGO_TARGET_DIR/debug/examples/literals")
+    if [ -d "$registry/oxilangtag-0.1.3" ]; then literals_elsewhere && programs+=("$CARGO_TARGET_DIR/debug/literals") || return 1; fi
+    python3 examples/test_literals.py "${programs[@]}"
+}
+check "Rust: the store of RDF's literals over the names of oxilangtag" literals
+[ -d "$registry/oxilangtag-0.1.3" ] || not_run "Rust: the same over oxilangtag" "its source is not in $registry"
 under_valgrind() {
     CARGO_TARGET_X86_64_UNKNOWN_LINUX_GNU_RUNNER="valgrind -q --error-exitcode=9" rust test --tests -- --skip long_headers
 }

@@ -1,14 +1,14 @@
 /*
- * Answers each request in the language that its Accept-Language header asks for: negotiate [PORT]
+ * Answers each request in the language that its reader wants, by the header Accept-Language: negotiate [PORT]
  *
- *     cc negotiate.c accept_language.c $(pkg-config --cflags --libs langtag_verified) -o negotiate && ./negotiate 8080
- *     curl -H 'Accept-Language: fr;q=0.3, DE-ch-1996;q=0.9' localhost:8080
+ *     cc negotiate.c $(pkg-config --cflags --libs langtag_verified) -o negotiate && ./negotiate 8080
+ *     curl -H 'Accept-Language: zh-TW,zh;q=0.9,en;q=0.8' localhost:8080
  *
  * It serves one request at a time, waits two seconds for each piece of it, and reads no more than 8 kB of it: an example
  * of the choice of a language, and no web server.
  */
 #define _POSIX_C_SOURCE 200809L
-#include "accept_language.h"
+#include <langtag.h>
 
 #include <arpa/inet.h>
 #include <stdio.h>
@@ -19,9 +19,24 @@
 #include <sys/time.h>
 #include <unistd.h>
 
-static const char *const tags[] = {"en", "de", "de-CH", "fr", "zh-Hant"};
+static const char tags[] = "en de de-CH fr zh-Hant";
 static const char *const greetings[] = {"Hello", "Guten Tag", "Gr\u00fcezi", "Bonjour", "\u4f60\u597d"};
-enum { COUNT = sizeof tags / sizeof *tags, DEFAULT = 0 };
+enum { COUNT = sizeof greetings / sizeof *greetings, DEFAULT = 0 };
+
+/* Where each tag stands in their text, as the library reads them. */
+static void find_tags(langtag_span *spans) {
+    size_t at = 0;
+    for (size_t k = 0; k < COUNT; k++) {
+        spans[k] = (langtag_span){at, strcspn(tags + at, " ")};
+        at += spans[k].len + 1;
+    }
+}
+
+/* The index of the tag that the reader wants, or else of the default. */
+static size_t choose(const char *accept, size_t len, const langtag_span *spans) {
+    const size_t best = accept ? langtag_best_for_header(accept, len, tags, strlen(tags), spans, COUNT) : COUNT;
+    return best < COUNT ? best : DEFAULT;
+}
 
 /* The value of a header of a request, up to the end of its line; NULL where there is none. */
 static const char *header(const char *request, const char *name, size_t *len) {
@@ -54,16 +69,18 @@ static void receive(int connection, char *request, size_t room) {
 
 static void answer(int connection) {
     char request[8192], reply[512];
-    size_t len, chosen = COUNT;
+    langtag_span spans[COUNT];
+    size_t len = 0;
     receive(connection, request, sizeof request);
+    find_tags(spans);
     const char *accept = header(request, "Accept-Language", &len);
-    if (accept) chosen = choose_tag_lenient(accept, len, tags, COUNT);
-    if (chosen == COUNT) chosen = DEFAULT;
-    int size = snprintf(reply, sizeof reply,
-                        "HTTP/1.1 200 OK\r\nContent-Type: text/plain; charset=utf-8\r\nContent-Language: %s\r\nVary: "
-                        "Accept-Language\r\n"
-                        "Content-Length: %zu\r\nConnection: close\r\n\r\n%s\n",
-                        tags[chosen], strlen(greetings[chosen]) + 1, greetings[chosen]);
+    const size_t chosen = choose(accept, len, spans);
+    int size =
+        snprintf(reply, sizeof reply,
+                 "HTTP/1.1 200 OK\r\nContent-Type: text/plain; charset=utf-8\r\nContent-Language: %.*s\r\nVary: "
+                 "Accept-Language\r\n"
+                 "Content-Length: %zu\r\nConnection: close\r\n\r\n%s\n",
+                 (int)spans[chosen].len, tags + spans[chosen].start, strlen(greetings[chosen]) + 1, greetings[chosen]);
     if (send(connection, reply, (size_t)size, MSG_NOSIGNAL) != size) perror("send");
 }
 

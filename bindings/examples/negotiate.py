@@ -1,25 +1,24 @@
-"""Answers each request in the language that its Accept-Language header asks for: python3 negotiate.py [PORT]
+"""Answers each request in the language that its reader wants, by the header Accept-Language: python3 negotiate.py [PORT]
 
-    curl -H 'Accept-Language: fr;q=0.3, DE-ch-1996;q=0.9' localhost:8080
+    curl -H 'Accept-Language: zh-TW,zh;q=0.9,en;q=0.8' localhost:8080
 """
 from __future__ import annotations
 
 import http.server
 import sys
 
-from langtag import Tag, tag_for_header_lenient
+from langtag import best_for_header
 
-GREETINGS = {Tag("en"): "Hello", Tag("de"): "Guten Tag", Tag("de-CH"): "Grüezi", Tag("fr"): "Bonjour", Tag("zh-Hant"): "你好"}
-DEFAULT = Tag("en")
+GREETINGS = {"en": "Hello", "de": "Guten Tag", "de-CH": "Grüezi", "fr": "Bonjour", "zh-Hant": "你好"}
 
 
 class Handler(http.server.BaseHTTPRequestHandler):
     def do_GET(self) -> None:
-        tag = tag_for_header_lenient(self.headers.get("Accept-Language"), GREETINGS, DEFAULT)
+        tag = best_for_header(self.headers.get("Accept-Language"), GREETINGS, "en")
         body = GREETINGS[tag].encode() + b"\n"
         self.send_response(200)
         self.send_header("Content-Type", "text/plain; charset=utf-8")
-        self.send_header("Content-Language", str(tag))
+        self.send_header("Content-Language", tag)
         self.send_header("Vary", "Accept-Language")
         self.send_header("Content-Length", str(len(body)))
         self.end_headers()

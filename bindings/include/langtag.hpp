@@ -290,12 +290,12 @@ inline std::string folded(std::string_view text) {
  * for, or there is no language. */
 inline std::optional<std::string> from_parts(std::string_view language, std::string_view script = {},
                                              std::string_view region = {}, std::string_view variants = {},
-                                             std::string_view extensions = {}, std::string_view private_use = {}) {
+                                             std::string_view extension = {}, std::string_view private_use = {}) {
     return tag::parse("und")->with({{part::language, language},
                                     {part::script, script},
                                     {part::region, region},
                                     {part::variants, variants},
-                                    {part::extensions, extensions},
+                                    {part::extensions, extension},
                                     {part::private_use, private_use}});
 }
 
@@ -337,6 +337,13 @@ public:
     friend bool operator==(const owned_tag &a, const owned_tag &b) noexcept { return a.view() == b.view(); }
     friend bool operator!=(const owned_tag &a, const owned_tag &b) noexcept { return !(a == b); }
     friend bool operator<(const owned_tag &a, const owned_tag &b) noexcept { return a.view() < b.view(); }
+    friend bool operator>(const owned_tag &a, const owned_tag &b) noexcept { return b < a; }
+    friend bool operator<=(const owned_tag &a, const owned_tag &b) noexcept { return !(b < a); }
+    friend bool operator>=(const owned_tag &a, const owned_tag &b) noexcept { return !(a < b); }
+    friend bool operator==(const owned_tag &a, std::string_view b) noexcept { return a.view() == b; }
+    friend bool operator!=(const owned_tag &a, std::string_view b) noexcept { return !(a == b); }
+    friend bool operator==(std::string_view a, const owned_tag &b) noexcept { return b == a; }
+    friend bool operator!=(std::string_view a, const owned_tag &b) noexcept { return !(b == a); }
 
 private:
     owned_tag(std::string text, langtag::kind kind, const langtag_parts &parts) noexcept

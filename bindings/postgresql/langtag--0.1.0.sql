@@ -225,10 +225,20 @@ CREATE FUNCTION best_for_header(langtag[], text) RETURNS langtag AS '$libdir/lan
 CREATE FUNCTION langtag_cldr_version() RETURNS integer AS '$libdir/langtag-2025-05-15-cldr41', 'pg_langtag_cldr_version'
     LANGUAGE C STABLE STRICT PARALLEL SAFE;
 
--- Filtering (RFC 4647 section 3.3), by a btree index where there is one: <@ is basic, ~ extended.
-CREATE FUNCTION langtag_basic_lower(langtag_range) RETURNS langtag AS 'MODULE_PATHNAME', 'pg_langtag_basic_lower'
+-- What bounds the tags that a range matches. It need not be a tag, and no text becomes one.
+CREATE TYPE langtag_bound;
+CREATE FUNCTION langtag_bound_in(cstring) RETURNS langtag_bound AS 'MODULE_PATHNAME', 'pg_langtag_bound_in'
     LANGUAGE C IMMUTABLE STRICT PARALLEL SAFE;
-CREATE FUNCTION langtag_basic_upper(langtag_range) RETURNS langtag AS 'MODULE_PATHNAME', 'pg_langtag_basic_upper'
+CREATE FUNCTION langtag_bound_out(langtag_bound) RETURNS cstring AS 'MODULE_PATHNAME', 'pg_langtag_out'
+    LANGUAGE C IMMUTABLE STRICT PARALLEL SAFE;
+CREATE TYPE langtag_bound (
+    INPUT = langtag_bound_in, OUTPUT = langtag_bound_out, INTERNALLENGTH = VARIABLE, STORAGE = extended, ALIGNMENT = int4
+);
+
+-- Filtering (RFC 4647 section 3.3), by a btree index where there is one: <@ is basic, ~ extended.
+CREATE FUNCTION langtag_basic_lower(langtag_range) RETURNS langtag_bound AS 'MODULE_PATHNAME', 'pg_langtag_basic_lower'
+    LANGUAGE C IMMUTABLE STRICT PARALLEL SAFE;
+CREATE FUNCTION langtag_basic_upper(langtag_range) RETURNS langtag_bound AS 'MODULE_PATHNAME', 'pg_langtag_basic_upper'
     LANGUAGE C IMMUTABLE STRICT PARALLEL SAFE;
 CREATE FUNCTION langtag_basic_support(internal) RETURNS internal AS 'MODULE_PATHNAME', 'pg_langtag_basic_support'
     LANGUAGE C IMMUTABLE STRICT PARALLEL SAFE;
@@ -236,9 +246,9 @@ CREATE FUNCTION matches_basic(langtag, langtag_range) RETURNS boolean AS 'MODULE
     LANGUAGE C IMMUTABLE STRICT PARALLEL SAFE COST 10 SUPPORT langtag_basic_support;
 CREATE OPERATOR <@ (LEFTARG = langtag, RIGHTARG = langtag_range, FUNCTION = matches_basic,
     RESTRICT = matchingsel, JOIN = matchingjoinsel);
-CREATE FUNCTION langtag_extended_lower(langtag_range) RETURNS langtag AS 'MODULE_PATHNAME', 'pg_langtag_extended_lower'
+CREATE FUNCTION langtag_extended_lower(langtag_range) RETURNS langtag_bound AS 'MODULE_PATHNAME', 'pg_langtag_extended_lower'
     LANGUAGE C IMMUTABLE STRICT PARALLEL SAFE;
-CREATE FUNCTION langtag_extended_upper(langtag_range) RETURNS langtag AS 'MODULE_PATHNAME', 'pg_langtag_extended_upper'
+CREATE FUNCTION langtag_extended_upper(langtag_range) RETURNS langtag_bound AS 'MODULE_PATHNAME', 'pg_langtag_extended_upper'
     LANGUAGE C IMMUTABLE STRICT PARALLEL SAFE;
 CREATE FUNCTION langtag_extended_support(internal) RETURNS internal AS 'MODULE_PATHNAME', 'pg_langtag_extended_support'
     LANGUAGE C IMMUTABLE STRICT PARALLEL SAFE;

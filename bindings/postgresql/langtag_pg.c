@@ -462,9 +462,17 @@ Datum pg_langtag_matches_extended(PG_FUNCTION_ARGS) {
     PG_RETURN_BOOL(langtag_matches_extended(BYTES(range), LEN(range), BYTES(tag), LEN(tag)));
 }
 
+/* A bound is made of a range alone. */
+PG_FUNCTION_INFO_V1(pg_langtag_bound_in);
+Datum pg_langtag_bound_in(PG_FUNCTION_ARGS) {
+    ereport(ERROR, (errcode(ERRCODE_FEATURE_NOT_SUPPORTED), errmsg("cannot accept a value of type langtag_bound")));
+    PG_RETURN_NULL();
+}
+
 /* Bounds for what a range matches: the lower one is the least of it, the upper one stands behind all of it. Of de-CH they
  * are de-CH and "de-CH.", as the byte after the hyphen; for extended filtering only the first subtag counts; of * they
- * are the empty text and one that stands behind all letters. The bounds are compared with tags, and need not be any. */
+ * are the empty text and one that stands behind all letters. The bounds are compared with tags, and need not be any: so
+ * they are of a type of their own, else one could be put into a column of tags. */
 static Datum bound(FunctionCallInfo fcinfo, bool extended, bool upper) {
     struct varlena *range = PG_GETARG_VARLENA_PP(0), *answer;
     const char *bytes = BYTES(range);
@@ -490,13 +498,15 @@ BOUND(pg_langtag_basic_upper, false, true)
 BOUND(pg_langtag_extended_lower, true, false)
 BOUND(pg_langtag_extended_upper, true, true)
 
-/* A call of one of the functions above, in the schema where the extension stands. */
-static Node *bound_call(PlannerInfo *root, Oid schema, const char *name, Oid type, Node *range) {
+/* A call of one of the functions above, in the schema where the extension stands, for a comparison with tags. */
+static Expr *bound_call(PlannerInfo *root, Oid schema, const char *name, Oid type, Node *range) {
     Oid range_type = exprType(range);
     List *names = list_make2(makeString(get_namespace_name(schema)), makeString(pstrdup(name)));
     Oid function = LookupFuncName(names, 1, &range_type, false);
-    FuncExpr *call = makeFuncExpr(function, type, list_make1(copyObject(range)), InvalidOid, InvalidOid, COERCE_EXPLICIT_CALL);
-    return eval_const_expressions(root, (Node *)call);
+    FuncExpr *call = makeFuncExpr(function, get_func_rettype(function), list_make1(copyObject(range)), InvalidOid,
+                                  InvalidOid, COERCE_EXPLICIT_CALL);
+    RelabelType *as_tag = makeRelabelType((Expr *)call, type, -1, InvalidOid, COERCE_IMPLICIT_CAST);
+    return (Expr *)eval_const_expressions(root, (Node *)as_tag);
 }
 
 /* Whether a range that is known when the query is planned is bounded; and whether its bounds hold more than it matches. */
@@ -532,9 +542,9 @@ static List *index_condition(SupportRequestIndexCondition *request, bool extende
     request->lossy = lossy;
     return list_make2(
         make_opclause(from, BOOLOID, false, copyObject((Expr *)tag),
-                      (Expr *)bound_call(request->root, schema, lower, type, range), InvalidOid, InvalidOid),
+                      bound_call(request->root, schema, lower, type, range), InvalidOid, InvalidOid),
         make_opclause(below, BOOLOID, false, copyObject((Expr *)tag),
-                      (Expr *)bound_call(request->root, schema, upper, type, range), InvalidOid, InvalidOid));
+                      bound_call(request->root, schema, upper, type, range), InvalidOid, InvalidOid));
 }
 
 static Datum support(FunctionCallInfo fcinfo, bool extended) {
@@ -594,26 +604,45 @@ Datum pg_langtag_tag_for_header(PG_FUNCTION_ARGS) {
     PG_RETURN_POINTER(tags[best]);
 }
 
-/* How long a header may be of which one call of the library, that nothing interrupts, compares each range with each tag. */
+/* One call of the library, which nothing interrupts, compares each range of a header with each of some tags: so long may the
+ * header be, and so many are the tags. */
 #define LONGEST_HEADER 8192
+#define TAGS_AT_ONCE 64
 
-PG_FUNCTION_INFO_V1(pg_langtag_best_for_header);
-Datum pg_langtag_best_for_header(PG_FUNCTION_ARGS) {
-    int count;
-    struct varlena **tags = tags_of(PG_GETARG_ARRAYTYPE_P(0), &count);
-    text *header = PG_GETARG_TEXT_PP(1);
-    langtag_span *spans = palloc(count * sizeof *spans);
+/* The place of the best of some tags, or `count`. */
+static int best_of(text *header, struct varlena **tags, int count) {
+    langtag_span spans[TAGS_AT_ONCE];
     StringInfoData all;
     size_t best;
-    if (LEN(header) > LONGEST_HEADER)
-        ereport(ERROR, (errcode(ERRCODE_PROGRAM_LIMIT_EXCEEDED),
-                        errmsg("the header has %zu bytes, and may have %d", LEN(header), LONGEST_HEADER)));
     initStringInfo(&all);
     for (int k = 0; k < count; k++) {
         spans[k] = (langtag_span){.start = (size_t)all.len, .len = LEN(tags[k])};
         appendBinaryStringInfo(&all, BYTES(tags[k]), (int)LEN(tags[k]));
     }
     best = langtag_best_for_header(BYTES(header), LEN(header), all.data, (size_t)all.len, spans, (size_t)count);
-    if (best >= (size_t)count) PG_RETURN_NULL();
-    PG_RETURN_POINTER(tags[best]);
+    pfree(all.data);
+    return (int)Min(best, (size_t)count);
+}
+
+/* The best so far stands before the next tags: which of two tags goes before the other rests on no third one, and of two
+ * that are alike the first one stays. */
+PG_FUNCTION_INFO_V1(pg_langtag_best_for_header);
+Datum pg_langtag_best_for_header(PG_FUNCTION_ARGS) {
+    int count;
+    struct varlena **tags = tags_of(PG_GETARG_ARRAYTYPE_P(0), &count), *best = NULL;
+    text *header = PG_GETARG_TEXT_PP(1);
+    if (LEN(header) > LONGEST_HEADER)
+        ereport(ERROR, (errcode(ERRCODE_PROGRAM_LIMIT_EXCEEDED),
+                        errmsg("the header has %zu bytes, and may have %d", LEN(header), LONGEST_HEADER)));
+    for (int next = 0; next < count;) {
+        struct varlena *some[TAGS_AT_ONCE];
+        int taken = 0, found;
+        CHECK_FOR_INTERRUPTS();
+        if (best != NULL) some[taken++] = best;
+        while (taken < TAGS_AT_ONCE && next < count) some[taken++] = tags[next++];
+        found = best_of(header, some, taken);
+        if (found < taken) best = some[found];
+    }
+    if (best == NULL) PG_RETURN_NULL();
+    PG_RETURN_POINTER(best);
 }

@@ -93,10 +93,16 @@ def negotiate():
     langtag.tag_for_header_lenient("fr_FR, de-ch;q=0.5, " * 30 + "*", tags, None), langtag.tag_for_header("de", tags, None)
     for header, offered in (("de", [5]), (5, tags), ("de", Unread()), ("de", [Tag.__new__(Tag)])):
         refused(langtag.tag_for_header_lenient, header, offered, None)
+    for header in ("fr_FR, de-ch;q=0.5, " * 30 + "*", "fi", b"*;q=0, de;q=0.1"):
+        langtag.best_for_header(header, tags), langtag.best_for_header(header, ("en", b"fr", Tag("de"))), langtag.best_for_header(header, iter(["de"]), 5)
+    for header, offered in (("de", ["en", 5]), (5, tags), ("de", Unread()), ("de", ["de", "de_"]), ("de", [Tag.__new__(Tag)])):
+        refused(langtag.best_for_header, header, offered)
 
 
 def ask():
     langtag.kind("de"), langtag.viable("d_"), langtag.stop("d_"), refused(langtag.kind, 5), refused(langtag.viable, None)
+    langtag.distance("de", Tag("en")), refused(langtag.distance, "de", 5), refused(langtag.distance, 5, "de"), Tag("az-IR").is_right_to_left
+    Tag.from_posix("sr_RS@latin"), refused(Tag.from_posix, "C"), refused(Tag.from_posix, 5)
 
 
 def main(times):

@@ -28,6 +28,7 @@ def found(variable, *paths):
 
 ARCHIVE = found("LANGTAG_ARCHIVE", HERE / "liblangtag_c.a", HERE / "../../crates/langtag_c/out/liblangtag_c.a")
 LIBRARY = found("LANGTAG_LIBRARY", HERE / "langtag" / NAME, HERE / "../c/build" / NAME)
+README = HERE / "README.md"
 HEADER = next((path for path in (HERE / "langtag.h", HERE / "../include/langtag.h") if path.is_file()), HERE / "langtag.h")
 
 
@@ -72,4 +73,5 @@ MODULE = Extension(
     extra_compile_args=["-std=c11", "-fvisibility=hidden"],
     extra_link_args=["-Wl,--exclude-libs,ALL", "-Wl,-z,relro,-z,now,-z,noexecstack", "-Wl,--gc-sections"],
 )
-setup(cmdclass={"build_py": WithLibrary, "bdist_wheel": ForEachPython}, ext_modules=[] if LACKING else [MODULE])
+setup(cmdclass={"build_py": WithLibrary, "bdist_wheel": ForEachPython}, ext_modules=[] if LACKING else [MODULE],
+      long_description=README.read_text(encoding="utf-8") if README.is_file() else "", long_description_content_type="text/markdown")

@@ -1,4 +1,4 @@
-//! Times this library beside oxilangtag on a file of tags, one a line, in one run.
+//! Times this library beside oxilangtag, and beside ICU where `icu.cc` was built, on a file of tags, one a line, in one run.
 //!
 //! `against-oxilangtag FILE` times, and `against-oxilangtag once ENTRY FILE` calls one entry once for each tag, for a
 //! tool that counts instructions.
@@ -14,6 +14,14 @@ extern "C" {
     fn langtag_parse(bytes: *const u8, len: usize, parts: *mut Parts) -> u32;
     fn langtag_canonical(bytes: *const u8, len: usize, buffer: *mut u8, buffer_len: usize)
         -> usize;
+    fn langtag_maximize(bytes: *const u8, len: usize, buffer: *mut u8, buffer_len: usize) -> usize;
+    fn langtag_minimize(bytes: *const u8, len: usize, buffer: *mut u8, buffer_len: usize) -> usize;
+    fn langtag_distance(
+        desired: *const u8,
+        desired_len: usize,
+        supported: *const u8,
+        supported_len: usize,
+    ) -> u32;
 }
 
 /// The C function alone.
@@ -63,23 +71,88 @@ fn entry_oxilangtag(text: &str) -> usize {
     1
 }
 
-/// The C function that writes a canonical form.
-#[no_mangle]
-#[inline(never)]
-fn entry_langtag_canonical(text: &str) -> usize {
+type Write = unsafe extern "C" fn(*const u8, usize, *mut u8, usize) -> usize;
+
+/// Has a C function write a form of a tag.
+fn written(write: Write, text: &str) -> usize {
     let mut buffer = MaybeUninit::<[u8; 64]>::uninit();
     // SAFETY: the pointer and the length are those of a live slice, and 64 bytes can be written at `buffer`.
-    let len =
-        unsafe { langtag_canonical(text.as_ptr(), text.len(), buffer.as_mut_ptr().cast(), 64) };
+    let len = unsafe { write(text.as_ptr(), text.len(), buffer.as_mut_ptr().cast(), 64) };
     black_box(&buffer);
     len
 }
 
-const ENTRIES: [(&str, fn(&str) -> usize); 4] = [
+/// The C functions that write a form.
+#[no_mangle]
+#[inline(never)]
+fn entry_langtag_canonical(text: &str) -> usize {
+    written(langtag_canonical, text)
+}
+
+#[no_mangle]
+#[inline(never)]
+fn entry_langtag_maximize(text: &str) -> usize {
+    written(langtag_maximize, text)
+}
+
+#[no_mangle]
+#[inline(never)]
+fn entry_langtag_minimize(text: &str) -> usize {
+    written(langtag_minimize, text)
+}
+
+/// The C function that says how far a supported tag is, `en-GB`.
+#[no_mangle]
+#[inline(never)]
+fn entry_langtag_distance(text: &str) -> usize {
+    // SAFETY: the pointers and the lengths are those of live slices.
+    let distance = unsafe { langtag_distance(text.as_ptr(), text.len(), "en-GB".as_ptr(), 5) };
+    distance as usize
+}
+
+/// The canonical form by the Rust crate, with the parse before it.
+#[no_mangle]
+#[inline(never)]
+fn entry_to_canonical(text: &str) -> usize {
+    let tag = langtag_verified::LangTag::new(text);
+    tag.map_or(0, |tag| black_box(tag.to_canonical()).as_str().len())
+}
+
+/// Whether a tag is its canonical form, with the parse before it.
+#[no_mangle]
+#[inline(never)]
+fn entry_is_canonical(text: &str) -> usize {
+    let tag = langtag_verified::LangTag::new(text);
+    usize::from(tag.is_ok_and(|tag| tag.is_canonical()))
+}
+
+/// The same as `entry_oxilangtag` by ICU's class `Locale`, in C++.
+#[cfg(icu)]
+#[no_mangle]
+#[inline(never)]
+fn entry_icu(text: &str) -> usize {
+    extern "C" {
+        fn parts_by_icu(bytes: *const u8, len: usize) -> usize;
+    }
+    // SAFETY: the pointer and the length are those of a live slice.
+    unsafe { parts_by_icu(text.as_ptr(), text.len()) }
+}
+
+type Entry = (&'static str, fn(&str) -> usize);
+
+/// What is timed. The first one is that to which the others are compared.
+const ENTRIES: &[Entry] = &[
+    ("oxilangtag", entry_oxilangtag),
     ("langtag_parse", entry_langtag_parse),
     ("langtag_verified", entry_langtag_verified),
-    ("oxilangtag", entry_oxilangtag),
+    #[cfg(icu)]
+    ("icu", entry_icu),
     ("langtag_canonical", entry_langtag_canonical),
+    ("to_canonical", entry_to_canonical),
+    ("is_canonical", entry_is_canonical),
+    ("langtag_maximize", entry_langtag_maximize),
+    ("langtag_minimize", entry_langtag_minimize),
+    ("langtag_distance", entry_langtag_distance),
 ];
 
 /// Goes once over all tags, and gives the nanoseconds that it took.
@@ -91,24 +164,20 @@ fn pass(entry: fn(&str) -> usize, tags: &[&str]) -> u128 {
     start.elapsed().as_nanos()
 }
 
-/// The median of some passes, which the entries make in turns, so that a slow moment of the machine meets each of them.
+/// The least time over the pieces of the list, over each of which the entries go in turns: so a busy machine changes little.
 fn time(tags: &[&str]) {
-    const PASSES: usize = 51;
-    let mut times = [const { Vec::new() }; ENTRIES.len()];
-    for _ in 0..PASSES {
-        for ((_, entry), times) in ENTRIES.iter().zip(&mut times) {
-            times.push(pass(*entry, tags));
+    const PASSES: usize = 5;
+    const PIECE: usize = 1000;
+    let mut least = [f64::INFINITY; ENTRIES.len()];
+    for piece in (0..PASSES).flat_map(|_| tags.chunks(PIECE)) {
+        for ((_, entry), least) in ENTRIES.iter().zip(&mut least) {
+            *least = least.min(pass(*entry, piece) as f64 / piece.len() as f64);
         }
     }
-    let medians = times.map(|mut times| {
-        times.sort_unstable();
-        times[PASSES / 2] as f64
-    });
-    for ((name, _), median) in ENTRIES.iter().zip(medians) {
+    for ((name, _), least_of_it) in ENTRIES.iter().zip(least) {
         println!(
-            "{name:<18} {:>8.1} ns a tag {:>6.2} of oxilangtag",
-            median / tags.len() as f64,
-            median / medians[2]
+            "{name:<18} {least_of_it:>8.1} ns a tag {:>6.2} of oxilangtag",
+            least_of_it / least[0]
         );
     }
 }

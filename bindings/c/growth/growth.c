@@ -8,6 +8,18 @@ static langtag_repeated repeated;
 static uint32_t weight;
 static size_t offset;
 static char buffer[2 * sizeof text];
+static langtag_span tags[sizeof text];
+
+/* The tag for a header among those that stand between commas and hyphens of the text, as languages of eight letters do. */
+static size_t best_among(const char *header) {
+    size_t count = 0, start = 0;
+    for (size_t at = 0; at <= len; at++) {
+        if (at < len && text[at] != ',' && text[at] != '-') continue;
+        tags[count++] = (langtag_span){start, at - start};
+        start = at + 1;
+    }
+    return langtag_best_for_header(header, strlen(header), text, len, tags, count);
+}
 
 FUNCTION(parse, result = langtag_parse(text, len, &parts))
 FUNCTION(kind, result = langtag_kind(text, len))
@@ -34,6 +46,7 @@ FUNCTION(distance, result = langtag_distance(text, len, other, len))
 FUNCTION(best_for_header, found = (langtag_span){0, len};
          result = langtag_best_for_header(text, len, "de-DE", 5, &(langtag_span){0, 5}, 1) +
                   langtag_best_for_header("de", 2, text, len, &found, 1))
+FUNCTION(best_of_tags, result = best_among("fr, aaaaaaaa;q=0.5, x-1;q=0, aaaaaaaa-DE;q=0"))
 FUNCTION(from_posix, result = langtag_from_posix(text, len, buffer, sizeof buffer))
 FUNCTION(cldr_version, result = langtag_cldr_version())
 FUNCTION(is_canonical, result = langtag_is_canonical(text, len))
@@ -71,6 +84,7 @@ static const struct function functions[] = {
     {"is_right_to_left", is_right_to_left},
     {"distance", distance},
     {"best_for_header", best_for_header},
+    {"best_of_tags", best_of_tags},
     {"from_posix", from_posix},
     {"cldr_version", cldr_version},
     {"is_canonical", is_canonical},

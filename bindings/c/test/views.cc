@@ -81,7 +81,10 @@ static void check_keys() {
     CHECK(owners.count(langtag::owned_tag(*other)) == 1 && owners.count(owned) == 0 &&
           !langtag::owned_tag::parse("de_CH"));
     owned = owned.with(langtag::part::script, "").with(langtag::part::region, "AT");
-    CHECK(owned.text() == "de-AT");
+    CHECK(owned == "DE-at" && "de-at" == owned && owned != "de" && std::string("de-CH") != owned);
+    const langtag::owned_tag shorter = owned.with(langtag::part::region, ""); // which comes after it
+    CHECK(owned < shorter && shorter > owned && owned <= shorter && shorter >= owned && owned <= owned && owned >= owned);
+    CHECK(!(shorter < owned) && !(owned > shorter) && !(shorter <= owned) && !(owned >= shorter) && owned != shorter);
     bool refused = false;
     try {
         owned = owned.with(langtag::part::script, "Latin");

@@ -1,15 +1,15 @@
 /*
- * Answers each request in the language that its Accept-Language header asks for: node negotiate.js [PORT]
+ * Answers each request in the language that its reader wants, by the header Accept-Language: node negotiate.js [PORT]
  *
- *     curl -H 'Accept-Language: fr;q=0.3, DE-ch-1996;q=0.9' localhost:8080
+ *     curl -H 'Accept-Language: zh-TW,zh;q=0.9,en;q=0.8' localhost:8080
  */
 import { createServer } from "node:http";
-import { tagForHeaderLenient } from "langtag-verified";
+import { bestForHeader } from "langtag-verified";
 
 const GREETINGS = new Map([["en", "Hello"], ["de", "Guten Tag"], ["de-CH", "Grüezi"], ["fr", "Bonjour"], ["zh-Hant", "你好"]]);
 
 const server = createServer((request, response) => {
-    const tag = tagForHeaderLenient(request.headers["accept-language"] ?? "", GREETINGS.keys(), "en");
+    const tag = bestForHeader(request.headers["accept-language"] ?? "", GREETINGS.keys(), "en");
     response.writeHead(200, { "Content-Type": "text/plain; charset=utf-8", "Content-Language": tag, Vary: "Accept-Language" });
     response.end(`${GREETINGS.get(tag)}\n`);
 });

@@ -31,7 +31,7 @@ export class Chromium {
         const { targetInfos } = await browser.#send("Target.getTargets");
         const { targetId } = targetInfos.find(({ type }) => type === "page");
         browser.#session = (await browser.#send("Target.attachToTarget", { targetId, flatten: true })).sessionId;
-        for (const domain of ["Page", "Runtime", "Log", "Network", "Accessibility"]) await browser.send(`${domain}.enable`);
+        for (const domain of ["Page", "Runtime", "Log", "Network", "Accessibility", "Performance"]) await browser.send(`${domain}.enable`);
         return browser;
     }
 
@@ -69,6 +69,12 @@ export class Chromium {
         const { result, exceptionDetails } = await this.send("Runtime.evaluate", { expression, awaitPromise: true, returnByValue: true });
         if (exceptionDetails) throw new Error(exceptionDetails.exception?.description ?? exceptionDetails.text);
         return result.value;
+    }
+
+    /** How long a processor worked for the page, whatever else runs on the machine. */
+    async seconds() {
+        const { metrics } = await this.send("Performance.getMetrics");
+        return metrics.find(({ name }) => name === "ProcessTime").value;
     }
 
     async version() {

@@ -7,7 +7,7 @@ import { fileURLToPath } from "node:url";
 
 const HEADERS = [
     ["", "en"], ["de", "de"], ["fr;q=0.3, DE-ch-1996;q=0.9", "de-CH"], ["fr;q=0, de;q=0.1", "de"], ["ja, *;q=0.1", "en"],
-    ["zh-Hant-TW", "zh-Hant"], ["fr_FR, de;q=0.1", "de"], [",,, ,de,", "de"],
+    ["zh-TW,zh;q=0.9,en;q=0.8", "zh-Hant"], ["de_CH, en;q=0.1", "de-CH"], [",,, ,de,", "de"],
 ];
 
 test("the server answers in the language that is asked for", async () => {

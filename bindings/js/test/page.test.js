@@ -103,11 +103,12 @@ test("hostile texts are texts", { skip }, async () => {
 test("a text of a megabyte", { skip }, async () => {
     await type("tag", `de${"-abcdefgh".repeat(110_000)}`);
     assert.match(await summary("tag"), /^A tag, not valid/);
-    const begun = Date.now();
+    const begun = await browser.seconds();
     await type("range", `de${"-abcdefgh".repeat(110_000)}`);
     await type("header", "de_CH, fr;q=0.5, ".repeat(60_000));
     await type("tags", "de-CH fr ".repeat(110_000));
-    assert.ok(Date.now() - begun < 60_000, `${Date.now() - begun} ms`);
+    const taken = await browser.seconds() - begun;
+    assert.ok(taken < 60, `${taken} seconds of a processor`);
     for (const id of ["tag", "tags", "range", "header"]) await type(id, "de");
 });
 

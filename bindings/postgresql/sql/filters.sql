@@ -56,3 +56,10 @@ SELECT estimate('SELECT * FROM counted WHERE tag <@ ''de'''), estimate('SELECT *
 DROP FUNCTION estimate; DROP TABLE texts, counted;
 -- Bounds
 SELECT langtag_basic_lower('DE-ch'), langtag_basic_upper('DE-ch'), langtag_extended_lower('de-*-CH'), langtag_extended_upper('de-*-CH'), langtag_basic_upper('*');
+-- No bound becomes a tag
+CREATE TABLE tags (tag langtag);
+INSERT INTO tags SELECT langtag_basic_upper('de');
+INSERT INTO tags SELECT langtag_basic_upper('de')::text::langtag;
+SELECT kind(langtag_extended_lower('*'));
+SELECT 'de'::langtag_bound;
+DROP TABLE tags;

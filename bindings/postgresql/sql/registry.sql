@@ -21,6 +21,7 @@ SELECT t, maximized(t), minimized(t), is_right_to_left(t), distance(t, 'zh-TW') 
 -- The best tag for a reader
 SELECT best_for_header('{en,NULL,de-CH,zh-Hant}', 'gsw'), best_for_header('{en,zh-Hant}', 'zh-TW;q=0.5'), best_for_header('{}', 'de');
 SELECT best_for_header('{de}', repeat('a', 9000));
+SELECT best_for_header(array_agg(CASE k WHEN 3 THEN 'de-CH' WHEN 200 THEN 'fr' ELSE 'x-a' END::langtag ORDER BY k), 'de-CH, fr;q=0.5') FROM generate_series(1, 200) AS k;
 -- A dropped extension leaves nothing.
 DROP EXTENSION langtag CASCADE;
 SELECT count(*) FROM pg_proc WHERE proname ~ 'langtag';

@@ -5,6 +5,7 @@ import os
 import struct
 import subprocess
 import tempfile
+import time
 import unittest
 
 import server
@@ -92,6 +93,17 @@ class Faults(unittest.TestCase):
         self.refused("SET statement_timeout = '1s'; SELECT tag_for_header_lenient((SELECT array_agg(('x-' || "
                      "k)::text::langtag) FROM generate_series(1, 30000) AS k), repeat('aa-', 300000) || 'de')",
                      "57014: canceling statement due to statement timeout")
+
+    def test_best_of_many(self):
+        """A choice can be cancelled, and its best stands anywhere among many tags."""
+        self.refused("SELECT best_for_header('{de}', repeat('de,', 3000))", "54000: the header has 9000 bytes, and may have 8192")
+        begun = time.monotonic()
+        self.refused("SET statement_timeout = '1s'; SELECT best_for_header((SELECT array_agg(('zh-x-' || k)::text::langtag) FROM "
+                     "generate_series(1, 20000) AS k), repeat('fr,', 2700))", "57014: canceling statement due to statement timeout")
+        self.assertLess(time.monotonic() - begun, 15)
+        for place in (1, 2, 63, 64, 65, 126, 127, 128, 129, 1000):
+            self.says(f"SELECT best_for_header((SELECT array_agg(CASE WHEN k = {place} THEN 'de-AT-x-a' WHEN k = 1001 THEN 'de-AT-x-b' WHEN k % 2 = 0 THEN "
+                      f"'de-CH-x-c' ELSE 'x-d' END::langtag ORDER BY k) FROM generate_series(1, 1001) AS k), 'de-AT, fr')", "de-AT-x-a")
 
     def test_end_of_the_stack(self):
         """A call of the library at the end of the stack ends the statement, and not the server."""

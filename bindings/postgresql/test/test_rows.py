@@ -56,6 +56,13 @@ def tags(data):
     return "ARRAY[" + ",".join(text(tag) for tag in data.split() if tag != b"''") + "]::text[]::langtag[]"
 
 
+def best(asked, names):
+    """Asked of the tags alone, and of the tags among others that no row asks for, of which the library gets some at a time."""
+    others = f"(SELECT array_agg(CASE WHEN k % 41 = 0 THEN tags[k / 41] ELSE 'x-other' END ORDER BY k) FROM generate_series(1, 41 * cardinality(tags)) AS k)"
+    return (f"SELECT CASE WHEN a IS NOT DISTINCT FROM b THEN a::text ELSE 'differs among others' END FROM (SELECT best_for_header(tags, asked) AS a, "
+            f"best_for_header({others}, asked) AS b FROM (SELECT {tags(names)} AS tags, {text(asked)} AS asked) s) t")
+
+
 def header(asked, names):
     return f"SELECT tag_for_header_lenient({tags(names)}, {text(asked)})::text"
 
@@ -88,8 +95,7 @@ QUERIES = {
     "maximized": lambda tag: f"SELECT maximized({text(tag)}::langtag)::text",
     "minimized": lambda tag: f"SELECT minimized({text(tag)}::langtag)::text",
     "distance": lambda desired, supported: f"SELECT distance({text(desired)}::langtag, {text(supported)}::langtag)::text",
-    "best": lambda asked, names: f"SELECT best_for_header({tags(names)}, {text(asked)})::text",
-    "header": header, "ranges": ranges, "edit": edit,
+    "best": best, "header": header, "ranges": ranges, "edit": edit,
 }
 rows.CALLS.update({"best": 2, "distance": 2, "maximized": 1, "minimized": 1})
 NO_TAG = "22P02"

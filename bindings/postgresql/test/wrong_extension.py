@@ -19,6 +19,7 @@ FAULTS = [
     (C, "return BYTES(value)[0] != '*';", "return true;"),
     (C, "weight <= best_weight", "weight < best_weight"),
     (C, "if (!nulls[k]) tags", "tags"),
+    (C, "        if (best != NULL) some[taken++] = best;\n", ""),
     (C, "if (len > room) {", "if (false) {"),
     (C, "    if (len > sizeof room) folded = palloc(len);\n", ""),
     (C, "(int)len, (uint64)PG_GETARG_INT64(1))", "(int)len, 0)"),
@@ -51,6 +52,7 @@ FAULTS = [
     (SQL, "LANGUAGE internal IMMUTABLE STRICT LEAKPROOF", "LANGUAGE internal IMMUTABLE STRICT"),
     (SQL, "'MODULE_PATHNAME', 'pg_langtag_hash_extended'", "'MODULE_PATHNAME', 'pg_langtag_hash'"),
     (SQL, "RESTRICT = matchingsel", "RESTRICT = eqsel"),
+    (SQL, "langtag_basic_upper(langtag_range) RETURNS langtag_bound", "langtag_basic_upper(langtag_range) RETURNS langtag"),
 ]
 
 

@@ -422,12 +422,15 @@ def from_posix(name: Text) -> bytes | None:
     return buffer.raw[:length] if length else None
 
 
-def best_for_header(header: Text, tags: list[bytes]) -> int:
-    """The index of the best of some tags, or how many there are."""
-    data, spans, start = _bytes(header), (_Span * max(len(tags), 1))(), 0
-    for span, tag in zip(spans, tags):
-        span.start, span.len, start = start, len(tag), start + len(tag)
-    return int(_c.langtag_best_for_header(data, len(data), b"".join(tags), start, spans, len(tags)))
+def best_for_header(header: Text, tags: Iterable[Any], default: Any, tag_class: Any) -> Any:
+    """The best of some tags, or texts of them, or the default."""
+    listed, data, start = list(tags), _bytes(header), 0
+    texts = [(it if isinstance(it, TagBase) else tag_class(it))._data for it in listed]
+    spans = (_Span * max(len(texts), 1))()
+    for span, text in zip(spans, texts):
+        span.start, span.len, start = start, len(text), start + len(text)
+    index = _c.langtag_best_for_header(data, len(data), b"".join(texts), start, spans, len(texts))
+    return listed[index] if index < len(listed) else default
 
 
 def negotiate(header: Text, tags: Iterable[Any], default: Any) -> Any:

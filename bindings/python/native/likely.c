@@ -38,45 +38,71 @@ PyObject *lt_from_posix(PyObject *module, PyObject *from) {
     return made;
 }
 
-/* The lengths of a list of bytes in all; -1 with an exception where one is something else. */
-static Py_ssize_t length_of(PyObject *tags) {
-    Py_ssize_t length = 0;
-    for (Py_ssize_t i = 0; i < PyList_Size(tags); i++) {
-        Py_ssize_t len = PyBytes_Size(PyList_GetItem(tags, i));
-        if (len < 0) return -1;
-        length += len;
-    }
-    return length;
+/* A tag, or the tag of a text by the class that Python calls Tag. A new reference; NULL with an exception where it is neither. */
+static PyObject *as_tag(PyObject *item, PyObject *type) {
+    int is_text = PyUnicode_Check(item) || PyBytes_Check(item);
+    PyObject *tag = is_text ? PyObject_CallFunctionObjArgs(type, item, NULL) : item;
+    if (!is_text) Py_INCREF(tag);
+    if (!tag || lt_as_tag(tag, "a header gets a Tag or a text, and not %S")) return tag;
+    Py_DECREF(tag);
+    return NULL;
 }
 
-/* The index of the best of a list of bytes. Their copies stand in one block, behind their spans. */
-static PyObject *best_of(Text header, PyObject *tags) {
-    Py_ssize_t length = length_of(tags);
-    if (length < 0) return NULL;
-    size_t count = (size_t)PyList_Size(tags), at = 0;
-    langtag_span *spans = PyMem_Malloc(count * sizeof *spans + (size_t)length + 1);
-    if (!spans) return PyErr_NoMemory();
+/* The tags of a list. */
+static PyObject *tags_of(PyObject *listed, PyObject *type) {
+    PyObject *tags = PyList_New(PyList_Size(listed));
+    for (Py_ssize_t i = 0; tags && i < PyList_Size(tags); i++) {
+        PyObject *tag = as_tag(PyList_GetItem(listed, i), type);
+        if (!tag || PyList_SetItem(tags, i, tag)) {
+            Py_DECREF(tags);
+            tags = NULL;
+        }
+    }
+    return tags;
+}
+
+/* The index of the best of a list of tags, and how many there are where it is none; -1 with an exception. The texts are put
+ * one behind the other, in one block with their spans. */
+static Py_ssize_t best_of(Text header, PyObject *tags) {
+    size_t count = (size_t)PyList_Size(tags), length = 0, at = 0;
+    for (size_t i = 0; i < count; i++) length += (size_t)((Value *)PyList_GetItem(tags, (Py_ssize_t)i))->text.len;
+    langtag_span *spans = PyMem_Malloc(count * sizeof *spans + length + 1);
+    if (!spans) {
+        PyErr_NoMemory();
+        return -1;
+    }
     char *text = (char *)(spans + count);
     for (size_t i = 0; i < count; i++) {
-        PyObject *tag = PyList_GetItem(tags, (Py_ssize_t)i);
-        spans[i] = (langtag_span){at, (size_t)PyBytes_Size(tag)};
-        memcpy(text + at, PyBytes_AsString(tag), spans[i].len);
-        at += spans[i].len;
+        const Text *tag = &((Value *)PyList_GetItem(tags, (Py_ssize_t)i))->text;
+        spans[i] = (langtag_span){at, (size_t)tag->len};
+        memcpy(text + at, tag->data, (size_t)tag->len);
+        at += (size_t)tag->len;
     }
     LET_GO(header.len);
     size_t best = langtag_best_for_header(header.data, (size_t)header.len, text, at, spans, count);
     TAKE_BACK();
     PyMem_Free(spans);
-    return PyLong_FromSize_t(best);
+    return (Py_ssize_t)best;
+}
+
+/* Borrowed from the list. */
+static PyObject *best(Text header, PyObject *listed, PyObject *otherwise, PyObject *type) {
+    PyObject *tags = tags_of(listed, type);
+    if (!tags) return NULL;
+    Py_ssize_t index = best_of(header, tags);
+    Py_DECREF(tags);
+    if (index < 0) return NULL;
+    return index < PyList_Size(listed) ? PyList_GetItem(listed, index) : otherwise;
 }
 
 PyObject *lt_best_for_header(PyObject *module, PyObject *arguments) {
     (void)module;
-    PyObject *from, *all;
+    PyObject *from, *all, *otherwise, *type;
     Text header;
-    if (!PyArg_ParseTuple(arguments, "OO", &from, &all) || lt_text(from, &header)) return NULL;
-    PyObject *tags = PySequence_List(all), *best = tags ? best_of(header, tags) : NULL;
-    Py_XDECREF(tags);
+    if (!PyArg_ParseTuple(arguments, "OOOO", &from, &all, &otherwise, &type) || lt_text(from, &header)) return NULL;
+    PyObject *listed = PySequence_List(all), *found = listed ? best(header, listed, otherwise, type) : NULL;
+    Py_XINCREF(found);
+    Py_XDECREF(listed);
     Py_DECREF(header.owner);
-    return best;
+    return found;
 }

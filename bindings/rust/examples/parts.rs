@@ -6,7 +6,7 @@ fn main() {
     let tag = match LangTag::new(&text) {
         Ok(tag) => tag,
         Err(error) => {
-            eprintln!("{error}: it goes wrong after {} bytes", error.viable_len());
+            eprintln!("{error}");
             std::process::exit(1);
         }
     };

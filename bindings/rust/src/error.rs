@@ -25,7 +25,11 @@ impl<T: AsRef<str>> InvalidLangTag<T> {
 
 impl<T: AsRef<str>> fmt::Display for InvalidLangTag<T> {
     fn fmt(&self, f: &mut fmt::Formatter<'_>) -> fmt::Result {
-        write!(f, "invalid language tag {:?}", self.0.as_ref())
+        write!(f, "invalid language tag {:?}", self.0.as_ref())?;
+        match self.refusal() {
+            Some(refusal) => write!(f, ": {refusal}"),
+            None => Ok(()),
+        }
     }
 }
 

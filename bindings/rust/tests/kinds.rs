@@ -25,7 +25,11 @@ fn where_a_text_goes_wrong() {
     assert_eq!(LangTag::new("i-no").unwrap_err().viable_len(), 3);
     assert_eq!(
         LangTag::new("zh_Hant").unwrap_err().to_string(),
-        "invalid language tag \"zh_Hant\""
+        "invalid language tag \"zh_Hant\": `zh_Hant` has a byte that is no letter and no digit"
+    );
+    assert_eq!(
+        LangTag::new("de-419-DE").unwrap_err().to_string(),
+        "invalid language tag \"de-419-DE\": `DE` does not fit there"
     );
 }
 
@@ -44,7 +48,10 @@ fn refusals_outlive_their_text() {
         Ok(LanguageRange::new(range)?.is_basic())
     }
     let error = |tag, range| read(tag, range).unwrap_err().to_string();
-    assert_eq!(error("a b", "*"), "invalid language tag \"a b\"");
+    assert_eq!(
+        error("en-", "*"),
+        "invalid language tag \"en-\": it ends too soon"
+    );
     assert_eq!(error("de", "d*"), "invalid language range \"d*\"");
     assert_eq!(read_range("d*"), Err(InvalidLanguageRange("d*".into())));
 }

@@ -1,4 +1,5 @@
-//! The rows of refusals, likely subtags, distances, directions, names of locales and choices.
+//! The rows of refusals, likely subtags, distances, directions, names of locales and choices; and where `LANGTAG_ANSWERS` names
+//! a file, the C library's answers to other calls.
 #![cfg(feature = "alloc")]
 mod rows;
 
@@ -85,5 +86,9 @@ fn rows() {
     ];
     for (name, calls, floor) in files {
         rows::ask(&rows::path(&format!("{name}.txt")), calls, floor, answer);
+    }
+    if let Ok(path) = std::env::var("LANGTAG_ANSWERS") {
+        let calls = ["refused", "maximized", "minimized", "distance", "right-to-left", "posix"];
+        rows::ask(&path, &calls, 5000, answer);
     }
 }

@@ -1,0 +1,172 @@
+/*
+ * Calls that write a form, ask how near two tags are, choose one or point at a fault, over texts of each length to EACH bytes and
+ * by steps to MOST: each answer is the one that is wanted, in a buffer of just so many bytes, and nothing is written in a smaller
+ * one. It is proved of each; seen here is the code as it is built.
+ */
+#include <langtag.h>
+#include <stdio.h>
+#include <string.h>
+
+enum { EACH = 4200, MOST = 2000000 };
+
+static char text[MOST + 64], wanted[MOST + 64], written[MOST + 64];
+static langtag_span spans[MOST / 2 + 64];
+static size_t calls, faults;
+
+/* Notes a call over the text, and says where it was wrong. */
+static void check(const char *name, size_t len, bool is_right) {
+    calls++;
+    if (!is_right && faults++ < 30) printf("sweep: %s of %zu bytes, %.*s: wrong\n", name, len, len < 40 ? (int)len : 40, text);
+}
+
+/* A text of a shape: a head, so many times a piece, and a tail. */
+struct shape {
+    const char *head, *piece, *tail;
+};
+
+static size_t append(char *to, size_t at, const char *from) {
+    size_t len = strlen(from);
+    memcpy(to + at, from, len);
+    return at + len;
+}
+
+static size_t write_shape(char *to, const struct shape *shape, size_t times) {
+    size_t at = append(to, 0, shape->head);
+    while (times-- > 0) at = append(to, at, shape->piece);
+    return append(to, at, shape->tail);
+}
+
+/* Writes the next longer text of a shape; false where that is longer than any. */
+static bool grow(const struct shape *shape, size_t *times, size_t *len) {
+    *times += *len < EACH ? 1 : *times / 2;
+    if (strlen(shape->head) + *times * strlen(shape->piece) + strlen(shape->tail) > MOST) return false;
+    *len = write_shape(text, shape, *times);
+    return true;
+}
+
+#define LENGTH(array) (sizeof array / sizeof *array)
+
+typedef size_t write_call(const char *, size_t, char *, size_t);
+
+/* Whether a call writes the text that is wanted, of which there is none where its length is 0. */
+static bool is_written(write_call *call, size_t len, size_t wanted_len) {
+    if (call(text, len, written, 0) != wanted_len) return false;
+    memset(written, '~', wanted_len + 1);
+    if (wanted_len > 0 && call(text, len, written, wanted_len - 1) != wanted_len) return false;
+    if (wanted_len > 0 && (written[0] != '~' || memcmp(written, written + 1, wanted_len) != 0)) return false;
+    return call(text, len, written, wanted_len) == wanted_len && memcmp(written, wanted, wanted_len) == 0 && written[wanted_len] == '~';
+}
+
+static const struct {
+    const char *name;
+    write_call *call;
+    struct shape given, wanted;
+} forms[] = {
+    {"maximize", langtag_maximize, {"zh-TW", "-abcde", ""}, {"zh-Hant-TW", "-abcde", ""}},
+    {"maximize", langtag_maximize, {"und-x", "-a", ""}, {"en-Latn-US-x", "-a", ""}},
+    {"maximize", langtag_maximize, {"zh-yue-u-co", "-bcd", ""}, {"zh-yue-Hant-HK-u-co", "-bcd", ""}},
+    {"maximize", langtag_maximize, {"SR-me", "-A-bb", "-x-C"}, {"SR-Latn-me", "-A-bb", "-x-C"}},
+    {"maximize", langtag_maximize, {"az-Zzzz-ZZ-0", "-12345678", ""}, {"az-Latn-AZ-0", "-12345678", ""}},
+    {"maximize", langtag_maximize, {"x", "-a", ""}, {"x", "-a", ""}},
+    {"maximize", langtag_maximize, {"qaa-x", "-a", ""}, {"qaa-x", "-a", ""}},
+    {"minimize", langtag_minimize, {"zh-Hant-TW", "-abcde", ""}, {"zh-TW", "-abcde", ""}},
+    {"minimize", langtag_minimize, {"en-Latn-US-x", "-a", ""}, {"en-x", "-a", ""}},
+    {"minimize", langtag_minimize, {"ZH-YUE-HANT-hk-u-co", "-bcd", ""}, {"ZH-YUE-u-co", "-bcd", ""}},
+    {"minimize", langtag_minimize, {"und-Hmng-a", "-bb", ""}, {"hnj-Hmng-LA-a", "-bb", ""}},
+    {"minimize", langtag_minimize, {"x", "-a", ""}, {"x", "-a", ""}},
+    {"minimize", langtag_minimize, {"qaa-Latn-QM", "-1996", ""}, {"qaa-Latn-QM", "-1996", ""}},
+    {"from_posix", langtag_from_posix, {"pt_BR.", "a", ""}, {"pt-BR", "", ""}},
+    {"from_posix", langtag_from_posix, {"sr_RS.", "_.", "@latin"}, {"sr-Latn-RS", "", ""}},
+    {"from_posix", langtag_from_posix, {"ca_ES@", "valencia", "@"}, {"ca-ES", "", ""}},
+};
+
+static void sweep_form(const char *name, write_call *call, const struct shape *given, const struct shape *other) {
+    for (size_t times = 0, len = 0; grow(given, &times, &len);) check(name, len, is_written(call, len, write_shape(wanted, other, times)));
+}
+
+/* Names whose language and territory have up to 255 bytes are tags, and longer ones none. */
+static void sweep_names(void) {
+    static const struct shape given = {"de", "_abcde", "@cyrillic"}, other = {"de-Cyrl", "-abcde", ""};
+    for (size_t times = 0, len = 0; grow(&given, &times, &len);) {
+        size_t wanted_len = len - strlen("@cyrillic") <= 255 ? write_shape(wanted, &other, times) : 0;
+        check("from_posix", len, is_written(langtag_from_posix, len, wanted_len));
+    }
+}
+
+/* Tags, how far they are from de and de from them, and whether they are written from right to left. */
+static const struct {
+    struct shape tag;
+    uint32_t distance, back;
+    bool is_right_to_left;
+} tags[] = {
+    {{"de-AT", "-1996", ""}, 4, 4, false},
+    {{"gsw-x", "-a", ""}, 8, 84, false},
+    {{"az-Arab-a", "-bb", ""}, 134, 134, true},
+    {{"ar-Latn", "-abcde", ""}, 84, 84, false},
+    {{"iw", "-x-IL-y", ""}, 134, 134, true},
+    {{"x", "-a", ""}, 255, 255, false},
+};
+
+static void sweep_tag(const struct shape *tag, uint32_t distance, uint32_t back, bool is_right_to_left) {
+    for (size_t times = 0, len = 0; grow(tag, &times, &len);) {
+        check("distance", len, langtag_distance(text, len, "de", 2) == distance && langtag_distance("de", 2, text, len) == back);
+        check("distance", len, langtag_distance(text, len, text, len) == 0);
+        check("is_right_to_left", len, langtag_is_right_to_left(text, len) == is_right_to_left);
+    }
+}
+
+/* What is not a tag: why, how far before its end the subtag begins and the byte stands, and how long the subtag is. */
+static const struct {
+    struct shape text;
+    uint32_t answer;
+    size_t before, subtag_len, offset_before;
+} refusals[] = {
+    {{"de", "-abcde", "-"}, LANGTAG_REFUSED_END, 0, 0, 0},
+    {{"x-a", "-bcd", "-e_f"}, LANGTAG_REFUSED_BYTE, 3, 3, 2},
+    {{"de-a", "-bb", "-abcdefghi-x-y"}, LANGTAG_REFUSED_SUBTAG, 13, 9, 13},
+    {{"de", "-12345", "-DE"}, LANGTAG_REFUSED_SUBTAG, 2, 2, 2},
+};
+
+static void sweep_refusal(const struct shape *shape, uint32_t answer, size_t before, size_t subtag_len, size_t offset_before) {
+    for (size_t times = 0, len = 0; grow(shape, &times, &len);) {
+        langtag_span subtag;
+        size_t offset;
+        bool is_right = langtag_refused(text, len, &subtag, &offset) == answer && offset == len - offset_before;
+        check("refused", len, is_right && subtag.start == len - before && subtag.len == subtag_len);
+        check("distance", len, langtag_distance("de", 2, text, len) == LANGTAG_NO_DISTANCE && langtag_maximize(text, len, written, MOST) == 0);
+    }
+}
+
+/* Headers that choose the second of three tags. */
+static const struct shape headers[] = {
+    {"", "fr;q=0.5,", "de-ch-1996;q=0.1"}, {"", " ", "de_CH.UTF-8"},    {"de-LI", "-a", ""},          {"de-CH", ";a=b", ";q=0.1"},
+    {"", ",", "gsw"},                      {"fr;q=0", ",it;q=0", ",gsw"}, {"de;q=0.5", "0", ", fr;q=0"}, {"*", ",?", ",de-CH"},
+};
+
+static size_t choice(size_t header_len) {
+    return langtag_best_for_header(text, header_len, "en,de-CH,ja", 11, (langtag_span[]){{0, 2}, {3, 5}, {9, 2}}, 3);
+}
+
+/* More and more tags, of which the header chooses the last, and then one of a range of weight 0. */
+static void sweep_choices(void) {
+    static const struct shape many = {"", "en,", "DE-ch"};
+    static const char *const wish = "fr, de-ch-1996;q=0.9", *const zero = "de, de-CH;q=0";
+    for (size_t row = 0; row < LENGTH(headers); row++)
+        for (size_t times = 0, len = 0; grow(&headers[row], &times, &len);) check("best_for_header", len, choice(len) == 1);
+    for (size_t times = 0, len = 0; grow(&many, &times, &len);) {
+        for (size_t tag = 0; tag <= times; tag++) spans[tag] = (langtag_span){3 * tag, tag < times ? 2 : 5};
+        check("best_for_header", len, langtag_best_for_header(wish, strlen(wish), text, len, spans, times + 1) == times);
+        check("best_for_header", len, langtag_best_for_header(zero, strlen(zero), text, len, spans, times + 1) == times + 1);
+    }
+}
+
+int main(void) {
+    for (size_t row = 0; row < LENGTH(forms); row++) sweep_form(forms[row].name, forms[row].call, &forms[row].given, &forms[row].wanted);
+    sweep_names();
+    for (size_t row = 0; row < LENGTH(tags); row++) sweep_tag(&tags[row].tag, tags[row].distance, tags[row].back, tags[row].is_right_to_left);
+    for (size_t row = 0; row < LENGTH(refusals); row++)
+        sweep_refusal(&refusals[row].text, refusals[row].answer, refusals[row].before, refusals[row].subtag_len, refusals[row].offset_before);
+    sweep_choices();
+    printf("sweep: %zu calls, %zu faults\n", calls, faults);
+    return faults != 0;
+}

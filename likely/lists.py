@@ -1,0 +1,78 @@
+"""Holds the lists of specs/, of which generate.py writes the long ones, against oracle.py's reading of the data."""
+from __future__ import annotations
+
+import re
+from collections.abc import Iterator
+from pathlib import Path
+
+import oracle
+
+PAGES = ["LikelySubtags", "MatchingData", "Direction", "Nearness"]
+
+# How many words a row of a list has; one, where it is not named.
+WIDTH = {"language_rows": 3, "other_rows": 6, "language_aliases": 6, "region_aliases": 6, "language_rules": 3, "script_rules": 5, "is_paradigm": 2}
+
+# The lists of regions by the names that the data have for their sets.
+SETS = {"maghreb": "$maghreb", "en_us": "$enUS", "americas": "$americas", "cnsar": "$cnsar"}
+
+# What stands beside the data: the variants of Arab and Syrc that have codes of their own (ISO 15924).
+SCRIPT_VARIANTS = ["Aran", "Syre", "Syrj", "Syrn"]
+
+
+def written(page: str) -> dict[str, list[tuple]]:
+    """The rows of each list of a page, in small letters."""
+    lists = {}
+    for name, body in re.findall(r"(?ms)^(\w+)(?: form)? =(.*?)(?:\n\n|\Z)", page):
+        if name in WIDTH or "words" in body:
+            words = " ".join(re.findall(r'codes "([^"]*)"', body)).lower().split()
+            width = WIDTH.get(name, 1)
+            lists[name] = [tuple(words[at:at + width]) for at in range(0, len(words), width)]
+    return lists
+
+
+def both_ways(rules: list, row) -> list[tuple]:
+    """The rows of rules, each in the directions in which it holds."""
+    pairs = [(pair, far) for pair, far, _ in rules] + [(pair[::-1], far) for pair, far, one_way in rules if not one_way]
+    return [(*row(desired), *row(supported), str(far)) for (desired, supported), far in pairs]
+
+
+def alone(row: tuple) -> bool:
+    return row[0] != "" and row[1:] == ("", "")
+
+
+def regions_of_sets() -> Iterator[tuple[str, list[tuple]]]:
+    """Of each set the regions that lie inside, a group where all its countries do, and the groups that lie partly inside."""
+    for name, of in SETS.items():
+        groups = {group: countries & oracle.SETS[of] for group, countries in oracle.GROUPS.items()}
+        countries = oracle.SETS[of] - oracle.GROUPS.keys()
+        yield f"{name}_inside", [(region,) for region in countries | {group for group, found in groups.items() if found == oracle.GROUPS[group]}]
+        yield f"{name}_partly", [(group,) for group, found in groups.items() if found and found != oracle.GROUPS[group]]
+
+
+def wanted() -> dict[str, list[tuple]]:
+    """What each list should have."""
+    paradigms = [oracle.Tag(row[0]).fields for row in oracle.rows("paradigms.txt")]
+    return {
+        "language_rows": [(left[0], *right[1:]) for left, right in oracle.LIKELY.items() if alone(left)],
+        "other_rows": [(*left, *right) for left, right in oracle.LIKELY.items() if not alone(left)],
+        "language_aliases": [(name, "", "", *to) for name, to in oracle.ALIASES.items()],
+        "region_aliases": [("", "", name, "", "", to) for name, to in oracle.REGION_ALIASES.items()],
+        "language_rules": both_ways(oracle.LANGUAGE_RULES, lambda language: [language]),
+        "script_rules": both_ways(oracle.SCRIPT_RULES, lambda text: text.split("-")),
+        "right_to_left_scripts": [(row[0],) for row in oracle.rows("right-to-left.txt")] + [(name,) for name in SCRIPT_VARIANTS],
+        "is_paradigm": [(language, region) for language, _, region in paradigms if region and oracle.unlikely(f"{language}-{region}") > 0],
+        **dict(regions_of_sets()),
+    }
+
+
+def differences(specs: Path) -> Iterator[str]:
+    """A line for each list that the pages have otherwise, lack or add."""
+    ours, theirs = {}, wanted()
+    for page in PAGES:
+        ours.update(written((specs / f"{page}.antt").read_text(encoding="utf-8")))
+    for name in sorted(ours.keys() ^ theirs.keys()):
+        yield f"{name}: {'not read a second time' if name in ours else 'not on its page'}"
+    for name in sorted(ours.keys() & theirs.keys()):
+        rows = [tuple(word.lower() or "-" for word in row) for row in theirs[name]]
+        if sorted(ours[name]) != sorted(rows):
+            yield f"{name}: differs from a second reading of the data, as in {sorted(set(ours[name]) ^ set(rows))[:5] or 'a row that stands twice'}"

@@ -1,0 +1,170 @@
+#!/usr/bin/env python3
+"""Lines to ask of oracle.py and of a program.
+
+usage: questions.py tags|pairs|rows COUNT SEED    prints that many tags, pairs of tags, or rows of crates/langtag_rows/data
+       questions.py each                          prints rows for what the data speak of: each side of a row, and each rule
+"""
+import functools
+import random
+import sys
+
+from oracle import (ALIASES, GROUPS, LANGUAGE_RULES, LIKELY, REGION_ALIASES, RIGHT_TO_LEFT, SCRIPT_RULES, Tag, add_likely, element,
+                    escaped, lower)
+
+
+# ---- tags
+
+
+@functools.lru_cache(None)
+def names_of_fields():
+    languages = sorted({row[0] or "und" for row in LIKELY} | {"iw", "sh", "qqq", "qaaaa", "x-a", "zh-yue", "zh-min-nan", "sgn-ase"})
+    scripts = sorted({row[1] for row in LIKELY} | {row[1] for row in LIKELY.values()} | {"Zzzz", "Qaaa"})
+    regions = sorted({row[2] for row in LIKELY} | {row[2] for row in LIKELY.values()} | {"ZZ", "QQ", "999"})
+    return languages, scripts, regions
+
+
+def random_tag(rng):
+    languages, scripts, regions = names_of_fields()
+    text = rng.choice(languages)
+    if rng.random() < 0.5 and rng.choice(scripts):
+        text += "-" + (rng.choice(scripts) or "Latn")
+    if rng.random() < 0.6:
+        text += "-" + (rng.choice(regions) or "US")
+    if rng.random() < 0.2:
+        text += rng.choice(["-1996", "-x-a", "-u-co-phonebk", "-valencia-x-y", "-a-bb"])
+    if rng.random() < 0.2:
+        text = "".join(rng.choice((letter.upper(), letter.lower())) for letter in text)
+    return text
+
+
+NEAR = [language for pair, _, _ in LANGUAGE_RULES for language in pair] + ["ar", "en", "es", "pt", "zh", "ja", "sr", "ko"] * 40 + list(ALIASES) * 4
+NEAR_REGIONS = (sorted(GROUPS) + sorted(REGION_ALIASES) + ["GB", "US", "HK", "MO", "TW", "MA", "BR", "PT", "MX", "ES", "419", "ZZ", "qq"] * 6
+                + sorted(GROUPS["001"]))
+
+
+def near_tag(rng):
+    """A tag, often one that a rule speaks of."""
+    if rng.random() < 0.3:
+        return random_tag(rng)
+    text = rng.choice(NEAR)
+    if rng.random() < 0.3:
+        text += "-" + rng.choice(["Latn", "Cyrl", "Arab", "Hant", "Hans", "Hani", "Kana", "Jpan", "Deva", "zzzz", "Qaaa"])
+    if rng.random() < 0.7:
+        text += "-" + rng.choice(NEAR_REGIONS)
+    return text
+
+
+def random_pair(rng):
+    """Two tags, often of languages, scripts and regions that rules name."""
+    which = rng.random()
+    if which < 0.2:
+        pair = rng.choice(rng.choice((LANGUAGE_RULES, SCRIPT_RULES)))[0]
+        return " ".join(pair if rng.random() < 0.6 else pair[::-1])
+    first = near_tag(rng)
+    if which < 0.6:
+        language = first.split("-")[0]
+        second = "-".join([language] + near_tag(rng).split("-")[1:])
+        return first + " " + (second if Tag(second) else near_tag(rng))
+    return first + " " + near_tag(rng)
+
+
+# ---- rows
+
+
+ODD_WISHES = ["*", "x-a", "i-klingon", "und", "en-a-bbb", "zh-Hant-CN-x-private1", "de-1996", "a", "*-CH", "german", ""]
+WEIGHTS = ["", "", ";q=0.%d", "; q=0.%d", ";q=0.%03d", ";q=0", ";q=0", ";q=0.0", ";q=1"]
+ODD_WEIGHTS = [";q=", ";q=x", ";q=1.5", ";Q=.%d", ";level=1;q=0.%d", ";q=0.5;q=0.%d", " ;\tq =\t0.%d ", ";", ";q", "; a=b ; c", ";q=0.0004", ";qq=0"]
+
+
+def random_element(rng):
+    """An element of a header, now and then a broken one."""
+    wish = near_tag(rng) if rng.random() < 0.9 else rng.choice(ODD_WISHES)
+    if rng.random() < 0.1:
+        wish = wish.replace("-", "_") + rng.choice(["", ".UTF-8", "@euro", "@", ".", " .b"])
+    weight = rng.choice(WEIGHTS if rng.random() < 0.9 else ODD_WEIGHTS)
+    return wish + (weight % rng.randrange(10) if "%" in weight else weight)
+
+
+def tag_for(wish, rng):
+    """A tag that a range may get: the same one, or one of its language."""
+    return rng.choice([wish, wish, wish.swapcase(), *(wish.split("-")[0] + more for more in ("", "-US", "-Latn", "-1996", "-x-a"))])
+
+
+def random_choice(rng):
+    elements = [random_element(rng) for _ in range(rng.choice([0, 1, 1, 2, 2, 3, 3, 4, 5, 8, 13]))]
+    tags = [near_tag(rng) for _ in range(rng.choice([0, 1, 1, 2, 3, 4, 6, 9]))]
+    for wish in (found[0] for found in map(element, elements) if found and found[0] != "*"):
+        if rng.random() < 0.3:
+            tags.insert(rng.randrange(len(tags) + 1), tag_for(wish, rng))
+    if rng.random() < 0.1:
+        tags.append(rng.choice(["x-a", "i-klingon", "en-GB-oed", "und", "de_CH", "a", "en-", "en"]))
+    header = rng.choice([",", ",", ", ", " ,,"]).join(elements)
+    return f"best | {escaped_header(header)} | {' '.join(tags) or escaped('')}"
+
+
+def escaped_header(text):
+    """Spaces stand as they are: a row is taken apart at its bars."""
+    return " ".join(escaped(word) if word else "" for word in text.split(" ")) or escaped("")
+
+
+ODD_PLACES = ["C", "POSIX", "posix", "", "i-klingon", "x-a", "en-GB-oed", "de-1996", "ca-valencia-1996-x-a", "zh-yue-HK",
+              "de" + "-a1234567" * 28, "deu" + "-a1234567" * 28, "de-AT" + "-a1234567" * 28]
+MODIFIERS = ["latin", "cyrillic", "devanagari", "valencia", "euro", "Latin", "VALENCIA", "latin@euro", "latin.UTF-8", "", "phonebook", "lati", "latinx"]
+
+
+def random_name(rng):
+    text = near_tag(rng) if rng.random() < 0.9 else rng.choice(ODD_PLACES)
+    text = text.replace("-", "_") if rng.random() < 0.8 else text
+    text += rng.choice(["", "", ".UTF-8", ".utf8", ".ISO-8859-15", ".", ".a.b", ".a_b"])
+    if rng.random() < 0.5:
+        text += "@" + rng.choice(MODIFIERS)
+    return text if rng.random() < 0.95 else mutated(text, rng)
+
+
+def mutated(text, rng):
+    place = rng.randrange(len(text) + 1)
+    return text[:place] + rng.choice(["-", "_", "1", "\x80", "@", "a"]) + text[place + rng.choice([0, 1]):]
+
+
+def random_row(rng):
+    how = rng.randrange(6)
+    if how < 3:
+        text = random_tag(rng) if rng.random() < 0.5 else near_tag(rng)
+        return ("maximized", "minimized", "right-to-left")[how] + " " + escaped(text if rng.random() < 0.95 else mutated(text, rng))
+    if how == 3:
+        return "distance " + random_pair(rng)
+    return random_choice(rng) if how == 4 else "posix " + escaped(random_name(rng))
+
+
+def each():
+    """Rows for what the data speak of."""
+    triples = sorted(set(LIKELY) | {lower(row) for row in LIKELY.values()} | {lower(add_likely(key)) for key in LIKELY})
+    tags = ["-".join(filter(None, (fields[0] or "und", *fields[1:]))) for fields in triples]
+    beside_und = sorted({row[1] for row in LIKELY.values()} | RIGHT_TO_LEFT) + sorted(REGION_ALIASES)
+    for tag in tags + sorted(ALIASES) + ["und-" + subtag for subtag in beside_und]:
+        print(f"maximized {tag}\nminimized {tag}\nright-to-left {tag}")
+    for pair, _, _ in LANGUAGE_RULES + SCRIPT_RULES:
+        print(f"distance {pair[0]} {pair[1]}\ndistance {pair[1]} {pair[0]}")
+    regions = sorted(set(GROUPS) | set().union(*GROUPS.values()) | set(REGION_ALIASES))
+    for language in ("ar", "en", "es", "pt", "zh-Hant", "de"):
+        for region in regions:
+            for other in ("GB", "US", "419", "MA", "HK", "150"):
+                print(f"distance {language}-{region} {language}-{other}\ndistance {language}-{other} {language}-{region}")
+
+
+MAKERS = {"tags": random_tag, "pairs": random_pair, "rows": random_row}
+
+
+def main():
+    words = sys.argv[1:]
+    if words == ["each"]:
+        return each()
+    if len(words) != 3 or words[0] not in MAKERS:
+        sys.exit(__doc__)
+    rng = random.Random(int(words[2]))
+    for _ in range(int(words[1])):
+        print(MAKERS[words[0]](rng))
+
+
+if __name__ == "__main__":
+    main()
