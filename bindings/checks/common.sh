@@ -1,7 +1,9 @@
 # What the parts of bindings/check share.
 passed=0 failed=0
 
-limit=$((400 + 2 * FUZZ_SECONDS)) # seconds that a check may take; one of them runs random texts twice
+# Seconds after which a check is ended, as one that hangs: some take two minutes, and on a busy machine many times that. One of them
+# runs random texts twice.
+limit=$((1800 + 2 * FUZZ_SECONDS))
 
 # check NAME COMMAND..: runs a command or a function, and shows what it said where it failed.
 check() {

@@ -3,8 +3,8 @@
 if ! has rt && [ -z "${RT_VERSION:-}" ]; then RT_VERSION="not known: there was no rt"; fi
 
 releases() {
-    mkdir -p "$work/likely" "$work/docs" && cp "$root"/LICENSE-* "$work" || return 1
-    cp "$root/likely/LICENSE-UNICODE" "$work/likely" && cp "$root/docs/BINDINGS.md" "$work/docs" || return 1
+    (cd "$root" && cp --parents $(sed -n '/^LICENCES = /s/[^"]*"\([^"]*\)"[^"]*/\1 /gp' "$here/release") "$work") || return 1
+    mkdir -p "$work/docs" && cp "$root/docs/BINDINGS.md" "$work/docs" || return 1
     local targets=()
     if [ -n "${aarch64_archive:-}" ]; then targets+=(--target "aarch64-unknown-linux-gnu=$aarch64_archive"); fi
     if [ -n "${wasm_archive:-}" ]; then targets+=(--target "wasm64-unknown-unknown=$wasm_archive"); fi
