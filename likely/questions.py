@@ -71,9 +71,10 @@ def random_pair(rng):
 # ---- rows
 
 
-ODD_WISHES = ["*", "x-a", "i-klingon", "und", "en-a-bbb", "zh-Hant-CN-x-private1", "de-1996", "a", "*-CH", "german", ""]
+ODD_WISHES = ["*", "x-a", "i-klingon", "und", "en-a-bbb", "zh-Hant-CN-x-private1", "en-x-a-b", "de-1996", "a", "*-CH", "german", ""]
 WEIGHTS = ["", "", ";q=0.%d", "; q=0.%d", ";q=0.%03d", ";q=0", ";q=0", ";q=0.0", ";q=1"]
-ODD_WEIGHTS = [";q=", ";q=x", ";q=1.5", ";Q=.%d", ";level=1;q=0.%d", ";q=0.5;q=0.%d", " ;\tq =\t0.%d ", ";", ";q", "; a=b ; c", ";q=0.0004", ";qq=0"]
+ODD_WEIGHTS = [";q=", ";q=x", ";q=1.5", ";Q=.%d", ";level=1;q=0.%d", ";q=0.5;q=0.%d", " ;\tq =\t0.%d ", ";", ";q", "; a=b ; c", ";qq=0", ";q=0.0006",
+               ";q=0.9996"]
 
 
 def random_element(rng):
@@ -85,9 +86,12 @@ def random_element(rng):
     return wish + (weight % rng.randrange(10) if "%" in weight else weight)
 
 
-def tag_for(wish, rng):
-    """A tag that a range may get: the same one, or one of its language."""
-    return rng.choice([wish, wish, wish.swapcase(), *(wish.split("-")[0] + more for more in ("", "-US", "-Latn", "-1996", "-x-a"))])
+def tags_for(wish, rng):
+    """Tags that a range may get: the same one, one that it begins with, or some of its language."""
+    language = wish.split("-")[0]
+    if rng.random() < 0.5:
+        return [rng.choice([wish, wish.swapcase(), wish.rpartition("-")[0] or wish, language, language + "-1996", language + "-x-a"])]
+    return [language + rng.choice(["", "", "-Latn", "-Arab", "-Hant"]) + "-" + rng.choice(NEAR_REGIONS) for _ in range(rng.randrange(1, 6))]
 
 
 def random_choice(rng):
@@ -95,7 +99,8 @@ def random_choice(rng):
     tags = [near_tag(rng) for _ in range(rng.choice([0, 1, 1, 2, 3, 4, 6, 9]))]
     for wish in (found[0] for found in map(element, elements) if found and found[0] != "*"):
         if rng.random() < 0.3:
-            tags.insert(rng.randrange(len(tags) + 1), tag_for(wish, rng))
+            place = rng.randrange(len(tags) + 1)
+            tags[place:place] = tags_for(wish, rng)
     if rng.random() < 0.1:
         tags.append(rng.choice(["x-a", "i-klingon", "en-GB-oed", "und", "de_CH", "a", "en-", "en"]))
     header = rng.choice([",", ",", ", ", " ,,"]).join(elements)
@@ -108,7 +113,7 @@ def escaped_header(text):
 
 
 ODD_PLACES = ["C", "POSIX", "posix", "", "i-klingon", "x-a", "en-GB-oed", "de-1996", "ca-valencia-1996-x-a", "zh-yue-HK",
-              "de" + "-a1234567" * 28, "deu" + "-a1234567" * 28, "de-AT" + "-a1234567" * 28]
+              "deu" + "-a1234567" * 28, "abcd" + "-a1234567" * 28]
 MODIFIERS = ["latin", "cyrillic", "devanagari", "valencia", "euro", "Latin", "VALENCIA", "latin@euro", "latin.UTF-8", "", "phonebook", "lati", "latinx"]
 
 
