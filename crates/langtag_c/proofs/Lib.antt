@@ -9,8 +9,7 @@ mod RepeatSpans
 mod ItemLaws
 mod PlaceLaws
 mod ReadingLaws
-mod PartChanges
-mod PartTexts
+mod PartLaws
 mod PutLaws
 mod TagLengths
 mod LikelyForms

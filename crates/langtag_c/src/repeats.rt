@@ -1,5 +1,5 @@
 //! Variants and singletons that stand in a tag twice (RFC 5646 section 2.2.9).
-ghost use Rattle.std.specs.Prelude.{◌≡◌, ◌<◌, ◌^◌, MatchOption, Some, is_some, length, map, unwrap_or};
+ghost use Rattle.std.specs.Prelude.{◌≡◌, ◌<◌, ◌^◌, Some, is_some, length, map, unwrap_or};
 ghost use Rattle.langtag_scan.specs.Case.{are_alike};
 ghost use Rattle.langtag_scan.specs.Record.{EachRecord};
 ghost use Rattle.langtag_scan.specs.Tag.{IsNormal};
@@ -10,6 +10,7 @@ ghost use Rattle.langtag_c.specs.Repeats.{member_span, none_repeated, singleton_
 ghost use Rattle.langtag_c.specs.Spans.{empty_at};
 
 use crate::span::Span;
+use crate::tag::normal_tag_of;
 use langtag::NormalLangTag;
 
 /// Where the first variant and the first singleton stand that are equal, but for case, to an earlier one. What is not there
@@ -50,15 +51,6 @@ pub extern "C" fn langtag_repeats(bytes: &[u8], repeated: &mut Repeated) -> u32
         singleton: singleton.unwrap_or(none),
     };
     flags(variant.is_some(), singleton.is_some())
-}
-
-/// The normal tag that the bytes are.
-#[tactic(auto, using(crate::proofs::RangeLaws::utf8, langtag_scan::proofs::TagLaws::tag_normal))]
-fn normal_tag_of<'a>(bytes: &'a [u8]) -> Option<NormalLangTag<'a>>
-    ensures { MatchOption result (IsNormal bytes.now → ⊥) (λ tag. (normal_lang_tag_text tag ≡ bytes.now) × IsNormal bytes.now) }
-{
-    let text = str::from_utf8(bytes).ok()?;
-    NormalLangTag::new(text).ok()
 }
 
 /// Where the first repeated variant stands in a tag.

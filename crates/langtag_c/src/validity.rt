@@ -8,9 +8,9 @@ ghost use Rattle.langtag_registry.specs.Valid.{IsValid};
 ghost use Rattle.langtag_c.specs.Spans.{empty_at};
 ghost use Rattle.langtag_c.specs.Validity.{number_of, place_of};
 
-use crate::range::tag_of;
 use crate::repeats::{singleton_at, variant_at};
 use crate::span::Span;
+use crate::tag::tag_of;
 use langtag::NormalLangTag;
 use langtag_registry::{InvalidSubtag, fault_at};
 
