@@ -37,8 +37,5 @@ pub extern "C" fn langtag_best_for_header(header: &[u8], bytes: &[u8], tags: &[S
         text: bytes,
         spans: tags,
     };
-    match best_among(header, &spanned) {
-        Some(index) => index,
-        None => tags.len(),
-    }
+    best_among(header, &spanned).unwrap_or(tags.len())
 }

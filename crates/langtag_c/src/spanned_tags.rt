@@ -1,5 +1,4 @@
 //! The tags that spans of a text are.
-ghost use Rattle.std.specs.Prelude.{◌≡◌};
 ghost use Rattle.std.specs.Option.{option_map};
 ghost use Rattle.langtag.specs.Text.{lang_tag_text};
 ghost use Rattle.langtag_c.specs.Choice.{IsTagAt};
