@@ -54,7 +54,7 @@ returns-then-index-wanted c r spells =
     let size : length c.as_str.result.now ≡ length (variant_text c.in-Some.variant) = ap length c.as_str.ensures.same_text in
     ap Some c.take_first-place.ensures.first
     ∙ variant_stands r c.loop-index.index c.loop-index.rest.start (length c.as_str.result.now) _ _ _ left taken.start size
-      (ap Some (sym c.if-index-wanted.true))
+    (ap Some (sym c.if-index-wanted.true))
 
 pub loop-index-preserved : goal.loop-index-preserved
 loop-index-preserved c = record {
