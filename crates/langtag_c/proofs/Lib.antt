@@ -1,7 +1,7 @@
 mod KindLaws
 mod SpanLaws
 mod StopLaws
-mod IrregularPrefixes
+mod IrregularTests
 mod RangeLaws
 mod RefusedLaws
 mod ExtensionSpans
