@@ -1,7 +1,7 @@
 mod KindLaws
 mod SpanLaws
 mod StopLaws
-mod IrregularPrefixes
+mod IrregularTests
 mod RangeLaws
 mod RefusedLaws
 mod ExtensionSpans
@@ -9,8 +9,7 @@ mod RepeatSpans
 mod ItemLaws
 mod PlaceLaws
 mod ReadingLaws
-mod PartChanges
-mod PartTexts
+mod PartLaws
 mod PutLaws
 mod TagLengths
 mod LikelyForms

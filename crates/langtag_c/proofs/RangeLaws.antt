@@ -1,16 +1,8 @@
--- Language ranges: their bytes, and the number that answers for their kind.
+-- The number that answers for the kind of a language range.
 use Rattle.std.proofs.Common.{◌≡◌, ℕ, false, List, IsTrue, refl, arith}
-use Rattle.langtag_scan.proofs.Ascii.{IsUtf8-tag}
 use Rattle.langtag_match.specs.Range.{is_language_range, is_basic_range}
-use Rattle.langtag_match.proofs.AsciiRanges.{IsUtf8-range}
 use Rattle.langtag_match.proofs.BasicRanges.{is_language_range-from_basic}
 use Rattle.langtag_c.specs.Answers.{IsRangeKind}
-
--- ---- what is no UTF-8 is neither a range nor a tag
-
-pub ruleset utf8 = (IsUtf8-range, IsUtf8-tag)
-
--- ---- kinds
 
 pub kind_none : (text : List ℕ) → is_language_range text ≡ false → IsRangeKind text 0
 kind_none text none = record {

@@ -1,8 +1,8 @@
 -- Where the first subtag ends that is refused, by how much of a text and a hyphen is viable.
-use Rattle.std.proofs.Common.{◌≡◌, ◌↔◌, ℕ, ◌+◌, ◌-◌, ◌<◌, ◌≤◌, ◌⊎◌, true, false, IsTrue, List, [], ◌∷◌, ◌++◌, length, take, drop, codes, slice_index, Option, None, Some, is_some, MatchOption, inl, inr, refl, sym, ap, subst, ◌∙◌, arith, append-nil}
+use Rattle.std.proofs.Common.{◌≡◌, ◌↔◌, ℕ, ◌+◌, ◌<◌, ◌≤◌, ◌⊎◌, IsTrue, List, [], ◌∷◌, ◌++◌, length, take, codes, slice_index, Option, None, Some, is_some, MatchOption, inl, inr, refl, sym, ap, subst, ◌∙◌, arith, append-nil}
 use Rattle.std.proofs.Math.Seq.{take-length}
 use Rattle.std.proofs.lemmas.Bool.{cases_lt}
-use Rattle.std.proofs.lemmas.List.{take-append-le, take-append-drop, take-take, take_all, take_more, length_push}
+use Rattle.std.proofs.lemmas.List.{take-append-le, take_all, take_more, length_push}
 use Rattle.langtag_scan.specs.Grandfathered.{grandfathered_tags, irregular_texts}
 use Rattle.langtag_scan.specs.Subtags.{NoHyphenWithin}
 use Rattle.langtag_scan.specs.Tag.{IsIrregularAt, IsTag}

@@ -1,21 +1,17 @@
 -- What spans of a text are: tags, where the test says so.
-use Rattle.std.proofs.Common.{◌≡◌, ℕ, zero, suc, ◌+◌, ◌<◌, ◌≤◌, Bool, true, false, ltb, ◌&&◌, ◌||◌, List, length, get_or, Option, None, Some, inl, inr, refl, sym, ap, subst, ◌∙◌, arith}
-use Rattle.std.specs.Cmp.Lexicographic.{bytes_decides}
-use Rattle.std.specs.Str.{bytes_eq}
+use Rattle.std.proofs.Common.{◌≡◌, ℕ, ◌+◌, ◌<◌, Bool, true, false, ltb, ◌&&◌, ◌||◌, List, length, get_or, Option, None, Some, inl, inr, refl, sym, ap, subst, ◌∙◌, arith}
 use Rattle.std.proofs.lemmas.Bool.{both_ways, and_parts, and_from, or_cases, ltb-true}
 use Rattle.std.proofs.lemmas.Bool.Decides.{nat_tests}
 use Rattle.std.proofs.lemmas.List.{length-map, get_or-map}
-use Rattle.langtag_scan.specs.Case.{fold_text}
-use Rattle.langtag_scan.specs.Irregular.{folded_at}
-use Rattle.langtag_scan.specs.Tag.{IsIrregular, IsTag}
-use Rattle.langtag_scan.proofs.IrregularTexts.{irregular_fold, irregular_from_fold}
+use Rattle.langtag_scan.specs.Tag.{IsTag}
 use Rattle.langtag_scan.proofs.NormalTexts.{normal_from_runs, runs_from_normal}
 use Rattle.langtag_scan.proofs.TagLaws.{tag_normal, tag_private, tag_of_irregular}
 use Rattle.langtag_private.specs.Decided.{is_private_use}
 use Rattle.langtag_private.proofs.Rules.{IsPrivate-from_test, is_private_use-from_rule}
 use Rattle.langtag_c.specs.Choice.{AreTagsAt, HasTag, IsTagAt}
 use Rattle.langtag_c.specs.Spans.{HasBytes, empty_at, end_of, span_text}
-use Rattle.langtag_c.specs.TagsAt.{has_bytes, is_irregular_before, is_normal, is_tag, tag_at, tags_at}
+use Rattle.langtag_c.specs.TagsAt.{has_bytes, is_irregular, is_normal, is_tag, tag_at, tags_at}
+use Rattle.langtag_c.proofs.IrregularTests.{alike_some}
 use Rattle.langtag_c.specs.declared.span.Span.{Span}
 
 first_of : (a b : Bool) → a ≡ true → (a || b) ≡ true
@@ -28,49 +24,24 @@ second_of false b e = e
 
 -- ---- a text
 
-irregular_from_test : (n : ℕ) (text : List ℕ) → n ≤ 17 → is_irregular_before n text ≡ true → IsIrregular text
-unfolding IsIrregular
-irregular_from_test zero text few test = absurd (both_ways false refl test)
-irregular_from_test (suc n) text few test = elim (or_cases (bytes_eq (folded_at n) (fold_text text)) (is_irregular_before n text) test) [
-  | inl same ↦ (n, irregular_from_fold text n (omega (arith, few)) ((bytes_decides (folded_at n) (fold_text text)).0 same))
-  | inr before ↦ irregular_from_test n text (omega (arith, few)) before
-]
-
-test_from_fold : (n k : ℕ) (text : List ℕ) → k < n → folded_at k ≡ fold_text text → is_irregular_before n text ≡ true
-test_from_fold zero k text before same = absurd (omega (arith, before))
-test_from_fold (suc n) k text before same = by_last (ltb k n) refl (λ under. test_from_fold n k text under same)
-  where
-    here : Bool
-    here = bytes_eq (folded_at n) (fold_text text)
-
-    by_last : (b : Bool) → ltb k n ≡ b → (k < n → is_irregular_before n text ≡ true) → is_irregular_before (suc n) text ≡ true
-    by_last true is earlier = second_of here (is_irregular_before n text) (earlier (ltb-true k n is))
-    by_last false is earlier =
-        let at : k ≡ n = grind (arith, nat_tests) in
-        first_of here (is_irregular_before n text) ((bytes_decides (folded_at n) (fold_text text)).1 (subst (λ j. folded_at j ≡ fold_text text) at same))
-
-test_from_irregular : (text : List ℕ) → IsIrregular text → is_irregular_before 17 text ≡ true
-unfolding IsIrregular
-test_from_irregular text (k, irregular) = let fold = irregular_fold text k irregular in test_from_fold 17 k text fold.0 fold.1
-
 tag_from_test : (text : List ℕ) → is_tag text ≡ true → IsTag text
-tag_from_test text test = elim (or_cases (is_normal text) (is_private_use text || is_irregular_before 17 text) test) [
+tag_from_test text test = elim (or_cases (is_normal text) (is_private_use text || is_irregular text) test) [
   | inl normal ↦ tag_normal text (normal_from_runs text normal)
-  | inr other ↦ elim (or_cases (is_private_use text) (is_irregular_before 17 text) other) [
+  | inr other ↦ elim (or_cases (is_private_use text) (is_irregular text) other) [
     | inl private ↦ tag_private text (IsPrivate-from_test text private)
-    | inr irregular ↦ tag_of_irregular text (irregular_from_test 17 text (omega arith) irregular)
+    | inr irregular ↦ tag_of_irregular text ((alike_some text).0 irregular)
   ]
 ]
 
 test_from_tag : (text : List ℕ) → IsTag text → is_tag text ≡ true
 unfolding IsTag
-test_from_tag text (inl normal) = first_of (is_normal text) (is_private_use text || is_irregular_before 17 text) (runs_from_normal text normal)
+test_from_tag text (inl normal) = first_of (is_normal text) (is_private_use text || is_irregular text) (runs_from_normal text normal)
 test_from_tag text (inr (inl private)) =
-    second_of (is_normal text) (is_private_use text || is_irregular_before 17 text)
-    (first_of (is_private_use text) (is_irregular_before 17 text) (is_private_use-from_rule text private))
+    second_of (is_normal text) (is_private_use text || is_irregular text)
+    (first_of (is_private_use text) (is_irregular text) (is_private_use-from_rule text private))
 test_from_tag text (inr (inr irregular)) =
-    second_of (is_normal text) (is_private_use text || is_irregular_before 17 text)
-    (second_of (is_private_use text) (is_irregular_before 17 text) (test_from_irregular text irregular))
+    second_of (is_normal text) (is_private_use text || is_irregular text)
+    (second_of (is_private_use text) (is_irregular text) ((alike_some text).1 irregular))
 
 -- ---- a span
 

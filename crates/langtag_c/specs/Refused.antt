@@ -1,5 +1,5 @@
 -- Where a text that is not a tag goes wrong (RFC 5646 section 2.1).
-use Rattle.std.specs.Prelude.{◌≡◌, ℕ, ◌+◌, ◌-◌, ◌<◌, ◌≤◌, ◌⊎◌, true, false, List, [], ◌∷◌, ◌++◌, length, take, slice_index}
+use Rattle.std.specs.Prelude.{◌≡◌, ℕ, ◌-◌, ◌<◌, ◌≤◌, ◌⊎◌, true, false, List, [], ◌∷◌, ◌++◌, length, take, slice_index}
 use Rattle.std.specs.List.{AllWithin}
 use Rattle.langtag_scan.specs.Class.{is_alphanumeric}
 use Rattle.langtag_scan.specs.Subtags.{NoHyphenWithin}

@@ -1,9 +1,9 @@
 -- Whether a text is a tag, as a test, and so what spans of a text are. Ghost members alone cite this page: what a caller is
 -- promised speaks of `IsTag`.
-use Rattle.std.specs.Prelude.{◌≡◌, ℕ, zero, suc, ◌+◌, Bool, true, false, ◌&&◌, ◌||◌, if◌then◌else◌, List, Option, None, Some, map, length, nat_lt}
-use Rattle.std.specs.Str.{bytes_eq}
-use Rattle.langtag_scan.specs.Case.{fold_text}
-use Rattle.langtag_scan.specs.Irregular.{folded_at}
+use Rattle.std.specs.Prelude.{◌≡◌, ℕ, ◌+◌, Bool, true, ◌&&◌, ◌||◌, if◌then◌else◌, List, Option, None, Some, map, length, nat_lt}
+use Rattle.std.specs.List.{list_any}
+use Rattle.langtag_scan.specs.Case.{are_alike}
+use Rattle.langtag_scan.specs.Grandfathered.{irregular_texts}
 use Rattle.langtag_scan.proofs.NormalTexts.{normal_from_runs, runs_from_normal}
 use Rattle.langtag_private.specs.Decided.{is_private_use}
 use Rattle.langtag_c.specs.Spans.{end_of, span_text}
@@ -16,13 +16,11 @@ test_of test holds is = test
 abbrev pub is_normal : List ℕ → Bool
 is_normal text = test_of _ (normal_from_runs text) (runs_from_normal text)
 
--- the text is one of the first irregular ones
-abbrev pub is_irregular_before : ℕ → List ℕ → Bool
-is_irregular_before zero text = false
-is_irregular_before (suc n) text = bytes_eq (folded_at n) (fold_text text) || is_irregular_before n text
+abbrev pub is_irregular : List ℕ → Bool
+is_irregular text = list_any (λ name. are_alike name text) irregular_texts
 
 abbrev pub is_tag : List ℕ → Bool
-is_tag text = is_normal text || (is_private_use text || is_irregular_before 17 text)
+is_tag text = is_normal text || (is_private_use text || is_irregular text)
 
 abbrev pub has_bytes : List ℕ → Span → Bool
 has_bytes text span = nat_lt 0 span.len && nat_lt (end_of span) (length text + 1)

@@ -4,7 +4,7 @@ ghost use Rattle.langtag_scan.specs.Tag.{IsTag};
 ghost use Rattle.langtag_registry.specs.Canonical.{IsCanonicalForm, canonical_bound};
 ghost use Rattle.langtag_registry.specs.Writes.{Writes};
 
-use crate::range::tag_of;
+use crate::tag::tag_of;
 use langtag_registry::{is_canonical, write_canonical};
 
 /// Writes the canonical form of a tag, and returns its length in bytes: `he` of `iw`, `yue` of `zh-yue`. What is put in has

@@ -4,9 +4,9 @@ ghost use Rattle.langtag_scan.specs.Tag.{IsTag};
 ghost use Rattle.langtag_likely.specs.Distance.{IsDistance};
 ghost use Rattle.langtag_c.specs.Choice.{IsBest};
 
-use crate::range::tag_of;
 use crate::span::Span;
 use crate::spanned_tags::SpannedTags;
+use crate::tag::tag_of;
 use langtag_likely::{best_among, distance};
 
 /// The distance where one of two texts is not a tag.
@@ -37,8 +37,5 @@ pub extern "C" fn langtag_best_for_header(header: &[u8], bytes: &[u8], tags: &[S
         text: bytes,
         spans: tags,
     };
-    match best_among(header, &spanned) {
-        Some(index) => index,
-        None => tags.len(),
-    }
+    best_among(header, &spanned).unwrap_or(tags.len())
 }

@@ -3,7 +3,7 @@ ghost use Rattle.std.specs.Prelude.{◌≡◌, false};
 ghost use Rattle.langtag_scan.specs.Tag.{IsTag};
 ghost use Rattle.langtag_likely.specs.Direction.{IsRightToLeft};
 
-use crate::range::tag_of;
+use crate::tag::tag_of;
 use langtag_likely::is_right_to_left;
 
 /// Returns whether the bytes are a tag that is written from right to left: true of `he`, `pa-PK` and `az-Arab`, false of

@@ -23,6 +23,7 @@ mod registry_date;
 mod repeats;
 mod span;
 mod spanned_tags;
+mod tag;
 mod validity;
 mod viable;
 mod walk;

@@ -6,8 +6,8 @@ ghost use Rattle.langtag_likely.specs.Maximal.{IsMaximalForm, IsMinimalForm};
 ghost use Rattle.langtag_likely.specs.declared.tables.TheConstants.{CLDR_VERSION};
 ghost use Rattle.langtag_c.specs.Answers.{digits_number};
 
-use crate::range::tag_of;
 use crate::registry_date::number_of;
+use crate::tag::tag_of;
 use langtag_likely::{CLDR_VERSION, write_maximized, write_minimized};
 
 /// Writes a tag with its likely subtags (UTS #35, Add Likely Subtags), and returns its length in bytes: `zh-Hant-TW` of

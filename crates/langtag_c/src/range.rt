@@ -1,14 +1,12 @@
 //! Language ranges, and the tags that they match (RFC 4647).
 ghost use Rattle.std.specs.Prelude.{◌≡◌, ◌↔◌, IsTrue, MatchOption, false};
-ghost use Rattle.langtag.specs.Tag.{IsTag};
-ghost use Rattle.langtag.specs.Text.{lang_tag_text};
 ghost use Rattle.langtag_match.specs.Basic.{MatchesBasic};
 ghost use Rattle.langtag_match.specs.Extended.{MatchesExtended};
 ghost use Rattle.langtag_match.specs.Range.{is_language_range};
 ghost use Rattle.langtag_match.specs.Text.{language_range_text};
 ghost use Rattle.langtag_c.specs.Answers.{IsRangeKind, IsMatch};
 
-use langtag::LangTag;
+use crate::tag::tag_of;
 use langtag_match::LanguageRange;
 
 /// Returns 1 where the bytes are a basic language range (RFC 4647 section 2.1), as `de-CH` and `*`, 2 where they are an
@@ -50,18 +48,11 @@ pub extern "C" fn langtag_matches_extended(range: &[u8], tag: &[u8]) -> bool
 }
 
 /// The range that the bytes are.
-#[tactic(auto, using(crate::proofs::RangeLaws::utf8))]
+#[tactic(auto, using(langtag_match::proofs::AsciiRanges::utf8_range))]
 fn range_of<'a>(bytes: &'a [u8]) -> Option<LanguageRange<'a>>
     ensures { MatchOption result (is_language_range bytes.now ≡ false)
         (λ range. (language_range_text range ≡ bytes.now) × IsTrue (is_language_range bytes.now)) }
 {
     let text = str::from_utf8(bytes).ok()?;
     LanguageRange::new(text).ok()
-}
-
-/// The tag that the bytes are.
-pub(crate) fn tag_of<'a>(bytes: &'a [u8]) -> Option<LangTag<'a>>
-    ensures { MatchOption result (IsTag bytes.now → ⊥) (λ tag. (lang_tag_text tag ≡ bytes.now) × IsTag bytes.now) }
-{
-    LangTag::from_bytes(bytes).ok()
 }

@@ -5,11 +5,13 @@ ghost use Rattle.langtag_scan.specs.Case.{are_alike};
 ghost use Rattle.langtag_scan.specs.Class as class;
 ghost use Rattle.langtag_scan.specs.Tag.{IsTag};
 ghost use Rattle.langtag_scan.specs.Viable.{IsViableLength, IsIrregularPrefix};
+ghost use Rattle.langtag.specs.Registered.{text_of};
 ghost use Rattle.langtag_c.specs.Refused.{AlphanumericWithin, EndsTooSoon, IsFirstOther, IsOpen, IsRefusedEnd, IsRefusedSubtag};
 ghost use Rattle.langtag_c.specs.Spans.{empty_at, end_of};
 
-use crate::range::tag_of;
 use crate::span::Span;
+use crate::tag::tag_of;
+use langtag::{GRANDFATHERED, GrandfatheredLangTag};
 use langtag_scan::{ByteSource, case_insensitive_eq, recognise, segment_end, segment_start};
 
 /// Returns 0 where the bytes are a tag, and else what is wrong: 1 for a subtag that does not fit where it stands, as `DE` of
@@ -130,40 +132,21 @@ fn is_alphanumeric(byte: u8) -> bool
     byte.is_ascii_alphabetic() || byte.is_ascii_digit()
 }
 
-/// The irregular tags (section 2.2.8).
-const IRREGULAR: [&[u8]; 17] = [
-    b"en-GB-oed",
-    b"i-ami",
-    b"i-bnn",
-    b"i-default",
-    b"i-enochian",
-    b"i-hak",
-    b"i-klingon",
-    b"i-lux",
-    b"i-mingo",
-    b"i-navajo",
-    b"i-pwn",
-    b"i-tao",
-    b"i-tay",
-    b"i-tsu",
-    b"sgn-BE-FR",
-    b"sgn-BE-NL",
-    b"sgn-CH-DE",
-];
+/// How many of the grandfathered tags are irregular: they come first.
+const IRREGULAR: usize = 17;
 
-/// Whether the bytes begin an irregular tag.
-
+/// Whether the bytes begin an irregular tag (section 2.2.8).
 fn begins_irregular(bytes: &[u8]) -> bool
     ensures { IsTrue result ↔ IsIrregularPrefix bytes.now }
 {
-    begin_any(bytes, &IRREGULAR)
+    begin_any(bytes, &GRANDFATHERED[..IRREGULAR])
 }
 
-/// Whether the bytes begin any of some texts.
-fn begin_any(bytes: &[u8], texts: &[&[u8]]) -> bool
-    ensures { result ≡ list_any (λ text. are_alike bytes.now (take (length bytes.now) text.now)) texts.now }
+/// Whether the bytes begin any of some tags.
+fn begin_any(bytes: &[u8], tags: &[GrandfatheredLangTag]) -> bool
+    ensures { result ≡ list_any (λ tag. are_alike bytes.now (take (length bytes.now) (text_of tag))) tags.now }
 {
-    texts.iter().any(|text| begins(bytes, text))
+    tags.iter().any(|tag| begins(bytes, tag.as_bytes()))
 }
 
 /// Whether the bytes are the beginning of a text, but for the case of letters.

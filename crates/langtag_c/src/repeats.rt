@@ -1,5 +1,5 @@
 //! Variants and singletons that stand in a tag twice (RFC 5646 section 2.2.9).
-ghost use Rattle.std.specs.Prelude.{◌≡◌, ◌<◌, ◌^◌, MatchOption, Some, is_some, length, map, unwrap_or};
+ghost use Rattle.std.specs.Prelude.{◌≡◌, Some, is_some, map, unwrap_or};
 ghost use Rattle.langtag_scan.specs.Case.{are_alike};
 ghost use Rattle.langtag_scan.specs.Record.{EachRecord};
 ghost use Rattle.langtag_scan.specs.Tag.{IsNormal};
@@ -10,6 +10,7 @@ ghost use Rattle.langtag_c.specs.Repeats.{member_span, none_repeated, singleton_
 ghost use Rattle.langtag_c.specs.Spans.{empty_at};
 
 use crate::span::Span;
+use crate::tag::normal_tag_of;
 use langtag::NormalLangTag;
 
 /// Where the first variant and the first singleton stand that are equal, but for case, to an earlier one. What is not there
@@ -52,19 +53,8 @@ pub extern "C" fn langtag_repeats(bytes: &[u8], repeated: &mut Repeated) -> u32
     flags(variant.is_some(), singleton.is_some())
 }
 
-/// The normal tag that the bytes are.
-#[tactic(auto, using(crate::proofs::RangeLaws::utf8, langtag_scan::proofs::TagLaws::tag_normal))]
-fn normal_tag_of<'a>(bytes: &'a [u8]) -> Option<NormalLangTag<'a>>
-    ensures { MatchOption result (IsNormal bytes.now → ⊥) (λ tag. (normal_lang_tag_text tag ≡ bytes.now) × IsNormal bytes.now) }
-{
-    let text = str::from_utf8(bytes).ok()?;
-    NormalLangTag::new(text).ok()
-}
-
 /// Where the first repeated variant stands in a tag.
 fn repeated_variant(tag: &NormalLangTag<'_>) -> Option<Span>
-    requires normal { IsNormal (normal_lang_tag_text tag.now) }
-    requires room { length (normal_lang_tag_text tag.now) < 2 ^ 64 }
     ensures { EachRecord (normal_lang_tag_text tag.now) (λ r. result ≡ member_span (variant_place r) r.variants (repeat_index are_alike r.variants)) }
 {
     variant_at(tag, tag.repeated_variant_index()?)
@@ -72,26 +62,21 @@ fn repeated_variant(tag: &NormalLangTag<'_>) -> Option<Span>
 
 /// Where the variant at an index stands in a tag.
 pub(crate) fn variant_at(tag: &NormalLangTag<'_>, wanted: usize) -> Option<Span>
-    requires normal { IsNormal (normal_lang_tag_text tag.now) }
-    requires room { length (normal_lang_tag_text tag.now) < 2 ^ 64 }
     ensures { EachRecord (normal_lang_tag_text tag.now) (λ r. result ≡ member_span (variant_place r) r.variants (Some wanted)) }
 {
-    let mut end = tag.ends().region;
+    let ends = tag.ends();
+    let mut rest = Span::between(ends.region, ends.variants);
     for (index, variant) in tag.variants().iter().enumerate() {
-        let start = end + 1;
-        let len = variant.as_str().len();
+        let place = rest.take_first(variant.as_str().len());
         if index == wanted {
-            return Some(Span { start, len });
+            return Some(place);
         }
-        end = start + len;
     }
     None
 }
 
 /// Where the first repeated singleton stands in a tag.
 fn repeated_singleton(tag: &NormalLangTag<'_>) -> Option<Span>
-    requires normal { IsNormal (normal_lang_tag_text tag.now) }
-    requires room { length (normal_lang_tag_text tag.now) < 2 ^ 64 }
     ensures { EachRecord (normal_lang_tag_text tag.now) (λ r.
         result ≡ member_span (singleton_place r) r.extensions (repeat_index are_alike_bytes (map (λ e. e.singleton) r.extensions))) }
 {
@@ -100,17 +85,15 @@ fn repeated_singleton(tag: &NormalLangTag<'_>) -> Option<Span>
 
 /// Where the singleton of the extension at an index stands in a tag.
 pub(crate) fn singleton_at(tag: &NormalLangTag<'_>, wanted: usize) -> Option<Span>
-    requires normal { IsNormal (normal_lang_tag_text tag.now) }
-    requires room { length (normal_lang_tag_text tag.now) < 2 ^ 64 }
     ensures { EachRecord (normal_lang_tag_text tag.now) (λ r. result ≡ member_span (singleton_place r) r.extensions (Some wanted)) }
 {
-    let mut end = tag.ends().variants;
+    let ends = tag.ends();
+    let mut rest = Span::between(ends.variants, ends.extensions);
     for (index, extension) in tag.extensions().iter().enumerate() {
-        let start = end + 1;
+        let place = rest.take_first(extension.as_str().len());
         if index == wanted {
-            return Some(Span { start, len: 1 });
+            return Some(Span { len: 1, ..place });
         }
-        end = start + extension.as_str().len();
     }
     None
 }

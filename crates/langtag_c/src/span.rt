@@ -1,5 +1,5 @@
 //! Where a part of a text stands in it.
-ghost use Rattle.std.specs.Prelude.{◌≡◌, ◌≤◌, ◌+◌, ◌<◌, ◌^◌, MatchOption, length};
+ghost use Rattle.std.specs.Prelude.{◌≡◌, ◌≤◌, ◌+◌, ◌<◌, ◌^◌, MatchOption};
 ghost use Rattle.langtag_c.specs.Spans.{HasBytes, end_of, span_between, span_text};
 
 /// So many bytes of a text from an index on. A part that is absent has none.

@@ -1,12 +1,11 @@
 //! The tags that spans of a text are.
-ghost use Rattle.std.specs.Prelude.{◌≡◌};
 ghost use Rattle.std.specs.Option.{option_map};
 ghost use Rattle.langtag.specs.Text.{lang_tag_text};
 ghost use Rattle.langtag_c.specs.Choice.{IsTagAt};
 ghost use Rattle.langtag_c.specs.TagsAt.{tags_at};
 
-use crate::range::tag_of;
 use crate::span::Span;
+use crate::tag::tag_of;
 use langtag::LangTag;
 use langtag_likely::TagList;
 

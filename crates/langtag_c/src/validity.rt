@@ -1,16 +1,16 @@
 //! Whether a tag is valid by the registry (RFC 5646 section 2.2.9).
-ghost use Rattle.std.specs.Prelude.{◌≡◌, ◌↔◌, ◌≤◌, ◌<◌, ◌^◌, Some, length, slice_get};
+ghost use Rattle.std.specs.Prelude.{◌≡◌, ◌↔◌, ◌≤◌, Some, length, slice_get};
 ghost use Rattle.langtag_scan.specs.Record.{EachRecord};
-ghost use Rattle.langtag_scan.specs.Tag.{IsNormal, IsTag};
+ghost use Rattle.langtag_scan.specs.Tag.{IsTag};
 ghost use Rattle.langtag.specs.Text.{normal_lang_tag_text};
 ghost use Rattle.langtag_registry.specs.Fault.{Told, faults, fault_index, told};
 ghost use Rattle.langtag_registry.specs.Valid.{IsValid};
 ghost use Rattle.langtag_c.specs.Spans.{empty_at};
 ghost use Rattle.langtag_c.specs.Validity.{number_of, place_of};
 
-use crate::range::tag_of;
 use crate::repeats::{singleton_at, variant_at};
 use crate::span::Span;
+use crate::tag::tag_of;
 use langtag::NormalLangTag;
 use langtag_registry::{InvalidSubtag, fault_at};
 
@@ -55,8 +55,6 @@ fn number(fault: InvalidSubtag<'_>) -> u32
 
 /// Where the subtag that is wrong, and that has this index among its like, stands in its tag.
 fn place(tag: &NormalLangTag<'_>, fault: InvalidSubtag<'_>, index: usize) -> Span
-    requires normal { IsNormal (normal_lang_tag_text tag.now) }
-    requires room { length (normal_lang_tag_text tag.now) < 2 ^ 64 }
     ensures { EachRecord (normal_lang_tag_text tag.now) (λ r. fault_index r (told fault.entry) ≡ Some index
         → result ≡ place_of r (told fault.entry)) }
 {

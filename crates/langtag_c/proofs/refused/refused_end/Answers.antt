@@ -1,4 +1,4 @@
-use Rattle.std.proofs.Common.{◌≡◌, length, take, subst, arith}
+use Rattle.std.proofs.Common.{take, subst, arith}
 use Rattle.std.proofs.lemmas.List.{take_all}
 use Rattle.langtag_scan.specs.Tag.{IsTag}
 use Rattle.langtag_c.proofs.RefusedLaws.{first_end, second_end}

@@ -1,4 +1,4 @@
-use Rattle.std.proofs.Common.{◌≡◌, ℕ, List, ◌++◌, ◌∷◌, [], subst, sym, arith, append_assoc}
+use Rattle.std.proofs.Common.{ℕ, List, ◌++◌, ◌∷◌, [], subst, sym, arith, append_assoc}
 use Rattle.langtag_scan.specs.Viable.{IsStop}
 use Rattle.langtag_c.proofs.RefusedLaws.{stop_positive, viable_before_stop}
 use Rattle.langtag_c.proofs.refused.viable_with_hyphen.Goals as goal
