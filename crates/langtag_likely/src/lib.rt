@@ -12,6 +12,8 @@
 
 mod aliases;
 mod best;
+mod by_ranges;
+mod by_tags;
 mod candidate;
 mod direction;
 mod fields;
