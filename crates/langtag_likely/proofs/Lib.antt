@@ -1,11 +1,14 @@
 pub mod AddedTwice
 pub mod AliasLaws
+pub mod AlikeChoice
 pub mod AlikeFields
+pub mod AlikeRanges
 pub mod ChoiceLaws
 pub mod Chosen
 pub mod Columns
 pub mod DistanceCase
 pub mod DistanceLaws
+pub mod EqualAnswers
 pub mod FieldClasses
 pub mod FirstIndex
 pub mod FirstOf

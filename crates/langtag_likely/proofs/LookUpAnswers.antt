@@ -46,7 +46,7 @@ get_or-fold [] k = refl
 get_or-fold (b ∷ text) zero = refl
 get_or-fold (b ∷ text) (suc k) = get_or-fold text k
 
-ends_in_single-fold : (text : List ℕ) → ends_in_single (fold_text text) ≡ ends_in_single text
+pub ends_in_single-fold : (text : List ℕ) → ends_in_single (fold_text text) ≡ ends_in_single text
 ends_in_single-fold text = rw (length-map text fold_byte, get_or-fold text (length text - 2), hyphen-fold (get_or text (length text - 2) 0)) refl
 
 pub ends_in_single-alike : (a b : List ℕ) → Alike a b → ends_in_single a ≡ ends_in_single b
@@ -60,7 +60,7 @@ drop_front : (text rest : List ℕ) → drop (length text) (text ++ rest) ≡ re
 drop_front [] rest = refl
 drop_front (b ∷ text) rest = drop_front text rest
 
-take_whole : (text : List ℕ) → take (length text) text ≡ text
+pub take_whole : (text : List ℕ) → take (length text) text ≡ text
 take_whole [] = refl
 take_whole (b ∷ text) = ap (λ t. b ∷ t) (take_whole text)
 

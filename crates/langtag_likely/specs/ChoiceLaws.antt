@@ -1,11 +1,12 @@
 -- What is true of the choice, beside its definition.
-use Rattle.std.specs.Prelude.{◌≡◌, ℕ, ◌<◌, ◌≤◌, Bool, false, IsTrue, List, Option, Some, MatchOption, length, is_some}
+use Rattle.std.specs.Prelude.{◌≡◌, ℕ, ◌<◌, ◌≤◌, false, IsTrue, List, map, Option, Some, MatchOption, length, is_some}
 use Rattle.std.specs.List.{Contains, slice_get}
-use Rattle.langtag_scan.specs.Case.{Alike}
+use Rattle.std.specs.Option.{option_map}
+use Rattle.langtag_scan.specs.Case.{Alike, fold_text}
 use Rattle.langtag_match.specs.AcceptLanguage.{Element}
 use Rattle.langtag_match.specs.Fallback.{fallbacks}
 use Rattle.langtag_match.specs.Range.{is_star}
-use Rattle.langtag_likely.specs.Best.{is_refused, is_wish}
+use Rattle.langtag_likely.specs.Best.{best, is_refused, is_wish}
 
 -- at an index stands a tag, and it is not refused
 abbrev pub HasTag : List Element → List (Option (List ℕ)) → ℕ → Type 0
@@ -48,3 +49,15 @@ abbrev pub AnswersEqual : List Element → List (Option (List ℕ)) → Option �
 AnswersEqual elements tags answer =
     (place : ℕ) (element : Element) (index : ℕ) → IsHeaviest elements place element → IsTrue (is_wish element) → element.weight ≤ 1000 → is_star element.range ≡ false →
     0 < length element.range → IsFirstAlike elements tags element.range index → answer ≡ Some index
+
+-- ---- the case of letters
+
+-- an element with the letters of its range in small
+abbrev pub folded : Element → Element
+folded element = record { range = fold_text element.range; weight = element.weight }
+
+-- of elements and tags that are equal to these but for case the answer is the same
+abbrev pub IgnoresCase : List Element → List (Option (List ℕ)) → Option ℕ → Type 0
+IgnoresCase elements tags answer =
+    (other : List Element) (other_tags : List (Option (List ℕ))) → map folded elements ≡ map folded other → map (option_map fold_text) tags ≡ map (option_map fold_text) other_tags →
+    best other other_tags ≡ answer

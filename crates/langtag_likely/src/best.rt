@@ -2,6 +2,7 @@
 ghost use Rattle.std.specs.Prelude.{◌≡◌};
 ghost use Rattle.langtag_match.specs.Wanted.{wanted_elements};
 ghost use Rattle.langtag_likely.specs.Best as spec;
+ghost use Rattle.langtag_likely.specs.ChoiceLaws as laws;
 ghost use Rattle.langtag_likely.specs.TagTexts.{tag_texts};
 
 use crate::by_ranges::first_by_ranges;
@@ -15,15 +16,30 @@ use langtag::LangTag;
 /// them: 2 for `zh-TW,zh;q=0.9,en;q=0.8` and the tags `en`, `zh-Hans` and `zh-Hant`.
 pub fn best_for_header(header: &[u8], tags: &[LangTag<'_>]) -> Option<usize>
     ensures chosen { result ≡ spec.best (wanted_elements header.now) (tag_texts tags.now) }
+    ensures listed { laws.IsIndex (wanted_elements header.now) (tag_texts tags.now) result }
+    ensures looked_up { laws.AnswersLookUp (wanted_elements header.now) (tag_texts tags.now) result }
+    ensures equal { laws.AnswersEqual (wanted_elements header.now) (tag_texts tags.now) result }
+    ensures case { laws.IgnoresCase (wanted_elements header.now) (tag_texts tags.now) result }
 {
     best_among(header, &Tags(tags))
 }
 
 /// Returns the index of the tag that the reader wants, as [`best_for_header`] does, among tags that stand elsewhere than in a
 /// slice.
-#[tactic(auto, unfolding(crate::specs::Best::best))]
 pub fn best_among<T: TagList>(header: &[u8], tags: &T) -> Option<usize>
     ensures chosen { result ≡ spec.best (wanted_elements header.now) (T.texts tags.now) }
+    ensures listed { laws.IsIndex (wanted_elements header.now) (T.texts tags.now) result }
+    ensures looked_up { laws.AnswersLookUp (wanted_elements header.now) (T.texts tags.now) result }
+    ensures equal { laws.AnswersEqual (wanted_elements header.now) (T.texts tags.now) result }
+    ensures case { laws.IgnoresCase (wanted_elements header.now) (T.texts tags.now) result }
+{
+    best(header, tags)
+}
+
+/// Returns the index of the tag that is chosen.
+#[tactic(auto, unfolding(crate::specs::Best::best))]
+fn best<T: TagList>(header: &[u8], tags: &T) -> Option<usize>
+    ensures { result ≡ spec.best (wanted_elements header.now) (T.texts tags.now) }
 {
     let header = Header::new(header);
     if let Some(index) = chosen_in(Pass::Near, header, tags) {
