@@ -20,6 +20,7 @@ pub mod LeastTwice
 pub mod LookUpAnswers
 pub mod MatchingLaws
 pub mod MatchingTables
+pub mod NearForms
 pub mod NoneRefused
 pub mod PairNumbers
 pub mod PosixLaws

@@ -43,10 +43,13 @@ unrefused elements (Some tag) = if is_refused elements tag then None else Some t
 
 -- ---- a tag for a range
 
+abbrev pub below : ℕ → ℕ → Option ℕ
+below limit distance = if nat_lt distance limit then Some distance else None
+
 -- the passes: a tag is to be nearer than 16; than 50; or one that look-up finds, where none is farther than another
 abbrev pub distance_in : Pass → List ℕ → List ℕ → Option ℕ
-distance_in Near range tag = if nat_lt (far range tag) 16 then Some (far range tag) else None
-distance_in Acceptable range tag = if nat_lt (far range tag) 50 then Some (far range tag) else None
+distance_in Near range tag = below 16 (far range tag)
+distance_in Acceptable range tag = below 50 (far range tag)
 distance_in LookUp range tag = if nat_lt 0 (kept range tag) then Some 0 else None
 
 -- what stands at an index, for the range at a place: none where that is "*" or has the weight 0, or the tag is not within the

@@ -8,6 +8,7 @@ ghost use Rattle.langtag_likely.specs.Best as spec;
 use crate::candidate::{Candidate, Pass, as_candidate, first_of, is_settled};
 use crate::refused::is_refused;
 use crate::tag_list::TagList;
+use crate::wish::Wish;
 use langtag::LangTag;
 use langtag_match::wanted_ranges;
 
@@ -68,9 +69,10 @@ fn first_for_tag(
 {
     let mut first = found;
     let mut place = 0;
-    for wish in wanted_ranges(header) {
-        if !is_settled(first, wish, place) {
-            first = first_of(first, as_candidate(pass, wish, place, tag, index));
+    for wanted in wanted_ranges(header) {
+        if !is_settled(first, wanted, place) {
+            let next = as_candidate(pass, Wish::new(wanted, place), tag, index);
+            first = first_of(first, next);
         }
         place += 1;
     }

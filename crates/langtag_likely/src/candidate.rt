@@ -1,13 +1,14 @@
 //! A tag that may serve a range.
-ghost use Rattle.std.specs.Prelude.{◌≡◌, ◌-◌, if◌then◌else◌, Some, None, length, nat_lt};
+ghost use Rattle.std.specs.Prelude.{◌≡◌, ◌-◌, Some, length};
 ghost use Rattle.langtag.specs.Text.{lang_tag_text};
 ghost use Rattle.langtag_match.specs.Wanted.{hyphened, wanted_element};
 ghost use Rattle.langtag_likely.specs.Best as spec;
-ghost use Rattle.langtag_likely.specs.ByRanges.{is_settled};
+ghost use Rattle.langtag_likely.specs.ByRanges.{is_settled, wish_element};
 ghost use Rattle.langtag_likely.specs.Nearness.{kept};
 
-use crate::nearness::{far, kept, unlikely};
+use crate::nearness::{kept, nearer_than, unlikely};
 use crate::read_range::is_star;
+use crate::wish::Wish;
 use langtag::LangTag;
 use langtag_match::WantedRange;
 
@@ -21,25 +22,14 @@ pub(crate) enum Pass {
 
 impl Pass {
     /// Returns the distance of a tag where it may serve a range.
-    fn distance(self, range: &[u8], tag: &[u8]) -> Option<u32>
-        ensures { result ≡ spec.distance_in self (hyphened range.now) tag.now }
+    fn distance(self, wish: Wish<'_>, tag: &[u8]) -> Option<u32>
+        ensures { result ≡ spec.distance_in self (hyphened wish.entry.range.now) tag.now }
     {
         match self {
-            Pass::Near => below(16, far(range, tag)),
-            Pass::Acceptable => below(50, far(range, tag)),
-            Pass::LookUp => { if kept(range, tag) > 0 { Some(0) } else { None } }
+            Pass::Near => nearer_than(16, wish, tag),
+            Pass::Acceptable => nearer_than(50, wish, tag),
+            Pass::LookUp => { if kept(wish.range, tag) > 0 { Some(0) } else { None } }
         }
-    }
-}
-
-/// Returns a distance where it is below a limit.
-fn below(limit: u32, distance: u32) -> Option<u32>
-    ensures { result ≡ (if nat_lt distance limit then Some distance else None) }
-{
-    if distance < limit {
-        Some(distance)
-    } else {
-        None
     }
 }
 
@@ -72,13 +62,13 @@ pub(crate) fn first_of(found: Option<Candidate>, next: Option<Candidate>) -> Opt
 }
 
 /// Returns whether what was found is less than each candidate for a range at a place.
-pub(crate) fn is_settled(found: Option<Candidate>, wish: WantedRange<'_>, place: usize) -> bool
-    ensures { result ≡ is_settled found (wanted_element wish.entry) place }
+pub(crate) fn is_settled(found: Option<Candidate>, wanted: WantedRange<'_>, place: usize) -> bool
+    ensures { result ≡ is_settled found (wanted_element wanted.entry) place }
 {
     match found {
         Some(found) => {
-            found.lack < lack(wish.weight)
-                || (found.lack == lack(wish.weight) && found.place < place)
+            found.lack < lack(wanted.weight)
+                || (found.lack == lack(wanted.weight) && found.place < place)
         }
         None => false,
     }
@@ -91,29 +81,28 @@ fn lack(weight: u32) -> u32
     1000_u32.saturating_sub(weight)
 }
 
-/// Returns a tag as a candidate for the range at a place: None where it may not serve it in a pass.
+/// Returns a tag as a candidate for a range: None where it may not serve it in a pass.
 #[tactic(auto, unfolding(crate::specs::Best::as_candidate))]
 pub(crate) fn as_candidate(
     pass: Pass,
-    wish: WantedRange<'_>,
-    place: usize,
+    wish: Wish<'_>,
     tag: LangTag<'_>,
     index: usize,
 ) -> Option<Candidate>
-    ensures { result ≡ spec.as_candidate pass (wanted_element wish.entry) place (Some (lang_tag_text tag.entry)) index }
+    ensures { result ≡ spec.as_candidate pass (wish_element wish.entry) wish.entry.place (Some (lang_tag_text tag.entry)) index }
 {
-    if wish.weight == 0 || is_star(wish.bytes) {
+    if wish.weight == 0 || is_star(wish.range) {
         return None;
     }
     let text = tag.as_bytes();
-    let Some(distance) = pass.distance(wish.bytes, text) else {
+    let Some(distance) = pass.distance(wish, text) else {
         return None;
     };
     Some(Candidate {
         lack: lack(wish.weight),
-        place,
+        place: wish.place,
         distance,
-        lost: lost(wish.bytes, text),
+        lost: lost(wish.range, text),
         unlikely: unlikely(text),
         index,
     })

@@ -4,11 +4,11 @@ use Rattle.langtag_match.specs.Wanted.{wanted_elements, wanted_left}
 use Rattle.langtag_likely.specs.Best.{first_for_tag, first_of}
 use Rattle.langtag_likely.proofs.by_tags.first_for_tag.Given as goal
 
-abbrev pub invariant-loop-wish : goal.invariant-loop-wish
-invariant-loop-wish l = record {
-  can_next : (goal.iterator-loop-wish).can_next l.wish-iterator;
-  is_finite : (goal.iterator-loop-wish).is_finite l.wish-iterator;
-  few : l.place + length (wanted_left l.wish-iterator) < 2 ^ 64;
-  same : first_of l.first (first_for_tag l.pass (wanted_left l.wish-iterator) l.place (Some (lang_tag_text l.tag)) l.index)
+abbrev pub invariant-loop-wanted : goal.invariant-loop-wanted
+invariant-loop-wanted l = record {
+  can_next : (goal.iterator-loop-wanted).can_next l.wanted-iterator;
+  is_finite : (goal.iterator-loop-wanted).is_finite l.wanted-iterator;
+  few : l.place + length (wanted_left l.wanted-iterator) < 2 ^ 64;
+  same : first_of l.first (first_for_tag l.pass (wanted_left l.wanted-iterator) l.place (Some (lang_tag_text l.tag)) l.index)
       ≡ first_of l.fn.found (first_for_tag l.pass (wanted_elements l.header) 0 (Some (lang_tag_text l.tag)) l.index);
 }
