@@ -22,6 +22,7 @@ pub mod MatchingLaws
 pub mod MatchingTables
 pub mod NearForms
 pub mod NoneRefused
+pub mod NormalForms
 pub mod PairNumbers
 pub mod PosixLaws
 pub mod PutLaws
