@@ -2,7 +2,7 @@
 use Rattle.std.proofs.Common.{◌≡◌, ℕ, ◌+◌, eqb, ◌==◌, true, false, Bool, cond, not, ◌&&◌, ◌||◌, nat_lt, max, List, [], ◌∷◌, map, length, take, drop, Option, None, Some, option_map, refl, sym, ap, ◌∙◌, arith}
 use Rattle.std.proofs.lemmas.Bool.Decides.{nat_tests}
 use Rattle.std.proofs.lemmas.List.{take-map, drop-map}
-use Rattle.langtag_scan.specs.Case.{Alike, are_alike, fold_byte, fold_text}
+use Rattle.langtag_scan.specs.Case.{are_alike, fold_byte, fold_text}
 use Rattle.langtag_scan.proofs.CaseLaw.{hyphen-fold, length-fold}
 use Rattle.langtag_match.specs.AcceptLanguage.{Element}
 use Rattle.langtag_match.specs.Basic.{ends_subtag, test_basic}
@@ -11,8 +11,7 @@ use Rattle.langtag_registry.proofs.AlikeForms.{fold_text-twice}
 use Rattle.langtag_likely.specs.Best.{is_wish, is_zero, is_refused, longest, matches, unrefused, distance_in, as_candidate, first_of, first_for_tag, first_in, index_of, chosen_in, best}
 use Rattle.langtag_likely.specs.ChoiceLaws.{folded, IgnoresCase}
 use Rattle.langtag_likely.specs.Likely.{or_else}
-use Rattle.langtag_likely.specs.Nearness.{far, is_fallback, kept, unlikely}
-use Rattle.langtag_likely.specs.declared.candidate.Candidate.{Candidate}
+use Rattle.langtag_likely.specs.Nearness.{is_fallback, kept}
 use Rattle.langtag_likely.specs.declared.candidate.Pass.{Pass}
 use Rattle.langtag_likely.specs.declared.candidate.Pass.TheVariants.{Near, Acceptable, LookUp}
 use Rattle.langtag_likely.proofs.AlikeRanges.{far-alike, unlikely-alike}

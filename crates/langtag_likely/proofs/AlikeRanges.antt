@@ -1,5 +1,5 @@
 -- How near a tag is to a range does not change with the case of letters.
-use Rattle.std.proofs.Common.{◌≡◌, inl, inr, ℕ, ◌+◌, eqb, true, false, Bool, cond, ◌&&◌, ◌||◌, List, [], ◌∷◌, map, length, Option, None, Some, option_map, refl, sym, ap, ◌∙◌, arith}
+use Rattle.std.proofs.Common.{◌≡◌, inl, inr, ℕ, ◌+◌, eqb, true, false, Bool, cond, List, [], ◌∷◌, map, Option, None, Some, option_map, refl, sym, ap, ◌∙◌, arith}
 use Rattle.std.specs.Prelude.{codes}
 use Rattle.std.specs.Str.{bytes_eq}
 use Rattle.std.specs.Option.{option_map_or}
@@ -12,10 +12,9 @@ use Rattle.langtag_scan.proofs.CaseLaw.{all-fold, is_letter-fold, length-fold, s
 use Rattle.langtag_match.specs.Wanted.{hyphened, hyphened_byte}
 use Rattle.langtag_registry.proofs.AlikeForms.{fold_text-twice}
 use Rattle.langtag_likely.specs.Distance.{distance_of_forms, language_distance, script_distance, region_distance}
-use Rattle.langtag_likely.specs.Likely.{Fields, known, suffices, without_region}
-use Rattle.langtag_likely.specs.LikelySubtags.{likely_subtags}
+use Rattle.langtag_likely.specs.Likely.{Fields, known, without_region}
 use Rattle.langtag_likely.specs.Matching.{matching_fields}
-use Rattle.langtag_likely.specs.Nearness.{far, text_form, is_form, is_paradigm, unlikely, unlikely_form}
+use Rattle.langtag_likely.specs.Nearness.{far, text_form, is_form, unlikely, unlikely_form}
 use Rattle.langtag_likely.specs.TextFields.{text_fields, fields_of_subtags, language_of, after_language, script_of, after_script, region_of}
 use Rattle.langtag_likely.proofs.AlikeFields.{AlikeFields, AlikeOptions, are_alike-right, suffices-alike}
 use Rattle.langtag_likely.proofs.DistanceCase.{forms-alike, matching-alike}
@@ -201,8 +200,12 @@ is_form-alike language region f g same =
 
 unlikely_form-alike : (f g : Fields) → AlikeFields f g → unlikely_form f ≡ unlikely_form g
 unlikely_form-alike f g same =
-    rw (suffices-alike f g (without_region f) (without_region g) same (record { language = same.language; script = same.script; region = refl }),
-    is_form-alike (codes "en") (codes "GB") f g same, is_form-alike (codes "es") (codes "419") f g same, is_form-alike (codes "pt") (codes "PT") f g same) refl
+    rw (
+      suffices-alike f g (without_region f) (without_region g) same (record { language = same.language; script = same.script; region = refl }),
+      is_form-alike (codes "en") (codes "GB") f g same,
+      is_form-alike (codes "es") (codes "419") f g same,
+      is_form-alike (codes "pt") (codes "PT") f g same,
+    ) refl
 
 pub unlikely-alike : (a b : List ℕ) → Alike a b → unlikely a ≡ unlikely b
 unfolding unlikely

@@ -1,11 +1,11 @@
 -- Of what is chosen: it is a tag of the list, and where look-up finds one there is some.
-use Rattle.std.proofs.Common.{◌≡◌, ℕ, zero, suc, ◌+◌, ◌-◌, Bool, true, false, cond, not, ◌&&◌, List, [], ◌∷◌, length, Option, Some, None, ap, refl, sym, ◌∙◌, arith}
+use Rattle.std.proofs.Common.{◌≡◌, ℕ, zero, suc, ◌+◌, ◌-◌, Bool, true, false, cond, not, ◌&&◌, List, [], ◌∷◌, length, Option, Some, None, ap, refl, ◌∙◌, arith}
 use Rattle.std.specs.List.{slice_get}
 use Rattle.std.specs.Option.{option_map}
 use Rattle.langtag_match.specs.AcceptLanguage.{Element}
 use Rattle.langtag_match.specs.Range.{is_star}
 use Rattle.langtag_likely.specs.Nearness.{kept, unlikely}
-use Rattle.langtag_likely.specs.Best.{is_wish, is_refused, unrefused, distance_in, as_candidate, first_of, first_for_tag, first_in, index_of, chosen_in, best}
+use Rattle.langtag_likely.specs.Best.{is_wish, is_refused, unrefused, distance_in, as_candidate, first_for_tag, first_in, index_of, chosen_in, best}
 use Rattle.langtag_likely.specs.ChoiceLaws.{HasTag, IsIndex}
 use Rattle.langtag_likely.specs.Likely.{or_else}
 use Rattle.langtag_likely.specs.declared.candidate.Candidate.{Candidate}

@@ -1,5 +1,5 @@
 -- What loops over ranges and over tags have found.
-use Rattle.std.proofs.Common.{◌≡◌, ◌⊎◌, inl, inr, ℕ, ◌+◌, ◌-◌, ◌==◌, Bool, true, false, cond, not, ◌&&◌, ◌||◌, nat_lt, ◌<◌, suc, List, [], ◌∷◌, length, drop, slice_index_or, Option, Some, None, ap, refl, sym, ◌∙◌, arith}
+use Rattle.std.proofs.Common.{◌≡◌, inl, inr, ℕ, ◌+◌, ◌-◌, ◌==◌, Bool, true, false, cond, not, ◌&&◌, nat_lt, ◌<◌, suc, List, [], ◌∷◌, length, drop, slice_index_or, Option, Some, None, ap, refl, sym, ◌∙◌, arith}
 use Rattle.std.specs.List.{list_any}
 use Rattle.std.specs.Option.{option_map}
 use Rattle.std.proofs.Math.Seq.{drop-cons}
@@ -99,7 +99,7 @@ module _ (pass : Pass) where
   one_more (element ∷ elements) place tag tags index =
       ap (first_of (first_for_range pass element place (tag ∷ tags) index)) (one_more elements (place + 1) tag tags index)
       ∙ first_of_cross (as_candidate pass element place tag index) (first_for_range pass element place tags (index + 1))
-        (first_for_tag pass elements (place + 1) tag index) (first_by_ranges pass elements (place + 1) tags (index + 1))
+      (first_for_tag pass elements (place + 1) tag index) (first_by_ranges pass elements (place + 1) tags (index + 1))
 
   either_way : (elements : List Element) (place : ℕ) (tags : List (Option (List ℕ))) (index : ℕ) → first_by_ranges pass elements place tags index ≡ first_by_tags elements place tags index
   either_way elements place [] index = no_tags elements place index

@@ -4,7 +4,7 @@ use Rattle.std.specs.List.{slice_get}
 use Rattle.std.specs.Option.{option_map}
 use Rattle.std.specs.Ordering.{is_gt, nat_cmp, ordering_then}
 use Rattle.std.specs.declared.cmp.Ordering.{Ordering}
-use Rattle.std.proofs.lemmas.Bool.{and_parts, lt-ltb, ltb-true, ltb-false}
+use Rattle.std.proofs.lemmas.Bool.{and_parts, ltb-true, ltb-false}
 use Rattle.std.proofs.lemmas.Bool.Decides.{eqb_tells}
 use Rattle.langtag_scan.specs.Case.{Alike, are_alike}
 use Rattle.langtag_scan.specs.CaseLaws.{are_alike-decides}
@@ -17,7 +17,6 @@ use Rattle.langtag_likely.specs.ChoiceLaws.{IsHeaviest, IsFirstAlike, AnswersEqu
 use Rattle.langtag_likely.specs.Likely.{or_else}
 use Rattle.langtag_likely.specs.Nearness.{is_fallback, kept, unlikely}
 use Rattle.langtag_likely.specs.declared.candidate.Candidate.{Candidate}
-use Rattle.langtag_likely.specs.declared.candidate.Pass.{Pass}
 use Rattle.langtag_likely.specs.declared.candidate.Pass.TheVariants.{Near, Acceptable, LookUp}
 use Rattle.langtag_likely.proofs.AlikeRanges.{far-none, unlikely-alike}
 use Rattle.langtag_likely.proofs.ChoiceLaws.{candidate, as_candidate-is}

@@ -1,6 +1,6 @@
 -- Where look-up finds a tag, one is chosen.
-use Rattle.std.proofs.Common.{◌≡◌, inl, inr, ℕ, zero, suc, ◌+◌, ◌-◌, ◌<◌, ◌==◌, Bool, true, false, cond, not, ◌&&◌, ◌||◌, nat_lt, IsTrue, List, [], ◌∷◌, ◌++◌, length, take, drop, map, get_or, filter, Option, Some, None, is_some, ap, refl, sym, subst, ◌∙◌, arith}
-use Rattle.std.specs.List.{All, Contains, slice_get}
+use Rattle.std.proofs.Common.{◌≡◌, inl, inr, ℕ, zero, suc, ◌+◌, ◌-◌, ◌<◌, ◌==◌, Bool, true, false, cond, not, nat_lt, List, [], ◌∷◌, ◌++◌, length, take, drop, map, get_or, filter, Option, Some, None, is_some, ap, refl, sym, subst, ◌∙◌}
+use Rattle.std.specs.List.{All, slice_get}
 use Rattle.std.specs.Option.{option_map}
 use Rattle.std.proofs.lemmas.Bool.{lt-ltb}
 use Rattle.std.proofs.lemmas.Bool.Decides.{eqb_tells}
@@ -17,7 +17,6 @@ use Rattle.langtag_likely.specs.ChoiceLaws.{LooksUp, AnswersLookUp}
 use Rattle.langtag_likely.specs.Likely.{or_else}
 use Rattle.langtag_likely.specs.Nearness.{is_fallback, kept}
 use Rattle.langtag_likely.specs.declared.candidate.Candidate.{Candidate}
-use Rattle.langtag_likely.specs.declared.candidate.Pass.{Pass}
 use Rattle.langtag_likely.specs.declared.candidate.Pass.TheVariants.{Near, Acceptable, LookUp}
 use Rattle.langtag_likely.proofs.ReadRanges.{length-alike}
 

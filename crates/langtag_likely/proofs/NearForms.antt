@@ -1,5 +1,5 @@
 -- The matching form of a text, made in two steps; a tag whose language is far is far.
-use Rattle.std.proofs.Common.{◌≡◌, ℕ, ◌+◌, ◌<◌, ◌≤◌, Bool, true, false, cond, nat_lt, List, [], ◌∷◌, length, Option, None, Some, option_map, ap, refl, sym, ◌∙◌, arith}
+use Rattle.std.proofs.Common.{◌≡◌, ℕ, ◌<◌, ◌≤◌, Bool, true, false, cond, nat_lt, List, [], ◌∷◌, length, Option, None, Some, option_map, ap, refl, sym, ◌∙◌, arith}
 use Rattle.std.specs.Prelude.{codes}
 use Rattle.std.specs.Option.{option_map_or}
 use Rattle.std.proofs.lemmas.Bool.{ltb-true}
@@ -7,7 +7,7 @@ use Rattle.langtag_scan.specs.Case.{are_alike}
 use Rattle.langtag_match.specs.Wanted.{hyphened}
 use Rattle.langtag_likely.specs.Best.{below}
 use Rattle.langtag_likely.specs.ByRanges.{replaced_form}
-use Rattle.langtag_likely.specs.Distance.{fields_distance, language_distance, script_distance, region_distance}
+use Rattle.langtag_likely.specs.Distance.{fields_distance, language_distance}
 use Rattle.langtag_likely.specs.Likely.{Fields, add_likely, filled, likely_for, looked_up, or_other}
 use Rattle.langtag_likely.specs.LikelySubtags.{likely_subtags}
 use Rattle.langtag_likely.specs.Matching.{completed, keeping_language, language_replaced, matching_fields, most_likely, most_unknown, region_alone, region_replaced, with_region, without_language}

@@ -1,5 +1,5 @@
 -- The form of a text that is a normal tag is that of its record.
-use Rattle.std.proofs.Common.{◌≡◌, inl, inr, ℕ, ◌≤◌, true, false, Bool, cond, ◌||◌, IsTrue, List, [], ◌∷◌, ◌++◌, map, length, Option, None, Some, option_map, refl, sym, ap, ◌∙◌, arith}
+use Rattle.std.proofs.Common.{◌≡◌, inl, inr, ℕ, ◌≤◌, true, false, Bool, cond, IsTrue, List, [], ◌∷◌, ◌++◌, length, Option, None, Some, option_map, refl, sym, ap, ◌∙◌, arith}
 use Rattle.std.specs.Prelude.{codes, unwrap_or, IfSome}
 use Rattle.std.specs.List.{AllByRecursion, flat_map}
 use Rattle.std.specs.Cmp.{on_equiv}
@@ -17,7 +17,7 @@ use Rattle.langtag_scan.proofs.SubtagFacts.{IsSubtag}
 use Rattle.langtag_scan.proofs.SubtagLists.{subtags-joined}
 use Rattle.langtag_match.specs.Wanted.{hyphened, hyphened_byte}
 use Rattle.langtag_likely.specs.Distance.{IsDistance, distance_of_forms}
-use Rattle.langtag_likely.specs.Likely.{Fields, known}
+use Rattle.langtag_likely.specs.Likely.{known}
 use Rattle.langtag_likely.specs.Matching.{matching_fields, matching_form}
 use Rattle.langtag_likely.specs.Maximal.{fields_of, language_field}
 use Rattle.langtag_likely.specs.Nearness.{IsChoiceDistance, far, text_form}

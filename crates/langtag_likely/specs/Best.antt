@@ -59,8 +59,8 @@ as_candidate pass element place None index = None
 as_candidate pass element place (Some tag) index =
     if is_wish element && not (is_star element.range) then
     option_map
-      (λ distance. record { lack = 1000 - element.weight; place = place; distance = distance; lost = length element.range - kept element.range tag; unlikely = unlikely tag; index = index })
-      (distance_in pass element.range tag)
+    (λ distance. record { lack = 1000 - element.weight; place = place; distance = distance; lost = length element.range - kept element.range tag; unlikely = unlikely tag; index = index })
+    (distance_in pass element.range tag)
     else None
 
 -- ---- which goes before another

@@ -28,7 +28,13 @@ impl Pass {
         match self {
             Pass::Near => nearer_than(16, wish, tag),
             Pass::Acceptable => nearer_than(50, wish, tag),
-            Pass::LookUp => { if kept(wish.range, tag) > 0 { Some(0) } else { None } }
+            Pass::LookUp => {
+                if kept(wish.range, tag) > 0 {
+                    Some(0)
+                } else {
+                    None
+                }
+            }
         }
     }
 }

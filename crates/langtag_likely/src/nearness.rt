@@ -50,12 +50,13 @@ fn nearer_form(limit: u32, range: &[u8], desired: TagFields<'_>, tag: &[u8]) -> 
 fn nearer_fields(limit: u32, desired: TagFields<'_>, supported: TagFields<'_>) -> Option<u32>
     ensures { result ≡ below limit (fields_distance (field_texts desired.entry) (completed (field_texts supported.entry))) }
 {
-    if !supported.language.is_empty()
-        && u32::from(language_distance(desired, supported)) >= limit
-    {
+    if !supported.language.is_empty() && u32::from(language_distance(desired, supported)) >= limit {
         return None;
     }
-    limited(limit, u32::from(fields_distance(desired, completed(supported))))
+    limited(
+        limit,
+        u32::from(fields_distance(desired, completed(supported))),
+    )
 }
 
 /// Returns a distance where it is below a limit.
