@@ -320,8 +320,7 @@ LANGTAG_PURE uint32_t langtag_distance(const char *desired, size_t desired_len, 
  * longest matching range has the weight 0 is not chosen, and "*" chooses nothing: the program's default stands. Each range
  * that can be made out counts: _ is read as a hyphen, what follows . or @ is dropped, a weight that is no number is 1.
  *
- * The time grows with the length of the header times that of the tags; where a range has the weight 0, with the square of the
- * header's length, which a server limits, as most do to 8 KiB.
+ * The time grows with the length of the header, which a server limits, as most do to 8 KiB, times that of the tags.
  */
 LANGTAG_PURE size_t langtag_best_for_header(const char *header, size_t header_len, const char *bytes, size_t len,
                                             const langtag_span *tags, size_t tags_len);

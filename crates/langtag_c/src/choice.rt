@@ -1,5 +1,5 @@
 //! The tag that a reader wants, and how far a tag is from one that they desire (UTS #35, part 1, section 'Language Matching').
-ghost use Rattle.std.specs.Prelude.{◌≡◌, ◌↔◌, ◌-◌, ◌^◌};
+ghost use Rattle.std.specs.Prelude.{◌≡◌, ◌↔◌, ◌-◌, ◌^◌, ◌≤◌, length};
 ghost use Rattle.langtag_scan.specs.Tag.{IsTag};
 ghost use Rattle.langtag_likely.specs.Distance.{IsDistance};
 ghost use Rattle.langtag_c.specs.Choice.{IsBest};
@@ -31,7 +31,8 @@ pub extern "C" fn langtag_distance(desired: &[u8], supported: &[u8]) -> u32
 /// that is no tag, or reaches out of the text, is passed over.
 #[unsafe(no_mangle)]
 pub extern "C" fn langtag_best_for_header(header: &[u8], bytes: &[u8], tags: &[Span]) -> usize
-    ensures { IsBest header.now bytes.now tags.now result }
+    ensures best { IsBest header.now bytes.now tags.now result }
+    ensures within { result ≤ length tags.now }
 {
     let spanned = SpannedTags {
         text: bytes,

@@ -66,13 +66,16 @@ likely-alike a b h = by_options (add_likely likely_subtags a) (add_likely likely
     by_options (Some v) None same = absurd same
     by_options (Some v) (Some w) same = same
 
+pub matching-alike : (a b : Fields) → AlikeFields a b → AlikeFields (matching_fields a) (matching_fields b)
+matching-alike a b same = likely-alike _ _ (region-alike _ _ (language-alike a b same))
+
 form-alike : (r q : Record) → AlikeRecords r q → AlikeOptions (matching_form r) (matching_form q)
 unfolding matching_form
 form-alike r q same =
     by_tests (are_alike (codes "und") (spell r)) (are_alike (codes "und") (spell q)) (are_alike-right (codes "und") (spell r) (spell q) (spelled_alike r q same))
   where
     fields : AlikeFields (matching_fields (fields_of r)) (matching_fields (fields_of q))
-    fields = likely-alike _ _ (region-alike _ _ (language-alike _ _ (fields-alike r q same)))
+    fields = matching-alike _ _ (fields-alike r q same)
 
     by_tests : (s t : Bool) → s ≡ t → AlikeOptions (cond s None (Some (matching_fields (fields_of r)))) (cond t None (Some (matching_fields (fields_of q))))
     by_tests true true same = tt
@@ -101,7 +104,7 @@ distance_by-alike (rule ∷ rules) otherwise a b c d h k =
     ∙ ap (λ t. cond (are_alike_fields rule.desired b && t) rule.distance (distance_by rules otherwise a c)) (fields-right rule.supported c d k)
     ∙ ap (cond (fits b d rule) rule.distance) (distance_by-alike rules otherwise a b c d h k)
 
-both-alike : (a b c d : List ℕ) → Alike a b → Alike c d → are_alike a c ≡ are_alike b d
+pub both-alike : (a b c d : List ℕ) → Alike a b → Alike c d → are_alike a c ≡ are_alike b d
 both-alike a b c d h k = are_alike-left a b c h ∙ are_alike-right b c d k
 
 among-alike : (words : List (List ℕ)) (a b : List ℕ) → Alike a b → Distance.is_among words a ≡ Distance.is_among words b
@@ -161,7 +164,7 @@ regions-alike a b c d h k =
 
 -- ---- the law
 
-forms-alike :
+pub forms-alike :
     (a b c d : List ℕ) → Alike a b → Alike c d → (f g v w : Option Fields) → AlikeOptions f g → AlikeOptions v w → Distance.distance_of_forms a c f v ≡ Distance.distance_of_forms b d g w
 forms-alike a b c d h k None None v w same also = rw (both-alike a b c d h k) refl
 forms-alike a b c d h k None (Some y) v w same also = absurd same

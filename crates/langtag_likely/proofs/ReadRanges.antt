@@ -17,7 +17,7 @@ pub drop_read : (range : List ℕ) (n : ℕ) → drop n (hyphened range) ≡ hyp
 drop_read range n = drop-map hyphened_byte n range
 
 -- texts that are alike are as long
-length-alike : (a b : List ℕ) → Alike a b → length a ≡ length b
+pub length-alike : (a b : List ℕ) → Alike a b → length a ≡ length b
 length-alike a b alike = sym (length-map a fold_byte) ∙ ap length alike ∙ length-map b fold_byte
 
 pub too_short : (range tag : List ℕ) → length range < length tag → are_alike (take (length tag) (hyphened range)) tag ≡ false

@@ -37,7 +37,7 @@ read_digit b digit = elim (eqb_tells b 95) [
   | inr other ↦ rw other.0 refl
 ]
 
-read_same : (test : ℕ → Bool) → ((b : ℕ) → test b ≡ true → hyphened_byte b ≡ b) → (text : List ℕ) → list_all test text ≡ true → hyphened text ≡ text
+pub read_same : (test : ℕ → Bool) → ((b : ℕ) → test b ≡ true → hyphened_byte b ≡ b) → (text : List ℕ) → list_all test text ≡ true → hyphened text ≡ text
 read_same test same [] each = refl
 read_same test same (b ∷ text) each =
     let k = and_parts (test b) (list_all test text) each in

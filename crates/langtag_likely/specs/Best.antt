@@ -1,6 +1,9 @@
 -- The tag that a reader wants: the choice among some tags for some ranges with weights.
-use Rattle.std.specs.Prelude.{ℕ, ◌+◌, Bool, not, ◌==◌, ◌&&◌, ◌||◌, if◌then◌else◌, List, [], ◌∷◌, Option, Some, None, length, max, nat_lt, is_some, filter, fold}
+use Rattle.std.specs.Prelude.{ℕ, ◌+◌, ◌-◌, Bool, not, ◌==◌, ◌&&◌, if◌then◌else◌, List, [], ◌∷◌, Option, Some, None, length, max, nat_lt}
+use Rattle.std.specs.Cmp.Lexicographic.{slice_cmp}
 use Rattle.std.specs.Option.{option_map}
+use Rattle.std.specs.Ordering.{is_gt, nat_cmp}
+use Rattle.std.specs.declared.cmp.Ordering.{Ordering}
 use Rattle.langtag_likely.specs.Likely.{or_else}
 use Rattle.langtag_likely.specs.Nearness.{far, unlikely, kept}
 use Rattle.langtag_likely.specs.declared.candidate.Candidate.{Candidate}
@@ -33,71 +36,69 @@ longest of_kind (element ∷ elements) tag =
 unfoldable pub is_refused : List Element → List ℕ → Bool
 is_refused elements tag = nat_lt (longest is_wish elements tag) (longest is_zero elements tag)
 
--- ---- the nearest tag of a range
+-- what stands at an index: none where it is no tag, or is refused
+abbrev pub unrefused : List Element → Option (List ℕ) → Option (List ℕ)
+unrefused elements None = None
+unrefused elements (Some tag) = if is_refused elements tag then None else Some tag
+
+-- ---- a tag for a range
+
+abbrev pub below : ℕ → ℕ → Option ℕ
+below limit distance = if nat_lt distance limit then Some distance else None
 
 -- the passes: a tag is to be nearer than 16; than 50; or one that look-up finds, where none is farther than another
 abbrev pub distance_in : Pass → List ℕ → List ℕ → Option ℕ
-distance_in Near range tag = if nat_lt (far range tag) 16 then Some (far range tag) else None
-distance_in Acceptable range tag = if nat_lt (far range tag) 50 then Some (far range tag) else None
+distance_in Near range tag = below 16 (far range tag)
+distance_in Acceptable range tag = below 50 (far range tag)
 distance_in LookUp range tag = if nat_lt 0 (kept range tag) then Some 0 else None
 
--- the first is nearer; or is as near, and look-up keeps more of the range for it; or that too, and its region is likelier
-abbrev pub goes_before : Candidate → Candidate → Bool
-goes_before a b =
-    nat_lt a.distance b.distance
-    || ((a.distance == b.distance) && (nat_lt b.kept a.kept || ((a.kept == b.kept) && nat_lt a.unlikely b.unlikely)))
+-- what stands at an index, for the range at a place: none where that is "*" or has the weight 0, or the tag is not within the
+-- pass. `lack` is what the weight lacks to 1, and `lost` what look-up takes from the range: all where it does not find the tag
+unfoldable pub as_candidate : Pass → Element → ℕ → Option (List ℕ) → ℕ → Option Candidate
+as_candidate pass element place None index = None
+as_candidate pass element place (Some tag) index =
+    if is_wish element && not (is_star element.range) then
+    option_map
+    (λ distance. record { lack = 1000 - element.weight; place = place; distance = distance; lost = length element.range - kept element.range tag; unlikely = unlikely tag; index = index })
+    (distance_in pass element.range tag)
+    else None
 
--- of what was found so far, and one more: what was found first stays unless the other goes before it
-abbrev pub nearer : Option Candidate → Candidate → Candidate
-nearer None next = next
-nearer (Some best) next = if goes_before next best then next else best
+-- ---- which goes before another
 
-abbrev pub with_candidate : Option Candidate → Option Candidate → Option Candidate
-with_candidate best None = best
-with_candidate best (Some next) = Some (nearer best next)
+-- the heavier range goes before, and the first of those; for that, the nearest tag, and of those the one for which look-up
+-- loses least of the range, whose region is the likeliest, and that is the first
+abbrev pub rank : Candidate → List ℕ
+rank c = c.lack ∷ c.place ∷ c.distance ∷ c.lost ∷ c.unlikely ∷ c.index ∷ []
 
--- what stands at an index, as a candidate for a range: none where it is no tag, is refused or does not come within the pass
-unfoldable pub as_candidate : Pass → List Element → List ℕ → Option (List ℕ) → ℕ → Option Candidate
-as_candidate pass elements range None index = None
-as_candidate pass elements range (Some tag) index =
-    if is_refused elements tag then None
-    else option_map (λ distance. record { distance = distance; kept = kept range tag; unlikely = unlikely tag; index = index }) (distance_in pass range tag)
+-- the first number that differs decides
+abbrev pub compare : Candidate → Candidate → Ordering
+compare a b = slice_cmp nat_cmp (rank a) (rank b)
 
--- the first, of some tags from an index on and of what was found before, that no other goes before
-abbrev pub nearest_from : Pass → List Element → List ℕ → List (Option (List ℕ)) → ℕ → Option Candidate → Option Candidate
-nearest_from pass elements range [] index best = best
-nearest_from pass elements range (tag ∷ tags) index best =
-    nearest_from pass elements range tags (index + 1) (with_candidate best (as_candidate pass elements range tag index))
+abbrev pub first_of : Option Candidate → Option Candidate → Option Candidate
+first_of None b = b
+first_of (Some a) None = Some a
+first_of (Some a) (Some b) = Some (if is_gt (compare a b) then b else a)
+
+-- ---- the choice
+
+-- the first for a tag, of some ranges from a place on
+abbrev pub first_for_tag : Pass → List Element → ℕ → Option (List ℕ) → ℕ → Option Candidate
+first_for_tag pass [] place tag index = None
+first_for_tag pass (element ∷ elements) place tag index =
+    first_of (as_candidate pass element place tag index) (first_for_tag pass elements (place + 1) tag index)
+
+-- the first of all, for some tags from an index on
+abbrev pub first_in : Pass → List Element → List (Option (List ℕ)) → ℕ → Option Candidate
+first_in pass elements [] index = None
+first_in pass elements (tag ∷ tags) index =
+    first_of (first_for_tag pass elements 0 (unrefused elements tag) index) (first_in pass elements tags (index + 1))
 
 abbrev pub index_of : Candidate → ℕ
 index_of found = found.index
 
--- the index of the tag that a range gets in a pass
-unfoldable pub nearest : Pass → List Element → List (Option (List ℕ)) → List ℕ → Option ℕ
-nearest pass elements tags range = option_map index_of (nearest_from pass elements range tags 0 None)
-
--- ---- the range that is served
-
--- a range other than "*", of a weight above 0, that gets a tag in a pass
-abbrev pub is_served : Pass → List Element → List (Option (List ℕ)) → Element → Bool
-is_served pass elements tags element = is_wish element && not (is_star element.range) && is_some (nearest pass elements tags element.range)
-
--- the one of the greatest weight, the first of these
-abbrev pub heavier : Option Element → Element → Option Element
-heavier None next = Some next
-heavier (Some best) next = Some (if nat_lt best.weight next.weight then next else best)
-
-abbrev pub heaviest : List Element → Option Element
-heaviest elements = fold heavier None elements
-
--- what a range gets, where there is one
-abbrev pub given : Pass → List Element → List (Option (List ℕ)) → Option Element → Option ℕ
-given pass elements tags None = None
-given pass elements tags (Some element) = nearest pass elements tags element.range
-
--- the tag of the heaviest range that is served in a pass
+-- the index of the tag that is chosen in a pass
 abbrev pub chosen_in : Pass → List Element → List (Option (List ℕ)) → Option ℕ
-chosen_in pass elements tags = given pass elements tags (heaviest (filter (is_served pass elements tags) elements))
+chosen_in pass elements tags = option_map index_of (first_in pass elements tags 0)
 
 -- the index of the tag that is chosen
 unfoldable pub best : List Element → List (Option (List ℕ)) → Option ℕ

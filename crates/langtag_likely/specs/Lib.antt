@@ -1,4 +1,6 @@
 pub mod Best
+pub mod ByRanges
+pub mod ChoiceLaws
 pub mod Direction
 pub mod Distance
 pub mod Good
@@ -14,7 +16,6 @@ pub mod Output
 pub mod Posix
 pub mod Rows
 pub mod Rules
-pub mod Served
 pub mod Sets
 pub mod TagTexts
 pub mod TextFields

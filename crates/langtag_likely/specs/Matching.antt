@@ -44,9 +44,13 @@ most_unknown f = option_map_or (keeping_language f) (add_likely likely_subtags (
 unfoldable pub most_likely : Fields → Fields
 most_likely f = option_map_or (λ most. most) (add_likely likely_subtags f) (most_unknown f)
 
+-- the region, too, is replaced, and likely subtags are added
+abbrev pub completed : Fields → Fields
+completed f = most_likely (region_replaced f)
+
 -- the matching form of fields
 abbrev pub matching_fields : Fields → Fields
-matching_fields f = most_likely (region_replaced (language_replaced f))
+matching_fields f = completed (language_replaced f)
 
 -- ---- the form of a tag
 

@@ -1,7 +1,8 @@
 -- How far a tag is from a language range.
-use Rattle.std.specs.Prelude.{ℕ, Bool, ◌==◌, ◌&&◌, ◌||◌, not, if◌then◌else◌, List, Option, None, codes, length, take, drop}
+use Rattle.std.specs.Prelude.{◌≡◌, ℕ, Bool, ◌==◌, ◌&&◌, ◌||◌, not, if◌then◌else◌, List, Option, None, codes, length, take, drop}
 use Rattle.std.specs.Option.{option_map, option_map_or}
 use Rattle.langtag_scan.specs.Case.{are_alike}
+use Rattle.langtag_scan.specs.Tag.{IsNormal}
 use Rattle.langtag_likely.specs.Distance.{distance_of_forms}
 use Rattle.langtag_likely.specs.Likely.{Fields, suffices, without_region}
 use Rattle.langtag_likely.specs.LikelySubtags.{likely_subtags}
@@ -18,6 +19,10 @@ text_form text = if are_alike (hyphened text) (codes "und") then None else optio
 -- the distance of a tag from a range (UTS #35, part 1, section 'Language Matching')
 unfoldable pub far : List ℕ → List ℕ → ℕ
 far range tag = distance_of_forms range tag (text_form range) (text_form tag)
+
+-- of two normal tags it is the distance that the tags have
+abbrev pub IsChoiceDistance : List ℕ → List ℕ → ℕ → Type 0
+IsChoiceDistance desired supported distance = IsNormal desired → IsNormal supported → far desired supported ≡ distance
 
 -- ---- which of several tags is the likeliest
 

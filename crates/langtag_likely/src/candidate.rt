@@ -1,12 +1,16 @@
 //! A tag that may serve a range.
-ghost use Rattle.std.specs.Prelude.{◌≡◌, if◌then◌else◌, Some, None, nat_lt};
+ghost use Rattle.std.specs.Prelude.{◌≡◌, ◌-◌, Some, length};
 ghost use Rattle.langtag.specs.Text.{lang_tag_text};
-ghost use Rattle.langtag_match.specs.Wanted.{hyphened, wanted_elements};
+ghost use Rattle.langtag_match.specs.Wanted.{hyphened, wanted_element};
 ghost use Rattle.langtag_likely.specs.Best as spec;
+ghost use Rattle.langtag_likely.specs.ByRanges.{is_settled, wish_element};
+ghost use Rattle.langtag_likely.specs.Nearness.{kept};
 
-use crate::nearness::{far, kept, unlikely};
-use crate::refused::Header;
+use crate::nearness::{kept, nearer_than, unlikely};
+use crate::read_range::is_star;
+use crate::wish::Wish;
 use langtag::LangTag;
+use langtag_match::WantedRange;
 
 /// Which tags may serve a range: those nearer than 16, those nearer than 50, and those that look-up finds.
 #[derive(Clone, Copy)]
@@ -18,82 +22,102 @@ pub(crate) enum Pass {
 
 impl Pass {
     /// Returns the distance of a tag where it may serve a range.
-    fn distance(self, range: &[u8], tag: &[u8]) -> Option<u32>
-        ensures { result ≡ spec.distance_in self (hyphened range.now) tag.now }
+    fn distance(self, wish: Wish<'_>, tag: &[u8]) -> Option<u32>
+        ensures { result ≡ spec.distance_in self (hyphened wish.entry.range.now) tag.now }
     {
         match self {
-            Pass::Near => below(16, far(range, tag)),
-            Pass::Acceptable => below(50, far(range, tag)),
-            Pass::LookUp => { if kept(range, tag) > 0 { Some(0) } else { None } }
+            Pass::Near => nearer_than(16, wish, tag),
+            Pass::Acceptable => nearer_than(50, wish, tag),
+            Pass::LookUp => {
+                if kept(wish.range, tag) > 0 {
+                    Some(0)
+                } else {
+                    None
+                }
+            }
         }
     }
 }
 
-/// Returns a distance where it is below a limit.
-fn below(limit: u32, distance: u32) -> Option<u32>
-    ensures { result ≡ (if nat_lt distance limit then Some distance else None) }
-{
-    if distance < limit {
-        Some(distance)
-    } else {
-        None
-    }
-}
-
-/// A tag that may serve a range: how far it is, how much of the range look-up keeps for it, 0 where its region is the likely
-/// one, and its index.
-#[derive(Clone, Copy)]
+/// A tag that may serve a range. Of two the lesser is the better, by the first field in which they differ.
+#[derive(Clone, Copy, Drop, PartialEq, Eq, PartialOrd, Ord)]
 pub(crate) struct Candidate {
+    /// What the weight of the range lacks to 1, in thousandths.
+    pub(crate) lack: u32,
+    /// How many ranges stand before it.
+    pub(crate) place: usize,
+    /// How far the tag is from it, and 0 for each tag that look-up finds.
     pub(crate) distance: u32,
-    pub(crate) kept: usize,
+    /// How many bytes look-up takes from the range to find the tag, and all where it does not.
+    pub(crate) lost: usize,
+    /// 0 where the region of the tag is the likely one.
     pub(crate) unlikely: u32,
+    /// How many tags stand before it.
     pub(crate) index: usize,
 }
 
-impl Candidate {
-    /// Returns whether this one is to be chosen before another that was found first.
-    fn goes_before(self, other: Candidate) -> bool
-        ensures { result ≡ spec.goes_before self other }
-    {
-        self.distance < other.distance
-            || (self.distance == other.distance
-                && (other.kept < self.kept
-                    || (self.kept == other.kept && self.unlikely < other.unlikely)))
-    }
-}
-
-/// Returns what was found first, or another that goes before it.
-pub(crate) fn nearer(best: Option<Candidate>, next: Candidate) -> Candidate
-    ensures { result ≡ spec.nearer best next }
+/// Returns the lesser of two.
+pub(crate) fn first_of(found: Option<Candidate>, next: Option<Candidate>) -> Option<Candidate>
+    ensures { result ≡ spec.first_of found next }
 {
-    match best {
-        Some(best) if !next.goes_before(best) => best,
-        _ => next,
+    match (found, next) {
+        (Some(found), Some(next)) => Some(found.min(next)),
+        (Some(found), None) => Some(found),
+        (None, next) => next,
     }
 }
 
-/// Returns a tag as a candidate for a range: None where it is refused, or may not serve it in a pass.
+/// Returns whether what was found is less than each candidate for a range at a place.
+pub(crate) fn is_settled(found: Option<Candidate>, wanted: WantedRange<'_>, place: usize) -> bool
+    ensures { result ≡ is_settled found (wanted_element wanted.entry) place }
+{
+    match found {
+        Some(found) => {
+            found.lack < lack(wanted.weight)
+                || (found.lack == lack(wanted.weight) && found.place < place)
+        }
+        None => false,
+    }
+}
+
+/// Returns what a weight lacks to 1.
+fn lack(weight: u32) -> u32
+    ensures { result ≡ 1000 - weight }
+{
+    1000_u32.saturating_sub(weight)
+}
+
+/// Returns a tag as a candidate for a range: None where it may not serve it in a pass.
 #[tactic(auto, unfolding(crate::specs::Best::as_candidate))]
 pub(crate) fn as_candidate(
     pass: Pass,
-    header: Header<'_>,
-    range: &[u8],
+    wish: Wish<'_>,
     tag: LangTag<'_>,
     index: usize,
 ) -> Option<Candidate>
-    ensures { result ≡ spec.as_candidate pass (wanted_elements header.entry.bytes.now) (hyphened range.now) (Some (lang_tag_text tag.entry)) index }
+    ensures { result ≡ spec.as_candidate pass (wish_element wish.entry) wish.entry.place (Some (lang_tag_text tag.entry)) index }
 {
-    let text = tag.as_bytes();
-    let Some(distance) = pass.distance(range, text) else {
-        return None;
-    };
-    if header.refuses(text) {
+    if wish.weight == 0 || is_star(wish.range) {
         return None;
     }
+    let text = tag.as_bytes();
+    let Some(distance) = pass.distance(wish, text) else {
+        return None;
+    };
     Some(Candidate {
+        lack: lack(wish.weight),
+        place: wish.place,
         distance,
-        kept: kept(range, text),
+        lost: lost(wish.range, text),
         unlikely: unlikely(text),
         index,
     })
+}
+
+/// Returns how many bytes look-up takes from a range to find a tag.
+#[tactic(auto, using(crate::proofs::ReadRanges::length_read))]
+fn lost(range: &[u8], tag: &[u8]) -> usize
+    ensures { result ≡ length (hyphened range.now) - kept (hyphened range.now) tag.now }
+{
+    range.len().saturating_sub(kept(range, tag))
 }

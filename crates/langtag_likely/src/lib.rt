@@ -12,6 +12,8 @@
 
 mod aliases;
 mod best;
+mod by_ranges;
+mod by_tags;
 mod candidate;
 mod direction;
 mod fields;
@@ -36,6 +38,7 @@ mod tag_distance;
 mod tag_fields;
 mod tag_list;
 mod text_fields;
+mod wish;
 
 pub use best::{best_among, best_for_header};
 pub use direction::is_right_to_left;

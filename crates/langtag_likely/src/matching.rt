@@ -27,7 +27,14 @@ pub(crate) fn matching_form<'a>(tag: LangTag<'a>) -> Option<TagFields<'a>>
 pub(crate) fn matching_fields<'a>(fields: TagFields<'a>) -> TagFields<'a>
     ensures { field_texts result ≡ spec.matching_fields (field_texts fields.entry) }
 {
-    most_likely(region_replaced(language_replaced(fields)))
+    completed(language_replaced(fields))
+}
+
+/// Returns fields with another region in place of one that is deprecated, and with likely subtags.
+pub(crate) fn completed<'a>(fields: TagFields<'a>) -> TagFields<'a>
+    ensures { field_texts result ≡ spec.completed (field_texts fields.entry) }
+{
+    most_likely(region_replaced(fields))
 }
 
 /// Returns fields with the likely ones in place of those that are empty. Where nothing is known of a language, script and region

@@ -1,46 +1,73 @@
 //! How far a tag is from a range.
-ghost use Rattle.std.specs.Prelude.{◌≡◌, ◌≤◌, IsTrue, length, take};
+ghost use Rattle.std.specs.Prelude.{◌≡◌, ◌≤◌, IsTrue, Some, length, take};
 ghost use Rattle.std.specs.Option.{option_map, option_map_or};
 ghost use Rattle.langtag_scan.specs.Case.{are_alike};
 ghost use Rattle.langtag_match.specs.Basic.{ends_subtag};
 ghost use Rattle.langtag_match.specs.Fallback.{ends_in_single};
 ghost use Rattle.langtag_match.specs.Wanted.{hyphened};
-ghost use Rattle.langtag_likely.specs.Distance.{distance_of_forms, formless_distance};
+ghost use Rattle.langtag_likely.specs.Best.{below};
+ghost use Rattle.langtag_likely.specs.ByRanges.{replaced_form};
+ghost use Rattle.langtag_likely.specs.Distance.{distance_of_forms, fields_distance, formless_distance};
+ghost use Rattle.langtag_likely.specs.Matching.{completed};
 ghost use Rattle.langtag_likely.specs.Nearness as spec;
 ghost use Rattle.langtag_likely.specs.Texts.{field_texts};
 
+use crate::aliases::language_replaced;
 use crate::likely::suffices;
-use crate::matching::matching_fields;
+use crate::matching::completed;
 use crate::read_range::{are_alike, hyphened};
+use crate::rule_distance::language_distance;
 use crate::tag_distance::fields_distance;
 use crate::tag_fields::TagFields;
 use crate::text_fields::text_fields;
+use crate::wish::Wish;
 use langtag_scan::case_insensitive_eq;
 
-/// Returns the distance of a tag from a range (UTS #35, Language Matching).
+/// Returns the distance of a tag from a range (UTS #35, Language Matching) where it is below a limit.
 #[tactic(auto, unfolding(crate::specs::Nearness::far), using(crate::proofs::ReadRanges::form_read))]
-pub(crate) fn far(range: &[u8], tag: &[u8]) -> u32
-    ensures { result ≡ spec.far (hyphened range.now) tag.now }
+pub(crate) fn nearer_than(limit: u32, wish: Wish<'_>, tag: &[u8]) -> Option<u32>
+    ensures { result ≡ below limit (spec.far (hyphened wish.entry.range.now) tag.now) }
 {
-    between(range, tag, text_form(range), text_form(tag))
+    match wish.form {
+        Some(desired) => nearer_form(limit, wish.range, desired, tag),
+        None => limited(limit, formless(wish.range, tag)),
+    }
 }
 
-/// Returns the distance of a tag from a range by their matching forms.
-fn between(
-    range: &[u8],
-    tag: &[u8],
-    desired: Option<TagFields<'_>>,
-    supported: Option<TagFields<'_>>,
-) -> u32
-    ensures { result ≡ distance_of_forms (hyphened range.now) tag.now (option_map field_texts desired.entry) (option_map field_texts supported.entry) }
+/// Returns the distance of a tag from a range that has a matching form.
+#[tactic(auto, using(crate::proofs::NearForms::form_completed))]
+fn nearer_form(limit: u32, range: &[u8], desired: TagFields<'_>, tag: &[u8]) -> Option<u32>
+    ensures { result ≡ below limit (distance_of_forms (hyphened range.now) tag.now (Some (field_texts desired.entry)) (spec.text_form tag.now)) }
 {
-    let Some(desired) = desired else {
-        return formless(range, tag);
-    };
-    let Some(supported) = supported else {
-        return formless(range, tag);
-    };
-    u32::from(fields_distance(desired, supported))
+    match replaced_form(tag) {
+        Some(supported) => nearer_fields(limit, desired, supported),
+        None => limited(limit, formless(range, tag)),
+    }
+}
+
+/// Returns the distance of fields that are still to be completed. Where the language alone is too far they are not.
+#[tactic(auto, using(crate::proofs::NearForms::far_language))]
+fn nearer_fields(limit: u32, desired: TagFields<'_>, supported: TagFields<'_>) -> Option<u32>
+    ensures { result ≡ below limit (fields_distance (field_texts desired.entry) (completed (field_texts supported.entry))) }
+{
+    if !supported.language.is_empty() && u32::from(language_distance(desired, supported)) >= limit {
+        return None;
+    }
+    limited(
+        limit,
+        u32::from(fields_distance(desired, completed(supported))),
+    )
+}
+
+/// Returns a distance where it is below a limit.
+fn limited(limit: u32, distance: u32) -> Option<u32>
+    ensures { result ≡ below limit distance }
+{
+    if distance < limit {
+        Some(distance)
+    } else {
+        None
+    }
 }
 
 fn formless(range: &[u8], tag: &[u8]) -> u32
@@ -50,15 +77,26 @@ fn formless(range: &[u8], tag: &[u8]) -> u32
 }
 
 /// Returns the matching form of a text: None of `und`, and of what does not begin with a language.
-#[tactic(auto, unfolding(crate::specs::Nearness::text_form))]
-fn text_form(text: &[u8]) -> Option<TagFields<'_>>
+#[tactic(auto, using(crate::proofs::NearForms::form_completed))]
+pub(crate) fn text_form(text: &[u8]) -> Option<TagFields<'_>>
     ensures { option_map field_texts result ≡ spec.text_form text.now }
+{
+    match replaced_form(text) {
+        Some(fields) => Some(completed(fields)),
+        None => None,
+    }
+}
+
+/// Returns the fields of a text, of which the language is replaced where it is deprecated.
+#[tactic(auto, unfolding(crate::specs::ByRanges::replaced_form))]
+fn replaced_form(text: &[u8]) -> Option<TagFields<'_>>
+    ensures { option_map field_texts result ≡ replaced_form text.now }
 {
     if are_alike(text, b"und") {
         return None;
     }
     match text_fields(text) {
-        Some(fields) => Some(matching_fields(fields)),
+        Some(fields) => Some(language_replaced(fields)),
         None => None,
     }
 }

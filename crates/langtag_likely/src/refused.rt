@@ -26,12 +26,11 @@ impl<'a> Header<'a> {
         }
     }
 
-    /// Returns whether the longest range that matches a tag has the weight 0.
-    #[tactic(auto, using(crate::proofs::NoneRefused::none_refused))]
-    pub(crate) fn refuses(self, tag: &[u8]) -> bool
-        ensures { result ≡ spec.is_refused (wanted_elements self.entry.bytes.now) tag.now }
+    /// Returns whether a range has the weight 0.
+    pub(crate) fn may_refuse(self) -> bool
+        ensures { result ≡ list_any spec.is_zero (wanted_elements self.entry.bytes.now) }
     {
-        self.has_zero && is_refused(self.bytes, tag)
+        self.has_zero
     }
 }
 
@@ -49,7 +48,7 @@ fn has_zero(header: &[u8]) -> bool
 
 /// Returns whether the longest range that matches a tag has the weight 0.
 #[tactic(auto, unfolding(crate::specs::Best::is_refused))]
-fn is_refused(header: &[u8], tag: &[u8]) -> bool
+pub(crate) fn is_refused(header: &[u8], tag: &[u8]) -> bool
     ensures { result ≡ spec.is_refused (wanted_elements header.now) tag.now }
 {
     let mut wanted = 0;

@@ -5,6 +5,7 @@ ghost use Rattle.langtag.specs.Text.{lang_tag_text};
 ghost use Rattle.langtag_scan.specs.Case.{are_alike};
 ghost use Rattle.langtag_likely.specs.Distance as spec;
 ghost use Rattle.langtag_likely.specs.Likely.{are_alike_fields};
+ghost use Rattle.langtag_likely.specs.Nearness.{IsChoiceDistance};
 ghost use Rattle.langtag_likely.specs.Texts.{field_texts};
 
 use crate::matching::matching_form;
@@ -31,6 +32,7 @@ pub fn distance(desired: LangTag<'_>, supported: LangTag<'_>) -> u8
     ensures distance { spec.IsDistance (lang_tag_text desired.entry) (lang_tag_text supported.entry) result }
     ensures equal { spec.ZeroIfEqual (lang_tag_text desired.entry) (lang_tag_text supported.entry) result }
     ensures case { spec.IgnoresCase (lang_tag_text desired.entry) (lang_tag_text supported.entry) result }
+    ensures in_choice { IsChoiceDistance (lang_tag_text desired.entry) (lang_tag_text supported.entry) result }
     ensures most { result ≤ 134 ⊎ (result ≡ 255) }
 {
     tags_distance(desired, supported)
