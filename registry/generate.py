@@ -32,7 +32,7 @@ PROOFS = "crates/langtag_registry/proofs"
 # The lists: a name, the Type of its records, and the number that a table has in place of the text.
 SUBTAGS = ["language", "extlang", "script", "region", "variant"]
 DEPRECATED = ["language", "extlang", "region", "variant"]
-KEY_BITS = {"language": 16, "extlang": 32, "script": 32, "region": 32, "variant": 64}
+KEY_BITS = {"language": 16, "extlang": 64, "script": 64, "region": 64, "variant": 64}
 
 # Of a language or an extended one: the Type, the field, the list of specs/, and the tables.
 LANGUAGE_FIELDS = [

@@ -1,17 +1,16 @@
 -- The tables of numbers are those of the lists of subtags, and rise: by computation. Written by registry/generate.py. Do not edit.
 use Rattle.std.proofs.Common.{◌≡◌, ◌==◌, true, false, ◌<◌, map, length, refl, sym, ℕ, List}
 use Rattle.std.specs.List.{list_all, list_any}
-use Rattle.langtag_scan.specs.Case.{fold_byte}
+use Rattle.langtag_scan.specs.Case.{fold_byte, folded_number}
 use Rattle.langtag_scan.specs.Class.{is_letter, is_digit, are_letters, are_alphanumeric}
+use Rattle.langtag_scan.proofs.FoldedNumbers.{among-folded, among-numbers}
 use Rattle.langtag_registry.specs.declared.tables.TheConstants.{EXTLANG_KEYS, SCRIPT_KEYS, REGION_KEYS, VARIANT_KEYS, DEPRECATED_LANGUAGE_KEYS, DEPRECATED_EXTLANG_KEYS, DEPRECATED_REGION_KEYS, DEPRECATED_VARIANT_KEYS, DEPRECATED_TAGS}
 use Rattle.langtag_registry.specs.Subtags.{extlang_subtags, script_subtags, region_subtags, variant_subtags, deprecated_languages, deprecated_extlangs, deprecated_regions, deprecated_variants, deprecated_tags}
-use Rattle.langtag_registry.specs.Numbers.{letter_number, folded_number}
+use Rattle.langtag_registry.specs.Numbers.{letter_number}
 use Rattle.langtag_registry.specs.Registered.{is_registered_extlang, is_registered_script, is_registered_region, is_registered_variant}
 use Rattle.langtag_registry.specs.Fields.{is_deprecated_language, is_deprecated_extlang, is_deprecated_region, is_deprecated_variant}
-use Rattle.langtag_registry.proofs.FoldedNumbers.{among-folded}
 use Rattle.langtag_registry.proofs.Letters.{letter_number-tells}
 use Rattle.langtag_registry.proofs.LanguageTable.{is_short, long_apart}
-use Rattle.langtag_registry.proofs.Members.{among-numbers}
 use Rattle.langtag_registry.proofs.Rising.{rises_from}
 
 pub extlang_numbers : EXTLANG_KEYS ≡ map folded_number extlang_subtags

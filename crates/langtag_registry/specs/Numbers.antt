@@ -12,10 +12,6 @@ letter b = fold_byte b - 96
 unfoldable pub letter_number : List ℕ → ℕ
 letter_number text = fold (λ number b. number * 26 + letter b) 0 text
 
--- the folded bytes of a text as the digits of a number in base 256
-unfoldable pub folded_number : List ℕ → ℕ
-folded_number text = fold (λ number b. number * 256 + fold_byte b) 0 text
-
 -- the 64 bits of a word, from the lowest on
 unfoldable pub bits : ℕ → List Bool
 bits word = map (λ k. word / 2 ^ k % 2 == 1) (range_with_len 0 64)

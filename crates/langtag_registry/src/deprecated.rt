@@ -6,11 +6,12 @@ ghost use Rattle.langtag.specs.Text.{lang_tag_text};
 ghost use Rattle.langtag_scan.specs.Case.{are_alike};
 ghost use Rattle.langtag_language.specs.Text.{primary_language_text, extended_lang_tag_text};
 ghost use Rattle.langtag_place.specs.Text.{region_text, variant_text};
-ghost use Rattle.langtag_registry.specs.Numbers.{letter_number, folded_number};
+ghost use Rattle.langtag_scan.specs.Case.{folded_number};
+ghost use Rattle.langtag_registry.specs.Numbers.{letter_number};
 ghost use Rattle.langtag_registry.specs.Subtags as list;
 ghost use Rattle.langtag_registry.specs.Fields as field;
 
-use crate::keys::{is_among, is_among_long, is_among_short, long_number, short_number};
+use crate::keys::{is_among, is_among_short};
 use crate::languages::letter_number;
 use crate::tables::{
     DEPRECATED_EXTLANG_KEYS, DEPRECATED_LANGUAGE_KEYS, DEPRECATED_REGION_KEYS, DEPRECATED_TAGS,
@@ -19,7 +20,7 @@ use crate::tables::{
 use langtag::LangTag;
 use langtag_language::{ExtendedLangTag, PrimaryLanguage};
 use langtag_place::{Region, Variant};
-use langtag_scan::case_insensitive_eq;
+use langtag_scan::{case_insensitive_eq, folded_number};
 
 /// Returns whether a language is deprecated (RFC 5646 section 3.1.6): true for `iw`, false for `he` and for what is
 /// not registered.
@@ -38,7 +39,7 @@ pub fn is_deprecated_language(language: PrimaryLanguage<'_>) -> bool
 pub fn is_deprecated_extlang(extlang: ExtendedLangTag<'_>) -> bool
     ensures { result ≡ field.is_deprecated_extlang (extended_lang_tag_text extlang.entry) }
 {
-    is_among(deprecated_extlang_keys(), short_number(extlang.as_bytes()))
+    is_among(deprecated_extlang_keys(), folded_number(extlang.as_bytes()))
 }
 
 /// Returns whether a region is deprecated (RFC 5646 section 3.1.6): true for `SU`, false for `FR` and for what is not
@@ -46,7 +47,7 @@ pub fn is_deprecated_extlang(extlang: ExtendedLangTag<'_>) -> bool
 pub fn is_deprecated_region(region: Region<'_>) -> bool
     ensures { result ≡ field.is_deprecated_region (region_text region.entry) }
 {
-    is_among(deprecated_region_keys(), short_number(region.as_bytes()))
+    is_among(deprecated_region_keys(), folded_number(region.as_bytes()))
 }
 
 /// Returns whether a variant is deprecated (RFC 5646 section 3.1.6): true for `heploc`, false for `rozaj` and for what
@@ -54,7 +55,7 @@ pub fn is_deprecated_region(region: Region<'_>) -> bool
 pub fn is_deprecated_variant(variant: Variant<'_>) -> bool
     ensures { result ≡ field.is_deprecated_variant (variant_text variant.entry) }
 {
-    is_among_long(deprecated_variant_keys(), long_number(variant.as_bytes()))
+    is_among(deprecated_variant_keys(), folded_number(variant.as_bytes()))
 }
 
 /// Returns whether a tag is deprecated as a whole (RFC 5646 section 3.1.6), which some grandfathered and redundant tags are:
@@ -82,14 +83,14 @@ fn deprecated_language_keys() -> &'static [u16]
     &DEPRECATED_LANGUAGE_KEYS
 }
 
-fn deprecated_extlang_keys() -> &'static [u32]
+fn deprecated_extlang_keys() -> &'static [u64]
     ensures numbers { result.now ≡ map folded_number list.deprecated_extlangs }
     ensures rises { IsNonDecreasing result.now }
 {
     &DEPRECATED_EXTLANG_KEYS
 }
 
-fn deprecated_region_keys() -> &'static [u32]
+fn deprecated_region_keys() -> &'static [u64]
     ensures numbers { result.now ≡ map folded_number list.deprecated_regions }
     ensures rises { IsNonDecreasing result.now }
 {
