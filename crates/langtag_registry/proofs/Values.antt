@@ -1,16 +1,25 @@
 -- A value beside a key, and an entry's value.
-use Rattle.std.proofs.Common.{◌≡◌, ◌≢◌, ℕ, zero, suc, ◌+◌, ◌<◌, ◌≤◌, true, false, Bool, ltb, cond, List, [], ◌∷◌, length, get_or, map, drop, add-one, Option, None, Some, refl, ap, sym, ◌∙◌, arith}
+use Rattle.std.proofs.Common.{◌≡◌, ◌≢◌, ℕ, zero, suc, ◌+◌, ◌<◌, ◌≤◌, true, false, Bool, ◌==◌, ltb, cond, List, [], ◌∷◌, length, get_or, map, drop, add-one, Option, None, Some, refl, ap, sym, ◌∙◌, arith}
 use Rattle.std.specs.List.{list_all}
+use Rattle.std.specs.Prelude.{Result, Ok, Err}
 use Rattle.std.proofs.lemmas.Bool.{and_parts, ltb-true, eq-eqb, ne_eqb, false_from_ne_true}
 use Rattle.std.proofs.lemmas.List.{length-map}
-use Rattle.langtag_scan.specs.Case.{fold_byte, are_alike}
+use Rattle.langtag_scan.specs.Case.{fold_byte, are_alike, folded_number}
 use Rattle.langtag_scan.specs.CaseLaws.{are_alike-decides}
-use Rattle.langtag_scan.specs.Class.{are_letters}
+use Rattle.langtag_scan.specs.Class.{are_alphanumeric}
+use Rattle.langtag_scan.proofs.FoldedNumbers.{folded_number-tells}
 use Rattle.langtag_registry.specs.Entry.{Entry, value_for}
-use Rattle.langtag_registry.specs.Numbers.{letter_number, climbs_from, value_at}
-use Rattle.langtag_registry.proofs.Letters.{letter_number-tells}
+use Rattle.langtag_registry.specs.Numbers.{climbs_from}
+use Rattle.langtag_registry.specs.Tables.{AreKeysOf}
+use Rattle.langtag_registry.proofs.Rising.{IsSearched, searched_apart}
 
--- ---- a value beside a key
+-- ---- a value beside a number
+
+abbrev pub numbers_of : List Entry → List ℕ
+numbers_of list = map folded_number (map (λ e. e.subtag) list)
+
+abbrev pub are_plain : List Entry → Bool
+are_plain list = list_all are_alphanumeric (map (λ e. e.subtag) list)
 
 above_first : (low : ℕ) (numbers : List ℕ) (k : ℕ) → climbs_from low numbers ≡ true → k < length numbers → low < get_or numbers k 0
 above_first low [] k climbs inside = absurd (omega (arith, inside))
@@ -21,32 +30,49 @@ above_first low (n ∷ numbers) (suc k) climbs inside =
     let later = above_first n numbers k parts.1 (omega (arith, inside)) in
     omega (arith, first, later)
 
+-- a subtag is the text where the numbers are the same
+alike_by_number : (e : Entry) (list : List Entry) (text : List ℕ) (same : Bool) → are_plain (e ∷ list) ≡ true → are_alphanumeric text ≡ true → (folded_number text == folded_number e.subtag) ≡ same → are_alike e.subtag text ≡ same
+alike_by_number e list text same plain good is =
+    sym (folded_number-tells e.subtag text (and_parts (are_alphanumeric e.subtag) (are_plain list) plain).0 good) ∙ is
+
 pub value_found :
-    (low : ℕ) (keys : List ℕ) (values : List (List ℕ)) (key i : ℕ) → climbs_from low keys ≡ true → length values ≡ length keys →
-    i < length keys → get_or keys i 0 ≡ key → value_at keys values key ≡ Some (get_or values i [])
-value_found low [] values key i climbs long inside at = absurd (omega (arith, inside))
-value_found low (k ∷ keys) [] key i climbs long inside at = absurd (omega (arith, long))
-value_found low (k ∷ keys) (v ∷ values) key zero climbs long inside at = rw (eq-eqb key k (sym at)) refl
-value_found low (k ∷ keys) (v ∷ values) key (suc i) climbs long inside at =
-    let later = (and_parts (ltb low k) (climbs_from k keys) climbs).1 in
-    let above = above_first k keys i later (omega (arith, inside)) in
-    rw (ne_eqb key k (λ same. absurd (omega (arith, same, above, at)))) (value_found k keys values key i later (omega (arith, long)) (omega (arith, inside)) at)
+    (low : ℕ) (list : List Entry) (text : List ℕ) (i : ℕ) → climbs_from low (numbers_of list) ≡ true → are_plain list ≡ true → are_alphanumeric text ≡ true →
+    i < length (numbers_of list) → get_or (numbers_of list) i 0 ≡ folded_number text → value_for list text ≡ Some (get_or (map (λ e. e.value) list) i [])
+value_found low [] text i climbs plain good inside at = absurd (omega (arith, inside))
+value_found low (e ∷ list) text zero climbs plain good inside at = rw (alike_by_number e list text true plain good (eq-eqb _ _ (sym at))) refl
+value_found low (e ∷ list) text (suc i) climbs plain good inside at =
+    let later = (and_parts (ltb low (folded_number e.subtag)) (climbs_from (folded_number e.subtag) (numbers_of list)) climbs).1 in
+    let above = above_first (folded_number e.subtag) (numbers_of list) i later (omega (arith, inside)) in
+    rw (alike_by_number e list text false plain good (ne_eqb _ _ (λ same. absurd (omega (arith, same, above, at)))))
+    (value_found (folded_number e.subtag) list text i later (and_parts (are_alphanumeric e.subtag) (are_plain list) plain).1 good (omega (arith, inside)) at)
 
-pub value_absent : (keys : List ℕ) (values : List (List ℕ)) (key : ℕ) → ((k : ℕ) → k < length keys → get_or keys k 0 ≢ key) → value_at keys values key ≡ None
-value_absent [] values key none = refl
-value_absent (k ∷ keys) [] key none = refl
-value_absent (k ∷ keys) (v ∷ values) key none =
-    rw (ne_eqb key k (λ same. none zero (omega arith) (sym same))) (value_absent keys values key (λ j inside. none (suc j) (omega (arith, inside))))
+pub value_absent :
+    (list : List Entry) (text : List ℕ) → are_plain list ≡ true → are_alphanumeric text ≡ true →
+    ((k : ℕ) → k < length (numbers_of list) → get_or (numbers_of list) k 0 ≢ folded_number text) → value_for list text ≡ None
+value_absent [] text plain good none = refl
+value_absent (e ∷ list) text plain good none =
+    rw (alike_by_number e list text false plain good (ne_eqb _ _ (λ same. none zero (omega arith) (sym same))))
+    (value_absent list text (and_parts (are_alphanumeric e.subtag) (are_plain list) plain).1 good (λ j inside. none (suc j) (omega (arith, inside))))
 
--- ---- by numbers, or by texts
+-- the value at the index that was found
+abbrev pub value_at : List Entry → Result ℕ ℕ → Option (List ℕ)
+value_at list (Ok i) = Some (get_or (map (λ e. e.value) list) i [])
+value_at list (Err i) = None
 
-pub value_by_number :
-    (list : List Entry) (text : List ℕ) → are_letters text ≡ true → list_all (λ e. are_letters e.subtag) list ≡ true →
-    value_at (map (λ e. letter_number e.subtag) list) (map (λ e. e.value) list) (letter_number text) ≡ value_for list text
-value_by_number [] text good all = refl
-value_by_number (e ∷ list) text good all =
-    let k = and_parts (are_letters e.subtag) (list_all (λ e. are_letters e.subtag) list) all in
-    rw (letter_number-tells e.subtag text k.0 good, value_by_number list text good k.1) refl
+-- what a binary search for the number of a text finds
+pub value_searched :
+    (keys : List ℕ) (list : List Entry) (text : List ℕ) (key : ℕ) (found : Result ℕ ℕ) → AreKeysOf keys (map (λ e. e.subtag) list) → are_alphanumeric text ≡ true →
+    key ≡ folded_number text → IsSearched keys key found → value_for list text ≡ value_at list found
+value_searched keys list text key found of good is at = by_found found (rw (of.numbers, is) at at)
+  where
+    climb : climbs_from 0 (numbers_of list) ≡ true
+    climb = ap (climbs_from 0) (sym of.numbers) ∙ of.climb
+
+    by_found :
+        (found : Result ℕ ℕ) → IsSearched (numbers_of list) (folded_number text) found →
+        value_for list text ≡ value_at list found
+    by_found (Ok i) at = value_found 0 list text i climb of.plain good at.0 at.1
+    by_found (Err i) at = value_absent list text of.plain good (searched_apart (numbers_of list) (folded_number text) i at)
 
 -- no subtag of at most so many letters is alike a longer text
 pub value_of_long :

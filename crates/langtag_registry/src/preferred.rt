@@ -3,11 +3,14 @@ ghost use Rattle.std.specs.Prelude.{◌≡◌, map};
 ghost use Rattle.std.specs.Option.{option_map};
 ghost use Rattle.langtag_place.specs.Text.{region_text, variant_text};
 ghost use Rattle.langtag.specs.Text.{lang_tag_text};
-ghost use Rattle.langtag_registry.specs.Entry.{Entry, value_for};
+ghost use Rattle.langtag_registry.specs.Entry.{value_for};
 ghost use Rattle.langtag_registry.specs.Fields as field;
-ghost use Rattle.langtag_registry.specs.Subtags.{region_preferred, variant_preferred, tag_preferred};
 
-use crate::tables::{PREFERRED_REGIONS, PREFERRED_TAGS, PREFERRED_VARIANTS};
+use crate::table::value_of;
+use crate::tables::{
+    PREFERRED_REGION_KEYS, PREFERRED_REGION_VALUES, PREFERRED_TAGS, PREFERRED_VARIANT_KEYS,
+    PREFERRED_VARIANT_VALUES,
+};
 use langtag::LangTag;
 use langtag_place::{Region, Variant};
 use langtag_scan::case_insensitive_eq;
@@ -17,7 +20,11 @@ use langtag_scan::case_insensitive_eq;
 pub fn preferred_region(region: Region<'_>) -> Option<Region<'static>>
     ensures { option_map region_text result ≡ field.preferred_region (region_text region.entry) }
 {
-    match value_beside(regions(), region.as_bytes()) {
+    match value_of(
+        &PREFERRED_REGION_KEYS,
+        &PREFERRED_REGION_VALUES,
+        region.as_bytes(),
+    ) {
         Some(text) => Some(Region::from_checked(text)),
         None => None,
     }
@@ -28,7 +35,11 @@ pub fn preferred_region(region: Region<'_>) -> Option<Region<'static>>
 pub fn preferred_variant(variant: Variant<'_>) -> Option<Variant<'static>>
     ensures { option_map variant_text result ≡ field.preferred_variant (variant_text variant.entry) }
 {
-    match value_beside(variants(), variant.as_bytes()) {
+    match value_of(
+        &PREFERRED_VARIANT_KEYS,
+        &PREFERRED_VARIANT_VALUES,
+        variant.as_bytes(),
+    ) {
         Some(text) => Some(Variant::from_checked(text)),
         None => None,
     }
@@ -47,7 +58,7 @@ pub fn preferred_tag(tag: LangTag<'_>) -> Option<LangTag<'static>>
 pub(crate) fn preferred_for(text: &[u8]) -> Option<LangTag<'static>>
     ensures { option_map lang_tag_text result ≡ field.preferred_tag text.now }
 {
-    match value_beside(tags(), text) {
+    match value_beside(&PREFERRED_TAGS, text) {
         Some(text) => Some(LangTag::from_checked(text)),
         None => None,
     }
@@ -67,22 +78,4 @@ fn value_beside(
         }
     }
     None
-}
-
-fn regions() -> &'static [(&'static str, &'static str)]
-    ensures { map (λ pair. record { subtag = pair.0.now; value = pair.1.now }) result.now ≡ region_preferred }
-{
-    &PREFERRED_REGIONS
-}
-
-fn variants() -> &'static [(&'static str, &'static str)]
-    ensures { map (λ pair. record { subtag = pair.0.now; value = pair.1.now }) result.now ≡ variant_preferred }
-{
-    &PREFERRED_VARIANTS
-}
-
-fn tags() -> &'static [(&'static str, &'static str)]
-    ensures { map (λ pair. record { subtag = pair.0.now; value = pair.1.now }) result.now ≡ tag_preferred }
-{
-    &PREFERRED_TAGS
 }
