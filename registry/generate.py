@@ -55,6 +55,10 @@ def folded_number(text):
     return int.from_bytes(text.lower().encode(), "big")
 
 
+def end_number(text):
+    return folded_number(text[-8:])
+
+
 def subtags(registry, kind, field=None):
     """The subtags of a Type, or those with a field, in the order of their numbers."""
     return sorted((record.text for record in registry.all(kind, having=field)), key=folded_number)
@@ -96,8 +100,8 @@ def key_table(name, what, texts):
 
 
 def whole_tags(registry):
-    """The grandfathered and redundant tags with a Preferred-Value, and that value."""
-    return [pair for kind in TAG_TYPES for pair in values(registry, kind, "Preferred-Value")]
+    """The grandfathered and redundant tags with a Preferred-Value, and that value, by the numbers of their ends."""
+    return sorted((pair for kind in TAG_TYPES for pair in values(registry, kind, "Preferred-Value")), key=lambda pair: end_number(pair[0]))
 
 
 def tables(registry):
@@ -118,7 +122,9 @@ def tables(registry):
         texts, beside = zip(*values(registry, kind, field))
         out.append(key_table(f"{name}_KEYS", f"{kind}s with a {field}", texts))
         out.append(table(f"{name}_VALUES", "The value of each of them.", "&str", quoted(beside)))
-    out.append(table("PREFERRED_TAGS", "The whole tags with a Preferred-Value, each before that value.", "(&str, &str)",
+    out.append(table("PREFERRED_TAG_KEYS", "The whole tags with a Preferred-Value: the lowercase ones of their last eight bytes as the digits of a number, in rising order.",
+                     "u64", [f"0x{end_number(text):X}" for text, _ in whole_tags(registry)]))
+    out.append(table("PREFERRED_TAGS", "Each of them before its Preferred-Value.", "(&str, &str)",
                      [f'("{text}", "{value}")' for text, value in whole_tags(registry)]))
     out.append(table("DEPRECATED_TAGS", "The deprecated grandfathered and redundant tags.", "&str", quoted(deprecated_tags(registry))))
     prefixes = values(registry, "variant", "Prefix")

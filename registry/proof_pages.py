@@ -52,7 +52,7 @@ use Rattle.langtag_scan.specs.Case.{{fold_byte, folded_number}}
 use Rattle.langtag_scan.specs.Class.{{is_letter, is_digit, is_primary, is_script, is_region, is_variant}}
 use Rattle.langtag_registry.specs.declared.tables.TheConstants as table
 use Rattle.langtag_registry.specs.Subtags as list
-use Rattle.langtag_registry.specs.Tables.{{IsTableOf}}"""
+use Rattle.langtag_registry.specs.Tables.{{IsTableOf, AreEndsOf, end_number}}"""
 
 
 def field_tables() -> str:
@@ -61,7 +61,8 @@ def field_tables() -> str:
         blocks += [lemma(f"{name}_table", f"IsTableOf table.{table}_KEYS (map (λ text. text.now) table.{table}_VALUES) list.{items}", f"list.{items} {PLAIN}", f"record {{ numbers = {ARE_KEYS}; beside = refl }}"),
                    lemma(f"{name}_good", f"list_all {test} (map (λ e. e.value) list.{items}) ≡ true", f"list.{items} {CLASS[test]}")]
     entries = "map (λ pair. record { subtag = pair.0.now; value = pair.1.now }) table.PREFERRED_TAGS ≡ list.tag_preferred"
-    return "\n\n".join([*blocks, lemma("tag_entries", entries, "list.tag_preferred")]) + "\n"
+    ends = lemma("tag_ends", "AreEndsOf table.PREFERRED_TAG_KEYS (map (λ pair. pair.0.now) table.PREFERRED_TAGS)", "end_number folded_number fold_byte", "record { numbers = refl; climb = refl }")
+    return "\n\n".join([*blocks, lemma("tag_entries", entries, "list.tag_preferred"), ends]) + "\n"
 
 
 PREFIX_HEAD = """-- The table of the variants' prefixes has what the list says, and each prefix is a language range: by computation. {note}

@@ -5,7 +5,7 @@ use Rattle.langtag_scan.specs.Case.{fold_byte, folded_number}
 use Rattle.langtag_scan.specs.Class.{is_letter, is_digit, is_primary, is_script, is_region, is_variant}
 use Rattle.langtag_registry.specs.declared.tables.TheConstants as table
 use Rattle.langtag_registry.specs.Subtags as list
-use Rattle.langtag_registry.specs.Tables.{IsTableOf}
+use Rattle.langtag_registry.specs.Tables.{IsTableOf, AreEndsOf, end_number}
 
 pub preferred_table : IsTableOf table.PREFERRED_LANGUAGE_KEYS (map (λ text. text.now) table.PREFERRED_LANGUAGE_VALUES) list.language_preferred
 unfolding list.language_preferred folded_number fold_byte is_letter is_digit
@@ -58,3 +58,7 @@ variants_good = refl
 pub tag_entries : map (λ pair. record { subtag = pair.0.now; value = pair.1.now }) table.PREFERRED_TAGS ≡ list.tag_preferred
 unfolding list.tag_preferred
 tag_entries = refl
+
+pub tag_ends : AreEndsOf table.PREFERRED_TAG_KEYS (map (λ pair. pair.0.now) table.PREFERRED_TAGS)
+unfolding end_number folded_number fold_byte
+tag_ends = record { numbers = refl; climb = refl }

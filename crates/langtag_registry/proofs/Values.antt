@@ -1,16 +1,17 @@
 -- A value beside a key, and an entry's value.
-use Rattle.std.proofs.Common.{◌≡◌, ◌≢◌, ℕ, zero, suc, ◌+◌, ◌<◌, ◌≤◌, true, false, Bool, ◌==◌, ltb, cond, List, [], ◌∷◌, length, get_or, map, drop, add-one, Option, None, Some, refl, ap, sym, ◌∙◌, arith}
-use Rattle.std.specs.List.{list_all}
+use Rattle.std.proofs.Common.{◌≡◌, ◌≢◌, ℕ, zero, suc, ◌+◌, ◌*◌, ◌-◌, ◌<◌, true, false, Bool, ◌==◌, ltb, cond, List, [], ◌∷◌, length, get_or, map, take, drop, Option, None, Some, refl, ap, sym, ◌∙◌, arith}
+use Rattle.std.specs.List.{fold, list_all}
 use Rattle.std.specs.Prelude.{Result, Ok, Err}
 use Rattle.std.proofs.lemmas.Bool.{and_parts, ltb-true, eq-eqb, ne_eqb, false_from_ne_true}
-use Rattle.std.proofs.lemmas.List.{length-map}
-use Rattle.langtag_scan.specs.Case.{fold_byte, are_alike, folded_number}
+use Rattle.std.proofs.lemmas.List.{length-map, length-drop, drop-map, take_all, get_or-map}
+use Rattle.std.proofs.lemmas.List.Folds.{fold-map}
+use Rattle.langtag_scan.specs.Case.{fold_byte, fold_text, are_alike, folded_number}
 use Rattle.langtag_scan.specs.CaseLaws.{are_alike-decides}
 use Rattle.langtag_scan.specs.Class.{are_alphanumeric}
 use Rattle.langtag_scan.proofs.FoldedNumbers.{folded_number-tells}
 use Rattle.langtag_registry.specs.Entry.{Entry, value_for}
 use Rattle.langtag_registry.specs.Numbers.{climbs_from}
-use Rattle.langtag_registry.specs.Tables.{AreKeysOf}
+use Rattle.langtag_registry.specs.Tables.{AreKeysOf, AreEndsOf, end_number}
 use Rattle.langtag_registry.proofs.Rising.{IsSearched, searched_apart}
 
 -- ---- a value beside a number
@@ -102,56 +103,80 @@ value_good is_good (e ∷ list) text value all is =
     by_test true others is first later = let same : e.value ≡ value = cc in rw (← same) first
     by_test false others is first later = later is
 
--- ---- the walk over entries
-
-unfoldable pub IsFoundFrom : ℕ → List Entry → List ℕ → Type 0
-IsFoundFrom i list text = value_for list text ≡ value_for (drop i list) text
-
-pub found_from_start : (list : List Entry) (text : List ℕ) → IsFoundFrom 0 list text
-unfolding IsFoundFrom
-found_from_start list text = refl
+-- ---- by the ends of texts
 
 pub no_entry : Entry
 no_entry = record { subtag = []; value = [] }
 
-value_for-drop :
-    (list : List Entry) (text : List ℕ) (i : ℕ) → i < length list →
-    value_for (drop i list) text ≡ cond (are_alike (get_or list i no_entry).subtag text) (Some (get_or list i no_entry).value) (value_for (drop (suc i) list) text)
-value_for-drop [] text i inside = absurd (omega (arith, inside))
-value_for-drop (e ∷ list) text zero inside = refl
-value_for-drop (e ∷ list) text (suc i) inside = value_for-drop list text i (omega (arith, inside))
+-- texts that are alike end alike
+end_of_folded : List ℕ → ℕ
+end_of_folded folded = fold (λ number d. number * 256 + d) 0 (drop (length folded - 8) folded)
 
-pub found_here :
-    (list : List Entry) (text : List ℕ) (i : ℕ) → IsFoundFrom i list text → i < length list → are_alike (get_or list i no_entry).subtag text ≡ true →
-    Some (get_or list i no_entry).value ≡ value_for list text
-unfolding IsFoundFrom
-found_here list text i from inside alike =
-    sym (from ∙ value_for-drop list text i inside
-    ∙ ap (λ b. cond b (Some (get_or list i no_entry).value) (value_for (drop (suc i) list) text)) alike)
+end_number-folded : (text : List ℕ) → end_number text ≡ end_of_folded (fold_text text)
+unfolding end_number folded_number end_of_folded
+end_number-folded text =
+    sym (fold-map (λ number d. number * 256 + d) fold_byte 0 (drop (length text - 8) text))
+    ∙ ap (fold (λ number d. number * 256 + d) 0) (sym (drop-map fold_byte (length text - 8) text))
+    ∙ ap (λ n. fold (λ number d. number * 256 + d) 0 (drop (n - 8) (fold_text text))) (sym (length-map text fold_byte))
 
-pub found_later :
-    (list : List Entry) (text : List ℕ) (i : ℕ) → IsFoundFrom i list text → i < length list → are_alike (get_or list i no_entry).subtag text ≡ false →
-    IsFoundFrom (i + 1) list text
-unfolding IsFoundFrom
-found_later list text i from inside other =
-    from ∙ value_for-drop list text i inside
-    ∙ ap (λ b. cond b (Some (get_or list i no_entry).value) (value_for (drop (suc i) list) text)) other
-    ∙ ap (λ j. value_for (drop j list) text) (sym (add-one i))
+apart_by_ends : (a b : List ℕ) → end_number a ≢ end_number b → are_alike a b ≡ false
+apart_by_ends a b apart =
+    false_from_ne_true (are_alike a b) (λ yes. apart (end_number-folded a ∙ ap end_of_folded ((are_alike-decides a b).0 yes) ∙ sym (end_number-folded b)))
 
-pub found_nowhere : (list : List Entry) (text : List ℕ) (i : ℕ) → IsFoundFrom i list text → length list ≤ i → None ≡ value_for list text
-unfolding IsFoundFrom
-found_nowhere list text i from ends = sym (from ∙ ap (λ es. value_for es text) (drop-all list i ends))
+abbrev ends_of : List Entry → List ℕ
+ends_of list = map end_number (map (λ e. e.subtag) list)
+
+end_absent : (list : List Entry) (text : List ℕ) → ((k : ℕ) → k < length (ends_of list) → get_or (ends_of list) k 0 ≢ end_number text) → value_for list text ≡ None
+end_absent [] text none = refl
+end_absent (e ∷ list) text none =
+    rw (apart_by_ends e.subtag text (none zero (omega arith))) (end_absent list text (λ k inside. none (suc k) (omega (arith, inside))))
+
+end_found :
+    (low : ℕ) (list : List Entry) (text : List ℕ) (i : ℕ) → climbs_from low (ends_of list) ≡ true → i < length (ends_of list) →
+    get_or (ends_of list) i 0 ≡ end_number text →
+    value_for list text ≡ cond (are_alike (get_or list i no_entry).subtag text) (Some (get_or list i no_entry).value) None
+end_found low [] text i climbs inside at = absurd (omega (arith, inside))
+end_found low (e ∷ list) text zero climbs inside at =
+    let later = (and_parts (ltb low (end_number e.subtag)) (climbs_from (end_number e.subtag) (ends_of list)) climbs).1 in
+    ap (cond (are_alike e.subtag text) (Some e.value))
+    (end_absent list text (λ k within same. let above = above_first (end_number e.subtag) (ends_of list) k later within in omega (arith, above, same, at)))
+end_found low (e ∷ list) text (suc i) climbs inside at =
+    let later = (and_parts (ltb low (end_number e.subtag)) (climbs_from (end_number e.subtag) (ends_of list)) climbs).1 in
+    let above = above_first (end_number e.subtag) (ends_of list) i later (omega (arith, inside)) in
+    rw (apart_by_ends e.subtag text (λ same. absurd (omega (arith, same, above, at)))) (end_found (end_number e.subtag) list text i later (omega (arith, inside)) at)
+
+-- the value at the index that was found, if the text there is alike
+abbrev pub ending_at : List Entry → List ℕ → Result ℕ ℕ → Option (List ℕ)
+ending_at list text (Ok i) = cond (are_alike (get_or list i no_entry).subtag text) (Some (get_or list i no_entry).value) None
+ending_at list text (Err i) = None
+
+pub end_searched :
+    (keys : List ℕ) (list : List Entry) (text : List ℕ) (key : ℕ) (found : Result ℕ ℕ) → AreEndsOf keys (map (λ e. e.subtag) list) →
+    key ≡ end_number text → IsSearched keys key found → value_for list text ≡ ending_at list text found
+end_searched keys list text key found of is at = by_found found (rw (of.numbers, is) at at)
   where
-    drop-all : (es : List Entry) (j : ℕ) → length es ≤ j → drop j es ≡ []
-    drop-all [] zero le = refl
-    drop-all [] (suc j) le = refl
-    drop-all (e ∷ es) zero le = absurd (omega (arith, le))
-    drop-all (e ∷ es) (suc j) le = drop-all es j (omega (arith, le))
+    climb : climbs_from 0 (ends_of list) ≡ true
+    climb = ap (climbs_from 0) (sym of.numbers) ∙ of.climb
 
--- ---- an index in a list of indices
+    by_found : (found : Result ℕ ℕ) → IsSearched (ends_of list) (end_number text) found → value_for list text ≡ ending_at list text found
+    by_found (Ok i) at = end_found 0 list text i climb at.0 at.1
+    by_found (Err i) at = end_absent list text (searched_apart (ends_of list) (end_number text) i at)
 
-pub index_inside : (count : ℕ) (list : List ℕ) (k : ℕ) → list_all (λ i. ltb i count) list ≡ true → k < length list → get_or list k 0 < count
-index_inside count [] k all inside = absurd (omega (arith, inside))
-index_inside count (i ∷ list) zero all inside = ltb-true i count (and_parts (ltb i count) (list_all (λ i. ltb i count) list) all).0
-index_inside count (i ∷ list) (suc k) all inside =
-    index_inside count list k (and_parts (ltb i count) (list_all (λ i. ltb i count) list) all).1 (omega (arith, inside))
+-- as the code has it: the number of what stands from a start on, and a list of pairs
+pub end_of : (bytes : List ℕ) (start key : ℕ) → start ≡ length bytes - 8 → key ≡ folded_number (take (length bytes - start) (drop start bytes)) → key ≡ end_number bytes
+unfolding end_number
+end_of bytes start key at is =
+    is ∙ ap folded_number (take_all (length bytes - start) (drop start bytes) (omega (arith, length-drop start bytes))) ∙ ap (λ n. folded_number (drop n bytes)) at
+
+pub subtags-view : {A : Type 0} (view : A → Entry) (xs : List A) → map (λ e. e.subtag) (map view xs) ≡ map (λ x. (view x).subtag) xs
+subtags-view view [] = refl
+subtags-view view (x ∷ xs) = ap (λ ts. (view x).subtag ∷ ts) (subtags-view view xs)
+
+pub end_decided :
+    {A : Type 0} (view : A → Entry) (keys : List ℕ) (xs : List A) (text : List ℕ) (i : ℕ) (d : A) (alike : Bool) → AreEndsOf keys (map (λ e. e.subtag) (map view xs)) → i < length keys →
+    are_alike (view (get_or xs i d)).subtag text ≡ alike → ending_at (map view xs) text (Ok i) ≡ cond alike (Some (view (get_or xs i d)).value) None
+end_decided view keys xs text i d alike of inside is =
+    let within : i < length xs =
+    omega (arith, inside, ap length of.numbers, length-map xs view, length-map (map view xs) (λ e. e.subtag), length-map (map (λ e. e.subtag) (map view xs)) end_number) in
+    let here = get_or-map view xs i d no_entry within in
+    ap (λ e. cond (are_alike e.subtag text) (Some e.value) None) here ∙ ap (λ b. cond b (Some (view (get_or xs i d)).value) None) is

@@ -1,5 +1,5 @@
 -- What the tables have. Contracts of private functions alone speak of this page.
-use Rattle.std.specs.Prelude.{◌≡◌, ℕ, IsTrue, List, map}
+use Rattle.std.specs.Prelude.{◌≡◌, ℕ, ◌-◌, IsTrue, List, length, map, drop}
 use Rattle.std.specs.List.{list_all}
 use Rattle.langtag_scan.specs.Case.{folded_number}
 use Rattle.langtag_scan.specs.Class.{are_alphanumeric}
@@ -16,3 +16,12 @@ pub record AreKeysOf (keys : List ℕ) (list : List (List ℕ)) : Type 0 where
 pub record IsTableOf (keys : List ℕ) (values : List (List ℕ)) (list : List Entry) : Type 0 where
   pub numbers : AreKeysOf keys (map (λ entry. entry.subtag) list)
   pub beside : values ≡ map (λ entry. entry.value) list
+
+-- the number of the last eight bytes of a text, or of all that it has
+unfoldable pub end_number : List ℕ → ℕ
+end_number text = folded_number (drop (length text - 8) text)
+
+-- such numbers of some texts, which rise
+pub record AreEndsOf (keys : List ℕ) (texts : List (List ℕ)) : Type 0 where
+  pub numbers : keys ≡ map end_number texts
+  pub climb : IsTrue (climbs_from 0 keys)

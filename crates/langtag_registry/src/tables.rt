@@ -443,19 +443,32 @@ pub(crate) static PREFERRED_VARIANT_VALUES: [&str; 1] = [
     "alalc97",
 ];
 
-/// The whole tags with a Preferred-Value, each before that value.
+/// The whole tags with a Preferred-Value: the lowercase ones of their last eight bytes as the digits of a number, in rising order.
+#[rattlefmt::skip]
+pub(crate) static PREFERRED_TAG_KEYS: [u64; 46] = [
+    0x692D616D69, 0x692D626E6E, 0x692D68616B, 0x692D6C7578, 0x692D70776E, 0x692D74616F, 0x692D746179, 0x692D747375,
+    0x6E6F2D626F6B, 0x6E6F2D6E796E, 0x73676E2D6272, 0x73676E2D636F, 0x73676E2D6465, 0x73676E2D646B, 0x73676E2D6573,
+    0x73676E2D6672, 0x73676E2D6762, 0x73676E2D6772, 0x73676E2D6965, 0x73676E2D6974, 0x73676E2D6A70, 0x73676E2D6D78,
+    0x73676E2D6E69, 0x73676E2D6E6C, 0x73676E2D6E6F, 0x73676E2D7074, 0x73676E2D7365, 0x73676E2D7573, 0x73676E2D7A61,
+    0x7A682D636D6E, 0x7A682D67616E, 0x7A682D777575, 0x7A682D797565, 0x2D6B6C696E676F6E, 0x2D6D696E2D6E616E,
+    0x636D6E2D68616E73, 0x636D6E2D68616E74, 0x676E2D62652D6672, 0x676E2D62652D6E6C, 0x676E2D63682D6465,
+    0x692D6E6176616A6F, 0x6E2D67622D6F6564, 0x742D6C6F6A62616E, 0x7A682D67756F7975, 0x7A682D68616B6B61,
+    0x7A682D7869616E67,
+];
+
+/// Each of them before its Preferred-Value.
 #[rattlefmt::skip]
 pub(crate) static PREFERRED_TAGS: [(&str, &str); 46] = [
     ("i-ami", "ami"), ("i-bnn", "bnn"), ("i-hak", "hak"), ("i-lux", "lb"), ("i-pwn", "pwn"), ("i-tao", "tao"),
-    ("i-tay", "tay"), ("i-tsu", "tsu"), ("no-bok", "nb"), ("no-nyn", "nn"), ("i-navajo", "nv"), ("zh-guoyu", "cmn"),
-    ("zh-hakka", "hak"), ("zh-xiang", "hsn"), ("en-GB-oed", "en-GB-oxendict"), ("i-klingon", "tlh"),
-    ("sgn-BE-FR", "sfb"), ("sgn-BE-NL", "vgt"), ("sgn-CH-DE", "sgg"), ("art-lojban", "jbo"), ("zh-min-nan", "nan"),
-    ("sgn-BR", "bzs"), ("sgn-CO", "csn"), ("sgn-DE", "gsg"), ("sgn-DK", "dsl"), ("sgn-ES", "ssp"),
-    ("sgn-FR", "fsl"), ("sgn-GB", "bfi"), ("sgn-GR", "gss"), ("sgn-IE", "isg"), ("sgn-IT", "ise"),
-    ("sgn-JP", "jsl"), ("sgn-MX", "mfs"), ("sgn-NI", "ncs"), ("sgn-NL", "dse"), ("sgn-NO", "nsl"),
-    ("sgn-PT", "psr"), ("sgn-SE", "swl"), ("sgn-US", "ase"), ("sgn-ZA", "sfs"), ("zh-cmn", "cmn"),
-    ("zh-gan", "gan"), ("zh-wuu", "wuu"), ("zh-yue", "yue"), ("zh-cmn-Hans", "cmn-Hans"),
-    ("zh-cmn-Hant", "cmn-Hant"),
+    ("i-tay", "tay"), ("i-tsu", "tsu"), ("no-bok", "nb"), ("no-nyn", "nn"), ("sgn-BR", "bzs"), ("sgn-CO", "csn"),
+    ("sgn-DE", "gsg"), ("sgn-DK", "dsl"), ("sgn-ES", "ssp"), ("sgn-FR", "fsl"), ("sgn-GB", "bfi"),
+    ("sgn-GR", "gss"), ("sgn-IE", "isg"), ("sgn-IT", "ise"), ("sgn-JP", "jsl"), ("sgn-MX", "mfs"),
+    ("sgn-NI", "ncs"), ("sgn-NL", "dse"), ("sgn-NO", "nsl"), ("sgn-PT", "psr"), ("sgn-SE", "swl"),
+    ("sgn-US", "ase"), ("sgn-ZA", "sfs"), ("zh-cmn", "cmn"), ("zh-gan", "gan"), ("zh-wuu", "wuu"),
+    ("zh-yue", "yue"), ("i-klingon", "tlh"), ("zh-min-nan", "nan"), ("zh-cmn-Hans", "cmn-Hans"),
+    ("zh-cmn-Hant", "cmn-Hant"), ("sgn-BE-FR", "sfb"), ("sgn-BE-NL", "vgt"), ("sgn-CH-DE", "sgg"),
+    ("i-navajo", "nv"), ("en-GB-oed", "en-GB-oxendict"), ("art-lojban", "jbo"), ("zh-guoyu", "cmn"),
+    ("zh-hakka", "hak"), ("zh-xiang", "hsn"),
 ];
 
 /// The deprecated grandfathered and redundant tags.

@@ -2,9 +2,12 @@ use Rattle.std.proofs.Common.{Some, sym, ap, ◌∙◌}
 use Rattle.std.specs.Option.{option_map}
 use Rattle.langtag_registry.specs.Entry.{value_for}
 use Rattle.langtag_registry.specs.Fields.{preferred_tag}
-use Rattle.langtag_registry.proofs.FieldTables.{tag_entries}
+use Rattle.langtag_registry.proofs.FieldTables.{tag_entries, tag_ends}
 use Rattle.langtag_registry.proofs.WholeTags.{preferred_is_tag}
 use Rattle.langtag_registry.proofs.preferred.preferred_for.Goals as goal
+
+pub value_beside-requires : goal.value_beside-requires
+value_beside-requires c = tag_ends
 
 pub from_checked-requires : goal.from_checked-requires
 from_checked-requires c =
