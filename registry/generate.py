@@ -29,23 +29,18 @@ TABLES = "crates/langtag_registry/src/tables.rt"
 LISTS = "crates/langtag_registry/specs/Subtags.antt"
 PROOFS = "crates/langtag_registry/proofs"
 
-# The lists: a name, the Type of its records, and the number that a table has in place of the text.
+# The lists: the Types of their records.
 SUBTAGS = ["language", "extlang", "script", "region", "variant"]
 DEPRECATED = ["language", "extlang", "region", "variant"]
-KEY_BITS = {"language": 16, "extlang": 32, "script": 32, "region": 32, "variant": 64}
 
-# Of a language or an extended one: the Type, the field, the list of specs/, and the tables.
-LANGUAGE_FIELDS = [
+# The fields of a subtag: the Type, the field, the list of specs/, and the tables.
+FIELDS = [
     ("language", "Preferred-Value", "language_preferred", "PREFERRED_LANGUAGE"),
     ("language", "Suppress-Script", "language_suppress_script", "SUPPRESS_SCRIPT"),
     ("language", "Macrolanguage", "language_macrolanguage", "MACROLANGUAGE"),
     ("extlang", "Prefix", "extlang_prefixes", "EXTLANG_PREFIX"),
-]
-# Of a few texts: the Types with a Preferred-Value, the list of specs/, the tables, and what they have.
-PREFERRED = [
-    (["region"], "region_preferred", "REGION", "regions"),
-    (["variant"], "variant_preferred", "VARIANT", "variants"),
-    (TAG_TYPES, "tag_preferred", "TAG", "whole tags"),
+    ("region", "Preferred-Value", "region_preferred", "PREFERRED_REGION"),
+    ("variant", "Preferred-Value", "variant_preferred", "PREFERRED_VARIANT"),
 ]
 
 
@@ -60,13 +55,13 @@ def folded_number(text):
     return int.from_bytes(text.lower().encode(), "big")
 
 
-def number(kind, text):
-    return letter_number(text) if kind == "language" else folded_number(text)
+def end_number(text):
+    return folded_number(text[-8:])
 
 
 def subtags(registry, kind, field=None):
     """The subtags of a Type, or those with a field, in the order of their numbers."""
-    return sorted((record.text for record in registry.all(kind, having=field)), key=lambda text: number(kind, text))
+    return sorted((record.text for record in registry.all(kind, having=field)), key=folded_number)
 
 
 def values(registry, kind, field):
@@ -96,9 +91,17 @@ def quoted(texts):
     return [f'"{text}"' for text in texts]
 
 
-def keys(name, doc, kind, subtags):
-    bits = KEY_BITS[kind]
-    return table(name, doc, f"u{bits}", [f"0x{number(kind, text):0{bits // 4}X}" for text in subtags])
+def keys(texts):
+    return [f"0x{folded_number(text):X}" for text in texts]
+
+
+def key_table(name, what, texts):
+    return table(name, f"The {what}: their lowercase bytes as the digits of a number, in rising order.", "u64", keys(texts))
+
+
+def whole_tags(registry):
+    """The grandfathered and redundant tags with a Preferred-Value, and that value, by the numbers of their ends."""
+    return sorted((pair for kind in TAG_TYPES for pair in values(registry, kind, "Preferred-Value")), key=lambda pair: end_number(pair[0]))
 
 
 def tables(registry):
@@ -112,22 +115,17 @@ def tables(registry):
            table("LANGUAGE_BITS", "The languages: a bit for each text of two letters and then of three, in the order of the alphabet, from the lowest\n"
                  "/// bit of the first word on.", "u64", [f"0x{word:016X}" for word in bits])]
     for kind in SUBTAGS[1:]:
-        out.append(keys(f"{kind.upper()}_KEYS", f"The {kind}s: their lowercase bytes as the digits of a number, in rising order.", kind, subtags(registry, kind)))
+        out.append(key_table(f"{kind.upper()}_KEYS", f"{kind}s", subtags(registry, kind)))
     for kind in DEPRECATED:
-        digits = "letters" if kind == "language" else "lowercase bytes"
-        out.append(keys(f"DEPRECATED_{kind.upper()}_KEYS", f"The deprecated {kind}s: their {digits} as the digits of a number, in rising order.", kind,
-                        subtags(registry, kind, "Deprecated")))
-    for kind, field, _, name in LANGUAGE_FIELDS:
-        pairs = values(registry, kind, field)
-        several = sorted({value for _, value in pairs})
-        out.append(keys(f"{name}_KEYS", f"The {kind}s with a {field}: their letters as the digits of a number, in rising order.", "language",
-                        [text for text, _ in pairs]))
-        out.append(table(f"{name}_INDICES", "Where the value of each of them stands.", "u8", [str(several.index(value)) for _, value in pairs]))
-        out.append(table(f"{name}_VALUES", "The values, each once.", "&str", quoted(several)))
-    for kinds, _, name, what in PREFERRED:
-        pairs = [pair for kind in kinds for pair in values(registry, kind, "Preferred-Value")]
-        out.append(table(f"PREFERRED_{name}S", f"The {what} with a Preferred-Value, each before that value.", "(&str, &str)",
-                         [f'("{text}", "{value}")' for text, value in pairs]))
+        out.append(key_table(f"DEPRECATED_{kind.upper()}_KEYS", f"deprecated {kind}s", subtags(registry, kind, "Deprecated")))
+    for kind, field, _, name in FIELDS:
+        texts, beside = zip(*values(registry, kind, field))
+        out.append(key_table(f"{name}_KEYS", f"{kind}s with a {field}", texts))
+        out.append(table(f"{name}_VALUES", "The value of each of them.", "&str", quoted(beside)))
+    out.append(table("PREFERRED_TAG_KEYS", "The whole tags with a Preferred-Value: the lowercase ones of their last eight bytes as the digits of a number, in rising order.",
+                     "u64", [f"0x{end_number(text):X}" for text, _ in whole_tags(registry)]))
+    out.append(table("PREFERRED_TAGS", "Each of them before its Preferred-Value.", "(&str, &str)",
+                     [f'("{text}", "{value}")' for text, value in whole_tags(registry)]))
     out.append(table("DEPRECATED_TAGS", "The deprecated grandfathered and redundant tags.", "&str", quoted(deprecated_tags(registry))))
     prefixes = values(registry, "variant", "Prefix")
     out.append(table("VARIANT_PREFIXES", "The variants with a Prefix: their lowercase bytes as the digits of a number, each before one of its prefixes.", "(u64, &str)",
@@ -160,12 +158,9 @@ def lists(registry):
     for kind in DEPRECATED:
         out.append(text_list(f"deprecated_{kind}s", f"those of the records of Type {kind} with a Deprecated field", subtags(registry, kind, "Deprecated")))
     out.append(text_list("deprecated_tags", "the Tag fields of the records of Type grandfathered and redundant with a Deprecated field", deprecated_tags(registry)))
-    for kind, field, name, _ in LANGUAGE_FIELDS:
+    for kind, field, name, _ in FIELDS:
         out.append(entry_list(name, f"the records of Type {kind} with a {field} field: each Subtag before that value", values(registry, kind, field)))
-    for kinds, name, _, _ in PREFERRED:
-        pairs = [pair for kind in kinds for pair in values(registry, kind, "Preferred-Value")]
-        label = "Tag" if len(kinds) > 1 else "Subtag"
-        out.append(entry_list(name, f"the records of Type {' and '.join(kinds)} with a Preferred-Value field: each {label} before that value", pairs))
+    out.append(entry_list("tag_preferred", "the records of Type grandfathered and redundant with a Preferred-Value field: each Tag before that value", whole_tags(registry)))
     out.append(entry_list("variant_prefixes", "the records of Type variant with Prefix fields: each Subtag before each of its values", values(registry, "variant", "Prefix")))
     return "\n".join(out)
 

@@ -104,6 +104,16 @@ def replaced_tags_are_short(registry: Registry) -> Iterator[str]:
             yield f"{record}: its Preferred-Value {record.value('Preferred-Value')} is longer than {LONGEST_PREFERRED} bytes"
 
 
+def replaced_tags_end_apart(registry: Registry) -> Iterator[str]:
+    """No two whole tags that are replaced have the same last eight bytes, by which they are looked up."""
+    seen: dict[str, str] = {}
+    for record in registry.all(*TAG_TYPES, having="Preferred-Value"):
+        end = record.text[-8:].lower()
+        if end in seen:
+            yield f"{record}: ends as {seen[end]} does"
+        seen[end] = record.text
+
+
 def whole_tags_are_of_subtags(registry: Registry) -> Iterator[str]:
     """A whole tag is subtags of letters and digits."""
     for record in registry.all(*TAG_TYPES):
@@ -136,17 +146,6 @@ def fields_of_languages_are_of_their_class(registry: Registry) -> Iterator[str]:
                 yield f"{record}: its {field} {record.value(field)} is not of the class of a {kind}"
 
 
-def values_fit_a_byte(registry: Registry) -> Iterator[str]:
-    """A table has its values once, and tells them by a byte."""
-    for kind, field in (("language", "Preferred-Value"), ("language", "Suppress-Script"), ("language", "Macrolanguage"), ("extlang", "Prefix")):
-        seen: set[str] = set()
-        for record in registry.all(kind, having=field):
-            seen.add(record.value(field))
-            if len(seen) > 256:
-                yield f"{record}: the 257th {field}"
-                break
-
-
 def prefixes_of_variants_are_ranges(registry: Registry) -> Iterator[str]:
     """The Prefix of a variant is subtags of a tag, by which extended filtering (RFC 4647 section 3.3.2) goes."""
     for record in registry.all("variant"):
@@ -165,8 +164,9 @@ def scripts_stay(registry: Registry) -> Iterator[str]:
 
 PREMISES = [
     each_subtag_is_of_its_class, extlangs_are_themselves, extlangs_have_one_prefix, preferred_subtags_are_registered, preferred_subtags_stay,
-    whole_tags_become_simple_ones, preferred_tags_stay, replaced_tags_are_short, whole_tags_are_of_subtags, whole_tags_have_one_variant,
-    grandfathered_tags_are_those_of_the_grammar, fields_of_languages_are_of_their_class, values_fit_a_byte, prefixes_of_variants_are_ranges, scripts_stay,
+    whole_tags_become_simple_ones, preferred_tags_stay, replaced_tags_are_short, replaced_tags_end_apart, whole_tags_are_of_subtags,
+    whole_tags_have_one_variant, grandfathered_tags_are_those_of_the_grammar, fields_of_languages_are_of_their_class,
+    prefixes_of_variants_are_ranges, scripts_stay,
 ]
 
 

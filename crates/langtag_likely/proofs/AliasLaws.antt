@@ -2,7 +2,8 @@
 use Rattle.std.proofs.Common.{◌≡◌, ℕ, ◌<◌, true, List, [], length, get_or, map, None, Some, option_map, sym, ap, ◌∙◌}
 use Rattle.std.proofs.lemmas.List.{get_or-map}
 use Rattle.langtag_scan.specs.Class.{are_letters, are_alphanumeric}
-use Rattle.langtag_registry.specs.Numbers.{letter_number, folded_number}
+use Rattle.langtag_scan.specs.Case.{folded_number}
+use Rattle.langtag_registry.specs.Numbers.{letter_number}
 use Rattle.langtag_likely.specs.declared.matching_tables.TheConstants.{ALIAS_LANGUAGES, ALIAS_SCRIPTS, REGION_ALIAS_NAMES}
 use Rattle.langtag_likely.specs.Likely.{Fields, Likely, likely_for, language_alone}
 use Rattle.langtag_likely.specs.Matching.{region_alone}

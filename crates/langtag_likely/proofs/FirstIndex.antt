@@ -1,6 +1,7 @@
 -- Where a number stands first among numbers that climb, and what a binary search says of it.
 use Rattle.std.proofs.Common.{◌≡◌, ◌≢◌, ℕ, zero, suc, ◌<◌, true, cond, ltb, List, [], ◌∷◌, length, get_or, Option, None, Some, option_map, inl, inr, refl, sym, ap, ◌∙◌, arith}
 use Rattle.std.specs.Prelude.{Result, Ok, Err}
+use Rattle.std.specs.List.{list_all}
 use Rattle.std.specs.Result.{result_ok}
 use Rattle.std.proofs.lemmas.Bool.{and_parts, ltb-true, eq-eqb, ne_eqb}
 use Rattle.std.proofs.lemmas.Bool.Decides.{eqb_tells}
@@ -67,3 +68,11 @@ first_index-is (k ∷ keys) key i is =
     by_later : (o : Option ℕ) → ((j : ℕ) → o ≡ Some j → IsIndex keys key j) → option_map suc o ≡ Some i → IsIndex (k ∷ keys) key i
     by_later None later is = absurd cc
     by_later (Some j) later is = let s : suc j ≡ i = cc in by_suc i j s (later j refl)
+
+-- ---- an index in a list of indices
+
+pub index_inside : (count : ℕ) (list : List ℕ) (k : ℕ) → list_all (λ i. ltb i count) list ≡ true → k < length list → get_or list k 0 < count
+index_inside count [] k all inside = absurd (omega (arith, inside))
+index_inside count (i ∷ list) zero all inside = ltb-true i count (and_parts (ltb i count) (list_all (λ i. ltb i count) list) all).0
+index_inside count (i ∷ list) (suc k) all inside =
+    index_inside count list k (and_parts (ltb i count) (list_all (λ i. ltb i count) list) all).1 (omega (arith, inside))

@@ -4,7 +4,8 @@ use Rattle.std.specs.Prelude.{[]}
 use Rattle.std.specs.List.{list_all}
 use Rattle.langtag_scan.specs.Case.{fold_byte}
 use Rattle.langtag_scan.specs.Class.{is_letter, is_digit, are_alphanumeric, is_primary, is_script, is_region}
-use Rattle.langtag_registry.specs.Numbers.{letter_number, folded_number, climbs_from}
+use Rattle.langtag_scan.specs.Case.{folded_number}
+use Rattle.langtag_registry.specs.Numbers.{letter_number, climbs_from}
 use Rattle.langtag_registry.proofs.Rising.{rises_from}
 use Rattle.langtag_likely.specs.declared.matching_tables.TheConstants as table
 use Rattle.langtag_likely.specs.Distance.{maghreb, en_us, americas, cnsar}

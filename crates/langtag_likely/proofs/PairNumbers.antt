@@ -6,8 +6,9 @@ use Rattle.std.proofs.lemmas.Bool.Decides.{eqb_tells}
 use Rattle.std.proofs.lemmas.List.{nil_from_length}
 use Rattle.langtag_scan.specs.Case.{are_alike}
 use Rattle.langtag_scan.specs.Class.{are_letters, are_alphanumeric}
-use Rattle.langtag_registry.specs.Numbers.{letter_number, folded_number}
-use Rattle.langtag_registry.proofs.FoldedNumbers.{folded_number-tells}
+use Rattle.langtag_scan.specs.Case.{folded_number}
+use Rattle.langtag_registry.specs.Numbers.{letter_number}
+use Rattle.langtag_scan.proofs.FoldedNumbers.{folded_number-tells}
 use Rattle.langtag_likely.specs.Likely.{Fields, Likely, are_alike_fields, language_alone}
 use Rattle.langtag_likely.specs.Matching.{region_alone}
 use Rattle.langtag_likely.specs.Numbers.{key_number, language_pair, script_pair}

@@ -6,8 +6,8 @@ use Rattle.std.specs.List.{list_all}
 use Rattle.std.proofs.lemmas.Bool.{and_parts, ltb-true, false_from_ne_true}
 use Rattle.langtag_scan.specs.Case.{are_alike}
 use Rattle.langtag_scan.specs.Class.{are_alphanumeric}
-use Rattle.langtag_registry.specs.Numbers.{folded_number}
-use Rattle.langtag_registry.proofs.FoldedNumbers.{folded_number-tells}
+use Rattle.langtag_scan.specs.Case.{folded_number}
+use Rattle.langtag_scan.proofs.FoldedNumbers.{folded_number-tells}
 use Rattle.langtag_likely.specs.Distance.{is_among}
 use Rattle.langtag_likely.specs.Likely.{Fields, are_alike_fields}
 use Rattle.langtag_likely.specs.Numbers.{first_index}

@@ -1,7 +1,8 @@
 -- The numbers by which the tables know fields. Contracts of private functions alone speak of this page.
 use Rattle.std.specs.Prelude.{ℕ, suc, ◌+◌, ◌*◌, ◌==◌, List, [], ◌∷◌, length, map, take, slice_index_or, Option, None, Some, if◌then◌else◌}
 use Rattle.std.specs.Option.{option_map, option_map_or}
-use Rattle.langtag_registry.specs.Numbers.{letter_number, folded_number}
+use Rattle.langtag_scan.specs.Case.{folded_number}
+use Rattle.langtag_registry.specs.Numbers.{letter_number}
 use Rattle.langtag_likely.specs.declared.tables.TheConstants.{SCRIPT_KEYS, REGION_KEYS}
 use Rattle.langtag_likely.specs.Likely.{Fields}
 

@@ -1,7 +1,8 @@
 //! What is deprecated in the fields of a tag, replaced.
 ghost use Rattle.std.specs.Prelude.{◌≡◌, map};
 ghost use Rattle.std.specs.Option.{option_map};
-ghost use Rattle.langtag_registry.specs.Numbers.{letter_number, folded_number};
+ghost use Rattle.langtag_scan.specs.Case.{folded_number};
+ghost use Rattle.langtag_registry.specs.Numbers.{letter_number};
 ghost use Rattle.langtag_likely.specs.Likely.{likely_for, language_alone};
 ghost use Rattle.langtag_likely.specs.Matching as spec;
 ghost use Rattle.langtag_likely.specs.MatchingData.{language_aliases, region_aliases};

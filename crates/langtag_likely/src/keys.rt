@@ -2,7 +2,8 @@
 ghost use Rattle.std.specs.Prelude.{◌≡◌, ◌≤◌, ◌<◌, ◌*◌, ◌+◌, IsTrue, length};
 ghost use Rattle.std.specs.List.Sorted.{IsNonDecreasing};
 ghost use Rattle.langtag_scan.specs.Class as class;
-ghost use Rattle.langtag_registry.specs.Numbers.{letter, letter_number, folded_number, climbs_from};
+ghost use Rattle.langtag_scan.specs.Case.{folded_number};
+ghost use Rattle.langtag_registry.specs.Numbers.{letter, letter_number, climbs_from};
 ghost use Rattle.langtag_likely.specs.Numbers.{first_index, place};
 
 use langtag_scan::into_smallcase;

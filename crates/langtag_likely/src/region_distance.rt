@@ -1,7 +1,7 @@
 //! The distance of regions: for some languages, by the sets in which they lie.
 ghost use Rattle.std.specs.Prelude.{◌≡◌, ◌≤◌, ◌==◌, IsTrue, false, map};
 ghost use Rattle.langtag_scan.specs.Case.{are_alike};
-ghost use Rattle.langtag_registry.specs.Numbers.{folded_number};
+ghost use Rattle.langtag_scan.specs.Case.{folded_number};
 ghost use Rattle.langtag_likely.specs.Distance as spec;
 ghost use Rattle.langtag_likely.specs.Good.{is_region_field};
 ghost use Rattle.langtag_likely.specs.Rows.{AreKeys};

@@ -1,12 +1,13 @@
 -- The canonical record, part by part, and what a tag becomes by it.
 use Rattle.std.proofs.Common.{◌≡◌, ◌↔◌, ℕ, true, false, Bool, List, Option, None, Some, is_some, option_map, unwrap_or, inl, inr, ◌⊎◌, refl, sym, ap, subst, ◌∙◌}
+use Rattle.std.proofs.lemmas.Bool.{both_ways}
 use Rattle.langtag_scan.specs.Record.{Record, EachRecord, Spells, spell}
 use Rattle.langtag_scan.specs.Tag.{IsNormal, IsTag}
 use Rattle.langtag_scan.proofs.NormalTexts.{spelled_once}
 use Rattle.langtag.specs.Registered.{IsGrandfathered}
 use Rattle.langtag_registry.specs.Canonical.{canonical_primary, canonical_extended, canonical_region, canonical_variants, in_order, canonical_record, canonical_text, IsCanonicalForm}
 use Rattle.langtag_registry.specs.Fields.{preferred_tag}
-use Rattle.langtag_registry.proofs.TwiceLaws.{itself, whole_settled, preferred_record_stays, Way, as_whole, as_it_is, by_parts, way_of}
+use Rattle.langtag_registry.proofs.TwiceLaws.{whole_settled, preferred_record_stays, Way, as_whole, as_it_is, by_parts, way_of}
 use Rattle.langtag_registry.proofs.WellFormedForms.{canonical_record_well_formed}
 use Rattle.langtag_registry.proofs.WholeTags.{record_of, preferred_spelled, preferred_is_tag}
 
@@ -94,9 +95,13 @@ own_record text r spells same = by_option (preferred_tag (spell (canonical_recor
         let one : record_of w ≡ r = spelled_once (record_of w) r s.0 spells.0 (s.1 ∙ sym own ∙ sym spells.1) in
         subst (λ q. canonical_record q ≡ q) one (preferred_record_stays (spell (canonical_record r)) w is)
 
+-- where its parts do not stay, it is where it is grandfathered
 pub parts_itself :
-    (text : List ℕ) (stays : Bool) → preferred_tag text ≡ None → (IsGrandfathered text → ⊥) → IsNormal text →
-    EachRecord text (λ r. (stays ≡ true) ↔ (canonical_record r ≡ r)) → (stays ≡ true) ↔ IsCanonicalForm text text
+    (text : List ℕ) (stays grandfathered : Bool) → preferred_tag text ≡ None → IsNormal text → EachRecord text (λ r. (stays ≡ true) ↔ (canonical_record r ≡ r)) →
+    stays ≡ false → (grandfathered ≡ true) ↔ IsGrandfathered text → (grandfathered ≡ true) ↔ IsCanonicalForm text text
 unfolding IsNormal
-parts_itself text stays none other (r, spells) decided =
-    (λ h. itself text r none spells ((decided r spells).0 h), λ is. (decided r spells).1 (own_record text r spells (is.parts none other r spells)))
+parts_itself text stays true none (r, spells) decided goes old = (λ h. kept_form text text none (inl (old.0 h)) refl, λ is. refl)
+parts_itself text stays false none (r, spells) decided goes old = (
+  λ h. absurd cc,
+  λ is. absurd (both_ways stays goes ((decided r spells).1 (own_record text r spells (is.parts none (λ whole. let no = old.1 whole in absurd cc) r spells)))),
+)

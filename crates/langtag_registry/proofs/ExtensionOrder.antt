@@ -1,8 +1,10 @@
 -- The extensions in the order of their singletons: where they stand so, and their text.
-use Rattle.std.proofs.Common.{◌≡◌, ℕ, ◌+◌, ◌<◌, ◌≤◌, true, false, ◌&&◌, leb, Bool, List, [], ◌∷◌, ◌++◌, length, map, take, filter, cond, refl, sym, ap, subst, ◌∙◌, arith, append_assoc, append-nil}
+use Rattle.std.proofs.Common.{◌≡◌, ℕ, ◌+◌, ◌<◌, ◌≤◌, true, false, ◌&&◌, leb, Bool, List, [], ◌∷◌, ◌++◌, length, get_or, set, map, take, filter, cond, refl, sym, ap, subst, ◌∙◌, arith, append_assoc, append-nil}
 use Rattle.std.specs.List.{AllByRecursion, flat_map}
 use Rattle.std.proofs.lemmas.Bool.{le-leb, eq-eqb, ne_eqb, both_ways}
 use Rattle.std.proofs.lemmas.Bool.Decides.{nat_tests}
+use Rattle.std.proofs.lemmas.Grind.{get_or-set_at}
+use Rattle.std.proofs.lemmas.List.{get_or-set_other}
 use Rattle.std.proofs.lemmas.List.Concat.{flat_map-append}
 use Rattle.langtag_scan.specs.Case.{fold_byte}
 use Rattle.langtag_scan.specs.Record.{Extension, IsWellFormedExtension, extension_flat}
@@ -13,6 +15,7 @@ use Rattle.langtag_extension.proofs.Joins.{join-spellings}
 use Rattle.langtag.specs.Repeat.{are_alike_bytes}
 use Rattle.langtag_registry.specs.Canonical.{singletons, in_order}
 use Rattle.langtag_registry.specs.declared.output.Output.{Output}
+use Rattle.langtag_registry.specs.Noted.{AreNoted}
 use Rattle.langtag_registry.specs.Output.{HasText, Pushes}
 use Rattle.langtag_registry.proofs.OrderLaws.{keys_of, in_order-risen, rises_from_in_order}
 use Rattle.langtag_registry.proofs.Pushed.{AreSome, pushes_none, pushes_both, pushes_same, pushes_joined}
@@ -154,6 +157,44 @@ all_pushed s es texts old new none so_far =
     let whole : so_far.rest.done ≡ es = sym (append-nil so_far.rest.done) ∙ ap (λ fs. so_far.rest.done ++ fs) (sym left) ∙ so_far.rest.split in
     pushes_same _ _ old new (ap (λ fs. spellings (of_singleton s fs)) whole) so_far.pushed
 
+-- ---- which singletons there are
+
+-- those before what a walk has left
+pub record AreMarked (es : List Extension) (texts : List (List ℕ)) (marks : List Bool) : Type 0 where
+  pub rest : AreLeft es texts
+  pub noted : AreNoted marks rest.done
+
+pub none_marked : (es : List Extension) (texts : List (List ℕ)) (marks : List Bool) → texts ≡ map extension_spelling es → AreMarked es texts marks
+none_marked es texts marks all = record { rest = all_left es texts all; noted = λ s none. refl }
+
+-- a byte that stays unmarked was so, and is not the one that was marked
+unmarked : (marks : List Bool) (k j : ℕ) → k < length marks → get_or (set marks k true) j false ≡ false → (k ≡ j → ⊥) × (get_or marks j false ≡ false)
+unmarked marks k j inside none =
+    let apart : k ≡ j → ⊥ = λ same. both_ways _ none (get_or-set_at marks k j true false (sym same) inside) in
+    (apart, sym (get_or-set_other marks k j true false (λ same. apart (sym same))) ∙ none)
+
+pub one_marked :
+    (es : List Extension) (texts rest : List (List ℕ)) (x : List ℕ) (marks : List Bool) (folded at : ℕ) → AreWellFormed es → texts ≡ x ∷ rest →
+    ((e : Extension) → SpellsExtension e x → folded ≡ fold_byte e.singleton) → at ≡ folded → at < length marks → AreMarked es texts marks →
+    AreMarked es rest (set marks at true)
+one_marked es texts rest x marks folded at fits first key same inside so_far =
+    let done = so_far.rest.done in
+    let next = next_of es done so_far.rest.left x rest fits so_far.rest.split (so_far.rest.items ∙ first) in
+    let e = next.next in
+    record {
+      rest = record { done = done ++ e ∷ []; left = next.others; split = next.split; items = next.items };
+      noted = λ s none.
+          let before = unmarked marks at (fold_byte s) inside none in
+          of_singleton-append s done (e ∷ [])
+          ∙ ap (λ fs. fs ++ of_singleton s (e ∷ [])) (so_far.noted s before.1)
+          ∙ of_singleton-one s e false (ne_eqb _ _ (λ is. before.0 (same ∙ key e next.spells ∙ sym is)));
+    }
+
+pub all_marked : (es : List Extension) (texts : List (List ℕ)) (marks : List Bool) → texts ≡ [] → AreMarked es texts marks → AreNoted marks es
+all_marked es texts marks none so_far =
+    let left = no_next so_far.rest.left (so_far.rest.items ∙ none) in
+    subst (AreNoted marks) (sym (append-nil so_far.rest.done) ∙ ap (λ fs. so_far.rest.done ++ fs) (sym left) ∙ so_far.rest.split) so_far.noted
+
 -- ---- one singleton after the other
 
 by_singletons-append : (ss ts : List ℕ) (es : List Extension) → by_singletons (ss ++ ts) es ≡ by_singletons ss es ++ by_singletons ts es
@@ -169,6 +210,16 @@ one_singleton ss k s es old middle new one before these =
     ap (λ ts. by_singletons ts es) one ∙ by_singletons-append (take k ss) (s ∷ []) es ∙ ap (λ fs. done ++ fs) (append-nil (of_singleton s es)) in
     pushes_same _ _ old new (sym (ap spellings all ∙ spellings-append done (of_singleton s es)))
     (pushes_both (spellings done) (spellings (of_singleton s es)) old middle new (some_spellings done) before these)
+
+-- none where there is none of it
+pub no_singleton :
+    (ss : List ℕ) (k s : ℕ) (es : List Extension) (old new : Output) → take (k + 1) ss ≡ take k ss ++ s ∷ [] → of_singleton s es ≡ [] →
+    Pushes (spellings (by_singletons (take k ss) es)) old new → Pushes (spellings (by_singletons (take (k + 1) ss) es)) old new
+no_singleton ss k s es old new one none before =
+    let done = by_singletons (take k ss) es in
+    pushes_same _ _ old new
+    (sym (ap (λ ts. spellings (by_singletons ts es)) one
+    ∙ ap spellings (by_singletons-append (take k ss) (s ∷ []) es ∙ ap (λ fs. done ++ (fs ++ [])) none ∙ append-nil done))) before
 
 -- the texts of extensions are their subtags, joined
 hyphenated-spellings : (es : List Extension) → hyphenated (spellings es) ≡ hyphenated (flat_map extension_flat es)

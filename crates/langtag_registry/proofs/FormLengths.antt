@@ -7,11 +7,10 @@ use Rattle.std.proofs.lemmas.List.Sums.{sum_by-cons}
 use Rattle.langtag_scan.specs.Class.{is_region, is_variant}
 use Rattle.langtag_scan.specs.Record.{Extension, Record, IsWellFormed, Spells, extension_flat, private_part_flat, one_flat, spell}
 use Rattle.langtag_scan.proofs.Joins.{hyphenated, length-hyphenated, length-join}
-use Rattle.langtag_scan.proofs.SubtagFacts.{of_primary}
+use Rattle.langtag_scan.proofs.SubtagFacts.{of_primary, of_variant}
 use Rattle.langtag_registry.specs.Canonical.{canonical_record, canonical_primary, canonical_extended, canonical_region, canonical_variants, in_order, canonical_bound, IsCanonicalForm}
 use Rattle.langtag_registry.specs.Fields.{preferred_tag}
 use Rattle.langtag_registry.specs.Subtags.{tag_preferred}
-use Rattle.langtag_registry.proofs.Lengths.{region_short, variant_short}
 use Rattle.langtag_registry.proofs.OrderLaws.{in_order-weight}
 use Rattle.langtag_registry.proofs.ReplacedSubtags.{extlang_cases}
 use Rattle.langtag_registry.proofs.TwiceLaws.{Way, as_whole, as_it_is, by_parts, way_of}
@@ -34,6 +33,10 @@ extended_size (e ∷ []) =
     ]
 extended_size (e ∷ f ∷ es) = omega arith
 
+region_short : (s : List ℕ) → is_region s ≡ true → length s ≤ 4
+unfolding is_region
+region_short s h = grind (arith, nat_tests)
+
 region_size : (o : Option (List ℕ)) → IfSome o (λ s. IsTrue (is_region s)) → size (one_flat o) ≤ 5
 region_size None is = omega arith
 region_size (Some g) is = let short = region_short g is in let all = size-cons g [] in omega (arith, short, all)
@@ -52,7 +55,7 @@ variants_size (v ∷ vs) [] old new same = absurd (omega (arith, same))
 variants_size (v ∷ vs) (w ∷ ws) old new same =
     let later = variants_size vs ws old.1 new.1 (omega (arith, same)) in
     let long = variant_long v old.0 in
-    let short = variant_short w new.0 in
+    let short = (of_variant w new.0).short in
     let all = size-cons v vs in
     let all_new = size-cons w ws in
     omega (arith, later, long, short, all, all_new)

@@ -12,7 +12,7 @@ use Rattle.langtag_registry.specs.declared.tables.TheConstants.{LANGUAGE_BITS}
 use Rattle.langtag_registry.specs.Subtags.{language_subtags}
 use Rattle.langtag_registry.specs.Numbers.{letter_number, bits, places, language_bit}
 use Rattle.langtag_registry.specs.Registered.{is_registered_language}
-use Rattle.langtag_registry.proofs.Members.{among-numbers}
+use Rattle.langtag_scan.proofs.FoldedNumbers.{among-numbers}
 use Rattle.langtag_registry.proofs.Letters.{letter_number-tells}
 
 -- ---- by computation

@@ -1,10 +1,7 @@
-pub mod Digits
 pub mod Members
 pub mod Letters
 pub mod LanguageTable
-pub mod FoldedNumbers
 pub mod Rising
-pub mod Lengths
 pub mod KeyTables
 pub mod FaultLaws
 pub mod ValidLaws

@@ -7,10 +7,10 @@ use Rattle.langtag_scan.specs.Case.{are_alike}
 use Rattle.langtag_scan.specs.Class.{are_alphanumeric}
 use Rattle.langtag_match.specs.Extended.{test_extended}
 use Rattle.langtag_registry.specs.Entry.{Entry, values_for}
-use Rattle.langtag_registry.specs.Numbers.{folded_number}
+use Rattle.langtag_scan.specs.Case.{folded_number}
 use Rattle.langtag_registry.specs.Prefix.{some_matches, fits_after}
 use Rattle.langtag_registry.specs.Subtags.{variant_prefixes}
-use Rattle.langtag_registry.proofs.FoldedNumbers.{folded_number-tells}
+use Rattle.langtag_scan.proofs.FoldedNumbers.{folded_number-tells}
 use Rattle.langtag_registry.proofs.Values.{no_entry}
 
 -- ---- two lists of which something is the same

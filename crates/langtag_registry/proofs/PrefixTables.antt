@@ -1,11 +1,10 @@
 -- The table of the variants' prefixes has what the list says, and each prefix is a language range: by computation. Written by registry/generate.py. Do not edit.
 use Rattle.std.proofs.Common.{◌≡◌, true, map, refl}
 use Rattle.std.specs.List.{list_all}
-use Rattle.langtag_scan.specs.Case.{fold_byte}
+use Rattle.langtag_scan.specs.Case.{fold_byte, folded_number}
 use Rattle.langtag_scan.specs.Class.{is_letter, is_digit, are_alphanumeric, is_private_subtag}
 use Rattle.langtag_match.specs.Range.{is_language_range}
 use Rattle.langtag_registry.specs.declared.tables.TheConstants.{VARIANT_PREFIXES}
-use Rattle.langtag_registry.specs.Numbers.{folded_number}
 use Rattle.langtag_registry.specs.Subtags.{variant_prefixes}
 
 pub prefix_numbers : map (λ pair. pair.0) VARIANT_PREFIXES ≡ map (λ e. folded_number e.subtag) variant_prefixes

@@ -1,16 +1,26 @@
 -- A value beside a key, and an entry's value.
-use Rattle.std.proofs.Common.{◌≡◌, ◌≢◌, ℕ, zero, suc, ◌+◌, ◌<◌, ◌≤◌, true, false, Bool, ltb, cond, List, [], ◌∷◌, length, get_or, map, drop, add-one, Option, None, Some, refl, ap, sym, ◌∙◌, arith}
-use Rattle.std.specs.List.{list_all}
+use Rattle.std.proofs.Common.{◌≡◌, ◌≢◌, ℕ, zero, suc, ◌+◌, ◌*◌, ◌-◌, ◌<◌, true, false, Bool, ◌==◌, ltb, cond, List, [], ◌∷◌, length, get_or, map, take, drop, Option, None, Some, refl, ap, sym, ◌∙◌, arith}
+use Rattle.std.specs.List.{fold, list_all}
+use Rattle.std.specs.Prelude.{Result, Ok, Err}
 use Rattle.std.proofs.lemmas.Bool.{and_parts, ltb-true, eq-eqb, ne_eqb, false_from_ne_true}
-use Rattle.std.proofs.lemmas.List.{length-map}
-use Rattle.langtag_scan.specs.Case.{fold_byte, are_alike}
+use Rattle.std.proofs.lemmas.List.{length-map, length-drop, drop-map, take_all, get_or-map}
+use Rattle.std.proofs.lemmas.List.Folds.{fold-map}
+use Rattle.langtag_scan.specs.Case.{fold_byte, fold_text, are_alike, folded_number}
 use Rattle.langtag_scan.specs.CaseLaws.{are_alike-decides}
-use Rattle.langtag_scan.specs.Class.{are_letters}
+use Rattle.langtag_scan.specs.Class.{are_alphanumeric}
+use Rattle.langtag_scan.proofs.FoldedNumbers.{folded_number-tells}
 use Rattle.langtag_registry.specs.Entry.{Entry, value_for}
-use Rattle.langtag_registry.specs.Numbers.{letter_number, climbs_from, value_at}
-use Rattle.langtag_registry.proofs.Letters.{letter_number-tells}
+use Rattle.langtag_registry.specs.Numbers.{climbs_from}
+use Rattle.langtag_registry.specs.Tables.{AreKeysOf, AreEndsOf, end_number}
+use Rattle.langtag_registry.proofs.Rising.{IsSearched, searched_apart}
 
--- ---- a value beside a key
+-- ---- a value beside a number
+
+abbrev pub numbers_of : List Entry → List ℕ
+numbers_of list = map folded_number (map (λ e. e.subtag) list)
+
+abbrev pub are_plain : List Entry → Bool
+are_plain list = list_all are_alphanumeric (map (λ e. e.subtag) list)
 
 above_first : (low : ℕ) (numbers : List ℕ) (k : ℕ) → climbs_from low numbers ≡ true → k < length numbers → low < get_or numbers k 0
 above_first low [] k climbs inside = absurd (omega (arith, inside))
@@ -21,32 +31,49 @@ above_first low (n ∷ numbers) (suc k) climbs inside =
     let later = above_first n numbers k parts.1 (omega (arith, inside)) in
     omega (arith, first, later)
 
+-- a subtag is the text where the numbers are the same
+alike_by_number : (e : Entry) (list : List Entry) (text : List ℕ) (same : Bool) → are_plain (e ∷ list) ≡ true → are_alphanumeric text ≡ true → (folded_number text == folded_number e.subtag) ≡ same → are_alike e.subtag text ≡ same
+alike_by_number e list text same plain good is =
+    sym (folded_number-tells e.subtag text (and_parts (are_alphanumeric e.subtag) (are_plain list) plain).0 good) ∙ is
+
 pub value_found :
-    (low : ℕ) (keys : List ℕ) (values : List (List ℕ)) (key i : ℕ) → climbs_from low keys ≡ true → length values ≡ length keys →
-    i < length keys → get_or keys i 0 ≡ key → value_at keys values key ≡ Some (get_or values i [])
-value_found low [] values key i climbs long inside at = absurd (omega (arith, inside))
-value_found low (k ∷ keys) [] key i climbs long inside at = absurd (omega (arith, long))
-value_found low (k ∷ keys) (v ∷ values) key zero climbs long inside at = rw (eq-eqb key k (sym at)) refl
-value_found low (k ∷ keys) (v ∷ values) key (suc i) climbs long inside at =
-    let later = (and_parts (ltb low k) (climbs_from k keys) climbs).1 in
-    let above = above_first k keys i later (omega (arith, inside)) in
-    rw (ne_eqb key k (λ same. absurd (omega (arith, same, above, at)))) (value_found k keys values key i later (omega (arith, long)) (omega (arith, inside)) at)
+    (low : ℕ) (list : List Entry) (text : List ℕ) (i : ℕ) → climbs_from low (numbers_of list) ≡ true → are_plain list ≡ true → are_alphanumeric text ≡ true →
+    i < length (numbers_of list) → get_or (numbers_of list) i 0 ≡ folded_number text → value_for list text ≡ Some (get_or (map (λ e. e.value) list) i [])
+value_found low [] text i climbs plain good inside at = absurd (omega (arith, inside))
+value_found low (e ∷ list) text zero climbs plain good inside at = rw (alike_by_number e list text true plain good (eq-eqb _ _ (sym at))) refl
+value_found low (e ∷ list) text (suc i) climbs plain good inside at =
+    let later = (and_parts (ltb low (folded_number e.subtag)) (climbs_from (folded_number e.subtag) (numbers_of list)) climbs).1 in
+    let above = above_first (folded_number e.subtag) (numbers_of list) i later (omega (arith, inside)) in
+    rw (alike_by_number e list text false plain good (ne_eqb _ _ (λ same. absurd (omega (arith, same, above, at)))))
+    (value_found (folded_number e.subtag) list text i later (and_parts (are_alphanumeric e.subtag) (are_plain list) plain).1 good (omega (arith, inside)) at)
 
-pub value_absent : (keys : List ℕ) (values : List (List ℕ)) (key : ℕ) → ((k : ℕ) → k < length keys → get_or keys k 0 ≢ key) → value_at keys values key ≡ None
-value_absent [] values key none = refl
-value_absent (k ∷ keys) [] key none = refl
-value_absent (k ∷ keys) (v ∷ values) key none =
-    rw (ne_eqb key k (λ same. none zero (omega arith) (sym same))) (value_absent keys values key (λ j inside. none (suc j) (omega (arith, inside))))
+pub value_absent :
+    (list : List Entry) (text : List ℕ) → are_plain list ≡ true → are_alphanumeric text ≡ true →
+    ((k : ℕ) → k < length (numbers_of list) → get_or (numbers_of list) k 0 ≢ folded_number text) → value_for list text ≡ None
+value_absent [] text plain good none = refl
+value_absent (e ∷ list) text plain good none =
+    rw (alike_by_number e list text false plain good (ne_eqb _ _ (λ same. none zero (omega arith) (sym same))))
+    (value_absent list text (and_parts (are_alphanumeric e.subtag) (are_plain list) plain).1 good (λ j inside. none (suc j) (omega (arith, inside))))
 
--- ---- by numbers, or by texts
+-- the value at the index that was found
+abbrev pub value_at : List Entry → Result ℕ ℕ → Option (List ℕ)
+value_at list (Ok i) = Some (get_or (map (λ e. e.value) list) i [])
+value_at list (Err i) = None
 
-pub value_by_number :
-    (list : List Entry) (text : List ℕ) → are_letters text ≡ true → list_all (λ e. are_letters e.subtag) list ≡ true →
-    value_at (map (λ e. letter_number e.subtag) list) (map (λ e. e.value) list) (letter_number text) ≡ value_for list text
-value_by_number [] text good all = refl
-value_by_number (e ∷ list) text good all =
-    let k = and_parts (are_letters e.subtag) (list_all (λ e. are_letters e.subtag) list) all in
-    rw (letter_number-tells e.subtag text k.0 good, value_by_number list text good k.1) refl
+-- what a binary search for the number of a text finds
+pub value_searched :
+    (keys : List ℕ) (list : List Entry) (text : List ℕ) (key : ℕ) (found : Result ℕ ℕ) → AreKeysOf keys (map (λ e. e.subtag) list) → are_alphanumeric text ≡ true →
+    key ≡ folded_number text → IsSearched keys key found → value_for list text ≡ value_at list found
+value_searched keys list text key found of good is at = by_found found (rw (of.numbers, is) at at)
+  where
+    climb : climbs_from 0 (numbers_of list) ≡ true
+    climb = ap (climbs_from 0) (sym of.numbers) ∙ of.climb
+
+    by_found :
+        (found : Result ℕ ℕ) → IsSearched (numbers_of list) (folded_number text) found →
+        value_for list text ≡ value_at list found
+    by_found (Ok i) at = value_found 0 list text i climb of.plain good at.0 at.1
+    by_found (Err i) at = value_absent list text of.plain good (searched_apart (numbers_of list) (folded_number text) i at)
 
 -- no subtag of at most so many letters is alike a longer text
 pub value_of_long :
@@ -76,56 +103,80 @@ value_good is_good (e ∷ list) text value all is =
     by_test true others is first later = let same : e.value ≡ value = cc in rw (← same) first
     by_test false others is first later = later is
 
--- ---- the walk over entries
-
-unfoldable pub IsFoundFrom : ℕ → List Entry → List ℕ → Type 0
-IsFoundFrom i list text = value_for list text ≡ value_for (drop i list) text
-
-pub found_from_start : (list : List Entry) (text : List ℕ) → IsFoundFrom 0 list text
-unfolding IsFoundFrom
-found_from_start list text = refl
+-- ---- by the ends of texts
 
 pub no_entry : Entry
 no_entry = record { subtag = []; value = [] }
 
-value_for-drop :
-    (list : List Entry) (text : List ℕ) (i : ℕ) → i < length list →
-    value_for (drop i list) text ≡ cond (are_alike (get_or list i no_entry).subtag text) (Some (get_or list i no_entry).value) (value_for (drop (suc i) list) text)
-value_for-drop [] text i inside = absurd (omega (arith, inside))
-value_for-drop (e ∷ list) text zero inside = refl
-value_for-drop (e ∷ list) text (suc i) inside = value_for-drop list text i (omega (arith, inside))
+-- texts that are alike end alike
+end_of_folded : List ℕ → ℕ
+end_of_folded folded = fold (λ number d. number * 256 + d) 0 (drop (length folded - 8) folded)
 
-pub found_here :
-    (list : List Entry) (text : List ℕ) (i : ℕ) → IsFoundFrom i list text → i < length list → are_alike (get_or list i no_entry).subtag text ≡ true →
-    Some (get_or list i no_entry).value ≡ value_for list text
-unfolding IsFoundFrom
-found_here list text i from inside alike =
-    sym (from ∙ value_for-drop list text i inside
-    ∙ ap (λ b. cond b (Some (get_or list i no_entry).value) (value_for (drop (suc i) list) text)) alike)
+end_number-folded : (text : List ℕ) → end_number text ≡ end_of_folded (fold_text text)
+unfolding end_number folded_number end_of_folded
+end_number-folded text =
+    sym (fold-map (λ number d. number * 256 + d) fold_byte 0 (drop (length text - 8) text))
+    ∙ ap (fold (λ number d. number * 256 + d) 0) (sym (drop-map fold_byte (length text - 8) text))
+    ∙ ap (λ n. fold (λ number d. number * 256 + d) 0 (drop (n - 8) (fold_text text))) (sym (length-map text fold_byte))
 
-pub found_later :
-    (list : List Entry) (text : List ℕ) (i : ℕ) → IsFoundFrom i list text → i < length list → are_alike (get_or list i no_entry).subtag text ≡ false →
-    IsFoundFrom (i + 1) list text
-unfolding IsFoundFrom
-found_later list text i from inside other =
-    from ∙ value_for-drop list text i inside
-    ∙ ap (λ b. cond b (Some (get_or list i no_entry).value) (value_for (drop (suc i) list) text)) other
-    ∙ ap (λ j. value_for (drop j list) text) (sym (add-one i))
+apart_by_ends : (a b : List ℕ) → end_number a ≢ end_number b → are_alike a b ≡ false
+apart_by_ends a b apart =
+    false_from_ne_true (are_alike a b) (λ yes. apart (end_number-folded a ∙ ap end_of_folded ((are_alike-decides a b).0 yes) ∙ sym (end_number-folded b)))
 
-pub found_nowhere : (list : List Entry) (text : List ℕ) (i : ℕ) → IsFoundFrom i list text → length list ≤ i → None ≡ value_for list text
-unfolding IsFoundFrom
-found_nowhere list text i from ends = sym (from ∙ ap (λ es. value_for es text) (drop-all list i ends))
+abbrev ends_of : List Entry → List ℕ
+ends_of list = map end_number (map (λ e. e.subtag) list)
+
+end_absent : (list : List Entry) (text : List ℕ) → ((k : ℕ) → k < length (ends_of list) → get_or (ends_of list) k 0 ≢ end_number text) → value_for list text ≡ None
+end_absent [] text none = refl
+end_absent (e ∷ list) text none =
+    rw (apart_by_ends e.subtag text (none zero (omega arith))) (end_absent list text (λ k inside. none (suc k) (omega (arith, inside))))
+
+end_found :
+    (low : ℕ) (list : List Entry) (text : List ℕ) (i : ℕ) → climbs_from low (ends_of list) ≡ true → i < length (ends_of list) →
+    get_or (ends_of list) i 0 ≡ end_number text →
+    value_for list text ≡ cond (are_alike (get_or list i no_entry).subtag text) (Some (get_or list i no_entry).value) None
+end_found low [] text i climbs inside at = absurd (omega (arith, inside))
+end_found low (e ∷ list) text zero climbs inside at =
+    let later = (and_parts (ltb low (end_number e.subtag)) (climbs_from (end_number e.subtag) (ends_of list)) climbs).1 in
+    ap (cond (are_alike e.subtag text) (Some e.value))
+    (end_absent list text (λ k within same. let above = above_first (end_number e.subtag) (ends_of list) k later within in omega (arith, above, same, at)))
+end_found low (e ∷ list) text (suc i) climbs inside at =
+    let later = (and_parts (ltb low (end_number e.subtag)) (climbs_from (end_number e.subtag) (ends_of list)) climbs).1 in
+    let above = above_first (end_number e.subtag) (ends_of list) i later (omega (arith, inside)) in
+    rw (apart_by_ends e.subtag text (λ same. absurd (omega (arith, same, above, at)))) (end_found (end_number e.subtag) list text i later (omega (arith, inside)) at)
+
+-- the value at the index that was found, if the text there is alike
+abbrev pub ending_at : List Entry → List ℕ → Result ℕ ℕ → Option (List ℕ)
+ending_at list text (Ok i) = cond (are_alike (get_or list i no_entry).subtag text) (Some (get_or list i no_entry).value) None
+ending_at list text (Err i) = None
+
+pub end_searched :
+    (keys : List ℕ) (list : List Entry) (text : List ℕ) (key : ℕ) (found : Result ℕ ℕ) → AreEndsOf keys (map (λ e. e.subtag) list) →
+    key ≡ end_number text → IsSearched keys key found → value_for list text ≡ ending_at list text found
+end_searched keys list text key found of is at = by_found found (rw (of.numbers, is) at at)
   where
-    drop-all : (es : List Entry) (j : ℕ) → length es ≤ j → drop j es ≡ []
-    drop-all [] zero le = refl
-    drop-all [] (suc j) le = refl
-    drop-all (e ∷ es) zero le = absurd (omega (arith, le))
-    drop-all (e ∷ es) (suc j) le = drop-all es j (omega (arith, le))
+    climb : climbs_from 0 (ends_of list) ≡ true
+    climb = ap (climbs_from 0) (sym of.numbers) ∙ of.climb
 
--- ---- an index in a list of indices
+    by_found : (found : Result ℕ ℕ) → IsSearched (ends_of list) (end_number text) found → value_for list text ≡ ending_at list text found
+    by_found (Ok i) at = end_found 0 list text i climb at.0 at.1
+    by_found (Err i) at = end_absent list text (searched_apart (ends_of list) (end_number text) i at)
 
-pub index_inside : (count : ℕ) (list : List ℕ) (k : ℕ) → list_all (λ i. ltb i count) list ≡ true → k < length list → get_or list k 0 < count
-index_inside count [] k all inside = absurd (omega (arith, inside))
-index_inside count (i ∷ list) zero all inside = ltb-true i count (and_parts (ltb i count) (list_all (λ i. ltb i count) list) all).0
-index_inside count (i ∷ list) (suc k) all inside =
-    index_inside count list k (and_parts (ltb i count) (list_all (λ i. ltb i count) list) all).1 (omega (arith, inside))
+-- as the code has it: the number of what stands from a start on, and a list of pairs
+pub end_of : (bytes : List ℕ) (start key : ℕ) → start ≡ length bytes - 8 → key ≡ folded_number (take (length bytes - start) (drop start bytes)) → key ≡ end_number bytes
+unfolding end_number
+end_of bytes start key at is =
+    is ∙ ap folded_number (take_all (length bytes - start) (drop start bytes) (omega (arith, length-drop start bytes))) ∙ ap (λ n. folded_number (drop n bytes)) at
+
+pub subtags-view : {A : Type 0} (view : A → Entry) (xs : List A) → map (λ e. e.subtag) (map view xs) ≡ map (λ x. (view x).subtag) xs
+subtags-view view [] = refl
+subtags-view view (x ∷ xs) = ap (λ ts. (view x).subtag ∷ ts) (subtags-view view xs)
+
+pub end_decided :
+    {A : Type 0} (view : A → Entry) (keys : List ℕ) (xs : List A) (text : List ℕ) (i : ℕ) (d : A) (alike : Bool) → AreEndsOf keys (map (λ e. e.subtag) (map view xs)) → i < length keys →
+    are_alike (view (get_or xs i d)).subtag text ≡ alike → ending_at (map view xs) text (Ok i) ≡ cond alike (Some (view (get_or xs i d)).value) None
+end_decided view keys xs text i d alike of inside is =
+    let within : i < length xs =
+    omega (arith, inside, ap length of.numbers, length-map xs view, length-map (map view xs) (λ e. e.subtag), length-map (map (λ e. e.subtag) (map view xs)) end_number) in
+    let here = get_or-map view xs i d no_entry within in
+    ap (λ e. cond (are_alike e.subtag text) (Some e.value) None) here ∙ ap (λ b. cond b (Some (view (get_or xs i d)).value) None) is

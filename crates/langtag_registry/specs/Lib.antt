@@ -10,5 +10,6 @@ pub mod Valid
 pub mod Canonical
 pub mod CanonicalLaws
 pub mod Prefix
+pub mod Noted
 pub mod Output
 pub mod Writes

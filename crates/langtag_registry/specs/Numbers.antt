@@ -1,5 +1,5 @@
 -- The numbers by which the tables know texts. Contracts of private functions alone speak of this page.
-use Rattle.std.specs.Prelude.{ℕ, ◌+◌, ◌*◌, ◌-◌, ◌/◌, ◌%◌, ◌^◌, ◌==◌, ◌&&◌, nat_lt, Bool, true, false, List, [], ◌∷◌, fold, map, slice_index_or, Option, None, Some, if◌then◌else◌}
+use Rattle.std.specs.Prelude.{ℕ, ◌+◌, ◌*◌, ◌-◌, ◌/◌, ◌%◌, ◌^◌, ◌==◌, ◌&&◌, nat_lt, Bool, true, false, List, [], ◌∷◌, fold, map, slice_index_or}
 use Rattle.std.specs.List.{flat_map, range_with_len}
 use Rattle.langtag_scan.specs.Case.{fold_byte}
 use Rattle.langtag_registry.specs.declared.tables.TheConstants.{LANGUAGE_BITS}
@@ -11,10 +11,6 @@ letter b = fold_byte b - 96
 -- the letters of a text as the digits of a number in base 26
 unfoldable pub letter_number : List ℕ → ℕ
 letter_number text = fold (λ number b. number * 26 + letter b) 0 text
-
--- the folded bytes of a text as the digits of a number in base 256
-unfoldable pub folded_number : List ℕ → ℕ
-folded_number text = fold (λ number b. number * 256 + fold_byte b) 0 text
 
 -- the 64 bits of a word, from the lowest on
 unfoldable pub bits : ℕ → List Bool
@@ -29,12 +25,6 @@ places n (false ∷ list) = places (n + 1) list
 -- whether a bit of the table of languages is set
 unfoldable pub language_bit : ℕ → Bool
 language_bit index = slice_index_or (flat_map bits LANGUAGE_BITS) index false
-
--- the value that stands beside the first key that is a number
-abbrev pub value_at : List ℕ → List (List ℕ) → ℕ → Option (List ℕ)
-value_at [] values number = None
-value_at (key ∷ keys) [] number = None
-value_at (key ∷ keys) (value ∷ values) number = if number == key then Some value else value_at keys values number
 
 -- each number is above the one before it
 abbrev pub climbs_from : ℕ → List ℕ → Bool

@@ -102,7 +102,7 @@ variant_preferred = entries (words (codes "heploc alalc97"))
 
 -- the records of Type grandfathered and redundant with a Preferred-Value field: each Tag before that value
 unfoldable pub tag_preferred : List Entry
-tag_preferred = entries (words (codes "i-ami ami i-bnn bnn i-hak hak i-lux lb i-pwn pwn i-tao tao i-tay tay i-tsu tsu no-bok nb no-nyn nn i-navajo nv zh-guoyu cmn zh-hakka hak zh-xiang hsn en-GB-oed en-GB-oxendict i-klingon tlh sgn-BE-FR sfb sgn-BE-NL vgt sgn-CH-DE sgg art-lojban jbo zh-min-nan nan sgn-BR bzs sgn-CO csn sgn-DE gsg sgn-DK dsl sgn-ES ssp sgn-FR fsl sgn-GB bfi sgn-GR gss sgn-IE isg sgn-IT ise sgn-JP jsl sgn-MX mfs sgn-NI ncs sgn-NL dse sgn-NO nsl sgn-PT psr sgn-SE swl sgn-US ase sgn-ZA sfs zh-cmn cmn zh-gan gan zh-wuu wuu zh-yue yue zh-cmn-Hans cmn-Hans zh-cmn-Hant cmn-Hant"))
+tag_preferred = entries (words (codes "i-ami ami i-bnn bnn i-hak hak i-lux lb i-pwn pwn i-tao tao i-tay tay i-tsu tsu no-bok nb no-nyn nn sgn-BR bzs sgn-CO csn sgn-DE gsg sgn-DK dsl sgn-ES ssp sgn-FR fsl sgn-GB bfi sgn-GR gss sgn-IE isg sgn-IT ise sgn-JP jsl sgn-MX mfs sgn-NI ncs sgn-NL dse sgn-NO nsl sgn-PT psr sgn-SE swl sgn-US ase sgn-ZA sfs zh-cmn cmn zh-gan gan zh-wuu wuu zh-yue yue i-klingon tlh zh-min-nan nan zh-cmn-Hans cmn-Hans zh-cmn-Hant cmn-Hant sgn-BE-FR sfb sgn-BE-NL vgt sgn-CH-DE sgg i-navajo nv en-GB-oed en-GB-oxendict art-lojban jbo zh-guoyu cmn zh-hakka hak zh-xiang hsn"))
 
 -- the records of Type variant with Prefix fields: each Subtag before each of its values
 unfoldable pub variant_prefixes : List Entry

@@ -1,27 +1,27 @@
 -- What the tables have. Contracts of private functions alone speak of this page.
-use Rattle.std.specs.Prelude.{◌≡◌, ℕ, nat_lt, IsTrue, List, [], length, map, slice_index_or}
+use Rattle.std.specs.Prelude.{◌≡◌, ℕ, ◌-◌, IsTrue, List, length, map, drop}
 use Rattle.std.specs.List.{list_all}
-use Rattle.std.specs.List.Sorted.{IsNonDecreasing}
-use Rattle.langtag_scan.specs.Class.{are_letters}
-use Rattle.langtag_registry.specs.declared.language_table.LanguageTable.{LanguageTable}
+use Rattle.langtag_scan.specs.Case.{folded_number}
+use Rattle.langtag_scan.specs.Class.{are_alphanumeric}
 use Rattle.langtag_registry.specs.Entry.{Entry}
-use Rattle.langtag_registry.specs.Numbers.{letter_number, climbs_from}
+use Rattle.langtag_registry.specs.Numbers.{climbs_from}
 
--- the value beside each key
-abbrev pub values_of : LanguageTable → List (List ℕ)
-values_of table = map (λ index. slice_index_or (map (λ text. text.now) table.values.now) index []) table.indices.now
+-- the numbers of some texts of letters and digits, which rise
+pub record AreKeysOf (keys : List ℕ) (list : List (List ℕ)) : Type 0 where
+  pub numbers : keys ≡ map folded_number list
+  pub climb : IsTrue (climbs_from 0 keys)
+  pub plain : IsTrue (list_all are_alphanumeric list)
 
--- the keys rise, and beside each stands the index of a value
-pub record IsTable (table : LanguageTable) : Type 0 where
-  pub climbs : IsTrue (climbs_from 0 table.keys.now)
-  pub rises : IsNonDecreasing table.keys.now
-  pub beside : length table.indices.now ≡ length table.keys.now
-  pub inside : IsTrue (list_all (λ index. nat_lt index (length table.values.now)) table.indices.now)
+-- the subtags of some entries, and their values
+pub record IsTableOf (keys : List ℕ) (values : List (List ℕ)) (list : List Entry) : Type 0 where
+  pub numbers : AreKeysOf keys (map (λ entry. entry.subtag) list)
+  pub beside : values ≡ map (λ entry. entry.value) list
 
--- a table that has the entries of a list, whose subtags are languages of at most three letters
-pub record IsTableOf (table : LanguageTable) (list : List Entry) : Type 0 where
-  pub searched : IsTable table
-  pub keys : table.keys.now ≡ map (λ entry. letter_number entry.subtag) list
-  pub values : values_of table ≡ map (λ entry. entry.value) list
-  pub letters : IsTrue (list_all (λ entry. are_letters entry.subtag) list)
-  pub short : IsTrue (list_all (λ entry. nat_lt (length entry.subtag) 4) list)
+-- the number of the last eight bytes of a text, or of all that it has
+unfoldable pub end_number : List ℕ → ℕ
+end_number text = folded_number (drop (length text - 8) text)
+
+-- such numbers of some texts, which rise
+pub record AreEndsOf (keys : List ℕ) (texts : List (List ℕ)) : Type 0 where
+  pub numbers : keys ≡ map end_number texts
+  pub climb : IsTrue (climbs_from 0 keys)

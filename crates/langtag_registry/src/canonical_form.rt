@@ -89,11 +89,11 @@ fn write_form(tag: LangTag<'_>, buffer: &mut [u8]) -> usize
     let Some(normal) = tag.as_normal() else {
         return write_text(tag.as_bytes(), buffer);
     };
-    if tag.is_grandfathered() {
-        return write_text(tag.as_bytes(), buffer);
-    }
     // Most tags are their own canonical form.
     if has_canonical_parts(normal) {
+        return write_text(tag.as_bytes(), buffer);
+    }
+    if tag.is_grandfathered() {
         return write_text(tag.as_bytes(), buffer);
     }
     write_parts(normal, buffer)
@@ -167,7 +167,7 @@ fn is_canonical_form(tag: LangTag<'_>) -> bool
     let Some(normal) = tag.as_normal() else {
         return true;
     };
-    tag.is_grandfathered() || has_canonical_parts(normal)
+    has_canonical_parts(normal) || tag.is_grandfathered()
 }
 
 /// Returns whether all parts of a tag are in their canonical forms.

@@ -16,7 +16,7 @@ ghost use Rattle.langtag.specs.Text.{normal_lang_tag_text};
 ghost use Rattle.langtag_registry.specs.Canonical.{canonical_record, canonical_language, canonical_primary, canonical_extended, canonical_region, canonical_variants, in_order};
 ghost use Rattle.langtag_registry.specs.Output.{Pushes, IsCounted};
 
-use crate::extension_order::{SINGLETONS, are_in_order, folded_singleton};
+use crate::extension_order::{SINGLETONS, are_in_order, folded_singleton, singletons_of};
 use crate::language_fields::preferred_language;
 use crate::output::Output;
 use crate::preferred::{preferred_region, preferred_variant};
@@ -133,7 +133,11 @@ fn push_extensions(out: &mut Output<'_>, extensions: Extensions<'_>)
     if are_in_order(extensions) {
         return out.push_subtag(extensions.as_bytes());
     }
+    let present = singletons_of(extensions);
     for singleton in SINGLETONS {
+        if !present[usize::from(into_smallcase(singleton))] {
+            continue;
+        }
         push_extensions_of(out, extensions, singleton);
     }
 }

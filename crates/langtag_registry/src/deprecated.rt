@@ -1,17 +1,13 @@
 //! Deprecated subtags and tags (RFC 5646 section 3.1.6). They stay valid.
-ghost use Rattle.std.specs.Prelude.{◌≡◌, map};
+ghost use Rattle.std.specs.Prelude.{◌≡◌};
 ghost use Rattle.std.specs.List.{list_any};
-ghost use Rattle.std.specs.List.Sorted.{IsNonDecreasing};
 ghost use Rattle.langtag.specs.Text.{lang_tag_text};
 ghost use Rattle.langtag_scan.specs.Case.{are_alike};
 ghost use Rattle.langtag_language.specs.Text.{primary_language_text, extended_lang_tag_text};
 ghost use Rattle.langtag_place.specs.Text.{region_text, variant_text};
-ghost use Rattle.langtag_registry.specs.Numbers.{letter_number, folded_number};
-ghost use Rattle.langtag_registry.specs.Subtags as list;
 ghost use Rattle.langtag_registry.specs.Fields as field;
 
-use crate::keys::{is_among, is_among_long, is_among_short, long_number, short_number};
-use crate::languages::letter_number;
+use crate::table::is_among;
 use crate::tables::{
     DEPRECATED_EXTLANG_KEYS, DEPRECATED_LANGUAGE_KEYS, DEPRECATED_REGION_KEYS, DEPRECATED_TAGS,
     DEPRECATED_VARIANT_KEYS,
@@ -26,11 +22,7 @@ use langtag_scan::case_insensitive_eq;
 pub fn is_deprecated_language(language: PrimaryLanguage<'_>) -> bool
     ensures { result ≡ field.is_deprecated_language (primary_language_text language.entry) }
 {
-    let bytes = language.as_bytes();
-    if bytes.len() > 3 {
-        return false;
-    }
-    is_among_short(deprecated_language_keys(), letter_number(bytes) as u16)
+    is_among(&DEPRECATED_LANGUAGE_KEYS, language.as_bytes())
 }
 
 /// Returns whether an extended language is deprecated (RFC 5646 section 3.1.6): true for `yds`, false for `yue` and for
@@ -38,7 +30,7 @@ pub fn is_deprecated_language(language: PrimaryLanguage<'_>) -> bool
 pub fn is_deprecated_extlang(extlang: ExtendedLangTag<'_>) -> bool
     ensures { result ≡ field.is_deprecated_extlang (extended_lang_tag_text extlang.entry) }
 {
-    is_among(deprecated_extlang_keys(), short_number(extlang.as_bytes()))
+    is_among(&DEPRECATED_EXTLANG_KEYS, extlang.as_bytes())
 }
 
 /// Returns whether a region is deprecated (RFC 5646 section 3.1.6): true for `SU`, false for `FR` and for what is not
@@ -46,7 +38,7 @@ pub fn is_deprecated_extlang(extlang: ExtendedLangTag<'_>) -> bool
 pub fn is_deprecated_region(region: Region<'_>) -> bool
     ensures { result ≡ field.is_deprecated_region (region_text region.entry) }
 {
-    is_among(deprecated_region_keys(), short_number(region.as_bytes()))
+    is_among(&DEPRECATED_REGION_KEYS, region.as_bytes())
 }
 
 /// Returns whether a variant is deprecated (RFC 5646 section 3.1.6): true for `heploc`, false for `rozaj` and for what
@@ -54,7 +46,7 @@ pub fn is_deprecated_region(region: Region<'_>) -> bool
 pub fn is_deprecated_variant(variant: Variant<'_>) -> bool
     ensures { result ≡ field.is_deprecated_variant (variant_text variant.entry) }
 {
-    is_among_long(deprecated_variant_keys(), long_number(variant.as_bytes()))
+    is_among(&DEPRECATED_VARIANT_KEYS, variant.as_bytes())
 }
 
 /// Returns whether a tag is deprecated as a whole (RFC 5646 section 3.1.6), which some grandfathered and redundant tags are:
@@ -63,7 +55,7 @@ pub fn is_deprecated_variant(variant: Variant<'_>) -> bool
 pub fn is_deprecated_tag(tag: LangTag<'_>) -> bool
     ensures { result ≡ field.is_deprecated_tag (lang_tag_text tag.entry) }
 {
-    is_listed(deprecated_tags(), tag.as_bytes())
+    is_listed(&DEPRECATED_TAGS, tag.as_bytes())
 }
 
 /// Returns whether some bytes are one of these texts, but for case.
@@ -73,38 +65,4 @@ fn is_listed(texts: &[&str], bytes: &[u8]) -> bool
     texts
         .iter()
         .any(|text| case_insensitive_eq(bytes, text.as_bytes()))
-}
-
-fn deprecated_language_keys() -> &'static [u16]
-    ensures numbers { result.now ≡ map letter_number list.deprecated_languages }
-    ensures rises { IsNonDecreasing result.now }
-{
-    &DEPRECATED_LANGUAGE_KEYS
-}
-
-fn deprecated_extlang_keys() -> &'static [u32]
-    ensures numbers { result.now ≡ map folded_number list.deprecated_extlangs }
-    ensures rises { IsNonDecreasing result.now }
-{
-    &DEPRECATED_EXTLANG_KEYS
-}
-
-fn deprecated_region_keys() -> &'static [u32]
-    ensures numbers { result.now ≡ map folded_number list.deprecated_regions }
-    ensures rises { IsNonDecreasing result.now }
-{
-    &DEPRECATED_REGION_KEYS
-}
-
-fn deprecated_variant_keys() -> &'static [u64]
-    ensures numbers { result.now ≡ map folded_number list.deprecated_variants }
-    ensures rises { IsNonDecreasing result.now }
-{
-    &DEPRECATED_VARIANT_KEYS
-}
-
-fn deprecated_tags() -> &'static [&'static str]
-    ensures { map (λ text. text.now) result.now ≡ list.deprecated_tags }
-{
-    &DEPRECATED_TAGS
 }

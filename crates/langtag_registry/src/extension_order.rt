@@ -5,6 +5,7 @@ ghost use Rattle.langtag_scan.specs.Record as model;
 ghost use Rattle.langtag_extension.specs.Spelling.{SpellsExtension, SpellsExtensions};
 ghost use Rattle.langtag_extension.specs.Text.{extension_text, extensions_text};
 ghost use Rattle.langtag_registry.specs.Canonical.{in_order};
+ghost use Rattle.langtag_registry.specs.Noted.{AreNoted};
 
 use langtag_extension::{Extension, Extensions};
 use langtag_scan::into_smallcase;
@@ -25,6 +26,17 @@ pub(crate) fn are_in_order(extensions: Extensions<'_>) -> bool
         last = singleton;
     }
     true
+}
+
+/// Returns which bytes are singletons of extensions, as small letters.
+pub(crate) fn singletons_of(extensions: Extensions<'_>) -> [bool; 256]
+    ensures { (es : List model.Extension) → SpellsExtensions es (extensions_text extensions.entry) → AreNoted result es }
+{
+    let mut present = [false; 256];
+    for extension in extensions.iter() {
+        present[usize::from(folded_singleton(extension))] = true;
+    }
+    present
 }
 
 /// Returns the singleton of an extension as a small letter.

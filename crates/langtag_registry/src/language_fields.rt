@@ -4,11 +4,12 @@ ghost use Rattle.std.specs.Option.{option_map};
 ghost use Rattle.langtag_language.specs.Text.{primary_language_text};
 ghost use Rattle.langtag_place.specs.Text.{script_text};
 ghost use Rattle.langtag_registry.specs.Fields as field;
-ghost use Rattle.langtag_registry.specs.Subtags.{language_preferred, language_suppress_script, language_macrolanguage};
-ghost use Rattle.langtag_registry.specs.Tables.{IsTableOf};
 
-use crate::language_table::{LanguageTable, value_of};
-use crate::tables;
+use crate::table::value_of;
+use crate::tables::{
+    MACROLANGUAGE_KEYS, MACROLANGUAGE_VALUES, PREFERRED_LANGUAGE_KEYS, PREFERRED_LANGUAGE_VALUES,
+    SUPPRESS_SCRIPT_KEYS, SUPPRESS_SCRIPT_VALUES,
+};
 use langtag_language::PrimaryLanguage;
 use langtag_place::Script;
 
@@ -17,7 +18,11 @@ use langtag_place::Script;
 pub fn preferred_language(language: PrimaryLanguage<'_>) -> Option<PrimaryLanguage<'static>>
     ensures { option_map primary_language_text result ≡ field.preferred_language (primary_language_text language.entry) }
 {
-    match value_of(preferred_languages(), language) {
+    match value_of(
+        &PREFERRED_LANGUAGE_KEYS,
+        &PREFERRED_LANGUAGE_VALUES,
+        language.as_bytes(),
+    ) {
         Some(text) => Some(PrimaryLanguage::from_checked(text)),
         None => None,
     }
@@ -28,7 +33,11 @@ pub fn preferred_language(language: PrimaryLanguage<'_>) -> Option<PrimaryLangua
 pub fn suppress_script(language: PrimaryLanguage<'_>) -> Option<Script<'static>>
     ensures { option_map script_text result ≡ field.suppress_script (primary_language_text language.entry) }
 {
-    match value_of(suppress_scripts(), language) {
+    match value_of(
+        &SUPPRESS_SCRIPT_KEYS,
+        &SUPPRESS_SCRIPT_VALUES,
+        language.as_bytes(),
+    ) {
         Some(text) => Some(Script::from_checked(text)),
         None => None,
     }
@@ -39,38 +48,12 @@ pub fn suppress_script(language: PrimaryLanguage<'_>) -> Option<Script<'static>>
 pub fn macrolanguage(language: PrimaryLanguage<'_>) -> Option<PrimaryLanguage<'static>>
     ensures { option_map primary_language_text result ≡ field.macrolanguage (primary_language_text language.entry) }
 {
-    match value_of(macrolanguages(), language) {
+    match value_of(
+        &MACROLANGUAGE_KEYS,
+        &MACROLANGUAGE_VALUES,
+        language.as_bytes(),
+    ) {
         Some(text) => Some(PrimaryLanguage::from_checked(text)),
         None => None,
-    }
-}
-
-fn preferred_languages() -> LanguageTable
-    ensures { IsTableOf result language_preferred }
-{
-    LanguageTable {
-        keys: &tables::PREFERRED_LANGUAGE_KEYS,
-        indices: &tables::PREFERRED_LANGUAGE_INDICES,
-        values: &tables::PREFERRED_LANGUAGE_VALUES,
-    }
-}
-
-fn suppress_scripts() -> LanguageTable
-    ensures { IsTableOf result language_suppress_script }
-{
-    LanguageTable {
-        keys: &tables::SUPPRESS_SCRIPT_KEYS,
-        indices: &tables::SUPPRESS_SCRIPT_INDICES,
-        values: &tables::SUPPRESS_SCRIPT_VALUES,
-    }
-}
-
-fn macrolanguages() -> LanguageTable
-    ensures { IsTableOf result language_macrolanguage }
-{
-    LanguageTable {
-        keys: &tables::MACROLANGUAGE_KEYS,
-        indices: &tables::MACROLANGUAGE_INDICES,
-        values: &tables::MACROLANGUAGE_VALUES,
     }
 }

@@ -29,15 +29,14 @@ mod deprecated;
 mod extension_order;
 mod extlang_forms;
 mod invalid_subtag;
-mod keys;
 mod language_fields;
-mod language_table;
 mod languages;
 mod misplaced;
 mod output;
 mod preferred;
 mod prefixes;
 mod subtags;
+mod table;
 mod tables;
 mod validity;
 

@@ -8,17 +8,17 @@ ghost use Rattle.langtag_place.specs.Text.{variant_text};
 ghost use Rattle.langtag.specs.Text.{normal_lang_tag_text};
 ghost use Rattle.langtag_match.specs.Extended.{test_extended};
 ghost use Rattle.langtag_match.specs.Range.{is_language_range};
-ghost use Rattle.langtag_registry.specs.Numbers.{folded_number};
+ghost use Rattle.langtag_scan.specs.Case.{folded_number};
 ghost use Rattle.langtag_registry.specs.Prefix as spec;
 ghost use Rattle.langtag_registry.specs.Subtags as list;
 
-use crate::keys::long_number;
 use crate::prefixes::extlang_prefix;
 use crate::tables::VARIANT_PREFIXES;
 use langtag::{LangTag, NormalLangTag};
 use langtag_language::ExtendedLangTag;
 use langtag_match::LanguageRange;
 use langtag_place::Variant;
+use langtag_scan::folded_number;
 
 /// Returns the first variant of a tag that stands after none of its prefixes (the field Prefix, RFC 5646 section 3.1.8):
 /// `nedis` of `fr-nedis`, as it goes with `sl`, and `1994` of `sl-1994-rozaj`, as it goes with `sl-rozaj`. None of
@@ -61,7 +61,7 @@ fn fits_after(before: &str, variant: Variant<'_>) -> bool
     requires { IsTag before.now }
     ensures { result ≡ spec.fits_after before.now (variant_text variant.entry) }
 {
-    let number = long_number(variant.as_bytes());
+    let number = folded_number(variant.as_bytes());
     let mut has_none = true;
     for (key, prefix) in variant_prefixes() {
         if number == *key {

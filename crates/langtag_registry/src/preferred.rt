@@ -3,21 +3,29 @@ ghost use Rattle.std.specs.Prelude.{◌≡◌, map};
 ghost use Rattle.std.specs.Option.{option_map};
 ghost use Rattle.langtag_place.specs.Text.{region_text, variant_text};
 ghost use Rattle.langtag.specs.Text.{lang_tag_text};
-ghost use Rattle.langtag_registry.specs.Entry.{Entry, value_for};
+ghost use Rattle.langtag_registry.specs.Entry.{value_for};
 ghost use Rattle.langtag_registry.specs.Fields as field;
-ghost use Rattle.langtag_registry.specs.Subtags.{region_preferred, variant_preferred, tag_preferred};
+ghost use Rattle.langtag_registry.specs.Tables.{AreEndsOf};
 
-use crate::tables::{PREFERRED_REGIONS, PREFERRED_TAGS, PREFERRED_VARIANTS};
+use crate::table::value_of;
+use crate::tables::{
+    PREFERRED_REGION_KEYS, PREFERRED_REGION_VALUES, PREFERRED_TAG_KEYS, PREFERRED_TAGS,
+    PREFERRED_VARIANT_KEYS, PREFERRED_VARIANT_VALUES,
+};
 use langtag::LangTag;
 use langtag_place::{Region, Variant};
-use langtag_scan::case_insensitive_eq;
+use langtag_scan::{case_insensitive_eq, folded_number};
 
 /// Returns the region that stands for another today (its Preferred-Value, RFC 5646 section 3.1.7): `MM` for `BU`. None for
 /// `MM`, and for what is not registered.
 pub fn preferred_region(region: Region<'_>) -> Option<Region<'static>>
     ensures { option_map region_text result ≡ field.preferred_region (region_text region.entry) }
 {
-    match value_beside(regions(), region.as_bytes()) {
+    match value_of(
+        &PREFERRED_REGION_KEYS,
+        &PREFERRED_REGION_VALUES,
+        region.as_bytes(),
+    ) {
         Some(text) => Some(Region::from_checked(text)),
         None => None,
     }
@@ -28,7 +36,11 @@ pub fn preferred_region(region: Region<'_>) -> Option<Region<'static>>
 pub fn preferred_variant(variant: Variant<'_>) -> Option<Variant<'static>>
     ensures { option_map variant_text result ≡ field.preferred_variant (variant_text variant.entry) }
 {
-    match value_beside(variants(), variant.as_bytes()) {
+    match value_of(
+        &PREFERRED_VARIANT_KEYS,
+        &PREFERRED_VARIANT_VALUES,
+        variant.as_bytes(),
+    ) {
         Some(text) => Some(Variant::from_checked(text)),
         None => None,
     }
@@ -47,42 +59,30 @@ pub fn preferred_tag(tag: LangTag<'_>) -> Option<LangTag<'static>>
 pub(crate) fn preferred_for(text: &[u8]) -> Option<LangTag<'static>>
     ensures { option_map lang_tag_text result ≡ field.preferred_tag text.now }
 {
-    match value_beside(tags(), text) {
+    match value_beside(&PREFERRED_TAG_KEYS, &PREFERRED_TAGS, text) {
         Some(text) => Some(LangTag::from_checked(text)),
         None => None,
     }
 }
 
-/// Returns the second text beside the first that is equal to these bytes but for case, if there is one.
+/// Returns the second text beside the first that is equal to these bytes but for case, if there is one. The pairs stand by
+/// the ends of the first, as numbers.
 fn value_beside(
+    keys: &[u64],
     table: &'static [(&'static str, &'static str)],
     bytes: &[u8],
 ) -> Option<&'static str>
+    requires { AreEndsOf keys.now (map (λ pair. pair.0.now) table.now) }
     ensures { option_map (λ text. text.now) result
         ≡ value_for (map (λ pair. record { subtag = pair.0.now; value = pair.1.now }) table.now) bytes.now }
 {
-    for entry in table {
-        if case_insensitive_eq(entry.0.as_bytes(), bytes) {
-            return Some(entry.1);
-        }
+    let end = &bytes[bytes.len().saturating_sub(8)..];
+    let Ok(index) = keys.binary_search(&folded_number(end)) else {
+        return None;
+    };
+    let (text, value) = table[index];
+    if case_insensitive_eq(text.as_bytes(), bytes) {
+        return Some(value);
     }
     None
-}
-
-fn regions() -> &'static [(&'static str, &'static str)]
-    ensures { map (λ pair. record { subtag = pair.0.now; value = pair.1.now }) result.now ≡ region_preferred }
-{
-    &PREFERRED_REGIONS
-}
-
-fn variants() -> &'static [(&'static str, &'static str)]
-    ensures { map (λ pair. record { subtag = pair.0.now; value = pair.1.now }) result.now ≡ variant_preferred }
-{
-    &PREFERRED_VARIANTS
-}
-
-fn tags() -> &'static [(&'static str, &'static str)]
-    ensures { map (λ pair. record { subtag = pair.0.now; value = pair.1.now }) result.now ≡ tag_preferred }
-{
-    &PREFERRED_TAGS
 }

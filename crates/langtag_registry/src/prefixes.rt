@@ -3,11 +3,9 @@ ghost use Rattle.std.specs.Prelude.{◌≡◌};
 ghost use Rattle.std.specs.Option.{option_map};
 ghost use Rattle.langtag_language.specs.Text.{primary_language_text, extended_lang_tag_text};
 ghost use Rattle.langtag_registry.specs.Fields as field;
-ghost use Rattle.langtag_registry.specs.Subtags.{extlang_prefixes};
-ghost use Rattle.langtag_registry.specs.Tables.{IsTableOf};
 
-use crate::language_table::{LanguageTable, value_of};
-use crate::tables;
+use crate::table::value_of;
+use crate::tables::{EXTLANG_PREFIX_KEYS, EXTLANG_PREFIX_VALUES};
 use langtag_language::{ExtendedLangTag, PrimaryLanguage};
 
 /// Returns the language that an extended language stands after (the field Prefix, RFC 5646 section 3.1.8): `zh` for `yue`.
@@ -22,18 +20,12 @@ pub fn extlang_prefix(extlang: ExtendedLangTag<'_>) -> Option<PrimaryLanguage<'s
 pub(crate) fn prefix_of_language(language: PrimaryLanguage<'_>) -> Option<PrimaryLanguage<'static>>
     ensures { option_map primary_language_text result ≡ field.extlang_prefix (primary_language_text language.entry) }
 {
-    match value_of(prefix_table(), language) {
+    match value_of(
+        &EXTLANG_PREFIX_KEYS,
+        &EXTLANG_PREFIX_VALUES,
+        language.as_bytes(),
+    ) {
         Some(text) => Some(PrimaryLanguage::from_checked(text)),
         None => None,
-    }
-}
-
-fn prefix_table() -> LanguageTable
-    ensures { IsTableOf result extlang_prefixes }
-{
-    LanguageTable {
-        keys: &tables::EXTLANG_PREFIX_KEYS,
-        indices: &tables::EXTLANG_PREFIX_INDICES,
-        values: &tables::EXTLANG_PREFIX_VALUES,
     }
 }

@@ -1,13 +1,11 @@
 //! Valid tags (RFC 5646 section 2.2.9).
-ghost use Rattle.std.specs.Prelude.{◌≡◌, ◌↔◌, [], IsNone, Some, IfSome, IfErr, is_ok, true, take, slice_get};
-ghost use Rattle.std.specs.List.{list_any};
+ghost use Rattle.std.specs.Prelude.{◌≡◌, ◌↔◌, [], IsNone, Some, IfSome, IfErr, is_ok, true, slice_get};
 ghost use Rattle.std.specs.Option.{option_map};
-ghost use Rattle.langtag_scan.specs.Case.{are_alike};
 ghost use Rattle.langtag_scan.specs.Record.{Record, EachRecord};
 ghost use Rattle.langtag_scan.specs.Subtags.{subtags};
 ghost use Rattle.langtag_language.specs.Language.{EachLanguageSpelling};
 ghost use Rattle.langtag_language.specs.Text.{language_text};
-ghost use Rattle.langtag_place.specs.Text.{script_text, region_text, variant_text, variants_text};
+ghost use Rattle.langtag_place.specs.Text.{script_text, region_text, variants_text};
 ghost use Rattle.langtag.specs.Text.{lang_tag_text, normal_lang_tag_text};
 ghost use Rattle.langtag_registry.specs.Compared.{FaultsCompareByKind};
 ghost use Rattle.langtag_registry.specs.Fault.{told, faults, fault_index, language_faults, script_faults, region_faults, variant_faults};
@@ -19,9 +17,9 @@ use crate::languages::is_registered_language;
 use crate::subtags::{
     is_registered_extlang, is_registered_region, is_registered_script, is_registered_variant,
 };
-use langtag::{LangTag, NormalLangTag};
+use langtag::{LangTag, NormalLangTag, is_among_first};
 use langtag_language::Language;
-use langtag_place::{Region, Script, Variant, Variants};
+use langtag_place::{Region, Script, Variants};
 
 /// Returns whether a tag is valid by the registry (RFC 5646 section 2.2.9): well-formed, and either grandfathered, or with
 /// a registered language, script, region and variants, at most one extended language, which is registered too, and no
@@ -147,15 +145,4 @@ fn find_variant_fault<'a>(variants: Variants<'a>) -> Option<(InvalidSubtag<'a>, 
         }
     }
     None
-}
-
-/// Returns whether a variant is equal, but for case, to one of the first `count` variants.
-fn is_among_first(variants: Variants<'_>, count: usize, variant: Variant<'_>) -> bool
-    ensures { result ≡ list_any (are_alike (variant_text variant.entry))
-        (take count (subtags (variants_text variants.entry))) }
-{
-    variants
-        .iter()
-        .take(count)
-        .any(|earlier| variant == earlier)
 }

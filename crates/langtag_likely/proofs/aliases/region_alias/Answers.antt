@@ -1,5 +1,5 @@
 use Rattle.std.proofs.Common.{◌≡◌, ◌<◌, Some, None, map, option_map, refl, sym, ap, ◌∙◌, arith}
-use Rattle.langtag_registry.specs.Numbers.{folded_number}
+use Rattle.langtag_scan.specs.Case.{folded_number}
 use Rattle.langtag_likely.specs.declared.matching_tables.TheConstants.{REGION_ALIAS_NAMES}
 use Rattle.langtag_likely.specs.Good.{is_region_field}
 use Rattle.langtag_likely.specs.MatchingData.{region_aliases}

@@ -2,8 +2,8 @@ use Rattle.std.proofs.Common.{◌+◌, ◌*◌, take, arith, refl, sym, ap, ◌�
 use Rattle.std.proofs.lemmas.List.{take_all}
 use Rattle.std.proofs.lemmas.List.Sums.{fold_more}
 use Rattle.langtag_scan.specs.Case.{fold_byte}
-use Rattle.langtag_registry.specs.Numbers.{folded_number}
-use Rattle.langtag_registry.proofs.FoldedNumbers.{digit_fits, fits_32}
+use Rattle.langtag_scan.specs.Case.{folded_number}
+use Rattle.langtag_scan.proofs.FoldedNumbers.{digit_fits, fits_32}
 use Rattle.langtag_likely.proofs.keys.short_number.Goals as goal
 
 pub loop-byte-init : goal.loop-byte-init

@@ -1,6 +1,6 @@
 use Rattle.std.proofs.Common.{◌≡◌, ◌<◌, take}
 use Prim.Native.Nat.{◌^◌}
-use Rattle.langtag_registry.specs.Numbers.{folded_number}
+use Rattle.langtag_scan.specs.Case.{folded_number}
 use Rattle.langtag_likely.proofs.keys.short_number.Given as goal
 
 -- the number is that of the bytes so far, and has no more digits than they are

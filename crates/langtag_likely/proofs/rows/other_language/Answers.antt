@@ -1,5 +1,5 @@
 use Rattle.std.proofs.Common.{◌<◌, map, get_or, arith}
-use Rattle.langtag_registry.proofs.Values.{index_inside}
+use Rattle.langtag_likely.proofs.FirstIndex.{index_inside}
 use Rattle.langtag_likely.specs.Good.{is_language_field}
 use Rattle.langtag_likely.specs.LikelySubtags.{other_rows}
 use Rattle.langtag_likely.specs.declared.tables.TheConstants.{LANGUAGE_NAMES, OTHER_LANGUAGES}

@@ -1,5 +1,5 @@
 use Rattle.std.proofs.Common.{◌<◌, get_or, ap, arith}
-use Rattle.langtag_registry.proofs.Values.{index_inside}
+use Rattle.langtag_likely.proofs.FirstIndex.{index_inside}
 use Rattle.langtag_likely.specs.declared.matching_tables.TheConstants.{LANGUAGE_RULE_DISTANCES}
 use Rattle.langtag_likely.proofs.MatchingTables.{language_rule_count, language_rule_distances, language_rules_some, language_rules_most}
 use Rattle.langtag_likely.proofs.RulesFound.{some_at}

@@ -1,5 +1,5 @@
 use Rattle.std.proofs.Common.{◌<◌, get_or, ap, arith}
-use Rattle.langtag_registry.proofs.Values.{index_inside}
+use Rattle.langtag_likely.proofs.FirstIndex.{index_inside}
 use Rattle.langtag_likely.specs.declared.matching_tables.TheConstants.{SCRIPT_RULE_DISTANCES}
 use Rattle.langtag_likely.proofs.MatchingTables.{script_rule_count, script_rule_distances, script_rules_some, script_rules_most}
 use Rattle.langtag_likely.proofs.RulesFound.{some_at}

@@ -1,7 +1,8 @@
-use Rattle.std.proofs.Common.{inl, inr, sym, ◌∙◌, refl}
-use Rattle.std.proofs.lemmas.Bool.{both_ways}
+use Rattle.std.proofs.Common.{inr, sym, ◌∙◌, refl}
 use Rattle.langtag.specs.Text.{lang_tag_text}
+use Rattle.langtag_scan.specs.Tag.{IsNormal}
 use Rattle.langtag_registry.proofs.CanonicalParts.{kept_form, none_preferred, preferred_goes, parts_itself}
+use Rattle.langtag_registry.proofs.TwiceLaws.{itself}
 use Rattle.langtag_registry.proofs.canonical_form.is_canonical_form.Goals as goal
 
 pub returns-then-is_some : goal.returns-then-is_some
@@ -18,19 +19,18 @@ returns-in_default c =
       λ _. refl,
     )
 
-pub returns-then-is_grandfathered : goal.returns-then-is_grandfathered
-returns-then-is_grandfathered c =
-    let text = lang_tag_text c.args.tag in (
-      λ _. kept_form text text (none_preferred lang_tag_text c.preferred_tag.result text c.preferred_tag.ensures (sym c.is_some.ensures ∙ c.if-is_some.false))
-          (inl (c.is_grandfathered.ensures.0 c.if-is_grandfathered.true)) refl,
-      λ _. c.if-is_grandfathered.true,
-    )
-
-pub returns-else-is_grandfathered : goal.returns-else-is_grandfathered
-returns-else-is_grandfathered c =
+pub returns-then-has_canonical_parts : goal.returns-then-has_canonical_parts
+unfolding IsNormal
+returns-then-has_canonical_parts c =
     let text = lang_tag_text c.args.tag in
-    parts_itself text c.has_canonical_parts.result
+    let none = none_preferred lang_tag_text c.preferred_tag.result text c.preferred_tag.ensures (sym c.is_some.ensures ∙ c.if-is_some.false) in
+    let (r, spells) = c.in-Some.ensures.kind.0 refl in
+    (λ _. itself text r none spells ((c.has_canonical_parts.ensures r (spells.0, spells.1 ∙ sym c.in-Some.ensures.same_text)).0 c.if-has_canonical_parts.true), λ _. c.if-has_canonical_parts.true)
+
+pub returns-else-has_canonical_parts : goal.returns-else-has_canonical_parts
+returns-else-has_canonical_parts c =
+    let text = lang_tag_text c.args.tag in
+    parts_itself text c.has_canonical_parts.result c.is_grandfathered.result
     (none_preferred lang_tag_text c.preferred_tag.result text c.preferred_tag.ensures (sym c.is_some.ensures ∙ c.if-is_some.false))
-    (λ old. both_ways _ c.if-is_grandfathered.false (c.is_grandfathered.ensures.1 old))
     (c.in-Some.ensures.kind.0 refl)
-    (λ r spells. c.has_canonical_parts.ensures r (spells.0, spells.1 ∙ sym c.in-Some.ensures.same_text))
+    (λ r spells. c.has_canonical_parts.ensures r (spells.0, spells.1 ∙ sym c.in-Some.ensures.same_text)) c.if-has_canonical_parts.false c.is_grandfathered.ensures

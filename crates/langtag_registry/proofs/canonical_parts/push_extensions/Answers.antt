@@ -1,9 +1,9 @@
-use Rattle.std.proofs.Common.{◌≡◌, ◌≤◌, ◌∷◌, [], length, get_or, take, refl, sym, ap, ◌∙◌, arith, eqb-true}
+use Rattle.std.proofs.Common.{◌≡◌, ◌≤◌, ◌∷◌, [], false, length, get_or, take, refl, sym, ap, ◌∙◌, arith, eqb-true}
 use Rattle.std.proofs.lemmas.Bool.Decides.{nat_tests}
 use Rattle.std.proofs.lemmas.List.{take_more, nil_from_length}
 use Rattle.langtag_extension.specs.Text.{extensions_text}
 use Rattle.langtag_registry.specs.Canonical.{singletons}
-use Rattle.langtag_registry.proofs.ExtensionOrder.{by_singletons, spellings, one_singleton, spelled_in_order, none_in_order, all_in_order}
+use Rattle.langtag_registry.proofs.ExtensionOrder.{by_singletons, spellings, one_singleton, no_singleton, spelled_in_order, none_in_order, all_in_order}
 use Rattle.langtag_registry.proofs.Pushed.{pushes_none, pushes_same}
 use Rattle.langtag_registry.proofs.canonical_parts.push_extensions.Goals as goal
 
@@ -28,6 +28,18 @@ returns-then-are_in_order c =
 
 pub loop-singleton-init : goal.loop-singleton-init
 loop-singleton-init c = record { same_buffer = refl; so_far = λ es spells. pushes_none _ }
+
+pub loop-singleton-preserved-then-not-present-from : goal.loop-singleton-preserved-then-not-present-from
+loop-singleton-preserved-then-not-present-from c =
+    let k = c.loop-singleton.singleton-index in
+    record {
+      same_buffer = c.loop-singleton.invariant.same_buffer;
+      so_far = λ es spells.
+          no_singleton singletons k (get_or singletons k 0) es _ _ (take_more singletons k 0 c.loop-singleton-test.true)
+          (c.singletons_of-present.ensures es spells (get_or singletons k 0)
+          (ap (λ at. get_or c.singletons_of-present.result at false) (sym (c.from.ensures ∙ c.into_smallcase.ensures)) ∙ c.if-not-present-from.true))
+          (c.loop-singleton.invariant.so_far es spells);
+    }
 
 pub loop-singleton-preserved : goal.loop-singleton-preserved
 loop-singleton-preserved c =

@@ -1,19 +1,13 @@
-use Rattle.std.proofs.Common.{◌==◌, ap, ◌∙◌}
-use Rattle.std.specs.List.{list_any}
+use Rattle.std.proofs.Common.{ap, ◌∙◌}
 use Rattle.langtag_scan.proofs.SubtagFacts.{of_extended}
-use Rattle.langtag_language.specs.Text.{extended_lang_tag_text}
-use Rattle.langtag_registry.specs.Numbers.{folded_number}
-use Rattle.langtag_registry.proofs.KeyTables.{deprecated_extlang_found}
-use Rattle.langtag_registry.proofs.Lengths.{extended_short}
+use Rattle.langtag_registry.specs.Subtags.{deprecated_extlangs}
+use Rattle.langtag_registry.specs.Fields.{is_deprecated_extlang}
+use Rattle.langtag_registry.proofs.KeyTables.{deprecated_extlang_keys}
 use Rattle.langtag_registry.proofs.deprecated.is_deprecated_extlang.Goals as goal
 
-pub short_number-requires : goal.short_number-requires
-short_number-requires c = rw c.as_bytes.ensures (extended_short (extended_lang_tag_text c.args.extlang) c.args.extlang.in_class)
+pub is_among-requires : goal.is_among-requires
+is_among-requires c = rw c.as_bytes.ensures (of_extended _ c.args.extlang.in_class)
 
 pub returns : goal.returns
-returns c =
-    let text = extended_lang_tag_text c.args.extlang in
-    c.is_among.ensures
-    ∙ ap (λ key. list_any (λ n. n == key) c.deprecated_extlang_keys.result.now) (c.short_number.ensures ∙ ap folded_number c.as_bytes.ensures)
-    ∙ ap (list_any (λ n. n == folded_number text)) c.deprecated_extlang_keys.ensures.numbers
-    ∙ deprecated_extlang_found text (of_extended text c.args.extlang.in_class).alphanumeric
+unfolding is_deprecated_extlang
+returns c = c.is_among.ensures deprecated_extlangs deprecated_extlang_keys ∙ ap is_deprecated_extlang c.as_bytes.ensures

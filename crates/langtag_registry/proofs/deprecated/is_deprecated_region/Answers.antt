@@ -1,19 +1,13 @@
-use Rattle.std.proofs.Common.{◌==◌, ap, ◌∙◌}
-use Rattle.std.specs.List.{list_any}
+use Rattle.std.proofs.Common.{ap, ◌∙◌}
 use Rattle.langtag_scan.proofs.SubtagFacts.{of_region}
-use Rattle.langtag_place.specs.Text.{region_text}
-use Rattle.langtag_registry.specs.Numbers.{folded_number}
-use Rattle.langtag_registry.proofs.KeyTables.{deprecated_region_found}
-use Rattle.langtag_registry.proofs.Lengths.{region_short}
+use Rattle.langtag_registry.specs.Subtags.{deprecated_regions}
+use Rattle.langtag_registry.specs.Fields.{is_deprecated_region}
+use Rattle.langtag_registry.proofs.KeyTables.{deprecated_region_keys}
 use Rattle.langtag_registry.proofs.deprecated.is_deprecated_region.Goals as goal
 
-pub short_number-requires : goal.short_number-requires
-short_number-requires c = rw c.as_bytes.ensures (region_short (region_text c.args.region) c.args.region.in_class)
+pub is_among-requires : goal.is_among-requires
+is_among-requires c = rw c.as_bytes.ensures (of_region _ c.args.region.in_class)
 
 pub returns : goal.returns
-returns c =
-    let text = region_text c.args.region in
-    c.is_among.ensures
-    ∙ ap (λ key. list_any (λ n. n == key) c.deprecated_region_keys.result.now) (c.short_number.ensures ∙ ap folded_number c.as_bytes.ensures)
-    ∙ ap (list_any (λ n. n == folded_number text)) c.deprecated_region_keys.ensures.numbers
-    ∙ deprecated_region_found text (of_region text c.args.region.in_class).alphanumeric
+unfolding is_deprecated_region
+returns c = c.is_among.ensures deprecated_regions deprecated_region_keys ∙ ap is_deprecated_region c.as_bytes.ensures

@@ -1,19 +1,13 @@
-use Rattle.std.proofs.Common.{◌==◌, ap, ◌∙◌}
-use Rattle.std.specs.List.{list_any}
+use Rattle.std.proofs.Common.{ap, ◌∙◌}
 use Rattle.langtag_scan.proofs.SubtagFacts.{of_variant}
-use Rattle.langtag_place.specs.Text.{variant_text}
-use Rattle.langtag_registry.specs.Numbers.{folded_number}
-use Rattle.langtag_registry.proofs.KeyTables.{deprecated_variant_found}
-use Rattle.langtag_registry.proofs.Lengths.{variant_short}
+use Rattle.langtag_registry.specs.Subtags.{deprecated_variants}
+use Rattle.langtag_registry.specs.Fields.{is_deprecated_variant}
+use Rattle.langtag_registry.proofs.KeyTables.{deprecated_variant_keys}
 use Rattle.langtag_registry.proofs.deprecated.is_deprecated_variant.Goals as goal
 
-pub long_number-requires : goal.long_number-requires
-long_number-requires c = rw c.as_bytes.ensures (variant_short (variant_text c.args.variant) c.args.variant.in_class)
+pub is_among-requires : goal.is_among-requires
+is_among-requires c = rw c.as_bytes.ensures (of_variant _ c.args.variant.in_class)
 
 pub returns : goal.returns
-returns c =
-    let text = variant_text c.args.variant in
-    c.is_among_long.ensures
-    ∙ ap (λ key. list_any (λ n. n == key) c.deprecated_variant_keys.result.now) (c.long_number.ensures ∙ ap folded_number c.as_bytes.ensures)
-    ∙ ap (list_any (λ n. n == folded_number text)) c.deprecated_variant_keys.ensures.numbers
-    ∙ deprecated_variant_found text (of_variant text c.args.variant.in_class).alphanumeric
+unfolding is_deprecated_variant
+returns c = c.is_among.ensures deprecated_variants deprecated_variant_keys ∙ ap is_deprecated_variant c.as_bytes.ensures

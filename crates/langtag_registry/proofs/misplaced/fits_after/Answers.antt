@@ -4,17 +4,16 @@ use Rattle.langtag_scan.proofs.SubtagFacts.{of_variant}
 use Rattle.langtag_place.specs.Text.{variant_text}
 use Rattle.langtag_match.specs.Extended.{test_extended}
 use Rattle.langtag_match.specs.Range.{is_language_range}
-use Rattle.langtag_registry.specs.Numbers.{folded_number}
+use Rattle.langtag_scan.specs.Case.{folded_number}
 use Rattle.langtag_registry.specs.Subtags.{variant_prefixes}
-use Rattle.langtag_registry.proofs.Lengths.{variant_short}
 use Rattle.langtag_registry.proofs.PrefixLaws.{length-same, same_at, list_all_get, number_tells, left_first, left_matched, left_unmatched, left_other, left_ended}
 use Rattle.langtag_registry.proofs.PrefixTables.{prefixed_alphanumeric, prefixes_are_ranges}
 use Rattle.langtag_registry.proofs.Values.{no_entry}
 use Rattle.langtag_registry.proofs.misplaced.fits_after.Goals.{then-number-key+else-matches_tag, else-number-key}
 use Rattle.langtag_registry.proofs.misplaced.fits_after.Goals as goal
 
-pub long_number-number-requires : goal.long_number-number-requires
-long_number-number-requires c = rw c.as_bytes.ensures (variant_short (variant_text c.args.variant) c.args.variant.in_class)
+pub folded_number-number-requires : goal.folded_number-number-requires
+folded_number-number-requires c = rw c.as_bytes.ensures (of_variant (variant_text c.args.variant) c.args.variant.in_class).short
 
 pub loop-key-init : goal.loop-key-init
 loop-key-init c = left_first c.args.before.now (variant_text c.args.variant)
@@ -38,7 +37,7 @@ returns-then-matches_tag c =
     left_matched c.args.before.now text c.loop-key.has_none i c.loop-key.invariant within
     (number_tells (get_or variant_prefixes i no_entry) text _ _ true
     (list_all_get (λ e. _) variant_prefixes i no_entry prefixed_alphanumeric within) (of_variant text c.args.variant.in_class).alphanumeric
-    (c.long_number-number.ensures ∙ ap folded_number c.as_bytes.ensures)
+    (c.folded_number-number.ensures.number ∙ ap folded_number c.as_bytes.ensures)
     (same_at (λ pair. pair.0) (λ e. folded_number e.subtag) _ _ items.numbers i _ no_entry 0 inside) (eq-eqb _ _ c.if-number-key.true))
     (ap (λ prefix. test_extended prefix c.args.before.now) (sym (same_at (λ pair. pair.1.now) (λ e. e.value) _ _ items.values i _ no_entry [] inside))
     ∙ sym c.matches_tag.ensures ∙ c.if-matches_tag.true)
@@ -53,7 +52,7 @@ loop-key-preserved c =
     let within : i < length variant_prefixes = omega (arith, inside, long) in
     let good = list_all_get (λ e. _) variant_prefixes i no_entry prefixed_alphanumeric within in
     let also = (of_variant text c.args.variant.in_class).alphanumeric in
-    let number = c.long_number-number.ensures ∙ ap folded_number c.as_bytes.ensures in
+    let number = c.folded_number-number.ensures.number ∙ ap folded_number c.as_bytes.ensures in
     let key = same_at (λ pair. pair.0) (λ e. folded_number e.subtag) _ _ items.numbers i _ no_entry 0 inside in
     elim c.if-number-key.branch [
       | then-number-key+else-matches_tag w ↦ rw w.has_none-is (

@@ -1,34 +1,39 @@
-use Rattle.std.proofs.Common.{Some, sym, ap, ◌∙◌, arith}
-use Rattle.std.proofs.lemmas.List.{get_or-map, length-map}
+use Rattle.std.proofs.Common.{ℕ, List, Bor, Ok, Err, sym, ap, subst, ◌∙◌, true, false}
+use Rattle.std.proofs.lemmas.List.Sorted.{searched}
 use Rattle.langtag_scan.specs.Case.{are_alike}
 use Rattle.langtag_registry.specs.Entry.{Entry}
-use Rattle.langtag_registry.proofs.Values.{no_entry, found_from_start, found_here, found_later, found_nowhere}
+use Rattle.langtag_registry.specs.Tables.{AreEndsOf}
+use Rattle.langtag_registry.proofs.Rising.{climb_searched}
+use Rattle.langtag_registry.proofs.Values.{end_searched, end_of, subtags-view, end_decided}
 use Rattle.langtag_registry.proofs.preferred.value_beside.Goals as goal
 
-pub loop-entry-init : goal.loop-entry-init
-loop-entry-init c = found_from_start _ _
+abbrev entry_of : Bor (List ℕ) × Bor (List ℕ) → Entry
+entry_of pair = record { subtag = pair.0.now; value = pair.1.now }
+
+pub returns-in_default : goal.returns-in_default
+returns-in_default c =
+    let keys = c.args.keys.now in
+    let of = subst (AreEndsOf keys) (sym (subtags-view entry_of c.args.table.now)) c.requires in
+    sym (end_searched keys _ c.args.bytes.now c.folded_number.result (Err c.in_default.field-0) of
+    (end_of c.args.bytes.now c.saturating_sub.result c.folded_number.result c.saturating_sub.ensures c.folded_number.ensures.number)
+    (searched keys c.folded_number.result (Err c.in_default.field-0) c.in_default.ensures.position (climb_searched keys c.requires.climb)))
 
 pub returns-then-case_insensitive_eq : goal.returns-then-case_insensitive_eq
 returns-then-case_insensitive_eq c =
-    let inside = c.loop-entry-test.true in
-    let here = get_or-map (λ pair. record { subtag = pair.0.now; value = pair.1.now }) c.args.table.now c.loop-entry.entry-index _ no_entry inside in
-    let long = length-map {B = Entry} c.args.table.now (λ pair. record { subtag = pair.0.now; value = pair.1.now }) in
-    ap (λ e. Some e.value) (sym here)
-    ∙ found_here _ c.args.bytes.now c.loop-entry.entry-index c.loop-entry.invariant (omega (arith, inside, long))
-    (ap (λ t. are_alike t c.args.bytes.now) (ap (λ e. e.subtag) here ∙ sym c.as_bytes.ensures.value)
-    ∙ sym c.case_insensitive_eq.ensures.test ∙ c.if-case_insensitive_eq.true)
-
-pub loop-entry-preserved : goal.loop-entry-preserved
-loop-entry-preserved c =
-    let inside = c.loop-entry-test.true in
-    let here = get_or-map (λ pair. record { subtag = pair.0.now; value = pair.1.now }) c.args.table.now c.loop-entry.entry-index _ no_entry inside in
-    let long = length-map {B = Entry} c.args.table.now (λ pair. record { subtag = pair.0.now; value = pair.1.now }) in
-    found_later _ c.args.bytes.now c.loop-entry.entry-index c.loop-entry.invariant (omega (arith, inside, long))
-    (ap (λ t. are_alike t c.args.bytes.now) (ap (λ e. e.subtag) here ∙ sym c.as_bytes.ensures.value)
-    ∙ sym c.case_insensitive_eq.ensures.test ∙ c.if-case_insensitive_eq.false)
+    let keys = c.args.keys.now in
+    let of = subst (AreEndsOf keys) (sym (subtags-view entry_of c.args.table.now)) c.requires in
+    let at = searched keys c.folded_number.result (Ok c.in-Ok.index) c.in-Ok.ensures.position (climb_searched keys c.requires.climb) in
+    sym (end_searched keys _ c.args.bytes.now c.folded_number.result (Ok c.in-Ok.index) of
+    (end_of c.args.bytes.now c.saturating_sub.result c.folded_number.result c.saturating_sub.ensures c.folded_number.ensures.number) at
+    ∙ end_decided entry_of keys c.args.table.now c.args.bytes.now c.in-Ok.index _ true of at.0
+    (ap (λ t. are_alike t c.args.bytes.now) (sym c.as_bytes.ensures.value) ∙ sym c.case_insensitive_eq.ensures.test ∙ c.if-case_insensitive_eq.true))
 
 pub returns : goal.returns
 returns c =
-    let ends = c.loop-entry-test.false in
-    let long = length-map {B = Entry} c.args.table.now (λ pair. record { subtag = pair.0.now; value = pair.1.now }) in
-    found_nowhere _ c.args.bytes.now c.loop-entry.entry-index c.loop-entry.invariant (omega (arith, ends, long))
+    let keys = c.args.keys.now in
+    let of = subst (AreEndsOf keys) (sym (subtags-view entry_of c.args.table.now)) c.requires in
+    let at = searched keys c.folded_number.result (Ok c.in-Ok.index) c.in-Ok.ensures.position (climb_searched keys c.requires.climb) in
+    sym (end_searched keys _ c.args.bytes.now c.folded_number.result (Ok c.in-Ok.index) of
+    (end_of c.args.bytes.now c.saturating_sub.result c.folded_number.result c.saturating_sub.ensures c.folded_number.ensures.number) at
+    ∙ end_decided entry_of keys c.args.table.now c.args.bytes.now c.in-Ok.index _ false of at.0
+    (ap (λ t. are_alike t c.args.bytes.now) (sym c.as_bytes.ensures.value) ∙ sym c.case_insensitive_eq.ensures.test ∙ c.if-case_insensitive_eq.false))

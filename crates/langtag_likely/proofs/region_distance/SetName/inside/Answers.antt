@@ -1,6 +1,6 @@
 use Rattle.std.proofs.Common.{map, sym, ap, ◌∙◌}
 use Rattle.langtag_registry.proofs.Rising.{IsNonDecreasing-from_test}
-use Rattle.langtag_registry.specs.Numbers.{folded_number}
+use Rattle.langtag_scan.specs.Case.{folded_number}
 use Rattle.langtag_likely.specs.declared.matching_tables.TheConstants.{MAGHREB_INSIDE, EN_US_INSIDE, AMERICAS_INSIDE, CNSAR_INSIDE}
 use Rattle.langtag_likely.specs.Sets.{set_of}
 use Rattle.langtag_likely.proofs.MatchingTables as tables

@@ -1,6 +1,6 @@
 use Rattle.std.proofs.Common.{map, ap, ◌∙◌}
 use Rattle.std.specs.Prelude.{is_some}
-use Rattle.langtag_registry.specs.Numbers.{folded_number}
+use Rattle.langtag_scan.specs.Case.{folded_number}
 use Rattle.langtag_likely.specs.Numbers.{first_index}
 use Rattle.langtag_likely.specs.Sets.{set_of}
 use Rattle.langtag_likely.proofs.FieldClasses.{region_alphanumeric, region_length}

@@ -1,0 +1,36 @@
+use Rattle.std.proofs.Common.{◌<◌, [], Some, Ok, Err, get_or, map, length, sym, ap, ◌∙◌, arith}
+use Rattle.std.proofs.lemmas.List.{get_or-map, length-map}
+use Rattle.std.proofs.lemmas.List.Sorted.{searched}
+use Rattle.langtag_scan.specs.Case.{folded_number}
+use Rattle.langtag_registry.proofs.Rising.{climb_searched}
+use Rattle.langtag_registry.proofs.Values.{value_searched}
+use Rattle.langtag_registry.proofs.table.value_of.Goals as goal
+
+pub folded_number-requires : goal.folded_number-requires
+folded_number-requires c = c.requires.subtag.short
+
+pub returns-in-Ok : goal.returns-in-Ok
+returns-in-Ok c = λ list of.
+    let keys = c.args.keys.now in
+    let values = c.args.values.now in
+    let at = searched keys c.folded_number.result (Ok c.in-Ok.index) c.in-Ok.ensures.position (climb_searched keys of.numbers.climb) in
+    let within : c.in-Ok.index < length values =
+    omega (
+      arith,
+      at.0,
+      ap length of.numbers.numbers,
+      ap length of.beside,
+      length-map values (λ text. text.now),
+      length-map list (λ e. e.value),
+      length-map list (λ e. e.subtag),
+      length-map (map (λ e. e.subtag) list) folded_number,
+    ) in
+    sym (value_searched keys list c.args.text.now c.folded_number.result (Ok c.in-Ok.index) of.numbers c.requires.subtag.alphanumeric c.folded_number.ensures.number at
+    ∙ ap (λ texts. Some (get_or texts c.in-Ok.index [])) (sym of.beside)
+    ∙ ap Some (get_or-map (λ text. text.now) values c.in-Ok.index _ [] within))
+
+pub returns-in-Err : goal.returns-in-Err
+returns-in-Err c = λ list of.
+    let keys = c.args.keys.now in
+    let at = searched keys c.folded_number.result (Err c.in-Err.field-0) c.in-Err.ensures.position (climb_searched keys of.numbers.climb) in
+    sym (value_searched keys list c.args.text.now c.folded_number.result (Err c.in-Err.field-0) of.numbers c.requires.subtag.alphanumeric c.folded_number.ensures.number at)

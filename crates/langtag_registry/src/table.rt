@@ -1,0 +1,33 @@
+//! Tables of subtags, in which texts are looked up in any case.
+ghost use Rattle.std.specs.Prelude.{◌≡◌, ℕ, List, map};
+ghost use Rattle.std.specs.Option.{option_map};
+ghost use Rattle.langtag_scan.proofs.SubtagFacts.{IsSubtag};
+ghost use Rattle.langtag_registry.specs.Entry.{Entry, value_for};
+ghost use Rattle.langtag_registry.specs.Registered as registered;
+ghost use Rattle.langtag_registry.specs.Tables.{AreKeysOf, IsTableOf};
+
+use langtag_scan::folded_number;
+
+/// Returns whether a text is one of those that have these numbers.
+pub(crate) fn is_among(keys: &[u64], text: &[u8]) -> bool
+    requires { IsSubtag text.now }
+    ensures { (list : List (List ℕ)) → AreKeysOf keys.now list → result ≡ registered.is_among list text.now }
+{
+    keys.binary_search(&folded_number(text)).is_ok()
+}
+
+/// Returns the value of a text that has one of these numbers: the one beside it.
+pub(crate) fn value_of(
+    keys: &[u64],
+    values: &'static [&'static str],
+    text: &[u8],
+) -> Option<&'static str>
+    requires subtag { IsSubtag text.now }
+    requires table { (list : List Entry) × IsTableOf keys.now (map (λ text. text.now) values.now) list }
+    ensures { (list : List Entry) → IsTableOf keys.now (map (λ text. text.now) values.now) list → option_map (λ text. text.now) result ≡ value_for list text.now }
+{
+    match keys.binary_search(&folded_number(text)) {
+        Ok(index) => Some(values[index]),
+        Err(_) => None,
+    }
+}
