@@ -213,7 +213,7 @@ FAULTS = {
 }
 
 # How the tests of a language are built and run, in a copy of bindings/.
-ASKED = "$ROWS/table.txt 300 $ROWS/texts.txt 800 $ROWS/negotiation.txt 85 $ROWS/edits.txt 70"
+ASKED = "$ROWS/table.txt 360 $ROWS/texts.txt 800 $ROWS/negotiation.txt 92 $ROWS/edits.txt 120"
 RUSTC = "rustc --edition 2021 -A warnings --cfg 'feature=\"alloc\"' -L native=$LIBRARIES"
 BUILD = {
     "C": "cc -w -std=c11 -Iinclude c/test/*.c examples/accept_language.c $LIBRARIES/liblangtag_verified.a -o test",
