@@ -255,7 +255,7 @@ ANSWERS = {
     "order": answer_order, "header": answer_header, "ranges": answer_ranges, "edit": answer_edit,
 }
 FLOORS = {"table.txt": 360, "texts.txt": 710, "negotiation.txt": 102, "edits.txt": 125, "likely.txt": 250,
-          "refused.txt": 60, "distance.txt": 140, "direction.txt": 330, "posix.txt": 80, "choices.txt": 260}
+          "refused.txt": 60, "distance.txt": 140, "direction.txt": 325, "posix.txt": 80, "choices.txt": 260}
 
 
 class Rows(unittest.TestCase):
