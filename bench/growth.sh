@@ -3,8 +3,8 @@
 # - a call of langtag, langtag_match or langtag_registry takes over 2.2 times the instructions for twice the text, from 20,000
 #   bytes on, and of some shapes from 100,000 bytes on, or what growth.py allows where a square is documented (growth.c);
 # - it needs more stack than .ci/stack says, or over 1 MB for 2 MB of text;
-# - it refuses memory, or answers another text, at some length to 4,200 bytes, at a step to 2 MB, or for some region, script or
-#   short language (sweep.c);
+# - it refuses memory, or answers another text, at some length to 4,200 bytes, at a step to 2 MB, for some region, script or
+#   short language, or for a prefix of some row's tag (sweep.c);
 # - it is wrong when memory is refused to it, a setter or a copy allocates more than once, or a header takes over 320 bytes an
 #   element (memory.c).
 # It needs rt, cc, objdump, valgrind and its headers.
@@ -36,6 +36,6 @@ else
     exit 1
 fi
 build sweep "$here/src/sweep.c"
-"$target/sweep"
+"$target/sweep" "$here/../crates/langtag_rows/data/texts.txt"
 build memory -Wl,--wrap=malloc,--wrap=realloc,--wrap=free "$here/src/memory.c"
 "$target/memory"

@@ -6,6 +6,7 @@ bool langtag_bench_copies(const char *bytes, size_t len, size_t *refused);
 bool langtag_bench_set_normal(const char *bytes, size_t len, const char *others, size_t others_len, size_t *refused);
 bool langtag_bench_set_of_any(const char *bytes, size_t len, const char *others, size_t others_len, size_t *refused);
 bool langtag_bench_from_parts(const char *bytes, size_t len, size_t *refused);
+bool langtag_bench_normal_lang_tag(const char *bytes, size_t len);
 bool langtag_bench_header(const char *bytes, size_t len, size_t *refused);
 size_t langtag_bench_lenient(const char *header, size_t len, size_t *refused);
 size_t langtag_bench_chosen(const char *header, size_t len, const char *tags, size_t tags_len, size_t *refused);

@@ -1,7 +1,10 @@
 /*
  * Calls that may fail, over texts of each length to EACH bytes and by steps to MOST, and over all regions, scripts and short
- * languages: none says that memory was refused, and each answer is the one that is expected here. By its contract a call could
- * refuse whatever text it likes, and Display could fail on it: that neither does is seen here alone.
+ * languages, and over each prefix of the tags of a file of rows: none says that memory was refused, and each answer is the one
+ * that is expected here. By its contract a call could refuse whatever text it likes, and Display could fail on it: that neither
+ * does is seen here alone.
+ *
+ *     sweep crates/langtag_rows/data/texts.txt
  */
 #include "memory.h"
 #include <stdio.h>
@@ -60,12 +63,15 @@ static const struct shape tags[] = {
     {"fr-x", "-a", ""},       {"fra-x", "-a", ""},
     {"fr", "-abcde", ""},     {"DE-LATN-DE", "-1996", ""},
     {"de", "-A-BB", ""},      {"de-a", "-12345678", ""},
-    {"zh-yue", "-1abc", "-x-a"},
+    {"zh-yue", "-1abc", "-x-a"}, {"en", "-1996", ""},
+    {"en-a", "-bb", ""},      {"en", "-a-bb", ""},
+    {"en-x", "-a", ""},
 };
 
 static void sweep_tags(const struct shape *shape) {
     for (size_t times = 0, len = 0; grow(shape, &times, &len);) {
         check("copies", len, langtag_bench_copies(text, len, &refused));
+        check("maps", len, langtag_bench_maps(text, len, &refused) == 1);
         if (text[0] == 'x') continue;
         check("set_normal", len, langtag_bench_set_normal(OTHER, text, len, &refused));
         check("set_normal", len, langtag_bench_set_normal(text, len, OTHER, &refused));
@@ -73,6 +79,53 @@ static void sweep_tags(const struct shape *shape) {
         check("set_of_any", len, langtag_bench_set_of_any(text, len, OTHER, &refused));
         check("from_parts", len, langtag_bench_from_parts(text, len, &refused));
     }
+}
+
+/* Tags of each part that a setter is given, of which the first has none. */
+static const char *const ways[] = {
+    "de",         "zh-MIN-nan", "abcdefgh", "de-Latn",   "de-cYRL",             "de-zzzz", "de-AaBb",
+    "de-US",      "de-us",      "de-419",   "de-000",    "de-1996",             "de-rozaj-BISKE-1994",
+    "de-a-bb",    "de-x-a",     "de-zz",    "zh-min",    "de-u-co-eor-U-cc-dd", "de-X-mine-12345678",
+    "de-a-bb-U-co", "de-x-mine",
+};
+
+/* A normal tag, whose parts are put into each of the ways, and theirs into it. */
+static void check_set(size_t len) {
+    for (size_t way = 0; way < LENGTH(ways); way++) {
+        size_t other = strlen(ways[way]);
+        check("set_normal", len, langtag_bench_set_normal(text, len, ways[way], other, &refused));
+        check("set_normal", len, langtag_bench_set_normal(ways[way], other, text, len, &refused));
+        check("set_of_any", len, langtag_bench_set_of_any(text, len, ways[way], other, &refused));
+        check("set_of_any", len, langtag_bench_set_of_any(ways[way], other, text, len, &refused));
+    }
+    check("from_parts", len, langtag_bench_from_parts(text, len, &refused));
+}
+
+/* Each prefix of a text, of which so many are tags: they are copied and displayed, and the normal ones set. */
+static void sweep_prefixes(const char *row, size_t row_len, size_t wanted_tags) {
+    size_t found = 0;
+    for (size_t len = 0; len <= row_len; len++) {
+        memcpy(text, row, len);
+        if (!langtag_bench_copies(text, len, &refused)) continue;
+        found++;
+        if (langtag_bench_normal_lang_tag(text, len)) check_set(len);
+    }
+    check("prefixes", row_len, found == wanted_tags);
+}
+
+/* The rows `scan TEXT READS TAGS ..` of a file, whose texts are ASCII: the prefixes of each, of which TAGS are tags. */
+static size_t sweep_rows(const char *path) {
+    static char line[1 << 16], row[1 << 16];
+    FILE *file = fopen(path, "r");
+    size_t rows = 0, found;
+    if (!file) return 0;
+    while (fgets(line, sizeof line, file))
+        if (sscanf(line, "scan %65535s %*u %zu", row, &found) == 2 && !strpbrk(row, "\\{'")) {
+            sweep_prefixes(row, strlen(row), found);
+            rows++;
+        }
+    fclose(file);
+    return rows;
 }
 
 /* Calls that write a text, and the text that is wanted. */
@@ -194,7 +247,9 @@ static void sweep_subtags(void) {
     sweep_places(script, 3, 4, 'A', 'a', 26);
 }
 
-int main(void) {
+int main(int count, char **arguments) {
+    size_t rows = count == 2 ? sweep_rows(arguments[1]) : 0;
+    if (rows < 480) return printf("sweep: %zu rows\n", rows), 1;
     for (size_t row = 0; row < LENGTH(tags); row++) sweep_tags(&tags[row]);
     for (size_t row = 0; row < LENGTH(texts); row++)
         sweep_texts(texts[row].name, texts[row].call, &texts[row].given, &texts[row].wanted);

@@ -175,16 +175,16 @@ class Rows(unittest.TestCase):
             self.fail("\n" + asker.failures())
 
     def test_table(self):
-        self.ask("table.txt", 280)
+        self.ask("table.txt", 300)
 
     def test_texts(self):
         self.ask("texts.txt", 500)
 
     def test_negotiation(self):
-        self.ask("negotiation.txt", 80)
+        self.ask("negotiation.txt", 87)
 
     def test_edits(self):
-        self.ask("edits.txt", 60)
+        self.ask("edits.txt", 110)
 
     def test_likely(self):
         self.ask("likely.txt", 280)

@@ -63,7 +63,7 @@ fn message(error: EditError<&str>) -> String {
 
 #[test]
 fn answers() {
-    rows::ask(&rows::path("edits.txt"), &["edit"], 75, answer);
+    rows::ask(&rows::path("edits.txt"), &["edit"], 125, answer);
 }
 
 #[test]

@@ -80,7 +80,7 @@ fn rows() {
         ("refused", &["refused"], 60),
         ("likely", &["maximized", "minimized"], 250),
         ("distance", &["distance"], 140),
-        ("direction", &["right-to-left"], 330),
+        ("direction", &["right-to-left"], 325),
         ("posix", &["posix"], 80),
         ("choices", &["best"], 260),
     ];

@@ -92,7 +92,7 @@ fn answers() {
     rows::ask(
         &rows::path("negotiation.txt"),
         &["header", "ranges"],
-        95,
+        102,
         answer,
     );
 }

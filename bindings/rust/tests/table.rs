@@ -361,9 +361,9 @@ fn answer(row: &Row) -> Option<String> {
 
 #[test]
 fn answers() {
-    rows::ask(&rows::path("table.txt"), &CALLS, 300, answer);
+    rows::ask(&rows::path("table.txt"), &CALLS, 360, answer);
     let texts = rows::path("texts.txt");
-    rows::ask(&texts, &["scan", "recommended"], 700, answer);
+    rows::ask(&texts, &["scan", "recommended"], 710, answer);
     if let Ok(path) = std::env::var("LANGTAG_ANSWERS") {
         rows::ask(&path, &CALLS, 1000, answer);
     }

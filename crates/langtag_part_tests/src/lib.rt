@@ -1,5 +1,5 @@
-//! Tests of the crates below langtag, by their public names alone: the recogniser and what else works on bytes, and the types
-//! of a tag's parts. What tests of tags show is in `langtag_tests`.
+//! Tests of the crates below langtag, by their public names alone: what works on bytes, and the types of a tag's parts. What
+//! tests of tags show is in `langtag_tests`, and what a row can ask in `langtag_rows`.
 #![tactic(auto)]
 
 #[cfg(test)]
@@ -8,5 +8,3 @@ mod parts;
 mod scan;
 #[cfg(test)]
 mod support;
-#[cfg(test)]
-mod text_types;

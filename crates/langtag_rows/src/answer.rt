@@ -12,15 +12,6 @@ use crate::walks::walk;
 use std::alloc::{AllocError, Global};
 use std::str::from_utf8;
 
-/// Whether a call is asked here. The others are calls that C has too, whose functions are proved to be the library's: C's
-/// tests ask them, and the stored runs of `langtag_show` and `langtag_check`.
-pub(crate) fn is_asked(call: &str) -> bool {
-    !matches!(
-        call,
-        "tag" | "validity" | "canonical" | "grandfathered" | "viable" | "range" | "match" | "order"
-    )
-}
-
 /// The answer to a call.
 pub(crate) fn answer(
     alloc: Global,

@@ -6,9 +6,11 @@ use std::alloc::{AllocError, Global};
 /// The tag that the sender of a header wants.
 pub(crate) fn best(alloc: Global, header: &str, tags: &str) -> Result<String, AllocError> {
     let tags = tags_of(alloc, tags)?;
-    let chosen = best_for_header(header.as_bytes(), tags.as_slice());
-    match chosen.and_then(|index| tags.get(index)) {
+    let Some(index) = best_for_header(header.as_bytes(), tags.as_slice()) else {
+        return String::from_str(alloc, "-");
+    };
+    match tags.get(index) {
         Some(tag) => String::from_str(alloc, tag.as_str()),
-        None => String::from_str(alloc, "-"),
+        None => String::from_str(alloc, "past the last tag"),
     }
 }

@@ -1,5 +1,5 @@
 //! A file of rows: each is asked, and its answer is compared with the one that it wants.
-use crate::answer::{answer, is_asked};
+use crate::answer::answer;
 use crate::row::Row;
 use crate::texts::{expanded, unescaped};
 use std::alloc::{AllocError, Global};
@@ -85,10 +85,9 @@ fn ask_row(
     report: &mut Report,
 ) -> io::Result<()> {
     let text = expanded(rt.alloc(), line)?;
-    let row = Row::of(text.as_str());
-    if !is_asked(row.call) {
+    let Some(row) = Row::of(text.as_str()) else {
         return Ok(());
-    }
+    };
     report.asked = report.asked.saturating_add(1);
     let found = found(rt.alloc(), &row)?;
     if found.as_str() == row.wanted {

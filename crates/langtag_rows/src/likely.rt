@@ -1,6 +1,8 @@
 //! Calls of likely subtags.
 use langtag::LangTag;
-use langtag_likely::{distance, is_right_to_left, maximized, minimized, write_maximized, write_minimized};
+use langtag_likely::{
+    distance, is_right_to_left, maximized, minimized, write_maximized, write_minimized,
+};
 use std::alloc::{AllocError, Global};
 
 /// The maximal form of a tag; a buffer is given the same one, or stays as it was where it is too short.
@@ -62,7 +64,7 @@ pub(crate) fn agreed(
     lengths: [usize; 2],
 ) -> Result<String, AllocError> {
     let is_written = whole == form.as_bytes() && lengths == [form.len(), form.len()];
-    if !is_written || short.iter().any(|byte| *byte != 0) {
+    if !is_written || short != vec![in alloc; 0; short.len()]?.as_slice() {
         return String::from_str(alloc, "another form in a buffer");
     }
     Ok(form)

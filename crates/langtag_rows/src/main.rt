@@ -43,8 +43,11 @@ fn run(rt: &HostRuntime) -> io::Result<bool> {
     let mut arguments = env::args(rt)?.skip(1);
     while let Some(name) = arguments.next() {
         let text = fs::read_to_string(rt, name.as_str())?;
-        let least = arguments.next().and_then(|word| word.parse::<u64>().ok());
         ask(rt, name.as_str(), text.as_str(), &mut report)?;
+        let least = match arguments.next() {
+            Some(word) => word.parse::<u64>().ok(),
+            None => None,
+        };
         report.end_file(rt, name.as_str(), least)?;
     }
     Ok(report.agrees())

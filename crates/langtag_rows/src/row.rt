@@ -9,25 +9,25 @@ pub(crate) struct Row<'a> {
 }
 
 impl<'a> Row<'a> {
-    /// Returns the row that a line is. Its fields stand between ` | ` where it has one, and else between spaces.
-    pub(crate) fn of(line: &'a str) -> Row<'a> {
+    /// Returns the row that a line is, or `None` if its call is asked elsewhere. Its fields stand between ` | ` where it has
+    /// one, and else between spaces.
+    pub(crate) fn of(line: &'a str) -> Option<Row<'a>> {
         let separator = if line.contains(" | ") { " | " } else { " " };
         let (first, rest) = cut(line, separator);
-        let count = argument_count(first);
-        // A row of edits.txt begins with its tag.
-        let (call, rest, count) = if count == 0 && separator == " | " {
-            ("edit", line, 3)
-        } else {
-            (first, rest, count)
+        let (call, rest, count) = match argument_count(first) {
+            // A row of edits.txt begins with its tag.
+            0 if separator == " | " => ("edit", line, 3),
+            0 => return None,
+            count => (first, rest, count),
         };
         let (one, rest) = cut_if(count > 0, rest, separator);
         let (two, rest) = cut_if(count > 1, rest, separator);
         let (three, wanted) = cut_if(count > 2, rest, separator);
-        Row {
+        Some(Row {
             call,
             arguments: [one, two, three],
             wanted,
-        }
+        })
     }
 }
 
@@ -44,19 +44,12 @@ fn cut<'a>(text: &'a str, separator: &str) -> (&'a str, &'a str) {
     text.split_once(separator).unwrap_or((text, ""))
 }
 
-/// The number of arguments of a call, which is 0 of what is not one.
+/// The number of arguments of a call, which is 0 of what is not asked here: calls that C has too, whose functions are proved to
+/// be the library's. C's tests ask them, and the stored runs of `langtag_show` and `langtag_check`.
 fn argument_count(call: &str) -> usize {
     match call {
         "filter" | "walk" => 3,
-        "best"
-        | "header"
-        | "ranges"
-        | "new"
-        | "fronts"
-        | "extension"
-        | "match"
-        | "order"
-        | "distance" => 2,
+        "best" | "header" | "ranges" | "new" | "fronts" | "extension" | "distance" => 2,
         "scan"
         | "types"
         | "class"
@@ -73,7 +66,6 @@ fn argument_count(call: &str) -> usize {
         | "minimized"
         | "posix"
         | "right-to-left" => 1,
-        "tag" | "validity" | "canonical" | "grandfathered" | "viable" | "range" => 1,
         _ => 0,
     }
 }

@@ -16,7 +16,7 @@ pub(crate) fn scan(alloc: Global, bytes: &[u8]) -> Result<String, AllocError> {
     let (found, reads) = read(bytes);
     let swapped = case_swapped(alloc, bytes)?;
     let (other, other_reads) = read(swapped.as_slice());
-    let is_normal = found.as_ref().is_some_and(|it| it.is_normal());
+    let is_normal = matches!(&found, Some(it) if it.is_normal());
     if recognise_normal(&mut Metered::of_bytes(bytes)).is_some() != is_normal {
         return String::from_str(alloc, "another answer of recognise_normal");
     }
@@ -24,7 +24,9 @@ pub(crate) fn scan(alloc: Global, bytes: &[u8]) -> Result<String, AllocError> {
     if other_reads != reads || shown(alloc, other.as_ref())? != what {
         return String::from_str(alloc, "another answer in the other case");
     }
-    if found.is_some_and(|it| !is_read_past(bytes, &it)) {
+    if let Some(found) = found
+        && !is_read_past(bytes, &found)
+    {
         return String::from_str(alloc, "another answer where more follows");
     }
     match tags_among_fronts(bytes, reads) {

@@ -1,5 +1,5 @@
 //! Calls of the text types.
-use crate::seen::{Seen, pieces_of, seen};
+use crate::seen::{pieces_of, seen};
 use crate::texts::{put_braces, put_word};
 use langtag::{
     ExtendedLangTag, ExtendedLangTagBuf, Extension, ExtensionBuf, ExtensionSubtag,
@@ -12,67 +12,67 @@ use langtag::{
 use langtag_match::{LanguageRange, LanguageRangeBuf};
 use std::alloc::{AllocError, Global};
 
-fn primary_language(text: &str, alloc: Global) -> Result<Seen, AllocError> {
+fn primary_language(text: &str, alloc: Global) -> Result<String, AllocError> {
     seen!(PrimaryLanguage, PrimaryLanguageBuf, text, alloc)
 }
 
-fn extended_subtag(text: &str, alloc: Global) -> Result<Seen, AllocError> {
+fn extended_subtag(text: &str, alloc: Global) -> Result<String, AllocError> {
     seen!(ExtendedLangTag, ExtendedLangTagBuf, text, alloc)
 }
 
-fn language(text: &str, alloc: Global) -> Result<Seen, AllocError> {
+fn language(text: &str, alloc: Global) -> Result<String, AllocError> {
     seen!(Language, LanguageBuf, text, alloc)
 }
 
-fn language_extension(text: &str, alloc: Global) -> Result<Seen, AllocError> {
+fn language_extension(text: &str, alloc: Global) -> Result<String, AllocError> {
     seen!(LanguageExtension, LanguageExtensionBuf, text, alloc)
 }
 
-fn script(text: &str, alloc: Global) -> Result<Seen, AllocError> {
+fn script(text: &str, alloc: Global) -> Result<String, AllocError> {
     seen!(Script, ScriptBuf, text, alloc)
 }
 
-fn region(text: &str, alloc: Global) -> Result<Seen, AllocError> {
+fn region(text: &str, alloc: Global) -> Result<String, AllocError> {
     seen!(Region, RegionBuf, text, alloc)
 }
 
-fn variant(text: &str, alloc: Global) -> Result<Seen, AllocError> {
+fn variant(text: &str, alloc: Global) -> Result<String, AllocError> {
     seen!(Variant, VariantBuf, text, alloc)
 }
 
-fn variants(text: &str, alloc: Global) -> Result<Seen, AllocError> {
+fn variants(text: &str, alloc: Global) -> Result<String, AllocError> {
     seen!(Variants, VariantsBuf, text, alloc)
 }
 
-fn extension_subtag(text: &str, alloc: Global) -> Result<Seen, AllocError> {
+fn extension_subtag(text: &str, alloc: Global) -> Result<String, AllocError> {
     seen!(ExtensionSubtag, ExtensionSubtagBuf, text, alloc)
 }
 
-fn one_extension(text: &str, alloc: Global) -> Result<Seen, AllocError> {
+fn one_extension(text: &str, alloc: Global) -> Result<String, AllocError> {
     seen!(Extension, ExtensionBuf, text, alloc)
 }
 
-fn extensions(text: &str, alloc: Global) -> Result<Seen, AllocError> {
+fn extensions(text: &str, alloc: Global) -> Result<String, AllocError> {
     seen!(Extensions, ExtensionsBuf, text, alloc)
 }
 
-fn private_use_subtag(text: &str, alloc: Global) -> Result<Seen, AllocError> {
+fn private_use_subtag(text: &str, alloc: Global) -> Result<String, AllocError> {
     seen!(PrivateUseSubtag, PrivateUseSubtagBuf, text, alloc)
 }
 
-fn private_use(text: &str, alloc: Global) -> Result<Seen, AllocError> {
+fn private_use(text: &str, alloc: Global) -> Result<String, AllocError> {
     seen!(PrivateUse, PrivateUseBuf, text, alloc)
 }
 
-fn normal_lang_tag(text: &str, alloc: Global) -> Result<Seen, AllocError> {
+fn normal_lang_tag(text: &str, alloc: Global) -> Result<String, AllocError> {
     seen!(NormalLangTag, NormalLangTagBuf, text, alloc)
 }
 
-fn lang_tag(text: &str, alloc: Global) -> Result<Seen, AllocError> {
+fn lang_tag(text: &str, alloc: Global) -> Result<String, AllocError> {
     seen!(LangTag, LangTagBuf, text, alloc)
 }
 
-fn range(text: &str, alloc: Global) -> Result<Seen, AllocError> {
+fn range(text: &str, alloc: Global) -> Result<String, AllocError> {
     seen!(LanguageRange, LanguageRangeBuf, text, alloc)
 }
 
@@ -95,9 +95,10 @@ const TYPES: [&str; 15] = [
     "LangTag",
 ];
 
-/// What a type answers of a text; none if there is no such type.
-fn see(alloc: Global, name: &str, text: &str) -> Option<Result<Seen, AllocError>> {
-    Some(match name {
+/// Whether a type accepts a text, lent and owned, or the message of its refusal; or how it shows it, where that is not as it
+/// should be.
+pub(crate) fn new(alloc: Global, name: &str, text: &str) -> Result<String, AllocError> {
+    match name {
         "PrimaryLanguage" => primary_language(text, alloc),
         "ExtendedLangTag" => extended_subtag(text, alloc),
         "LanguageExtension" => language_extension(text, alloc),
@@ -114,18 +115,8 @@ fn see(alloc: Global, name: &str, text: &str) -> Option<Result<Seen, AllocError>
         "NormalLangTag" => normal_lang_tag(text, alloc),
         "LangTag" => lang_tag(text, alloc),
         "LanguageRange" => range(text, alloc),
-        _ => return None,
-    })
-}
-
-/// Whether a type accepts a text, lent and owned, or the message of its refusal.
-pub(crate) fn new(alloc: Global, name: &str, text: &str) -> Result<String, AllocError> {
-    if name == "Singleton" {
-        return singleton(alloc, text);
-    }
-    match see(alloc, name, text) {
-        Some(seen) => seen?.told(alloc, text),
-        None => String::from_str(alloc, "not a type"),
+        "Singleton" => singleton(alloc, text),
+        _ => String::from_str(alloc, "not a type"),
     }
 }
 
@@ -133,17 +124,11 @@ pub(crate) fn new(alloc: Global, name: &str, text: &str) -> Result<String, Alloc
 pub(crate) fn types(alloc: Global, text: &str) -> Result<String, AllocError> {
     let mut out = String::new(alloc);
     for name in TYPES {
-        let Some(seen) = see(alloc, name, text) else {
-            return Ok(out);
-        };
-        let seen = seen?;
-        let is_accepted = seen.is_accepted();
-        let told = seen.told(alloc, text)?;
-        if is_accepted != (told.as_str() == "accepted") {
-            return Ok(told);
-        }
-        if is_accepted {
+        let told = new(alloc, name, text)?;
+        if told.as_str() == "accepted" {
             put_word(&mut out, Some(name))?;
+        } else if !told.as_str().starts_with("invalid ") {
+            return Ok(told);
         }
     }
     if GrandfatheredLangTag::new(text.as_bytes()).is_ok() {
@@ -160,24 +145,25 @@ pub(crate) fn fronts(alloc: Global, name: &str, text: &str) -> Result<String, Al
     let mut accepted: u32 = 0;
     for len in 0..=text.len() {
         let front = text.get(..len).unwrap_or("");
-        let Some(seen) = see(alloc, name, front) else {
-            return String::from_str(alloc, "not a type");
-        };
-        let told = seen?.told(alloc, front)?;
+        let told = new(alloc, name, front)?;
         accepted = accepted.saturating_add(u32::from(told.as_str() == "accepted"));
     }
     format!(in alloc; "{accepted}")
 }
 
-/// The name of a grandfathered tag, its registered spelling, and the language of a regular one; or the message of a refusal.
+/// The name of a grandfathered tag, its registered spelling, which is shown in one piece and which a tag has too, and the
+/// language of a regular one; or the message of a refusal.
 pub(crate) fn spelling(alloc: Global, text: &str) -> Result<String, AllocError> {
     let tag = match GrandfatheredLangTag::try_from(text.as_bytes()) {
         Ok(tag) => tag,
         Err(refusal) if refusal.0 == text.as_bytes() => return format!(in alloc; "{refusal}"),
         Err(_) => return String::from_str(alloc, "another text"),
     };
-    let mut out = format!(in alloc; "{tag:?}")?;
-    put_word(&mut out, Some(tag.as_str()))?;
+    let is_found = matches!(LangTag::new(text), Ok(it) if it.as_grandfathered() == Some(tag));
+    if !is_found || pieces_of(&tag) != 1 {
+        return String::from_str(alloc, "another answer of a tag");
+    }
+    let mut out = format!(in alloc; "{tag:?} {tag}")?;
     match tag.language() {
         Some(language) => put_word(&mut out, Some(language.as_str()))?,
         None => put_word(&mut out, None)?,

@@ -1,8 +1,9 @@
 //! Walks, also from both ends.
-use crate::texts::put_word;
+use crate::texts::{put_braces, put_word};
 use langtag::{
-    Extension, ExtensionIter, Extensions, ExtensionsIter, LanguageExtension, LanguageExtensionIter,
-    PrivateUse, PrivateUseIter, Subtags, Variants, VariantsIter,
+    Extension, ExtensionIter, Extensions, ExtensionsIter, LangTag, LanguageExtension,
+    LanguageExtensionIter, NormalLangTag, PrivateUse, PrivateUseIter, Subtags, Variants,
+    VariantsIter,
 };
 use std::alloc::{AllocError, Global};
 
@@ -21,7 +22,7 @@ macro_rules! walked {
                     continue;
                 }
                 _ => {
-                    put_word(&mut out, Some(format!(in $alloc; "{walk:?}")?.as_str()))?;
+                    put_braces(&mut out, format!(in $alloc; "{walk:?}")?.as_str())?;
                     continue;
                 }
             };
@@ -79,6 +80,14 @@ pub(crate) fn walk(
 ) -> Result<String, AllocError> {
     let walked = match list {
         "Subtags" => Some(subtags(Subtags::new(text), alloc, pattern)),
+        "LangTag" => match LangTag::new(text) {
+            Ok(tag) => Some(subtags(tag.subtags(), alloc, pattern)),
+            Err(_) => None,
+        },
+        "NormalLangTag" => match NormalLangTag::new(text) {
+            Ok(tag) => Some(subtags(tag.subtags(), alloc, pattern)),
+            Err(_) => None,
+        },
         "Variants" => match Variants::new(text) {
             Ok(list) => Some(variants(list.iter(), alloc, pattern)),
             Err(_) => None,

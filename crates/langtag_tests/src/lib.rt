@@ -1,5 +1,5 @@
-//! Tests of langtag, by its public names alone: what no contract says, and the definitions held against tags of RFC 5646 and
-//! of the Rust crate's own tests. Tests of the crates below it are in `langtag_part_tests`.
+//! Tests of langtag, by its public names alone: what no contract says, and no row of `langtag_rows`. Tests of the crates below it
+//! are in `langtag_part_tests`.
 #![tactic(auto)]
 
 #[cfg(test)]

@@ -37,12 +37,3 @@ fn tag<'a>(rt: &impl Abort, text: &'a str) -> LangTag<'a> {
 fn owned_tag(rt: &impl Abort, alloc: Global, text: &str) -> Result<LangTagBuf, AllocError> {
     tag(rt, text).try_to_owned(alloc)
 }
-
-/// A tag of private use of `len` bytes, three or more.
-fn private_text(alloc: Global, len: usize) -> Result<String, AllocError> {
-    let start = if len % 2 == 1 { "x" } else { "x-aa" };
-    let mut text = String::from_str(alloc, start)?;
-    let rest = "-a".repeat(alloc, len.saturating_sub(start.len()) / 2)?;
-    text.push_str(rest.as_str())?;
-    Ok(text)
-}

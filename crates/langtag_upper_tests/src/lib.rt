@@ -1,11 +1,9 @@
-//! Tests of what stands on langtag, by public names alone: ranges and headers (`langtag_match`), the registry
-//! (`langtag_registry`) and the examples (`langtag_examples`). What no contract says, and no row of `langtag_rows`.
+//! Tests of what stands on langtag, by public names alone: the registry (`langtag_registry`) and the examples
+//! (`langtag_examples`). What no contract says, and no row of `langtag_rows`.
 #![tactic(auto)]
 
 #[cfg(test)]
 mod examples;
-#[cfg(test)]
-mod matching;
 #[cfg(test)]
 mod registry;
 #[cfg(test)]

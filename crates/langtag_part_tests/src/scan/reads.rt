@@ -1,66 +1,9 @@
-//! What the recognisers answer, after how many bytes, and where the parts of normal tags stand.
-use crate::scan::answer::{case_swapped, of_bytes, of_normal, of_text};
+//! What the recognisers answer over sources that were read before or compute their bytes, and how the ends are shown.
 use crate::scan::source::PrivateSubtags;
-use langtag_scan::{ByteSource, Ends, Metered, recognise, recognise_normal};
-use langtag_test_support::rows::{self, Row};
-use langtag_test_support::{Answer, assert_same, assert_that, with_memory};
+use langtag_scan::{ByteSource, Ends, Found, Metered, recognise, recognise_normal};
+use langtag_test_support::{assert_same, assert_that, with_memory};
 use std::alloc::{AllocError, Global};
 use std::process::Abort;
-
-fn are_decided(rt: &impl Abort, rows: &[Row]) {
-    for row in rows {
-        let text = row.text;
-        assert_same!(rt; of_text(rt, text), (row.answer, row.reads), text);
-        assert_same!(rt; of_normal(rt, text), row.answer.if_normal(), text);
-        assert!(rt; text.len() <= 160);
-        let swapped = of_bytes(rt, &case_swapped(text)[..text.len()]);
-        assert_same!(rt; swapped, (row.answer, row.reads), text);
-    }
-}
-
-#[test]
-fn texts_are_decided_by_so_many_bytes(rt: HostRuntime) {
-    for rows in rows::all() {
-        are_decided(&rt, rows);
-    }
-}
-
-/// The text of a part that ends here, the part before ending at `before`; where they are the same it is empty, and "past the
-/// end" where there is no such text.
-fn part(text: &str, before: usize, end: usize) -> &str {
-    if before < end {
-        text.get(before + 1..end).unwrap_or("past the end")
-    } else {
-        ""
-    }
-}
-
-/// The parts that stand between the ends.
-fn parts_between(text: &'static str, ends: Ends) -> [&'static str; 6] {
-    [
-        text.get(..ends.language).unwrap_or("past the end"),
-        part(text, ends.language, ends.script),
-        part(text, ends.script, ends.region),
-        part(text, ends.region, ends.variants),
-        part(text, ends.variants, ends.extensions),
-        part(text, ends.extensions, ends.whole),
-    ]
-}
-
-fn have_parts_between_the_ends(rt: &impl Abort, rows: &[Row]) {
-    for row in rows {
-        if let Answer::Normal(ends) = row.answer {
-            assert_that!(rt; parts_between(row.text, ends) == row.parts, row.text);
-        }
-    }
-}
-
-#[test]
-fn parts_stand_between_the_ends(rt: HostRuntime) {
-    for rows in rows::normal_tags() {
-        have_parts_between_the_ends(&rt, rows);
-    }
-}
 
 #[test]
 fn debug_shows_each_end(rt: HostRuntime) {
@@ -129,21 +72,26 @@ fn a_source_that_was_read_before(rt: HostRuntime) {
     }
 }
 
+/// The ends of the parts that a recogniser found in a normal tag.
+fn ends_of(found: Option<Found>) -> Option<Ends> {
+    found?.ends()
+}
+
 #[test]
 fn ten_thousand_private_subtags(rt: HostRuntime) {
-    let want = Answer::Normal(Ends {
+    let want = Ends {
         language: 2,
         script: 2,
         region: 2,
         variants: 2,
         extensions: 2,
         whole: 20_004,
-    });
+    };
     let mut source = PrivateSubtags::new(10_000);
-    assert_same!(rt; Answer::of(recognise(&mut source)), want);
+    assert_same!(rt; ends_of(recognise(&mut source)), Some(want));
     assert_same!(rt; source.reads(), 20_004);
     assert_same!(rt; source.reach(), 20_004);
     let mut source = PrivateSubtags::new(10_000);
-    assert_same!(rt; Answer::of(recognise_normal(&mut source)), want);
+    assert_same!(rt; ends_of(recognise_normal(&mut source)), Some(want));
     assert_that!(rt; source.reads() <= 20_004);
 }

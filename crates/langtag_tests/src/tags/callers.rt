@@ -1,5 +1,5 @@
 //! The types of tags as their callers use them.
-use crate::tags::parts::tag;
+use super::tag;
 use langtag::{
     GrandfatheredLangTag, InvalidGrandfatheredTag, InvalidLangTag, InvalidNormalLangTag, Kind,
     LangTag, LangTagBuf, NormalLangTag, NormalLangTagBuf, Region, TypedLangTag,
@@ -74,7 +74,16 @@ fn refusals_are_handed_on(rt: HostRuntime) {
     assert_that!(rt; region_text("x-FR").is_none());
     let found = registered(b"I-AMI".as_slice()).ok();
     assert_same!(rt; found.expect(&rt, "refused").as_str().len(), 5);
-    assert_that!(rt; registered(b"fr".as_slice()).is_err());
+    let refused = registered(b"\xff".as_slice()).err().expect(&rt, "accepted");
+    assert_same!(rt; refused.0, b"\xff".as_slice());
+    with_memory!(rt, check_refused_bytes(&rt, rt.alloc()));
+}
+
+fn check_refused_bytes(rt: &impl Abort, alloc: Global) -> Result<(), AllocError> {
+    let refused = registered(b"zh".as_slice()).err().expect(rt, "accepted");
+    let shown = format!(in alloc; "{refused:?}")?;
+    assert_same!(rt; shown.as_str(), "InvalidGrandfatheredTag([122, 104])");
+    Ok(())
 }
 
 #[test]

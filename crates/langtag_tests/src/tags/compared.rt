@@ -1,5 +1,5 @@
 //! How tags of every kind and normal ones are shown, kept and compared (RFC 5646 section 2.1.1).
-use crate::tags::parts::tag;
+use super::tag;
 use langtag::{EditError, Kind, ScriptBuf};
 use langtag_test_support::{assert_same, assert_that, with_memory};
 use std::alloc::{AllocError, Global};
@@ -20,18 +20,12 @@ const PAIRS: [(&str, &str, Ordering); 8] = [
 
 #[test]
 fn tags_are_ordered_without_regard_to_case(rt: HostRuntime) {
-    for (text, other, order) in PAIRS {
-        assert_same!(rt; tag(&rt, text).cmp(&tag(&rt, other)), order, text);
-    }
+    with_memory!(rt, check_order(&rt, rt.alloc()));
 }
 
-#[test]
-fn owned_tags_compare_as_lent_ones(rt: HostRuntime) {
-    with_memory!(rt, check_owned_tags(&rt, rt.alloc()));
-}
-
-fn check_owned_tags(rt: &impl Abort, alloc: Global) -> Result<(), AllocError> {
+fn check_order(rt: &impl Abort, alloc: Global) -> Result<(), AllocError> {
     for (text, other, order) in PAIRS {
+        assert_same!(rt; tag(rt, text).cmp(&tag(rt, other)), order, text);
         let owned = tag(rt, text).try_to_owned(alloc)?;
         let other = tag(rt, other).try_to_owned(alloc)?;
         assert_same!(rt; owned.cmp(&other), order, text);

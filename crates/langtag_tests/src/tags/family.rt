@@ -1,6 +1,6 @@
-//! Ways from one tag type to another, and tags of any kind that are edited.
-use crate::tags::parts::{have_same_parts, normal};
-use langtag::{EditError, GRANDFATHERED, Kind, LangTag, LangTagBuf, PrivateUse, PrivateUseBuf};
+//! Ways from one tag type to another.
+use super::normal;
+use langtag::{GRANDFATHERED, Kind, LangTag, LangTagBuf, PrivateUse, PrivateUseBuf};
 use langtag_test_support::{assert_same, assert_that, with_memory};
 use std::alloc::{AllocError, Global};
 use std::process::Abort;
@@ -12,18 +12,6 @@ const NORMAL: [&str; 4] = [
     "art-LOJBAN",
     "en-Latn-GB-boont-r-extended-sequence-x-private",
 ];
-
-/// Asserts that an edit was not refused for the tag's kind.
-pub(super) fn edited(rt: &impl Abort, answer: Result<(), EditError>) -> Result<(), AllocError> {
-    match answer {
-        Ok(()) => Ok(()),
-        Err(EditError::Memory(error)) => Err(error),
-        Err(EditError::NotNormal) => {
-            assert_that!(rt; false, "not normal");
-            Ok(())
-        }
-    }
-}
 
 #[test]
 fn normal_tags_are_tags(rt: HostRuntime) {
@@ -41,7 +29,7 @@ fn is_tag(rt: &impl Abort, alloc: Global, text: &str) -> Result<(), AllocError> 
     let kept = tag.try_to_owned(alloc)?.into_lang_tag();
     assert_same!(rt; kept.as_str(), text);
     let again = kept.into_normal().ok().expect(rt, "handed back");
-    assert_that!(rt; have_same_parts(&again.as_normal_lang_tag(), &tag), text);
+    assert_that!(rt; again.as_normal_lang_tag().ends() == tag.ends(), text);
     assert_same!(rt; LangTagBuf::from(again).as_str(), text);
     Ok(())
 }
@@ -52,10 +40,13 @@ fn tags_of_other_kinds_are_tags(rt: HostRuntime) {
     let tag = LangTag::from(part);
     assert_same!(rt; tag.as_str(), "X-fr-CH");
     assert_same!(rt; tag.kind(), Kind::PrivateUse);
+    assert_that!(rt; tag.as_private_use() == Some(part));
+    assert_that!(rt; tag.private_use().is_none() && tag.language().is_none());
     for grandfathered in GRANDFATHERED {
         let tag = grandfathered.as_lang_tag();
         assert_same!(rt; tag.as_str(), grandfathered.as_str());
         assert_that!(rt; tag.is_grandfathered());
+        assert_same!(rt; tag.as_grandfathered(), Some(grandfathered));
     }
     with_memory!(rt, check_an_owned_private_use_part(&rt, rt.alloc()));
 }
