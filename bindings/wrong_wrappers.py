@@ -198,8 +198,7 @@ FAULTS = {
         Fault(SQL, "(int)span->len, SQLITE_TRANSIENT", "(int)(span->len < 255 ? span->len : 255), SQLITE_TRANSIENT"),
         Fault(SQL, "form, form_len, sqlite3_free", "form, form_len < 512 ? form_len : 512, sqlite3_free"),
         Fault(SQL, "form, form_len, sqlite3_free", "form, form_len, SQLITE_TRANSIENT", "test_memory"),
-        Fault(SQL, "    langtag_canonical(tag, len, form, form_len);\n",
-              "    langtag_canonical(tag, len, form, form_len);\n    langtag_recommend(form, form_len);\n"),
+        Fault(SQL, "    write(tag, len, form, form_len);\n", "    write(tag, len, form, form_len);\n    langtag_recommend(form, form_len);\n"),
         Fault(SQL, "kind != LANGTAG_NONE && span->len > 0", "kind != LANGTAG_NONE"),
         Fault(SQL, "kind != LANGTAG_NONE && span->len > 0", "kind == LANGTAG_NORMAL && span->len > 0"),
         Fault(SQL, "answer == LANGTAG_VALID)", "answer != LANGTAG_VALIDITY_NONE)"),
@@ -213,7 +212,7 @@ FAULTS = {
 }
 
 # How the tests of a language are built and run, in a copy of bindings/.
-ASKED = "$ROWS/table.txt 300 $ROWS/texts.txt 800 $ROWS/negotiation.txt 85 $ROWS/edits.txt 70"
+ASKED = '$(make -s -C c ROWS="$ROWS" asked)'
 RUSTC = "rustc --edition 2021 -A warnings --cfg 'feature=\"alloc\"' -L native=$LIBRARIES"
 BUILD = {
     "C": "cc -w -std=c11 -Iinclude c/test/*.c examples/accept_language.c $LIBRARIES/liblangtag_verified.a -o test",
