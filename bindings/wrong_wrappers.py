@@ -212,7 +212,7 @@ FAULTS = {
 }
 
 # How the tests of a language are built and run, in a copy of bindings/.
-ASKED = "$(make -s -C c ROWS=$ROWS --eval 'asked: ; @echo $(ASKED)' asked)"  # as `make check` asks
+ASKED = '$(make -s -C c ROWS="$ROWS" asked)'
 RUSTC = "rustc --edition 2021 -A warnings --cfg 'feature=\"alloc\"' -L native=$LIBRARIES"
 BUILD = {
     "C": "cc -w -std=c11 -Iinclude c/test/*.c examples/accept_language.c $LIBRARIES/liblangtag_verified.a -o test",
