@@ -18,7 +18,7 @@
  *   4. What one argument lets a call write (an out struct, `rest`, a buffer, the bytes of langtag_fold and
  *      langtag_recommend), no other argument of the call leads to. Where two texts are only read, they may be the same,
  *      or share bytes.
- *   5. The processor has SSE4.2 (x86-64-v2), and calls follow the System V convention. 2 KiB of the stack is free for
+ *   5. The processor has SSE4.2 (x86-64-v2), and calls follow the System V convention. 4 KiB of the stack is free for
  *      each call, and 96 KiB for langtag_repeats.
  *
  * Offsets and lengths are numbers of bytes, offsets from the start of the text. Case is that of ASCII letters alone.

@@ -46,7 +46,7 @@
 //!
 //! What a program has to see to, since neither the compiler nor the crate does: it runs on an x86-64 processor with SSE4.2
 //! (x86-64-v2), and a thread that calls [`LangTag::repeated_variant`] or [`LangTag::repeated_singleton`] has 96 KiB of free
-//! stack, and 2 KiB for all else.
+//! stack, and 4 KiB for all else.
 #![no_std]
 // The page speaks of owned forms, which are not there without that feature.
 #![cfg_attr(not(feature = "alloc"), allow(rustdoc::broken_intra_doc_links))]
