@@ -87,6 +87,9 @@ FUNCTION(chosen, result = langtag_bench_chosen(text, len, "en,de", 5, &refused) 
 FUNCTION(maps, result = langtag_bench_maps(text, len, &refused))
 FUNCTION(canonical, result = langtag_bench_canonical(text, len, into, sizeof into, &refused))
 FUNCTION(extlang_form, result = langtag_bench_extlang_form(text, len, into, sizeof into, &refused))
+FUNCTION(maximized, result = langtag_bench_maximized(text, len, into, sizeof into, &refused))
+FUNCTION(minimized, result = langtag_bench_minimized(text, len, into, sizeof into, &refused))
+FUNCTION(from_posix, result = langtag_bench_from_posix(text, len, into, sizeof into, &refused))
 FUNCTION(write_canonical, result = langtag_bench_write_canonical(text, len, into, sizeof into))
 FUNCTION(is_canonical, result = langtag_bench_is_canonical(text, len))
 FUNCTION(is_valid, result = langtag_bench_is_valid(text, len))
@@ -133,6 +136,9 @@ static const struct function functions[] = {
     ENTRY(maps),
     ENTRY(canonical),
     ENTRY(extlang_form),
+    ENTRY(maximized),
+    ENTRY(minimized),
+    ENTRY(from_posix),
     ENTRY(write_canonical),
     ENTRY(is_canonical),
     ENTRY(is_valid),

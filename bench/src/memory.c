@@ -56,6 +56,9 @@ NUMBER(recommended, langtag_bench_recommended(text, len, into, sizeof into, refu
 NUMBER(displayed, langtag_bench_displayed(text, len, into, sizeof into, refused))
 NUMBER(canonical, langtag_bench_canonical(text, len, into, sizeof into, refused))
 NUMBER(extlang_form, langtag_bench_extlang_form(text, len, into, sizeof into, refused))
+NUMBER(maximized, langtag_bench_maximized(text, len, into, sizeof into, refused))
+NUMBER(minimized, langtag_bench_minimized(text, len, into, sizeof into, refused))
+NUMBER(from_posix, langtag_bench_from_posix(text, len, into, sizeof into, refused))
 NUMBER(lenient, langtag_bench_lenient(text, len, refused))
 NUMBER(chosen, langtag_bench_chosen("fr, de;q=0.5", 12, text, len, refused))
 NUMBER(maps, langtag_bench_maps(text, len, refused))
@@ -79,6 +82,9 @@ static const struct row rows[] = {
     {"displayed", displayed, NULL, LONG, NULL, MANY},
     {"canonical", canonical, NULL, "iw-BU", NULL, 1},
     {"extlang_form", extlang_form, NULL, "hak-CN", NULL, MANY},
+    {"maximized", maximized, NULL, "zh-TW-x-a", NULL, 1},
+    {"minimized", minimized, NULL, "zh-Hant-TW-x-a", NULL, 1},
+    {"from_posix", from_posix, NULL, "sr_RS.UTF-8@latin", NULL, 1},
     {"lenient", lenient, NULL, "de_CH, fr;q=0.5, *;q=0.1", NULL, MANY},
     {"chosen", chosen, NULL, "en,fr-FR,it,es,de-CH,de", NULL, MANY},
     {"maps", maps, NULL, "en,fr-FR,it,es,de-CH,de", NULL, MANY},

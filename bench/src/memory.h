@@ -17,3 +17,6 @@ size_t langtag_bench_recommended(const char *bytes, size_t len, char *into, size
 size_t langtag_bench_displayed(const char *bytes, size_t len, char *into, size_t into_len, size_t *refused);
 size_t langtag_bench_canonical(const char *bytes, size_t len, char *into, size_t into_len, size_t *refused);
 size_t langtag_bench_extlang_form(const char *bytes, size_t len, char *into, size_t into_len, size_t *refused);
+size_t langtag_bench_maximized(const char *bytes, size_t len, char *into, size_t into_len, size_t *refused);
+size_t langtag_bench_minimized(const char *bytes, size_t len, char *into, size_t into_len, size_t *refused);
+size_t langtag_bench_from_posix(const char *bytes, size_t len, char *into, size_t into_len, size_t *refused);

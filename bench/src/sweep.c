@@ -145,6 +145,12 @@ static const struct {
     {"extlang_form", langtag_bench_extlang_form, {"hak-x-aa", "-a", ""}, {"zh-hak-x-aa", "-a", ""}},
     {"extlang_form", langtag_bench_extlang_form, {"iw", "-heploc", ""}, {"he", "-alalc97", ""}},
     {"extlang_form", langtag_bench_extlang_form, {"x", "-a", ""}, {"x", "-a", ""}},
+    {"maximized", langtag_bench_maximized, {"de-1996-x-aa", "-a", ""}, {"de-Latn-DE-1996-x-aa", "-a", ""}},
+    {"maximized", langtag_bench_maximized, {"ZH-tw", "-abcde", ""}, {"ZH-Hant-tw", "-abcde", ""}},
+    {"maximized", langtag_bench_maximized, {"x", "-a", ""}, {"x", "-a", ""}},
+    {"minimized", langtag_bench_minimized, {"de-Latn-DE-1996-x-aa", "-a", ""}, {"de-1996-x-aa", "-a", ""}},
+    {"minimized", langtag_bench_minimized, {"ZH-hant-TW", "-abcde", ""}, {"ZH-TW", "-abcde", ""}},
+    {"minimized", langtag_bench_minimized, {"x", "-a", ""}, {"x", "-a", ""}},
     {"recommended", langtag_bench_recommended, {"X", "-A", ""}, {"x", "-a", ""}},
     {"recommended", langtag_bench_recommended, {"X-AA", "-A", ""}, {"x-aa", "-a", ""}},
     {"recommended", langtag_bench_recommended, {"MN-cYRL-mn", "-1ABC", "-X-a"}, {"mn-Cyrl-MN", "-1abc", "-x-a"}},
@@ -216,6 +222,8 @@ static void check_short(size_t len) {
     check("header", len, langtag_bench_header(text, len, &refused));
     check("canonical", len, langtag_bench_canonical(text, len, written, sizeof written, &refused) > 0);
     check("extlang_form", len, langtag_bench_extlang_form(text, len, written, sizeof written, &refused) > 0);
+    check("maximized", len, langtag_bench_maximized(text, len, written, sizeof written, &refused) > 0);
+    check("minimized", len, langtag_bench_minimized(text, len, written, sizeof written, &refused) > 0);
 }
 
 /* A tag in its recommended case, and in small letters. */

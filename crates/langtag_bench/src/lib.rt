@@ -4,6 +4,7 @@
 mod growth;
 mod headers;
 mod lang_tag;
+mod likely;
 mod loops;
 mod maps;
 mod matching;

@@ -1,0 +1,65 @@
+//! Calls of langtag_likely that take memory.
+ghost use Rattle.std.specs.Prelude.{◌≡◌};
+ghost use Rattle.langtag_scan.specs.Tag.{IsTag};
+
+use crate::matching::tag_of;
+use crate::written::{count, write_text};
+use langtag_likely::{PosixError, from_posix, maximized, minimized};
+use std::alloc::Global;
+
+/// Writes the maximal form of a tag into a buffer, where there is room, and returns its length; 0 for another text, and where
+/// memory was refused, which is counted.
+#[unsafe(no_mangle)]
+pub extern "C" fn langtag_bench_maximized(
+    alloc: Global,
+    bytes: &[u8],
+    into: &mut [u8],
+    refused: &mut usize,
+) -> usize
+    ensures { (IsTag bytes.now → ⊥) → result ≡ 0 }
+{
+    let Some(tag) = tag_of(bytes) else {
+        return 0;
+    };
+    match maximized(alloc, tag) {
+        Ok(form) => write_text(form.as_str(), into),
+        Err(_) => count(refused),
+    }
+}
+
+/// Does the same with the minimal form.
+#[unsafe(no_mangle)]
+pub extern "C" fn langtag_bench_minimized(
+    alloc: Global,
+    bytes: &[u8],
+    into: &mut [u8],
+    refused: &mut usize,
+) -> usize
+    ensures { (IsTag bytes.now → ⊥) → result ≡ 0 }
+{
+    let Some(tag) = tag_of(bytes) else {
+        return 0;
+    };
+    match minimized(alloc, tag) {
+        Ok(form) => write_text(form.as_str(), into),
+        Err(_) => count(refused),
+    }
+}
+
+/// Does the same with the tag of a POSIX locale's name.
+#[unsafe(no_mangle)]
+pub extern "C" fn langtag_bench_from_posix(
+    alloc: Global,
+    bytes: &[u8],
+    into: &mut [u8],
+    refused: &mut usize,
+) -> usize {
+    let Ok(name) = str::from_utf8(bytes) else {
+        return 0;
+    };
+    match from_posix(alloc, name) {
+        Ok(tag) => write_text(tag.as_str(), into),
+        Err(PosixError::NoTag(_)) => 0,
+        Err(PosixError::Memory(_)) => count(refused),
+    }
+}
