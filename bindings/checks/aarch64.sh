@@ -46,8 +46,10 @@ aarch64_random() { on_aarch64 "$work/built/test-aarch64" --answer <"$work/calls"
 aarch64_tags() {
     sed 's/.*/validity &\ncanonical &/' "$work/tags" | on_aarch64 "$work/built/test-aarch64" --answer | in_its_words | cmp - "$work/told"
 }
+aarch64_likely() { on_aarch64 "$work/built/test-aarch64" --answer <"$work/asked" | cmp - "$work/told_of_likely"; }
 check "aarch64: answers to random calls as on x86-64, under qemu" aarch64_random
 check "aarch64: validity and canonical form of 50,000 tags as on x86-64, under qemu" aarch64_tags
+check "aarch64: 60,000 rows of likely subtags and choices as on x86-64, under qemu" aarch64_likely
 
 # Symbols of archive and library, and the stack. How the work of a call grows is counted on x86-64 alone.
 aarch64_symbols() {

@@ -53,7 +53,7 @@ check "C: validity and canonical form of 50,000 tags, by a plain reading of the 
 as_the_likely_oracle() {
     local likely=$root/likely
     { "$likely/questions.py" each && "$likely/questions.py" rows 30000 "$FUZZ_SEED"; } >"$work/asked" || return 1
-    "$work/c/test" --answer <"$work/asked" >"$work/told" || return 1
-    "$likely/oracle.py" rows --compare "$work/told" <"$work/asked"
+    "$work/c/test" --answer <"$work/asked" >"$work/told_of_likely" || return 1
+    "$likely/oracle.py" rows --compare "$work/told_of_likely" <"$work/asked"
 }
 check "C: 60,000 rows of likely subtags and choices, by a plain reading of the data" as_the_likely_oracle
