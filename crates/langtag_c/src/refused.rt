@@ -129,7 +129,7 @@ fn first_other(bytes: &[u8], start: usize, end: usize) -> usize
 fn is_alphanumeric(byte: u8) -> bool
     ensures { result ≡ class.is_alphanumeric byte }
 {
-    byte.is_ascii_alphabetic() || byte.is_ascii_digit()
+    byte.is_ascii_alphanumeric()
 }
 
 /// How many of the grandfathered tags are irregular: they come first.
