@@ -6,6 +6,7 @@ pub mod Distance
 pub mod Good
 pub mod Likely
 pub mod LikelySubtags
+pub mod ListTexts
 pub mod Matching
 pub mod MatchingData
 pub mod Maximal
@@ -17,6 +18,5 @@ pub mod Posix
 pub mod Rows
 pub mod Rules
 pub mod Sets
-pub mod TagTexts
 pub mod TextFields
 pub mod Texts

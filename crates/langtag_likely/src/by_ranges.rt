@@ -1,26 +1,35 @@
 //! The choice range by range, which passes over lighter ranges where a heavier one has a tag.
 ghost use Rattle.std.specs.Prelude.{◌≡◌, ◌<◌, None, length, slice_index_or};
-ghost use Rattle.langtag_match.specs.Wanted.{wanted_elements};
 ghost use Rattle.langtag_likely.specs.Best as spec;
-ghost use Rattle.langtag_likely.specs.ByRanges.{first_by_ranges, first_for_range, wish_element};
+ghost use Rattle.langtag_likely.specs.ByRanges.{first_for_range, wish_element};
 
+use crate::by_tags::first_by_tags;
 use crate::candidate::{Candidate, Pass, as_candidate, first_of, is_settled};
+use crate::range_list::RangeList;
 use crate::tag_list::TagList;
 use crate::wish::Wish;
-use langtag_match::wanted_ranges;
 
-/// Returns the first candidate of all where no tag is refused.
-#[tactic(auto, using(crate::proofs::FirstOf::first_of_assoc, crate::proofs::FirstOf::first_of_none, crate::proofs::Chosen::settled_range))]
-pub(crate) fn first_by_ranges<T: TagList>(pass: Pass, header: &[u8], tags: &T) -> Option<Candidate>
-    ensures { result ≡ first_by_ranges pass (wanted_elements header.now) 0 (T.texts tags.now) 0 }
+/// Returns the first candidate of all. A range of the weight 0 may refuse tags, and then each is asked for.
+#[tactic(auto, using(crate::proofs::FirstOf::first_of_assoc, crate::proofs::FirstOf::first_of_none, crate::proofs::Chosen::settled_range, crate::proofs::Chosen::range_by_range))]
+pub(crate) fn first_in<'a, R: RangeList<'a>, T: TagList>(
+    pass: Pass,
+    ranges: R,
+    tags: &T,
+) -> Option<Candidate>
+    ensures { result ≡ spec.first_in pass (R.elements ranges.entry) (T.texts tags.now) 0 }
 {
     let mut first = None;
     let mut place = 0;
-    for wanted in wanted_ranges(header) {
+    let mut left = ranges;
+    while let Some((wanted, rest)) = left.split_first() {
+        if wanted.weight == 0 {
+            return first_by_tags(pass, ranges, tags);
+        }
         if !is_settled(first, wanted, place) {
             first = first_for_range(pass, Wish::new(wanted, place), tags, first);
         }
         place += 1;
+        left = rest;
     }
     first
 }

@@ -2,55 +2,62 @@
 ghost use Rattle.std.specs.Prelude.{◌≡◌, ◌<◌, Some, None, length, slice_index_or};
 ghost use Rattle.std.specs.Option.{option_map};
 ghost use Rattle.langtag.specs.Text.{lang_tag_text};
-ghost use Rattle.langtag_match.specs.Wanted.{wanted_elements};
 ghost use Rattle.langtag_likely.specs.Best as spec;
 
 use crate::candidate::{Candidate, Pass, as_candidate, first_of, is_settled};
+use crate::range_list::RangeList;
 use crate::refused::is_refused;
 use crate::tag_list::TagList;
 use crate::wish::Wish;
 use langtag::LangTag;
-use langtag_match::wanted_ranges;
 
 /// Returns the first candidate of all.
 #[tactic(auto, using(crate::proofs::FirstOf::first_of_assoc, crate::proofs::FirstOf::first_of_none))]
-pub(crate) fn first_by_tags<T: TagList>(pass: Pass, header: &[u8], tags: &T) -> Option<Candidate>
-    ensures { result ≡ spec.first_in pass (wanted_elements header.now) (T.texts tags.now) 0 }
+pub(crate) fn first_by_tags<'a, R: RangeList<'a>, T: TagList>(
+    pass: Pass,
+    ranges: R,
+    tags: &T,
+) -> Option<Candidate>
+    ensures { result ≡ spec.first_in pass (R.elements ranges.entry) (T.texts tags.now) 0 }
 {
     let mut first = None;
     for index in 0..tags.count() {
-        first = first_at(pass, header, tags, index, first);
+        first = first_at(pass, ranges, tags, index, first);
     }
     first
 }
 
 /// Returns the first of what was found and of the candidates of the tag at an index.
 #[tactic(auto, using(crate::proofs::FirstOf::first_of_none, crate::proofs::Chosen::no_tag_for_ranges))]
-fn first_at<T: TagList>(
+fn first_at<'a, R: RangeList<'a>, T: TagList>(
     pass: Pass,
-    header: &[u8],
+    ranges: R,
     tags: &T,
     index: usize,
     found: Option<Candidate>,
 ) -> Option<Candidate>
     requires { index < length (T.texts tags.now) }
-    ensures { result ≡ spec.first_of found (spec.first_for_tag pass (wanted_elements header.now) 0 (spec.unrefused (wanted_elements header.now) (slice_index_or (T.texts tags.now) index None)) index) }
+    ensures { result ≡ spec.first_of found (spec.first_for_tag pass (R.elements ranges.entry) 0 (spec.unrefused (R.elements ranges.entry) (slice_index_or (T.texts tags.now) index None)) index) }
 {
-    match unrefused_at(header, tags, index) {
-        Some(tag) => first_for_tag(pass, header, tag, index, found),
+    match unrefused_at(ranges, tags, index) {
+        Some(tag) => first_for_tag(pass, ranges, tag, index, found),
         None => found,
     }
 }
 
 /// Returns the tag at an index: None where it is refused, too.
-fn unrefused_at<'a, T: TagList>(header: &[u8], tags: &'a T, index: usize) -> Option<LangTag<'a>>
+fn unrefused_at<'a, 't, R: RangeList<'a>, T: TagList>(
+    ranges: R,
+    tags: &'t T,
+    index: usize,
+) -> Option<LangTag<'t>>
     requires { index < length (T.texts tags.now) }
-    ensures { option_map lang_tag_text result ≡ spec.unrefused (wanted_elements header.now) (slice_index_or (T.texts tags.now) index None) }
+    ensures { option_map lang_tag_text result ≡ spec.unrefused (R.elements ranges.entry) (slice_index_or (T.texts tags.now) index None) }
 {
     let Some(tag) = tags.tag_at(index) else {
         return None;
     };
-    if is_refused(header, tag.as_bytes()) {
+    if is_refused(ranges, tag.as_bytes()) {
         return None;
     }
     Some(tag)
@@ -58,23 +65,25 @@ fn unrefused_at<'a, T: TagList>(header: &[u8], tags: &'a T, index: usize) -> Opt
 
 /// Returns the first of what was found and of a tag's candidates.
 #[tactic(auto, using(crate::proofs::FirstOf::first_of_assoc, crate::proofs::FirstOf::first_of_none, crate::proofs::Chosen::settled_tag))]
-fn first_for_tag(
+fn first_for_tag<'a, R: RangeList<'a>>(
     pass: Pass,
-    header: &[u8],
+    ranges: R,
     tag: LangTag<'_>,
     index: usize,
     found: Option<Candidate>,
 ) -> Option<Candidate>
-    ensures { result ≡ spec.first_of found (spec.first_for_tag pass (wanted_elements header.now) 0 (Some (lang_tag_text tag.entry)) index) }
+    ensures { result ≡ spec.first_of found (spec.first_for_tag pass (R.elements ranges.entry) 0 (Some (lang_tag_text tag.entry)) index) }
 {
     let mut first = found;
     let mut place = 0;
-    for wanted in wanted_ranges(header) {
+    let mut left = ranges;
+    while let Some((wanted, rest)) = left.split_first() {
         if !is_settled(first, wanted, place) {
             let next = as_candidate(pass, Wish::new(wanted, place), tag, index);
             first = first_of(first, next);
         }
         place += 1;
+        left = rest;
     }
     first
 }

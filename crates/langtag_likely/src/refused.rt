@@ -1,59 +1,22 @@
 //! Which tags the ranges of weight 0 refuse.
 ghost use Rattle.std.specs.Prelude.{◌≡◌};
-ghost use Rattle.std.specs.List.{list_any};
-ghost use Rattle.langtag_match.specs.Wanted.{wanted_element, wanted_elements};
+ghost use Rattle.langtag_match.specs.Wanted.{wanted_element};
 ghost use Rattle.langtag_likely.specs.Best as spec;
 
+use crate::range_list::RangeList;
 use crate::read_range::{begins, is_star};
-use langtag_match::{WantedRange, wanted_ranges};
-
-/// A header, and whether a range in it has the weight 0. Where none has, no tag is refused.
-#[derive(Clone, Copy)]
-pub(crate) struct Header<'a> {
-    pub(crate) bytes: &'a [u8],
-    has_zero: bool,
-    ghost known: { has_zero ≡ list_any spec.is_zero (wanted_elements bytes.now) },
-}
-
-impl<'a> Header<'a> {
-    /// Reads a header.
-    pub(crate) fn new(bytes: &'a [u8]) -> Header<'a>
-        ensures { result.bytes ≡ bytes.entry }
-    {
-        Header {
-            bytes,
-            has_zero: has_zero(bytes),
-        }
-    }
-
-    /// Returns whether a range has the weight 0.
-    pub(crate) fn may_refuse(self) -> bool
-        ensures { result ≡ list_any spec.is_zero (wanted_elements self.entry.bytes.now) }
-    {
-        self.has_zero
-    }
-}
-
-/// Returns whether a range of a header has the weight 0.
-fn has_zero(header: &[u8]) -> bool
-    ensures { result ≡ list_any spec.is_zero (wanted_elements header.now) }
-{
-    for range in wanted_ranges(header) {
-        if range.weight == 0 {
-            return true;
-        }
-    }
-    false
-}
+use langtag_match::WantedRange;
 
 /// Returns whether the longest range that matches a tag has the weight 0.
 #[tactic(auto, unfolding(crate::specs::Best::is_refused))]
-pub(crate) fn is_refused(header: &[u8], tag: &[u8]) -> bool
-    ensures { result ≡ spec.is_refused (wanted_elements header.now) tag.now }
+pub(crate) fn is_refused<'a, R: RangeList<'a>>(ranges: R, tag: &[u8]) -> bool
+    ensures { result ≡ spec.is_refused (R.elements ranges.entry) tag.now }
 {
     let mut wanted = 0;
     let mut refused = 0;
-    for range in wanted_ranges(header) {
+    let mut left = ranges;
+    while let Some((range, rest)) = left.split_first() {
+        left = rest;
         if !matches(range, tag) {
             continue;
         }

@@ -2,7 +2,7 @@
 ghost use Rattle.std.specs.Prelude.{◌≡◌, ◌<◌, ℕ, List, Option, None, length, slice_index_or};
 ghost use Rattle.std.specs.Option.{option_map};
 ghost use Rattle.langtag.specs.Text.{lang_tag_text};
-ghost use Rattle.langtag_likely.specs.TagTexts.{tag_texts};
+ghost use Rattle.langtag_likely.specs.ListTexts.{tag_texts};
 
 use langtag::LangTag;
 

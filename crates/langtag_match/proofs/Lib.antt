@@ -8,6 +8,7 @@ pub mod Found
 pub mod FoundOnce
 pub mod Offsets
 pub mod Places
+pub mod PlainRanges
 pub mod Prefixes
 pub mod Readings
 pub mod Spaces

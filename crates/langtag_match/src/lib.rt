@@ -42,6 +42,6 @@ pub use fallbacks::Fallbacks;
 pub use filter::{Filtered, filter_basic, filter_extended};
 pub use language_range::{InvalidLanguageRange, LanguageRange, LanguageRangeBuf};
 pub use lookup::look_up;
-pub use wanted::{WantedRange, WantedRanges, wanted_ranges};
+pub use wanted::{WantedRange, WantedRanges, split_wanted, wanted_ranges};
 pub use weight::weight_of;
 pub use weighted_range::WeightedRange;

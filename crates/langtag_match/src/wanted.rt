@@ -49,7 +49,7 @@ impl<'a> Iterator for WantedRanges<'a> {
 
     #[tactic(auto, using(crate::proofs::WantedTexts::nothing_wanted))]
     fn next(&mut self) -> Option<WantedRange<'a>> {
-        let Some((found, rest)) = next_wanted(self.rest) else {
+        let Some((found, rest)) = split_wanted(self.rest) else {
             self.rest = b"";
             return None;
         };
@@ -58,11 +58,13 @@ impl<'a> Iterator for WantedRanges<'a> {
     }
 }
 
-/// Returns the first range of a header, and what stands after its comma.
-#[tactic(auto, using(crate::proofs::WantedTexts::elements_at, crate::proofs::WantedTexts::shorter))]
-fn next_wanted(header: &[u8]) -> Option<(WantedRange<'_>, &[u8])>
-    ensures { spec.wanted_elements header.now
+/// Returns the first range of a header, as [`wanted_ranges`] reads it, and what stands after its comma: `de` and `en` for
+/// `de,en`. None where there is none. Whoever keeps what follows walks over the ranges by a `Copy` value.
+#[tactic(auto, using(crate::proofs::WantedTexts::elements_at, crate::proofs::WantedTexts::shorter, crate::proofs::WantedTexts::few_wanted))]
+pub fn split_wanted(header: &[u8]) -> Option<(WantedRange<'_>, &[u8])>
+    ensures first { spec.wanted_elements header.now
         ≡ option_map_or (λ found. spec.wanted_element found.0 ∷ spec.wanted_elements found.1.now) result [] }
+    ensures few { length (spec.wanted_elements header.now) < 2 ^ 64 }
 {
     let mut left = header;
     while !left.is_empty() {

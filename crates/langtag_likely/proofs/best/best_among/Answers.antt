@@ -1,5 +1,4 @@
 use Rattle.std.proofs.Common.{sym, subst}
-use Rattle.langtag_match.specs.Wanted.{wanted_elements}
 use Rattle.langtag_likely.specs.ChoiceLaws.{AnswersEqual, AnswersLookUp, IgnoresCase, IsIndex}
 use Rattle.langtag_likely.proofs.AlikeChoice.{case_ignored}
 use Rattle.langtag_likely.proofs.ChoiceLaws.{best_index}
@@ -9,24 +8,24 @@ use Rattle.langtag_likely.proofs.best.best_among.Goals as goal
 
 pub returns-clause-listed : goal.returns-clause-listed
 returns-clause-listed g c =
-    let elements = wanted_elements c.args.header.now in
+    let elements = g.R.RangeList.elements c.args.ranges in
     let tags = g.T.TagList.texts c.args.tags.now in
     subst (IsIndex elements tags) (sym c.best.ensures) (best_index elements tags)
 
 pub returns-clause-looked_up : goal.returns-clause-looked_up
 returns-clause-looked_up g c =
-    let elements = wanted_elements c.args.header.now in
+    let elements = g.R.RangeList.elements c.args.ranges in
     let tags = g.T.TagList.texts c.args.tags.now in
     subst (AnswersLookUp elements tags) (sym c.best.ensures) (look_up_answered elements tags)
 
 pub returns-clause-equal : goal.returns-clause-equal
 returns-clause-equal g c =
-    let elements = wanted_elements c.args.header.now in
+    let elements = g.R.RangeList.elements c.args.ranges in
     let tags = g.T.TagList.texts c.args.tags.now in
     subst (AnswersEqual elements tags) (sym c.best.ensures) (equal_answered elements tags)
 
 pub returns-clause-case : goal.returns-clause-case
 returns-clause-case g c =
-    let elements = wanted_elements c.args.header.now in
+    let elements = g.R.RangeList.elements c.args.ranges in
     let tags = g.T.TagList.texts c.args.tags.now in
     subst (IgnoresCase elements tags) (sym c.best.ensures) (case_ignored elements tags)

@@ -1,12 +1,12 @@
-use Rattle.std.proofs.Common.{◌≡◌, max}
-use Rattle.langtag_match.specs.Wanted.{wanted_elements, wanted_left}
+use Rattle.std.proofs.Common.{◌≡◌, length, max}
 use Rattle.langtag_likely.specs.Best.{is_wish, is_zero, longest}
 use Rattle.langtag_likely.proofs.refused.is_refused.Given as goal
 
-abbrev pub invariant-loop-range : goal.invariant-loop-range
-invariant-loop-range l = record {
-  can_next : (goal.iterator-loop-range).can_next l.range-iterator;
-  is_finite : (goal.iterator-loop-range).is_finite l.range-iterator;
-  wishes : max l.wanted (longest is_wish (wanted_left l.range-iterator) l.tag) ≡ longest is_wish (wanted_elements l.header) l.tag;
-  zeros : max l.refused (longest is_zero (wanted_left l.range-iterator) l.tag) ≡ longest is_zero (wanted_elements l.header) l.tag;
+abbrev pub invariant-loop-left : goal.invariant-loop-left
+invariant-loop-left g l = record {
+  wishes : max l.wanted (longest is_wish (g.R.RangeList.elements l.left) l.tag) ≡ longest is_wish (g.R.RangeList.elements l.ranges) l.tag;
+  zeros : max l.refused (longest is_zero (g.R.RangeList.elements l.left) l.tag) ≡ longest is_zero (g.R.RangeList.elements l.ranges) l.tag;
 }
+
+abbrev pub decreases-loop-left : goal.decreases-loop-left
+decreases-loop-left g l = length (g.R.RangeList.elements l.left)
