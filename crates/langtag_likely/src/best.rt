@@ -56,11 +56,11 @@ pub fn best_for_ranges(ranges: &[LanguageRange<'_>], tags: &[LangTag<'_>]) -> Op
 /// Returns the index of the tag that a reader wants, as [`best_for_header`] does, for ranges and among tags that stand
 /// elsewhere than in a header and a slice.
 pub fn best_among<'a, R: RangeList<'a>, T: TagList>(ranges: R, tags: &T) -> Option<usize>
-    ensures chosen { result ≡ spec.best (R.elements ranges.entry) (T.texts tags.now) }
-    ensures listed { laws.IsIndex (R.elements ranges.entry) (T.texts tags.now) result }
-    ensures looked_up { laws.AnswersLookUp (R.elements ranges.entry) (T.texts tags.now) result }
-    ensures equal { laws.AnswersEqual (R.elements ranges.entry) (T.texts tags.now) result }
-    ensures case { laws.IgnoresCase (R.elements ranges.entry) (T.texts tags.now) result }
+    ensures chosen { result ≡ spec.best (R.elements ranges) (T.texts tags.now) }
+    ensures listed { laws.IsIndex (R.elements ranges) (T.texts tags.now) result }
+    ensures looked_up { laws.AnswersLookUp (R.elements ranges) (T.texts tags.now) result }
+    ensures equal { laws.AnswersEqual (R.elements ranges) (T.texts tags.now) result }
+    ensures case { laws.IgnoresCase (R.elements ranges) (T.texts tags.now) result }
 {
     best(ranges, tags)
 }
@@ -68,7 +68,7 @@ pub fn best_among<'a, R: RangeList<'a>, T: TagList>(ranges: R, tags: &T) -> Opti
 /// Returns the index of the tag that is chosen.
 #[tactic(auto, unfolding(crate::specs::Best::best))]
 fn best<'a, R: RangeList<'a>, T: TagList>(ranges: R, tags: &T) -> Option<usize>
-    ensures { result ≡ spec.best (R.elements ranges.entry) (T.texts tags.now) }
+    ensures { result ≡ spec.best (R.elements ranges) (T.texts tags.now) }
 {
     if let Some(first) = first_in(Pass::Near, ranges, tags) {
         return Some(first.index);

@@ -16,7 +16,7 @@ pub(crate) fn first_in<'a, R: RangeList<'a>, T: TagList>(
     ranges: R,
     tags: &T,
 ) -> Option<Candidate>
-    ensures { result ≡ spec.first_in pass (R.elements ranges.entry) (T.texts tags.now) 0 }
+    ensures { result ≡ spec.first_in pass (R.elements ranges) (T.texts tags.now) 0 }
 {
     let mut first = None;
     let mut place = 0;

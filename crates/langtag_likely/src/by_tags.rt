@@ -18,7 +18,7 @@ pub(crate) fn first_by_tags<'a, R: RangeList<'a>, T: TagList>(
     ranges: R,
     tags: &T,
 ) -> Option<Candidate>
-    ensures { result ≡ spec.first_in pass (R.elements ranges.entry) (T.texts tags.now) 0 }
+    ensures { result ≡ spec.first_in pass (R.elements ranges) (T.texts tags.now) 0 }
 {
     let mut first = None;
     for index in 0..tags.count() {
@@ -37,7 +37,7 @@ fn first_at<'a, R: RangeList<'a>, T: TagList>(
     found: Option<Candidate>,
 ) -> Option<Candidate>
     requires { index < length (T.texts tags.now) }
-    ensures { result ≡ spec.first_of found (spec.first_for_tag pass (R.elements ranges.entry) 0 (spec.unrefused (R.elements ranges.entry) (slice_index_or (T.texts tags.now) index None)) index) }
+    ensures { result ≡ spec.first_of found (spec.first_for_tag pass (R.elements ranges) 0 (spec.unrefused (R.elements ranges) (slice_index_or (T.texts tags.now) index None)) index) }
 {
     match unrefused_at(ranges, tags, index) {
         Some(tag) => first_for_tag(pass, ranges, tag, index, found),
@@ -52,7 +52,7 @@ fn unrefused_at<'a, 't, R: RangeList<'a>, T: TagList>(
     index: usize,
 ) -> Option<LangTag<'t>>
     requires { index < length (T.texts tags.now) }
-    ensures { option_map lang_tag_text result ≡ spec.unrefused (R.elements ranges.entry) (slice_index_or (T.texts tags.now) index None) }
+    ensures { option_map lang_tag_text result ≡ spec.unrefused (R.elements ranges) (slice_index_or (T.texts tags.now) index None) }
 {
     let Some(tag) = tags.tag_at(index) else {
         return None;
@@ -72,7 +72,7 @@ fn first_for_tag<'a, R: RangeList<'a>>(
     index: usize,
     found: Option<Candidate>,
 ) -> Option<Candidate>
-    ensures { result ≡ spec.first_of found (spec.first_for_tag pass (R.elements ranges.entry) 0 (Some (lang_tag_text tag.entry)) index) }
+    ensures { result ≡ spec.first_of found (spec.first_for_tag pass (R.elements ranges) 0 (Some (lang_tag_text tag.entry)) index) }
 {
     let mut first = found;
     let mut place = 0;

@@ -14,8 +14,8 @@ pub trait RangeList<'a>: Copy {
 
     /// Returns the first range and those that follow it, None where there is none left.
     fn split_first(self) -> Option<(WantedRange<'a>, Self)>
-        ensures first { elements self.entry ≡ option_map_or (λ found. wanted_element found.0 ∷ elements found.1) result [] }
-        ensures few { length (elements self.entry) < 2 ^ 64 };
+        ensures first { elements self ≡ option_map_or (λ found. wanted_element found.0 ∷ elements found.1) result [] }
+        ensures few { length (elements self) < 2 ^ 64 };
 }
 
 /// The ranges of an Accept-Language header, which is read as `langtag_match::wanted_ranges` reads it.

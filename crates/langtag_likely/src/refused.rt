@@ -10,7 +10,7 @@ use langtag_match::WantedRange;
 /// Returns whether the longest range that matches a tag has the weight 0.
 #[tactic(auto, unfolding(crate::specs::Best::is_refused))]
 pub(crate) fn is_refused<'a, R: RangeList<'a>>(ranges: R, tag: &[u8]) -> bool
-    ensures { result ≡ spec.is_refused (R.elements ranges.entry) tag.now }
+    ensures { result ≡ spec.is_refused (R.elements ranges) tag.now }
 {
     let mut wanted = 0;
     let mut refused = 0;

@@ -2,11 +2,11 @@ use Rattle.std.proofs.Common.{◌≡◌, length, max}
 use Rattle.langtag_likely.specs.Best.{is_wish, is_zero, longest}
 use Rattle.langtag_likely.proofs.refused.is_refused.Given as goal
 
-abbrev pub invariant-loop-left : goal.invariant-loop-left
-invariant-loop-left g l = record {
-  wishes : max l.wanted (longest is_wish (g.R.RangeList.elements l.left) l.tag) ≡ longest is_wish (g.R.RangeList.elements l.ranges) l.tag;
-  zeros : max l.refused (longest is_zero (g.R.RangeList.elements l.left) l.tag) ≡ longest is_zero (g.R.RangeList.elements l.ranges) l.tag;
+abbrev pub invariant-loop-range : goal.invariant-loop-range
+invariant-loop-range g l = record {
+  wishes : max l.wanted (longest is_wish (g.R.RangeList.elements l.left) l.tag) ≡ longest is_wish (g.R.RangeList.elements l.fn.ranges) l.tag;
+  zeros : max l.refused (longest is_zero (g.R.RangeList.elements l.left) l.tag) ≡ longest is_zero (g.R.RangeList.elements l.fn.ranges) l.tag;
 }
 
-abbrev pub decreases-loop-left : goal.decreases-loop-left
-decreases-loop-left g l = length (g.R.RangeList.elements l.left)
+abbrev pub decreases-loop-range : goal.decreases-loop-range
+decreases-loop-range g l = length (g.R.RangeList.elements l.left)
