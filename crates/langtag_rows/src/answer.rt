@@ -1,6 +1,6 @@
 //! The answer to a call.
 use crate::case::recommended;
-use crate::choice::best;
+use crate::choice::{best, best_accepted, best_ranges};
 use crate::edits::edit;
 use crate::likely::{direction, distance_of, maximal_form, minimal_form};
 use crate::matching::{elements, fallbacks, filter, header, ranges};
@@ -39,6 +39,8 @@ pub(crate) fn answer(
         "edit" => edit(alloc, first, second, third),
         "header" => header(alloc, first, second),
         "best" => best(alloc, first, second),
+        "best-accepted" => best_accepted(alloc, first, second),
+        "best-ranges" => best_ranges(alloc, first, second),
         "ranges" => ranges(alloc, first, second),
         "elements" => elements(alloc, first),
         "fallbacks" => fallbacks(alloc, first),

@@ -19,7 +19,7 @@ pub(crate) fn tags_of(alloc: Global, text: &str) -> Result<Vec<LangTag<'_>>, All
 }
 
 /// The ranges of the words of a text.
-fn ranges_of(alloc: Global, text: &str) -> Result<Vec<LanguageRange<'_>>, AllocError> {
+pub(crate) fn ranges_of(alloc: Global, text: &str) -> Result<Vec<LanguageRange<'_>>, AllocError> {
     let mut ranges = Vec::new(alloc);
     for word in text.split_whitespace() {
         if let Ok(range) = LanguageRange::new(word) {

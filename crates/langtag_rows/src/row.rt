@@ -49,7 +49,15 @@ fn cut<'a>(text: &'a str, separator: &str) -> (&'a str, &'a str) {
 fn argument_count(call: &str) -> usize {
     match call {
         "filter" | "walk" => 3,
-        "best" | "header" | "ranges" | "new" | "fronts" | "extension" | "distance" => 2,
+        "best"
+        | "best-accepted"
+        | "best-ranges"
+        | "header"
+        | "ranges"
+        | "new"
+        | "fronts"
+        | "extension"
+        | "distance" => 2,
         "scan"
         | "types"
         | "class"
