@@ -6,6 +6,7 @@ pub mod Distance
 pub mod Good
 pub mod Likely
 pub mod LikelySubtags
+pub mod Lone
 pub mod Matching
 pub mod MatchingData
 pub mod Maximal
