@@ -71,7 +71,7 @@ fn first_for_tag(
     let mut place = 0;
     for wanted in wanted_ranges(header) {
         if !is_settled(first, wanted, place) {
-            let next = as_candidate(pass, Wish::new(wanted, place), tag.as_bytes(), index);
+            let next = as_candidate(pass, &Wish::new(wanted, place), tag.as_bytes(), index);
             first = first_of(first, next);
         }
         place += 1;

@@ -20,8 +20,8 @@ pub(crate) enum Pass {
 
 impl Pass {
     /// Returns the distance of a tag where it may serve a range.
-    fn distance(self, wish: Wish<'_>, tag: &[u8]) -> Option<u32>
-        ensures { result ≡ spec.distance_in self (hyphened wish.entry.range.now) tag.now }
+    fn distance(self, wish: &Wish<'_>, tag: &[u8]) -> Option<u32>
+        ensures { result ≡ spec.distance_in self (hyphened wish.now.range.now) tag.now }
     {
         match self {
             Pass::Near => nearer_than(16, wish, tag),
@@ -89,11 +89,11 @@ fn lack(weight: u32) -> u32
 #[tactic(auto, unfolding(crate::specs::Best::as_candidate))]
 pub(crate) fn as_candidate(
     pass: Pass,
-    wish: Wish<'_>,
+    wish: &Wish<'_>,
     text: &[u8],
     index: usize,
 ) -> Option<Candidate>
-    ensures { result ≡ spec.as_candidate pass (wish_element wish.entry) wish.entry.place (Some text.now) index }
+    ensures { result ≡ spec.as_candidate pass (wish_element wish.now) wish.now.place (Some text.now) index }
 {
     if wish.weight == 0 || is_star(wish.range) {
         return None;

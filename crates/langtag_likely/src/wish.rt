@@ -44,8 +44,8 @@ impl<'a> Wish<'a> {
     /// Returns whether a tag is farther than any pass allows, where its first letters show it: the range has a language that no other
     /// is near, and the tag begins with other letters, which are not those of `und`.
     #[tactic(auto, using(crate::proofs::LoneLanguages::far_from_lone))]
-    pub(crate) fn is_far_from(self, tag: &[u8]) -> bool
-        ensures { IsTrue result → 50 ≤ far (hyphened self.entry.range.now) tag.now }
+    pub(crate) fn is_far_from(&self, tag: &[u8]) -> bool
+        ensures { IsTrue result → 50 ≤ far (hyphened self.now.range.now) tag.now }
     {
         let Some(letters) = self.lone else {
             return false;
