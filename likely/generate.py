@@ -143,6 +143,8 @@ def matching_tables(matching):
         names("REGION_ALIAS_NAMES", "What each of them becomes.", [row[1] for row in matching.region_aliases]),
         numbers("LANGUAGE_RULE_KEYS", "A desired and a supported language as one number, in rising order.", 32, map(matching.language_key, matching.languages)),
         numbers("LANGUAGE_RULE_DISTANCES", "The distance of each such pair.", 8, [row[2] for row in matching.languages]),
+        numbers("RELATED_KEYS", "The languages of two letters that a rule desires, or that replace another: their letters as the digits of a number, in rising order.", 16,
+                sorted(letter_number(text) for text in matching.related)),
         numbers("SCRIPT_RULE_KEYS", "A desired and a supported language, each with its script, as one number, in rising order.", 64, map(matching.script_key, matching.scripts)),
         numbers("SCRIPT_RULE_DISTANCES", "The distance of each such pair.", 8, [row[2] for row in matching.scripts]),
     ] + [

@@ -1,5 +1,6 @@
 -- What spans of a text are: tags, where the test says so.
 use Rattle.std.proofs.Common.{◌≡◌, ℕ, ◌+◌, ◌<◌, Bool, true, false, ltb, ◌&&◌, ◌||◌, List, length, get_or, Option, None, Some, inl, inr, refl, sym, ap, subst, ◌∙◌, arith}
+use Rattle.std.specs.Option.{ForSome}
 use Rattle.std.proofs.lemmas.Bool.{both_ways, and_parts, and_from, or_cases, ltb-true}
 use Rattle.std.proofs.lemmas.Bool.Decides.{nat_tests}
 use Rattle.std.proofs.lemmas.List.{length-map, get_or-map}
@@ -87,6 +88,14 @@ one_tag_at text span tag is = one tag (tag_at text span) is (is_tag_at text span
 pub tags_at_index :
     (text : List ℕ) (spans : List Span) (index : ℕ) → index < length spans → get_or (tags_at text spans) index None ≡ tag_at text (get_or spans index (empty_at 0))
 tags_at_index text spans index within = get_or-map (tag_at text) spans index (empty_at 0) None within
+
+-- the bytes of a span that is a tag are the tag
+pub tag_bytes :
+    (text : List ℕ) (spans : List Span) (index : ℕ) (bytes : List ℕ) → index < length spans →
+    (HasBytes text (get_or spans index (empty_at 0)) → bytes ≡ span_text text (get_or spans index (empty_at 0))) → ForSome (get_or (tags_at text spans) index None) (λ tag. bytes ≡ tag)
+tag_bytes text spans index bytes within same tag is =
+    let at = subst (IsTagAt text (get_or spans index (empty_at 0))) (sym (tags_at_index text spans index within) ∙ is) (is_tag_at text (get_or spans index (empty_at 0))) in
+    same at.0.0 ∙ sym at.1
 
 pub are_tags_at : (text : List ℕ) (spans : List Span) → AreTagsAt text spans (tags_at text spans)
 are_tags_at text spans = record {

@@ -1,7 +1,9 @@
 //! The tags that spans of a text are.
+ghost use Rattle.std.specs.Prelude.{◌≡◌};
 ghost use Rattle.std.specs.Option.{option_map};
 ghost use Rattle.langtag.specs.Text.{lang_tag_text};
 ghost use Rattle.langtag_c.specs.Choice.{IsTagAt};
+ghost use Rattle.langtag_c.specs.Spans.{HasBytes, span_text};
 ghost use Rattle.langtag_c.specs.TagsAt.{tags_at};
 
 use crate::span::Span;
@@ -27,6 +29,10 @@ impl TagList for SpannedTags<'_> {
     fn tag_at(&self, index: usize) -> Option<LangTag<'_>> {
         tag_in(self.text, self.spans[index])
     }
+
+    fn bytes_at(&self, index: usize) -> &[u8] {
+        bytes_in(self.text, self.spans[index])
+    }
 }
 
 /// Returns the tag that a span of a text is.
@@ -34,4 +40,11 @@ fn tag_in<'a>(text: &'a [u8], span: Span) -> Option<LangTag<'a>>
     ensures { IsTagAt text.now span (option_map lang_tag_text result) }
 {
     tag_of(span.of(text)?)
+}
+
+/// Returns the bytes of a span of a text: none where it has none there.
+fn bytes_in<'a>(text: &'a [u8], span: Span) -> &'a [u8]
+    ensures { HasBytes text.now span → result.now ≡ span_text text.now span }
+{
+    span.of(text).unwrap_or(b"")
 }

@@ -17,6 +17,7 @@ pub mod FormsTwice
 pub mod GoodForms
 pub mod KeyNumbers
 pub mod LeastTwice
+pub mod LoneLanguages
 pub mod LookUpAnswers
 pub mod MatchingLaws
 pub mod MatchingTables
@@ -27,6 +28,7 @@ pub mod PairNumbers
 pub mod PosixLaws
 pub mod PutLaws
 pub mod ReadRanges
+pub mod RelatedLanguages
 pub mod RowLaws
 pub mod RowsFound
 pub mod RulesFound

@@ -12,6 +12,7 @@ use Rattle.langtag_likely.specs.Distance.{maghreb, en_us, americas, cnsar}
 use Rattle.langtag_likely.specs.Good.{is_language_field, is_script_field, is_region_field}
 use Rattle.langtag_likely.specs.MatchingData as list
 use Rattle.langtag_likely.specs.Numbers.{key_number, language_pair, script_pair, name_text}
+use Rattle.langtag_likely.proofs.RelatedLanguages.{is_listed}
 use Rattle.langtag_likely.proofs.RowLaws.{is_language}
 use Rattle.langtag_likely.proofs.RowsFound.{is_short as is_short_row}
 use Rattle.langtag_likely.proofs.RulesFound.{is_short, distance_of}
@@ -46,6 +47,11 @@ aliases_short = refl
 pub alias_count : length list.language_aliases ≡ 9
 unfolding list.language_aliases fold_byte
 alias_count = refl
+
+-- each leads to a language
+pub aliases_lead : list_all (λ row. ltb 0 (length row.to.language)) list.language_aliases ≡ true
+unfolding list.language_aliases fold_byte
+aliases_lead = refl
 
 pub alias_languages_good : list_all (λ name. is_language_field (name_text name)) table.ALIAS_LANGUAGES ≡ true
 unfolding is_primary is_letter
@@ -160,6 +166,22 @@ script_rules_some = refl
 
 pub script_rules_most : list_all (λ n. ltb n 51) table.SCRIPT_RULE_DISTANCES ≡ true
 script_rules_most = refl
+
+-- ---- related languages
+
+pub desired_listed : list_all is_listed (map (λ rule. rule.desired.language) list.language_rules) ≡ true
+unfolding list.language_rules letter_number is_letter fold_byte
+desired_listed = refl
+
+pub replacing_listed : list_all is_listed (map (λ row. row.to.language) list.language_aliases) ≡ true
+unfolding list.language_aliases letter_number is_letter fold_byte
+replacing_listed = refl
+
+pub related_rise : rises_from 0 table.RELATED_KEYS ≡ true
+related_rise = refl
+
+pub related_climb : climbs_from 0 table.RELATED_KEYS ≡ true
+related_climb = refl
 
 -- ---- sets of regions
 

@@ -54,7 +54,7 @@ likely_language f some = by_row (looked_up likely_subtags f)
     by_row None = unknown_language f
     by_row (Some likely) = or_other_first f.language likely.language some
 
-completed_language : (f : Fields) → 0 < length f.language → (completed f).language ≡ f.language
+pub completed_language : (f : Fields) → 0 < length f.language → (completed f).language ≡ f.language
 completed_language f some =
     let same = region_language f in
     likely_language (region_replaced f) (rw same some) ∙ same
@@ -66,7 +66,7 @@ unfolding language_distance
 language_alone_distance d s t same =
     ap (λ l. cond (are_alike d.language l) 0 (distance_by language_rules 80 (record { language = d.language; script = []; region = [] }) (record { language = l; script = []; region = [] }))) same
 
-far_none : (limit n : ℕ) → limit ≤ n → below limit n ≡ None
+pub far_none : (limit n : ℕ) → limit ≤ n → below limit n ≡ None
 far_none limit n far = by_test (nat_lt n limit) refl
   where
     by_test : (b : Bool) → nat_lt n limit ≡ b → below limit n ≡ None

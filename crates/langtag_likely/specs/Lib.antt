@@ -7,6 +7,7 @@ pub mod Good
 pub mod Likely
 pub mod LikelySubtags
 pub mod ListTexts
+pub mod Lone
 pub mod Matching
 pub mod MatchingData
 pub mod Maximal

@@ -79,7 +79,7 @@ fn first_for_tag<'a, R: RangeList<'a>>(
     let mut left = ranges;
     while let Some((wanted, rest)) = left.split_first() {
         if !is_settled(first, wanted, place) {
-            let next = as_candidate(pass, Wish::new(wanted, place), tag, index);
+            let next = as_candidate(pass, &Wish::new(wanted, place), tag.as_bytes(), index);
             first = first_of(first, next);
         }
         place += 1;

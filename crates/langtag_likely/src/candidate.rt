@@ -1,6 +1,5 @@
 //! A tag that may serve a range.
 ghost use Rattle.std.specs.Prelude.{◌≡◌, ◌-◌, Some, length};
-ghost use Rattle.langtag.specs.Text.{lang_tag_text};
 ghost use Rattle.langtag_match.specs.Wanted.{hyphened, wanted_element};
 ghost use Rattle.langtag_likely.specs.Best as spec;
 ghost use Rattle.langtag_likely.specs.ByRanges.{is_settled, wish_element};
@@ -9,7 +8,6 @@ ghost use Rattle.langtag_likely.specs.Nearness.{kept};
 use crate::nearness::{kept, nearer_than, unlikely};
 use crate::read_range::is_star;
 use crate::wish::Wish;
-use langtag::LangTag;
 use langtag_match::WantedRange;
 
 /// Which tags may serve a range: those nearer than 16, those nearer than 50, and those that look-up finds.
@@ -22,8 +20,8 @@ pub(crate) enum Pass {
 
 impl Pass {
     /// Returns the distance of a tag where it may serve a range.
-    fn distance(self, wish: Wish<'_>, tag: &[u8]) -> Option<u32>
-        ensures { result ≡ spec.distance_in self (hyphened wish.entry.range.now) tag.now }
+    fn distance(self, wish: &Wish<'_>, tag: &[u8]) -> Option<u32>
+        ensures { result ≡ spec.distance_in self (hyphened wish.now.range.now) tag.now }
     {
         match self {
             Pass::Near => nearer_than(16, wish, tag),
@@ -87,23 +85,20 @@ fn lack(weight: u32) -> u32
     1000_u32.saturating_sub(weight)
 }
 
-/// Returns a tag as a candidate for a range: None where it may not serve it in a pass.
+/// Returns the text of a tag as a candidate for a range: None where it may not serve it in a pass. That it is a tag is not tested.
 #[tactic(auto, unfolding(crate::specs::Best::as_candidate))]
 pub(crate) fn as_candidate(
     pass: Pass,
-    wish: Wish<'_>,
-    tag: LangTag<'_>,
+    wish: &Wish<'_>,
+    text: &[u8],
     index: usize,
 ) -> Option<Candidate>
-    ensures { result ≡ spec.as_candidate pass (wish_element wish.entry) wish.entry.place (Some (lang_tag_text tag.entry)) index }
+    ensures { result ≡ spec.as_candidate pass (wish_element wish.now) wish.now.place (Some text.now) index }
 {
     if wish.weight == 0 || is_star(wish.range) {
         return None;
     }
-    let text = tag.as_bytes();
-    let Some(distance) = pass.distance(wish, text) else {
-        return None;
-    };
+    let distance = pass.distance(wish, text)?;
     Some(Candidate {
         lack: lack(wish.weight),
         place: wish.place,

@@ -20,6 +20,7 @@ mod fields;
 mod forms;
 mod keys;
 mod likely;
+mod lone;
 mod matching;
 mod matching_tables;
 mod names;

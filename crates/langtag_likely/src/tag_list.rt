@@ -1,6 +1,6 @@
 //! Tags among which one is chosen.
 ghost use Rattle.std.specs.Prelude.{◌≡◌, ◌<◌, ℕ, List, Option, None, length, slice_index_or};
-ghost use Rattle.std.specs.Option.{option_map};
+ghost use Rattle.std.specs.Option.{ForSome, option_map};
 ghost use Rattle.langtag.specs.Text.{lang_tag_text};
 ghost use Rattle.langtag_likely.specs.ListTexts.{tag_texts};
 
@@ -18,6 +18,11 @@ pub trait TagList {
     fn tag_at(&self, index: usize) -> Option<LangTag<'_>>
         requires { index < length (texts self.now) }
         ensures { option_map lang_tag_text result ≡ slice_index_or (texts self.now) index None };
+
+    /// Returns the text of the tag at an index. Where what stands there is no tag, it may be any text.
+    fn bytes_at(&self, index: usize) -> &[u8]
+        requires { index < length (texts self.now) }
+        ensures { ForSome (slice_index_or (texts self.now) index None) (λ text. result.now ≡ text) };
 }
 
 /// Tags in a slice.
@@ -33,5 +38,9 @@ impl TagList for Tags<'_, '_> {
 
     fn tag_at(&self, index: usize) -> Option<LangTag<'_>> {
         Some(self.0[index])
+    }
+
+    fn bytes_at(&self, index: usize) -> &[u8] {
+        self.0[index].as_bytes()
     }
 }

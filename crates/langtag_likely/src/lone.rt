@@ -1,0 +1,51 @@
+//! Languages that no other is near, as the first letters of a tag show.
+ghost use Rattle.std.specs.Prelude.{◌≡◌, IsTrue, Some, false, length};
+ghost use Rattle.std.specs.Option.{ForSome, option_map};
+ghost use Rattle.langtag_likely.specs.Lone as spec;
+ghost use Rattle.langtag_likely.specs.Good.{is_language_field};
+ghost use Rattle.langtag_likely.specs.Rows.{AreKeys};
+ghost use Rattle.langtag_likely.specs.Texts.{field_texts};
+ghost use Rattle.langtag_likely.specs.declared.matching_tables.TheConstants.{RELATED_KEYS};
+
+use crate::keys::index_of_short;
+use crate::matching_tables as tables;
+use crate::rows::language_number;
+use crate::tag_fields::TagFields;
+use langtag_scan::into_smallcase;
+
+/// Returns the first two bytes of a text, in small letters.
+pub(crate) fn head(text: &[u8]) -> Option<(u8, u8)>
+    ensures { result ≡ spec.head text.now }
+{
+    match text {
+        [first, second, ..] => Some((into_smallcase(*first), into_smallcase(*second))),
+        _ => None,
+    }
+}
+
+/// Returns the letters of a form's language where it has two and no other language is near it.
+pub(crate) fn lone_letters(form: Option<TagFields<'_>>) -> Option<(u8, u8)>
+    ensures { ForSome result (λ letters. spec.lone_head (option_map field_texts form.entry) ≡ Some letters) }
+{
+    let Some(form) = form else { return None };
+    if form.language.len() != 2 || is_related(form.language) {
+        return None;
+    }
+    head(form.language)
+}
+
+/// Returns whether a rule desires a language of two letters, or it replaces another.
+fn is_related(language: &[u8]) -> bool
+    requires two { length language.now ≡ 2 }
+    requires in_class { IsTrue (is_language_field language.now) }
+    ensures { result ≡ false → IsTrue (spec.is_lone language.now) }
+{
+    index_of_short(related_keys(), language_number(language) as u16).is_some()
+}
+
+fn related_keys() -> &'static [u16]
+    ensures numbers { result.now ≡ RELATED_KEYS }
+    ensures searched { AreKeys result.now }
+{
+    &tables::RELATED_KEYS
+}
