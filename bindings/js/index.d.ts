@@ -164,6 +164,8 @@ export class AcceptLanguage {
     readonly ranges: readonly WeightedRange[];
     /** Returns the tag that the ranges find, those of the greatest weight first. */
     lookUp<Tag extends Text, Otherwise = undefined>(tags: Iterable<Tag>, otherwise?: Otherwise): Tag | Otherwise;
+    /** Returns the tag that the reader wants, by distances, as bestForHeader does: all of the header counts. */
+    best<Tag extends Text, Otherwise = undefined>(tags: Iterable<Tag>, otherwise?: Otherwise): Tag | Otherwise;
 }
 
 /**
@@ -196,6 +198,14 @@ export function distance(desired: Text, supported: Text): number;
  */
 export function bestForHeader<Tag extends Text, Otherwise = undefined>(
     header: string, tags: Iterable<Tag>, otherwise?: Otherwise,
+): Tag | Otherwise;
+
+/**
+ * Returns the tag that a reader wants who asks for these ranges, the best one first, as `navigator.languages`: what bestForHeader does
+ * for a header of them. An extended range counts without its *; a text that no element of a header can have, as de;q=0, is passed over.
+ */
+export function bestForRanges<Tag extends Text, Otherwise = undefined>(
+    ranges: Iterable<Text>, tags: Iterable<Tag>, otherwise?: Otherwise,
 ): Tag | Otherwise;
 
 /** Returns the length of the longest prefix with which some tag begins: 3 of "i-no". */

@@ -355,8 +355,11 @@ export function lookUp(ranges, tags, otherwise) {
 const BAD_PARTS = [, , "language range", "weight"];
 
 export class AcceptLanguage {
+    #header;
+
     constructor(header, isLenient = false) {
         const text = textOf(header);
+        this.#header = text;
         const ranges = [];
         for (const [answer, offset, length, weight] of calls.accepted(text)) {
             if (answer > 1 && !isLenient) {
@@ -378,6 +381,10 @@ export class AcceptLanguage {
 
     lookUp(tags, otherwise) {
         return lookUp(this.ranges.map((weighted) => weighted.range), tags, otherwise);
+    }
+
+    best(tags, otherwise) {
+        return bestForHeader(this.#header, tags, otherwise);
     }
 }
 
@@ -405,4 +412,15 @@ export function viableLength(text) {
 
 export function stopLength(text) {
     return calls.stop(textOf(text));
+}
+
+/** A range as an element of a header: an extended one without its *, and "" of what none can be. */
+function element(range) {
+    const text = textOf(range);
+    return /[,;]/.test(text) ? "" : text.replaceAll(/-\*(?=-|$)/g, "");
+}
+
+export function bestForRanges(ranges, tags, otherwise) {
+    if (typeof ranges === "string") throw new TypeError("a list of ranges is wanted, and this is of type string");
+    return bestForHeader([...ranges].map(element).join(), tags, otherwise);
 }

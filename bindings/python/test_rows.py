@@ -243,6 +243,8 @@ def answer_best(header, tags):
     texts = tags.decode().split()
     found = langtag.best_for_header(header, texts, DEFAULT)
     assert langtag.best_for_header(header, map(Tag, texts), DEFAULT) == (found if found == DEFAULT else Tag(found))
+    assert langtag.AcceptLanguage.lenient(header).best(texts, DEFAULT) == found
+    assert b";" in header or langtag.best_for_ranges(header.split(b","), texts, DEFAULT) == found
     return found
 
 

@@ -9,7 +9,7 @@ import * as langtag from "../index.js";
 
 const {
     AcceptLanguage, AcceptLanguageError, EditError, GRANDFATHERED, InvalidRange, InvalidTag, LanguageRange, LanguageTag, REGISTRY_DATE,
-    bestForHeader, CLDR_VERSION, distance, lookUp, stopLength, tagForHeader, tagForHeaderLenient, viableLength,
+    bestForHeader, bestForRanges, CLDR_VERSION, distance, lookUp, stopLength, tagForHeader, tagForHeaderLenient, viableLength,
 } = langtag;
 
 /** How many bytes the module's memory has: of each module that is started, in their order. */
@@ -112,6 +112,11 @@ test("likely subtags, distances and the best tag", () => {
     assert.equal(bestForHeader("", tags), undefined);
     assert.equal(bestForHeader("", tags, "en"), "en");
     assert.equal(bestForHeader("fr", [], "en"), "en");
+    assert.equal(bestForRanges(["fi", "", "*", "en;q=0", "de,de", "*-AT", "de-*AT", "EN-*-*-GB", "de"], ["de", "en"]), "en");
+    assert.equal(bestForRanges(new Set([LanguageRange.parse("*-DE"), LanguageRange.parse("de-*-DE")]), ["en", "de"]), "de");
+    assert.equal(bestForRanges(["fi"], ["de"]), undefined);
+    assert.throws(() => bestForRanges("de", ["de"]), TypeError);
+    assert.equal(AcceptLanguage.parse("en;q=0, fr, *;q=0.5").best(["en", "fr-CA"]), "fr-CA");
     assert.equal(bestForHeader("no", [LanguageTag.parse("nb")])?.text, "nb");
     assert.equal(distance("de", "de"), 0);
     assert.ok(distance("de-AT", "de-DE") > 0 && distance("de-AT", "de-DE") < distance("de-AT", "ja"));
