@@ -100,20 +100,23 @@ static int add_text(Offered *offered, PyObject *from, PyObject *type) {
 }
 
 static int add_item(Offered *offered, PyObject *item, PyObject *type) {
-    if (PyUnicode_Check(item) || PyBytes_Check(item)) return add_text(offered, item, type);
-    int is_known = Py_TYPE(item) == offered->known && ((Value *)item)->text.owner;
-    if (!is_known && !lt_as_tag(item, "a header gets a Tag or a text, and not %S")) return -1;
-    offered->known = Py_TYPE(item);
-    return add(offered, &((Value *)item)->text);
+    Value *tag = (Value *)item;
+    if (Py_TYPE(item) != offered->known || !tag->text.owner) {
+        if (PyUnicode_Check(item) || PyBytes_Check(item)) return add_text(offered, item, type);
+        if (!lt_as_tag(item, "a header gets a Tag or a text, and not %S")) return -1;
+        offered->known = Py_TYPE(item);
+    }
+    return add(offered, &tag->text);
 }
 
-/* Borrowed from the tuple. */
+/* Borrowed from a list or a tuple, which nothing changes meanwhile. */
 static PyObject *best(Text header, PyObject *listed, PyObject *otherwise, PyObject *type) {
     Offered offered;
-    size_t count = (size_t)PyTuple_Size(listed), index = count;
+    PyObject *(*item)(PyObject *, Py_ssize_t) = PyList_Check(listed) ? PyList_GetItem : PyTuple_GetItem;
+    size_t count = (size_t)PySequence_Size(listed), index = count;
     if (open_offered(&offered, count)) return NULL;
     int status = 0;
-    for (size_t i = 0; i < count && !status; i++) status = add_item(&offered, PyTuple_GetItem(listed, (Py_ssize_t)i), type);
+    for (size_t i = 0; i < count && !status; i++) status = add_item(&offered, item(listed, (Py_ssize_t)i), type);
     if (!status) {
         LET_GO(header.len);
         index = langtag_best_for_header(header.data, (size_t)header.len, offered.text, offered.len, offered.spans, count);
@@ -121,15 +124,17 @@ static PyObject *best(Text header, PyObject *listed, PyObject *otherwise, PyObje
     }
     close_offered(&offered);
     if (status) return NULL;
-    return index < count ? PyTuple_GetItem(listed, (Py_ssize_t)index) : otherwise;
+    return index < count ? item(listed, (Py_ssize_t)index) : otherwise;
 }
 
 PyObject *lt_best_for_header(PyObject *module, PyObject *arguments) {
     (void)module;
     PyObject *from, *all, *otherwise, *type;
     Text header;
-    if (!PyArg_ParseTuple(arguments, "OOOO", &from, &all, &otherwise, &type) || lt_text(from, &header)) return NULL;
-    PyObject *listed = PySequence_Tuple(all), *found = listed ? best(header, listed, otherwise, type) : NULL;
+    if (!PyArg_UnpackTuple(arguments, "best_for_header", 4, 4, &from, &all, &otherwise, &type) || lt_text(from, &header)) return NULL;
+    /* The caller's own list, but where others may change it: those that run during a call on a long header. */
+    PyObject *listed = header.len < LONG_TEXT ? PySequence_Fast(all, "the tags are not iterable") : PySequence_Tuple(all);
+    PyObject *found = listed ? best(header, listed, otherwise, type) : NULL;
     Py_XINCREF(found);
     Py_XDECREF(listed);
     Py_DECREF(header.owner);
