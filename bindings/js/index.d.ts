@@ -220,7 +220,9 @@ export class InvalidTag extends RangeError {
     readonly text: string;
     /** The subtag that is refused: DE of de-419-DE, de_CH of de_CH; undefined of a text that ends too soon. */
     readonly subtag: string | undefined;
-    /** Where it goes wrong. */
+    /** Where the subtag begins; the end of a text that ends too soon. */
+    readonly start: number;
+    /** Where to point at: the same, or where what is no letter and no digit stands in it. */
     readonly offset: number;
     /** What is wrong, without the text. */
     readonly reason: string;

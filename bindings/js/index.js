@@ -46,7 +46,7 @@ export class InvalidTag extends Refusal {
         const subtag = answer < 3 ? text.slice(start, start + length) : undefined;
         const reason = answer === 1 ? (subtag === "" ? `a subtag is empty at ${offset}` : `${quoted(subtag)} can't stand at ${offset}`) :
             answer === 2 ? `no subtag has the ${quoted(String.fromCodePoint(text.codePointAt(offset)))} at ${offset}` : "it ends too soon";
-        super(`${quoted(text)} is not a language tag: ${reason}`, { text, subtag, offset, viable: calls.viable(text), reason });
+        super(`${quoted(text)} is not a language tag: ${reason}`, { text, subtag, start, offset, viable: calls.viable(text), reason });
     }
 }
 
@@ -89,6 +89,7 @@ class InvalidSubtag {
 function partText(value) {
     if (value === null) return "";
     if (typeof value === "string") return value;
+    if (typeof value !== "object") throw new TypeError(`a part is a text or has several, and this is of type ${typeof value}`);
     const members = typeof value === "object" && !(Symbol.iterator in value) ? Object.entries(value) : [...value];
     return members.map((member) => {
         if (typeof member === "string") return member;

@@ -217,7 +217,7 @@ def answer_refused(text):
         why = str(error).rpartition(": ")[2]
         kind = "end" if why == "it ends too soon" else "byte" if why.endswith("stands in no subtag") else "subtag"
         answer, start, length, offset = langtag._backend.refused(text)
-        assert offset == error.offset and text[start : start + length].decode("utf-8", "backslashreplace") == error.subtag
+        assert (start, offset) == (error.start, error.offset) and text[start : start + length].decode("utf-8", "backslashreplace") == error.subtag
         return f"{kind} {start} {length} {offset}"
     return f"none {len(text)} 0 {len(text)}"
 

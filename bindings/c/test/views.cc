@@ -142,7 +142,7 @@ static void check_lists() {
     CHECK(best && best->text().data() == owners[1].text().data());
     const std::string strings[] = {"", "zh_Hant", "de"};
     CHECK(langtag::best_for_header(header, strings)->text().data() == strings[2].data());
-    CHECK(langtag::best_for_header(header, std::set<std::string_view>{"en", "zh-Hans"}) == "zh-Hans");
+    CHECK(langtag::best_for_header(header, std::set<std::string_view>{"en", "zh-Hant"}) == "zh-Hant");
     const char *const literals[] = {"en", "zh-HK"};
     CHECK(langtag::best_for_header(header, literals) == "zh-HK" && langtag::accept_language(header).best(literals) == "zh-HK");
     CHECK(langtag::best_for_ranges({"fi", "", "*", "en;q=0", "de,de", "*-AT", "de-*AT", "en-*-*-GB", "de"}, owners) == "en");

@@ -100,6 +100,7 @@ test("where a text is refused", () => {
         ["en--us", "", 3, "a subtag is empty at 3"], ["de-\u{1f600}", "\u{1f600}", 3, 'no subtag has the "\u{1f600}" at 3']]) {
         const error = thrown(() => LanguageTag.parse(text));
         assert.deepEqual([error.subtag, error.offset, error.reason], [subtag, offset, reason]);
+        assert.equal(error.start, text === "de_CH" ? 0 : offset);
         assert.equal(error.message, `${JSON.stringify(text)} is not a language tag: ${reason}`);
     }
 });
@@ -172,6 +173,7 @@ test("edits", () => {
     }
     const of = LanguageTag.parse("en-1-ab-u-co-a-bb");
     assert.equal(String(LanguageTag.parse("de").with({ extensions: of.extensions })), "de-1-ab-u-co-a-bb");
+    assert.throws(() => tag.with({ region: 419 }), { name: "TypeError", message: "a part is a text or has several, and this is of type number" });
     assert.throws(() => tag.with({ region: "Switzerland" }), (error) => error instanceof EditError && error instanceof RangeError &&
         error.message === `"Switzerland" can't be the region of a tag` && error.part === "region" && error.text === "Switzerland");
     assert.throws(() => LanguageTag.parse("x-a").with({ region: "CH" }), { name: "EditError", message: "not a normal language tag" });
