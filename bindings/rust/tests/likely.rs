@@ -93,7 +93,14 @@ fn answers() {
         rows::ask(&rows::path(&format!("{name}.txt")), calls, floor, answer);
     }
     if let Ok(path) = std::env::var("LANGTAG_ANSWERS") {
-        let calls = ["refused", "maximized", "minimized", "distance", "right-to-left", "posix"];
+        let calls = [
+            "refused",
+            "maximized",
+            "minimized",
+            "distance",
+            "right-to-left",
+            "posix",
+        ];
         rows::ask(&path, &calls, 5000, answer);
     }
 }
@@ -104,7 +111,17 @@ fn answers_to_texts_that_are_no_tags_and_no_ranges() {
     assert_eq!(best_for_header("de, en;q=0.5", &have), Some(3));
     assert_eq!(best_for_header("de", &have[..3]), None);
     assert_eq!(best_for_header("de", &[] as &[LangTag]), None);
-    let ranges = ["fi", "", "*", "de,de", "en;q=0", "*-AT", "de-*AT", "EN-*-*-GB", "de"];
+    let ranges = [
+        "fi",
+        "",
+        "*",
+        "de,de",
+        "en;q=0",
+        "*-AT",
+        "de-*AT",
+        "EN-*-*-GB",
+        "de",
+    ];
     assert_eq!(best_for_ranges(&ranges, &have), Some(2));
     assert_eq!(best_for_ranges(&ranges[..7], &have), None);
     let ranges = ["*-DE", "de-*-DE"].map(|text| LanguageRange::new(text).unwrap());
