@@ -92,6 +92,9 @@ FAULTS = {
         Fault(HPP, "static_cast<std::size_t>(commas), element.start}", "element.start, static_cast<std::size_t>(commas)}"),
         Fault(HPP, "basic.erase(at, 2)", "at += 2"),
         Fault(HPP, " {part::extensions, extension},", ""),
+        Fault(HPP, "spans.push_back({text.size(), ", "spans.push_back({0, "),
+        Fault(HPP, "header.append(text).append(1, ',')", "header.append(text).append(1, ' ')"),
+        Fault(HPP, "best_for_header(header_, ", "best_for_header(header_.substr(0, header_.find(',')), "),
     ],
     "Rust": [
         rust("invalid_subtag", "offset: self.offset,", "offset: 0,"),
@@ -100,8 +103,7 @@ FAULTS = {
              "6 => SubtagFault::Script,\n            5 => SubtagFault::Region"),
         rust("invalid_subtag", '("variant", "is repeated")', '("variant", "is not registered")'),
         rust("lang_tag", "InvalidSubtag::of(self.as_str()).map_or(Ok(()), Err)", "Ok(())"),
-        rust("lang_tag_buf", "self.as_lang_tag().validate()", "Ok(())"),
-        rust("lang_tag_buf", "self.as_lang_tag().is_canonical()", "true"),
+        rust("lang_tag_buf", "self.as_lang_tag().$name(", "LangTag::new(\"de\").unwrap().$name("),
         rust("ffi", "before + usize::from(before < end)", "before"),
         rust("ffi", "    Script,\n    Region,\n", "    Region,\n    Script,\n", "edits"),
         rust("language_range", "filter::matches_extended(self.text, tag", "filter::matches_basic(self.text, tag"),
@@ -119,6 +121,9 @@ FAULTS = {
         rust("edit", 'text == Some("") && self.kind() == Kind::Normal', "false", "edits"),
         rust("accept_language", "Element::Range(text, weight) if weight > 0", "Element::Range(text, weight)", "negotiation"),
         rust("look_up", 'filter(|subtag| *subtag != "*")', "filter(|subtag| !subtag.is_empty())", "negotiation"),
+        rust("likely", 'range.replace("-*", "").into()', "range.into()", "likely"),
+        rust("likely", "contains([',', ';'])", "contains(',')", "likely"),
+        rust("likely", 'elements.join(",")', 'elements.join(" ")', "likely"),
     ],
     "Python": [
         Fault(PY, '"second-extlang", "script", "region"', '"second-extlang", "region", "script"'),
@@ -140,6 +145,10 @@ FAULTS = {
         Fault(CT, "if answer == 1 and weight > 0", "if answer == 1"),
         Fault(CT, "key=lambda it: -it[0]", "key=lambda it: it[0]"),
         Fault(PY, 'range._data.replace(b"-*", b"")', "range._data"),
+        Fault(PY, 'b",".join(map(_element, ranges))', 'b" ".join(map(_element, ranges))', "best_for_ranges"),
+        Fault(PY, '_WILDCARD.sub(b"", data)', "data", "test_best", "test_langtag.Negotiation"),
+        Fault(PY, 'b"" if b"," in data or b";" in data', 'b"" if b"," in data', "test_best", "test_langtag.Negotiation"),
+        Fault(PY, "best_for_header(self._header, tags, default)", "best_for_ranges([it.range for it in self.ranges], tags, default)", "best(texts"),
         Fault(CT, "        parts = _Parts()\n",
               "        parts = _Parts()\n        _FUNCTIONS.setdefault('kept', []).append(data)\n",
               "test_that_nothing_is_kept", "test_langtag.Memory"),
@@ -166,6 +175,9 @@ FAULTS = {
         Fault(NATIVE + "negotiate.c", "header->last[weight] = number;", "header->last[weight] = header->first[weight];",
               "test_equal_weights", "test_langtag.Negotiation"),
         Fault(NATIVE + "negotiate.c", "size_t room = header->room ? 2 * header->room : 16;", "size_t room = 16;", ""),
+        Fault(NATIVE + "likely.c", "    offered->len += len;\n", "", ""),
+        Fault(NATIVE + "likely.c", "count <= sizeof offered->few / sizeof *offered->few", "count <= sizeof offered->few", "", "test_langtag.Negotiation"),
+        Fault(NATIVE + "likely.c", "memcpy(more, offered->text, offered->len);", "", "test_best", "test_langtag.Negotiation"),
         Fault(NATIVE + "text.c", "PyBytes_FromStringAndSize(data, len);", "PyBytes_FromString(data);",
               "test_subclasses_of_texts", "test_langtag.Kinds"),
         Fault(NATIVE + "value.c", "    Py_XDECREF(it->text.owner);\n", "", "test_that_nothing_is_kept", "test_langtag.Memory"),
@@ -189,6 +201,10 @@ FAULTS = {
         js(CALLS, "    if (isOpen) start();", "    if (calls === undefined) start();", "18 - calls that are cut off"),
         js(CALLS, "    if (bytes.length > most) start();\n", "", "17 - the memory of a long text is given back"),
         js(JS, "Object.freeze(this);", "", "10 - a tag does not change"),
+        js(JS, "/[,;]/", "/[,]/", "7 - likely subtags, distances and the best tag"),
+        js(JS, ".replaceAll(/-\\*(?=-|$)/g, \"\")", "", "7 - likely subtags, distances and the best tag"),
+        Fault(JS, ".map(element).join()", '.map(element).join(" ")', "the tag of ranges"),
+        Fault(JS, "return bestForHeader(this.#header,", 'return bestForHeader(this.#header.split(",")[0],', "the tag of a header that was read"),
     ],
     "SQLite": [
         swapped(SQL, "&parts->script", "&parts->region"),
@@ -234,8 +250,8 @@ RUN = {
     "JavaScript": "node --test js/test/$TEST.test.js",
     "SQLite": "PYTHONPATH=python python3 examples/test_sqlite.py ./sqlite_langtag.so",
 }
-TESTS = {"Rust": ["table", "edits", "negotiation"], "Python": ["test_rows", "test_langtag.Memory"], "JavaScript": ["rows", "langtag"],
-         "Python's C": ["test_rows", "test_langtag.Memory"]}
+TESTS = {"Rust": ["table", "edits", "negotiation", "likely"], "Python": ["test_rows", "test_langtag.Memory", "test_langtag.Negotiation"], "JavaScript": ["rows", "langtag"],
+         "Python's C": ["test_rows", "test_langtag.Memory", "test_langtag.Negotiation"]}
 
 
 def asked(libraries: pathlib.Path, language: str, fault: Fault | None, test: str) -> str | None:

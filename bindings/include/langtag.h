@@ -319,6 +319,7 @@ LANGTAG_PURE uint32_t langtag_distance(const char *desired, size_t desired_len, 
  * (langtag_distance); else the first with one nearer than 50; else what look-up finds (RFC 4647 section 3.4). A tag whose
  * longest matching range has the weight 0 is not chosen, and "*" chooses nothing: the program's default stands. Each range
  * that can be made out counts: _ is read as a hyphen, what follows . or @ is dropped, a weight that is no number is 1.
+ * A list of ranges, the best one first, is a header of them with commas between.
  *
  * The time grows with the length of the header, which a server limits, as most do to 8 KiB, times that of the tags.
  */

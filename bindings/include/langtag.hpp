@@ -23,6 +23,7 @@
 #include <stdexcept>
 #include <string>
 #include <string_view>
+#include <type_traits>
 #include <utility>
 #include <vector>
 #if defined(__has_include) && __cplusplus >= 202002L
@@ -437,6 +438,13 @@ public:
         return range(left, is_basic_ || left.find('*') == left.npos);
     }
 
+    /* The text of the basic range as which an extended one counts (section 3.2): de-DE of de-*-DE. */
+    std::string without_wildcards() const {
+        std::string basic(text_);
+        for (auto at = basic.find("-*"); at != basic.npos; at = basic.find("-*", at)) basic.erase(at, 2);
+        return basic;
+    }
+
     /* The tag that it finds by look-up (section 3.4): the one that is equal to it, or else to the first of its fallbacks
      * that there is; of tags that are equal but for case the first. None where there is none. An extended range is looked
      * up as the basic one without its * (section 3.2), and finds nothing where it begins with one. */
@@ -454,12 +462,6 @@ private:
     friend class accept_language;
     range(std::string_view text, bool is_basic) noexcept : text_(text), is_basic_(is_basic) {}
 
-    std::string without_wildcards() const {
-        std::string basic(text_);
-        for (auto at = basic.find("-*"); at != basic.npos; at = basic.find("-*", at)) basic.erase(at, 2);
-        return basic;
-    }
-
     std::string_view text_;
     bool is_basic_;
 };
@@ -469,6 +471,60 @@ inline std::optional<tag> look_up(const std::vector<range> &ranges, const std::v
     for (const range &range : ranges)
         if (const auto found = range.look_up(tags)) return found;
     return std::nullopt;
+}
+
+/* The text of what has one. */
+inline std::string_view text_of(std::string_view text) noexcept { return text; }
+inline std::string_view text_of(const tag &tag) noexcept { return tag.text(); }
+inline std::string_view text_of(const owned_tag &tag) noexcept { return tag.text(); }
+inline std::string_view text_of(const range &range) noexcept { return range.text(); }
+
+/* Whether the texts of a list are there after a call with it: those of views, and of owners in a list that is no temporary. */
+template <class List, class Element = decltype(*std::begin(std::declval<List &>())), class Plain = std::decay_t<Element>>
+inline constexpr bool stays = std::is_same_v<Plain, tag> || std::is_same_v<Plain, std::string_view> ||
+                              std::is_pointer_v<Plain> ||
+                              (std::is_lvalue_reference_v<List> && std::is_lvalue_reference_v<Element>);
+
+/* Texts in braces. */
+using texts = std::initializer_list<std::string_view>;
+
+/* The tag that a reader wants whose browser sends this Accept-Language header: zh-Hant for "zh-TW,zh;q=0.9,en;q=0.8". Bad
+ * elements are read as what they mean, as de_CH. None where it wants none of them: .value_or(..)
+ *
+ * The tags are a list of tag, owned_tag, strings or views, as {"en", "zh-Hant"}; a text that is no tag is passed over. What
+ * is returned is a view: a temporary list of owners is refused by the compiler. */
+template <class Tags = texts, std::enable_if_t<stays<Tags>, int> = 0>
+std::optional<tag> best_for_header(std::string_view header, Tags &&tags) {
+    std::string text;
+    std::vector<langtag_span> spans;
+    std::vector<std::string_view> given;
+    for (const auto &it : tags) {
+        given.push_back(text_of(it));
+        spans.push_back({text.size(), given.back().size()});
+        text.append(given.back());
+    }
+    const langtag_span none = {0, 0};
+    const std::size_t best = langtag_best_for_header(langtag_bytes(header.data()), header.size(), text.data(), text.size(),
+                                                     spans.empty() ? &none : spans.data(), spans.size());
+    return best < given.size() ? tag::parse(given[best]) : std::nullopt;
+}
+inline std::optional<tag> best_for_header(std::string_view header, const std::vector<tag> &tags) {
+    return best_for_header<const std::vector<tag> &>(header, tags);
+}
+
+/* The tag that a reader wants who asks for these ranges, the best one first: what best_for_header chooses for a header of
+ * them. They are a list of range, strings or views. An extended one counts without its *, and a text that no element of a
+ * header can have, as de;q=0, is passed over. */
+template <class Ranges = texts, class Tags = texts, std::enable_if_t<stays<Tags>, int> = 0>
+std::optional<tag> best_for_ranges(const Ranges &ranges, Tags &&tags) {
+    std::string header;
+    for (const auto &it : ranges) {
+        const std::string_view text = text_of(it);
+        const auto read = range::parse(text);
+        if (read && !read->is_basic()) header.append(read->without_wildcards()).append(1, ',');
+        else if (text.find_first_of(",;") == text.npos) header.append(text).append(1, ',');
+    }
+    return best_for_header(header, std::forward<Tags>(tags));
 }
 
 /* A range of a header, and its weight in thousandths, from 1 to 1000. */
@@ -524,6 +580,11 @@ public:
         return std::nullopt;
     }
 
+    /* What best_for_header chooses for the header. */
+    template <class Tags = texts, std::enable_if_t<stays<Tags>, int> = 0> std::optional<tag> best(Tags &&tags) const {
+        return best_for_header(header_, std::forward<Tags>(tags));
+    }
+
 private:
     langtag_span whole() const noexcept { return {0, header_.size()}; }
 
@@ -539,21 +600,6 @@ private:
 inline std::uint32_t distance(const tag &desired, const tag &supported) noexcept {
     const std::string_view a = desired.text(), b = supported.text();
     return langtag_distance(a.data(), a.size(), b.data(), b.size());
-}
-
-/* The tag that a reader wants whose browser sends this Accept-Language header: zh-Hant for "zh-TW,zh;q=0.9,en;q=0.8". Bad
- * elements are read as what they mean, as de_CH. None where it wants none of them: .value_or(..) */
-inline std::optional<tag> best_for_header(std::string_view header, const std::vector<tag> &tags) {
-    std::string text;
-    std::vector<langtag_span> spans;
-    for (const tag &tag : tags) {
-        spans.push_back({text.size(), tag.text().size()});
-        text.append(tag.text());
-    }
-    const langtag_span none = {0, 0};
-    const std::size_t best = langtag_best_for_header(langtag_bytes(header.data()), header.size(), text.data(), text.size(),
-                                                     spans.empty() ? &none : spans.data(), spans.size());
-    return best < tags.size() ? std::optional<tag>(tags[best]) : std::nullopt;
 }
 
 /* The tag of a POSIX locale's name: pt-BR of pt_BR.UTF-8. None where it names none, as C and POSIX. */

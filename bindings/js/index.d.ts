@@ -164,6 +164,8 @@ export class AcceptLanguage {
     readonly ranges: readonly WeightedRange[];
     /** Returns the tag that the ranges find, those of the greatest weight first. */
     lookUp<Tag extends Text, Otherwise = undefined>(tags: Iterable<Tag>, otherwise?: Otherwise): Tag | Otherwise;
+    /** Returns the tag that the reader wants, by distances, as bestForHeader does: all of the header counts. */
+    best<Tag extends Text, Otherwise = undefined>(tags: Iterable<Tag>, otherwise?: Otherwise): Tag | Otherwise;
 }
 
 /**
@@ -198,6 +200,14 @@ export function bestForHeader<Tag extends Text, Otherwise = undefined>(
     header: string, tags: Iterable<Tag>, otherwise?: Otherwise,
 ): Tag | Otherwise;
 
+/**
+ * Returns the tag that a reader wants who asks for these ranges, the best one first, as `navigator.languages`: what bestForHeader does
+ * for a header of them. An extended range counts without its *; a text that no element of a header can have, as de;q=0, is passed over.
+ */
+export function bestForRanges<Tag extends Text, Otherwise = undefined>(
+    ranges: Iterable<Text>, tags: Iterable<Tag>, otherwise?: Otherwise,
+): Tag | Otherwise;
+
 /** Returns the length of the longest prefix with which some tag begins: 3 of "i-no". */
 export function viableLength(text: Text): number;
 
@@ -210,7 +220,9 @@ export class InvalidTag extends RangeError {
     readonly text: string;
     /** The subtag that is refused: DE of de-419-DE, de_CH of de_CH; undefined of a text that ends too soon. */
     readonly subtag: string | undefined;
-    /** Where it goes wrong. */
+    /** Where the subtag begins; the end of a text that ends too soon. */
+    readonly start: number;
+    /** Where to point at: the same, or where what is no letter and no digit stands in it. */
     readonly offset: number;
     /** What is wrong, without the text. */
     readonly reason: string;

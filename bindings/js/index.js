@@ -46,7 +46,7 @@ export class InvalidTag extends Refusal {
         const subtag = answer < 3 ? text.slice(start, start + length) : undefined;
         const reason = answer === 1 ? (subtag === "" ? `a subtag is empty at ${offset}` : `${quoted(subtag)} can't stand at ${offset}`) :
             answer === 2 ? `no subtag has the ${quoted(String.fromCodePoint(text.codePointAt(offset)))} at ${offset}` : "it ends too soon";
-        super(`${quoted(text)} is not a language tag: ${reason}`, { text, subtag, offset, viable: calls.viable(text), reason });
+        super(`${quoted(text)} is not a language tag: ${reason}`, { text, subtag, start, offset, viable: calls.viable(text), reason });
     }
 }
 
@@ -89,6 +89,7 @@ class InvalidSubtag {
 function partText(value) {
     if (value === null) return "";
     if (typeof value === "string") return value;
+    if (typeof value !== "object") throw new TypeError(`a part is a text or has several, and this is of type ${typeof value}`);
     const members = typeof value === "object" && !(Symbol.iterator in value) ? Object.entries(value) : [...value];
     return members.map((member) => {
         if (typeof member === "string") return member;
@@ -355,8 +356,11 @@ export function lookUp(ranges, tags, otherwise) {
 const BAD_PARTS = [, , "language range", "weight"];
 
 export class AcceptLanguage {
+    #header;
+
     constructor(header, isLenient = false) {
         const text = textOf(header);
+        this.#header = text;
         const ranges = [];
         for (const [answer, offset, length, weight] of calls.accepted(text)) {
             if (answer > 1 && !isLenient) {
@@ -378,6 +382,10 @@ export class AcceptLanguage {
 
     lookUp(tags, otherwise) {
         return lookUp(this.ranges.map((weighted) => weighted.range), tags, otherwise);
+    }
+
+    best(tags, otherwise) {
+        return bestForHeader(this.#header, tags, otherwise);
     }
 }
 
@@ -405,4 +413,15 @@ export function viableLength(text) {
 
 export function stopLength(text) {
     return calls.stop(textOf(text));
+}
+
+/** A range as an element of a header: an extended one without its *, and "" of what none can be. */
+function element(range) {
+    const text = textOf(range);
+    return /[,;]/.test(text) ? "" : text.replaceAll(/-\*(?=-|$)/g, "");
+}
+
+export function bestForRanges(ranges, tags, otherwise) {
+    if (typeof ranges === "string") throw new TypeError("a list of ranges is wanted, and this is of type string");
+    return bestForHeader([...ranges].map(element).join(), tags, otherwise);
 }

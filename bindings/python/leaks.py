@@ -95,7 +95,9 @@ def negotiate():
         refused(langtag.tag_for_header_lenient, header, offered, None)
     for header in ("fr_FR, de-ch;q=0.5, " * 30 + "*", "fi", b"*;q=0, de;q=0.1"):
         langtag.best_for_header(header, tags), langtag.best_for_header(header, ("en", b"fr", Tag("de"))), langtag.best_for_header(header, iter(["de"]), 5)
-    for header, offered in (("de", ["en", 5]), (5, tags), ("de", Unread()), ("de", ["de", "de_"]), ("de", [Tag.__new__(Tag)])):
+    long = "de-x-" + "abcdefg-" * 200 + "a"
+    langtag.best_for_header("de", ["x-a"] * 100 + [long]), langtag.best_for_header("de," * 2000, [long]), langtag.best_for_ranges([Range("de-*"), "en"], tags)
+    for header, offered in (("de", ["x-a"] * 100 + [long, "de_"]), ("de", ["en", 5]), (5, tags), ("de", Unread()), ("de", ["de", "de_"]), ("de", [Tag.__new__(Tag)])):
         refused(langtag.best_for_header, header, offered)
 
 

@@ -208,6 +208,24 @@ class Negotiation(unittest.TestCase):
             wanted += ["de"] + (["fr"] if is_weight and 0 < float(text) < 0.5 else [])
             self.assertEqual([str(it.range) for it in found], wanted, text)
 
+    def test_best(self):
+        tags = ["en", b"zh-Hant", Tag("de")]
+        for ranges, wanted in ((["fi", "", "*", "en;q=0", "de,de", "*-AT", b"de-*AT", "en-*-*-GB", "de"], "en"), ([Range("*-DE"), Range("de-*-DE")], Tag("de")),
+                               (["zh_TW"], b"zh-Hant"), (iter([b"fi"]), None), ([], None), (["\ud800"], None)):
+            self.assertEqual(langtag.best_for_ranges(ranges, tags), wanted)
+        self.assertEqual(langtag.best_for_ranges(["fi"], tags, "none"), "none")
+        self.assertEqual(AcceptLanguage("en;q=0, fr, *;q=0.5").best(["en", "fr-CA"]), "fr-CA")
+        self.assertEqual(AcceptLanguage.lenient("zh_TW").best(tags, 5), b"zh-Hant")
+        for number in (0, 63, 64, 65, 3000):  # the C module keeps few tags elsewhere than many
+            many = ["x-a"] * number + [Tag("zh-x-" + "long-" * 50 + "tag"), b"de"]
+            self.assertIs(langtag.best_for_header("zh;q=0.5, de", many), many[-1])
+            self.assertIs(langtag.best_for_header("zh", tuple(many)), many[-2])
+        for wrong in (("de", tags), (b"de", tags), ([5], tags), ([None], tags), (5, tags), (["de"], [5])):
+            with self.assertRaises(TypeError):
+                langtag.best_for_ranges(*wrong)
+        with self.assertRaises(InvalidTag):
+            langtag.best_for_header("de", ["de", "de_"])
+
     def test_long_headers(self):
         begun = time.monotonic()
         for header in ("ab-" * 21_000 + "ab", "a-" * 32_000 + "b", "de-CH," * 10_000):

@@ -217,7 +217,7 @@ def answer_refused(text):
         why = str(error).rpartition(": ")[2]
         kind = "end" if why == "it ends too soon" else "byte" if why.endswith("stands in no subtag") else "subtag"
         answer, start, length, offset = langtag._backend.refused(text)
-        assert offset == error.offset and text[start : start + length].decode("utf-8", "backslashreplace") == error.subtag
+        assert (start, offset) == (error.start, error.offset) and text[start : start + length].decode("utf-8", "backslashreplace") == error.subtag
         return f"{kind} {start} {length} {offset}"
     return f"none {len(text)} 0 {len(text)}"
 
@@ -243,6 +243,8 @@ def answer_best(header, tags):
     texts = tags.decode().split()
     found = langtag.best_for_header(header, texts, DEFAULT)
     assert langtag.best_for_header(header, map(Tag, texts), DEFAULT) == (found if found == DEFAULT else Tag(found))
+    assert langtag.AcceptLanguage.lenient(header).best(texts, DEFAULT) == found
+    assert b";" in header or langtag.best_for_ranges(header.split(b","), texts, DEFAULT) == found
     return found
 
 

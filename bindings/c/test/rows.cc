@@ -282,7 +282,12 @@ static std::string posix_of(const strings &asked) { return langtag::from_posix(a
 
 static std::string best_of(const strings &asked) {
     const strings texts = split(asked[1], " ");
-    return found_or_default(langtag::best_for_header(asked[0], tags_of(texts)));
+    const auto best = langtag::best_for_header(asked[0], tags_of(texts));
+    if (langtag::best_for_header(asked[0], texts) != best || langtag::accept_language(asked[0]).best(texts) != best)
+        return "another of texts";
+    if (asked[0].find(';') == std::string::npos && langtag::best_for_ranges(split(asked[0], ","), texts) != best)
+        return "another of ranges";
+    return found_or_default(best);
 }
 
 static const struct call {

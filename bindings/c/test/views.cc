@@ -3,7 +3,9 @@
 
 #include <cstdio>
 #include <map>
+#include <set>
 #include <sstream>
+#include <string>
 #include <type_traits>
 #include <unordered_map>
 
@@ -34,6 +36,17 @@ static_assert(!is_range<std::string>::value && !is_range<const std::string>::val
 static_assert(!std::is_constructible<langtag::accept_language, std::string>::value);
 static_assert(!std::is_constructible<langtag::subtags, std::string>::value);
 static_assert(!std::is_constructible<langtag::extensions, const std::string>::value);
+
+/* A list of tags may be given, or it can't: a temporary one that owns its texts. */
+template <class List, class = void> struct is_listed : std::false_type {};
+template <class List>
+struct is_listed<List, std::void_t<decltype(langtag::best_for_header("de", std::declval<List>())),
+                                   decltype(langtag::best_for_ranges({"de"}, std::declval<List>()))>> : std::true_type {};
+template <class Element> constexpr bool is_listed_as_temporary = is_listed<std::vector<Element>>::value;
+static_assert(is_listed_as_temporary<tag> && is_listed_as_temporary<std::string_view> && is_listed_as_temporary<const char *>);
+static_assert(!is_listed_as_temporary<std::string> && !is_listed_as_temporary<langtag::owned_tag>);
+static_assert(is_listed<std::vector<std::string> &>::value && is_listed<const std::set<langtag::owned_tag> &>::value);
+static_assert(!is_listed<int>::value);
 
 static void check_views() {
     CHECK(!tag::parse({}) && !langtag::range::parse({}) && langtag::viable({}) == 0 && langtag::stop({}) == 0);
@@ -115,8 +128,27 @@ static void check_likely() {
     CHECK(best && best->text().data() == other->text().data());
     CHECK(langtag::best_for_header("zh_CN.UTF-8", tags) == tags[1] && !langtag::best_for_header("fi", tags));
     CHECK(!langtag::best_for_header({}, tags) && !langtag::best_for_header("en", {}));
+    CHECK(langtag::best_for_header("de", {tags[0]}) == std::nullopt && langtag::best_for_header("de", {"en", "DE"}) == "de");
     CHECK(langtag::from_posix("sr_RS@latin") == "sr-Latn-RS" && !langtag::from_posix("C") && !langtag::from_posix({}));
     CHECK(langtag::cldr_version() == langtag_cldr_version());
+}
+
+/* The lists that hold tags. What is no tag is passed over. */
+static void check_lists() {
+    const char *header = "zh-TW,de;q=0.5";
+    std::vector<langtag::owned_tag> owners;
+    for (const char *text : {"en", "zh-Hant", "de"}) owners.push_back(*langtag::owned_tag::parse(text));
+    const auto best = langtag::best_for_header(header, owners);
+    CHECK(best && best->text().data() == owners[1].text().data());
+    const std::string strings[] = {"", "zh_Hant", "de"};
+    CHECK(langtag::best_for_header(header, strings)->text().data() == strings[2].data());
+    CHECK(langtag::best_for_header(header, std::set<std::string_view>{"en", "zh-Hant"}) == "zh-Hant");
+    const char *const literals[] = {"en", "zh-HK"};
+    CHECK(langtag::best_for_header(header, literals) == "zh-HK" && langtag::accept_language(header).best(literals) == "zh-HK");
+    CHECK(langtag::best_for_ranges({"fi", "", "*", "en;q=0", "de,de", "*-AT", "de-*AT", "en-*-*-GB", "de"}, owners) == "en");
+    CHECK(!langtag::best_for_ranges({}, owners) && !langtag::best_for_ranges({"de,de", "de-*AT"}, owners));
+    const std::vector<langtag::range> ranges = {*langtag::range::parse("*-CH"), *langtag::range::parse("de-*-CH")};
+    CHECK(langtag::best_for_ranges(ranges, owners) == "de" && langtag::best_for_ranges(std::vector<std::string>{"de_CH"}, {"fr", "de"}) == "de");
 }
 
 static void check_written() {
@@ -142,6 +174,7 @@ int main() {
     check_keys();
     check_refused();
     check_likely();
+    check_lists();
     check_written();
     check_ranges();
     return failures != 0;

@@ -1,7 +1,7 @@
 /* What the package answers to a row, in the row's words. It runs in Node and in a page. */
 import {
-    AcceptLanguageError, bestForHeader, distance, EditError, GRANDFATHERED, InvalidRange, InvalidTag, LanguageRange, LanguageTag, lookUp, stopLength,
-    tagForHeader, tagForHeaderLenient, viableLength,
+    AcceptLanguage, AcceptLanguageError, bestForHeader, bestForRanges, distance, EditError, GRANDFATHERED, InvalidRange, InvalidTag,
+    LanguageRange, LanguageTag, lookUp, stopLength, tagForHeader, tagForHeaderLenient, viableLength,
 } from "../index.js";
 import * as calls from "../calls.js";
 
@@ -179,6 +179,8 @@ function answerBest(header, list) {
     const texts = list.split(" ").filter(Boolean);
     const found = bestForHeader(header, texts, DEFAULT);
     assert(String(bestForHeader(header, texts.map((text) => LanguageTag.parse(text)), DEFAULT)) === found, "the tag of tags");
+    assert(AcceptLanguage.lenient(header).best(texts, DEFAULT) === found, "the tag of a header that was read");
+    assert(header.includes(";") || bestForRanges(header.split(","), texts, DEFAULT) === found, "the tag of ranges");
     return found;
 }
 

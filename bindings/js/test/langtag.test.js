@@ -9,7 +9,7 @@ import * as langtag from "../index.js";
 
 const {
     AcceptLanguage, AcceptLanguageError, EditError, GRANDFATHERED, InvalidRange, InvalidTag, LanguageRange, LanguageTag, REGISTRY_DATE,
-    bestForHeader, CLDR_VERSION, distance, lookUp, stopLength, tagForHeader, tagForHeaderLenient, viableLength,
+    bestForHeader, bestForRanges, CLDR_VERSION, distance, lookUp, stopLength, tagForHeader, tagForHeaderLenient, viableLength,
 } = langtag;
 
 /** How many bytes the module's memory has: of each module that is started, in their order. */
@@ -100,6 +100,7 @@ test("where a text is refused", () => {
         ["en--us", "", 3, "a subtag is empty at 3"], ["de-\u{1f600}", "\u{1f600}", 3, 'no subtag has the "\u{1f600}" at 3']]) {
         const error = thrown(() => LanguageTag.parse(text));
         assert.deepEqual([error.subtag, error.offset, error.reason], [subtag, offset, reason]);
+        assert.equal(error.start, text === "de_CH" ? 0 : offset);
         assert.equal(error.message, `${JSON.stringify(text)} is not a language tag: ${reason}`);
     }
 });
@@ -112,6 +113,11 @@ test("likely subtags, distances and the best tag", () => {
     assert.equal(bestForHeader("", tags), undefined);
     assert.equal(bestForHeader("", tags, "en"), "en");
     assert.equal(bestForHeader("fr", [], "en"), "en");
+    assert.equal(bestForRanges(["fi", "", "*", "en;q=0", "de,de", "*-AT", "de-*AT", "EN-*-*-GB", "de"], ["de", "en"]), "en");
+    assert.equal(bestForRanges(new Set([LanguageRange.parse("*-DE"), LanguageRange.parse("de-*-DE")]), ["en", "de"]), "de");
+    assert.equal(bestForRanges(["fi"], ["de"]), undefined);
+    assert.throws(() => bestForRanges("de", ["de"]), TypeError);
+    assert.equal(AcceptLanguage.parse("en;q=0, fr, *;q=0.5").best(["en", "fr-CA"]), "fr-CA");
     assert.equal(bestForHeader("no", [LanguageTag.parse("nb")])?.text, "nb");
     assert.equal(distance("de", "de"), 0);
     assert.ok(distance("de-AT", "de-DE") > 0 && distance("de-AT", "de-DE") < distance("de-AT", "ja"));
@@ -167,6 +173,7 @@ test("edits", () => {
     }
     const of = LanguageTag.parse("en-1-ab-u-co-a-bb");
     assert.equal(String(LanguageTag.parse("de").with({ extensions: of.extensions })), "de-1-ab-u-co-a-bb");
+    assert.throws(() => tag.with({ region: 419 }), { name: "TypeError", message: "a part is a text or has several, and this is of type number" });
     assert.throws(() => tag.with({ region: "Switzerland" }), (error) => error instanceof EditError && error instanceof RangeError &&
         error.message === `"Switzerland" can't be the region of a tag` && error.part === "region" && error.text === "Switzerland");
     assert.throws(() => LanguageTag.parse("x-a").with({ region: "CH" }), { name: "EditError", message: "not a normal language tag" });

@@ -1,5 +1,5 @@
 // What tsc has to take, and what it has to refuse.
-import { AcceptLanguage, EditError, InvalidTag, LanguageRange, LanguageTag, lookUp, REGISTRY_DATE, tagForHeader, type Fault } from "langtag-verified";
+import { AcceptLanguage, bestForRanges, EditError, InvalidTag, LanguageRange, LanguageTag, lookUp, REGISTRY_DATE, tagForHeader, type Fault } from "langtag-verified";
 
 const tag: LanguageTag = LanguageTag.parse("zh-Hant");
 const script: string | undefined = tag.script;
@@ -9,6 +9,7 @@ const other = tag.with({ script: "Latn", region: null, variants: ["1996"], exten
 const again = LanguageTag.from({ language: "de", extensions: other.extensions });
 const found: "de" | "fr" = tagForHeader("fr", ["de", "fr"] as const, "de");
 const none: LanguageTag | undefined = lookUp(["fr", LanguageRange.parse("*")], [tag, again]);
+const best: "de" | "fr" | undefined = bestForRanges([...(["fr"] as readonly string[]), LanguageRange.parse("de")], ["de", "fr"] as const);
 const weights: number[] = AcceptLanguage.lenient("fr").ranges.map(({ weight }) => weight);
 const sorted: string[] = ["zh", "de"].sort(LanguageTag.compare);
 const kinds: "normal" | "private-use" | "irregular" = tag.kind;
@@ -18,7 +19,7 @@ try {
     if (error instanceof InvalidTag) console.log(error.text, error.offset, error.viable, error.message);
     if (error instanceof EditError) console.log(error.part === "script");
 }
-console.log(script, subtags, fault, found, none, weights, sorted, kinds, REGISTRY_DATE.length, tag.fnv1a() > 0n, tag.equals("ZH"));
+console.log(script, subtags, fault, found, none, best, weights, sorted, kinds, REGISTRY_DATE.length, tag.fnv1a() > 0n, tag.equals("ZH"));
 
 // @ts-expect-error a number is not a text
 LanguageTag.parse(5);

@@ -38,69 +38,103 @@ PyObject *lt_from_posix(PyObject *module, PyObject *from) {
     return made;
 }
 
-/* A tag, or the tag of a text by the class that Python calls Tag. A new reference; NULL with an exception where it is neither. */
-static PyObject *as_tag(PyObject *item, PyObject *type) {
-    int is_text = PyUnicode_Check(item) || PyBytes_Check(item);
-    PyObject *tag = is_text ? PyObject_CallFunctionObjArgs(type, item, NULL) : item;
-    if (!is_text) Py_INCREF(tag);
-    if (!tag || lt_as_tag(tag, "a header gets a Tag or a text, and not %S")) return tag;
-    Py_DECREF(tag);
-    return NULL;
+/* The texts of the tags to choose from, one behind the other, and their spans; in the room at the end where that is enough. */
+typedef struct {
+    langtag_span *spans;
+    char *text;
+    size_t count, len, room;
+    PyTypeObject *known; /* of the last tag, so that it need not be asked again */
+    langtag_span few[64];
+    char little[1024];
+} Offered;
+
+static int open_offered(Offered *offered, size_t count) {
+    offered->count = offered->len = 0;
+    offered->room = sizeof offered->little;
+    offered->text = offered->little;
+    offered->known = NULL;
+    int is_few = count <= sizeof offered->few / sizeof *offered->few;
+    offered->spans = is_few ? offered->few : PyMem_Malloc(count * sizeof *offered->spans);
+    if (offered->spans) return 0;
+    PyErr_NoMemory();
+    return -1;
 }
 
-/* The tags of a list. */
-static PyObject *tags_of(PyObject *listed, PyObject *type) {
-    PyObject *tags = PyList_New(PyList_Size(listed));
-    for (Py_ssize_t i = 0; tags && i < PyList_Size(tags); i++) {
-        PyObject *tag = as_tag(PyList_GetItem(listed, i), type);
-        if (!tag || PyList_SetItem(tags, i, tag)) {
-            Py_DECREF(tags);
-            tags = NULL;
-        }
-    }
-    return tags;
+static void close_offered(Offered *offered) {
+    if (offered->spans != offered->few) PyMem_Free(offered->spans);
+    if (offered->text != offered->little) PyMem_Free(offered->text);
 }
 
-/* The index of the best of a list of tags, and how many there are where it is none; -1 with an exception. The texts are put
- * one behind the other, in one block with their spans. */
-static Py_ssize_t best_of(Text header, PyObject *tags) {
-    size_t count = (size_t)PyList_Size(tags), length = 0, at = 0;
-    for (size_t i = 0; i < count; i++) length += (size_t)((Value *)PyList_GetItem(tags, (Py_ssize_t)i))->text.len;
-    langtag_span *spans = PyMem_Malloc(count * sizeof *spans + length + 1);
-    if (!spans) {
+static int grow(Offered *offered, size_t len) {
+    size_t room = 2 * (offered->len + len);
+    char *more = PyMem_Malloc(room);
+    if (!more) {
         PyErr_NoMemory();
         return -1;
     }
-    char *text = (char *)(spans + count);
-    for (size_t i = 0; i < count; i++) {
-        const Text *tag = &((Value *)PyList_GetItem(tags, (Py_ssize_t)i))->text;
-        spans[i] = (langtag_span){at, (size_t)tag->len};
-        memcpy(text + at, tag->data, (size_t)tag->len);
-        at += (size_t)tag->len;
-    }
-    LET_GO(header.len);
-    size_t best = langtag_best_for_header(header.data, (size_t)header.len, text, at, spans, count);
-    TAKE_BACK();
-    PyMem_Free(spans);
-    return (Py_ssize_t)best;
+    memcpy(more, offered->text, offered->len);
+    if (offered->text != offered->little) PyMem_Free(offered->text);
+    offered->text = more;
+    offered->room = room;
+    return 0;
 }
 
-/* Borrowed from the list. */
+static int add(Offered *offered, const Text *tag) {
+    size_t len = (size_t)tag->len;
+    if (len > offered->room - offered->len && grow(offered, len)) return -1;
+    memcpy(offered->text + offered->len, tag->data, len);
+    offered->spans[offered->count++] = (langtag_span){offered->len, len};
+    offered->len += len;
+    return 0;
+}
+
+/* Adds a text, which the class that Python calls Tag refuses where it is no tag. */
+static int add_text(Offered *offered, PyObject *from, PyObject *type) {
+    Text text;
+    if (lt_text(from, &text)) return -1;
+    int status = -1;
+    if (langtag_kind(text.data, (size_t)text.len)) status = add(offered, &text);
+    else lt_refuse(type, from);
+    Py_DECREF(text.owner);
+    return status;
+}
+
+static int add_item(Offered *offered, PyObject *item, PyObject *type) {
+    Value *tag = (Value *)item;
+    if (Py_TYPE(item) != offered->known || !tag->text.owner) {
+        if (PyUnicode_Check(item) || PyBytes_Check(item)) return add_text(offered, item, type);
+        if (!lt_as_tag(item, "a header gets a Tag or a text, and not %S")) return -1;
+        offered->known = Py_TYPE(item);
+    }
+    return add(offered, &tag->text);
+}
+
+/* Borrowed from a list or a tuple, which nothing changes meanwhile. */
 static PyObject *best(Text header, PyObject *listed, PyObject *otherwise, PyObject *type) {
-    PyObject *tags = tags_of(listed, type);
-    if (!tags) return NULL;
-    Py_ssize_t index = best_of(header, tags);
-    Py_DECREF(tags);
-    if (index < 0) return NULL;
-    return index < PyList_Size(listed) ? PyList_GetItem(listed, index) : otherwise;
+    Offered offered;
+    PyObject *(*item)(PyObject *, Py_ssize_t) = PyList_Check(listed) ? PyList_GetItem : PyTuple_GetItem;
+    size_t count = (size_t)PySequence_Size(listed), index = count;
+    if (open_offered(&offered, count)) return NULL;
+    int status = 0;
+    for (size_t i = 0; i < count && !status; i++) status = add_item(&offered, item(listed, (Py_ssize_t)i), type);
+    if (!status) {
+        LET_GO(header.len);
+        index = langtag_best_for_header(header.data, (size_t)header.len, offered.text, offered.len, offered.spans, count);
+        TAKE_BACK();
+    }
+    close_offered(&offered);
+    if (status) return NULL;
+    return index < count ? item(listed, (Py_ssize_t)index) : otherwise;
 }
 
 PyObject *lt_best_for_header(PyObject *module, PyObject *arguments) {
     (void)module;
     PyObject *from, *all, *otherwise, *type;
     Text header;
-    if (!PyArg_ParseTuple(arguments, "OOOO", &from, &all, &otherwise, &type) || lt_text(from, &header)) return NULL;
-    PyObject *listed = PySequence_List(all), *found = listed ? best(header, listed, otherwise, type) : NULL;
+    if (!PyArg_UnpackTuple(arguments, "best_for_header", 4, 4, &from, &all, &otherwise, &type) || lt_text(from, &header)) return NULL;
+    /* The caller's own list, but where others may change it: those that run during a call on a long header. */
+    PyObject *listed = header.len < LONG_TEXT ? PySequence_Fast(all, "the tags are not iterable") : PySequence_Tuple(all);
+    PyObject *found = listed ? best(header, listed, otherwise, type) : NULL;
     Py_XINCREF(found);
     Py_XDECREF(listed);
     Py_DECREF(header.owner);

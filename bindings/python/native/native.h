@@ -51,6 +51,7 @@ PyObject *lt_changed(const Value *self, void (*change)(char *, size_t)); /* a co
 int lt_init(PyObject *self, PyObject *arguments, PyObject *named, int is_tag);
 int lt_tag_init(PyObject *self, PyObject *arguments, PyObject *named);
 Value *lt_as_tag(PyObject *object, const char *message); /* NULL with the message where it is no Tag */
+void lt_refuse(PyObject *class, PyObject *from); /* a text that is no tag, with the exception of the class of tags */
 
 #define FUNCTION(name) (PyCFunction)(void (*)(void))(name)
 

@@ -18,10 +18,8 @@ static PyObject *matches_text(const Value *self, const char *data, Py_ssize_t le
 /* Refuses a text that is no tag as its class `_tag` does. */
 static PyObject *refuse(const Value *self, PyObject *from) {
     PyObject *class = PyObject_GetAttrString((PyObject *)self, "_tag");
-    PyObject *made = class ? PyObject_CallFunctionObjArgs(class, from, NULL) : NULL;
+    if (class) lt_refuse(class, from);
     Py_XDECREF(class);
-    if (made) PyErr_SetString(PyExc_SystemError, "langtag: a tag that is none");
-    Py_XDECREF(made);
     return NULL;
 }
 

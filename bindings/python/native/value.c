@@ -50,6 +50,12 @@ Value *lt_as_tag(PyObject *object, const char *message) {
     return NULL;
 }
 
+void lt_refuse(PyObject *class, PyObject *from) {
+    PyObject *made = PyObject_CallFunctionObjArgs(class, from, NULL);
+    if (made) PyErr_SetString(PyExc_SystemError, "langtag: a tag that is none");
+    Py_XDECREF(made);
+}
+
 static PyObject *only_argument(PyObject *arguments, PyObject *named) {
     static char *names[] = {"text", NULL};
     PyObject *text;

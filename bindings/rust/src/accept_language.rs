@@ -97,6 +97,19 @@ impl<'a> AcceptLanguage<'a> {
         }
         best
     }
+
+    /// Returns the index of the tag, or the text of one, that the reader wants, as [`best_for_header`](crate::best_for_header)
+    /// does: `de` for `de-CH`. It reads the whole header, and bad elements as what they mean.
+    ///
+    /// ```
+    /// # use langtag_verified::AcceptLanguage;
+    /// assert_eq!(AcceptLanguage::new("de-CH, en;q=0.5")?.best(&["en", "de"]), Some(1));
+    /// # Ok::<(), langtag_verified::AcceptLanguageError<&str>>(())
+    /// ```
+    #[cfg(feature = "alloc")]
+    pub fn best<T: AsRef<str>>(&self, tags: &[T]) -> Option<usize> {
+        crate::best_for_header(self.header, tags)
+    }
 }
 
 impl<'a> IntoIterator for AcceptLanguage<'a> {

@@ -6,11 +6,12 @@ use core::str::FromStr;
 use crate::caseless::caseless;
 use crate::ffi::Parsed;
 use crate::{
-    CaselessStr, Extensions, InvalidLangTag, InvalidSubtag, Kind, LangTag, Language, PrivateUse,
-    Variants,
+    BufferTooShort, CaselessStr, Extensions, InvalidLangTag, InvalidSubtag, Kind, LangTag,
+    Language, PrivateUse, Subtags, Variants,
 };
 
-/// A language tag that owns its text. [`as_lang_tag`](LangTagBuf::as_lang_tag) lends it, and has the parts.
+/// A language tag that owns its text. It has what [`LangTag`] has, which [`as_lang_tag`](LangTagBuf::as_lang_tag) lends, and
+/// setters.
 ///
 /// ```
 /// use langtag_verified::LangTagBuf;
@@ -18,7 +19,7 @@ use crate::{
 /// let mut tag: LangTagBuf = "ZH-hant-tw".parse()?;
 /// tag.make_recommended_case();
 /// assert_eq!(tag.as_str(), "zh-Hant-TW");
-/// assert_eq!(tag.as_lang_tag().region(), Some("TW"));
+/// assert_eq!((tag.region(), tag.to_minimized().as_str()), (Some("TW"), "zh-TW"));
 /// # Ok::<(), langtag_verified::InvalidLangTag<String>>(())
 /// ```
 #[derive(Clone)]
@@ -56,60 +57,6 @@ impl LangTagBuf {
         self.0.lend().text()
     }
 
-    /// What kind of tag it is.
-    pub fn kind(&self) -> Kind {
-        self.as_lang_tag().kind()
-    }
-
-    /// Whether the tag is valid, as [`LangTag::validate`] says.
-    ///
-    /// # Errors
-    ///
-    /// The first subtag that is wrong.
-    pub fn validate(&self) -> Result<(), InvalidSubtag<&str>> {
-        self.as_lang_tag().validate()
-    }
-
-    /// Whether the tag is its own canonical form, as [`LangTag::is_canonical`] says.
-    pub fn is_canonical(&self) -> bool {
-        self.as_lang_tag().is_canonical()
-    }
-
-    /// The language of a normal tag: `zh-yue`.
-    pub fn language(&self) -> Option<Language<'_>> {
-        self.as_lang_tag().language()
-    }
-
-    /// The script: `Hant`.
-    pub fn script(&self) -> Option<&str> {
-        self.as_lang_tag().script()
-    }
-
-    /// The region: `HK`, `419`.
-    pub fn region(&self) -> Option<&str> {
-        self.as_lang_tag().region()
-    }
-
-    /// The variants: `rozaj-1994`.
-    pub fn variants(&self) -> Variants<'_> {
-        self.as_lang_tag().variants()
-    }
-
-    /// The extensions: `u-co-pinyin`.
-    pub fn extensions(&self) -> Extensions<'_> {
-        self.as_lang_tag().extensions()
-    }
-
-    /// The private use part: `x-mine`. A tag for private use is all of it.
-    pub fn private_use(&self) -> Option<PrivateUse<'_>> {
-        self.as_lang_tag().private_use()
-    }
-
-    /// The text in small letters, to sort by for people, as [`LangTag::to_folded`] says.
-    pub fn to_folded(&self) -> String {
-        self.as_lang_tag().to_folded()
-    }
-
     /// The text without its case, to ask a map by.
     #[inline]
     pub fn as_caseless_str(&self) -> &CaselessStr {
@@ -129,8 +76,52 @@ impl LangTagBuf {
 
     /// Puts the canonical form in the tag's place, as [`LangTag::to_canonical`] says: `he` in that of `iw`.
     pub fn make_canonical(&mut self) {
-        *self = self.as_lang_tag().to_canonical();
+        *self = self.to_canonical();
     }
+}
+
+/// Writes methods of [`LangTag`] over the tag that is lent.
+macro_rules! lent {
+    ($($name:ident$(<$lifetime:lifetime>)?($($argument:ident: $type:ty)?) -> $result:ty;)+) => {
+        impl LangTagBuf {$(
+            #[doc = concat!("Returns what [`LangTag::", stringify!($name), "`] returns.")]
+            #[inline]
+            pub fn $name$(<$lifetime>)?(&self, $($argument: $type)?) -> $result {
+                self.as_lang_tag().$name($($argument)?)
+            }
+        )+}
+    };
+}
+
+lent! {
+    as_bytes() -> &[u8];
+    kind() -> Kind;
+    is_normal() -> bool;
+    is_private_use() -> bool;
+    is_grandfathered() -> bool;
+    as_grandfathered() -> Option<&'static str>;
+    language() -> Option<Language<'_>>;
+    script() -> Option<&str>;
+    region() -> Option<&str>;
+    variants() -> Variants<'_>;
+    extensions() -> Extensions<'_>;
+    private_use() -> Option<PrivateUse<'_>>;
+    private_use_subtags() -> Subtags<'_>;
+    subtags() -> Subtags<'_>;
+    repeated_variant() -> Option<&str>;
+    repeated_singleton() -> Option<char>;
+    validate() -> Result<(), InvalidSubtag<&str>>;
+    fnv1a() -> u64;
+    to_folded() -> String;
+    to_recommended_case() -> LangTagBuf;
+    is_canonical() -> bool;
+    to_canonical() -> LangTagBuf;
+    canonical_into<'b>(buffer: &'b mut [u8]) -> Result<LangTag<'b>, BufferTooShort>;
+    to_maximized() -> LangTagBuf;
+    maximized_into<'b>(buffer: &'b mut [u8]) -> Result<LangTag<'b>, BufferTooShort>;
+    to_minimized() -> LangTagBuf;
+    minimized_into<'b>(buffer: &'b mut [u8]) -> Result<LangTag<'b>, BufferTooShort>;
+    is_right_to_left() -> bool;
 }
 
 impl FromStr for LangTagBuf {

@@ -107,7 +107,7 @@ pub use language_range::LanguageRange;
 #[cfg(feature = "alloc")]
 pub use language_range_buf::LanguageRangeBuf;
 #[cfg(feature = "alloc")]
-pub use likely::{best_for_header, from_posix};
+pub use likely::{best_for_header, best_for_ranges, from_posix};
 pub use likely::{cldr_version, distance};
 pub use look_up::look_up;
 pub use prefix::{stop_len, viable_len};

@@ -1,9 +1,12 @@
+#[cfg(feature = "alloc")]
+use alloc::{borrow::Cow, vec::Vec};
+
 use crate::canonical::write_into;
 #[cfg(feature = "alloc")]
 use crate::canonical::written;
-#[cfg(feature = "alloc")]
-use crate::LangTagBuf;
 use crate::{ffi, BufferTooShort, LangTag};
+#[cfg(feature = "alloc")]
+use crate::{LangTagBuf, LanguageRange};
 
 /// Likely subtags (UTS #35, part 1), by the CLDR of [`cldr_version`]. Each subtag that the tag has stays; `und`, `Zzzz` and `ZZ`
 /// count as absent. What is deprecated stays, too: [`to_canonical`](LangTag::to_canonical) first replaces it.
@@ -82,22 +85,55 @@ pub fn distance(desired: &LangTag<'_>, supported: &LangTag<'_>) -> u8 {
     ffi::distance(desired.as_str(), supported.as_str()) as u8
 }
 
-/// Returns the index of the tag that a reader wants whose browser sends this Accept-Language header; None where it wants none of
-/// them. Bad elements are read as what they mean, as `de_CH`.
+/// Returns the index of the tag, or the text of one, that a reader wants whose browser sends this Accept-Language header; None
+/// where it wants none of them. Bad elements are read as what they mean, as `de_CH`, and a text that is no tag is passed over.
 ///
 /// The first range with a tag that is nearly the same language gets its nearest one; else the first whose reader understands one;
 /// else what [`look_up`](crate::look_up()) finds. A tag that the header refuses by the weight 0 is never chosen.
 ///
 /// ```
-/// use langtag_verified::{best_for_header, LangTag};
+/// use langtag_verified::{best_for_header, LangTagBuf};
 ///
-/// let tags = ["en", "zh-Hans", "zh-Hant"].map(|text| LangTag::new(text).unwrap());
-/// assert_eq!(best_for_header("zh-TW,zh;q=0.9,en;q=0.8", &tags), Some(2));
-/// assert_eq!(best_for_header("fi", &tags), None);
+/// let have = ["en", "zh-Hans", "zh-Hant"];
+/// assert_eq!(best_for_header("zh-TW,zh;q=0.9,en;q=0.8", &have), Some(2));
+/// assert_eq!(best_for_header("fi", &have).map_or("en", |index| have[index]), "en");
+///
+/// let tags = have.map(|text| LangTagBuf::try_from(text).unwrap());
+/// assert_eq!(best_for_header("zh_CN", &tags), Some(1));
 /// ```
 #[cfg(feature = "alloc")]
-pub fn best_for_header(header: &str, tags: &[LangTag<'_>]) -> Option<usize> {
-    ffi::best_for_header(header, tags.iter().map(LangTag::as_str))
+pub fn best_for_header<T: AsRef<str>>(header: &str, tags: &[T]) -> Option<usize> {
+    ffi::best_for_header(header, tags.iter().map(AsRef::as_ref))
+}
+
+/// Returns the index of the tag, or the text of one, that a reader wants who asks for these ranges, the best one first, as
+/// [`best_for_header`] does for a header of them. An extended range counts without its `*`. A text that no element of a header
+/// can have, as `de;q=0`, is passed over.
+///
+/// ```
+/// use langtag_verified::{best_for_ranges, LanguageRange};
+///
+/// let have = ["en", "zh-Hans", "zh-Hant"];
+/// assert_eq!(best_for_ranges(&["fi", "en;q=0", "zh_TW", "en"], &have), Some(2));
+/// assert_eq!(best_for_ranges(&[LanguageRange::new("en-*-GB")?], &have), Some(0));
+/// # Ok::<(), langtag_verified::InvalidLanguageRange<&str>>(())
+/// ```
+#[cfg(feature = "alloc")]
+pub fn best_for_ranges<R: AsRef<str>, T: AsRef<str>>(ranges: &[R], tags: &[T]) -> Option<usize> {
+    let elements: Vec<_> = ranges
+        .iter()
+        .filter_map(|it| element(it.as_ref()))
+        .collect();
+    best_for_header(&elements.join(","), tags)
+}
+
+/// Returns a range as an element of a header; None of what none can have.
+#[cfg(feature = "alloc")]
+fn element(range: &str) -> Option<Cow<'_, str>> {
+    match LanguageRange::new(range) {
+        Ok(read) if !read.is_basic() => Some(range.replace("-*", "").into()),
+        _ => (!range.contains([',', ';'])).then(|| range.into()),
+    }
 }
 
 /// Returns the tag of a POSIX locale's name; None where it names none, as `C` and `POSIX`.

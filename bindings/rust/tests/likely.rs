@@ -4,8 +4,8 @@
 mod rows;
 
 use langtag_verified::{
-    best_for_header, distance, from_posix, BufferTooShort, LangTag, LangTagBuf, Refusal,
-    RefusalKind,
+    best_for_header, best_for_ranges, distance, from_posix, AcceptLanguage, BufferTooShort,
+    LangTag, LangTagBuf, LanguageRange, Refusal, RefusalKind,
 };
 
 use rows::Row;
@@ -67,15 +67,20 @@ fn answer(row: &Row) -> Option<String> {
                 .iter()
                 .map(|text| LangTag::new(text).unwrap())
                 .collect();
-            best_for_header(row.text(0)?, &tags)
-                .map_or("-", |index| words[index])
-                .into()
+            let (header, found) = (row.text(0)?, best_for_header(row.text(0)?, &tags));
+            assert_eq!(AcceptLanguage::lenient(header).best(&tags), found);
+            assert_eq!(best_for_header(header, &words), found);
+            if !header.contains(';') {
+                let ranges: Vec<&str> = header.split(',').collect();
+                assert_eq!(best_for_ranges(&ranges, &tags), found);
+            }
+            found.map_or("-", |index| words[index]).into()
         }
     })
 }
 
 #[test]
-fn rows() {
+fn answers() {
     let files: [(&str, &[&str], usize); 6] = [
         ("refused", &["refused"], 60),
         ("likely", &["maximized", "minimized"], 250),
@@ -88,7 +93,37 @@ fn rows() {
         rows::ask(&rows::path(&format!("{name}.txt")), calls, floor, answer);
     }
     if let Ok(path) = std::env::var("LANGTAG_ANSWERS") {
-        let calls = ["refused", "maximized", "minimized", "distance", "right-to-left", "posix"];
+        let calls = [
+            "refused",
+            "maximized",
+            "minimized",
+            "distance",
+            "right-to-left",
+            "posix",
+        ];
         rows::ask(&path, &calls, 5000, answer);
     }
+}
+
+#[test]
+fn answers_to_texts_that_are_no_tags_and_no_ranges() {
+    let have = ["", "de_CH", "en", "de"].map(String::from);
+    assert_eq!(best_for_header("de, en;q=0.5", &have), Some(3));
+    assert_eq!(best_for_header("de", &have[..3]), None);
+    assert_eq!(best_for_header("de", &[] as &[LangTag]), None);
+    let ranges = [
+        "fi",
+        "",
+        "*",
+        "de,de",
+        "en;q=0",
+        "*-AT",
+        "de-*AT",
+        "EN-*-*-GB",
+        "de",
+    ];
+    assert_eq!(best_for_ranges(&ranges, &have), Some(2));
+    assert_eq!(best_for_ranges(&ranges[..7], &have), None);
+    let ranges = ["*-DE", "de-*-DE"].map(|text| LanguageRange::new(text).unwrap());
+    assert_eq!(best_for_ranges(&ranges, &have), Some(3));
 }

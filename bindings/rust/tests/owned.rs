@@ -89,6 +89,50 @@ fn are_compared_with_lent_ones() {
         (lent.variants(), lent.extensions())
     );
     assert_eq!(tag.private_use(), lent.private_use());
+    assert!(
+        tag.private_use_subtags().eq(lent.private_use_subtags())
+            && tag.subtags().eq(lent.subtags())
+    );
+    assert_eq!(
+        (tag.as_bytes(), tag.fnv1a()),
+        (lent.as_bytes(), lent.fnv1a())
+    );
+}
+
+#[test]
+fn have_what_lent_ones_have() {
+    let mut buffer = [0; 64];
+    let tag = LangTagBuf::try_from("IW-hebr-il").unwrap();
+    assert_eq!(
+        (tag.is_canonical(), tag.to_canonical().as_str()),
+        (false, "he-hebr-il")
+    );
+    assert_eq!(
+        tag.canonical_into(&mut buffer).unwrap().as_str(),
+        "he-hebr-il"
+    );
+    assert_eq!(tag.to_recommended_case().as_str(), "iw-Hebr-IL");
+    assert_eq!((tag.is_right_to_left(), tag.is_normal()), (true, true));
+    assert_eq!(
+        (tag.is_private_use(), tag.is_grandfathered()),
+        (false, false)
+    );
+    let tag = LangTagBuf::try_from("zh-TW").unwrap();
+    assert_eq!(
+        (tag.to_maximized(), tag.to_maximized().to_minimized()),
+        (LangTagBuf::try_from("zh-Hant-TW").unwrap(), tag.clone())
+    );
+    assert_eq!(tag.maximized_into(&mut buffer).unwrap(), "zh-Hant-TW");
+    assert_eq!(tag.minimized_into(&mut buffer).unwrap(), "zh-TW");
+    let tag = LangTagBuf::try_from("de-1996-1996-a-bb-A-cc").unwrap();
+    assert_eq!(
+        (tag.repeated_variant(), tag.repeated_singleton()),
+        (Some("1996"), Some('A'))
+    );
+    assert_eq!(
+        LangTagBuf::try_from("I-hak").unwrap().as_grandfathered(),
+        Some("i-hak")
+    );
 }
 
 #[test]
