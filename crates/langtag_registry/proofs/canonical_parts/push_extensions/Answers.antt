@@ -26,9 +26,6 @@ returns-then-are_in_order c =
           (pushes_same _ _ _ _ (ap (λ t. t ∷ []) c.as_bytes.ensures) c.push_subtag.ensures.pushed);
     }
 
-pub loop-singleton-init : goal.loop-singleton-init
-loop-singleton-init c = record { same_buffer = refl; so_far = λ es spells. pushes_none _ }
-
 pub loop-singleton-preserved-then-not-present-from : goal.loop-singleton-preserved-then-not-present-from
 loop-singleton-preserved-then-not-present-from c =
     let k = c.loop-singleton.singleton-index in

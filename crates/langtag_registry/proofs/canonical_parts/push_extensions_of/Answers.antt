@@ -33,9 +33,3 @@ loop-extension-preserved-then-folded_singleton-into_smallcase c = record {
       spells.members c.in-Some.ensures.steps c.folded_singleton.ensures c.into_smallcase.ensures c.if-folded_singleton-into_smallcase.true
       (c.loop-extension.invariant.so_far es spells);
 }
-
-pub returns : goal.returns
-returns c = record {
-  same_buffer = c.loop-extension.invariant.same_buffer;
-  pushed = λ es spells. all_pushed _ es _ _ _ c.in-None.ensures.steps.0 (c.loop-extension.invariant.so_far es spells);
-}

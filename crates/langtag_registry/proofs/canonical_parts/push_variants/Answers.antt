@@ -5,14 +5,6 @@ use Rattle.langtag_registry.proofs.CanonicalVariants.{none_replaced, one_replace
 use Rattle.langtag_registry.proofs.Pushed.{pushes_same}
 use Rattle.langtag_registry.proofs.canonical_parts.push_variants.Goals as goal
 
-pub loop-variant-init : goal.loop-variant-init
-loop-variant-init c = record {
-  can_next = tt;
-  is_finite = tt;
-  same_buffer = refl;
-  so_far = none_replaced _ _ _ (ap variants_left c.into_iter-variant-iterator.ensures.into_iter_gives ∙ c.iter-variant-items.ensures.list);
-}
-
 pub loop-variant-preserved : goal.loop-variant-preserved
 loop-variant-preserved c =
     let v = variant_text c.in-Some.variant in
@@ -26,9 +18,3 @@ loop-variant-preserved c =
       so_far = one_replaced _ _ (variants_left c.next.new.self) v _ _ _ c.in-Some.ensures.steps c.in-Some.variant.in_class c.loop-variant.invariant.so_far
           (pushes_same _ _ _ _ (ap (λ t. t ∷ []) becomes) c.push_subtag.ensures.pushed);
     }
-
-pub returns : goal.returns
-returns c = record {
-  same_buffer = c.loop-variant.invariant.same_buffer;
-  pushed = all_replaced _ _ _ _ c.in-None.ensures.steps.0 c.loop-variant.invariant.so_far;
-}

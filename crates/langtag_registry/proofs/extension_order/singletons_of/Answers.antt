@@ -22,6 +22,3 @@ loop-extension-preserved c = record {
       (omega (arith, c.from.ensures, c.folded_singleton.type_inv, c.loop-extension.invariant.long))
       (c.loop-extension.invariant.so_far es spells);
 }
-
-pub returns : goal.returns
-returns c = λ es spells. all_marked es _ _ c.in-None.ensures.steps.0 (c.loop-extension.invariant.so_far es spells)
