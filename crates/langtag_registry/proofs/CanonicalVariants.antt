@@ -11,7 +11,8 @@ use Rattle.langtag_registry.specs.Canonical.{canonical_variants}
 use Rattle.langtag_registry.specs.declared.output.Output.{Output}
 use Rattle.langtag_registry.specs.Output.{Pushes}
 use Rattle.langtag_registry.proofs.Pushed.{AreSome, some-append, pushes_none, pushes_both, pushes_same}
-use Rattle.langtag_registry.proofs.ReplacedSubtags.{replaced-holds, new_variant_variant, variant_settled}
+use Rattle.langtag_registry.proofs.FieldTables.{variants_good}
+use Rattle.langtag_registry.proofs.ReplacedSubtags.{replaced-holds, variant_settled}
 
 -- ---- where they stay
 
@@ -54,7 +55,7 @@ all_replaced all rest old new none so_far =
     pushes_same _ _ old new (ap canonical_variants whole) so_far.pushed
 
 canonical_variant : (v : List ℕ) → is_variant v ≡ true → is_variant (unwrap_or (preferred_variant v) v) ≡ true
-canonical_variant v h = replaced-holds preferred_variant (λ s. IsTrue (is_variant s)) v h (new_variant_variant v)
+canonical_variant v h = replaced-holds preferred_variant (λ s. IsTrue (is_variant s)) v h (variants_good v)
 
 canonical_variants-append : (vs ws : List (List ℕ)) → canonical_variants (vs ++ ws) ≡ canonical_variants vs ++ canonical_variants ws
 canonical_variants-append [] ws = refl
