@@ -6,26 +6,26 @@ NOTE = "Written by registry/generate.py. Do not edit."
 # The tables of numbers, and the lists whose numbers they are.
 KEYS = [(f"{kind}_keys", f"{kind.upper()}_KEYS", f"{kind}_subtags") for kind in ("extlang", "script", "region", "variant")]
 KEYS += [(f"deprecated_{kind}_keys", f"DEPRECATED_{kind.upper()}_KEYS", f"deprecated_{kind}s") for kind in ("language", "extlang", "region", "variant")]
-# The tables of fields: how the lemmas begin, the list, the tables, and the class of the values.
+# The tables of fields: how the lemmas begin, the field, the list, the tables, and the class of the values.
 FIELDS = [
-    ("preferred", "language_preferred", "PREFERRED_LANGUAGE", "is_primary"),
-    ("suppress", "language_suppress_script", "SUPPRESS_SCRIPT", "is_script"),
-    ("macro", "language_macrolanguage", "MACROLANGUAGE", "is_primary"),
-    ("prefix", "extlang_prefixes", "EXTLANG_PREFIX", "is_primary"),
-    ("regions", "region_preferred", "PREFERRED_REGION", "is_region"),
-    ("variants", "variant_preferred", "PREFERRED_VARIANT", "is_variant"),
+    ("preferred", "preferred_language", "language_preferred", "PREFERRED_LANGUAGE", "is_primary"),
+    ("suppress", "suppress_script", "language_suppress_script", "SUPPRESS_SCRIPT", "is_script"),
+    ("macro", "macrolanguage", "language_macrolanguage", "MACROLANGUAGE", "is_primary"),
+    ("prefix", "extlang_prefix", "extlang_prefixes", "EXTLANG_PREFIX", "is_primary"),
+    ("regions", "preferred_region", "region_preferred", "PREFERRED_REGION", "is_region"),
+    ("variants", "preferred_variant", "variant_preferred", "PREFERRED_VARIANT", "is_variant"),
 ]
 # What a class rests on, beside itself.
 CLASS = {"is_primary": "is_primary is_letter", "is_script": "is_script is_letter", "is_region": "is_region is_letter is_digit", "is_variant": "is_variant is_letter is_digit"}
 PLAIN = "folded_number fold_byte is_letter is_digit"
 
 
-def lemma(name: str, statement: str, unfolding: str = "", proof: str = "refl") -> str:
+def lemma(name: str, statement: str, unfolding: str = "", proof: str = "refl", given: str = "") -> str:
     """A lemma that is computed; a long statement stands on a line of its own."""
     line = f"pub {name} : {statement}"
     if len(line) > 160:
         line = f"pub {name} :\n    {statement}"
-    return "\n".join([line, *([f"unfolding {unfolding}"] if unfolding else []), f"{name} = {proof}"])
+    return "\n".join([line, *([f"unfolding {unfolding}"] if unfolding else []), f"{name}{given} = {proof}"])
 
 
 ARE_KEYS = "record { numbers = refl; climb = refl; plain = refl }"
@@ -46,20 +46,24 @@ def key_tables() -> str:
 
 
 FIELD_HEAD = """-- The tables of fields have what the lists say: by computation. {note}
-use Rattle.std.proofs.Common.{{◌≡◌, true, map, refl}}
+use Rattle.std.proofs.Common.{{◌≡◌, ℕ, true, List, Some, map, refl}}
 use Rattle.std.specs.List.{{list_all}}
 use Rattle.langtag_scan.specs.Case.{{fold_byte, folded_number}}
 use Rattle.langtag_scan.specs.Class.{{is_letter, is_digit, is_primary, is_script, is_region, is_variant}}
 use Rattle.langtag_registry.specs.declared.tables.TheConstants as table
+use Rattle.langtag_registry.specs.Fields as field
 use Rattle.langtag_registry.specs.Subtags as list
-use Rattle.langtag_registry.specs.Tables.{{IsTableOf, AreEndsOf, end_number}}"""
+use Rattle.langtag_registry.specs.Tables.{{IsTableOf, AreEndsOf, end_number}}
+use Rattle.langtag_registry.proofs.Values.{{value_good}}"""
 
 
 def field_tables() -> str:
     blocks = [FIELD_HEAD.format(note=NOTE)]
-    for name, items, table, test in FIELDS:
+    for name, field, items, table, test in FIELDS:
         blocks += [lemma(f"{name}_table", f"IsTableOf table.{table}_KEYS (map (λ text. text.now) table.{table}_VALUES) list.{items}", f"list.{items} {PLAIN}", f"record {{ numbers = {ARE_KEYS}; beside = refl }}"),
-                   lemma(f"{name}_good", f"list_all {test} (map (λ e. e.value) list.{items}) ≡ true", f"list.{items} {CLASS[test]}")]
+                   lemma(f"{name}_values", f"list_all {test} (map (λ e. e.value) list.{items}) ≡ true", f"list.{items} {CLASS[test]}"),
+                   lemma(f"{name}_good", f"(text new : List ℕ) → field.{field} text ≡ Some new → {test} new ≡ true", f"field.{field}",
+                         f"value_good {test} list.{items} text new {name}_values is", " text new is")]
     entries = "map (λ pair. record { subtag = pair.0.now; value = pair.1.now }) table.PREFERRED_TAGS ≡ list.tag_preferred"
     ends = lemma("tag_ends", "AreEndsOf table.PREFERRED_TAG_KEYS (map (λ pair. pair.0.now) table.PREFERRED_TAGS)", "end_number folded_number fold_byte", "record { numbers = refl; climb = refl }")
     return "\n\n".join([*blocks, lemma("tag_entries", entries, "list.tag_preferred"), ends]) + "\n"

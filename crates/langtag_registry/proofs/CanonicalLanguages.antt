@@ -64,11 +64,11 @@ extlang_none text other = not_found extlang_subtags text other
 
 -- several extended subtags, and the language before them, stay
 pub several_pushed :
-    (primary first second : List ℕ) (extended others : List (List ℕ)) (text : List ℕ) (old new : Output) → extended ≡ first ∷ second ∷ others →
+    (primary first second : List ℕ) (extended others : List (List ℕ)) (text : List ℕ) (old new : Output) → is_primary primary ≡ true → extended ≡ first ∷ second ∷ others →
     join (primary ∷ extended) ≡ text → Pushes (text ∷ []) old new → Pushes (canonical_primary primary extended ∷ canonical_extended extended) old new
-several_pushed primary first second extended others text old new several joined these =
+several_pushed primary first second extended others text old new class several joined these =
     let stay : primary ∷ extended ≡ canonical_primary primary extended ∷ canonical_extended extended = rw several refl in
-    pushes_same _ _ old new stay (pushes_joined primary extended old new (pushes_same _ _ old new (ap (λ t. t ∷ []) (sym joined)) these))
+    pushes_same _ _ old new stay (pushes_joined primary extended old new (of_primary primary class).some (pushes_same _ _ old new (ap (λ t. t ∷ []) (sym joined)) these))
 
 -- one that is registered takes the place of the language, and becomes its Preferred-Value as a language
 pub extlang_pushed :
@@ -81,14 +81,13 @@ extlang_pushed primary extlang extended text old new one known same these =
 
 -- another stays after it
 pub other_pushed :
-    (primary value extlang : List ℕ) (extended : List (List ℕ)) (old middle new : Output) → is_primary primary ≡ true → extended ≡ extlang ∷ [] →
+    (primary value extlang : List ℕ) (extended : List (List ℕ)) (old middle new : Output) → extended ≡ extlang ∷ [] →
     is_registered_extlang extlang ≡ false → value ≡ unwrap_or (preferred_language primary) primary → Pushes (value ∷ []) old middle →
     Pushes (extlang ∷ []) middle new → Pushes (canonical_primary primary extended ∷ canonical_extended extended) old new
-other_pushed primary value extlang extended old middle new class one other same these those =
+other_pushed primary value extlang extended old middle new one other same these those =
     let becomes : value ∷ extlang ∷ [] ≡ canonical_primary primary extended ∷ canonical_extended extended =
     rw (one, extlang_none extlang other, other, same) refl in
-    let is : is_primary value ≡ true = rw same (canonical_primary_well_formed primary class) in
-    pushes_same _ _ old new becomes (pushes_both (value ∷ []) (extlang ∷ []) old middle new ((of_primary value is).some, tt) these those)
+    pushes_same _ _ old new becomes (pushes_both (value ∷ []) (extlang ∷ []) old middle new these those)
 
 -- ---- where it stays: `none` says that the primary subtag does
 

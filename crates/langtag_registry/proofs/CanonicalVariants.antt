@@ -5,13 +5,9 @@ use Rattle.std.specs.Option.{option_map}
 use Rattle.std.specs.List.{list_all}
 use Rattle.std.proofs.lemmas.Bool.{and_parts}
 use Rattle.langtag_scan.specs.Class.{is_variant}
-use Rattle.langtag_scan.proofs.SubtagFacts.{of_variant}
 use Rattle.langtag_registry.specs.Fields.{preferred_variant}
 use Rattle.langtag_registry.specs.Canonical.{canonical_variants}
-use Rattle.langtag_registry.specs.declared.output.Output.{Output}
-use Rattle.langtag_registry.specs.Output.{Pushes}
-use Rattle.langtag_registry.proofs.Pushed.{AreSome, some-append, pushes_none, pushes_both, pushes_same}
-use Rattle.langtag_registry.proofs.ReplacedSubtags.{replaced-holds, new_variant_variant, variant_settled}
+use Rattle.langtag_registry.proofs.ReplacedSubtags.{variant_settled}
 
 -- ---- where they stay
 
@@ -35,44 +31,6 @@ variants_stay (v ∷ vs) = (
       let others : canonical_variants vs ≡ vs = cc in
       rw ((variant_stays v).1 first, (variants_stay vs).1 others) refl,
 )
-
--- ---- one by one
-
--- what those before the rest became was put
-pub record AreReplaced (all rest : List (List ℕ)) (old new : Output) : Type 0 where
-  pub done : List (List ℕ)
-  pub split : done ++ rest ≡ all
-  pub some : AreSome (canonical_variants done)
-  pub pushed : Pushes (canonical_variants done) old new
-
-pub none_replaced : (all rest : List (List ℕ)) (out : Output) → rest ≡ all → AreReplaced all rest out out
-none_replaced all rest out whole = record { done = []; split = whole; some = tt; pushed = pushes_none out }
-
-pub all_replaced : (all rest : List (List ℕ)) (old new : Output) → rest ≡ [] → AreReplaced all rest old new → Pushes (canonical_variants all) old new
-all_replaced all rest old new none so_far =
-    let whole : so_far.done ≡ all = sym (append-nil so_far.done) ∙ ap (λ vs. so_far.done ++ vs) (sym none) ∙ so_far.split in
-    pushes_same _ _ old new (ap canonical_variants whole) so_far.pushed
-
-canonical_variant : (v : List ℕ) → is_variant v ≡ true → is_variant (unwrap_or (preferred_variant v) v) ≡ true
-canonical_variant v h = replaced-holds preferred_variant (λ s. IsTrue (is_variant s)) v h (new_variant_variant v)
-
-canonical_variants-append : (vs ws : List (List ℕ)) → canonical_variants (vs ++ ws) ≡ canonical_variants vs ++ canonical_variants ws
-canonical_variants-append [] ws = refl
-canonical_variants-append (v ∷ vs) ws = ap (λ us. unwrap_or (preferred_variant v) v ∷ us) (canonical_variants-append vs ws)
-
--- one more
-pub one_replaced :
-    (all rest left : List (List ℕ)) (v : List ℕ) (old middle new : Output) → rest ≡ v ∷ left → is_variant v ≡ true → AreReplaced all rest old middle →
-    Pushes (unwrap_or (preferred_variant v) v ∷ []) middle new → AreReplaced all left old new
-one_replaced all rest left v old middle new first class so_far these =
-    let more = sym (canonical_variants-append so_far.done (v ∷ [])) in
-    let some = some-append (canonical_variants so_far.done) _ so_far.some ((of_variant _ (canonical_variant v class)).some, tt) in
-    record {
-      done = so_far.done ++ v ∷ [];
-      split = append_assoc so_far.done (v ∷ []) left ∙ ap (λ vs. so_far.done ++ vs) (sym first) ∙ so_far.split;
-      some = subst AreSome more some;
-      pushed = pushes_same _ _ old new more (pushes_both (canonical_variants so_far.done) _ old middle new so_far.some so_far.pushed these);
-    }
 
 -- ---- whether one after the other has none
 

@@ -47,10 +47,6 @@ unfolding extlang_prefix is_extended
 prefixed_extended text value class is =
     rw (eq-eqb (length text) 3 (length_of_found extlang_prefixes text value subtags_three is)) (primary_letters text class)
 
-prefix_primary : (text value : List ℕ) → extlang_prefix text ≡ Some value → is_primary value ≡ true
-unfolding extlang_prefix
-prefix_primary text value is = value_good is_primary extlang_prefixes text value prefix_good is
-
 prefix_at_most : (text value : List ℕ) → extlang_prefix text ≡ Some value → length value ≤ 3
 unfolding extlang_prefix
 prefix_at_most text value is =
@@ -64,7 +60,7 @@ after_prefix :
 after_prefix primary value old new extended spells room is same =
     let few = spells.few in
     record {
-      first = prefix_primary primary value is;
+      first = prefix_good primary value is;
       others = (prefixed_extended primary value spells.first is, spells.others);
       few = grind (arith, nat_tests);
       short = inl (prefix_at_most primary value is);

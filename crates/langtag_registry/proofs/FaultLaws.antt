@@ -33,11 +33,11 @@ first_of a b c d e = option_or a (option_or b (option_or c (option_or d e)))
 abbrev singletons : Record → List ℕ
 singletons r = map (λ e. e.singleton) r.extensions
 
-pub first-faults :
+pub first_fault :
     (r : Record) →
     first (faults r) ≡ first_of (first (language_faults r.primary r.extended)) (first (script_faults r.script)) (first (region_faults r.region)) (first (variant_faults [] r.variants)) (first (singleton_faults [] (map (λ e. e.singleton) r.extensions)))
 unfolding faults
-first-faults r =
+first_fault r =
     let l = language_faults r.primary r.extended in
     let s = script_faults r.script in
     let g = region_faults r.region in
@@ -248,25 +248,14 @@ variants_none seen (v ∷ vs) all none =
 pub no_fault_of_valid : (r : Record) → IsValidRecord r → first (faults r) ≡ None
 no_fault_of_valid r valid =
     let ln : language_faults r.primary r.extended ≡ [] = rw valid.primary (extlangs_none r.extended valid.extended valid.one_extended) in
-    first-faults r
+    first_fault r
     ∙ ap (λ l. first_of (first l) (first (script_faults r.script)) (first (region_faults r.region)) (first (variant_faults [] r.variants)) (first (singleton_faults [] (singletons r)))) ln
     ∙ ap (λ s. first_of None (first s) (first (region_faults r.region)) (first (variant_faults [] r.variants)) (first (singleton_faults [] (singletons r)))) (script_none r.script valid.script)
     ∙ ap (λ g. first_of None None (first g) (first (variant_faults [] r.variants)) (first (singleton_faults [] (singletons r)))) (region_none r.region valid.region)
     ∙ ap (λ v. first_of None None None (first v) (first (singleton_faults [] (singletons r)))) (variants_none [] r.variants valid.variants (sym (repeat-after are_alike r.variants) ∙ valid.no_repeated_variant))
     ∙ first_singleton (singletons r) ∙ ap (option_map (λ b. repeated_singleton (b ∷ []))) valid.no_repeated_singleton
 
--- ---- the first fault, from those of the parts
-
-pub first_of_parts :
-    (r : Record) (l s g v x : Option Told) → l ≡ first (language_faults r.primary r.extended) → s ≡ first (script_faults r.script) →
-    g ≡ first (region_faults r.region) → v ≡ first (variant_faults [] r.variants) → x ≡ first (singleton_faults [] (map (λ e. e.singleton) r.extensions)) →
-    first_of l s g v x ≡ first (faults r)
-first_of_parts r l s g v x li si gi vi xi =
-    sym (first-faults r ∙ ap (λ o. first_of o (first (script_faults r.script)) (first (region_faults r.region)) (first (variant_faults [] r.variants)) (first (singleton_faults [] (singletons r)))) (sym li)
-    ∙ ap (λ o. first_of l o (first (region_faults r.region)) (first (variant_faults [] r.variants)) (first (singleton_faults [] (singletons r)))) (sym si)
-    ∙ ap (λ o. first_of l s o (first (variant_faults [] r.variants)) (first (singleton_faults [] (singletons r)))) (sym gi)
-    ∙ ap (λ o. first_of l s g o (first (singleton_faults [] (singletons r)))) (sym vi)
-    ∙ ap (first_of l s g v) (sym xi))
+-- ---- the parts of a record, and what was found
 
 pub language_spelled : (r : Record) (text : List ℕ) → IsWellFormed r → text ≡ language_part r → SpellsLanguage r.primary r.extended text
 language_spelled r text well same = record { first = well.primary; others = well.extended; few = well.few; short = well.short; joined = sym same }

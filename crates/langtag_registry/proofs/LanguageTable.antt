@@ -55,9 +55,9 @@ bit_of_words (word ∷ words) (suc q) k inside below =
     ∙ get_or-append-add (bits word) (flat_map bits words) (q * 64 + k) false
     ∙ bit_of_words words q k (omega (arith, inside)) below
 
-pub language_bit-at : (index : ℕ) → index < 18304 → language_bit index ≡ (get_or LANGUAGE_BITS (index / 64) 0 / 2 ^ (index % 64) % 2 == 1)
+pub language_bit_at : (index : ℕ) → index < 18304 → language_bit index ≡ (get_or LANGUAGE_BITS (index / 64) 0 / 2 ^ (index % 64) % 2 == 1)
 unfolding language_bit
-language_bit-at index below =
+language_bit_at index below =
     let at : index ≡ index / 64 * 64 + index % 64 = omega arith in
     ap (λ i. get_or (flat_map bits LANGUAGE_BITS) i false) at
     ∙ bit_of_words LANGUAGE_BITS (index / 64) (index % 64) (omega arith) (omega arith)
@@ -84,9 +84,9 @@ place_at n (suc i) (false ∷ list) =
 
 -- ---- the look-up
 
-pub language-from_bit : (text : List ℕ) → are_letters text ≡ true → 27 ≤ letter_number text → language_bit (letter_number text - 27) ≡ is_registered_language text
+pub language_from_bit : (text : List ℕ) → are_letters text ≡ true → 27 ≤ letter_number text → language_bit (letter_number text - 27) ≡ is_registered_language text
 unfolding language_bit is_registered_language
-language-from_bit text letters from =
+language_from_bit text letters from =
     let at : 27 + (letter_number text - 27) ≡ letter_number text = omega (arith, from) in
     sym (place_at 27 (letter_number text - 27) (flat_map bits LANGUAGE_BITS))
     ∙ ap (λ n. list_any (λ k. k == n) (places 27 (flat_map bits LANGUAGE_BITS))) at
@@ -104,6 +104,6 @@ long_apart text (first ∷ list) long all =
     omega (arith, short, long, same, length-map text fold_byte, length-map first fold_byte)) in
     rw (apart, long_apart text list long k.1) refl
 
-pub language-long : (text : List ℕ) → 3 < length text → is_registered_language text ≡ false
+pub long_language : (text : List ℕ) → 3 < length text → is_registered_language text ≡ false
 unfolding is_registered_language
-language-long text long = long_apart text language_subtags long all_short
+long_language text long = long_apart text language_subtags long all_short

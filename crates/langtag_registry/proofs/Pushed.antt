@@ -1,64 +1,65 @@
--- Subtags that are put into an output, after those that were joined.
-use Rattle.std.proofs.Common.{◌≡◌, ℕ, ◌≤◌, List, [], ◌∷◌, ◌++◌, length, Option, Some, None, refl, sym, ap, subst, ◌∙◌, arith, append_assoc, append-nil}
-use Rattle.std.specs.List.{AllByRecursion, flat_map}
+-- Subtags that are put into an output, after a text.
+use Rattle.std.proofs.Common.{◌≡◌, ℕ, ◌≤◌, List, [], ◌∷◌, ◌++◌, length, fold, Option, Some, None, refl, sym, ap, subst, ◌∙◌, arith, append_assoc, append-nil, length-append}
+use Rattle.std.specs.List.{flat_map}
 use Rattle.std.specs.Option.{option_map}
-use Rattle.langtag_scan.specs.Record.{PrivateUse, Record, IsWellFormed, extension_flat, private_use_flat, private_part_flat, one_flat, flat}
+use Rattle.std.proofs.lemmas.List.Sums.{fold-append}
+use Rattle.langtag_scan.specs.Record.{PrivateUse, Record, IsWellFormed, extension_flat, private_use_flat, private_part_flat, one_flat, flat, spell}
 use Rattle.langtag_scan.specs.Subtags.{join}
-use Rattle.langtag_scan.proofs.Joins.{join-append, join-hyphenated, length-join}
-use Rattle.langtag_scan.proofs.NormalTexts.{flat_subtags}
-use Rattle.langtag_scan.proofs.SubtagFacts.{IsSubtag}
+use Rattle.langtag_scan.proofs.Joins.{hyphenated, join-hyphenated}
+use Rattle.langtag_scan.proofs.SubtagFacts.{of_primary}
 use Rattle.langtag_registry.specs.declared.output.Output.{Output}
-use Rattle.langtag_registry.specs.Output.{HasText, Pushes}
+use Rattle.langtag_registry.specs.Output.{HasText, Pushes, with_subtag}
 
-abbrev pub AreSome : List (List ℕ) → Type 0
-AreSome ss = AllByRecursion (λ s. 1 ≤ length s) ss
+-- ---- a text and subtags
 
--- ---- one after the others
+pub with_subtag-none : (text subtag : List ℕ) → length text ≡ 0 → with_subtag text subtag ≡ subtag
+unfolding with_subtag
+with_subtag-none [] subtag none = refl
+with_subtag-none (b ∷ text) subtag none = absurd (omega (arith, none))
 
-pub join-first : (ss : List (List ℕ)) (s : List ℕ) → AreSome ss → length (join ss) ≡ 0 → join (ss ++ s ∷ []) ≡ s
-join-first [] s some none = refl
-join-first (t ∷ ss) s some none = absurd (omega (arith, length-join t ss, some.0, none))
+pub with_subtag-some : (text subtag : List ℕ) → 1 ≤ length text → with_subtag text subtag ≡ text ++ 45 ∷ subtag
+unfolding with_subtag
+with_subtag-some [] subtag some = absurd (omega (arith, some))
+with_subtag-some (b ∷ text) subtag some = refl
 
-pub join-next : (ss : List (List ℕ)) (s : List ℕ) → 1 ≤ length (join ss) → join (ss ++ s ∷ []) ≡ join ss ++ 45 ∷ s
-join-next [] s more = absurd (omega (arith, more))
-join-next (t ∷ ss) s more = join-append t ss (s ∷ []) ∙ ap (λ u. join (t ∷ ss) ++ 45 ∷ u) (append-nil s)
+-- after a text with bytes, a hyphen stands before each
+with_subtags-some : (text : List ℕ) (ss : List (List ℕ)) → 1 ≤ length text → fold with_subtag text ss ≡ text ++ hyphenated ss
+with_subtags-some text [] some = sym (append-nil text)
+with_subtags-some text (s ∷ ss) some =
+    ap (λ t. fold with_subtag t ss) (with_subtag-some text s some)
+    ∙ with_subtags-some (text ++ 45 ∷ s) ss (omega (arith, some, length-append text (45 ∷ s))) ∙ append_assoc text (45 ∷ s) (hyphenated ss)
 
--- ---- several
+-- some that are joined already follow as each of them does
+pub with_joined : (text s : List ℕ) (ss : List (List ℕ)) → 1 ≤ length s → with_subtag text (join (s ∷ ss)) ≡ fold with_subtag text (s ∷ ss)
+unfolding with_subtag
+with_joined [] s ss some = join-hyphenated s ss ∙ sym (with_subtags-some s ss some)
+with_joined (b ∷ text) s ss some =
+    ap (λ t. (b ∷ text) ++ 45 ∷ t) (join-hyphenated s ss) ∙ sym (append_assoc (b ∷ text) (45 ∷ s) (hyphenated ss))
+    ∙ sym (with_subtags-some ((b ∷ text) ++ 45 ∷ s) ss (omega arith))
 
-pub some-append : (ss ts : List (List ℕ)) → AreSome ss → AreSome ts → AreSome (ss ++ ts)
-some-append [] ts a b = b
-some-append (s ∷ ss) ts a b = (a.0, some-append ss ts a.1 b)
+pub record_joined : (r : Record) → IsWellFormed r → fold with_subtag [] (flat r) ≡ spell r
+unfolding with_subtag
+record_joined r fits = sym (with_joined [] r.primary _ (of_primary r.primary fits.primary).some)
 
-pub some-before : (ss ts : List (List ℕ)) → AreSome (ss ++ ts) → AreSome ss
-some-before [] ts all = tt
-some-before (s ∷ ss) ts all = (all.0, some-before ss ts all.1)
+-- ---- several are put
 
-pub some-after : (ss ts : List (List ℕ)) → AreSome (ss ++ ts) → AreSome ts
-some-after [] ts all = all
-some-after (s ∷ ss) ts all = some-after ss ts all.1
-
-pub pushes_none : (out : Output) → Pushes [] out out
-pushes_none out first before some has = subst (λ ss. HasText first out (join ss)) (sym (append-nil before)) has
-
-pub pushes_both :
-    (ss ts : List (List ℕ)) (old middle new : Output) → AreSome ss → Pushes ss old middle → Pushes ts middle new → Pushes (ss ++ ts) old new
-pushes_both ss ts old middle new some these those first before fits has =
-    subst (λ us. HasText first new (join us)) (append_assoc before ss ts)
-    (those first (before ++ ss) (some-append before ss fits some) (these first before fits has))
+pub pushes_both : (ss ts : List (List ℕ)) (old middle new : Output) → Pushes ss old middle → Pushes ts middle new → Pushes (ss ++ ts) old new
+pushes_both ss ts old middle new these those first text has =
+    subst (HasText first new) (sym (fold-append with_subtag text ss ts)) (those first (fold with_subtag text ss) (these first text has))
 
 pub pushes_same : (ss ts : List (List ℕ)) (old new : Output) → ss ≡ ts → Pushes ss old new → Pushes ts old new
-pushes_same ss ts old new same these first before some has = subst (λ us. HasText first new (join (before ++ us))) same (these first before some has)
+pushes_same ss ts old new same these = subst (λ us. Pushes us old new) same these
 
--- ---- some that are joined already
+-- one, and what follows it
+pub pushes_next :
+    (s t : List ℕ) (ss : List (List ℕ)) (old middle new : Output) → s ≡ t → Pushes (s ∷ []) old middle → Pushes ss middle new → Pushes (t ∷ ss) old new
+pushes_next s t ss old middle new same these those = pushes_both (t ∷ []) ss old middle new (pushes_same _ _ old middle (ap (λ u. u ∷ []) same) these) those
 
-join-joined : (before : List (List ℕ)) (s : List ℕ) (ss : List (List ℕ)) → join (before ++ join (s ∷ ss) ∷ []) ≡ join (before ++ s ∷ ss)
-join-joined [] s ss = refl
-join-joined (t ∷ before) s ss =
-    join-append t before (join (s ∷ ss) ∷ []) ∙ ap (λ u. join (t ∷ before) ++ 45 ∷ u) (append-nil (join (s ∷ ss)) ∙ join-hyphenated s ss)
-    ∙ sym (join-append t before (s ∷ ss))
+pub pushes_ended : (ss : List (List ℕ)) (out : Output) → ss ≡ [] → Pushes ss out out
+pushes_ended ss out ended = pushes_same [] ss out out (sym ended) (λ first text has. has)
 
-pub pushes_joined : (s : List ℕ) (ss : List (List ℕ)) (old new : Output) → Pushes (join (s ∷ ss) ∷ []) old new → Pushes (s ∷ ss) old new
-pushes_joined s ss old new these first before some has = subst (HasText first new) (join-joined before s ss) (these first before some has)
+pub pushes_joined : (s : List ℕ) (ss : List (List ℕ)) (old new : Output) → 1 ≤ length s → Pushes (join (s ∷ ss) ∷ []) old new → Pushes (s ∷ ss) old new
+pushes_joined s ss old new some these first text has = subst (HasText first new) (with_joined text s ss some) (these first text has)
 
 pub private_pushed :
     (part : Option PrivateUse) (text : List ℕ) (old new : Output) → Some text ≡ option_map (λ p. join (private_use_flat p)) part → Pushes (text ∷ []) old new →
@@ -66,28 +67,17 @@ pub private_pushed :
 private_pushed None text old new same these = absurd cc
 private_pushed (Some p) text old new same these =
     let one : text ≡ join (private_use_flat p) = cc in
-    pushes_joined (p.mark ∷ []) p.subtags old new (pushes_same _ _ old new (ap (λ t. t ∷ []) one) these)
+    pushes_joined (p.mark ∷ []) p.subtags old new (omega arith) (pushes_same _ _ old new (ap (λ t. t ∷ []) one) these)
 
 -- ---- all of a record
 
 pub record_pushed :
-    (r : Record) (a b c d e f g : Output) → AreSome (flat r) → Pushes (r.primary ∷ r.extended) a b → Pushes (one_flat r.script) b c →
+    (r : Record) (a b c d e f g : Output) → Pushes (r.primary ∷ r.extended) a b → Pushes (one_flat r.script) b c →
     Pushes (one_flat r.region) c d → Pushes r.variants d e → Pushes (flat_map extension_flat r.extensions) e f →
     Pushes (private_part_flat r.private_use) f g → Pushes (flat r) a g
-record_pushed r a b c d e f g some language script region variants extensions private_use =
-    let some_1 = some-after (r.primary ∷ r.extended) _ some in
-    let some_2 = some-after (one_flat r.script) _ some_1 in
-    let some_3 = some-after (one_flat r.region) _ some_2 in
-    let some_4 = some-after r.variants _ some_3 in
-    pushes_both (r.primary ∷ r.extended) _ a b g (some-before (r.primary ∷ r.extended) _ some) language
-    (pushes_both (one_flat r.script) _ b c g (some-before (one_flat r.script) _ some_1) script
-    (pushes_both (one_flat r.region) _ c d g (some-before (one_flat r.region) _ some_2) region
-    (pushes_both r.variants _ d e g (some-before r.variants _ some_3) variants
-    (pushes_both (flat_map extension_flat r.extensions) _ e f g (some-before (flat_map extension_flat r.extensions) _ some_4) extensions private_use))))
-
-some-subtags : (ss : List (List ℕ)) → AllByRecursion IsSubtag ss → AreSome ss
-some-subtags [] fits = tt
-some-subtags (s ∷ ss) fits = (fits.0.some, some-subtags ss fits.1)
-
-pub some-flat : (r : Record) → IsWellFormed r → AreSome (flat r)
-some-flat r fits = some-subtags (flat r) (flat_subtags r fits)
+record_pushed r a b c d e f g language script region variants extensions private_use =
+    pushes_both (r.primary ∷ r.extended) _ a b g language
+    (pushes_both (one_flat r.script) _ b c g script
+    (pushes_both (one_flat r.region) _ c d g region
+    (pushes_both r.variants _ d e g variants
+    (pushes_both (flat_map extension_flat r.extensions) _ e f g extensions private_use))))

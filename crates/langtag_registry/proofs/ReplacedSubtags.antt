@@ -10,7 +10,6 @@ use Rattle.langtag_registry.specs.Entry.{Entry, value_for}
 use Rattle.langtag_registry.specs.Fields.{preferred_language, preferred_region, preferred_variant}
 use Rattle.langtag_registry.specs.Registered.{is_registered_extlang}
 use Rattle.langtag_registry.specs.Subtags.{language_preferred, region_preferred, variant_preferred, extlang_subtags}
-use Rattle.langtag_registry.proofs.FieldTables.{preferred_good, regions_good, variants_good}
 use Rattle.langtag_registry.proofs.Values.{value_good}
 
 pub none_from_test : (o : Option (List ℕ)) → not (is_some o) ≡ true → o ≡ None
@@ -102,10 +101,6 @@ pub language-alike : IgnoresCase preferred_language
 unfolding preferred_language
 language-alike a b alike = value_for-alike language_preferred a b alike
 
-pub new_language_primary : (s new : List ℕ) → preferred_language s ≡ Some new → is_primary new ≡ true
-unfolding preferred_language
-new_language_primary s new is = value_good is_primary language_preferred s new preferred_good is
-
 pub new_language_short : (s new : List ℕ) → preferred_language s ≡ Some new → length new ≤ 3
 unfolding preferred_language
 new_language_short s new is = leb-true (length new) 3 (value_good (λ n. leb (length n) 3) language_preferred s new new_languages_short is)
@@ -120,10 +115,6 @@ pub region-alike : IgnoresCase preferred_region
 unfolding preferred_region
 region-alike a b alike = value_for-alike region_preferred a b alike
 
-pub new_region_region : (s new : List ℕ) → preferred_region s ≡ Some new → is_region new ≡ true
-unfolding preferred_region
-new_region_region s new is = value_good is_region region_preferred s new regions_good is
-
 pub variant_settled : IsSettled preferred_variant
 unfolding preferred_variant
 variant_settled = values_settled variant_preferred new_variants_stay
@@ -131,10 +122,6 @@ variant_settled = values_settled variant_preferred new_variants_stay
 pub variant-alike : IgnoresCase preferred_variant
 unfolding preferred_variant
 variant-alike a b alike = value_for-alike variant_preferred a b alike
-
-pub new_variant_variant : (s new : List ℕ) → preferred_variant s ≡ Some new → is_variant new ≡ true
-unfolding preferred_variant
-new_variant_variant s new is = value_good is_variant variant_preferred s new variants_good is
 
 -- ---- extended languages
 

@@ -19,7 +19,7 @@ use Rattle.langtag_registry.specs.Registered.{is_registered_language, is_registe
 use Rattle.langtag_registry.specs.Subtags.{language_preferred, region_preferred, variant_preferred, tag_preferred, extlang_subtags, script_subtags, region_subtags, variant_subtags}
 use Rattle.langtag_registry.specs.Valid.{IsValidRecord, IsValid}
 use Rattle.langtag_registry.proofs.FewVariants.{preferred_apart, grandfathered_apart}
-use Rattle.langtag_registry.proofs.LanguageTable.{language_bit-at, language-from_bit}
+use Rattle.langtag_registry.proofs.LanguageTable.{language_bit_at, language_from_bit}
 use Rattle.langtag_registry.proofs.ReplacedSubtags.{replaced, replaced-holds, if_some-map, each-map, extlang_cases, found_good}
 use Rattle.langtag_registry.proofs.SingletonsOnce.{in_order-once}
 use Rattle.langtag_registry.proofs.TwiceLaws.{canonical_record-twice, Way, as_whole, as_it_is, by_parts, way_of}
@@ -42,8 +42,8 @@ registered_from_bit text h =
     let a = and_parts _ _ h in
     let b = and_parts _ _ a.1 in
     let c = and_parts _ _ b.1 in
-    sym (language-from_bit text a.0 (leb-true 27 (letter_number text) b.0))
-    ∙ language_bit-at (letter_number text - 27) (ltb-true (letter_number text - 27) 18304 c.0) ∙ c.1
+    sym (language_from_bit text a.0 (leb-true 27 (letter_number text) b.0))
+    ∙ language_bit_at (letter_number text - 27) (ltb-true (letter_number text - 27) 18304 c.0) ∙ c.1
 
 new_languages_known : list_all has_bit (map (λ e. e.value) language_preferred) ≡ true
 unfolding language_preferred letter_number fold_byte is_letter

@@ -7,7 +7,8 @@ use Rattle.langtag_registry.specs.Canonical.{canonical_primary, canonical_extend
 use Rattle.langtag_registry.specs.Fields.{preferred_language, preferred_region, preferred_variant}
 use Rattle.langtag_registry.proofs.Letters.{extended_primary}
 use Rattle.langtag_registry.proofs.OrderLaws.{in_order-each}
-use Rattle.langtag_registry.proofs.ReplacedSubtags.{replaced, replaced-holds, if_some-map, each-map, new_language_primary, new_language_short, new_region_region, new_variant_variant, extlang_cases, new_extlang_extended}
+use Rattle.langtag_registry.proofs.FieldTables.{preferred_good, regions_good, variants_good}
+use Rattle.langtag_registry.proofs.ReplacedSubtags.{replaced, replaced-holds, if_some-map, each-map, new_language_short, extlang_cases, new_extlang_extended}
 
 -- a primary subtag and extended ones that may stand after it
 pub record IsLanguageOf (primary : List ℕ) (extended : List (List ℕ)) : Type 0 where
@@ -17,7 +18,7 @@ pub record IsLanguageOf (primary : List ℕ) (extended : List (List ℕ)) : Type
   pub short : (length primary ≤ 3) ⊎ (extended ≡ [])
 
 pub canonical_primary_well_formed : (p : List ℕ) → IsTrue (is_primary p) → IsTrue (is_primary (replaced preferred_language p))
-canonical_primary_well_formed p is = replaced-holds preferred_language (λ s. IsTrue (is_primary s)) p is (new_language_primary p)
+canonical_primary_well_formed p is = replaced-holds preferred_language (λ s. IsTrue (is_primary s)) p is (preferred_good p)
 
 pub canonical_language_well_formed :
     (p : List ℕ) (es : List (List ℕ)) → IsLanguageOf p es → IsLanguageOf (canonical_primary p es) (canonical_extended es)
@@ -44,13 +45,13 @@ canonical_language_well_formed p (e ∷ f ∷ es) is = is
 pub canonical_region_well_formed : (o : Option (List ℕ)) → IfSome o (λ s. IsTrue (is_region s)) → IfSome (canonical_region o) (λ s. IsTrue (is_region s))
 canonical_region_well_formed =
     if_some-map (λ s. IsTrue (is_region s)) (replaced preferred_region)
-    (λ s is. replaced-holds preferred_region (λ t. IsTrue (is_region t)) s is (new_region_region s))
+    (λ s is. replaced-holds preferred_region (λ t. IsTrue (is_region t)) s is (regions_good s))
 
 pub canonical_variants_well_formed :
     (vs : List (List ℕ)) → AllByRecursion (λ s. IsTrue (is_variant s)) vs → AllByRecursion (λ s. IsTrue (is_variant s)) (canonical_variants vs)
 canonical_variants_well_formed =
     each-map (λ s. IsTrue (is_variant s)) (replaced preferred_variant)
-    (λ s is. replaced-holds preferred_variant (λ t. IsTrue (is_variant t)) s is (new_variant_variant s))
+    (λ s is. replaced-holds preferred_variant (λ t. IsTrue (is_variant t)) s is (variants_good s))
 
 pub canonical_record_well_formed : (r : Record) → IsWellFormed r → IsWellFormed (canonical_record r)
 unfolding canonical_record

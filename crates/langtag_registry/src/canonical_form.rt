@@ -64,6 +64,7 @@ pub fn is_canonical(tag: LangTag<'_>) -> bool
 /// Writes the canonical form of a tag (RFC 5646 section 4.5), as [`canonical`] returns it, into a buffer, and returns its
 /// length in bytes. Where the buffer is too short it stays as it was: the length says how much room there has to be. A buffer
 /// of [`canonical_bound`] bytes always has the room. No memory is taken.
+#[tactic(auto, using(crate::proofs::FormLengths::form_bounded))]
 pub fn write_canonical(tag: LangTag<'_>, buffer: &mut [u8]) -> usize
     ensures canonical { Writes (IsCanonicalForm (lang_tag_text tag.entry)) buffer.old buffer.new result }
     ensures bounded { result ≤ form.canonical_bound (length (lang_tag_text tag.entry)) }

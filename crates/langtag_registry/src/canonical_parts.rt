@@ -1,5 +1,5 @@
 //! The canonical forms of a tag's parts (RFC 5646 section 4.5), put into an output in their order.
-ghost use Rattle.std.specs.Prelude.{◌≡◌, ◌∷◌, [], List, Option, map, filter};
+ghost use Rattle.std.specs.Prelude.{◌≡◌, ◌∷◌, [], List, Option, map};
 ghost use Rattle.std.specs.List.{flat_map};
 ghost use Rattle.std.specs.Option.{option_map};
 ghost use Rattle.langtag_scan.specs.Case.{fold_text};
@@ -11,9 +11,9 @@ ghost use Rattle.langtag_place.specs.Text.{script_text, region_text, variants_te
 ghost use Rattle.langtag_extension.specs.Spelling.{SpellsExtensions, extension_spelling};
 ghost use Rattle.langtag_extension.specs.Text.{extensions_text};
 ghost use Rattle.langtag_private.specs.Text.{private_use_text};
-ghost use Rattle.langtag.specs.Repeat.{are_alike_bytes};
 ghost use Rattle.langtag.specs.Text.{normal_lang_tag_text};
 ghost use Rattle.langtag_registry.specs.Canonical.{canonical_record, canonical_language, canonical_primary, canonical_extended, canonical_region, canonical_variants, in_order};
+ghost use Rattle.langtag_registry.specs.Noted.{of_singleton};
 ghost use Rattle.langtag_registry.specs.Output.{Pushes, IsCounted};
 
 use crate::extension_order::{SINGLETONS, are_in_order, folded_singleton, singletons_of};
@@ -146,7 +146,7 @@ fn push_extensions(out: &mut Output<'_>, extensions: Extensions<'_>)
 fn push_extensions_of(out: &mut Output<'_>, extensions: Extensions<'_>, singleton: u8)
     ensures same_buffer { out.new.buffer.ghost_name ≡ out.old.buffer.ghost_name }
     ensures pushed { (es : List model.Extension) → SpellsExtensions es (extensions_text extensions.entry)
-        → Pushes (map extension_spelling (filter (λ e. are_alike_bytes singleton e.singleton) es)) out.old out.new }
+        → Pushes (of_singleton singleton (map extension_spelling es)) out.old out.new }
 {
     for extension in extensions.iter() {
         if folded_singleton(extension) != into_smallcase(singleton) {

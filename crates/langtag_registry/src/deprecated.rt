@@ -19,6 +19,7 @@ use langtag_scan::case_insensitive_eq;
 
 /// Returns whether a language is deprecated (RFC 5646 section 3.1.6): true for `iw`, false for `he` and for what is
 /// not registered.
+#[tactic(auto, using(langtag_scan::proofs::SubtagFacts::of_primary, crate::proofs::KeyTables::deprecated_language_keys), unfolding(crate::specs::Fields::is_deprecated_language))]
 pub fn is_deprecated_language(language: PrimaryLanguage<'_>) -> bool
     ensures { result ≡ field.is_deprecated_language (primary_language_text language.entry) }
 {
@@ -27,6 +28,7 @@ pub fn is_deprecated_language(language: PrimaryLanguage<'_>) -> bool
 
 /// Returns whether an extended language is deprecated (RFC 5646 section 3.1.6): true for `yds`, false for `yue` and for
 /// what is not registered.
+#[tactic(auto, using(langtag_scan::proofs::SubtagFacts::of_extended, crate::proofs::KeyTables::deprecated_extlang_keys), unfolding(crate::specs::Fields::is_deprecated_extlang))]
 pub fn is_deprecated_extlang(extlang: ExtendedLangTag<'_>) -> bool
     ensures { result ≡ field.is_deprecated_extlang (extended_lang_tag_text extlang.entry) }
 {
@@ -35,6 +37,7 @@ pub fn is_deprecated_extlang(extlang: ExtendedLangTag<'_>) -> bool
 
 /// Returns whether a region is deprecated (RFC 5646 section 3.1.6): true for `SU`, false for `FR` and for what is not
 /// registered.
+#[tactic(auto, using(langtag_scan::proofs::SubtagFacts::of_region, crate::proofs::KeyTables::deprecated_region_keys), unfolding(crate::specs::Fields::is_deprecated_region))]
 pub fn is_deprecated_region(region: Region<'_>) -> bool
     ensures { result ≡ field.is_deprecated_region (region_text region.entry) }
 {
@@ -43,6 +46,7 @@ pub fn is_deprecated_region(region: Region<'_>) -> bool
 
 /// Returns whether a variant is deprecated (RFC 5646 section 3.1.6): true for `heploc`, false for `rozaj` and for what
 /// is not registered.
+#[tactic(auto, using(langtag_scan::proofs::SubtagFacts::of_variant, crate::proofs::KeyTables::deprecated_variant_keys), unfolding(crate::specs::Fields::is_deprecated_variant))]
 pub fn is_deprecated_variant(variant: Variant<'_>) -> bool
     ensures { result ≡ field.is_deprecated_variant (variant_text variant.entry) }
 {

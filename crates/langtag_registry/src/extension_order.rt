@@ -1,11 +1,10 @@
 //! The order of extensions (RFC 5646 section 4.5): by their singletons, whatever their case.
-ghost use Rattle.std.specs.Prelude.{◌≡◌, ◌↔◌, List, true};
-ghost use Rattle.langtag_scan.specs.Case.{fold_byte};
+ghost use Rattle.std.specs.Prelude.{◌≡◌, ◌↔◌, List, map, true};
 ghost use Rattle.langtag_scan.specs.Record as model;
-ghost use Rattle.langtag_extension.specs.Spelling.{SpellsExtension, SpellsExtensions};
+ghost use Rattle.langtag_extension.specs.Spelling.{SpellsExtensions, extension_spelling};
 ghost use Rattle.langtag_extension.specs.Text.{extension_text, extensions_text};
 ghost use Rattle.langtag_registry.specs.Canonical.{in_order};
-ghost use Rattle.langtag_registry.specs.Noted.{AreNoted};
+ghost use Rattle.langtag_registry.specs.Noted.{AreNoted, small_singleton};
 
 use langtag_extension::{Extension, Extensions};
 use langtag_scan::into_smallcase;
@@ -30,7 +29,7 @@ pub(crate) fn are_in_order(extensions: Extensions<'_>) -> bool
 
 /// Returns which bytes are singletons of extensions, as small letters.
 pub(crate) fn singletons_of(extensions: Extensions<'_>) -> [bool; 256]
-    ensures { (es : List model.Extension) → SpellsExtensions es (extensions_text extensions.entry) → AreNoted result es }
+    ensures { (es : List model.Extension) → SpellsExtensions es (extensions_text extensions.entry) → AreNoted result (map extension_spelling es) }
 {
     let mut present = [false; 256];
     for extension in extensions.iter() {
@@ -41,7 +40,7 @@ pub(crate) fn singletons_of(extensions: Extensions<'_>) -> [bool; 256]
 
 /// Returns the singleton of an extension as a small letter.
 pub(crate) fn folded_singleton(extension: Extension<'_>) -> u8
-    ensures { (e : model.Extension) → SpellsExtension e (extension_text extension.entry) → result ≡ fold_byte e.singleton }
+    ensures { result ≡ small_singleton (extension_text extension.entry) }
 {
     into_smallcase(extension.singleton().unwrap())
 }

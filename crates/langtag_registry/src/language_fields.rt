@@ -15,6 +15,7 @@ use langtag_place::Script;
 
 /// Returns the language that stands for another today (the field Preferred-Value, RFC 5646 section 3.1.7): `he` for `iw`.
 /// None for `he`, and for what is not registered.
+#[tactic(auto, using(langtag_scan::proofs::SubtagFacts::of_primary, crate::proofs::FieldTables::preferred_table, crate::proofs::FieldTables::preferred_good), unfolding(crate::specs::Fields::preferred_language))]
 pub fn preferred_language(language: PrimaryLanguage<'_>) -> Option<PrimaryLanguage<'static>>
     ensures { option_map primary_language_text result ≡ field.preferred_language (primary_language_text language.entry) }
 {
@@ -30,6 +31,7 @@ pub fn preferred_language(language: PrimaryLanguage<'_>) -> Option<PrimaryLangua
 
 /// Returns the script that a tag of this language leaves out (the field Suppress-Script, RFC 5646 section 3.1.9): `Latn`
 /// for `fr`. None for `sr`, which is written in two, and for what is not registered.
+#[tactic(auto, using(langtag_scan::proofs::SubtagFacts::of_primary, crate::proofs::FieldTables::suppress_table, crate::proofs::FieldTables::suppress_good), unfolding(crate::specs::Fields::suppress_script))]
 pub fn suppress_script(language: PrimaryLanguage<'_>) -> Option<Script<'static>>
     ensures { option_map script_text result ≡ field.suppress_script (primary_language_text language.entry) }
 {
@@ -45,6 +47,7 @@ pub fn suppress_script(language: PrimaryLanguage<'_>) -> Option<Script<'static>>
 
 /// Returns the language that encompasses another (the field Macrolanguage, RFC 5646 section 3.1.10): `zh` for `yue`. None
 /// for `zh`, and for what is not registered.
+#[tactic(auto, using(langtag_scan::proofs::SubtagFacts::of_primary, crate::proofs::FieldTables::macro_table, crate::proofs::FieldTables::macro_good), unfolding(crate::specs::Fields::macrolanguage))]
 pub fn macrolanguage(language: PrimaryLanguage<'_>) -> Option<PrimaryLanguage<'static>>
     ensures { option_map primary_language_text result ≡ field.macrolanguage (primary_language_text language.entry) }
 {

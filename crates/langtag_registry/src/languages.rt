@@ -11,6 +11,7 @@ use langtag_scan::into_smallcase;
 
 /// Returns whether a language is registered (RFC 5646 section 2.2.1), in any case: true for `fr`, `FR` and the private use
 /// `qaa`, false for `qt`.
+#[tactic(auto, using(crate::proofs::LanguageTable::long_language, crate::proofs::LanguageTable::language_from_bit, crate::proofs::Letters::primary_letters))]
 pub fn is_registered_language(language: PrimaryLanguage<'_>) -> bool
     ensures { result ≡ registered.is_registered_language (primary_language_text language.entry) }
 {
@@ -22,6 +23,7 @@ pub fn is_registered_language(language: PrimaryLanguage<'_>) -> bool
 }
 
 /// Returns the letters of a text of two or three as the digits of a number in base 26.
+#[tactic(auto, using(crate::proofs::Letters::primary_length, crate::proofs::Letters::letter_at, crate::proofs::Letters::number_of_two, crate::proofs::Letters::number_of_three))]
 pub(crate) fn letter_number(bytes: &[u8]) -> usize
     requires primary { IsTrue (class.is_primary bytes.now) }
     requires short { length bytes.now ≤ 3 }
@@ -37,6 +39,7 @@ pub(crate) fn letter_number(bytes: &[u8]) -> usize
 }
 
 /// Returns the place of a letter in the alphabet, from 1 on.
+#[tactic(auto, using(crate::proofs::Letters::letter_place))]
 fn place(byte: u8) -> usize
     requires { IsTrue (class.is_letter byte) }
     ensures place { result ≡ letter byte }
@@ -47,6 +50,7 @@ fn place(byte: u8) -> usize
 }
 
 /// Returns a bit of the table.
+#[tactic(auto, using(crate::proofs::LanguageTable::language_bit_at))]
 fn is_set(index: usize) -> bool
     requires { index < 18304 }
     ensures { result ≡ language_bit index }

@@ -83,6 +83,7 @@ fn matches_tag(prefix: &str, tag: &str) -> bool
     LanguageRange::from_checked(prefix).matches_extended(&LangTag::from_checked(tag))
 }
 
+#[tactic(auto, using(crate::proofs::PrefixTables::prefix_numbers, crate::proofs::PrefixTables::prefix_texts))]
 fn variant_prefixes() -> &'static [(u64, &'static str)]
     ensures numbers { map (λ pair. pair.0) result.now ≡ map (λ entry. folded_number entry.subtag) list.variant_prefixes }
     ensures values { map (λ pair. pair.1.now) result.now ≡ map (λ entry. entry.value) list.variant_prefixes }

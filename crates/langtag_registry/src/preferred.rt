@@ -18,6 +18,7 @@ use langtag_scan::{case_insensitive_eq, folded_number};
 
 /// Returns the region that stands for another today (its Preferred-Value, RFC 5646 section 3.1.7): `MM` for `BU`. None for
 /// `MM`, and for what is not registered.
+#[tactic(auto, using(langtag_scan::proofs::SubtagFacts::of_region, crate::proofs::FieldTables::regions_table, crate::proofs::FieldTables::regions_good), unfolding(crate::specs::Fields::preferred_region))]
 pub fn preferred_region(region: Region<'_>) -> Option<Region<'static>>
     ensures { option_map region_text result ≡ field.preferred_region (region_text region.entry) }
 {
@@ -33,6 +34,7 @@ pub fn preferred_region(region: Region<'_>) -> Option<Region<'static>>
 
 /// Returns the variant that stands for another today (its Preferred-Value, RFC 5646 section 3.1.7): `alalc97` for `heploc`.
 /// None for `alalc97`, and for what is not registered.
+#[tactic(auto, using(langtag_scan::proofs::SubtagFacts::of_variant, crate::proofs::FieldTables::variants_table, crate::proofs::FieldTables::variants_good), unfolding(crate::specs::Fields::preferred_variant))]
 pub fn preferred_variant(variant: Variant<'_>) -> Option<Variant<'static>>
     ensures { option_map variant_text result ≡ field.preferred_variant (variant_text variant.entry) }
 {
@@ -56,6 +58,7 @@ pub fn preferred_tag(tag: LangTag<'_>) -> Option<LangTag<'static>>
 }
 
 /// Returns the tag that stands for a text as a whole today.
+#[tactic(auto, using(crate::proofs::FieldTables::tag_ends, crate::proofs::FieldTables::tag_entries, crate::proofs::WholeTags::preferred_is_tag), unfolding(crate::specs::Fields::preferred_tag))]
 pub(crate) fn preferred_for(text: &[u8]) -> Option<LangTag<'static>>
     ensures { option_map lang_tag_text result ≡ field.preferred_tag text.now }
 {

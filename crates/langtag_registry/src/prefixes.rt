@@ -10,6 +10,7 @@ use langtag_language::{ExtendedLangTag, PrimaryLanguage};
 
 /// Returns the language that an extended language stands after (the field Prefix, RFC 5646 section 3.1.8): `zh` for `yue`.
 /// None for what is not registered. A tag of another language, as `de-yue`, may be valid.
+#[tactic(auto, using(crate::proofs::Letters::extended_primary))]
 pub fn extlang_prefix(extlang: ExtendedLangTag<'_>) -> Option<PrimaryLanguage<'static>>
     ensures { option_map primary_language_text result ≡ field.extlang_prefix (extended_lang_tag_text extlang.entry) }
 {
@@ -17,6 +18,7 @@ pub fn extlang_prefix(extlang: ExtendedLangTag<'_>) -> Option<PrimaryLanguage<'s
 }
 
 /// Returns the same of a language that is an extended one, too: `zh` for the language `yue`, None for `fr`.
+#[tactic(auto, using(langtag_scan::proofs::SubtagFacts::of_primary, crate::proofs::FieldTables::prefix_table, crate::proofs::FieldTables::prefix_good), unfolding(crate::specs::Fields::extlang_prefix))]
 pub(crate) fn prefix_of_language(language: PrimaryLanguage<'_>) -> Option<PrimaryLanguage<'static>>
     ensures { option_map primary_language_text result ≡ field.extlang_prefix (primary_language_text language.entry) }
 {

@@ -11,6 +11,7 @@ use langtag_place::{Region, Script, Variant};
 
 /// Returns whether an extended language is registered (RFC 5646 section 2.2.2), in any case: true for `yue` and `YUE`,
 /// false for `fra`.
+#[tactic(auto, using(langtag_scan::proofs::SubtagFacts::of_extended, crate::proofs::KeyTables::extlang_keys), unfolding(crate::specs::Registered::is_registered_extlang))]
 pub fn is_registered_extlang(extlang: ExtendedLangTag<'_>) -> bool
     ensures { result ≡ registered.is_registered_extlang (extended_lang_tag_text extlang.entry) }
 {
@@ -19,6 +20,7 @@ pub fn is_registered_extlang(extlang: ExtendedLangTag<'_>) -> bool
 
 /// Returns whether a script is registered (RFC 5646 section 2.2.3), in any case: true for `Latn`, `latn` and the private
 /// use `Qaaa`, false for `Abcd`.
+#[tactic(auto, using(langtag_scan::proofs::SubtagFacts::of_script, crate::proofs::KeyTables::script_keys), unfolding(crate::specs::Registered::is_registered_script))]
 pub fn is_registered_script(script: Script<'_>) -> bool
     ensures { result ≡ registered.is_registered_script (script_text script.entry) }
 {
@@ -27,6 +29,7 @@ pub fn is_registered_script(script: Script<'_>) -> bool
 
 /// Returns whether a region is registered (RFC 5646 section 2.2.4), in any case: true for `FR`, `fr`, `419` and the
 /// private use `XA`, false for `FQ`.
+#[tactic(auto, using(langtag_scan::proofs::SubtagFacts::of_region, crate::proofs::KeyTables::region_keys), unfolding(crate::specs::Registered::is_registered_region))]
 pub fn is_registered_region(region: Region<'_>) -> bool
     ensures { result ≡ registered.is_registered_region (region_text region.entry) }
 {
@@ -35,6 +38,7 @@ pub fn is_registered_region(region: Region<'_>) -> bool
 
 /// Returns whether a variant is registered (RFC 5646 section 2.2.5), in any case: true for `rozaj`, `ROZAJ` and `1996`,
 /// false for `1997`.
+#[tactic(auto, using(langtag_scan::proofs::SubtagFacts::of_variant, crate::proofs::KeyTables::variant_keys), unfolding(crate::specs::Registered::is_registered_variant))]
 pub fn is_registered_variant(variant: Variant<'_>) -> bool
     ensures { result ≡ registered.is_registered_variant (variant_text variant.entry) }
 {

@@ -17,8 +17,3 @@ pub unreachable-requires-in_default-new : goal.unreachable-requires-in_default-n
 unreachable-requires-in_default-new c =
     let is_tag = form_is_tag _ _ (found_kept _ _ c.args.tag.kept_found).tag c.in_ok-canonical_bytes.ensures in
     false≢true (c.in_default-new.ensures.accepts.1 (subst IsTag (sym (ap (λ bytes. bytes.items) c.in-Ok.ensures.ok)) is_tag))
-
-pub returns : goal.returns
-returns c =
-    subst (IsCanonicalForm (lang_tag_text c.args.tag)) (sym (c.in-Ok-new.ensures.same_text ∙ ap (λ bytes. bytes.items) c.in-Ok.ensures.ok))
-    c.in_ok-canonical_bytes.ensures

@@ -19,14 +19,6 @@ returns-in_default c =
       λ _. refl,
     )
 
-pub returns-then-has_canonical_parts : goal.returns-then-has_canonical_parts
-unfolding IsNormal
-returns-then-has_canonical_parts c =
-    let text = lang_tag_text c.args.tag in
-    let none = none_preferred lang_tag_text c.preferred_tag.result text c.preferred_tag.ensures (sym c.is_some.ensures ∙ c.if-is_some.false) in
-    let (r, spells) = c.in-Some.ensures.kind.0 refl in
-    (λ _. itself text r none spells ((c.has_canonical_parts.ensures r (spells.0, spells.1 ∙ sym c.in-Some.ensures.same_text)).0 c.if-has_canonical_parts.true), λ _. c.if-has_canonical_parts.true)
-
 pub returns-else-has_canonical_parts : goal.returns-else-has_canonical_parts
 returns-else-has_canonical_parts c =
     let text = lang_tag_text c.args.tag in

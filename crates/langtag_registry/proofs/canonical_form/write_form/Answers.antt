@@ -22,22 +22,6 @@ returns-in_default-as_normal c =
       untouched = w.untouched;
     }
 
-pub returns-then-has_canonical_parts : goal.returns-then-has_canonical_parts
-unfolding IsNormal
-returns-then-has_canonical_parts c =
-    let old = lang_tag_text c.args.tag in
-    let none : preferred_tag old ≡ None = sym (ap (option_map lang_tag_text) (sym c.in_default.is) ∙ c.preferred_tag.ensures) in
-    let (r, spells) = c.in-Some-as_normal.ensures.kind.0 refl in
-    let stays = (c.has_canonical_parts.ensures r (spells.0, spells.1 ∙ sym c.in-Some-as_normal.ensures.same_text)).0 c.if-has_canonical_parts.true in
-    let w = c.write_text-then-has_canonical_parts.ensures in
-    record {
-      text = w.text;
-      is_so = subst (IsCanonicalForm old) (sym (w.is_so ∙ c.as_bytes-then-has_canonical_parts.ensures)) (itself old r none spells stays);
-      whole = w.whole;
-      written = w.written;
-      untouched = w.untouched;
-    }
-
 pub returns : goal.returns
 unfolding IsNormal
 returns c =

@@ -1,7 +1,9 @@
-use Rattle.std.proofs.Common.{◌∷◌, [], refl, ap, ◌∙◌}
+use Rattle.std.proofs.Common.{true, false, sym, ap, refl, ◌∙◌}
+use Rattle.std.proofs.lemmas.Bool.{eq-eqb, ne_eqb}
 use Rattle.langtag_extension.specs.Text.{extension_text, extensions_left}
-use Rattle.langtag_registry.proofs.ExtensionOrder.{none_pushed, one_pushed, none_more, all_pushed}
-use Rattle.langtag_registry.proofs.Pushed.{pushes_same}
+use Rattle.langtag_registry.specs.Noted.{of_singleton}
+use Rattle.langtag_registry.proofs.ExtensionOrder.{of_singleton-next}
+use Rattle.langtag_registry.proofs.Pushed.{pushes_same, pushes_next, pushes_ended}
 use Rattle.langtag_registry.proofs.canonical_parts.push_extensions_of.Goals as goal
 
 pub loop-extension-init : goal.loop-extension-init
@@ -9,33 +11,38 @@ loop-extension-init c = record {
   can_next = tt;
   is_finite = tt;
   same_buffer = refl;
-  so_far = λ es spells. none_pushed _ es _ _ (ap extensions_left c.into_iter-extension-iterator.ensures.into_iter_gives ∙ c.iter-extension-items.ensures.list es spells);
+  so_far = λ es spells new these.
+      pushes_same _ _ _ new
+      (ap (of_singleton c.args.singleton) (ap extensions_left c.into_iter-extension-iterator.ensures.into_iter_gives ∙ c.iter-extension-items.ensures.list es spells)) these;
 }
 
 pub loop-extension-preserved : goal.loop-extension-preserved
-loop-extension-preserved c = record {
-  can_next = tt;
-  is_finite = tt;
-  same_buffer = c.push_subtag.ensures.same_buffer ∙ c.loop-extension.invariant.same_buffer;
-  so_far = λ es spells.
-      one_pushed c.args.singleton es _ (extensions_left c.next.new.self) (extension_text c.in-Some.extension) _ _ _ c.folded_singleton.result c.into_smallcase.result
-      spells.members c.in-Some.ensures.steps c.folded_singleton.ensures c.into_smallcase.ensures c.if-folded_singleton-into_smallcase.false
-      (c.loop-extension.invariant.so_far es spells) (pushes_same _ _ _ _ (ap (λ t. t ∷ []) c.as_bytes.ensures) c.push_subtag.ensures.pushed);
-}
+loop-extension-preserved c =
+    let alike = eq-eqb _ _ (sym (sym c.folded_singleton.ensures ∙ c.if-folded_singleton-into_smallcase.false ∙ c.into_smallcase.ensures)) in
+    record {
+      can_next = tt;
+      is_finite = tt;
+      same_buffer = c.push_subtag.ensures.same_buffer ∙ c.loop-extension.invariant.same_buffer;
+      so_far = λ es spells new these.
+          c.loop-extension.invariant.so_far es spells new
+          (pushes_same _ _ _ new (sym (of_singleton-next c.args.singleton _ _ _ true c.in-Some.ensures.steps alike))
+          (pushes_next _ (extension_text c.in-Some.extension) (of_singleton c.args.singleton (extensions_left c.next.new.self)) _ _ new c.as_bytes.ensures c.push_subtag.ensures.pushed these));
+    }
 
 pub loop-extension-preserved-then-folded_singleton-into_smallcase : goal.loop-extension-preserved-then-folded_singleton-into_smallcase
-loop-extension-preserved-then-folded_singleton-into_smallcase c = record {
-  can_next = tt;
-  is_finite = tt;
-  same_buffer = c.loop-extension.invariant.same_buffer;
-  so_far = λ es spells.
-      none_more c.args.singleton es _ (extensions_left c.next.new.self) (extension_text c.in-Some.extension) _ _ c.folded_singleton.result c.into_smallcase.result
-      spells.members c.in-Some.ensures.steps c.folded_singleton.ensures c.into_smallcase.ensures c.if-folded_singleton-into_smallcase.true
-      (c.loop-extension.invariant.so_far es spells);
-}
+loop-extension-preserved-then-folded_singleton-into_smallcase c =
+    let apart = ne_eqb _ _ (λ same. c.if-folded_singleton-into_smallcase.true (c.folded_singleton.ensures ∙ sym same ∙ sym c.into_smallcase.ensures)) in
+    record {
+      can_next = tt;
+      is_finite = tt;
+      same_buffer = c.loop-extension.invariant.same_buffer;
+      so_far = λ es spells new these.
+          c.loop-extension.invariant.so_far es spells new
+          (pushes_same _ _ _ new (sym (of_singleton-next c.args.singleton _ _ _ false c.in-Some.ensures.steps apart)) these);
+    }
 
 pub returns : goal.returns
 returns c = record {
   same_buffer = c.loop-extension.invariant.same_buffer;
-  pushed = λ es spells. all_pushed _ es _ _ _ c.in-None.ensures.steps.0 (c.loop-extension.invariant.so_far es spells);
+  pushed = λ es spells. c.loop-extension.invariant.so_far es spells _ (pushes_ended _ _ (ap (of_singleton c.args.singleton) c.in-None.ensures.steps.0));
 }

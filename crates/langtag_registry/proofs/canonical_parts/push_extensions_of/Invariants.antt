@@ -2,10 +2,13 @@ use Rattle.std.proofs.Common.{◌≡◌, List}
 use Rattle.langtag_scan.specs.Record as model
 use Rattle.langtag_extension.specs.Spelling.{SpellsExtensions}
 use Rattle.langtag_extension.specs.Text.{extensions_text, extensions_left}
-use Rattle.langtag_registry.proofs.ExtensionOrder.{ArePushed}
+use Rattle.langtag_registry.specs.declared.output.Output.{Output}
+use Rattle.langtag_registry.specs.Noted.{of_singleton}
+use Rattle.langtag_registry.specs.Output.{Pushes}
+use Rattle.langtag_registry.proofs.ExtensionOrder.{spellings}
 use Rattle.langtag_registry.proofs.canonical_parts.push_extensions_of.Given as goal
 
--- those of the singleton before the rest were put
+-- those of the singleton in the rest are put after those before it
 abbrev pub invariant-loop-extension : goal.invariant-loop-extension
 invariant-loop-extension l = record {
   can_next : (goal.iterator-loop-extension).can_next l.extension-iterator;
@@ -13,5 +16,6 @@ invariant-loop-extension l = record {
   same_buffer : l.out.buffer.ghost_name ≡ l.initial.out.buffer.ghost_name;
   so_far :
       (es : List model.Extension) → SpellsExtensions es (extensions_text l.fn.extensions) →
-      ArePushed l.fn.singleton es (extensions_left l.extension-iterator) l.initial.out l.out;
+      (new : Output) → Pushes (of_singleton l.fn.singleton (extensions_left l.extension-iterator)) l.out new →
+      Pushes (of_singleton l.fn.singleton (spellings es)) l.initial.out new;
 }

@@ -10,7 +10,7 @@ use Rattle.langtag_registry.proofs.canonical_parts.push_language.Goals as goal
 
 pub returns-in_default-next-clause-pushed : goal.returns-in_default-next-clause-pushed
 returns-in_default-next-clause-pushed c = λ primary extended spells.
-    several_pushed primary (extended_lang_tag_text c.in-Some.extlang) (extended_lang_tag_text c.in_default-next.field-0) extended _ (language_text c.args.language) _ _
+    several_pushed primary (extended_lang_tag_text c.in-Some.extlang) (extended_lang_tag_text c.in_default-next.field-0) extended _ (language_text c.args.language) _ _ spells.first
     (sym (c.extension_subtags-extlangs.ensures.members primary extended spells) ∙ c.in-Some.ensures.steps
     ∙ ap (λ rest. extended_lang_tag_text c.in-Some.extlang ∷ rest) c.in_default-next.ensures.steps)
     spells.joined (pushes_same _ _ _ _ (ap (λ t. t ∷ []) c.as_bytes-in_default-next.ensures) c.push_subtag-in_default-next.ensures.pushed)
@@ -30,7 +30,7 @@ returns-clause-pushed c = λ primary extended spells.
     c.as_bytes-2.ensures ∙ ap primary_language_text c.unwrap_or-2.ensures ∙ view_of primary_language_text c.preferred_language-2.result c.primary-primary.result
     ∙ ap (λ o. unwrap_or o (primary_language_text c.primary-primary.result)) c.preferred_language-2.ensures
     ∙ ap (λ p. unwrap_or (preferred_language p) p) here in
-    other_pushed primary c.as_bytes-2.result.now extlang extended _ _ _ spells.first
+    other_pushed primary c.as_bytes-2.result.now extlang extended _ _ _
     (sym (c.extension_subtags-extlangs.ensures.members primary extended spells) ∙ c.in-Some.ensures.steps ∙ ap (λ rest. extlang ∷ rest) c.in-None.ensures.steps.0)
     (sym c.is_registered_extlang.ensures ∙ c.if-is_registered_extlang.false) value c.push_subtag-2.ensures.pushed
     (pushes_same _ _ _ _ (ap (λ t. t ∷ []) c.as_bytes-3.ensures) c.push_subtag-3.ensures.pushed)

@@ -2,14 +2,13 @@ use Rattle.std.proofs.Common.{sym, ap}
 use Rattle.langtag_scan.specs.Record.{one_flat}
 use Rattle.langtag_registry.specs.Canonical.{canonical_record, canonical_region, canonical_variants}
 use Rattle.langtag_registry.proofs.FaultLaws.{language_spelled, variants_listed}
-use Rattle.langtag_registry.proofs.Pushed.{some-flat, pushes_same, record_pushed}
-use Rattle.langtag_registry.proofs.WellFormedForms.{canonical_record_well_formed}
+use Rattle.langtag_registry.proofs.Pushed.{pushes_same, record_pushed}
 use Rattle.langtag_registry.proofs.canonical_parts.push_parts.Goals as goal
 
 pub returns-clause-pushed : goal.returns-clause-pushed
 unfolding canonical_record
 returns-clause-pushed c = λ r spells.
-    record_pushed (canonical_record r) _ _ _ _ _ _ _ (some-flat (canonical_record r) (canonical_record_well_formed r spells.0))
+    record_pushed (canonical_record r) _ _ _ _ _ _ _
     (c.push_language.ensures.pushed r.primary r.extended (language_spelled r _ spells.0 (c.language.ensures r spells)))
     (pushes_same _ _ _ _ (ap one_flat (c.script.ensures r spells)) c.push_script.ensures.pushed)
     (pushes_same _ _ _ _ (ap (λ g. one_flat (canonical_region g)) (c.region.ensures r spells)) c.push_region.ensures.pushed)

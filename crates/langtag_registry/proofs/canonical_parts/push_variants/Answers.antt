@@ -1,8 +1,9 @@
-use Rattle.std.proofs.Common.{◌≡◌, ◌∷◌, [], unwrap_or, refl, ap, ◌∙◌}
+use Rattle.std.proofs.Common.{◌∷◌, refl, sym, ap, ◌∙◌, unwrap_or}
 use Rattle.langtag_place.specs.Text.{variant_text, variants_left}
+use Rattle.langtag_registry.specs.Canonical.{canonical_variants}
 use Rattle.langtag_registry.specs.Fields.{preferred_variant}
-use Rattle.langtag_registry.proofs.CanonicalVariants.{none_replaced, one_replaced, all_replaced, view_of}
-use Rattle.langtag_registry.proofs.Pushed.{pushes_same}
+use Rattle.langtag_registry.proofs.CanonicalVariants.{view_of}
+use Rattle.langtag_registry.proofs.Pushed.{pushes_same, pushes_next, pushes_ended}
 use Rattle.langtag_registry.proofs.canonical_parts.push_variants.Goals as goal
 
 pub loop-variant-init : goal.loop-variant-init
@@ -10,25 +11,27 @@ loop-variant-init c = record {
   can_next = tt;
   is_finite = tt;
   same_buffer = refl;
-  so_far = none_replaced _ _ _ (ap variants_left c.into_iter-variant-iterator.ensures.into_iter_gives ∙ c.iter-variant-items.ensures.list);
+  so_far = λ new these.
+      pushes_same _ _ _ new (ap canonical_variants (ap variants_left c.into_iter-variant-iterator.ensures.into_iter_gives ∙ c.iter-variant-items.ensures.list)) these;
 }
 
 pub loop-variant-preserved : goal.loop-variant-preserved
 loop-variant-preserved c =
     let v = variant_text c.in-Some.variant in
-    let becomes : c.as_bytes.result.now ≡ unwrap_or (preferred_variant v) v =
+    let becomes =
     c.as_bytes.ensures ∙ ap variant_text c.unwrap_or.ensures ∙ view_of variant_text c.preferred_variant.result c.in-Some.variant
     ∙ ap (λ o. unwrap_or o v) c.preferred_variant.ensures in
     record {
       can_next = tt;
       is_finite = tt;
       same_buffer = c.push_subtag.ensures.same_buffer ∙ c.loop-variant.invariant.same_buffer;
-      so_far = one_replaced _ _ (variants_left c.next.new.self) v _ _ _ c.in-Some.ensures.steps c.in-Some.variant.in_class c.loop-variant.invariant.so_far
-          (pushes_same _ _ _ _ (ap (λ t. t ∷ []) becomes) c.push_subtag.ensures.pushed);
+      so_far = λ new these.
+          c.loop-variant.invariant.so_far new
+          (pushes_same _ _ _ new (sym (ap canonical_variants c.in-Some.ensures.steps)) (pushes_next _ (unwrap_or (preferred_variant v) v) (canonical_variants (variants_left c.next.new.self)) _ _ new becomes c.push_subtag.ensures.pushed these));
     }
 
 pub returns : goal.returns
 returns c = record {
   same_buffer = c.loop-variant.invariant.same_buffer;
-  pushed = all_replaced _ _ _ _ c.in-None.ensures.steps.0 c.loop-variant.invariant.so_far;
+  pushed = c.loop-variant.invariant.so_far _ (pushes_ended _ _ (ap canonical_variants c.in-None.ensures.steps.0));
 }

@@ -6,13 +6,6 @@ use Rattle.langtag_place.specs.Text.{variant_text, variants_text, variants_left}
 use Rattle.langtag_registry.proofs.CanonicalVariants.{has_none, variants_stay, first_has_none}
 use Rattle.langtag_registry.proofs.canonical_variants.are_canonical_variants.Goals as goal
 
-pub loop-variant-init : goal.loop-variant-init
-loop-variant-init c = record {
-  can_next = tt;
-  is_finite = tt;
-  so_far = ap (list_all has_none) (sym c.iter-variant-items.ensures.list ∙ ap variants_left (sym c.into_iter-variant-iterator.ensures.into_iter_gives));
-}
-
 pub returns-then-is_some : goal.returns-then-is_some
 returns-then-is_some c =
     let all = subtags (variants_text c.args.variants) in
@@ -22,17 +15,6 @@ returns-then-is_some c =
     ∙ first_has_none variant_text c.preferred_variant.result _ _ (variants_left c.next.new.self) c.preferred_variant.ensures c.in-Some.ensures.steps
     ∙ ap (λ b. not b && left) (sym c.is_some.ensures ∙ c.if-is_some.true) in
     (λ no. absurd cc, λ stays. absurd (both_ways _ one ((variants_stay all).1 stays)))
-
-pub loop-variant-preserved : goal.loop-variant-preserved
-loop-variant-preserved c =
-    let left = list_all has_none (variants_left c.next.new.self) in
-    record {
-      can_next = tt;
-      is_finite = tt;
-      so_far = c.loop-variant.invariant.so_far
-          ∙ first_has_none variant_text c.preferred_variant.result _ _ (variants_left c.next.new.self) c.preferred_variant.ensures c.in-Some.ensures.steps
-          ∙ ap (λ b. not b && left) (sym c.is_some.ensures ∙ c.if-is_some.false);
-    }
 
 pub returns : goal.returns
 returns c =

@@ -6,11 +6,11 @@ use Rattle.langtag_registry.specs.Registered.{is_among}
 use Rattle.langtag_registry.specs.Subtags.{deprecated_tags}
 use Rattle.langtag_registry.specs.declared.tables.TheConstants.{DEPRECATED_TAGS}
 use Rattle.langtag_registry.proofs.KeyTables.{deprecated_tag_texts}
-use Rattle.langtag_registry.proofs.Members.{list_any-view}
+use Rattle.langtag_registry.proofs.Members.{any_of_view}
 use Rattle.langtag_registry.proofs.deprecated.is_deprecated_tag.Goals as goal
 
 pub returns : goal.returns
 unfolding is_deprecated_tag
 returns c =
-    c.is_listed.ensures ∙ list_any-view (are_alike c.as_bytes.result.now) (λ text. text.now) DEPRECATED_TAGS
+    c.is_listed.ensures ∙ any_of_view (are_alike c.as_bytes.result.now) (λ text. text.now) DEPRECATED_TAGS
     ∙ ap (list_any (are_alike c.as_bytes.result.now)) deprecated_tag_texts ∙ ap (is_among deprecated_tags) c.as_bytes.ensures

@@ -1,14 +1,16 @@
-use Rattle.std.proofs.Common.{List}
+use Rattle.std.proofs.Common.{◌≡◌, List}
 use Rattle.langtag_scan.specs.Record as model
 use Rattle.langtag_extension.specs.Spelling.{SpellsExtensions}
 use Rattle.langtag_extension.specs.Text.{extensions_text, extensions_left}
-use Rattle.langtag_registry.proofs.ExtensionOrder.{AreRising}
+use Rattle.langtag_registry.proofs.ExtensionOrder.{spellings, keys}
+use Rattle.langtag_registry.proofs.Rising.{rises_from}
 use Rattle.langtag_registry.proofs.extension_order.are_in_order.Given as goal
 
--- those before the rest are in order, and the last of them is the last singleton
+-- all are in order where the rest is, after the last singleton
 abbrev pub invariant-loop-extension : goal.invariant-loop-extension
 invariant-loop-extension l = record {
   can_next : (goal.iterator-loop-extension).can_next l.extension-iterator;
   is_finite : (goal.iterator-loop-extension).is_finite l.extension-iterator;
-  so_far : (es : List model.Extension) → SpellsExtensions es (extensions_text l.fn.extensions) → AreRising es (extensions_left l.extension-iterator) l.last;
+  so_far : (es : List model.Extension) → SpellsExtensions es (extensions_text l.fn.extensions) → 
+      rises_from 0 (keys (spellings es)) ≡ rises_from l.last (keys (extensions_left l.extension-iterator));
 }

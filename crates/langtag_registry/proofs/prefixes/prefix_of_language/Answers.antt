@@ -1,25 +1,14 @@
 use Rattle.std.proofs.Common.{Some, sym, ap, ◌∙◌}
 use Rattle.std.specs.Option.{option_map}
-use Rattle.langtag_scan.specs.Class.{is_primary}
-use Rattle.langtag_scan.proofs.SubtagFacts.{of_primary}
-use Rattle.langtag_language.specs.Text.{primary_language_text}
 use Rattle.langtag_registry.specs.Fields.{extlang_prefix}
 use Rattle.langtag_registry.specs.Subtags.{extlang_prefixes}
 use Rattle.langtag_registry.proofs.FieldTables.{prefix_table, prefix_good}
-use Rattle.langtag_registry.proofs.Values.{value_good}
 use Rattle.langtag_registry.proofs.prefixes.prefix_of_language.Goals as goal
-
-pub value_of-requires-clause-subtag : goal.value_of-requires-clause-subtag
-value_of-requires-clause-subtag c = rw c.as_bytes.ensures (of_primary _ c.args.language.in_class)
-
-pub value_of-requires-clause-table : goal.value_of-requires-clause-table
-value_of-requires-clause-table c = (extlang_prefixes, prefix_table)
 
 pub from_checked-requires : goal.from_checked-requires
 unfolding extlang_prefix
 from_checked-requires c =
-    value_good is_primary extlang_prefixes (primary_language_text c.args.language) c.in-Some.text.now prefix_good
-    (sym (ap (option_map (λ t. t.now)) (sym c.in-Some.is) ∙ c.value_of.ensures extlang_prefixes prefix_table ∙ ap extlang_prefix c.as_bytes.ensures))
+    prefix_good _ _ (sym (ap (option_map (λ t. t.now)) (sym c.in-Some.is) ∙ c.value_of.ensures extlang_prefixes prefix_table ∙ ap extlang_prefix c.as_bytes.ensures))
 
 pub returns-in-Some : goal.returns-in-Some
 unfolding extlang_prefix

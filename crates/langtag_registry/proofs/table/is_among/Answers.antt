@@ -6,9 +6,6 @@ use Rattle.langtag_scan.proofs.FoldedNumbers.{among-folded}
 use Rattle.langtag_registry.proofs.Rising.{climb_searched, found_among}
 use Rattle.langtag_registry.proofs.table.is_among.Goals as goal
 
-pub folded_number-requires : goal.folded_number-requires
-folded_number-requires c = c.requires.short
-
 pub returns : goal.returns
 returns c = λ list of.
     let keys = c.args.keys.now in

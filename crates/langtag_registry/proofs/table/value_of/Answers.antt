@@ -6,9 +6,6 @@ use Rattle.langtag_registry.proofs.Rising.{climb_searched}
 use Rattle.langtag_registry.proofs.Values.{value_searched}
 use Rattle.langtag_registry.proofs.table.value_of.Goals as goal
 
-pub folded_number-requires : goal.folded_number-requires
-folded_number-requires c = c.requires.subtag.short
-
 pub returns-in-Ok : goal.returns-in-Ok
 returns-in-Ok c = λ list of.
     let keys = c.args.keys.now in
