@@ -121,8 +121,8 @@ FAULTS = {
         rust("edit", 'text == Some("") && self.kind() == Kind::Normal', "false", "edits"),
         rust("accept_language", "Element::Range(text, weight) if weight > 0", "Element::Range(text, weight)", "negotiation"),
         rust("look_up", 'filter(|subtag| *subtag != "*")', "filter(|subtag| !subtag.is_empty())", "negotiation"),
-        rust("likely", 'range.replace("-*", "").into()', "range.into()", "likely"),
-        rust("likely", "contains([',', ';'])", "contains(',')", "likely"),
+        Fault("rust/src/likely.rs", 'range.replace("-*", "").into()', "range.into()", "left", "likely"),
+        Fault("rust/src/likely.rs", "contains([',', ';'])", "contains(',')", "left", "likely"),
         rust("likely", 'elements.join(",")', 'elements.join(" ")', "likely"),
     ],
     "Python": [

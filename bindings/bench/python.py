@@ -41,6 +41,7 @@ CALLS = {
     "is_valid": ("it.is_valid", KEPT),
     "tag_for_header_lenient": ("lenient(HEADER, TAGS, None)", [None] * 4),
     "best_for_header": ("best(HEADER, TAGS, None)", [None] * 4),
+    "best_for_header of texts": ("best(HEADER, OFFERED, None)", [None] * 4),
     "babel's negotiate_locale": ("negotiate_locale(RANGES, OFFERED, sep='-')", [None] * 4),
 }
 

@@ -217,9 +217,9 @@ class Negotiation(unittest.TestCase):
         self.assertEqual(AcceptLanguage("en;q=0, fr, *;q=0.5").best(["en", "fr-CA"]), "fr-CA")
         self.assertEqual(AcceptLanguage.lenient("zh_TW").best(tags, 5), b"zh-Hant")
         for number in (0, 63, 64, 65, 3000):  # the C module keeps few tags elsewhere than many
-            many = ["x-a"] * number + [Tag("zh-x-" + "long-" * 50 + "tag"), b"de"]
-            self.assertIs(langtag.best_for_header("zh;q=0.5, de", many), many[-1])
-            self.assertIs(langtag.best_for_header("zh", tuple(many)), many[-2])
+            many = [b"de", *["x-a"] * number, Tag("zh-x-" + "long-" * 50 + "tag")]
+            self.assertIs(langtag.best_for_header("zh;q=0.5, de", many), many[0])
+            self.assertIs(langtag.best_for_header("zh", tuple(many)), many[-1])
         for wrong in (("de", tags), (b"de", tags), ([5], tags), ([None], tags), (5, tags), (["de"], [5])):
             with self.assertRaises(TypeError):
                 langtag.best_for_ranges(*wrong)

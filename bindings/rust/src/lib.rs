@@ -36,8 +36,9 @@
 //! `Borrow<str>`. A map by tags is asked by a [`CaselessStr`], without memory. Of two texts of which one begins the other,
 //! the shorter is the greater: so is the order of langtag, and [`LangTag::to_folded`] is the key for people's order.
 //!
-//! [`AcceptLanguage`] reads the header of a request, and finds the tag to answer it in; [`look_up()`] takes ranges. The
-//! setters of [`LangTagBuf`], as [`LangTagBuf::set_script`], put parts into a tag.
+//! [`best_for_header`] chooses the tag to answer a request in, by distances, and [`best_for_ranges`] the one for a list of
+//! ranges. [`AcceptLanguage`] reads a header, and finds a tag by look-up; so does [`look_up()`] for ranges. The setters of
+//! [`LangTagBuf`], as [`LangTagBuf::set_script`], put parts into a tag.
 //!
 //! The crate needs neither std nor, without the feature `alloc`, memory. The feature `oxilangtag` has the names of the crate
 //! oxilangtag, for programs that are written for it; the crate langtag-verified-serde, in the folder `serde`, reads and writes
