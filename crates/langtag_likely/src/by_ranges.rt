@@ -21,7 +21,7 @@ pub(crate) fn first_in<'a, R: RangeList<'a>, T: TagList>(
     let mut first = None;
     let mut place = 0;
     let mut left = ranges;
-    while let Some((wanted, rest)) = left.split_first() {
+    while let Some((wanted, rest)) = left.split_range() {
         if wanted.weight == 0 {
             return first_by_tags(pass, ranges, tags);
         }
