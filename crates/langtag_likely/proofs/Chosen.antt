@@ -1,7 +1,7 @@
 -- What loops over ranges and over tags have found.
 use Rattle.std.proofs.Common.{◌≡◌, ◌⊎◌, inl, inr, ℕ, ◌+◌, ◌-◌, ◌==◌, Bool, true, false, cond, not, ◌&&◌, nat_lt, ◌<◌, suc, List, [], ◌∷◌, length, drop, slice_index_or, Option, Some, None, ap, refl, sym, subst, ◌∙◌, arith}
 use Rattle.std.specs.List.{list_any}
-use Rattle.std.specs.Option.{ForSome, option_map}
+use Rattle.std.specs.Option.{option_map}
 use Rattle.std.proofs.Math.Seq.{drop-cons}
 use Rattle.std.proofs.lemmas.Bool.{and_parts, or_cases}
 use Rattle.langtag_match.specs.AcceptLanguage.{Element}
@@ -14,28 +14,10 @@ use Rattle.langtag_likely.specs.declared.candidate.Pass.{Pass}
 use Rattle.langtag_likely.proofs.FirstOf.{first_of_assoc, first_of_cross, first_of_is, first_of_none, first_of_same, one_of_two}
 use Rattle.langtag_likely.proofs.NoneRefused.{none_refused}
 
--- the candidate at a distance
-abbrev at : Element → ℕ → List ℕ → ℕ → ℕ → Candidate
-at element place tag index distance =
-    record { lack = 1000 - element.weight; place = place; distance = distance; lost = length element.range - kept element.range tag; unlikely = unlikely tag; index = index }
-
 -- what is no tag is no candidate
 pub no_tag : (pass : Pass) (element : Element) (place index : ℕ) → as_candidate pass element place None index ≡ None
 unfolding as_candidate
 no_tag pass element place index = refl
-
--- nor is one that is not within the pass
-pub left_out :
-    (pass : Pass) (element : Element) (place : ℕ) (tag : Option (List ℕ)) (index : ℕ) (text : List ℕ) → ForSome tag (λ found. text ≡ found) → distance_in pass element.range text ≡ None →
-    as_candidate pass element place tag index ≡ None
-unfolding as_candidate
-left_out pass element place None index text same out = refl
-left_out pass element place (Some found) index text same out =
-    by_test (is_wish element && not (is_star element.range)) (distance_in pass element.range found) (ap (distance_in pass element.range) (sym (same found refl)) ∙ out)
-  where
-    by_test : (b : Bool) (o : Option ℕ) → o ≡ None → cond b (option_map (at element place found index) o) None ≡ None
-    by_test true o none = rw none refl
-    by_test false o none = refl
 
 pub no_tag_for_ranges : (pass : Pass) (elements : List Element) (place index : ℕ) → first_for_tag pass elements place None index ≡ None
 no_tag_for_ranges pass [] place index = refl
@@ -53,7 +35,10 @@ unfolding as_candidate
 candidate_for pass element place None index = tt
 candidate_for pass element place (Some tag) index = by_test (is_wish element && not (is_star element.range)) (distance_in pass element.range tag)
   where
-    by_test : (b : Bool) (o : Option ℕ) → IsFor element place (cond b (option_map (at element place tag index) o) None)
+    at : ℕ → Candidate
+    at distance = record { lack = 1000 - element.weight; place = place; distance = distance; lost = length element.range - kept element.range tag; unlikely = unlikely tag; index = index }
+
+    by_test : (b : Bool) (o : Option ℕ) → IsFor element place (cond b (option_map at o) None)
     by_test false o = tt
     by_test true None = tt
     by_test true (Some distance) = (refl, refl)

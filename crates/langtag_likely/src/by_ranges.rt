@@ -76,11 +76,7 @@ fn candidate_at<T: TagList>(pass: Pass, wish: Wish<'_>, tags: &T, index: usize) 
     requires { index < length (T.texts tags.now) }
     ensures { result ≡ spec.as_candidate pass (wish_element wish.entry) wish.entry.place (slice_index_or (T.texts tags.now) index None) index }
 {
-    let text = tags.bytes_at(index);
-    if pass.leaves_out(&wish, text) {
-        return None;
-    }
-    let candidate = as_candidate(pass, &wish, text, index)?;
+    let candidate = as_candidate(pass, &wish, tags.bytes_at(index), index)?;
     if tags.tag_at(index).is_none() {
         return None;
     }

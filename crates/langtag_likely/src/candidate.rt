@@ -106,6 +106,18 @@ pub(crate) fn as_candidate(
 ) -> Option<Candidate>
     ensures { result ≡ spec.as_candidate pass (wish_element wish.now) wish.now.place (Some text.now) index }
 {
+    if pass.leaves_out(wish, text) {
+        return None;
+    }
+    measured(pass, wish, text, index)
+}
+
+/// Returns the same by the distance. It stands apart, so that the first letters are tested in the loops over tags themselves.
+#[inline(never)]
+#[tactic(auto, unfolding(crate::specs::Best::as_candidate))]
+fn measured(pass: Pass, wish: &Wish<'_>, text: &[u8], index: usize) -> Option<Candidate>
+    ensures { result ≡ spec.as_candidate pass (wish_element wish.now) wish.now.place (Some text.now) index }
+{
     if wish.weight == 0 || is_star(wish.range) {
         return None;
     }
