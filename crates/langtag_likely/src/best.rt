@@ -20,6 +20,7 @@ pub fn best_for_header(header: &[u8], tags: &[LangTag<'_>]) -> Option<usize>
     ensures looked_up { laws.AnswersLookUp (wanted_elements header.now) (tag_texts tags.now) result }
     ensures equal { laws.AnswersEqual (wanted_elements header.now) (tag_texts tags.now) result }
     ensures case { laws.IgnoresCase (wanted_elements header.now) (tag_texts tags.now) result }
+    ensures header_case { laws.IgnoresHeaderCase header.now (tag_texts tags.now) result }
 {
     best_among(header, &Tags(tags))
 }
@@ -32,6 +33,7 @@ pub fn best_among<T: TagList>(header: &[u8], tags: &T) -> Option<usize>
     ensures looked_up { laws.AnswersLookUp (wanted_elements header.now) (T.texts tags.now) result }
     ensures equal { laws.AnswersEqual (wanted_elements header.now) (T.texts tags.now) result }
     ensures case { laws.IgnoresCase (wanted_elements header.now) (T.texts tags.now) result }
+    ensures header_case { laws.IgnoresHeaderCase header.now (T.texts tags.now) result }
 {
     best(header, tags)
 }

@@ -1,7 +1,7 @@
 use Rattle.std.proofs.Common.{sym, subst}
 use Rattle.langtag_match.specs.Wanted.{wanted_elements}
-use Rattle.langtag_likely.specs.ChoiceLaws.{AnswersEqual, AnswersLookUp, IgnoresCase, IsIndex}
-use Rattle.langtag_likely.proofs.AlikeChoice.{case_ignored}
+use Rattle.langtag_likely.specs.ChoiceLaws.{AnswersEqual, AnswersLookUp, IgnoresCase, IgnoresHeaderCase, IsIndex}
+use Rattle.langtag_likely.proofs.AlikeChoice.{case_ignored, header_case_ignored}
 use Rattle.langtag_likely.proofs.ChoiceLaws.{best_index}
 use Rattle.langtag_likely.proofs.EqualAnswers.{equal_answered}
 use Rattle.langtag_likely.proofs.LookUpAnswers.{look_up_answered}
@@ -30,3 +30,9 @@ returns-clause-case g c =
     let elements = wanted_elements c.args.header.now in
     let tags = g.T.TagList.texts c.args.tags.now in
     subst (IgnoresCase elements tags) (sym c.best.ensures) (case_ignored elements tags)
+
+pub returns-clause-header_case : goal.returns-clause-header_case
+returns-clause-header_case g c =
+    let header = c.args.header.now in
+    let tags = g.T.TagList.texts c.args.tags.now in
+    subst (IgnoresHeaderCase header tags) (sym c.best.ensures) (header_case_ignored header tags)
