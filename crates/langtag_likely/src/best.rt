@@ -22,6 +22,7 @@ pub fn best_for_header(header: &[u8], tags: &[LangTag<'_>]) -> Option<usize>
     ensures looked_up { laws.AnswersLookUp (wanted_elements header.now) (tag_texts tags.now) result }
     ensures equal { laws.AnswersEqual (wanted_elements header.now) (tag_texts tags.now) result }
     ensures case { laws.IgnoresCase (wanted_elements header.now) (tag_texts tags.now) result }
+    ensures header_case { laws.IgnoresHeaderCase header.now (tag_texts tags.now) result }
 {
     best_among(header, &Tags(tags))
 }
