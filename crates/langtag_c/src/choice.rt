@@ -7,7 +7,7 @@ ghost use Rattle.langtag_c.specs.Choice.{IsBest};
 use crate::span::Span;
 use crate::spanned_tags::SpannedTags;
 use crate::tag::tag_of;
-use langtag_likely::{HeaderRanges, best_among, distance};
+use langtag_likely::{best_among, distance};
 
 /// The distance where one of two texts is not a tag.
 const NO_DISTANCE: u32 = u32::MAX;
@@ -38,5 +38,5 @@ pub extern "C" fn langtag_best_for_header(header: &[u8], bytes: &[u8], tags: &[S
         text: bytes,
         spans: tags,
     };
-    best_among(HeaderRanges(header), &spanned).unwrap_or(tags.len())
+    best_among(header, &spanned).unwrap_or(tags.len())
 }

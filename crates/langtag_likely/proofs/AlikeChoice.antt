@@ -1,15 +1,17 @@
 -- What is chosen does not change with the case of letters.
-use Rattle.std.proofs.Common.{◌≡◌, ℕ, ◌+◌, eqb, ◌==◌, true, false, Bool, cond, not, ◌&&◌, ◌||◌, nat_lt, max, List, [], ◌∷◌, map, length, take, drop, Option, None, Some, option_map, refl, sym, ap, ◌∙◌, arith}
-use Rattle.std.proofs.lemmas.Bool.Decides.{nat_tests}
+use Rattle.std.proofs.Common.{◌≡◌, ℕ, ◌+◌, ◌==◌, true, false, Bool, cond, not, ◌&&◌, ◌||◌, nat_lt, max, List, [], ◌∷◌, map, length, take, drop, Option, None, Some, option_map, refl, sym, ap, ◌∙◌}
 use Rattle.std.proofs.lemmas.List.{take-map, drop-map}
 use Rattle.langtag_scan.specs.Case.{are_alike, fold_byte, fold_text}
 use Rattle.langtag_scan.proofs.CaseLaw.{hyphen-fold, length-fold}
 use Rattle.langtag_match.specs.AcceptLanguage.{Element}
 use Rattle.langtag_match.specs.Basic.{ends_subtag, test_basic}
 use Rattle.langtag_match.specs.Range.{is_star}
+use Rattle.langtag_match.specs.Wanted.{folded, wanted_elements}
+use Rattle.langtag_match.proofs.AlikeHeaders.{alike_headers}
+use Rattle.langtag_match.proofs.AlikeTexts.{is_star-fold}
 use Rattle.langtag_registry.proofs.AlikeForms.{fold_text-twice}
 use Rattle.langtag_likely.specs.Best.{is_wish, is_zero, is_refused, longest, matches, unrefused, distance_in, as_candidate, first_of, first_for_tag, first_in, index_of, chosen_in, best}
-use Rattle.langtag_likely.specs.ChoiceLaws.{folded, IgnoresCase}
+use Rattle.langtag_likely.specs.ChoiceLaws.{IgnoresCase, IgnoresHeaderCase}
 use Rattle.langtag_likely.specs.Likely.{or_else}
 use Rattle.langtag_likely.specs.Nearness.{is_fallback, kept}
 use Rattle.langtag_likely.specs.declared.candidate.Pass.{Pass}
@@ -19,15 +21,6 @@ use Rattle.langtag_likely.proofs.DistanceCase.{both-alike}
 use Rattle.langtag_likely.proofs.LookUpAnswers.{ends_in_single-fold}
 
 -- ---- a range and a tag
-
-star-fold : (b : ℕ) → eqb (fold_byte b) 42 ≡ eqb b 42
-unfolding fold_byte
-star-fold b = grind (arith, nat_tests)
-
-is_star-fold : (range : List ℕ) → is_star (fold_text range) ≡ is_star range
-is_star-fold [] = refl
-is_star-fold (b ∷ []) = rw (star-fold b) refl
-is_star-fold (b ∷ c ∷ range) = rw (star-fold b) refl
 
 same-fold : (a b : List ℕ) → are_alike (fold_text a) (fold_text b) ≡ are_alike a b
 same-fold a b = both-alike (fold_text a) a (fold_text b) b (fold_text-twice a) (fold_text-twice b)
@@ -144,3 +137,6 @@ best-fold elements tags =
 pub case_ignored : (elements : List Element) (tags : List (Option (List ℕ))) → IgnoresCase elements tags (best elements tags)
 case_ignored elements tags es ts same_elements same_tags =
     sym (best-fold es ts) ∙ ap (λ e. best e (folded_tags ts)) (sym same_elements) ∙ ap (best (map folded elements)) (sym same_tags) ∙ best-fold elements tags
+
+pub header_case_ignored : (header : List ℕ) (tags : List (Option (List ℕ))) → IgnoresHeaderCase header tags (best (wanted_elements header) tags)
+header_case_ignored header tags other ts alike = case_ignored (wanted_elements header) tags (wanted_elements other) ts (sym (alike_headers header other alike))

@@ -1,15 +1,15 @@
 -- How near a tag is to a range does not change with the case of letters.
-use Rattle.std.proofs.Common.{◌≡◌, inl, inr, ℕ, ◌+◌, eqb, true, false, Bool, cond, List, [], ◌∷◌, map, Option, None, Some, option_map, refl, sym, ap, ◌∙◌, arith}
+use Rattle.std.proofs.Common.{◌≡◌, ℕ, ◌+◌, true, false, Bool, cond, List, [], ◌∷◌, map, Option, None, Some, option_map, refl, sym, ap, ◌∙◌}
 use Rattle.std.specs.Prelude.{codes}
 use Rattle.std.specs.Str.{bytes_eq}
 use Rattle.std.specs.Option.{option_map_or}
-use Rattle.std.proofs.lemmas.Bool.Decides.{nat_tests, eqb_tells}
-use Rattle.langtag_scan.specs.Case.{Alike, are_alike, fold_byte, fold_text}
+use Rattle.langtag_scan.specs.Case.{Alike, are_alike, fold_text}
 use Rattle.langtag_scan.specs.CaseLaws.{are_alike-decides}
 use Rattle.langtag_scan.specs.Class.{is_letter, is_digit, is_primary, is_extended, is_script, is_region}
 use Rattle.langtag_scan.specs.Subtags.{subtags}
-use Rattle.langtag_scan.proofs.CaseLaw.{all-fold, is_letter-fold, length-fold, segments-fold}
-use Rattle.langtag_match.specs.Wanted.{hyphened, hyphened_byte}
+use Rattle.langtag_scan.proofs.CaseLaw.{all-fold, is_letter-fold, length-fold}
+use Rattle.langtag_match.specs.Wanted.{hyphened}
+use Rattle.langtag_match.proofs.AlikeTexts.{hyphened-fold, is_digit-fold, subtags-fold}
 use Rattle.langtag_registry.proofs.AlikeForms.{fold_text-twice}
 use Rattle.langtag_likely.specs.Distance.{distance_of_forms, language_distance, script_distance, region_distance}
 use Rattle.langtag_likely.specs.Likely.{Fields, known, without_region}
@@ -20,28 +20,6 @@ use Rattle.langtag_likely.proofs.AlikeFields.{AlikeFields, AlikeOptions, are_ali
 use Rattle.langtag_likely.proofs.DistanceCase.{forms-alike, matching-alike}
 
 -- ---- bytes and subtags
-
-is_digit-fold : (b : ℕ) → is_digit (fold_byte b) ≡ is_digit b
-unfolding fold_byte is_digit
-is_digit-fold b = grind (arith, nat_tests)
-
-underscore-fold : (b : ℕ) → eqb (fold_byte b) 95 ≡ eqb b 95
-unfolding fold_byte
-underscore-fold b = grind (arith, nat_tests)
-
-hyphened_byte-fold : (b : ℕ) → hyphened_byte (fold_byte b) ≡ fold_byte (hyphened_byte b)
-unfolding fold_byte
-hyphened_byte-fold b = elim (eqb_tells b 95) [
-  | inl same ↦ rw (same.1) refl
-  | inr other ↦ let none = underscore-fold b ∙ other.0 in rw (none, other.0) refl
-]
-
-pub hyphened-fold : (text : List ℕ) → hyphened (fold_text text) ≡ fold_text (hyphened text)
-hyphened-fold [] = refl
-hyphened-fold (b ∷ text) =
-    let first = hyphened_byte-fold b in
-    let rest = hyphened-fold text in
-    cc
 
 pub hyphened-alike : (a b : List ℕ) → Alike a b → Alike (hyphened a) (hyphened b)
 hyphened-alike a b alike = sym (hyphened-fold a) ∙ ap hyphened alike ∙ hyphened-fold b
@@ -61,10 +39,6 @@ is_script-fold s = rw (length-fold s, all-fold is_letter is_letter-fold s) refl
 is_region-fold : (s : List ℕ) → is_region (fold_text s) ≡ is_region s
 unfolding is_region
 is_region-fold s = rw (length-fold s, all-fold is_letter is_letter-fold s, all-fold is_digit is_digit-fold s) refl
-
-subtags-fold : (text : List ℕ) → subtags (fold_text text) ≡ map fold_text (subtags text)
-subtags-fold [] = refl
-subtags-fold (b ∷ text) = segments-fold (b ∷ text)
 
 -- ---- the fields of subtags
 

@@ -1,5 +1,5 @@
 -- What loops over ranges and over tags have found.
-use Rattle.std.proofs.Common.{◌≡◌, inl, inr, ℕ, ◌+◌, ◌-◌, ◌==◌, Bool, true, false, cond, not, ◌&&◌, nat_lt, ◌<◌, suc, List, [], ◌∷◌, length, drop, slice_index_or, Option, Some, None, ap, refl, sym, ◌∙◌, arith}
+use Rattle.std.proofs.Common.{◌≡◌, ◌⊎◌, inl, inr, ℕ, ◌+◌, ◌-◌, ◌==◌, Bool, true, false, cond, not, ◌&&◌, nat_lt, ◌<◌, suc, List, [], ◌∷◌, length, drop, slice_index_or, Option, Some, None, ap, refl, sym, subst, ◌∙◌, arith}
 use Rattle.std.specs.List.{list_any}
 use Rattle.std.specs.Option.{option_map}
 use Rattle.std.proofs.Math.Seq.{drop-cons}
@@ -7,11 +7,11 @@ use Rattle.std.proofs.lemmas.Bool.{and_parts, or_cases}
 use Rattle.langtag_match.specs.AcceptLanguage.{Element}
 use Rattle.langtag_match.specs.Range.{is_star}
 use Rattle.langtag_likely.specs.Nearness.{kept, unlikely}
-use Rattle.langtag_likely.specs.Best.{is_wish, is_zero, unrefused, distance_in, as_candidate, first_of, first_for_tag, first_in}
+use Rattle.langtag_likely.specs.Best.{is_refused, is_wish, is_zero, unrefused, distance_in, as_candidate, first_of, first_for_tag, first_in}
 use Rattle.langtag_likely.specs.ByRanges.{is_settled, first_for_range, first_by_ranges}
 use Rattle.langtag_likely.specs.declared.candidate.Candidate.{Candidate}
 use Rattle.langtag_likely.specs.declared.candidate.Pass.{Pass}
-use Rattle.langtag_likely.proofs.FirstOf.{first_of_assoc, first_of_cross, first_of_is}
+use Rattle.langtag_likely.proofs.FirstOf.{first_of_assoc, first_of_cross, first_of_is, first_of_none, first_of_same, one_of_two}
 use Rattle.langtag_likely.proofs.NoneRefused.{none_refused}
 
 -- what is no tag is no candidate
@@ -119,6 +119,112 @@ module _ (pass : Pass) where
 
     pub range_by_range : (tags : List (Option (List ℕ))) → first_by_ranges pass elements 0 tags 0 ≡ first_in pass elements tags 0
     range_by_range tags = either_way elements 0 tags 0 ∙ all_in tags 0
+
+-- ---- who is refused
+
+-- of a candidate, its index
+abbrev IsAt : ℕ → Option Candidate → Type 0
+IsAt index None = Unit {0}
+IsAt index (Some c) = c.index ≡ index
+
+candidate_at : (pass : Pass) (element : Element) (place : ℕ) (tag : Option (List ℕ)) (index : ℕ) → IsAt index (as_candidate pass element place tag index)
+unfolding as_candidate
+candidate_at pass element place None index = tt
+candidate_at pass element place (Some tag) index = by_test (is_wish element && not (is_star element.range)) (distance_in pass element.range tag)
+  where
+    by_test : (b : Bool) (o : Option ℕ) → IsAt index (cond b (option_map (at element place tag index) o) None)
+    by_test false o = tt
+    by_test true None = tt
+    by_test true (Some distance) = refl
+
+tag_at : (pass : Pass) (elements : List Element) (place : ℕ) (tag : Option (List ℕ)) (index : ℕ) → IsAt index (first_for_tag pass elements place tag index)
+tag_at pass [] place tag index = tt
+tag_at pass (element ∷ elements) place tag index =
+    first_of_is (IsAt index) (as_candidate pass element place tag index) (first_for_tag pass elements (place + 1) tag index)
+    (candidate_at pass element place tag index) (tag_at pass elements (place + 1) tag index)
+
+at_index : (index : ℕ) (o : Option Candidate) (c : Candidate) → IsAt index o → o ≡ Some c → c.index ≡ index
+at_index index o c at is = subst (IsAt index) is at
+
+module _ (pass : Pass) (elements : List Element) where
+  abbrev for : Option (List ℕ) → ℕ → Option Candidate
+  for tag index = first_for_tag pass elements 0 tag index
+
+  abbrev all : List (Option (List ℕ)) → ℕ → Option Candidate
+  all tags index = first_by_tags pass elements 0 tags index
+
+  same_or_none : (tag : Option (List ℕ)) → (unrefused elements tag ≡ tag) ⊎ (unrefused elements tag ≡ None)
+  same_or_none None = inl refl
+  same_or_none (Some tag) = by_test (is_refused elements tag) refl
+    where
+      by_test : (b : Bool) → is_refused elements tag ≡ b → (unrefused elements (Some tag) ≡ Some tag) ⊎ (unrefused elements (Some tag) ≡ None)
+      by_test true is = inr (rw is refl)
+      by_test false is = inl (rw is refl)
+
+  fewer_for : (tag : Option (List ℕ)) (index : ℕ) → first_of (for tag index) (for (unrefused elements tag) index) ≡ for tag index
+  fewer_for tag index = elim (same_or_none tag) [
+    | inl same ↦ rw same (first_of_same (for tag index))
+    | inr none ↦ rw (none, no_tag_for_ranges pass elements 0 index) (first_of_none (for tag index))
+  ]
+
+  -- the first of all goes before the first of those that are not refused
+  fewer : (tags : List (Option (List ℕ))) (index : ℕ) → first_of (all tags index) (first_in pass elements tags index) ≡ all tags index
+  fewer [] index = refl
+  fewer (tag ∷ tags) index =
+      first_of_cross (for tag index) (all tags (index + 1)) (for (unrefused elements tag) index) (first_in pass elements tags (index + 1))
+      ∙ rw (fewer_for tag index, fewer tags (index + 1)) refl
+
+  -- whoever stands where a candidate comes from is not refused
+  abbrev IsKept : Candidate → List (Option (List ℕ)) → ℕ → Type 0
+  IsKept c tags index = (j : ℕ) → c.index ≡ index + j → unrefused elements (slice_index_or tags j None) ≡ slice_index_or tags j None
+
+  first_kept : (tags : List (Option (List ℕ))) (index : ℕ) (c : Candidate) → all tags index ≡ Some c → IsKept c tags index → first_in pass elements tags index ≡ Some c
+  first_kept [] index c is kept = absurd cc
+  first_kept (tag ∷ tags) index c is kept = elim (one_of_two (for tag index) (all tags (index + 1)) c is) [
+    | inl here ↦
+        let at = at_index index (for tag index) c (tag_at pass elements 0 tag index) here in
+        let same : unrefused elements tag ≡ tag = kept 0 (omega (arith, at)) in
+        rw same
+        (ap (λ x. first_of x (first_in pass elements tags (index + 1))) (here ∙ sym is)
+        ∙ first_of_assoc (for tag index) (all tags (index + 1)) (first_in pass elements tags (index + 1))
+        ∙ ap (first_of (for tag index)) (fewer tags (index + 1)) ∙ is)
+    | inr later ↦
+        let rest = first_kept tags (index + 1) c later (λ j at. kept (suc j) (omega (arith, at))) in
+        let last : first_of (for tag index) (Some c) ≡ Some c = ap (first_of (for tag index)) (sym later) ∙ is in
+        elim (same_or_none tag) [
+          | inl same ↦ rw (same, rest) last
+          | inr none ↦ rw (none, no_tag_for_ranges pass elements 0 index, rest) refl
+        ]
+  ]
+
+  first_within : (tags : List (Option (List ℕ))) (index : ℕ) (c : Candidate) → all tags index ≡ Some c → c.index < index + length tags
+  first_within [] index c is = absurd cc
+  first_within (tag ∷ tags) index c is = elim (one_of_two (for tag index) (all tags (index + 1)) c is) [
+    | inl here ↦ omega (arith, at_index index (for tag index) c (tag_at pass elements 0 tag index) here)
+    | inr later ↦ omega (arith, first_within tags (index + 1) c later)
+  ]
+
+  -- the first range by range comes from one of the tags
+  pub found_within : (tags : List (Option (List ℕ))) (c : Candidate) → first_by_ranges pass elements 0 tags 0 ≡ Some c → c.index < length tags
+  found_within tags c is = omega (arith, first_within tags 0 c (sym (either_way pass elements 0 tags 0) ∙ is))
+
+  -- where its tag, of which this is the text, is not refused, it is the first of those that are not
+  pub found_kept :
+      (tags : List (Option (List ℕ))) (c : Candidate) (text : List ℕ) → first_by_ranges pass elements 0 tags 0 ≡ Some c → ForSome (slice_index_or tags c.index None) (λ found. text ≡ found) →
+      is_refused elements text ≡ false → first_in pass elements tags 0 ≡ Some c
+  found_kept tags c text is same kept =
+      first_kept tags 0 c (sym (either_way pass elements 0 tags 0) ∙ is)
+      (λ j at. subst (λ k. unrefused elements (slice_index_or tags k None) ≡ slice_index_or tags k None) (omega (arith, at)) (here (slice_index_or tags c.index None) same))
+    where
+      here : (tag : Option (List ℕ)) → ForSome tag (λ found. text ≡ found) → unrefused elements tag ≡ tag
+      here None same = refl
+      here (Some found) same = rw (sym (same found refl), kept) refl
+
+  -- where there is none, none of those is one
+  pub found_none : (tags : List (Option (List ℕ))) → first_by_ranges pass elements 0 tags 0 ≡ None → first_in pass elements tags 0 ≡ None
+  found_none tags is =
+      let none = sym (either_way pass elements 0 tags 0) ∙ is in
+      ap (λ x. first_of x (first_in pass elements tags 0)) (sym none) ∙ fewer tags 0 ∙ none
 
 -- ---- one more tag
 

@@ -1,5 +1,5 @@
 -- The first of two candidates.
-use Rattle.std.proofs.Common.{◌≡◌, ℕ, Bool, true, false, cond, List, get_or, Option, Some, None, ap, refl, sym, ◌∙◌}
+use Rattle.std.proofs.Common.{◌≡◌, ◌⊎◌, inl, inr, ℕ, Bool, true, false, cond, List, get_or, Option, Some, None, ap, refl, sym, ◌∙◌}
 use Rattle.std.specs.Cmp.{IsTotalOrder}
 use Rattle.std.proofs.lemmas.Cmp.{upto}
 use Rattle.std.specs.Cmp.Lexicographic.{on_texts, texts_ties, bytes_decides}
@@ -74,6 +74,24 @@ first_of_assoc (Some a) (Some b) (Some c) = ap Some (lesser-assoc a b c)
 pub first_of_none : (a : Option Candidate) → first_of a None ≡ a
 first_of_none None = refl
 first_of_none (Some a) = refl
+
+pub first_of_same : (a : Option Candidate) → first_of a a ≡ a
+first_of_same None = refl
+first_of_same (Some a) = by_test (is_gt (compare a a))
+  where
+    by_test : (t : Bool) → Some (cond t a a) ≡ Some a
+    by_test true = refl
+    by_test false = refl
+
+-- it is one of the two
+pub one_of_two : (a b : Option Candidate) (c : Candidate) → first_of a b ≡ Some c → (a ≡ Some c) ⊎ (b ≡ Some c)
+one_of_two None b c is = inr is
+one_of_two (Some a) None c is = inl is
+one_of_two (Some a) (Some b) c is = by_test (is_gt (compare a b)) is
+  where
+    by_test : (t : Bool) → Some (cond t b a) ≡ Some c → (Some a ≡ Some c) ⊎ (Some b ≡ Some c)
+    by_test true is = inr is
+    by_test false is = inl is
 
 -- the first of four, taken crosswise
 pub first_of_cross : (a b c d : Option Candidate) → first_of (first_of a b) (first_of c d) ≡ first_of (first_of a c) (first_of b d)

@@ -6,6 +6,7 @@ use Rattle.langtag_scan.specs.Case.{Alike, fold_text}
 use Rattle.langtag_match.specs.AcceptLanguage.{Element}
 use Rattle.langtag_match.specs.Fallback.{fallbacks}
 use Rattle.langtag_match.specs.Range.{is_star}
+use Rattle.langtag_match.specs.Wanted.{folded, wanted_elements}
 use Rattle.langtag_likely.specs.Best.{best, is_refused, is_wish}
 
 -- at an index stands a tag, and it is not refused
@@ -52,12 +53,14 @@ AnswersEqual elements tags answer =
 
 -- ---- the case of letters
 
--- an element with the letters of its range in small
-abbrev pub folded : Element → Element
-folded element = record { range = fold_text element.range; weight = element.weight }
-
 -- of elements and tags that are equal to these but for case the answer is the same
 abbrev pub IgnoresCase : List Element → List (Option (List ℕ)) → Option ℕ → Type 0
 IgnoresCase elements tags answer =
     (other : List Element) (other_tags : List (Option (List ℕ))) → map folded elements ≡ map folded other → map (option_map fold_text) tags ≡ map (option_map fold_text) other_tags →
     best other other_tags ≡ answer
+
+-- of a header and tags that are equal to these but for case the answer is the same
+abbrev pub IgnoresHeaderCase : List ℕ → List (Option (List ℕ)) → Option ℕ → Type 0
+IgnoresHeaderCase header tags answer =
+    (other : List ℕ) (other_tags : List (Option (List ℕ))) → Alike header other → map (option_map fold_text) tags ≡ map (option_map fold_text) other_tags →
+    best (wanted_elements other) other_tags ≡ answer

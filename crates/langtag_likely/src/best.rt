@@ -9,7 +9,7 @@ ghost use Rattle.langtag_likely.specs.ListTexts.{ordered_elements, tag_texts};
 
 use crate::by_ranges::first_in;
 use crate::candidate::Pass;
-use crate::range_list::{HeaderRanges, OrderedRanges, RangeList, WeightedRanges};
+use crate::range_list::RangeList;
 use crate::tag_list::{TagList, Tags};
 use langtag::LangTag;
 use langtag_match::{AcceptLanguage, LanguageRange};
@@ -22,8 +22,9 @@ pub fn best_for_header(header: &[u8], tags: &[LangTag<'_>]) -> Option<usize>
     ensures looked_up { laws.AnswersLookUp (wanted_elements header.now) (tag_texts tags.now) result }
     ensures equal { laws.AnswersEqual (wanted_elements header.now) (tag_texts tags.now) result }
     ensures case { laws.IgnoresCase (wanted_elements header.now) (tag_texts tags.now) result }
+    ensures header_case { laws.IgnoresHeaderCase header.now (tag_texts tags.now) result }
 {
-    best_among(HeaderRanges(header), &Tags(tags))
+    best_among(header, &Tags(tags))
 }
 
 /// Returns the index of the tag that a reader wants, as [`best_for_header`] does, for a header that was read by the letter of
@@ -38,7 +39,7 @@ pub fn best_for_accept_language(
     ensures equal { laws.AnswersEqual (map reading (accept_language_ranges accepted.now)) (tag_texts tags.now) result }
     ensures case { laws.IgnoresCase (map reading (accept_language_ranges accepted.now)) (tag_texts tags.now) result }
 {
-    best_among(WeightedRanges(accepted.ranges()), &Tags(tags))
+    best_among(accepted.ranges(), &Tags(tags))
 }
 
 /// Returns the index of the tag that a reader wants, as [`best_for_header`] does, who names language ranges of which the first
@@ -50,7 +51,7 @@ pub fn best_for_ranges(ranges: &[LanguageRange<'_>], tags: &[LangTag<'_>]) -> Op
     ensures equal { laws.AnswersEqual (ordered_elements ranges.now) (tag_texts tags.now) result }
     ensures case { laws.IgnoresCase (ordered_elements ranges.now) (tag_texts tags.now) result }
 {
-    best_among(OrderedRanges(ranges), &Tags(tags))
+    best_among(ranges, &Tags(tags))
 }
 
 /// Returns the index of the tag that a reader wants, as [`best_for_header`] does, for ranges and among tags that stand

@@ -77,7 +77,7 @@ fn first_for_tag<'a, R: RangeList<'a>>(
     let mut first = found;
     let mut place = 0;
     let mut left = ranges;
-    while let Some((wanted, rest)) = left.split_first() {
+    while let Some((wanted, rest)) = left.split_range() {
         if !is_settled(first, wanted, place) {
             let next = as_candidate(pass, &Wish::new(wanted, place), tag.as_bytes(), index);
             first = first_of(first, next);

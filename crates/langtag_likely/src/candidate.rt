@@ -1,5 +1,5 @@
 //! A tag that may serve a range.
-ghost use Rattle.std.specs.Prelude.{◌≡◌, ◌-◌, Some, length};
+ghost use Rattle.std.specs.Prelude.{◌≡◌, ◌-◌, IsTrue, None, Some, length};
 ghost use Rattle.langtag_match.specs.Wanted.{hyphened, wanted_element};
 ghost use Rattle.langtag_likely.specs.Best as spec;
 ghost use Rattle.langtag_likely.specs.ByRanges.{is_settled, wish_element};
@@ -33,6 +33,17 @@ impl Pass {
                     None
                 }
             }
+        }
+    }
+
+    /// Returns whether a tag is seen by its first letters not to serve a range. That of a tag that does not serve it may be false, too.
+    #[tactic(auto, using(crate::proofs::NearForms::far_none))]
+    pub(crate) fn leaves_out(self, wish: &Wish<'_>, tag: &[u8]) -> bool
+        ensures { IsTrue result → spec.distance_in self (hyphened wish.now.range.now) tag.now ≡ None }
+    {
+        match self {
+            Pass::Near | Pass::Acceptable => wish.is_far_from(tag),
+            Pass::LookUp => false,
         }
     }
 }
@@ -93,6 +104,18 @@ pub(crate) fn as_candidate(
     text: &[u8],
     index: usize,
 ) -> Option<Candidate>
+    ensures { result ≡ spec.as_candidate pass (wish_element wish.now) wish.now.place (Some text.now) index }
+{
+    if pass.leaves_out(wish, text) {
+        return None;
+    }
+    measured(pass, wish, text, index)
+}
+
+/// Returns the same by the distance. It stands apart, so that the first letters are tested in the loops over tags themselves.
+#[inline(never)]
+#[tactic(auto, unfolding(crate::specs::Best::as_candidate))]
+fn measured(pass: Pass, wish: &Wish<'_>, text: &[u8], index: usize) -> Option<Candidate>
     ensures { result ≡ spec.as_candidate pass (wish_element wish.now) wish.now.place (Some text.now) index }
 {
     if wish.weight == 0 || is_star(wish.range) {

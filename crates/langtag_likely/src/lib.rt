@@ -47,7 +47,7 @@ pub use direction::is_right_to_left;
 pub use forms::{maximized, minimized, write_maximized, write_minimized};
 pub use posix::{from_posix, write_from_posix};
 pub use posix_error::PosixError;
-pub use range_list::{HeaderRanges, RangeList};
+pub use range_list::RangeList;
 pub use tables::CLDR_VERSION;
 pub use tag_distance::{FORMLESS_DISTANCE, distance};
 pub use tag_list::TagList;

@@ -24,20 +24,8 @@ use crate::wish::Wish;
 use langtag_scan::case_insensitive_eq;
 
 /// Returns the distance of a tag from a range (UTS #35, Language Matching) where it is below a limit.
-#[tactic(auto, using(crate::proofs::NearForms::far_none))]
-pub(crate) fn nearer_than(limit: u32, wish: &Wish<'_>, tag: &[u8]) -> Option<u32>
-    requires { limit ≤ 50 }
-    ensures { result ≡ below limit (spec.far (hyphened wish.now.range.now) tag.now) }
-{
-    if wish.is_far_from(tag) {
-        return None;
-    }
-    nearer_by_form(limit, wish, tag)
-}
-
-/// Returns it by the matching forms of both, where they have any.
 #[tactic(auto, unfolding(crate::specs::Nearness::far), using(crate::proofs::ReadRanges::form_read))]
-fn nearer_by_form(limit: u32, wish: &Wish<'_>, tag: &[u8]) -> Option<u32>
+pub(crate) fn nearer_than(limit: u32, wish: &Wish<'_>, tag: &[u8]) -> Option<u32>
     ensures { result ≡ below limit (spec.far (hyphened wish.now.range.now) tag.now) }
 {
     match wish.form {

@@ -15,7 +15,7 @@ pub(crate) fn is_refused<'a, R: RangeList<'a>>(ranges: R, tag: &[u8]) -> bool
     let mut wanted = 0;
     let mut refused = 0;
     let mut left = ranges;
-    while let Some((range, rest)) = left.split_first() {
+    while let Some((range, rest)) = left.split_range() {
         left = rest;
         if !matches(range, tag) {
             continue;

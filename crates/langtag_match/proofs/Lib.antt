@@ -1,6 +1,9 @@
+pub mod AlikeHeaders
+pub mod AlikeTexts
 pub mod Among
 pub mod AsciiRanges
 pub mod BasicRanges
+pub mod ChangedTexts
 pub mod Hyphens
 pub mod Elements
 pub mod ElementTexts

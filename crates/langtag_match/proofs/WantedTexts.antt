@@ -1,11 +1,11 @@
 -- Ranges in which "_" is read as "-", and the parts of a list that is cut one after the other.
 use Rattle.std.proofs.Common.{◌≡◌, ◌⊎◌, take, not, nat_lt, inl, inr, cond, Option, ℕ, ◌+◌, ◌<◌, ◌≤◌, Bool, true, false, ◌&&◌, ◌||◌, List, [], ◌∷◌, Some, None, map, length, length-drop, ap, refl, sym, ◌∙◌, arith}
-use Rattle.std.specs.List.{list_all, list_any, slice_split, onto_first, before_first, after_first, position, position_or_len, cons_option, filter_map}
+use Rattle.std.specs.List.{list_all, slice_split, before_first, after_first, position, position_or_len, cons_option, filter_map}
 use Rattle.std.proofs.lemmas.Bool.{and_parts}
 use Rattle.std.proofs.lemmas.Bool.Decides.{nat_tests, eqb_tells}
 use Rattle.std.proofs.lemmas.Grind.{common_steps}
 use Rattle.std.proofs.lemmas.List.{length-map}
-use Rattle.std.proofs.lemmas.List.Splits.{slice_split-cons_yes, slice_split-cons_no, length-slice_split}
+use Rattle.std.proofs.lemmas.List.Splits.{length-slice_split}
 use Rattle.std.proofs.lemmas.List.Sums.{count_by-le-length, prefix_len-le-length}
 use Rattle.langtag.specs.Class.{has_length, is_letter, is_digit, is_alphanumeric, are_letters, is_private_subtag}
 use Rattle.langtag.specs.Subtags.{is_hyphen, segments, subtags}
@@ -13,6 +13,7 @@ use Rattle.langtag_match.specs.AcceptLanguage.{items, is_comma, is_semicolon, tr
 use Rattle.langtag_match.specs.Range.{is_star, is_first_subtag, are_basic_range, is_basic_range}
 use Rattle.langtag_match.proofs.BasicRanges.{list_all-weaker}
 use Rattle.langtag_match.proofs.Places.{any_at_first, none_at_length}
+use Rattle.langtag_match.proofs.ChangedTexts.{list_all-changed, slice_split-changed}
 use Rattle.langtag_match.specs.Wanted.{hyphened_byte, hyphened, is_mark, is_q_name, is_q_parameter, is_equals, value_weight, wanted_weight, wanted, wanted_elements}
 
 -- ---- a byte that is read as a hyphen is one
@@ -38,8 +39,7 @@ is_alphanumeric-read : (b : ℕ) → is_alphanumeric (hyphened_byte b) ≡ is_al
 is_alphanumeric-read b = rw (is_letter-read b, is_digit-read b) refl
 
 pub list_all-read : (test : ℕ → Bool) → ((b : ℕ) → test (hyphened_byte b) ≡ test b) → (text : List ℕ) → list_all test (hyphened text) ≡ list_all test text
-list_all-read test same [] = refl
-list_all-read test same (b ∷ text) = rw (same b, list_all-read test same text) refl
+list_all-read test = list_all-changed hyphened_byte test test
 
 pub length-read : (text : List ℕ) → length (hyphened text) ≡ length text
 length-read text = length-map text hyphened_byte
@@ -53,24 +53,8 @@ is_private_subtag-read text = rw (length-read text, list_all-read is_alphanumeri
 
 -- ---- the subtags of a text that is read so
 
-map-onto_first : (b : ℕ) (parts : List (List ℕ)) → map hyphened (onto_first b parts) ≡ onto_first (hyphened_byte b) (map hyphened parts)
-map-onto_first b [] = refl
-map-onto_first b (part ∷ parts) = refl
-
 pub segments-read : (text : List ℕ) → segments (hyphened text) ≡ map hyphened (slice_split is_mark text)
-segments-read [] = refl
-segments-read (b ∷ text) = by_first (is_mark b) refl (segments-read text)
-  where
-    by_first : (cut : Bool) → is_mark b ≡ cut → segments (hyphened text) ≡ map hyphened (slice_split is_mark text) → segments (hyphened (b ∷ text)) ≡ map hyphened (slice_split is_mark (b ∷ text))
-    by_first true is others =
-        slice_split-cons_yes is_hyphen (hyphened_byte b) (hyphened text) (is_hyphen-read b ∙ is)
-        ∙ ap (λ parts. [] ∷ parts) others
-        ∙ ap (map hyphened) (sym (slice_split-cons_yes is_mark b text is))
-    by_first false is others =
-        slice_split-cons_no is_hyphen (hyphened_byte b) (hyphened text) (is_hyphen-read b ∙ is)
-        ∙ ap (onto_first (hyphened_byte b)) others
-        ∙ sym (map-onto_first b (slice_split is_mark text))
-        ∙ ap (map hyphened) (sym (slice_split-cons_no is_mark b text is))
+segments-read = slice_split-changed hyphened_byte is_hyphen is_mark is_hyphen-read
 
 -- ---- the parts of a list that is cut
 

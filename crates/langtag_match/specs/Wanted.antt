@@ -1,7 +1,8 @@
 -- How a header is read so that each range that can be made out counts, and nothing in it is an error.
-use Rattle.std.specs.Prelude.{ℕ, ◌+◌, ◌-◌, ◌*◌, ◌==◌, Bool, ◌&&◌, ◌||◌, false, if◌then◌else◌, List, [], ◌∷◌, Option, Some, None, map, length, nat_lt, slice_index_or}
+use Rattle.std.specs.Prelude.{◌≡◌, ℕ, ◌+◌, ◌-◌, ◌*◌, ◌==◌, Bool, ◌&&◌, ◌||◌, false, if◌then◌else◌, List, [], ◌∷◌, Option, Some, None, map, length, nat_lt, slice_index_or}
 use Rattle.std.specs.Int.{is_in_range}
 use Rattle.std.specs.List.{list_all, list_any, slice_split, before_first, after_first, filter_map}
+use Rattle.langtag.specs.Case.{Alike, fold_text}
 use Rattle.langtag_match.specs.AcceptLanguage.{Element, is_semicolon, range_of, trimmed, items}
 use Rattle.langtag_match.specs.Range.{is_basic_range}
 use Rattle.langtag_match.specs.Weight.{is_q}
@@ -98,6 +99,16 @@ wanted item =
 -- those of a header, in order, with those of the weight 0 among them
 abbrev pub wanted_elements : List ℕ → List Element
 wanted_elements header = filter_map wanted (items header)
+
+-- ---- the case of letters
+
+-- an element with the letters of its range in small
+abbrev pub folded : Element → Element
+folded element = record { range = fold_text element.range; weight = element.weight }
+
+-- a header that is equal to this but for case has elements that are equal to these but for case
+abbrev pub IgnoresCase : List ℕ → List Element → Type 0
+IgnoresCase header elements = (other : List ℕ) → Alike header other → map folded (wanted_elements other) ≡ map folded elements
 
 -- ---- the values of the code
 

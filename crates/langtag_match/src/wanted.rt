@@ -33,6 +33,7 @@ pub struct WantedRanges<'a> {
 /// [`AcceptLanguage`]: crate::AcceptLanguage
 pub fn wanted_ranges<'a>(header: &'a [u8]) -> WantedRanges<'a>
     ensures list { spec.wanted_left result ≡ spec.wanted_elements header.now }
+    ensures case { spec.IgnoresCase header.now (spec.wanted_left result) }
     ensures few { length (spec.wanted_left result) < 2 ^ 64 }
     ensures cloned { (wanted copy : WantedRange) → ⟦<WantedRange<'a> as Clone>⟧.is_clone wanted copy → copy ≡ wanted }
     ensures clone_succeeds { (wanted : WantedRange) → ⟦<WantedRange<'a> as Clone>⟧.is_infallible wanted }

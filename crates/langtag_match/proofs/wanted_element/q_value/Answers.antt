@@ -1,4 +1,4 @@
-use Rattle.std.proofs.Common.{◌≡◌, ◌+◌, ◌-◌, ◌∙◌, sym, ap, true, length, drop, take}
+use Rattle.std.proofs.Common.{◌≡◌, ◌+◌, ◌-◌, ◌∙◌, sym, ap, length, drop, take}
 use Rattle.std.specs.List.{after_first}
 use Rattle.std.proofs.lemmas.List.{take_rest}
 use Rattle.langtag_match.specs.AcceptLanguage.{trimmed}

@@ -1,0 +1,148 @@
+-- Headers that are equal but for the case of letters have elements that are equal but for case.
+use Rattle.std.proofs.Common.{◌≡◌, ℕ, ◌+◌, ◌*◌, nat_lt, Bool, true, false, cond, ◌&&◌, List, [], ◌∷◌, map, length, Option, None, Some, option_map, refl, sym, ap, ◌∙◌, arith}
+use Rattle.std.specs.Int.{is_in_range}
+use Rattle.std.specs.List.{list_all, slice_split, before_first, after_first, cons_option, filter_map}
+use Rattle.std.proofs.lemmas.Bool.{and_parts}
+use Rattle.std.proofs.lemmas.Bool.Decides.{nat_tests}
+use Rattle.langtag_scan.specs.Case.{fold_byte, fold_text}
+use Rattle.langtag_scan.proofs.CaseLaw.{all-fold}
+use Rattle.langtag_match.specs.AcceptLanguage.{Element, is_comma, is_semicolon, trimmed, range_of, items}
+use Rattle.langtag_match.specs.Range.{is_basic_range}
+use Rattle.langtag_match.specs.Weight.{is_q}
+use Rattle.langtag_match.specs.Wanted.{hyphened, ends_locale, wanted_text, is_point, is_zero, are_digits, digit_of, value_weight, is_equals, is_q_name, is_q_parameter, wanted_weight, parameters, wanted, wanted_elements, folded, IgnoresCase}
+use Rattle.langtag_match.proofs.AlikeTexts.{mark-fold, hyphened-fold, trimmed-fold, is_basic_range-fold}
+use Rattle.langtag_match.proofs.ChangedTexts.{list_any-changed, before_first-changed, after_first-changed, slice_split-changed}
+
+-- ---- where an item is cut
+
+is_semicolon-fold : (b : ℕ) → is_semicolon (fold_byte b) ≡ is_semicolon b
+is_semicolon-fold = mark-fold 59 (omega arith)
+
+is_equals-fold : (b : ℕ) → is_equals (fold_byte b) ≡ is_equals b
+is_equals-fold = mark-fold 61 (omega arith)
+
+is_point-fold : (b : ℕ) → is_point (fold_byte b) ≡ is_point b
+is_point-fold = mark-fold 46 (omega arith)
+
+ends_locale-fold : (b : ℕ) → ends_locale (fold_byte b) ≡ ends_locale b
+ends_locale-fold b = rw (mark-fold 46 (omega arith) b, mark-fold 64 (omega arith) b) refl
+
+-- what is to be the range of an item
+wanted_range-fold : (item : List ℕ) → hyphened (wanted_text (fold_text item)) ≡ fold_text (hyphened (wanted_text item))
+wanted_range-fold item =
+    ap (λ t. hyphened (before_first ends_locale (trimmed t))) (before_first-changed fold_byte is_semicolon is_semicolon is_semicolon-fold item)
+    ∙ ap (λ t. hyphened (before_first ends_locale t)) (trimmed-fold (before_first is_semicolon item))
+    ∙ ap hyphened (before_first-changed fold_byte ends_locale ends_locale ends_locale-fold (range_of item))
+    ∙ hyphened-fold (wanted_text item)
+
+parameters-fold : (item : List ℕ) → parameters (fold_text item) ≡ map fold_text (parameters item)
+parameters-fold item =
+    ap (slice_split is_semicolon) (after_first-changed fold_byte is_semicolon is_semicolon is_semicolon-fold item)
+    ∙ slice_split-changed fold_byte is_semicolon is_semicolon is_semicolon-fold (after_first is_semicolon item)
+
+-- ---- the weight that a value says: a number has no letters
+
+decimal-fold : (b : ℕ) → is_in_range 48 57 (fold_byte b) ≡ is_in_range 48 57 b
+unfolding fold_byte
+decimal-fold b = grind (arith, nat_tests)
+
+decimal_stays : (b : ℕ) → is_in_range 48 57 b ≡ true → fold_byte b ≡ b
+unfolding fold_byte
+decimal_stays b digit = grind (arith, nat_tests)
+
+digits_stay : (text : List ℕ) → are_digits text ≡ true → fold_text text ≡ text
+digits_stay [] digits = refl
+digits_stay (b ∷ text) digits =
+    let k = and_parts (is_in_range 48 57 b) (are_digits text) digits in
+    ap (λ c. c ∷ fold_text text) (decimal_stays b k.0) ∙ ap (λ t. b ∷ t) (digits_stay text k.1)
+
+are_digits-fold : (text : List ℕ) → are_digits (fold_text text) ≡ are_digits text
+are_digits-fold = all-fold (is_in_range 48 57) decimal-fold
+
+-- the weight by what stands before and after the point
+abbrev weight_by_parts : List ℕ → List ℕ → ℕ
+weight_by_parts whole fraction =
+    cond (are_digits whole && are_digits fraction && nat_lt 0 (length whole + length fraction))
+    (cond (list_all is_zero whole) (100 * digit_of fraction 0 + 10 * digit_of fraction 1 + digit_of fraction 2) 1000)
+    1000
+
+weight_by_parts-fold : (whole fraction : List ℕ) → weight_by_parts (fold_text whole) (fold_text fraction) ≡ weight_by_parts whole fraction
+weight_by_parts-fold whole fraction = by_tests (are_digits whole) (are_digits fraction) refl refl
+  where
+    by_tests : (s t : Bool) → are_digits whole ≡ s → are_digits fraction ≡ t → weight_by_parts (fold_text whole) (fold_text fraction) ≡ weight_by_parts whole fraction
+    by_tests true true s t = rw (digits_stay whole s, digits_stay fraction t) refl
+    by_tests true false s t = rw (are_digits-fold whole, are_digits-fold fraction, s, t) refl
+    by_tests false t s is = rw (are_digits-fold whole, s) refl
+
+value_weight-fold : (value : List ℕ) → value_weight (fold_text value) ≡ value_weight value
+value_weight-fold value =
+    ap (λ w. weight_by_parts w (after_first is_point (fold_text value))) (before_first-changed fold_byte is_point is_point is_point-fold value)
+    ∙ ap (weight_by_parts (fold_text (before_first is_point value))) (after_first-changed fold_byte is_point is_point is_point-fold value)
+    ∙ weight_by_parts-fold (before_first is_point value) (after_first is_point value)
+
+-- ---- parameters
+
+is_q-fold : (b : ℕ) → is_q (fold_byte b) ≡ is_q b
+unfolding fold_byte
+is_q-fold b = grind (arith, nat_tests)
+
+is_q_name-fold : (name : List ℕ) → is_q_name (fold_text name) ≡ is_q_name name
+is_q_name-fold [] = refl
+is_q_name-fold (b ∷ []) = is_q-fold b
+is_q_name-fold (b ∷ c ∷ name) = refl
+
+is_q_parameter-fold : (parameter : List ℕ) → is_q_parameter (fold_text parameter) ≡ is_q_parameter parameter
+is_q_parameter-fold parameter =
+    rw (
+      list_any-changed fold_byte is_equals is_equals is_equals-fold parameter,
+      before_first-changed fold_byte is_equals is_equals is_equals-fold parameter,
+      trimmed-fold (before_first is_equals parameter),
+      is_q_name-fold (trimmed (before_first is_equals parameter)),
+    ) refl
+
+said_weight-fold : (parameter : List ℕ) → value_weight (trimmed (after_first is_equals (fold_text parameter))) ≡ value_weight (trimmed (after_first is_equals parameter))
+said_weight-fold parameter =
+    ap (λ t. value_weight (trimmed t)) (after_first-changed fold_byte is_equals is_equals is_equals-fold parameter)
+    ∙ ap value_weight (trimmed-fold (after_first is_equals parameter))
+    ∙ value_weight-fold (trimmed (after_first is_equals parameter))
+
+wanted_weight-fold : (parameters : List (List ℕ)) → wanted_weight (map fold_text parameters) ≡ wanted_weight parameters
+wanted_weight-fold [] = refl
+wanted_weight-fold (parameter ∷ parameters) = rw (is_q_parameter-fold parameter, said_weight-fold parameter, wanted_weight-fold parameters) refl
+
+-- ---- elements
+
+-- the element of a range and a weight: none where the range is none
+abbrev element_of : List ℕ → ℕ → Option Element
+element_of range weight = cond (is_basic_range range) (Some (record { range = range; weight = weight })) None
+
+element_of-fold : (range : List ℕ) (weight : ℕ) → element_of (fold_text range) weight ≡ option_map folded (element_of range weight)
+element_of-fold range weight = rw (is_basic_range-fold range) (by_test (is_basic_range range))
+  where
+    by_test :
+        (basic : Bool) → cond basic (Some (record { range = fold_text range; weight = weight })) None ≡ option_map folded (cond basic (Some (record { range = range; weight = weight })) None)
+    by_test true = refl
+    by_test false = refl
+
+wanted-fold : (item : List ℕ) → wanted (fold_text item) ≡ option_map folded (wanted item)
+unfolding wanted
+wanted-fold item =
+    ap (λ r. element_of r (wanted_weight (parameters (fold_text item)))) (wanted_range-fold item)
+    ∙ ap (λ ps. element_of (fold_text (hyphened (wanted_text item))) (wanted_weight ps)) (parameters-fold item)
+    ∙ ap (element_of (fold_text (hyphened (wanted_text item)))) (wanted_weight-fold (parameters item))
+    ∙ element_of-fold (hyphened (wanted_text item)) (wanted_weight (parameters item))
+
+wanted_items-fold : (items : List (List ℕ)) → filter_map wanted (map fold_text items) ≡ map folded (filter_map wanted items)
+wanted_items-fold [] = refl
+wanted_items-fold (item ∷ items) = rw (wanted-fold item, wanted_items-fold items) (by_first (wanted item))
+  where
+    by_first : (here : Option Element) → cons_option (option_map folded here) (map folded (filter_map wanted items)) ≡ map folded (cons_option here (filter_map wanted items))
+    by_first None = refl
+    by_first (Some element) = refl
+
+-- those of a header in small letters are those of the header, in small letters
+wanted_elements-fold : (header : List ℕ) → wanted_elements (fold_text header) ≡ map folded (wanted_elements header)
+wanted_elements-fold header = ap (filter_map wanted) (slice_split-changed fold_byte is_comma is_comma (mark-fold 44 (omega arith)) header) ∙ wanted_items-fold (items header)
+
+pub alike_headers : (header : List ℕ) → IgnoresCase header (wanted_elements header)
+alike_headers header other alike = sym (wanted_elements-fold other) ∙ ap wanted_elements (sym alike) ∙ wanted_elements-fold header
