@@ -1,6 +1,6 @@
 pub mod BoolFacts
 mod Runs
-mod Disjoint
+pub mod Disjoint
 mod Decoding
 mod Complete
 pub mod SubtagFacts
@@ -31,6 +31,7 @@ pub mod PartOffsets
 pub mod SpelledTexts
 pub mod FoundLaws
 pub mod RegisteredTags
-mod ViableLaws
+pub mod ViableLaws
 pub mod Digits
 pub mod FoldedNumbers
+pub mod Places

@@ -11,7 +11,7 @@ viable_nothing : IsViable []
 viable_nothing = viable_possible [] 0 (omega arith) refl
 
 -- where the longer text stops within the shorter one, it has read a byte too many
-stop_not_viable : (t : List ℕ) (b n : ℕ) → IsStop (t ++ b ∷ []) n → n ≤ length t → IsViable (take n (t ++ b ∷ [])) → ⊥
+pub stop_not_viable : (t : List ℕ) (b n : ℕ) → IsStop (t ++ b ∷ []) n → n ≤ length t → IsViable (take n (t ++ b ∷ [])) → ⊥
 stop_not_viable t b n stop within viable = elim stop.at [
   | inl whole ↦ absurd (omega (arith, whole.1, length_push t b, within))
   | inr dead ↦ dead viable

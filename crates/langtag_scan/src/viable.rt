@@ -9,6 +9,7 @@ use crate::source::ByteSource;
 ///
 /// In bytes that are no tag, it is the index of the first wrong byte, or their number where they end too soon: of `zh_Hant`
 /// it is 2, of `i-notexist` 3, of `de-x` 4 and of nothing 0. Of a tag it is the length. It takes no memory.
+#[tactic(auto, using(crate::proofs::ViableLaws::stop_positive))]
 pub fn viable_len(bytes: &[u8]) -> usize
     ensures { IsViableLength bytes.now result }
 {

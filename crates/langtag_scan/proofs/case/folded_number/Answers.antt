@@ -41,10 +41,5 @@ loop-byte-preserved c =
       digits = digit_fits c.loop-byte.number c.loop-byte.byte-index c.from.result c.loop-byte.invariant.digits (omega (arith, small, same));
     }
 
-pub returns-clause-number : goal.returns-clause-number
-returns-clause-number c =
-    let ends = c.loop-byte-test.false in
-    c.loop-byte.invariant.so_far ∙ ap folded_number (take_all c.loop-byte.byte-index c.args.bytes.now (omega (arith, ends)))
-
 pub returns-clause-tells : goal.returns-clause-tells
 returns-clause-tells c = folded_number-tells

@@ -5,13 +5,6 @@ use Rattle.langtag_scan.proofs.CandidateRanges.{Narrows, candidates_narrowed}
 use Rattle.langtag_scan.proofs.CandidatesByLength.{candidate-push}
 use Rattle.langtag_scan.proofs.irregular.Candidates.keep.Goals as goal
 
-pub returns-then-index-eq0-clause-follows : goal.returns-then-index-eq0-clause-follows
-returns-then-index-eq0-clause-follows c = λ p at follows. record {
-  possible = λ k within.
-      let nothing : p ≡ [] = nil_from_length p (omega (arith, at)) in
-      rw (nothing, c.begun_by.ensures.len, ← c.into_smallcase-small.ensures) (c.begun_by.ensures.range k within);
-}
-
 pub returns-else-index-eq0-clause-follows : goal.returns-else-index-eq0-clause-follows
 returns-else-index-eq0-clause-follows c =
     let candidates = c.args.self.now in
