@@ -31,7 +31,7 @@ pub mod PartOffsets
 pub mod SpelledTexts
 pub mod FoundLaws
 pub mod RegisteredTags
-pub mod ViableLaws
+mod ViableLaws
 pub mod Digits
 pub mod FoldedNumbers
 pub mod Places

@@ -50,6 +50,6 @@ pub use metered::Metered;
 pub use recogniser::{recognise, recognise_normal};
 pub use segment::{segment_end, segment_start};
 pub use source::ByteSource;
-pub use split::{first_place, split_at_byte, split_at_either};
+pub use split::{first_place, len_before, split_at_byte, split_at_either};
 pub use subtags::Subtags;
-pub use viable::viable_len;
+pub use viable::{viable_len, viable_len_with_hyphen};

@@ -1,6 +1,6 @@
 //! A text taken apart at the first byte of a kind.
-ghost use Rattle.std.specs.Prelude.{◌≡◌, ◌==◌, ◌||◌, ◌+◌, ◌<◌, IfSome, drop, length, take, unwrap_or};
-ghost use Rattle.std.specs.List.{after_first, before_first, position};
+ghost use Rattle.std.specs.Prelude.{◌≡◌, ◌==◌, ◌||◌, ◌+◌, ◌<◌, ◌≤◌, IfSome, drop, length, take, unwrap_or};
+ghost use Rattle.std.specs.List.{after_first, before_first, position, position_or_len};
 
 /// Returns what stands before the first such byte, and what stands after it: all of the text and nothing where it has none.
 ///
@@ -20,6 +20,15 @@ pub fn split_at_either(text: &[u8], mark: u8, other: u8) -> (&[u8], &[u8])
     ensures after { result.1.now ≡ after_first (λ b. b == mark || b == other) text.now }
 {
     split_at(text, first_of_either(text, mark, other))
+}
+
+/// Returns how many bytes stand before the first such byte, all where there is none: `len_before(b"fr;q=1", b';')` is 2.
+#[tactic(auto, using(crate::proofs::Places::first_or_length))]
+pub fn len_before(text: &[u8], mark: u8) -> usize
+    ensures within { result ≤ length text.now }
+    ensures first { result ≡ position_or_len (λ b. b == mark) text.now }
+{
+    first_place(text, mark).unwrap_or(text.len())
 }
 
 /// Returns the index of the first such byte: `first_place(b"q=1", b'=')` is Some(1).

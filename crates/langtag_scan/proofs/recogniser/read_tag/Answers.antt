@@ -1,11 +1,10 @@
-use Rattle.std.proofs.Common.{◌≡◌, ◌<◌, ◌+◌, false, ◌⊎◌, length, take, None, inl, inr, sym, ap, subst, ◌∙◌, arith}
+use Rattle.std.proofs.Common.{◌≡◌, ◌<◌, ◌+◌, false, ◌⊎◌, length, take, inl, inr, sym, subst, ◌∙◌, arith}
 use Rattle.std.proofs.lemmas.Bool.{both_ways}
 use Rattle.langtag_scan.specs.Machine.{HasStopped}
 use Rattle.langtag_scan.specs.Stage.{may_end}
-use Rattle.langtag_scan.specs.Tracking.{IsDecided, IsSubtagRead}
+use Rattle.langtag_scan.specs.Tracking.{IsSubtagRead}
 use Rattle.langtag_scan.specs.Viable.{IsViable}
 use Rattle.langtag_scan.proofs.RecogniserLaws.{dead_decided, end_refused, end_accepted}
-use Rattle.langtag_scan.proofs.ReadingLaws.{first_two}
 use Rattle.langtag_scan.proofs.recogniser.read_tag.Goals as goal
 use Rattle.langtag_scan.proofs.recogniser.read_tag.Goals.{then-loop-goes_on-test+else-index-len-2, else-loop-goes_on-test, else-goes_on-via-then-goes_on+else-may_end, else-goes_on-via-else-goes_on}
 

@@ -1,5 +1,4 @@
-use Rattle.std.proofs.Common.{◌≡◌, ℕ, ◌<◌, Bool, ◌&&◌, List, [], ◌∷◌, ◌++◌, refl, arith}
-use Rattle.std.proofs.lemmas.List.{nil_from_length}
+use Rattle.std.proofs.Common.{◌≡◌, ℕ, ◌<◌, Bool, ◌&&◌, List, [], ◌∷◌, ◌++◌, refl}
 use Rattle.langtag_scan.specs.Irregular.{folded_at, has_at, is_within, is_candidate}
 use Rattle.langtag_scan.proofs.CandidateRanges.{Narrows, candidates_narrowed}
 use Rattle.langtag_scan.proofs.CandidatesByLength.{candidate-push}
