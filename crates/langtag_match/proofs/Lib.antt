@@ -3,11 +3,9 @@ pub mod AsciiRanges
 pub mod BasicRanges
 pub mod Hyphens
 pub mod Elements
-pub mod ElementTexts
 pub mod Found
 pub mod FoundOnce
 pub mod Offsets
-pub mod Places
 pub mod Prefixes
 pub mod Readings
 pub mod Spaces
