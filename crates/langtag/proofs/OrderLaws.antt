@@ -20,9 +20,7 @@ use Rattle.langtag.specs.declared.grandfathered.GrandfatheredLangTag.TheVariants
 use Rattle.langtag.specs.declared.grandfathered.GrandfatheredLangTag.{GrandfatheredLangTag}
 use Rattle.langtag.specs.declared.grandfathered.TheConstants.{GRANDFATHERED}
 use Rattle.langtag.proofs.RegisteredLaws.{listed}
-use Rattle.langtag.specs.Compared.{TypedLangTagsCompareByKind}
 use Rattle.langtag.specs.Order.{TagsCompareByIndex}
-use Rattle.langtag.specs.declared.typed_lang_tag.TypedLangTag.TheVariants.{Normal, PrivateUse, Grandfathered}
 use Rattle.langtag.specs.Registered.{index_of}
 
 -- what a derived comparison reads of a variant is its index
@@ -72,15 +70,3 @@ tag_ends_first t u tag ends =
 
 pub normal_ends_first : (t u : List ℕ) → IsNormal u → EndsFirst t u → case_cmp t u ≡ Greater
 normal_ends_first t u normal ends = tag_ends_first t u (tag_normal u normal) ends
-
--- the derived `==` of typed tags
-pub typed_equal : TypedLangTagsCompareByKind
-typed_equal (Normal a) (Normal b) = refl
-typed_equal (Normal a) (PrivateUse b) = refl
-typed_equal (Normal a) (Grandfathered b) = refl
-typed_equal (PrivateUse a) (Normal b) = refl
-typed_equal (PrivateUse a) (PrivateUse b) = refl
-typed_equal (PrivateUse a) (Grandfathered b) = refl
-typed_equal (Grandfathered a) (Normal b) = refl
-typed_equal (Grandfathered a) (PrivateUse b) = refl
-typed_equal (Grandfathered a) (Grandfathered b) = equal a b

@@ -1,5 +1,5 @@
 -- A part that is put into the text of a normal tag: where it stands, and what the new text is.
-use Rattle.std.proofs.Common.{◌≡◌, ℕ, ◌≤◌, List, [], length, ap, arith}
+use Rattle.std.proofs.Common.{◌≡◌, ℕ, ◌≤◌, List, length, arith}
 use Rattle.std.specs.List.{replace_range}
 use Rattle.std.specs.Option.{option_map}
 use Rattle.langtag_scan.specs.Ends.{ends_of, HasEnds}
@@ -14,9 +14,8 @@ use Rattle.langtag_place.proofs.Rules.{IsVariants-from_test}
 use Rattle.langtag_extension.specs.Text.{extensions_text}
 use Rattle.langtag_extension.proofs.Rules.{IsExtensions-from_test}
 use Rattle.langtag.specs.Edit.{SetsPart}
-use Rattle.langtag.specs.Lengths.{after_hyphen, ends_from, lengths_of, with_length}
+use Rattle.langtag.specs.Lengths.{ends_from, lengths_of, with_length}
 use Rattle.langtag.specs.PartPlaces.{part_start, part_end, put_text}
-use Rattle.langtag.specs.Text.{part_text}
 use Rattle.langtag.specs.declared.part.Part.{Part}
 use Rattle.langtag.specs.declared.part.Part.TheVariants.{Language, Script, Region, Variants, Extensions, PrivateUse}
 use Rattle.langtag.proofs.EditLaws.{spells-edited, ends-edited, language-replaces, script-replaces, region-replaces, variants-replaces, extensions-replaces, private_use-replaces, is_script-member, is_region-member, private_use_spelled}
@@ -49,15 +48,6 @@ part_within p text ends kept = within p (ends_ordered text ends kept) (ends_whol
     within (Variants part) order whole = omega (arith, order.extensions, order.private_use, whole)
     within (Extensions part) order whole = omega (arith, order.private_use, whole)
     within (PrivateUse part) order whole = omega (arith, whole)
-
--- nothing is put for a part that is absent
-pub put_nothing : (p : Part) → part_text p ≡ [] → put_text p ≡ []
-put_nothing (Language part) none = none
-put_nothing (Script part) none = ap after_hyphen none
-put_nothing (Region part) none = ap after_hyphen none
-put_nothing (Variants part) none = ap after_hyphen none
-put_nothing (Extensions part) none = ap after_hyphen none
-put_nothing (PrivateUse part) none = ap after_hyphen none
 
 -- ---- what the new text is
 

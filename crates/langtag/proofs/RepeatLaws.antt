@@ -152,9 +152,6 @@ next_singleton es n text texts b is opens =
       later = ap (map extension_spelling) (IsAt-drop es n next.first next.rest next.is).later ∙ next.others;
     }
 
-pub no_singleton : (es : List Extension) (n : ℕ) → map extension_spelling (drop n es) ≡ [] → drop n (singletons es) ≡ []
-no_singleton es n left = drop-map (λ e. e.singleton) n es ∙ ap singletons (no_extension (drop n es) left)
-
 -- the one at an index, by the text at that index
 pub singleton_at :
     (es : List Extension) (k : ℕ) (text : Option (List ℕ)) → text ≡ slice_get (map extension_spelling es) k →

@@ -46,10 +46,6 @@ list_any-absent block number absent =
       | inr other ↦ other.0
     ])
 
-list_any-present : (block : List ℕ) (number place : ℕ) → place < length block → get_or block place 0 ≡ number → list_any (λ other. other == number) block ≡ true
-list_any-present block number place inside same =
-    list_any_at (λ other. other == number) block place 0 inside (elim (eqb_tells (get_or block place 0) number) [ inl h ↦ h.0 | inr h ↦ absurd (h.1 same) ])
-
 -- ---- one more number is met
 
 push-same : (numbers : List ℕ) (number x : ℕ) → number ≡ x → list_any (λ other. other == x) (numbers ++ number ∷ []) ≡ true
@@ -95,14 +91,6 @@ pub again-absent :
     (block numbers : List ℕ) (number : ℕ) → IsAbsent block number →
     false ≡ (list_any (λ other. other == number) block && list_any (λ other. other == number) numbers)
 again-absent block numbers number absent = sym (ap (λ b. b && list_any (λ other. other == number) numbers) (list_any-absent block number absent))
-
-pub again-present :
-    (block : List ℕ) (met : List Bool) (numbers : List ℕ) (number place : ℕ) → IsPlaceOf block number place → place < length block → get_or block place 0 ≡ number →
-    AreMet block met numbers → get_or met place false ≡ (list_any (λ other. other == number) block && list_any (λ other. other == number) numbers)
-again-present block met numbers number place at inside same before =
-    before place (inside, λ k less. let below = at.below k less in omega (arith, below, same))
-    ∙ ap (λ n. list_any (λ other. other == n) numbers) same
-    ∙ sym (ap (λ b. b && list_any (λ other. other == number) numbers) (list_any-present block number place inside same))
 
 -- ---- the variants before an index
 

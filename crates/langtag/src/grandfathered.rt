@@ -126,6 +126,7 @@ impl GrandfatheredLangTag {
     /// # Errors
     ///
     /// Bytes that are no such tag come back, the same slice: `b"fr"` does.
+    #[tactic(auto, using(crate::proofs::RegisteredLaws::one_index, crate::proofs::OrderLaws::tags_compare, crate::proofs::RegisteredLaws::grandfathered_tag))]
     pub fn new(bytes: &[u8]) -> Result<Self, &[u8]>
         ensures accepts { IsTrue (is_ok result) ↔ IsGrandfathered bytes.now }
         ensures same_tag { IfOk result (λ tag. IsGrandfatheredAt (index_of tag) bytes.now) }

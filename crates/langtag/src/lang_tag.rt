@@ -159,6 +159,7 @@ impl<'a> LangTag<'a> {
     ///
     /// The contract also says that tags are compared, ordered and hashed without regard to case, that a clone is the tag
     /// itself, and that a tag that begins another is the greater of the two: `zh` comes after `zh-Latn`.
+    #[tactic(auto, using(crate::proofs::OrderLaws::tag_ends_first))]
     pub fn eq_str(&self, other: &str) -> bool
         ensures test { result ≡ are_alike (lang_tag_text self.now) other.now }
         ensures same_kind { IsTrue result → AreOfOneKind (lang_tag_text self.now) other.now }

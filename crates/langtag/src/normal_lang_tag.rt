@@ -135,6 +135,7 @@ impl<'a> NormalLangTag<'a> {
     ///
     /// The contract also says that normal tags are compared, ordered and hashed without regard to case, that a clone is the tag
     /// itself, and that a tag that begins another is the greater of the two: `sl` comes after `sl-IT`.
+    #[tactic(auto, using(crate::proofs::OrderLaws::normal_ends_first))]
     pub fn eq_str(&self, other: &str) -> bool
         ensures test { result ≡ are_alike (normal_lang_tag_text self.now) other.now }
         ensures alike_parts { IsTrue result → EachRecord (normal_lang_tag_text self.now) (λ r. IsSpelledAlike r other.now) }

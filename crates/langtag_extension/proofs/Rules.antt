@@ -112,7 +112,7 @@ all_subtags-append : (xs ys : List (List ℕ)) → AllByRecursion IsSubtag xs �
 all_subtags-append [] ys here there = there
 all_subtags-append (x ∷ xs) ys here there = (here.0, all_subtags-append xs ys here.1 there)
 
-all_subtags-flat : (es : List Extension) → AllByRecursion IsWellFormedExtension es → AllByRecursion IsSubtag (flat_map extension_flat es)
+pub all_subtags-flat : (es : List Extension) → AllByRecursion IsWellFormedExtension es → AllByRecursion IsSubtag (flat_map extension_flat es)
 all_subtags-flat [] fits = tt
 all_subtags-flat (e ∷ es) fits = all_subtags-append (extension_flat e) (flat_map extension_flat es) (subtags-flat e fits.0) (all_subtags-flat es fits.1)
 

@@ -6,11 +6,9 @@ pub mod BasicRanges
 pub mod ChangedTexts
 pub mod Hyphens
 pub mod Elements
-pub mod ElementTexts
 pub mod Found
 pub mod FoundOnce
 pub mod Offsets
-pub mod Places
 pub mod PlainRanges
 pub mod Prefixes
 pub mod Readings

@@ -1,15 +1,14 @@
 -- A tag that begins with a range.
 use Rattle.std.proofs.Common.{◌≡◌, ◌↔◌, ℕ, ◌+◌, ◌-◌, ◌<◌, ◌≤◌, ◌&&◌, true, IsTrue, List, [], ◌∷◌, ◌++◌, length, length-drop, take, drop, get_or, inl, inr, refl, sym, ap, ◌∙◌, arith}
-use Rattle.std.proofs.lemmas.Bool.{and_parts, or_cases, cases_lt, eqb-true, eq-eqb}
+use Rattle.std.proofs.lemmas.Bool.{and_parts, or_cases, or_right, cases_lt, eqb-true, eq-eqb}
 use Rattle.std.proofs.lemmas.List.{take_at, length-map, length-append, at_drop_more, take-append-drop, get_or-append_right, get_or-drop, take_all}
 use Rattle.langtag_scan.specs.Case.{fold_byte, fold_text, Alike, are_alike}
 use Rattle.langtag_scan.specs.CaseLaws.{are_alike-decides}
 use Rattle.langtag_match.specs.Basic.{BeginsWith, MatchesBasic, ends_subtag, test_basic}
 use Rattle.langtag_match.specs.Range.{is_star}
-use Rattle.langtag_match.proofs.BasicRanges.{or_second}
 
 -- texts that are alike are as long
-length-alike : (a b : List ℕ) → Alike a b → length a ≡ length b
+pub length-alike : (a b : List ℕ) → Alike a b → length a ≡ length b
 length-alike a b alike = sym (length-map a fold_byte) ∙ ap length alike ∙ length-map b fold_byte
 
 -- the tag goes on with a hyphen
@@ -82,6 +81,6 @@ test_basic-decides range tag = (
   ],
   λ matches. elim matches [
     | inl star ↦ rw star refl
-    | inr begins ↦ or_second (is_star range) _ (test_from_begins range tag begins)
+    | inr begins ↦ or_right (is_star range) _ (test_from_begins range tag begins)
   ],
 )

@@ -1,19 +1,19 @@
 -- Ranges in which "_" is read as "-", and the parts of a list that is cut one after the other.
 use Rattle.std.proofs.Common.{◌≡◌, ◌⊎◌, take, not, nat_lt, inl, inr, cond, Option, ℕ, ◌+◌, ◌<◌, ◌≤◌, Bool, true, false, ◌&&◌, ◌||◌, List, [], ◌∷◌, Some, None, map, length, length-drop, ap, refl, sym, ◌∙◌, arith}
-use Rattle.std.specs.List.{list_all, slice_split, before_first, after_first, position, position_or_len, cons_option, filter_map}
-use Rattle.std.proofs.lemmas.Bool.{and_parts}
+use Rattle.std.specs.List.{list_all, slice_split, before_first, after_first, position, position_or_len, cons_option, filter_map, onto_first}
+use Rattle.std.proofs.lemmas.Bool.{and_parts, cases_lt}
 use Rattle.std.proofs.lemmas.Bool.Decides.{nat_tests, eqb_tells}
 use Rattle.std.proofs.lemmas.Grind.{common_steps}
-use Rattle.std.proofs.lemmas.List.{length-map}
-use Rattle.std.proofs.lemmas.List.Splits.{length-slice_split}
-use Rattle.std.proofs.lemmas.List.Sums.{count_by-le-length, prefix_len-le-length}
+use Rattle.std.proofs.lemmas.List.{length-map, drop_all, take_all}
+use Rattle.std.proofs.lemmas.List.Splits.{length-slice_split, slice_split-cons_yes, slice_split-cons_no, slice_split_first, slice_split_none}
+use Rattle.std.proofs.lemmas.List.Sums.{count_by-le-length, prefix_len-le-length, fails_before_first}
 use Rattle.langtag.specs.Class.{has_length, is_letter, is_digit, is_alphanumeric, are_letters, is_private_subtag}
 use Rattle.langtag.specs.Subtags.{is_hyphen, segments, subtags}
 use Rattle.langtag_match.specs.AcceptLanguage.{items, is_comma, is_semicolon, trimmed}
 use Rattle.langtag_match.specs.Range.{is_star, is_first_subtag, are_basic_range, is_basic_range}
-use Rattle.langtag_match.proofs.BasicRanges.{list_all-weaker}
-use Rattle.langtag_match.proofs.Places.{any_at_first, none_at_length}
 use Rattle.langtag_match.proofs.ChangedTexts.{list_all-changed, slice_split-changed}
+use Rattle.langtag_scan.proofs.SubtagFacts.{letters_alphanumeric}
+use Rattle.langtag_scan.proofs.Places.{any_at_first, none_at_length}
 use Rattle.langtag_match.specs.Wanted.{hyphened_byte, hyphened, is_mark, is_q_name, is_q_parameter, is_equals, value_weight, wanted_weight, wanted, wanted_elements}
 
 -- ---- a byte that is read as a hyphen is one
@@ -62,19 +62,13 @@ segments-read = slice_split-changed hyphened_byte is_hyphen is_mark is_hyphen-re
 pub cut_or_whole :
     (p : ℕ → Bool) (text : List ℕ) →
     (slice_split p text ≡ before_first p text ∷ slice_split p (after_first p text)) ⊎ ((slice_split p text ≡ before_first p text ∷ []) × (after_first p text ≡ []))
-cut_or_whole p [] = inr (refl, refl)
-cut_or_whole p (b ∷ text) = by_first (p b) refl (cut_or_whole p text)
-  where
-    by_first :
-        (cut : Bool) → p b ≡ cut →
-        (slice_split p text ≡ before_first p text ∷ slice_split p (after_first p text)) ⊎ ((slice_split p text ≡ before_first p text ∷ []) × (after_first p text ≡ [])) →
-        (slice_split p (b ∷ text) ≡ before_first p (b ∷ text) ∷ slice_split p (after_first p (b ∷ text))) ⊎
-        ((slice_split p (b ∷ text) ≡ before_first p (b ∷ text) ∷ []) × (after_first p (b ∷ text) ≡ []))
-    by_first true is others = inl (rw is refl)
-    by_first false is others = elim others [
-      | inl more ↦ inl (rw (is, more) (grind (arith, common_steps)))
-      | inr whole ↦ inr (rw (is, whole.0) (grind (arith, common_steps)), grind (arith, common_steps))
-    ]
+cut_or_whole p text = elim (cases_lt (position_or_len p text) (length text)) [
+  | inl within ↦ inl (slice_split_first p text 0 within)
+  | inr past ↦
+      let whole : before_first p text ≡ text = take_all (position_or_len p text) text past in
+      let none = slice_split_none p text (λ k d inside. fails_before_first p text k d (omega (arith, past, inside))) in
+      inr (none ∙ ap (λ part. part ∷ []) (sym whole), drop_all (position_or_len p text + 1) text (omega (arith, past)))
+]
 
 -- ---- which texts are ranges so
 
@@ -92,13 +86,6 @@ is_star-read (b ∷ c ∷ text) = elim (eqb_tells b 95) [
 are_private-read : (parts : List (List ℕ)) → list_all is_private_subtag (map hyphened parts) ≡ list_all is_private_subtag parts
 are_private-read [] = refl
 are_private-read (part ∷ parts) = rw (is_private_subtag-read part, are_private-read parts) refl
-
-letters_alphanumeric : (text : List ℕ) → are_letters text ≡ true → list_all is_alphanumeric text ≡ true
-letters_alphanumeric text letters = list_all-weaker is_letter is_alphanumeric (λ b letter. or_first (is_letter b) (is_digit b) letter) text letters
-  where
-    or_first : (x y : Bool) → x ≡ true → (x || y) ≡ true
-    or_first true y is = refl
-    or_first false y is = absurd cc
 
 first_private : (text : List ℕ) → is_first_subtag text ≡ true → is_private_subtag text ≡ true
 unfolding is_private_subtag

@@ -1,6 +1,6 @@
 //! An element of an Accept-Language header: a language range, and a weight (RFC 9110 section 12.5.4).
 ghost use Rattle.std.specs.Prelude.{◌≡◌, ◌≤◌, IsTrue, Some, None, IfOk, IfErr, MatchOption, drop, length, reverse, take, false};
-ghost use Rattle.std.specs.List.{position, position_or_len, slice_range};
+ghost use Rattle.std.specs.List.{position_or_len, slice_range};
 ghost use Rattle.langtag_match.specs.AcceptLanguage as spec;
 ghost use Rattle.langtag_match.specs.Range.{is_basic_range};
 ghost use Rattle.langtag_match.specs.Text.{language_range_text, weighted_range_text};
@@ -10,6 +10,7 @@ use crate::language_range::LanguageRange;
 use crate::range_text::is_basic_range;
 use crate::weight::weight_of;
 use crate::weighted_range::WeightedRange;
+use langtag_scan::len_before;
 
 /// An element of a header, and where its range stands.
 #[derive(Debug, Drop)]
@@ -27,13 +28,14 @@ pub struct Element<'a> {
 ///
 /// Returns the part that is bad where it is not an element: of `fr_FR` the range, of `fr;q=2` the weight, and the range where
 /// both are. It is the range too where nothing stands there, or white space alone, which [`is_empty_element`] tells.
+#[tactic(auto, unfolding(crate::specs::AcceptLanguage::element, crate::specs::AcceptLanguage::bad_part))]
 pub fn element_at(item: &[u8]) -> Result<Element<'_>, ElementPart>
     ensures read { IfOk result (λ found. spec.element item.now ≡ Some (spec.reading found.weighted)) }
     ensures place { IfOk result (λ found. spec.IsPlaceOf item.now (weighted_range_text found.weighted) found.start) }
     ensures none { IfErr result (λ part. spec.element item.now ≡ None) }
     ensures bad { IfErr result (λ part. part ≡ spec.bad_part item.now) }
 {
-    let end = len_before_semicolon(item);
+    let end = len_before(item, b';');
     let before = &item[..end];
     let (start, stop) = trimmed_place(before);
     let Some(range) = basic_range(&before[start..stop]) else {
@@ -55,6 +57,7 @@ pub fn is_empty_element(item: &[u8]) -> bool
 }
 
 /// Returns the weight that stands after the first `;`, and 1000 where there is none.
+#[tactic(auto, using(langtag_scan::proofs::Places::any_at_first, langtag_scan::proofs::Places::none_at_length))]
 fn weight_after(item: &[u8], semicolon: usize) -> Option<u32>
     requires within { semicolon ≤ length item.now }
     requires first { semicolon ≡ position_or_len spec.is_semicolon item.now }
@@ -66,21 +69,6 @@ fn weight_after(item: &[u8], semicolon: usize) -> Option<u32>
     let text = &item[semicolon + 1..];
     let (start, end) = trimmed_place(text);
     weight_of(&text[start..end])
-}
-
-/// Returns how many bytes stand before the first `;`, all where there is none.
-#[tactic(auto, using(crate::proofs::Places::first_or_length))]
-fn len_before_semicolon(item: &[u8]) -> usize
-    ensures within { result ≤ length item.now }
-    ensures first { result ≡ position_or_len spec.is_semicolon item.now }
-{
-    first_semicolon(item).unwrap_or(item.len())
-}
-
-fn first_semicolon(item: &[u8]) -> Option<usize>
-    ensures { result ≡ position spec.is_semicolon item.now }
-{
-    item.iter().position(|byte| *byte == b';')
 }
 
 /// Returns the basic language range that the bytes are, if they are one.

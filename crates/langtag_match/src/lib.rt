@@ -21,7 +21,6 @@
 mod accept_language;
 mod accept_language_error;
 mod basic;
-mod cut;
 mod element;
 mod extended;
 mod fallbacks;

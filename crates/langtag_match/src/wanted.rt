@@ -4,8 +4,8 @@ ghost use Rattle.std.specs.Iterator.{YieldsFirstBy, item_count};
 ghost use Rattle.std.specs.Option.{option_map_or};
 ghost use Rattle.langtag_match.specs.Wanted as spec;
 
-use crate::cut::cut;
 use crate::wanted_element::wanted_at;
+use langtag_scan::split_at_byte;
 
 /// A language range of a header, and its weight. `_` may stand in its bytes where a language range has a hyphen.
 #[derive(Clone, Copy, Debug, Drop)]
@@ -69,7 +69,7 @@ pub fn split_wanted(header: &[u8]) -> Option<(WantedRange<'_>, &[u8])>
 {
     let mut left = header;
     while !left.is_empty() {
-        let (item, rest) = cut(left, b',');
+        let (item, rest) = split_at_byte(left, b',');
         if let Some(found) = wanted_at(item) {
             return Some((found, rest));
         }

@@ -1,25 +1,26 @@
 //! An element of a header of which nothing is refused.
-ghost use Rattle.std.specs.Prelude.{◌≡◌, ◌+◌, ◌&&◌, false, IsTrue, MatchOption, length, nat_lt, ◌≤◌};
-ghost use Rattle.std.specs.List.{before_first, after_first, slice_split, list_all, position, position_or_len};
+ghost use Rattle.std.specs.Prelude.{◌≡◌, ◌+◌, ◌&&◌, false, IsTrue, MatchOption, length, nat_lt};
+ghost use Rattle.std.specs.List.{after_first, slice_split, list_all};
 ghost use Rattle.std.specs.Option.{option_map};
 ghost use Rattle.langtag.specs.Class.{is_private_subtag};
 ghost use Rattle.langtag_match.specs.AcceptLanguage.{is_semicolon, trimmed};
 ghost use Rattle.langtag_match.specs.Range.{is_basic_range, is_star};
 ghost use Rattle.langtag_match.specs.Wanted as spec;
 
-use crate::cut::{cut, first_place};
 use crate::element::trimmed_place;
 use crate::range_text::is_first_subtag;
 use crate::wanted::WantedRange;
 use crate::weight::{are_digits, digit_at};
 use langtag::is_private_subtag;
+use langtag_scan::{first_place, split_at_byte, split_at_either};
 
 /// Returns the range that an item of a header has, with its weight.
+#[tactic(auto, unfolding(crate::specs::Wanted::wanted))]
 pub(crate) fn wanted_at(item: &[u8]) -> Option<WantedRange<'_>>
     ensures { option_map spec.wanted_element result ≡ spec.wanted item.now }
 {
-    let (before, parameters) = cut(item, b';');
-    let bytes = locale_name(trimmed(before));
+    let (before, parameters) = split_at_byte(item, b';');
+    let (bytes, _codeset) = split_at_either(trimmed(before), b'.', b'@');
     if !is_wanted_range(bytes) {
         return None;
     }
@@ -27,56 +28,19 @@ pub(crate) fn wanted_at(item: &[u8]) -> Option<WantedRange<'_>>
     Some(WantedRange { bytes, weight })
 }
 
-/// Returns what stands before the first `.` or `@`.
-fn locale_name(text: &[u8]) -> &[u8]
-    ensures { result.now ≡ before_first spec.ends_locale text.now }
-{
-    let len = locale_len(text);
-    &text[..len]
-}
-
-/// Returns how many bytes stand before the first `.` or `@`, all where there is none.
-#[tactic(auto, using(crate::proofs::Places::first_or_length))]
-fn locale_len(text: &[u8]) -> usize
-    ensures within { result ≤ length text.now }
-    ensures first { result ≡ position_or_len spec.ends_locale text.now }
-{
-    first_end(text).unwrap_or(text.len())
-}
-
-fn first_end(text: &[u8]) -> Option<usize>
-    ensures { result ≡ position spec.ends_locale text.now }
-{
-    text.iter().position(|byte| *byte == b'.' || *byte == b'@')
-}
-
 /// Returns whether a text is a basic language range where `_` is read as `-`.
 #[tactic(auto, using(crate::proofs::WantedTexts::basic_read))]
 fn is_wanted_range(text: &[u8]) -> bool
     ensures { result ≡ is_basic_range (spec.hyphened text.now) }
 {
-    is_star(text) || (is_first_subtag(&text[..first_len(text)]) && are_wanted_subtags(text))
+    let (first, _) = split_at_either(text, b'-', b'_');
+    is_star(text) || (is_first_subtag(first) && are_wanted_subtags(text))
 }
 
 fn is_star(text: &[u8]) -> bool
     ensures { result ≡ is_star text.now }
 {
     matches!(text, [b'*'])
-}
-
-/// Returns the length of the first subtag.
-#[tactic(auto, using(crate::proofs::Places::first_or_length))]
-fn first_len(text: &[u8]) -> usize
-    ensures within { result ≤ length text.now }
-    ensures first { result ≡ position_or_len spec.is_mark text.now }
-{
-    first_mark(text).unwrap_or(text.len())
-}
-
-fn first_mark(text: &[u8]) -> Option<usize>
-    ensures { result ≡ position spec.is_mark text.now }
-{
-    text.iter().position(|byte| is_mark(*byte))
 }
 
 /// Returns whether each subtag is 1 to 8 letters or digits.
@@ -100,7 +64,7 @@ fn wanted_weight(parameters: &[u8]) -> u32
 {
     let mut left = parameters;
     while !left.is_empty() {
-        let (parameter, rest) = cut(left, b';');
+        let (parameter, rest) = split_at_byte(left, b';');
         if let Some(value) = q_value(parameter) {
             return value_weight(value);
         }
@@ -110,6 +74,7 @@ fn wanted_weight(parameters: &[u8]) -> u32
 }
 
 /// Returns the value of a parameter named `q`.
+#[tactic(auto, using(crate::proofs::WantedTexts::no_equals, crate::proofs::WantedTexts::some_equals))]
 fn q_value(parameter: &[u8]) -> Option<&[u8]>
     ensures { MatchOption result (spec.is_q_parameter parameter.now ≡ false)
         (λ value. (value.now ≡ trimmed (after_first spec.is_equals parameter.now)) × IsTrue (spec.is_q_parameter parameter.now)) }
@@ -133,7 +98,7 @@ fn is_q_name(name: &[u8]) -> bool
 fn value_weight(value: &[u8]) -> u32
     ensures { result ≡ spec.value_weight value.now }
 {
-    let (whole, fraction) = cut(value, b'.');
+    let (whole, fraction) = split_at_byte(value, b'.');
     if !is_number(whole, fraction) || !are_zeros(whole) {
         return 1000;
     }

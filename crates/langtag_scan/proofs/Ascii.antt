@@ -44,7 +44,7 @@ IsAscii-join (s ∷ []) fits = fits.0
 IsAscii-join (s ∷ u ∷ us) fits =
     IsAscii-append s (45 ∷ join (u ∷ us)) fits.0 (IsAscii-cons 45 (join (u ∷ us)) (omega arith) (IsAscii-join (u ∷ us) fits.1))
 
-IsAscii-spelled : (t : List ℕ) (ss : List (List ℕ)) → join ss ≡ t → AllByRecursion IsSubtag ss → IsAscii t
+pub IsAscii-spelled : (t : List ℕ) (ss : List (List ℕ)) → join ss ≡ t → AllByRecursion IsSubtag ss → IsAscii t
 IsAscii-spelled t ss spells fits = subst IsAscii spells (IsAscii-join ss (IsAscii-subtags ss fits))
 
 -- ---- the kinds of tags

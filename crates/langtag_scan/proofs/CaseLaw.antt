@@ -26,7 +26,7 @@ pub is_letter-fold : (b : ℕ) → is_letter (fold_byte b) ≡ is_letter b
 unfolding fold_byte is_letter
 is_letter-fold b = grind (arith, nat_tests)
 
-is_digit-fold : (b : ℕ) → is_digit (fold_byte b) ≡ is_digit b
+pub is_digit-fold : (b : ℕ) → is_digit (fold_byte b) ≡ is_digit b
 unfolding fold_byte is_digit
 is_digit-fold b = grind (arith, nat_tests)
 
@@ -125,7 +125,7 @@ join-fold (s ∷ u ∷ us) = ap (λ (t : List ℕ). fold_text s ++ 45 ∷ t) (jo
 -- ---- records
 
 -- the subtags of a folded script or region are those of the part, folded
-one_flat-fold : (o : Option (List ℕ)) → one_flat (option_map fold_text o) ≡ map fold_text (one_flat o)
+pub one_flat-fold : (o : Option (List ℕ)) → one_flat (option_map fold_text o) ≡ map fold_text (one_flat o)
 one_flat-fold None = refl
 one_flat-fold (Some s) = refl
 

@@ -1,6 +1,6 @@
 pub mod BoolFacts
 mod Runs
-mod Disjoint
+pub mod Disjoint
 mod Decoding
 mod Complete
 pub mod SubtagFacts
@@ -34,3 +34,4 @@ pub mod RegisteredTags
 mod ViableLaws
 pub mod Digits
 pub mod FoldedNumbers
+pub mod Places

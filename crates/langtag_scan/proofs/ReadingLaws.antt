@@ -2,7 +2,7 @@
 use Rattle.std.proofs.Common.{◌≡◌, ℕ, ◌≤◌, true, false, eqb, ◌⊎◌, List, [], ◌∷◌, ◌++◌, length, Option, Some, None, inl, inr, refl, sym, ap, subst, ◌∙◌, arith, append_assoc, append-nil, ◌+◌, ◌-◌, ◌<◌, take, drop, get_or}
 use Rattle.std.proofs.lemmas.Bool.{both_ways, false_from_ne_true, ne_eqb}
 use Rattle.std.proofs.lemmas.List.{length-append, length_push, take_more, take_all, take-append-drop, take-take, length-take}
-use Rattle.std.proofs.lemmas.List.Edits.{between_none, between_more, length-between, get_or-between}
+use Rattle.std.proofs.lemmas.List.Edits.{between_more, length-between}
 use Rattle.std.proofs.lemmas.Slice.{between_is}
 use Rattle.std.specs.List.{between}
 use Rattle.langtag_scan.specs.Case.{fold_byte}
@@ -13,7 +13,7 @@ use Rattle.langtag_scan.specs.Shape.{shape_of, classes_of_shape}
 use Rattle.langtag_scan.specs.Stage.{after_stage, after_by}
 use Rattle.langtag_scan.specs.Subtags.{segments}
 use Rattle.langtag_scan.specs.Tag.{IsIrregular, IsTag}
-use Rattle.langtag_scan.specs.Tracking.{Tracks, IsDecided, IsKept, IsReading, IsSubtagRead, IsReadTo}
+use Rattle.langtag_scan.specs.Tracking.{IsDecided, IsKept, IsReading, IsSubtagRead, IsReadTo}
 use Rattle.langtag_scan.specs.Viable.{IsViable, filling}
 use Rattle.langtag_scan.specs.declared.ends.Ends.{Ends}
 use Rattle.langtag_scan.specs.declared.finding.Finding.{Finding}
@@ -30,8 +30,8 @@ use Rattle.langtag_scan.proofs.NormalTexts.{after_subtag}
 use Rattle.langtag_scan.proofs.Outcomes.{Decides, decided}
 use Rattle.langtag_scan.proofs.PrivateTexts.{one_no_primary}
 use Rattle.langtag_scan.proofs.RecogniserLaws.{dead_decided}
-use Rattle.langtag_scan.proofs.Running.{begun_push, first_kind, found_after, segments-one, segments-hyphen, outcome-begun, outcome-ended, empty_begun}
-use Rattle.langtag_scan.proofs.ShapeLaws.{shape, IsFirst, IsHeld, shape_nothing, shape_pushed, after_stage-shape}
+use Rattle.langtag_scan.proofs.Running.{begun_push, first_kind, found_after, segments-one, segments-hyphen, outcome-begun, outcome-ended}
+use Rattle.langtag_scan.proofs.ShapeLaws.{shape, IsFirst, IsHeld, shape_pushed, after_stage-shape}
 use Rattle.langtag_scan.proofs.StageLaws.{starting, after_not_start, index_after-length, index_after-end}
 use Rattle.langtag_scan.proofs.TagLaws.{viable_from_tag}
 use Rattle.langtag_scan.proofs.NoCandidates.{no_candidate-append, no_candidate_first, no_candidate_begun, no_candidate_letters, irregular_nine}
@@ -199,19 +199,6 @@ part_read t start i m subtag k = record {
 
 -- ---- byte by byte
 
-pub reading_nothing :
-    (t : List ℕ) (start : ℕ) (m : Machine) → start ≤ length t → Tracks (take start t) m →
-    IsReading t start start m (shape (start - start) 0 0)
-reading_nothing t start m within tracks =
-    let nothing = sym (between_none t start) in
-    record {
-      from = omega arith;
-      within = within;
-      tracks = tracks;
-      begun = subst (IsBegun m.stage) nothing (empty_begun m.stage);
-      shape = shape_nothing start ∙ ap shape_of nothing;
-    }
-
 -- a byte of the subtag
 pub reading_more :
     (t : List ℕ) (start i b first next digits more : ℕ) (m : Machine) → i < length t → b ≡ get_or t i 0 → (i - start ≡ 8 → ⊥) →
@@ -291,15 +278,3 @@ module _ (t : List ℕ) (start n : ℕ) (candidates : Candidates) (m : Machine) 
     found = found None is;
     nine = nine;
   }
-
--- a text that goes on after a first subtag of one byte
-pub first_two :
-    (t : List ℕ) (n : ℕ) (candidates : Candidates) (m : Machine) (subtag : Shape) → IsSubtagRead t 0 m candidates n subtag → subtag.len ≡ 1 → 1 < length t →
-    take 2 t ≡ subtag.first ∷ 45 ∷ []
-first_two t n candidates m subtag read one more =
-    let end : 0 + subtag.len ≡ 1 = omega (arith, one) in
-    let first : get_or t 0 0 ≡ subtag.first =
-    sym (ap (λ (x : Shape). x.first) read.reading.shape ∙ ap (λ k. get_or (between 0 k t) 0 0) end ∙ get_or-between t 0 1 0 0 (omega arith)) in
-    let hyphen : get_or t 1 0 ≡ 45 = ap (λ k. get_or t k 0) (sym end) ∙ read.hyphen (omega (arith, end, more)) in
-    let two : take 2 t ≡ get_or t 0 0 ∷ get_or t 1 0 ∷ [] = take_more t 1 0 more ∙ ap (λ p. p ++ get_or t 1 0 ∷ []) (take_more t 0 0 (omega (arith, more))) in
-    two ∙ ap (λ x. x ∷ get_or t 1 0 ∷ []) first ∙ ap (λ x. subtag.first ∷ x ∷ []) hyphen

@@ -89,9 +89,6 @@ after_stage-shape stage s subtag begun is =
 abbrev pub shape : ℕ → ℕ → ℕ → Shape
 shape len first digits = record { len = len; first = first; digits = digits }
 
-pub shape_nothing : (start : ℕ) → shape (start - start) 0 0 ≡ shape_of []
-shape_nothing start = let none : start - start ≡ 0 = omega arith in rw none refl
-
 -- the first byte of a subtag that begins at an index, after the byte at another
 abbrev pub IsFirst : ℕ → ℕ → ℕ → ℕ → ℕ → Type 0
 IsFirst start i b first next = ((i ≡ start) × (next ≡ b)) ⊎ ((i ≡ start → ⊥) × (next ≡ first))

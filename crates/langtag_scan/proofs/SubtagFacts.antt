@@ -19,7 +19,7 @@ pub letters_alphanumeric : (s : List ℕ) → are_letters s ≡ true → are_alp
 letters_alphanumeric [] h = refl
 letters_alphanumeric (b ∷ s) h = let k = and_parts (is_letter b) (are_letters s) h in rw (k.0, letters_alphanumeric s k.1) refl
 
-digits_alphanumeric : (s : List ℕ) → are_digits s ≡ true → are_alphanumeric s ≡ true
+pub digits_alphanumeric : (s : List ℕ) → are_digits s ≡ true → are_alphanumeric s ≡ true
 digits_alphanumeric [] h = refl
 digits_alphanumeric (b ∷ s) h = let k = and_parts (is_digit b) (are_digits s) h in rw (k.0, or-true (is_letter b), digits_alphanumeric s k.1) refl
 

@@ -1,5 +1,5 @@
 -- How much of a text is viable, by where the text stops once it has one byte more.
-use Rattle.std.proofs.Common.{◌≡◌, ℕ, ◌+◌, ◌≤◌, List, [], ◌∷◌, ◌++◌, length, take, inl, inr, refl, sym, subst, arith}
+use Rattle.std.proofs.Common.{◌≡◌, ℕ, ◌+◌, ◌≤◌, List, [], ◌∷◌, ◌++◌, length, take, inl, inr, refl, sym, subst, arith, append_assoc}
 use Rattle.std.proofs.lemmas.Bool.{cases_lt}
 use Rattle.std.proofs.lemmas.List.{take-append-le, length_push}
 use Rattle.langtag_scan.specs.Viable.{IsViable, IsStop, IsViableLength}
@@ -10,6 +10,18 @@ use Rattle.langtag_scan.proofs.TagLaws.{prefixes_viable}
 viable_nothing : IsViable []
 viable_nothing = viable_possible [] 0 (omega arith) refl
 
+-- so a text that has a byte does not stop before it
+pub stop_some : (t : List ℕ) (n : ℕ) → IsStop t n → 1 ≤ length t → 1 ≤ n
+stop_some t n stop some = elim (cases_lt 0 n) [
+  | inl read ↦ omega (arith, read)
+  | inr none ↦
+      let zero_here : n ≡ 0 = omega (arith, none) in
+      elim stop.at [
+        | inl whole ↦ omega (arith, whole.1, zero_here, some)
+        | inr dead ↦ absurd (dead (subst (λ k. IsViable (take k t)) (sym zero_here) viable_nothing))
+      ]
+]
+
 -- where the longer text stops within the shorter one, it has read a byte too many
 stop_not_viable : (t : List ℕ) (b n : ℕ) → IsStop (t ++ b ∷ []) n → n ≤ length t → IsViable (take n (t ++ b ∷ [])) → ⊥
 stop_not_viable t b n stop within viable = elim stop.at [
@@ -17,25 +29,17 @@ stop_not_viable t b n stop within viable = elim stop.at [
   | inr dead ↦ dead viable
 ]
 
-pub stop_positive : (t : List ℕ) (b n : ℕ) → IsStop (t ++ b ∷ []) n → 1 ≤ n
-stop_positive t b n stop = elim (cases_lt 0 n) [
-  | inl some ↦ omega (arith, some)
-  | inr none ↦
-      let zero_here : n ≡ 0 = omega (arith, none) in
-      let nothing = subst (λ k. IsViable (take k (t ++ b ∷ []))) (sym zero_here) viable_nothing in
-      absurd (stop_not_viable t b n stop (omega (arith, zero_here)) nothing)
-]
-
--- so what stands before the last byte that it has read is as much of the shorter one as is viable
-pub viable_length : (t : List ℕ) (b n m : ℕ) → IsStop (t ++ b ∷ []) n → m + 1 ≡ n → IsViableLength t m
-viable_length t b n m stop one_less =
-    let within : m ≤ length t = omega (arith, stop.within, length_push t b, one_less) in
+-- what stands before the last byte that it has read is as much of the shorter one as is viable
+pub viable_before : (t : List ℕ) (b n : ℕ) → IsStop (t ++ b ∷ []) (n + 1) → IsViableLength t n
+viable_before t b n stop =
+    let within : n ≤ length t = omega (arith, stop.within, length_push t b) in
     record {
       within = within;
-      viable = λ k le.
-          subst IsViable (take-append-le k t (b ∷ []) (omega (arith, le, within))) (stop.before k (omega (arith, le, one_less)));
+      viable = λ k le. subst IsViable (take-append-le k t (b ∷ []) (omega (arith, le, within))) (stop.before k (omega (arith, le)));
       longest = λ k more le viable.
           let prefix = subst IsViable (sym (take-append-le k t (b ∷ []) le)) viable in
-          let reached : n ≤ k = omega (arith, more, one_less) in
-          stop_not_viable t b n stop (omega (arith, reached, le)) (prefixes_viable (t ++ b ∷ []) k n prefix reached);
+          stop_not_viable t b (n + 1) stop (omega (arith, more, le)) (prefixes_viable (t ++ b ∷ []) k (n + 1) prefix (omega (arith, more)));
     }
+
+pub viable_hyphen_before : (t : List ℕ) (b n : ℕ) → IsStop (t ++ 45 ∷ b ∷ []) (n + 1) → IsViableLength (t ++ 45 ∷ []) n
+viable_hyphen_before t b n stop = viable_before (t ++ 45 ∷ []) b n (subst (λ q. IsStop q (n + 1)) (sym (append_assoc t (45 ∷ []) (b ∷ []))) stop)

@@ -1,21 +1,18 @@
 //! Bytes, with a count of the reads.
-ghost use Rattle.std.specs.Prelude.{◌≡◌, ◌≤◌, ◌++◌, ◌∷◌, [], length};
+ghost use Rattle.std.specs.Prelude.{◌≡◌, ◌≤◌, ◌++◌, length};
 
 use crate::source::ByteSource;
-
-/// The byte after all others, where one more is read. No tag has it, but any other would serve.
-const END: &[u8] = b"\xFF";
 
 /// The bytes of a text, or any others, with a count of the reads, to show how much of them is read to recognise a tag (RFC
 /// 5646 section 2.1). There is no other way to them.
 #[derive(Drop)]
 pub struct Metered<'a> {
     bytes: &'a [u8],
-    /// What is read after the bytes: one more, or none.
+    /// What is read after the bytes: two more at most.
     end: &'static [u8],
     reads: u128,
     reach: usize,
-    ghost short: { length end.now ≤ 1 },
+    ghost short: { length end.now ≤ 2 },
 }
 
 impl<'a> Metered<'a> {
@@ -37,19 +34,9 @@ impl<'a> Metered<'a> {
         Metered::followed(bytes, b"")
     }
 
-    /// The bytes and one more after them: a recogniser reads that one where some tag begins with all before it, and stops
-    /// before it where none does.
-    pub(crate) fn ended(bytes: &'a [u8]) -> Self
-        ensures bytes { ⟦<Metered<'a> as ByteSource>⟧.bytes result ≡ bytes.now ++ 255 ∷ [] }
-        ensures reads { ⟦<Metered<'a> as ByteSource>⟧.reads result ≡ 0 }
-        ensures reach { ⟦<Metered<'a> as ByteSource>⟧.reach result ≡ 0 }
-    {
-        Metered::followed(bytes, END)
-    }
-
     /// The bytes, and what is read after them.
-    fn followed(bytes: &'a [u8], end: &'static [u8]) -> Self
-        requires { length end.now ≤ 1 }
+    pub(crate) fn followed(bytes: &'a [u8], end: &'static [u8]) -> Self
+        requires { length end.now ≤ 2 }
         ensures bytes { ⟦<Metered<'a> as ByteSource>⟧.bytes result ≡ bytes.now ++ end.now }
         ensures reads { ⟦<Metered<'a> as ByteSource>⟧.reads result ≡ 0 }
         ensures reach { ⟦<Metered<'a> as ByteSource>⟧.reach result ≡ 0 }

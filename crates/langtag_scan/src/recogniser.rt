@@ -19,6 +19,7 @@ use crate::source::ByteSource;
 /// memory: `recognise(&mut Metered::new("i-notexist"))` is None after four reads. Its contract also has the laws that
 /// make its answer the only one, and says which texts begin a tag.
 #[inline(always)]
+#[tactic(auto, using(crate::proofs::OneKind::normal_no_private, crate::proofs::OneKind::normal_no_irregular, crate::proofs::OneKind::private_no_irregular, crate::proofs::IrregularTexts::irregular_once, crate::proofs::FillLaw::viable_fill))]
 pub fn recognise<S: ByteSource>(source: &mut S) -> Option<Found>
     requires { S.reads source.old ≤ 2 ^ 126 }
     ensures found { MatchOption result (IsTag (S.bytes source.old) → ⊥) (λ found. IsFoundOf (S.bytes source.old) (finding found)) }
@@ -97,6 +98,7 @@ fn read_irregular<S: ByteSource>(source: &mut S, first: u8) -> Option<Found>
 /// [`recognise`] does. Its contract also has the law that a normal tag has one record of its parts.
 ///
 /// `recognise_normal(&mut Metered::new("zh-min"))` is Some, and that of `x-a` and of `i-lux` is None.
+#[tactic(auto, using(crate::proofs::FoundLaws::normal_found, crate::proofs::TagLaws::tag_normal))]
 pub fn recognise_normal<S: ByteSource>(source: &mut S) -> Option<Found>
     requires { S.reads source.old ≤ 2 ^ 126 }
     ensures found { MatchOption result (IsNormal (S.bytes source.old) → ⊥) (λ found.
@@ -108,6 +110,5 @@ pub fn recognise_normal<S: ByteSource>(source: &mut S) -> Option<Found>
     // A law of these words: a text has one record.
     ensures one_record { (r q : Record) → IsWellFormed r → IsWellFormed q → spell r ≡ spell q → r ≡ q }
 {
-    let found = recognise(source)?;
-    if found.is_normal() { Some(found) } else { None }
+    recognise(source).filter(|found| found.is_normal())
 }

@@ -1,5 +1,6 @@
 //! How far bytes are the beginning of a tag.
-ghost use Rattle.langtag_scan.specs.Viable.{IsViableLength};
+ghost use Rattle.std.specs.Prelude.{◌≡◌, ◌≤◌, ◌+◌, ◌++◌, ◌∷◌, [], length};
+ghost use Rattle.langtag_scan.specs.Viable.{IsStop, IsViableLength};
 
 use crate::metered::Metered;
 use crate::recogniser::recognise;
@@ -9,11 +10,29 @@ use crate::source::ByteSource;
 ///
 /// In bytes that are no tag, it is the index of the first wrong byte, or their number where they end too soon: of `zh_Hant`
 /// it is 2, of `i-notexist` 3, of `de-x` 4 and of nothing 0. Of a tag it is the length. It takes no memory.
+#[tactic(auto, using(crate::proofs::ViableLaws::viable_before))]
 pub fn viable_len(bytes: &[u8]) -> usize
     ensures { IsViableLength bytes.now result }
 {
-    let mut source = Metered::ended(bytes);
-    // The last byte that was read is the first after which no tag can follow, or the one after all others.
-    let _ = recognise(&mut source);
+    len_before_stop(&mut Metered::followed(bytes, b"\xFF"))
+}
+
+/// Returns the same of the bytes and a hyphen after them, which shows whether another subtag may follow: of `zh` it is 3.
+#[tactic(auto, using(crate::proofs::ViableLaws::viable_hyphen_before))]
+pub fn viable_len_with_hyphen(bytes: &[u8]) -> usize
+    ensures { IsViableLength (bytes.now ++ 45 ∷ []) result }
+{
+    len_before_stop(&mut Metered::followed(bytes, b"-\xFF"))
+}
+
+/// How many bytes stand before the one with which a source stops. Its last byte is one that no tag has, but any other would serve.
+#[tactic(auto, using(crate::proofs::ViableLaws::stop_some))]
+fn len_before_stop<'a>(source: &mut Metered<'a>) -> usize
+    requires some { 1 ≤ length (⟦<Metered<'a> as ByteSource>⟧.bytes source.old) }
+    requires reads { ⟦<Metered<'a> as ByteSource>⟧.reads source.old ≡ 0 }
+    requires reach { ⟦<Metered<'a> as ByteSource>⟧.reach source.old ≡ 0 }
+    ensures { IsStop (⟦<Metered<'a> as ByteSource>⟧.bytes source.old) (result + 1) }
+{
+    let _ = recognise(source);
     source.reach() - 1
 }

@@ -1,21 +1,10 @@
-use Rattle.std.proofs.Common.{◌≡◌, true, false, take, length, arith, refl, sym, ap, ◌∙◌, rules}
+use Rattle.std.proofs.Common.{◌≡◌, false, take, length, arith, ap, ◌∙◌, rules}
 use Rattle.std.specs.List.{list_any}
 use Rattle.langtag_scan.specs.Case.{are_alike}
 use Rattle.langtag_scan.specs.Subtags.{subtags}
 use Rattle.langtag_place.specs.Text.{variant_text, variants_text}
-use Rattle.langtag.proofs.RepeatLaws.{IsAt-drop, repeat-found, repeat-later, repeat-none}
+use Rattle.langtag.proofs.RepeatLaws.{IsAt-drop, repeat-later}
 use Rattle.langtag.proofs.repeats.first_repeated_of_few.Goals as goal
-
-pub loop-index-init : goal.loop-index-init
-loop-index-init c =
-    record { can_next = tt; is_finite = tt; counter = search rules; so_far = refl; left = sym c.iter-variant-items.ensures.list }
-
-pub returns-then-is_among_first : goal.returns-then-is_among_first
-returns-then-is_among_first c =
-    let all = subtags (variants_text c.args.variants) in
-    let left = c.loop-index.invariant.left ∙ c.in-Some.ensures.steps in
-    let seen : list_any (are_alike (variant_text c.in-Some.variant)) (take c.loop-index.index all) ≡ true = search rules in
-    sym (repeat-found are_alike all c.loop-index.index _ _ c.loop-index.invariant.so_far left seen)
 
 pub loop-index-preserved : goal.loop-index-preserved
 loop-index-preserved c =
@@ -29,9 +18,3 @@ loop-index-preserved c =
       so_far = repeat-later are_alike all c.loop-index.index _ _ c.loop-index.invariant.so_far left new;
       left = (IsAt-drop all c.loop-index.index _ _ left).later;
     }
-
-pub returns : goal.returns
-returns c =
-    let all = subtags (variants_text c.args.variants) in
-    let left = c.loop-index.invariant.left ∙ c.in-None.ensures.steps.0 in
-    sym (repeat-none are_alike all c.loop-index.index c.loop-index.invariant.so_far left)

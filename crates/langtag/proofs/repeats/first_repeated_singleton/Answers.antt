@@ -3,7 +3,7 @@ use Rattle.std.specs.List.{list_any}
 use Rattle.std.proofs.lemmas.List.{get_or-replicate, length-set}
 use Rattle.langtag_extension.specs.Text.{singleton_byte}
 use Rattle.langtag.specs.Repeat.{are_alike_bytes}
-use Rattle.langtag.proofs.RepeatLaws.{next_singleton, no_singleton, singletons, fold_singleton-below, AreFlagsOf-set, IsAt-drop, repeat-found, repeat-later, repeat-none}
+use Rattle.langtag.proofs.RepeatLaws.{next_singleton, singletons, fold_singleton-below, AreFlagsOf-set, IsAt-drop, repeat-found, repeat-later}
 use Rattle.langtag.proofs.repeats.first_repeated_singleton.Goals as goal
 
 pub loop-index-init : goal.loop-index-init
@@ -54,8 +54,3 @@ loop-index-preserved c =
           repeat-later are_alike_bytes (singletons es) index byte _ (c.loop-index.invariant.so_far es spells) next.left new;
       left = λ es spells. (next_singleton es index _ _ byte (c.loop-index.invariant.left es spells ∙ c.in-Some.ensures.steps) c.singleton.ensures.first_byte).later;
     }
-
-pub returns : goal.returns
-returns c es spells =
-    let left = no_singleton es c.loop-index.index (c.loop-index.invariant.left es spells ∙ c.in-None.ensures.steps.0) in
-    sym (repeat-none are_alike_bytes (singletons es) c.loop-index.index (c.loop-index.invariant.so_far es spells) left)

@@ -3,7 +3,7 @@ use Rattle.std.specs.List.{after_first}
 use Rattle.std.proofs.lemmas.List.{take_rest}
 use Rattle.langtag_match.specs.AcceptLanguage.{is_semicolon, trimmed}
 use Rattle.langtag_match.specs.Weight.{weight}
-use Rattle.langtag_match.proofs.Places.{any_at_first, none_at_length}
+use Rattle.langtag_scan.proofs.Places.{any_at_first, none_at_length}
 use Rattle.langtag_match.proofs.element.weight_after.Goals as goal
 
 pub returns-then-semicolon-item : goal.returns-then-semicolon-item

@@ -1,16 +1,7 @@
-use Rattle.std.proofs.Common.{refl, sym, ◌∙◌}
+use Rattle.std.proofs.Common.{sym, ◌∙◌}
 use Rattle.langtag_match.specs.FilterRule.{matches_by}
-use Rattle.langtag_match.proofs.Found.{newly_found-here, newly_found-not_here, newly_found-end}
+use Rattle.langtag_match.proofs.Found.{newly_found-here}
 use Rattle.langtag_match.proofs.filter.next_found.Goals as goal
-
-pub loop-index-init : goal.loop-index-init
-loop-index-init c = refl
 
 pub returns-then-is_newly_found : goal.returns-then-is_newly_found
 returns-then-is_newly_found c = (c.loop-index-test.true, λ next is. c.loop-index.invariant ∙ newly_found-here (matches_by c.args.rule) c.args.before.now c.args.range c.args.tags.now c.loop-index.index c.index-tags-index.result next c.loop-index-test.true c.index-tags-index.is (sym c.is_newly_found.ensures ∙ c.if-is_newly_found.true) is)
-
-pub loop-index-preserved : goal.loop-index-preserved
-loop-index-preserved c = c.loop-index.invariant ∙ newly_found-not_here (matches_by c.args.rule) c.args.before.now c.args.range c.args.tags.now c.loop-index.index c.index-tags-index.result c.loop-index-test.true c.index-tags-index.is (sym c.is_newly_found.ensures ∙ c.if-is_newly_found.false)
-
-pub returns : goal.returns
-returns c = c.loop-index.invariant ∙ newly_found-end (matches_by c.args.rule) c.args.before.now c.args.range c.args.tags.now c.loop-index.index c.loop-index-test.false

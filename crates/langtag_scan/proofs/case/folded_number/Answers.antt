@@ -1,5 +1,4 @@
 use Rattle.std.proofs.Common.{◌+◌, ◌*◌, take, arith, refl, sym, ap, ◌∙◌}
-use Rattle.std.proofs.lemmas.List.{take_all}
 use Rattle.std.proofs.lemmas.List.Sums.{fold_more}
 use Rattle.langtag_scan.specs.Case.{fold_byte}
 use Rattle.langtag_scan.specs.Case.{folded_number}
@@ -40,11 +39,6 @@ loop-byte-preserved c =
           ∙ sym (fold_more (λ number byte. number * 256 + fold_byte byte) 0 c.args.bytes.now c.loop-byte.byte-index 0 c.loop-byte-test.true);
       digits = digit_fits c.loop-byte.number c.loop-byte.byte-index c.from.result c.loop-byte.invariant.digits (omega (arith, small, same));
     }
-
-pub returns-clause-number : goal.returns-clause-number
-returns-clause-number c =
-    let ends = c.loop-byte-test.false in
-    c.loop-byte.invariant.so_far ∙ ap folded_number (take_all c.loop-byte.byte-index c.args.bytes.now (omega (arith, ends)))
 
 pub returns-clause-tells : goal.returns-clause-tells
 returns-clause-tells c = folded_number-tells

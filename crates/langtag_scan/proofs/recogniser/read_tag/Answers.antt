@@ -1,21 +1,12 @@
-use Rattle.std.proofs.Common.{◌≡◌, ◌<◌, ◌+◌, false, ◌⊎◌, length, take, None, inl, inr, sym, ap, subst, ◌∙◌, arith}
+use Rattle.std.proofs.Common.{◌≡◌, ◌<◌, ◌+◌, false, ◌⊎◌, length, take, inl, inr, sym, subst, ◌∙◌, arith}
 use Rattle.std.proofs.lemmas.Bool.{both_ways}
 use Rattle.langtag_scan.specs.Machine.{HasStopped}
 use Rattle.langtag_scan.specs.Stage.{may_end}
-use Rattle.langtag_scan.specs.Tracking.{IsDecided, IsSubtagRead}
+use Rattle.langtag_scan.specs.Tracking.{IsSubtagRead}
 use Rattle.langtag_scan.specs.Viable.{IsViable}
 use Rattle.langtag_scan.proofs.RecogniserLaws.{dead_decided, end_refused, end_accepted}
-use Rattle.langtag_scan.proofs.ReadingLaws.{first_two}
 use Rattle.langtag_scan.proofs.recogniser.read_tag.Goals as goal
 use Rattle.langtag_scan.proofs.recogniser.read_tag.Goals.{then-loop-goes_on-test+else-index-len-2, else-loop-goes_on-test, else-goes_on-via-then-goes_on+else-may_end, else-goes_on-via-else-goes_on}
-
--- ---- the first subtag
-
-pub read_irregular-requires-clause-begun : goal.read_irregular-requires-clause-begun
-read_irregular-requires-clause-begun g c =
-    let s = c.in_ok-subtag.ensures in
-    let more : 1 < length (g.S.ByteSource.bytes c.args.source.now) = omega (arith, c.if-index-eq1.true, c.if-index-len.true, c.len-len.ensures) in
-    ap (take 2) s.bytes ∙ first_two _ s.read.0 _ _ _ s.read.4 c.if-index-eq1.true more
 
 pub read_irregular-requires-clause-stopped : goal.read_irregular-requires-clause-stopped
 read_irregular-requires-clause-stopped g c =
@@ -31,13 +22,6 @@ read_irregular-requires-clause-viable g c =
     let ended = c.end_subtag-goes_on.ensures _ 0 s.read.0 _ s.read.4 (omega arith) in
     subst (λ t. IsViable (take 1 t)) (sym s.bytes) (subst (λ n. IsViable (take n (g.S.ByteSource.bytes c.args.source.now))) c.if-index-eq1.true ended.viable)
 
-pub returns-then-index-len-clause-decided : goal.returns-then-index-len-clause-decided
-returns-then-index-len-clause-decided g c =
-    let s = c.in_ok-subtag.ensures.read in
-    let k = c.read_irregular.ensures.decided in
-    let two : s.0 ≡ 2 = omega (arith, s.4.count, c.if-index-eq1.true, c.if-index-len.true, c.len-len.ensures) in
-    (k.0, subst (λ t. IsDecided t c.read_irregular.result k.0) c.in_ok-subtag.ensures.bytes k.2, omega (arith, k.3, s.2, two), omega (arith, k.1, k.4, s.3, two))
-
 pub loop-goes_on-init : goal.loop-goes_on-init
 loop-goes_on-init g c =
     let s = c.in_ok-subtag.ensures.read in
@@ -52,14 +36,6 @@ loop-goes_on-init g c =
       ];
       read = end.ensures _ 0 s.0 _ s.4 (omega arith);
     }
-
--- ---- the others
-
-pub returns-in_err-subtag-2-clause-decided : goal.returns-in_err-subtag-2-clause-decided
-returns-in_err-subtag-2-clause-decided g c =
-    let known = c.loop-goes_on.invariant in
-    let s = c.in_err-subtag-2.ensures.read in
-    (s.0, rw c.from_residual-in_err-subtag-2.ensures (subst (λ t. IsDecided t None s.0) known.bytes s.4), omega (arith, s.1, s.2, known.reads, c.if-index-len-2.true), omega (arith, s.1, s.3, known.reach, c.if-index-len-2.true))
 
 pub loop-goes_on-preserved : goal.loop-goes_on-preserved
 loop-goes_on-preserved g c =
@@ -80,7 +56,6 @@ loop-goes_on-preserved g c =
     }
 
 -- ---- what is found
-
 pub returns-then-index-len-3-clause-decided : goal.returns-then-index-len-3-clause-decided
 returns-then-index-len-3-clause-decided g c =
     let t = g.S.ByteSource.bytes c.args.source.now in

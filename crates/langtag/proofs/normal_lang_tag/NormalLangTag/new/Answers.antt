@@ -1,7 +1,5 @@
-use Rattle.std.proofs.Common.{refl}
 use Rattle.langtag_scan.proofs.NormalTexts.{spelled_once}
 use Rattle.langtag_scan.proofs.PartOffsets.{join-parts}
-use Rattle.langtag_scan.proofs.SpelledTexts.{normal_from_ends}
 use Rattle.langtag.proofs.PartsFound.{parts_stand}
 use Rattle.langtag.proofs.normal_lang_tag.NormalLangTag.new.Goals as goal
 
@@ -13,9 +11,6 @@ returns-in_default-clause-joined_parts c r _ = join-parts r
 
 pub returns-in_default-clause-part_offsets : goal.returns-in_default-clause-part_offsets
 returns-in_default-clause-part_offsets c = parts_stand
-
-pub returns-clause-accepts : goal.returns-clause-accepts
-returns-clause-accepts c = (λ _. normal_from_ends c.args.text.now c.in-Some.ends c.in-Some.ensures, λ _. refl)
 
 pub returns-clause-one_record : goal.returns-clause-one_record
 returns-clause-one_record c = spelled_once

@@ -1,11 +1,6 @@
-use Rattle.std.proofs.Common.{sym}
 use Rattle.langtag.specs.Repeat.{are_alike_bytes}
 use Rattle.langtag.proofs.RepeatLaws.{repeat_index-first}
 use Rattle.langtag.proofs.normal_lang_tag.NormalLangTag.repeated_singleton_index.Goals as goal
-
-pub returns-clause-repeated : goal.returns-clause-repeated
-returns-clause-repeated c r spells =
-    c.first_repeated_singleton.ensures r.extensions (record { members = spells.0.extensions; joined = sym (c.extensions.ensures r spells) })
 
 pub returns-clause-first : goal.returns-clause-first
 returns-clause-first c = repeat_index-first are_alike_bytes

@@ -1,12 +1,8 @@
 use Rattle.langtag_scan.proofs.CaseLaw.{alike_parts}
-use Rattle.langtag_scan.proofs.SpelledTexts.{offsets_kept}
 use Rattle.langtag_case.proofs.RecommendedLaws.{alike_of_recommended}
 use Rattle.langtag_case.proofs.RecordLaw.{spelled_in_case}
 use Rattle.langtag.proofs.AlikeFound.{ends_alike}
 use Rattle.langtag.proofs.normal_lang_tag_buf.NormalLangTagBuf.make_recommended_case.Goals as goal
-
-pub put_recommended_case-requires : goal.put_recommended_case-requires
-put_recommended_case-requires c = (offsets_kept _ _ c.args.self.now.kept_ends).ascii
 
 pub invariant_of-self : goal.invariant_of-self
 invariant_of-self c =

@@ -1,16 +1,8 @@
-use Rattle.std.proofs.Common.{◌≡◌, ℕ, ◌<◌, Bool, ◌&&◌, List, [], ◌∷◌, ◌++◌, refl, arith}
-use Rattle.std.proofs.lemmas.List.{nil_from_length}
+use Rattle.std.proofs.Common.{◌≡◌, ℕ, ◌<◌, Bool, ◌&&◌, List, [], ◌∷◌, ◌++◌, refl}
 use Rattle.langtag_scan.specs.Irregular.{folded_at, has_at, is_within, is_candidate}
 use Rattle.langtag_scan.proofs.CandidateRanges.{Narrows, candidates_narrowed}
 use Rattle.langtag_scan.proofs.CandidatesByLength.{candidate-push}
 use Rattle.langtag_scan.proofs.irregular.Candidates.keep.Goals as goal
-
-pub returns-then-index-eq0-clause-follows : goal.returns-then-index-eq0-clause-follows
-returns-then-index-eq0-clause-follows c = λ p at follows. record {
-  possible = λ k within.
-      let nothing : p ≡ [] = nil_from_length p (omega (arith, at)) in
-      rw (nothing, c.begun_by.ensures.len, ← c.into_smallcase-small.ensures) (c.begun_by.ensures.range k within);
-}
 
 pub returns-else-index-eq0-clause-follows : goal.returns-else-index-eq0-clause-follows
 returns-else-index-eq0-clause-follows c =

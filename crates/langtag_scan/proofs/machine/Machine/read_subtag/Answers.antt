@@ -10,18 +10,9 @@ use Rattle.langtag_scan.specs.Tracking.{IsReading}
 use Rattle.langtag_scan.proofs.RecogniserLaws.{read_next}
 use Rattle.langtag_scan.proofs.Running.{begun_parts}
 use Rattle.langtag_scan.proofs.ShapeLaws.{shape, IsFirst, IsHeld, letter_other}
-use Rattle.langtag_scan.proofs.ReadingLaws.{reading_nothing, reading_more, stuck_decided}
+use Rattle.langtag_scan.proofs.ReadingLaws.{reading_more, stuck_decided}
 use Rattle.langtag_scan.proofs.machine.Machine.read_subtag.Goals as goal
 use Rattle.langtag_scan.proofs.machine.Machine.read_subtag.Goals.{else-loop-index-test, then-loop-index-test+then-byte-eq45, then-len-eq-NINE, else-len-eq-NINE, then-is_start-via-then-is_start, then-is_start-via-else-is_start+then-not-is_digit, then-not-is_letter+else-is_start+else-not-is_digit, else-not-is_letter, then-index-start, else-index-start}
-
-pub loop-index-init : goal.loop-index-init
-loop-index-init g c = record {
-  bytes = refl;
-  reads = refl;
-  reach = omega (arith, c.requires.reached);
-  kept = c.requires.kept;
-  reading = reading_nothing (g.S.ByteSource.bytes c.args.source.now) c.args.start c.args.self.now c.requires.within c.requires.tracks;
-}
 
 pub returns-then-index-start-eq-LONGEST-clause-read : goal.returns-then-index-start-eq-LONGEST-clause-read
 returns-then-index-start-eq-LONGEST-clause-read g c =
