@@ -110,21 +110,6 @@ variant_faults-turn all n v rest left =
 pub record AreFaultsFrom (n : ℕ) (all : List (List ℕ)) : Type 0 where
   pub so_far : first (variant_faults [] all) ≡ first (variant_faults (take n all) (drop n all))
 
-pub variant_unregistered :
-    (all : List (List ℕ)) (n : ℕ) (v : List ℕ) (rest : List (List ℕ)) → AreFaultsFrom n all → drop n all ≡ v ∷ rest →
-    is_registered_variant v ≡ false → Some (variant v) ≡ first (variant_faults [] all)
-variant_unregistered all n v rest from left other =
-    sym (from.so_far ∙ ap first (variant_faults-turn all n v rest left)
-    ∙ ap (λ b. first (unless b (variant v) ++ (unless (not (list_any (are_alike v) (take n all))) (repeated_variant v) ++ variant_faults (take (n + 1) all) (drop (n + 1) all)))) other)
-
-pub variant_repeated :
-    (all : List (List ℕ)) (n : ℕ) (v : List ℕ) (rest : List (List ℕ)) → AreFaultsFrom n all → drop n all ≡ v ∷ rest →
-    is_registered_variant v ≡ true → list_any (are_alike v) (take n all) ≡ true → Some (repeated_variant v) ≡ first (variant_faults [] all)
-variant_repeated all n v rest from left known seen =
-    sym (from.so_far ∙ ap first (variant_faults-turn all n v rest left)
-    ∙ ap (λ b. first (unless b (variant v) ++ (unless (not (list_any (are_alike v) (take n all))) (repeated_variant v) ++ variant_faults (take (n + 1) all) (drop (n + 1) all)))) known
-    ∙ ap (λ b. first (unless (not b) (repeated_variant v) ++ variant_faults (take (n + 1) all) (drop (n + 1) all))) seen)
-
 pub variant_later :
     (all : List (List ℕ)) (n : ℕ) (v : List ℕ) (rest : List (List ℕ)) → AreFaultsFrom n all → drop n all ≡ v ∷ rest →
     is_registered_variant v ≡ true → list_any (are_alike v) (take n all) ≡ false → AreFaultsFrom (n + 1) all
@@ -134,9 +119,6 @@ variant_later all n v rest from left known new = record {
       ∙ ap (λ b. first (unless b (variant v) ++ (unless (not (list_any (are_alike v) (take n all))) (repeated_variant v) ++ variant_faults (take (n + 1) all) (drop (n + 1) all)))) known
       ∙ ap (λ b. first (unless (not b) (repeated_variant v) ++ variant_faults (take (n + 1) all) (drop (n + 1) all))) new;
 }
-
-pub variants_end : (all : List (List ℕ)) (n : ℕ) → AreFaultsFrom n all → drop n all ≡ [] → None ≡ first (variant_faults [] all)
-variants_end all n from left = sym (from.so_far ∙ ap (λ rest. first (variant_faults (take n all) rest)) left)
 
 -- ---- no fault, and valid
 
@@ -281,13 +263,6 @@ pub good_at_start : (all : List (List ℕ)) → AreGoodUntil 0 all
 good_at_start all = record { registered = position_from-zero is_unregistered all; apart = refl }
 
 module _ (all : List (List ℕ)) (n : ℕ) (v : List ℕ) (rest : List (List ℕ)) (good : AreGoodUntil n all) (left : drop n all ≡ v ∷ rest) where
-  pub unregistered_here : is_registered_variant v ≡ false → position is_unregistered all ≡ Some n
-  unregistered_here other =
-      good.registered ∙ ap (position_from is_unregistered n) left ∙ ap (λ b. cond (not b) (Some n) (position_from is_unregistered (n + 1) rest)) other
-
-  pub repeated_here : list_any (are_alike v) (take n all) ≡ true → repeat_index are_alike all ≡ Some n
-  repeated_here seen = repeat-found are_alike all n v rest good.apart left seen
-
   pub good_later : is_registered_variant v ≡ true → list_any (are_alike v) (take n all) ≡ false → AreGoodUntil (n + 1) all
   good_later known new = record {
     registered =
@@ -296,6 +271,3 @@ module _ (all : List (List ℕ)) (n : ℕ) (v : List ℕ) (rest : List (List ℕ
         ∙ ap (position_from is_unregistered (n + 1)) (sym (IsAt-drop all n v rest left).later);
     apart = repeat-later are_alike all n v rest good.apart left new;
   }
-
-pub some_holds : {A : Type 0} (P : A → Type 0) (o : Option A) (x : A) → o ≡ Some x → IfSome o P → P x
-some_holds P o x is holds = subst (λ p. IfSome p P) is holds

@@ -81,6 +81,7 @@ pub fn canonical_bound(tag_len: usize) -> usize
 }
 
 /// Writes the canonical form of a tag.
+#[tactic(auto, using(crate::proofs::CanonicalParts::kept_form, crate::proofs::TwiceLaws::itself))]
 fn write_form(tag: LangTag<'_>, buffer: &mut [u8]) -> usize
     ensures { Writes (IsCanonicalForm (lang_tag_text tag.entry)) buffer.old buffer.new result }
 {
@@ -124,6 +125,7 @@ fn canonical_bytes(alloc: Global, tag: LangTag<'_>) -> Result<Vec<u8>, AllocErro
 }
 
 /// Writes a tag with its parts in their canonical forms, or what is preferred to that as a whole.
+#[tactic(auto, using(crate::proofs::FormLengths::form_length, crate::proofs::WholeTags::none_longer))]
 fn write_parts(tag: NormalLangTag<'_>, buffer: &mut [u8]) -> usize
     ensures { EachRecord (normal_lang_tag_text tag.entry) (λ r. Writes (λ form. form ≡ canonical_text r) buffer.old buffer.new result) }
 {
@@ -159,6 +161,7 @@ fn write_text(text: &[u8], buffer: &mut [u8]) -> usize
 }
 
 /// Returns whether a tag is its own canonical form.
+#[tactic(auto, using(crate::proofs::CanonicalParts::kept_form, crate::proofs::CanonicalParts::parts_itself, crate::proofs::CanonicalParts::none_preferred, crate::proofs::CanonicalParts::preferred_goes, crate::proofs::TwiceLaws::itself))]
 fn is_canonical_form(tag: LangTag<'_>) -> bool
     ensures { (result ≡ true) ↔ IsCanonicalForm (lang_tag_text tag.entry) (lang_tag_text tag.entry) }
 {
@@ -172,6 +175,7 @@ fn is_canonical_form(tag: LangTag<'_>) -> bool
 }
 
 /// Returns whether all parts of a tag are in their canonical forms.
+#[tactic(auto, using(crate::proofs::CanonicalParts::parts_stay, crate::proofs::CanonicalParts::record_stays, crate::proofs::FaultLaws::language_spelled, crate::proofs::FaultLaws::variants_listed))]
 fn has_canonical_parts(tag: NormalLangTag<'_>) -> bool
     ensures { EachRecord (normal_lang_tag_text tag.entry) (λ r. (result ≡ true) ↔ (canonical_record r ≡ r)) }
 {

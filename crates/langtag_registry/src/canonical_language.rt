@@ -10,6 +10,7 @@ use langtag_language::Language;
 
 /// Returns whether a language is its own canonical form: true of `he`, `zh-fra` and `zh-cmn-yue`, false of `iw`, `iw-fra`
 /// and `zh-yue`.
+#[tactic(auto, using(crate::proofs::CanonicalLanguages::alone_stays, crate::proofs::CanonicalLanguages::other_stays, crate::proofs::PreferredValues::stays_without, crate::proofs::ReplacedSubtags::language_settled))]
 pub(crate) fn is_canonical_language(language: Language<'_>) -> bool
     ensures { EachLanguageSpelling (language_text language.entry) (λ primary extended.
         (result ≡ true) ↔ ((canonical_primary primary extended ≡ primary) × (canonical_extended extended ≡ extended))) }

@@ -21,6 +21,7 @@ use std::alloc::{AllocError, Global};
 /// # Errors
 ///
 /// Out of memory.
+#[tactic(auto, using(crate::proofs::ExtlangForms::other_form))]
 pub fn extlang_form(alloc: Global, tag: LangTag<'_>) -> Result<LangTagBuf, AllocError>
     ensures { IfOk result (λ form. IsExtlangForm (lang_tag_text tag.entry) (lang_tag_buf_text form)) }
 {

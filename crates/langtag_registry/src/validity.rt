@@ -47,6 +47,7 @@ pub fn validate<'a>(tag: LangTag<'a>) -> Result<(), InvalidSubtag<'a>>
 /// Returns the fault for which [`validate`] refuses a tag, and where it stands among its like: which of the variants it is,
 /// or which of the extensions has the repeated singleton, counted from 0, as the variant `1996` and 1 of `de-1996-1996`; and
 /// 0 with a subtag of another kind. None of a valid tag. No memory is taken.
+#[tactic(auto, using(langtag::proofs::KeptFound::found_kept, crate::proofs::ValidLaws::valid_of_other, crate::proofs::ValidLaws::valid_of_none, crate::proofs::ValidLaws::valid_grandfathered))]
 pub fn fault_at<'a>(tag: LangTag<'a>) -> Option<(InvalidSubtag<'a>, usize)>
     ensures valid { IsNone result ↔ IsValid (lang_tag_text tag.entry) }
     ensures first { IfSome result (λ fault. EachRecord (lang_tag_text tag.entry) (λ r. slice_get (faults r) 0 ≡ Some (told fault.0))) }

@@ -8,20 +8,6 @@ use Rattle.langtag_registry.proofs.TwiceLaws.{itself}
 use Rattle.langtag_registry.proofs.CanonicalParts.{kept_form, record_form}
 use Rattle.langtag_registry.proofs.canonical_form.write_form.Goals as goal
 
-pub returns-in_default-as_normal : goal.returns-in_default-as_normal
-returns-in_default-as_normal c =
-    let old = lang_tag_text c.args.tag in
-    let w = c.write_text-in_default-as_normal.ensures in
-    let none : preferred_tag old ≡ None = sym (ap (option_map lang_tag_text) (sym c.in_default.is) ∙ c.preferred_tag.ensures) in
-    record {
-      text = w.text;
-      is_so = kept_form old w.text none (inr (λ normal. let no = c.in_default-as_normal.ensures.kind.1 normal in absurd cc))
-          (w.is_so ∙ c.as_bytes-in_default-as_normal.ensures);
-      whole = w.whole;
-      written = w.written;
-      untouched = w.untouched;
-    }
-
 pub returns : goal.returns
 unfolding IsNormal
 returns c =

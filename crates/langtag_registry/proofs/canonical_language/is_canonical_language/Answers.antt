@@ -6,12 +6,6 @@ use Rattle.langtag_registry.proofs.PreferredValues.{stays_without}
 use Rattle.langtag_registry.proofs.ReplacedSubtags.{language_settled}
 use Rattle.langtag_registry.proofs.canonical_language.is_canonical_language.Goals as goal
 
-pub returns-in_default : goal.returns-in_default
-returns-in_default c = λ primary extended spells.
-    alone_stays primary extended c.is_none.result (sym (c.extension_subtags-extlangs.ensures.members primary extended spells) ∙ c.in_default.ensures.steps.0)
-    (stays_without primary_language_text preferred_language language_settled c.preferred_language.result primary c.is_none.result
-    (c.preferred_language.ensures ∙ ap preferred_language (c.primary.ensures.member primary extended spells)) c.is_none.ensures)
-
 pub returns : goal.returns
 returns c = λ primary extended spells.
     let extlang = extended_lang_tag_text c.in-Some.extlang in

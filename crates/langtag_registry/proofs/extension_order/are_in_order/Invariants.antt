@@ -11,6 +11,6 @@ abbrev pub invariant-loop-extension : goal.invariant-loop-extension
 invariant-loop-extension l = record {
   can_next : (goal.iterator-loop-extension).can_next l.extension-iterator;
   is_finite : (goal.iterator-loop-extension).is_finite l.extension-iterator;
-  so_far : (es : List model.Extension) → SpellsExtensions es (extensions_text l.fn.extensions) → 
+  so_far : (es : List model.Extension) → SpellsExtensions es (extensions_text l.fn.extensions) →
       rises_from 0 (keys (spellings es)) ≡ rises_from l.last (keys (extensions_left l.extension-iterator));
 }
