@@ -17,7 +17,6 @@ use Rattle.langtag_registry.specs.Canonical.{canonical_language, preferred_extla
 use Rattle.langtag_registry.specs.declared.output.Output.{Output}
 use Rattle.langtag_registry.specs.Output.{Pushes}
 use Rattle.langtag_registry.proofs.Pushed.{pushes_both, pushes_same, pushes_joined}
-use Rattle.langtag_registry.proofs.WellFormedForms.{canonical_primary_well_formed}
 
 -- ---- extended subtags are registered in small letters
 

@@ -1,10 +1,9 @@
 -- The canonical forms of variants: where they stay, and where they are put.
-use Rattle.std.proofs.Common.{◌≡◌, ◌↔◌, ℕ, true, ◌&&◌, not, Bool, List, [], ◌∷◌, ◌++◌, Option, None, Some, IsTrue, refl, sym, ap, subst, ◌∙◌, append_assoc, append-nil}
+use Rattle.std.proofs.Common.{◌≡◌, ◌↔◌, ℕ, true, ◌&&◌, not, Bool, List, [], ◌∷◌, Option, None, Some, refl, sym, ap, ◌∙◌}
 use Rattle.std.specs.Prelude.{is_some, unwrap_or}
 use Rattle.std.specs.Option.{option_map}
 use Rattle.std.specs.List.{list_all}
 use Rattle.std.proofs.lemmas.Bool.{and_parts}
-use Rattle.langtag_scan.specs.Class.{is_variant}
 use Rattle.langtag_registry.specs.Fields.{preferred_variant}
 use Rattle.langtag_registry.specs.Canonical.{canonical_variants}
 use Rattle.langtag_registry.proofs.ReplacedSubtags.{variant_settled}

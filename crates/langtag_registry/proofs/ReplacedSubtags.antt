@@ -4,7 +4,7 @@ use Rattle.std.specs.List.{list_all, list_any, AllByRecursion}
 use Rattle.std.specs.Str.{bytes_eq}
 use Rattle.std.proofs.lemmas.Bool.{and_parts, leb-true}
 use Rattle.langtag_scan.specs.Case.{fold_byte, fold_text, Alike, are_alike}
-use Rattle.langtag_scan.specs.Class.{is_letter, is_primary, is_extended, is_region, is_variant}
+use Rattle.langtag_scan.specs.Class.{is_letter, is_extended}
 use Rattle.langtag_registry.specs.Canonical.{preferred_extlang}
 use Rattle.langtag_registry.specs.Entry.{Entry, value_for}
 use Rattle.langtag_registry.specs.Fields.{preferred_language, preferred_region, preferred_variant}

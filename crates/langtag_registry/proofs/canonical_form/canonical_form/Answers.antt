@@ -1,10 +1,8 @@
-use Rattle.std.proofs.Common.{IsOk, sym, ap, subst, ◌∙◌}
+use Rattle.std.proofs.Common.{IsOk, sym, ap, subst}
 use Rattle.std.proofs.lemmas.Bool.{false≢true}
 use Rattle.langtag.proofs.KeptFound.{found_kept}
-use Rattle.langtag.specs.Text.{lang_tag_text}
 use Rattle.langtag_scan.proofs.Ascii.{IsUtf8-tag}
 use Rattle.langtag_scan.specs.Tag.{IsTag}
-use Rattle.langtag_registry.specs.Canonical.{IsCanonicalForm}
 use Rattle.langtag_registry.proofs.CanonicalParts.{form_is_tag}
 use Rattle.langtag_registry.proofs.canonical_form.canonical_form.Goals as goal
 

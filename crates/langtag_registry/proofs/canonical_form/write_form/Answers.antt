@@ -1,11 +1,9 @@
-use Rattle.std.proofs.Common.{◌≡◌, None, option_map, inr, refl, sym, ap, subst, ◌∙◌}
+use Rattle.std.proofs.Common.{◌≡◌, None, option_map, refl, sym, ap, ◌∙◌}
 use Rattle.std.proofs.lemmas.Bool.{both_ways}
 use Rattle.langtag.specs.Text.{lang_tag_text}
 use Rattle.langtag_scan.specs.Tag.{IsNormal}
 use Rattle.langtag_registry.specs.Fields.{preferred_tag}
-use Rattle.langtag_registry.specs.Canonical.{IsCanonicalForm}
-use Rattle.langtag_registry.proofs.TwiceLaws.{itself}
-use Rattle.langtag_registry.proofs.CanonicalParts.{kept_form, record_form}
+use Rattle.langtag_registry.proofs.CanonicalParts.{record_form}
 use Rattle.langtag_registry.proofs.canonical_form.write_form.Goals as goal
 
 pub returns : goal.returns

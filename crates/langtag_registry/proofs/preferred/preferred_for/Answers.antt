@@ -1,8 +1,7 @@
-use Rattle.std.proofs.Common.{Some, sym, ap, ◌∙◌}
+use Rattle.std.proofs.Common.{sym, ap, ◌∙◌}
 use Rattle.std.specs.Option.{option_map}
 use Rattle.langtag_registry.specs.Entry.{value_for}
-use Rattle.langtag_registry.specs.Fields.{preferred_tag}
-use Rattle.langtag_registry.proofs.FieldTables.{tag_entries, tag_ends}
+use Rattle.langtag_registry.proofs.FieldTables.{tag_entries}
 use Rattle.langtag_registry.proofs.WholeTags.{preferred_is_tag}
 use Rattle.langtag_registry.proofs.preferred.preferred_for.Goals as goal
 
