@@ -18,6 +18,15 @@ proves() {
 }
 check "release: two runs give the same bytes, with the archive's sum" releases
 
+# So that those of both processors can be unpacked in one place.
+own_folders() {
+    local file
+    for file in "$work"/dist/*-elf.tar.gz; do
+        [ "$(tar -tzf "$file" | cut -d/ -f1 | sort -u)" = "$(basename "$file" .tar.gz)" ] || return 1
+    done
+}
+check "release: each tarball for C unpacks to a folder of its own name" own_folders
+
 # Each package has the README of its language, and so has what pip shows of the wheel; its Python is asked.
 readmes() {
     local pair
