@@ -1,20 +1,20 @@
 -- A part of the library that is set: what it does to a tag its text does, and that is ASCII.
-use Rattle.std.proofs.Common.{◌≡◌, ℕ, ◌≤◌, List, [], ◌∷◌, length, Option, None, Some, MatchOption, unwrap_or, inl, refl, sym, ap, subst, ◌∙◌, append-nil, arith}
+use Rattle.std.proofs.Common.{◌≡◌, ℕ, ◌≤◌, List, [], ◌∷◌, length, Option, None, Some, MatchOption, unwrap_or, refl, sym, ap, subst, ◌∙◌, arith}
 use Rattle.std.specs.List.{AllByRecursion, flat_map}
 use Rattle.std.specs.Option.{option_map}
-use Rattle.std.specs.Str.{IsAscii, IsUtf8}
+use Rattle.std.specs.Str.{IsUtf8}
 use Rattle.std.proofs.lemmas.Str.{IsUtf8-from_ascii}
-use Rattle.langtag_scan.specs.Class.{is_alphanumeric, is_extended, is_letter, is_primary, is_variant}
-use Rattle.langtag_scan.specs.Record.{Extension, IsWellFormed, IsWellFormedExtension, extension_flat}
+use Rattle.langtag_scan.specs.Class.{is_extended, is_variant}
+use Rattle.langtag_scan.specs.Record.{extension_flat}
 use Rattle.langtag_scan.specs.Subtags.{join}
-use Rattle.langtag_scan.proofs.Ascii.{IsAscii-each, IsAscii-join, IsAscii-private, alphanumeric_below}
-use Rattle.langtag_scan.proofs.NormalTexts.{flat_subtags}
+use Rattle.langtag_scan.proofs.Ascii.{IsAscii-private, IsAscii-spelled}
+use Rattle.langtag_extension.proofs.Rules.{all_subtags-flat}
 use Rattle.langtag_scan.proofs.SubtagFacts.{IsSubtag, of_extended, of_primary, of_region, of_script, of_variant}
 use Rattle.langtag_scan.proofs.SubtagLists.{each_subtag}
 use Rattle.langtag_place.specs.Text.{region_text, script_text}
 use Rattle.langtag_private.specs.Text.{private_use_text}
 use Rattle.langtag_private.proofs.Rules.{IsPrivate-from_test}
-use Rattle.langtag.specs.Edit.{SetsLanguage, SetsScript, SetsRegion, SetsVariants, SetsExtensions, SetsPrivateUse, of_parts, with_extensions}
+use Rattle.langtag.specs.Edit.{SetsLanguage, SetsScript, SetsRegion, SetsVariants, SetsExtensions, SetsPrivateUse}
 use Rattle.langtag.specs.Edit as typed
 use Rattle.langtag.specs.Text.{part_text}
 use Rattle.langtag.specs.declared.part.Part.{Part}
@@ -48,20 +48,8 @@ part_sets (PrivateUse part) text old new is set =
 
 -- ---- bytes that are not UTF-8 are no text of a part
 
-each_ascii : (ss : List (List ℕ)) → AllByRecursion IsSubtag ss → AllByRecursion IsAscii ss
-each_ascii [] each = tt
-each_ascii (s ∷ ss) each = (IsAscii-each is_alphanumeric alphanumeric_below s each.0.alphanumeric, each_ascii ss each.1)
-
 IsUtf8-joined : (ss : List (List ℕ)) (text : List ℕ) → AllByRecursion IsSubtag ss → join ss ≡ text → IsUtf8 text
-IsUtf8-joined ss text each joined = IsUtf8-from_ascii text (subst IsAscii joined (IsAscii-join ss (each_ascii ss each)))
-
--- the subtags of extensions, as the tag aa has them
-extension_subtags : (es : List Extension) → AllByRecursion IsWellFormedExtension es → AllByRecursion IsSubtag (flat_map extension_flat es)
-unfolding is_primary is_letter
-extension_subtags es members =
-    let r = with_extensions (of_parts (97 ∷ 97 ∷ []) [] None None) es in
-    let fits : IsWellFormed r = record { primary = refl; extended = tt; few = omega arith; short = inl (omega arith); script = tt; region = tt; variants = tt; extensions = members; private_use = tt } in
-    subst (AllByRecursion IsSubtag) (append-nil (flat_map extension_flat es)) (flat_subtags r fits).1
+IsUtf8-joined ss text each joined = IsUtf8-from_ascii text (IsAscii-spelled text ss joined each)
 
 IsUtf8-text : (p : PartName) (text : List ℕ) → IsTextOf p text → IsUtf8 text
 IsUtf8-text language text (primary, extended, spells) =
@@ -72,7 +60,7 @@ IsUtf8-text region [] is = IsUtf8-joined [] [] tt refl
 IsUtf8-text region (b ∷ text) is = IsUtf8-joined ((b ∷ text) ∷ []) _ (of_region _ is, tt) refl
 IsUtf8-text variants text (members, spells) = IsUtf8-joined members text (each_subtag is_variant of_variant members spells.members) spells.joined
 IsUtf8-text extensions text (members, spells) =
-    IsUtf8-joined (flat_map extension_flat members) text (extension_subtags members spells.members) spells.joined
+    IsUtf8-joined (flat_map extension_flat members) text (all_subtags-flat members spells.members) spells.joined
 IsUtf8-text private_use [] is = IsUtf8-joined [] [] tt refl
 IsUtf8-text private_use (b ∷ text) is = IsUtf8-from_ascii _ (IsAscii-private _ is)
 

@@ -1,13 +1,12 @@
 -- Where the first subtag ends that is refused, by how much of a text and a hyphen is viable.
-use Rattle.std.proofs.Common.{◌≡◌, ◌↔◌, ℕ, ◌+◌, ◌<◌, ◌≤◌, ◌⊎◌, IsTrue, List, [], ◌∷◌, ◌++◌, length, take, codes, slice_index, Option, None, Some, is_some, MatchOption, inl, inr, refl, sym, ap, subst, ◌∙◌, arith, append-nil}
+use Rattle.std.proofs.Common.{◌≡◌, ◌↔◌, ℕ, ◌+◌, ◌<◌, ◌≤◌, ◌⊎◌, IsTrue, List, [], ◌∷◌, ◌++◌, length, take, slice_index, Option, None, Some, is_some, MatchOption, inl, inr, refl, sym, ap, subst, ◌∙◌, arith, append-nil}
 use Rattle.std.proofs.Math.Seq.{take-length}
 use Rattle.std.proofs.lemmas.Bool.{cases_lt}
 use Rattle.std.proofs.lemmas.List.{take-append-le, take_all, take_more, length_push}
-use Rattle.langtag_scan.specs.Grandfathered.{grandfathered_tags, irregular_texts}
 use Rattle.langtag_scan.specs.Subtags.{NoHyphenWithin}
-use Rattle.langtag_scan.specs.Tag.{IsIrregularAt, IsTag}
-use Rattle.langtag_scan.specs.Viable.{IsViable, IsStop, IsViableLength, IsIrregularPrefix}
-use Rattle.langtag_scan.proofs.TagLaws.{prefixes_viable, tag_irregular, viable_from_tag}
+use Rattle.langtag_scan.specs.Tag.{IsTag}
+use Rattle.langtag_scan.specs.Viable.{IsViable, IsViableLength, IsIrregularPrefix}
+use Rattle.langtag_scan.proofs.TagLaws.{prefixes_viable, viable_from_tag}
 use Rattle.langtag_c.specs.Refused.{MayStand, IsRefusedEnd, EndsTooSoon, IsOpen}
 
 -- the text up to the end of a subtag, and a hyphen
@@ -116,39 +115,3 @@ module _ (t : List ℕ) (m : ℕ) (v : IsViableLength (t ++ 45 ∷ []) m) where
 pub tells_tag : {X : Type 0} (t : List ℕ) (P : X → Type 0) (o : Option X) → MatchOption o (IsTag t → ⊥) (λ x. P x × IsTag t) → IsTrue (is_some o) ↔ IsTag t
 tells_tag t P None none = (λ told. absurd cc, λ tag. absurd (none tag))
 tells_tag t P (Some x) some = (λ told. some.1, λ tag. refl)
-
--- ---- how much is viable, by where the text and one byte more stop
-
--- some tag begins with the empty text
-viable_nothing : IsViable []
-unfolding IsIrregularAt irregular_texts grandfathered_tags
-viable_nothing = viable_from_tag [] (codes "i-ami") (tag_irregular (codes "i-ami") 1 (codes "i-ami", refl, refl))
-
--- where the longer text stops within the shorter one, it has read a byte too many
-stop_not_viable : (t : List ℕ) (b n : ℕ) → IsStop (t ++ b ∷ []) n → n ≤ length t → IsViable (take n (t ++ b ∷ [])) → ⊥
-stop_not_viable t b n stop within viable = elim stop.at [
-  | inl whole ↦ absurd (omega (arith, whole.1, length_push t b, within))
-  | inr dead ↦ dead viable
-]
-
-pub stop_positive : (t : List ℕ) (b n : ℕ) → IsStop (t ++ b ∷ []) n → 1 ≤ n
-stop_positive t b n stop = elim (cases_lt 0 n) [
-  | inl some ↦ omega (arith, some)
-  | inr none ↦
-      let zero_here : n ≡ 0 = omega (arith, none) in
-      let nothing = subst (λ k. IsViable (take k (t ++ b ∷ []))) (sym zero_here) viable_nothing in
-      absurd (stop_not_viable t b n stop (omega (arith, zero_here)) nothing)
-]
-
-pub viable_before_stop : (t : List ℕ) (b n m : ℕ) → IsStop (t ++ b ∷ []) n → m + 1 ≡ n → IsViableLength t m
-viable_before_stop t b n m stop one_less =
-    let within : m ≤ length t = omega (arith, stop.within, length_push t b, one_less) in
-    record {
-      within = within;
-      viable = λ k le.
-          subst IsViable (take-append-le k t (b ∷ []) (omega (arith, le, within))) (stop.before k (omega (arith, le, one_less)));
-      longest = λ k more le viable.
-          let prefix = subst IsViable (sym (take-append-le k t (b ∷ []) le)) viable in
-          let reached : n ≤ k = omega (arith, more, one_less) in
-          stop_not_viable t b n stop (omega (arith, reached, le)) (prefixes_viable (t ++ b ∷ []) k n prefix reached);
-    }

@@ -1,7 +1,11 @@
 -- What spans of a text are: tags, where the test says so.
 use Rattle.std.proofs.Common.{◌≡◌, ℕ, ◌+◌, ◌<◌, Bool, true, false, ltb, ◌&&◌, ◌||◌, List, length, get_or, Option, None, Some, inl, inr, refl, sym, ap, subst, ◌∙◌, arith}
+<<<<<<< HEAD
 use Rattle.std.specs.Option.{ForSome}
 use Rattle.std.proofs.lemmas.Bool.{both_ways, and_parts, and_from, or_cases, ltb-true}
+=======
+use Rattle.std.proofs.lemmas.Bool.{both_ways, and_parts, and_from, or_cases, or_left, or_right, ltb-true}
+>>>>>>> h/laws
 use Rattle.std.proofs.lemmas.Bool.Decides.{nat_tests}
 use Rattle.std.proofs.lemmas.List.{length-map, get_or-map}
 use Rattle.langtag_scan.specs.Tag.{IsTag}
@@ -14,14 +18,6 @@ use Rattle.langtag_c.specs.Spans.{HasBytes, empty_at, end_of, span_text}
 use Rattle.langtag_c.specs.TagsAt.{has_bytes, is_irregular, is_normal, is_tag, tag_at, tags_at}
 use Rattle.langtag_c.proofs.IrregularTests.{alike_some}
 use Rattle.langtag_c.specs.declared.span.Span.{Span}
-
-first_of : (a b : Bool) → a ≡ true → (a || b) ≡ true
-first_of true b e = refl
-first_of false b e = absurd (both_ways false refl e)
-
-second_of : (a b : Bool) → b ≡ true → (a || b) ≡ true
-second_of true b e = refl
-second_of false b e = e
 
 -- ---- a text
 
@@ -36,13 +32,13 @@ tag_from_test text test = elim (or_cases (is_normal text) (is_private_use text |
 
 test_from_tag : (text : List ℕ) → IsTag text → is_tag text ≡ true
 unfolding IsTag
-test_from_tag text (inl normal) = first_of (is_normal text) (is_private_use text || is_irregular text) (runs_from_normal text normal)
+test_from_tag text (inl normal) = or_left (is_normal text) (is_private_use text || is_irregular text) (runs_from_normal text normal)
 test_from_tag text (inr (inl private)) =
-    second_of (is_normal text) (is_private_use text || is_irregular text)
-    (first_of (is_private_use text) (is_irregular text) (is_private_use-from_rule text private))
+    or_right (is_normal text) (is_private_use text || is_irregular text)
+    (or_left (is_private_use text) (is_irregular text) (is_private_use-from_rule text private))
 test_from_tag text (inr (inr irregular)) =
-    second_of (is_normal text) (is_private_use text || is_irregular text)
-    (second_of (is_private_use text) (is_irregular text) ((alike_some text).1 irregular))
+    or_right (is_normal text) (is_private_use text || is_irregular text)
+    (or_right (is_private_use text) (is_irregular text) ((alike_some text).1 irregular))
 
 -- ---- a span
 

@@ -1,6 +1,6 @@
 //! A walk over the elements of an Accept-Language header (RFC 9110 section 12.5.4), without memory.
 ghost use Rattle.std.specs.Prelude.{◌≡◌, ◌↔◌, ◌≤◌, [], IfSome, None, is_some, length};
-ghost use Rattle.std.specs.List.{filter_map, list_all, position, position_or_len};
+ghost use Rattle.std.specs.List.{filter_map, list_all};
 ghost use Rattle.langtag_match.specs.AcceptLanguage as spec;
 ghost use Rattle.langtag_match.specs.declared.accept_language_error.ElementPart.TheVariants.{Range, Weight};
 ghost use Rattle.langtag_c.specs.Negotiation.{TakesBad, TakesElement, TakesItem, filled_items};
@@ -8,6 +8,7 @@ ghost use Rattle.langtag_c.specs.Spans.{HasBytes, IsWithin, span_text};
 
 use crate::span::Span;
 use langtag_match::{ElementPart, element_at, is_empty_element};
+use langtag_scan::len_before;
 
 /// Takes the first element off a header that is not empty, and the comma after it, and says what it is: 1 for a language range
 /// with its weight in thousandths, 2 for an element with a bad language range, 3 for one with a bad weight. Of a bad element the
@@ -61,7 +62,7 @@ fn next_item(header: &[u8], rest: &mut Span) -> Option<Span>
 {
     let mut left = *rest;
     while let Some(list) = left.of(header) {
-        let len = len_before_comma(list);
+        let len = len_before(list, b',');
         let item = left.take_first(len);
         if !is_empty_element(&list[..len]) {
             *rest = left;
@@ -69,21 +70,6 @@ fn next_item(header: &[u8], rest: &mut Span) -> Option<Span>
         }
     }
     None
-}
-
-/// Returns how many bytes stand before the first comma, all where there is none.
-#[tactic(auto, using(langtag_match::proofs::Places::first_or_length))]
-fn len_before_comma(list: &[u8]) -> usize
-    ensures within { result ≤ length list.now }
-    ensures first { result ≡ position_or_len spec.is_comma list.now }
-{
-    first_comma(list).unwrap_or(list.len())
-}
-
-fn first_comma(list: &[u8]) -> Option<usize>
-    ensures { result ≡ position spec.is_comma list.now }
-{
-    list.iter().position(|byte| *byte == b',')
 }
 
 /// Returns the number that says which part is bad.

@@ -12,7 +12,7 @@ ghost use Rattle.langtag_c.specs.Spans.{empty_at, end_of};
 use crate::span::Span;
 use crate::tag::tag_of;
 use langtag::{GRANDFATHERED, GrandfatheredLangTag};
-use langtag_scan::{ByteSource, case_insensitive_eq, recognise, segment_end, segment_start};
+use langtag_scan::{case_insensitive_eq, segment_end, segment_start, viable_len_with_hyphen};
 
 /// Returns 0 where the bytes are a tag, and else what is wrong: 1 for a subtag that does not fit where it stands, as `DE` of
 /// `de-419-DE`, 2 for one with a byte that is no letter and no digit, as `_` of `de_CH`, and 3 where they end too soon, as
@@ -37,7 +37,7 @@ pub extern "C" fn langtag_refused(bytes: &[u8], subtag: &mut Span, offset: &mut 
     if is_tag(bytes) {
         return 0;
     }
-    let viable = viable_with_hyphen(bytes);
+    let viable = viable_len_with_hyphen(bytes);
     if ends_too_soon(bytes, viable) {
         return 3;
     }
@@ -61,20 +61,6 @@ fn is_tag(bytes: &[u8]) -> bool
     ensures { IsTrue result ↔ IsTag bytes.now }
 {
     tag_of(bytes).is_some()
-}
-
-/// How much of the bytes and a hyphen after them some tag begins with.
-fn viable_with_hyphen(bytes: &[u8]) -> usize
-    ensures { IsViableLength (bytes.now ++ 45 ∷ []) result }
-{
-    let mut source = Hyphened {
-        bytes,
-        reads: 0,
-        reach: 0,
-    };
-    // The last byte that was read is the first after which no tag can follow, or the one after the hyphen.
-    let _ = recognise(&mut source);
-    source.reach() - 1
 }
 
 /// Whether bytes that are no tag end too soon, by how much of them and a hyphen is viable.
@@ -154,47 +140,4 @@ fn begins(bytes: &[u8], text: &[u8]) -> bool
     ensures { result ≡ are_alike bytes.now (take (length bytes.now) text.now) }
 {
     case_insensitive_eq(bytes, &text[..bytes.len().min(text.len())])
-}
-
-/// What is read after the bytes: a hyphen, and one more, so that it shows whether the hyphen may stand there.
-const AFTER: &[u8] = b"-\xFF";
-
-/// Bytes, with a hyphen and one byte more after them.
-#[derive(Drop)]
-struct Hyphened<'a> {
-    bytes: &'a [u8],
-    reads: u128,
-    reach: usize,
-}
-
-impl<'a> ByteSource for Hyphened<'a> {
-    ghost bytes = { λ s. s.bytes.now ++ 45 ∷ 255 ∷ [] };
-
-    ghost reads = { λ s. s.reads };
-
-    ghost reach = { λ s. s.reach };
-
-    fn len(&self) -> usize {
-        self.bytes.len() + AFTER.len()
-    }
-
-    fn reads(&self) -> u128 {
-        self.reads
-    }
-
-    fn reach(&self) -> usize {
-        self.reach
-    }
-
-    fn byte(&mut self, index: usize) -> u8 {
-        self.reads += 1;
-        if self.reach <= index {
-            self.reach = index + 1;
-        }
-        if index < self.bytes.len() {
-            self.bytes[index]
-        } else {
-            AFTER[index - self.bytes.len()]
-        }
-    }
 }

@@ -1,7 +1,7 @@
 -- What loops over ranges and over tags have found.
 use Rattle.std.proofs.Common.{◌≡◌, ◌⊎◌, inl, inr, ℕ, ◌+◌, ◌-◌, ◌==◌, Bool, true, false, cond, not, ◌&&◌, nat_lt, ◌<◌, suc, List, [], ◌∷◌, length, drop, slice_index_or, Option, Some, None, ap, refl, sym, subst, ◌∙◌, arith}
 use Rattle.std.specs.List.{list_any}
-use Rattle.std.specs.Option.{option_map}
+use Rattle.std.specs.Option.{ForSome, option_map}
 use Rattle.std.proofs.Math.Seq.{drop-cons}
 use Rattle.std.proofs.lemmas.Bool.{and_parts, or_cases}
 use Rattle.langtag_match.specs.AcceptLanguage.{Element}
@@ -25,6 +25,11 @@ no_tag_for_ranges pass (element ∷ elements) place index = rw (no_tag pass elem
 
 -- ---- what is settled
 
+-- the candidate at a distance
+abbrev at : Element → ℕ → List ℕ → ℕ → ℕ → Candidate
+at element place tag index distance =
+    record { lack = 1000 - element.weight; place = place; distance = distance; lost = length element.range - kept element.range tag; unlikely = unlikely tag; index = index }
+
 -- of a candidate, its range
 abbrev IsFor : Element → ℕ → Option Candidate → Type 0
 IsFor element place None = Unit {0}
@@ -35,10 +40,7 @@ unfolding as_candidate
 candidate_for pass element place None index = tt
 candidate_for pass element place (Some tag) index = by_test (is_wish element && not (is_star element.range)) (distance_in pass element.range tag)
   where
-    at : ℕ → Candidate
-    at distance = record { lack = 1000 - element.weight; place = place; distance = distance; lost = length element.range - kept element.range tag; unlikely = unlikely tag; index = index }
-
-    by_test : (b : Bool) (o : Option ℕ) → IsFor element place (cond b (option_map at o) None)
+    by_test : (b : Bool) (o : Option ℕ) → IsFor element place (cond b (option_map (at element place tag index) o) None)
     by_test false o = tt
     by_test true None = tt
     by_test true (Some distance) = (refl, refl)

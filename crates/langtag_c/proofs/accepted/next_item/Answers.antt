@@ -6,11 +6,11 @@ use Rattle.langtag_c.proofs.accepted.next_item.Goals as goal
 pub returns-then-not-is_empty_element-clause-taken : goal.returns-then-not-is_empty_element-clause-taken
 returns-then-not-is_empty_element-clause-taken c =
     let part = c.in-Some.ensures in
-    let len = c.len_before_comma-len.ensures in
+    let len = c.len_before-len.ensures in
     let taken = c.take_first-item.ensures in
     let invariant = c.loop-list.invariant in
     let other = sym c.is_empty_element.ensures ∙ c.if-not-is_empty_element.true in
-    let ends : end_of c.take_first-item.result ≡ c.loop-list.left.start + c.len_before_comma-len.result = ap end_of taken.first in
+    let ends : end_of c.take_first-item.result ≡ c.loop-list.left.start + c.len_before-len.result = ap end_of taken.first in
     let few = item_few _ _ c.loop-list.left _ part.0 part.1 len.within in
     record {
       has_bytes = (omega (arith, part.0.0, invariant.begins, invariant.ends), omega (arith, part.0.1, invariant.ends));
@@ -23,7 +23,7 @@ returns-then-not-is_empty_element-clause-taken c =
 pub loop-list-preserved : goal.loop-list-preserved
 loop-list-preserved c =
     let part = c.in-Some.ensures in
-    let len = c.len_before_comma-len.ensures in
+    let len = c.len_before-len.ensures in
     let taken = c.take_first-item.ensures in
     let invariant = c.loop-list.invariant in
     let empty = sym c.is_empty_element.ensures ∙ c.if-not-is_empty_element.false in
@@ -31,8 +31,8 @@ loop-list-preserved c =
     let few = item_few _ _ left _ part.0 part.1 len.within in
     record {
       kept = invariant.kept;
-      begins = omega (arith, invariant.begins, between_begins (left.start + c.len_before_comma-len.result) (end_of left) (omega (arith, few)), ap (λ span. span.start) taken.rest, few);
-      ends = ap end_of taken.rest ∙ between_ends (left.start + c.len_before_comma-len.result) (end_of left) (omega (arith, few)) ∙ invariant.ends;
+      begins = omega (arith, invariant.begins, between_begins (left.start + c.len_before-len.result) (end_of left) (omega (arith, few)), ap (λ span. span.start) taken.rest, few);
+      ends = ap end_of taken.rest ∙ between_ends (left.start + c.len_before-len.result) (end_of left) (omega (arith, few)) ∙ invariant.ends;
       same = item_passed _ _ left _ _ part.0 part.1 len.within len.first taken.rest empty ∙ invariant.same;
     }
 
