@@ -1,11 +1,10 @@
 -- Ranges in which "_" is read as "-", and the parts of a list that is cut one after the other.
 use Rattle.std.proofs.Common.{◌≡◌, ◌⊎◌, take, not, nat_lt, inl, inr, cond, Option, ℕ, ◌+◌, ◌<◌, ◌≤◌, Bool, true, false, ◌&&◌, ◌||◌, List, [], ◌∷◌, Some, None, map, length, length-drop, ap, refl, sym, ◌∙◌, arith}
-use Rattle.std.specs.List.{list_all, slice_split, before_first, after_first, position, position_or_len, cons_option, filter_map, onto_first}
+use Rattle.std.specs.List.{list_all, slice_split, before_first, after_first, position, position_or_len, cons_option, filter_map}
 use Rattle.std.proofs.lemmas.Bool.{and_parts, cases_lt}
 use Rattle.std.proofs.lemmas.Bool.Decides.{nat_tests, eqb_tells}
-use Rattle.std.proofs.lemmas.Grind.{common_steps}
 use Rattle.std.proofs.lemmas.List.{length-map, drop_all, take_all}
-use Rattle.std.proofs.lemmas.List.Splits.{length-slice_split, slice_split-cons_yes, slice_split-cons_no, slice_split_first, slice_split_none}
+use Rattle.std.proofs.lemmas.List.Splits.{length-slice_split, slice_split_first, slice_split_none}
 use Rattle.std.proofs.lemmas.List.Sums.{count_by-le-length, prefix_len-le-length, fails_before_first}
 use Rattle.langtag.specs.Class.{has_length, is_letter, is_digit, is_alphanumeric, are_letters, is_private_subtag}
 use Rattle.langtag.specs.Subtags.{is_hyphen, segments, subtags}
