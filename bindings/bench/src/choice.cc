@@ -99,9 +99,11 @@ void time_header(const char *name, const char *header) {
 } // namespace
 
 int main(int argc, char **argv) {
+    volatile size_t chosen = 0;
     for (const auto &row : headers) {
         if (argc == 1) time_header(row.name, row.header);
         for (const auto &entry : entries)
-            if (argc == 4 && std::strcmp(argv[3], row.name) == 0 && std::strcmp(argv[2], entry.name) == 0) entry.call(row.header), entry.call(row.header);
+            if (argc == 4 && std::strcmp(argv[3], row.name) == 0 && std::strcmp(argv[2], entry.name) == 0)
+                for (volatile int call = 0; call < 2; call = call + 1) chosen = entry.call(row.header);
     }
 }
