@@ -29,15 +29,9 @@ ends_subtag-fold : (text : List ℕ) → ends_subtag (fold_text text) ≡ ends_s
 ends_subtag-fold [] = refl
 ends_subtag-fold (b ∷ text) = hyphen-fold b
 
-take-fold : (n : ℕ) (text : List ℕ) → take n (fold_text text) ≡ fold_text (take n text)
-take-fold n text = take-map fold_byte n text
-
-drop-fold : (n : ℕ) (text : List ℕ) → drop n (fold_text text) ≡ fold_text (drop n text)
-drop-fold n text = drop-map fold_byte n text
-
 test_basic-fold : (range tag : List ℕ) → test_basic (fold_text range) (fold_text tag) ≡ test_basic range tag
 test_basic-fold range tag =
-    rw (is_star-fold range, length-fold range, take-fold (length range) tag, drop-fold (length range) tag, same-fold range (take (length range) tag), ends_subtag-fold (drop (length range) tag)) refl
+    rw (is_star-fold range, length-fold range, take-map fold_byte (length range) tag, drop-map fold_byte (length range) tag, same-fold range (take (length range) tag), ends_subtag-fold (drop (length range) tag)) refl
 
 is_fallback-fold : (range tag : List ℕ) → is_fallback (fold_text range) (fold_text tag) ≡ is_fallback range tag
 is_fallback-fold range tag =
@@ -46,8 +40,8 @@ is_fallback-fold range tag =
     ∙ rw (
       length-fold range,
       length-fold tag,
-      take-fold (length tag) range,
-      drop-fold (length tag) range,
+      take-map fold_byte (length tag) range,
+      drop-map fold_byte (length tag) range,
       same-fold (take (length tag) range) tag,
       ends_subtag-fold (drop (length tag) range),
     ) refl

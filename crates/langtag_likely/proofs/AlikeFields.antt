@@ -17,12 +17,6 @@ pub record AlikeFields (a b : Fields) : Type 0 where
 pub alike_refl : (a : Fields) → AlikeFields a a
 alike_refl a = record { language = refl; script = refl; region = refl }
 
-pub alike_sym : (a b : Fields) → AlikeFields a b → AlikeFields b a
-alike_sym a b h = record { language = sym h.language; script = sym h.script; region = sym h.region }
-
-pub alike_trans : (a b c : Fields) → AlikeFields a b → AlikeFields b c → AlikeFields a c
-alike_trans a b c h k = record { language = h.language ∙ k.language; script = h.script ∙ k.script; region = h.region ∙ k.region }
-
 pub alike_is : (a b : List ℕ) → are_alike a b ≡ true → Alike a b
 alike_is a b is = (are_alike-decides a b).0 is
 
@@ -31,10 +25,6 @@ alike_fields a b is =
     let k = and_parts (are_alike a.language b.language) (are_alike a.script b.script && are_alike a.region b.region) is in
     let l = and_parts (are_alike a.script b.script) (are_alike a.region b.region) k.1 in
     record { language = alike_is _ _ k.0; script = alike_is _ _ l.0; region = alike_is _ _ l.1 }
-
-pub alike_test : (a b : Fields) → AlikeFields a b → are_alike_fields a b ≡ true
-alike_test a b h =
-    rw ((are_alike-decides a.language b.language).1 h.language, (are_alike-decides a.script b.script).1 h.script, (are_alike-decides a.region b.region).1 h.region) refl
 
 -- ---- a test answers alike of texts that are alike
 

@@ -18,11 +18,22 @@ abbrev pub candidate : Element → ℕ → List ℕ → ℕ → ℕ → Candidat
 candidate element place tag index distance =
     record { lack = 1000 - element.weight; place = place; distance = distance; lost = length element.range - kept element.range tag; unlikely = unlikely tag; index = index }
 
-pub as_candidate-is :
-    (pass : Pass) (element : Element) (place : ℕ) (tag : List ℕ) (index : ℕ) →
-    as_candidate pass element place (Some tag) index ≡ cond (is_wish element && not (is_star element.range)) (option_map (candidate element place tag index) (distance_in pass element.range tag)) None
+-- what holds of none, and of the tag at each distance, holds of it
+pub candidate_is :
+    (P : Option Candidate → Type 0) (pass : Pass) (element : Element) (place : ℕ) (tag : List ℕ) (index : ℕ) → P None → ((distance : ℕ) → P (Some (candidate element place tag index distance))) →
+    P (as_candidate pass element place (Some tag) index)
 unfolding as_candidate
-as_candidate-is pass element place tag index = refl
+candidate_is P pass element place tag index none some = by_test (is_wish element && not (is_star element.range)) (distance_in pass element.range tag)
+  where
+    by_test : (b : Bool) (o : Option ℕ) → P (cond b (option_map (candidate element place tag index) o) None)
+    by_test false o = none
+    by_test true None = none
+    by_test true (Some distance) = some distance
+
+-- what is no tag is no candidate
+pub no_tag : (pass : Pass) (element : Element) (place index : ℕ) → as_candidate pass element place None index ≡ None
+unfolding as_candidate
+no_tag pass element place index = refl
 
 -- ---- the index of a tag
 
@@ -31,20 +42,14 @@ module _ (elements : List Element) (all : List (Option (List ℕ))) where
   IsGood None = Unit {0}
   IsGood (Some c) = HasTag elements all c.index
 
-  some_good : (element : Element) (place : ℕ) (tag : List ℕ) (index : ℕ) (b : Bool) (o : Option ℕ) → HasTag elements all index → IsGood (cond b (option_map (candidate element place tag index) o) None)
-  some_good element place tag index false o has = tt
-  some_good element place tag index true None has = tt
-  some_good element place tag index true (Some distance) has = has
-
   candidate_good :
       (pass : Pass) (element : Element) (place : ℕ) (tag : Option (List ℕ)) (index : ℕ) (refused : Bool) → slice_get all index ≡ Some tag →
       ((text : List ℕ) → tag ≡ Some text → is_refused elements text ≡ refused) → IsGood (as_candidate pass element place (unrefused elements tag) index)
-  unfolding as_candidate
-  candidate_good pass element place None index refused there is = tt
-  candidate_good pass element place (Some tag) index true there is = let r = is tag refl in rw r tt
+  candidate_good pass element place None index refused there is = rw (no_tag pass element place index) tt
+  candidate_good pass element place (Some tag) index true there is = let r = is tag refl in rw (r, no_tag pass element place index) tt
   candidate_good pass element place (Some tag) index false there is =
       let r = is tag refl in
-      rw r (some_good element place tag index (is_wish element && not (is_star element.range)) (distance_in pass element.range tag) (tag, there, r))
+      rw r (candidate_is IsGood pass element place tag index tt (λ distance. (tag, there, r)))
 
   refused_of : Option (List ℕ) → Bool
   refused_of None = false

@@ -1,23 +1,18 @@
 -- What loops over ranges and over tags have found.
-use Rattle.std.proofs.Common.{◌≡◌, ◌⊎◌, inl, inr, ℕ, ◌+◌, ◌-◌, ◌==◌, Bool, true, false, cond, not, ◌&&◌, nat_lt, ◌<◌, suc, List, [], ◌∷◌, length, drop, slice_index_or, Option, Some, None, ap, refl, sym, subst, ◌∙◌, arith}
+use Rattle.std.proofs.Common.{◌≡◌, ◌⊎◌, inl, inr, ℕ, ◌+◌, ◌-◌, ◌==◌, Bool, true, false, not, ◌&&◌, nat_lt, ◌<◌, suc, List, [], ◌∷◌, length, drop, slice_index_or, Option, Some, None, ap, refl, sym, subst, ◌∙◌, arith}
 use Rattle.std.specs.List.{list_any}
-use Rattle.std.specs.Option.{ForSome, option_map}
+use Rattle.std.specs.Option.{ForSome}
 use Rattle.std.proofs.Math.Seq.{drop-cons}
 use Rattle.std.proofs.lemmas.Bool.{and_parts, or_cases}
 use Rattle.langtag_match.specs.AcceptLanguage.{Element}
-use Rattle.langtag_match.specs.Range.{is_star}
-use Rattle.langtag_likely.specs.Nearness.{kept, unlikely}
-use Rattle.langtag_likely.specs.Best.{is_refused, is_wish, is_zero, unrefused, distance_in, as_candidate, first_of, first_for_tag, first_in}
+use Rattle.langtag_likely.specs.Nearness.{kept}
+use Rattle.langtag_likely.specs.Best.{is_refused, is_zero, unrefused, as_candidate, first_of, first_for_tag, first_in}
 use Rattle.langtag_likely.specs.ByRanges.{is_settled, first_for_range, first_by_ranges}
 use Rattle.langtag_likely.specs.declared.candidate.Candidate.{Candidate}
 use Rattle.langtag_likely.specs.declared.candidate.Pass.{Pass}
 use Rattle.langtag_likely.proofs.FirstOf.{first_of_assoc, first_of_cross, first_of_is, first_of_none, first_of_same, one_of_two}
 use Rattle.langtag_likely.proofs.NoneRefused.{none_refused}
-
--- what is no tag is no candidate
-pub no_tag : (pass : Pass) (element : Element) (place index : ℕ) → as_candidate pass element place None index ≡ None
-unfolding as_candidate
-no_tag pass element place index = refl
+use Rattle.langtag_likely.proofs.ChoiceLaws.{candidate_is, no_tag}
 
 pub no_tag_for_ranges : (pass : Pass) (elements : List Element) (place index : ℕ) → first_for_tag pass elements place None index ≡ None
 no_tag_for_ranges pass [] place index = refl
@@ -25,25 +20,14 @@ no_tag_for_ranges pass (element ∷ elements) place index = rw (no_tag pass elem
 
 -- ---- what is settled
 
--- the candidate at a distance
-abbrev at : Element → ℕ → List ℕ → ℕ → ℕ → Candidate
-at element place tag index distance =
-    record { lack = 1000 - element.weight; place = place; distance = distance; lost = length element.range - kept element.range tag; unlikely = unlikely tag; index = index }
-
 -- of a candidate, its range
 abbrev IsFor : Element → ℕ → Option Candidate → Type 0
 IsFor element place None = Unit {0}
 IsFor element place (Some c) = (c.lack ≡ 1000 - element.weight) × (c.place ≡ place)
 
 candidate_for : (pass : Pass) (element : Element) (place : ℕ) (tag : Option (List ℕ)) (index : ℕ) → IsFor element place (as_candidate pass element place tag index)
-unfolding as_candidate
-candidate_for pass element place None index = tt
-candidate_for pass element place (Some tag) index = by_test (is_wish element && not (is_star element.range)) (distance_in pass element.range tag)
-  where
-    by_test : (b : Bool) (o : Option ℕ) → IsFor element place (cond b (option_map (at element place tag index) o) None)
-    by_test false o = tt
-    by_test true None = tt
-    by_test true (Some distance) = (refl, refl)
+candidate_for pass element place None index = rw (no_tag pass element place index) tt
+candidate_for pass element place (Some tag) index = candidate_is (IsFor element place) pass element place tag index tt (λ distance. (refl, refl))
 
 range_for : (pass : Pass) (element : Element) (place : ℕ) (tags : List (Option (List ℕ))) (index : ℕ) → IsFor element place (first_for_range pass element place tags index)
 range_for pass element place [] index = tt
@@ -130,14 +114,8 @@ IsAt index None = Unit {0}
 IsAt index (Some c) = c.index ≡ index
 
 candidate_at : (pass : Pass) (element : Element) (place : ℕ) (tag : Option (List ℕ)) (index : ℕ) → IsAt index (as_candidate pass element place tag index)
-unfolding as_candidate
-candidate_at pass element place None index = tt
-candidate_at pass element place (Some tag) index = by_test (is_wish element && not (is_star element.range)) (distance_in pass element.range tag)
-  where
-    by_test : (b : Bool) (o : Option ℕ) → IsAt index (cond b (option_map (at element place tag index) o) None)
-    by_test false o = tt
-    by_test true None = tt
-    by_test true (Some distance) = refl
+candidate_at pass element place None index = rw (no_tag pass element place index) tt
+candidate_at pass element place (Some tag) index = candidate_is (IsAt index) pass element place tag index tt (λ distance. refl)
 
 tag_at : (pass : Pass) (elements : List Element) (place : ℕ) (tag : Option (List ℕ)) (index : ℕ) → IsAt index (first_for_tag pass elements place tag index)
 tag_at pass [] place tag index = tt

@@ -1,9 +1,10 @@
 -- The names in a column of a table.
-use Rattle.std.proofs.Common.{◌≡◌, ℕ, zero, suc, ◌<◌, true, Bool, List, [], ◌∷◌, length, get_or, map, sym, subst, ap, ◌∙◌, arith}
+use Rattle.std.proofs.Common.{◌≡◌, ℕ, ◌<◌, true, Bool, List, [], length, get_or, map, sym, subst, ap, ◌∙◌}
 use Rattle.std.specs.List.{list_all}
-use Rattle.std.proofs.lemmas.Bool.{and_parts}
+use Rattle.std.proofs.lemmas.Bool.{true_from_ne_false, both_ways}
 use Rattle.std.proofs.lemmas.List.{get_or-map}
 use Rattle.langtag_likely.specs.Numbers.{name_at, name_text}
+use Rattle.std.proofs.lemmas.List.Folds.{list_all_at}
 
 -- the text in a row is that of a list
 pub column_text :
@@ -15,10 +16,9 @@ column_text names indices texts found index same inside is =
 name_good :
     (is_good : List ℕ → Bool) (names : List (List ℕ)) (index : ℕ) → list_all (λ name. is_good (name_text name)) names ≡ true → index < length names →
     is_good (name_at names index) ≡ true
-name_good is_good [] index all inside = absurd (omega (arith, inside))
-name_good is_good (name ∷ names) zero all inside = (and_parts (is_good (name_text name)) (list_all (λ n. is_good (name_text n)) names) all).0
-name_good is_good (name ∷ names) (suc index) all inside =
-    name_good is_good names index (and_parts (is_good (name_text name)) (list_all (λ n. is_good (name_text n)) names) all).1 (omega (arith, inside))
+name_good is_good names index all inside =
+    ap is_good (get_or-map name_text names index [] [] inside)
+    ∙ true_from_ne_false _ (λ no. both_ways _ (list_all_at (λ name. is_good (name_text name)) names index [] inside no) all)
 
 -- and it is of the class of all names
 pub column_good :

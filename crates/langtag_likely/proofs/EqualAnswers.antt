@@ -12,18 +12,19 @@ use Rattle.langtag_match.specs.AcceptLanguage.{Element}
 use Rattle.langtag_match.specs.Basic.{ends_subtag}
 use Rattle.langtag_match.specs.Fallback.{ends_in_single}
 use Rattle.langtag_match.specs.Range.{is_star}
-use Rattle.langtag_likely.specs.Best.{is_wish, is_refused, unrefused, distance_in, as_candidate, compare, first_of, first_for_tag, first_in, index_of, chosen_in, best}
+use Rattle.langtag_likely.specs.Best.{is_wish, is_refused, unrefused, as_candidate, compare, first_of, first_for_tag, first_in, index_of, chosen_in, best}
 use Rattle.langtag_likely.specs.ChoiceLaws.{IsHeaviest, IsFirstAlike, AnswersEqual}
 use Rattle.langtag_likely.specs.Likely.{or_else}
 use Rattle.langtag_likely.specs.Nearness.{is_fallback, kept, unlikely}
 use Rattle.langtag_likely.specs.declared.candidate.Candidate.{Candidate}
 use Rattle.langtag_likely.specs.declared.candidate.Pass.TheVariants.{Near, Acceptable, LookUp}
 use Rattle.langtag_likely.proofs.AlikeRanges.{far-none, unlikely-alike}
-use Rattle.langtag_likely.proofs.ChoiceLaws.{candidate, as_candidate-is}
+use Rattle.langtag_likely.proofs.ChoiceLaws.{candidate, candidate_is}
 use Rattle.langtag_likely.proofs.Chosen.{no_tag_for_ranges}
-use Rattle.langtag_likely.proofs.FirstOf.{first_of_assoc, first_of_comm}
-use Rattle.langtag_likely.proofs.LookUpAnswers.{take_whole, whole_fallback}
-use Rattle.langtag_likely.proofs.ReadRanges.{length-alike}
+use Rattle.langtag_likely.proofs.FirstOf.{first_of_assoc, first_of_comm, first_of_same}
+use Rattle.langtag_likely.proofs.LookUpAnswers.{whole_fallback}
+use Rattle.std.proofs.Math.Seq.{take-length}
+use Rattle.langtag_match.proofs.Prefixes.{length-alike}
 
 -- ---- what goes before all others
 
@@ -43,13 +44,6 @@ among_left c a b is = sym (first_of_assoc (Some c) a b) ∙ ap (λ x. first_of x
 
 among_right : (c : Candidate) (a b : Option Candidate) → IsAmong c b → IsAmong c (first_of a b)
 among_right c a b is = ap (first_of (Some c)) (first_of_comm a b) ∙ among_left c b a is ∙ first_of_comm b a
-
-among_itself : (c : Candidate) → IsAmong c (Some c)
-among_itself c = by_test (is_gt (compare c c))
-  where
-    by_test : (b : Bool) → Some (cond b c c) ≡ Some c
-    by_test true = refl
-    by_test false = refl
 
 -- ---- numbers in order
 
@@ -86,7 +80,7 @@ alike_kept range tag some whole = by_test (is_fallback range tag) refl
         let parts = and_parts (are_alike (take (length tag) range) tag) (ends_subtag (drop (length tag) range) && ((length tag == length range) || not (ends_in_single tag))) is in
         let same = (are_alike-decides (take (length tag) range) tag).0 (parts.0) in
         let long : length tag ≡ length range = omega (arith, whole, length-alike (take (length tag) range) tag same, length-take (length tag) range) in
-        let all : take (length tag) range ≡ range = ap (λ n. take n range) long ∙ take_whole range in
+        let all : take (length tag) range ≡ range = ap (λ n. take n range) long ∙ take-length range in
         rw (← all) same
 
     by_test : (b : Bool) → is_fallback range tag ≡ b → Alike range tag
@@ -102,9 +96,8 @@ module _ (elements : List Element) (all : List (Option (List ℕ))) (place : ℕ
   lost_none = let whole = kept_alike element.range first.tag first.alike in omega (arith, whole)
 
   is_best_one : as_candidate Near element place (Some first.tag) index ≡ Some best_one
-  is_best_one =
-      let near = far-none element.range first.tag first.alike in
-      as_candidate-is Near element place first.tag index ∙ rw (wish, star, near) refl
+  unfolding as_candidate
+  is_best_one = let near = far-none element.range first.tag first.alike in rw (wish, star, near) refl
 
   -- for the range itself
   own_range : (tag : List ℕ) (k distance : ℕ) → slice_get all k ≡ Some (Some tag) → is_refused elements tag ≡ false → is_gt (compare best_one (candidate element place tag k distance)) ≡ false
@@ -139,20 +132,12 @@ module _ (elements : List Element) (all : List (Option (List ℕ))) (place : ℕ
           le_then (1000 - element.weight) (1000 - other.weight) _ (omega (arith, heaviest.most p other range_there)) (λ same. le_then place p _ (omega (arith, later)) (λ s. absurd (omega (arith, later, s))))
       by_tests false false before after = at_place (omega (arith, ltb-false p place before, ltb-false place p after))
 
-  leads_made :
-      (other : Element) (p : ℕ) (tag : List ℕ) (k : ℕ) (b : Bool) (o : Option ℕ) → slice_get elements p ≡ Some other → slice_get all k ≡ Some (Some tag) → is_refused elements tag ≡ false →
-      Leads best_one (cond b (option_map (candidate other p tag k) o) None)
-  leads_made other p tag k false o range_there there free = refl
-  leads_made other p tag k true None range_there there free = refl
-  leads_made other p tag k true (Some distance) range_there there free =
-      ap (λ b. Some (cond b (candidate other p tag k distance) best_one)) (none_before other p tag k distance range_there there free)
-
   leads_candidate :
       (other : Element) (p : ℕ) (tag : List ℕ) (k : ℕ) → slice_get elements p ≡ Some other → slice_get all k ≡ Some (Some tag) → is_refused elements tag ≡ false →
       Leads best_one (as_candidate Near other p (Some tag) k)
   leads_candidate other p tag k range_there there free =
-      ap (first_of (Some best_one)) (as_candidate-is Near other p tag k)
-      ∙ leads_made other p tag k (is_wish other && not (is_star other.range)) (distance_in Near other.range tag) range_there there free
+      candidate_is (Leads best_one) Near other p tag k refl
+      (λ distance. ap (λ b. Some (cond b (candidate other p tag k distance) best_one)) (none_before other p tag k distance range_there there free))
 
   leads_for_tag :
       (ranges : List Element) (p : ℕ) (tag : List ℕ) (k : ℕ) → ((j : ℕ) (other : Element) → slice_get ranges j ≡ Some other → slice_get elements (p + j) ≡ Some other) →
@@ -187,7 +172,7 @@ module _ (elements : List Element) (all : List (Option (List ℕ))) (place : ℕ
       let one : other ≡ element = cc in
       let here : p ≡ place = omega (arith, at) in
       among_left best_one (as_candidate Near other p (Some first.tag) index) (first_for_tag Near ranges (p + 1) (Some first.tag) index)
-      (rw (one, here, is_best_one) (among_itself best_one))
+      (rw (one, here, is_best_one) (first_of_same (Some best_one)))
   among_for_tag (other ∷ ranges) p (suc j) there at =
       among_right best_one (as_candidate Near other p (Some first.tag) index) (first_for_tag Near ranges (p + 1) (Some first.tag) index)
       (among_for_tag ranges (p + 1) j there (omega (arith, at)))

@@ -1,13 +1,14 @@
 -- Where a number stands first among numbers that climb, and what a binary search says of it.
-use Rattle.std.proofs.Common.{◌≡◌, ◌≢◌, ℕ, zero, suc, ◌<◌, true, cond, ltb, List, [], ◌∷◌, length, get_or, Option, None, Some, option_map, inl, inr, refl, sym, ap, ◌∙◌, arith}
+use Rattle.std.proofs.Common.{◌≡◌, ◌≢◌, ℕ, zero, suc, ◌<◌, true, cond, ltb, List, [], ◌∷◌, length, get_or, Option, None, Some, option_map, inl, inr, refl, sym, ap, ◌∙◌, arith, Bool}
 use Rattle.std.specs.Prelude.{Result, Ok, Err}
 use Rattle.std.specs.List.{list_all}
 use Rattle.std.specs.Result.{result_ok}
-use Rattle.std.proofs.lemmas.Bool.{and_parts, ltb-true, eq-eqb, ne_eqb}
+use Rattle.std.proofs.lemmas.Bool.{and_parts, ltb-true, eq-eqb, ne_eqb, true_from_ne_false, both_ways}
 use Rattle.std.proofs.lemmas.Bool.Decides.{eqb_tells}
 use Rattle.langtag_registry.specs.Numbers.{climbs_from}
 use Rattle.langtag_registry.proofs.Rising.{IsSearched, searched_apart}
 use Rattle.langtag_likely.specs.Numbers.{first_index}
+use Rattle.std.proofs.lemmas.List.Folds.{list_all_at}
 
 above_first : (low : ℕ) (numbers : List ℕ) (k : ℕ) → climbs_from low numbers ≡ true → k < length numbers → low < get_or numbers k 0
 above_first low [] k climbs inside = absurd (omega (arith, inside))
@@ -71,8 +72,8 @@ first_index-is (k ∷ keys) key i is =
 
 -- ---- an index in a list of indices
 
+pub test_at : (test : ℕ → Bool) (list : List ℕ) (k : ℕ) → list_all test list ≡ true → k < length list → test (get_or list k 0) ≡ true
+test_at test list k all inside = true_from_ne_false _ (λ no. both_ways _ (list_all_at test list k 0 inside no) all)
+
 pub index_inside : (count : ℕ) (list : List ℕ) (k : ℕ) → list_all (λ i. ltb i count) list ≡ true → k < length list → get_or list k 0 < count
-index_inside count [] k all inside = absurd (omega (arith, inside))
-index_inside count (i ∷ list) zero all inside = ltb-true i count (and_parts (ltb i count) (list_all (λ i. ltb i count) list) all).0
-index_inside count (i ∷ list) (suc k) all inside =
-    index_inside count list k (and_parts (ltb i count) (list_all (λ i. ltb i count) list) all).1 (omega (arith, inside))
+index_inside count list k all inside = ltb-true (get_or list k 0) count (test_at (λ i. ltb i count) list k all inside)

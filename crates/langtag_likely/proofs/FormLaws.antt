@@ -1,13 +1,12 @@
 -- What a tag becomes where its record becomes another.
-use Rattle.std.proofs.Common.{◌≡◌, ℕ, true, false, Bool, List, None, Some, inl, inr, ◌⊎◌, refl, sym, ap, subst, ◌∙◌}
+use Rattle.std.proofs.Common.{◌≡◌, ℕ, true, false, Bool, List, inl, inr, ◌⊎◌, refl, sym, ap, subst, ◌∙◌, ◌++◌, [], length, drop, append-nil, arith}
 use Rattle.std.proofs.lemmas.Bool.{both_ways}
 use Rattle.langtag_scan.specs.Record.{Record, Spells, IsWellFormed, spell}
 use Rattle.langtag_scan.specs.Tag.{IsNormal, IsTag}
 use Rattle.langtag_scan.proofs.NormalTexts.{spelled_once, normal_from_runs, runs_from_normal}
-use Rattle.langtag_likely.specs.Maximal.{IsForm, fields_of, put_fields, maximal_record, minimal_record}
-use Rattle.langtag_likely.specs.Likely.{Fields, add_likely, remove_likely}
-use Rattle.langtag_likely.specs.LikelySubtags.{likely_subtags}
-use Rattle.std.specs.Option.{option_map_or}
+use Rattle.langtag_likely.specs.Maximal.{IsForm}
+use Rattle.std.proofs.lemmas.List.{drop_all}
+use Rattle.langtag_registry.specs.Writes.{Writes}
 
 decided : {P : Type 0} (b : Bool) → (b ≡ true → P) → (P → b ≡ true) → P ⊎ (P → ⊥)
 decided true holds is = inl (holds refl)
@@ -15,6 +14,10 @@ decided false holds is = inr (λ p. both_ways false refl (is p))
 
 pub normal_or_not : (text : List ℕ) → IsNormal text ⊎ (IsNormal text → ⊥)
 normal_or_not text = decided _ (normal_from_runs text) (runs_from_normal text)
+
+-- what is written is also what follows from it
+pub rewritten : {P Q : List ℕ → Type 0} (before after : List ℕ) (len : ℕ) → ((text : List ℕ) → P text → Q text) → Writes P before after len → Writes Q before after len
+rewritten before after len becomes w = record { text = w.text; is_so = becomes w.text w.is_so; whole = w.whole; written = w.written; untouched = w.untouched }
 
 module _ (form_of : Record → Record) where
   pub kept_form : (old new : List ℕ) → (IsNormal old → ⊥) → new ≡ old → IsForm form_of old new
@@ -44,20 +47,21 @@ module _ (form_of : Record → Record) where
     | inr not_normal ↦ subst IsTag (sym (is.kept not_normal)) tag
   ]
 
--- ---- where likely subtags are found
+  -- ---- what is written
 
-pub maximal_found : (r : Record) (f : Fields) → Some f ≡ add_likely likely_subtags (fields_of r) → spell (put_fields r f) ≡ spell (maximal_record r)
-unfolding maximal_record
-maximal_found r f found = ap (λ o. spell (option_map_or (put_fields r) o r)) found
+  pub kept_written : (old text before after : List ℕ) (len : ℕ) → (IsNormal old → ⊥) → text ≡ old → Writes (λ new. new ≡ text) before after len → Writes (IsForm form_of old) before after len
+  kept_written old text before after len other same w = rewritten before after len (λ new is. kept_form old new other (is ∙ same)) w
 
-pub maximal_absent : (r : Record) → None ≡ add_likely likely_subtags (fields_of r) → spell r ≡ spell (maximal_record r)
-unfolding maximal_record
-maximal_absent r absent = ap (λ o. spell (option_map_or (put_fields r) o r)) absent
+  pub record_written :
+      (old text before after : List ℕ) (len : ℕ) (r : Record) → Spells r old → text ≡ spell (form_of r) → Writes (λ new. new ≡ text) before after len → Writes (IsForm form_of old) before after len
+  record_written old text before after len r spells same w = rewritten before after len (λ new is. record_form old new r spells (is ∙ same)) w
 
-pub minimal_found : (r : Record) (f : Fields) → Some f ≡ remove_likely likely_subtags (fields_of r) → spell (put_fields r f) ≡ spell (minimal_record r)
-unfolding minimal_record
-minimal_found r f found = ap (λ o. spell (option_map_or (put_fields r) o r)) found
-
-pub minimal_absent : (r : Record) → None ≡ remove_likely likely_subtags (fields_of r) → spell r ≡ spell (minimal_record r)
-unfolding minimal_record
-minimal_absent r absent = ap (λ o. spell (option_map_or (put_fields r) o r)) absent
+  -- what is written twice, the second time with just the room for it
+  pub written_whole :
+      (old first one before after : List ℕ) (n len : ℕ) → Writes (IsForm form_of old) first one n → Writes (IsForm form_of old) before after len → length before ≡ n →
+      (length after ≡ n) × IsForm form_of old after
+  written_whole old first one before after n len counted w room =
+      let as_long = ap length (one_form old counted.text w.text counted.is_so w.is_so) in
+      let none : drop len before ≡ [] = drop_all len before (omega (arith, as_long, counted.whole, w.whole, room)) in
+      let is : after ≡ w.text = w.written (omega (arith, as_long, counted.whole, w.whole, room)) ∙ ap (λ t. w.text ++ t) none ∙ append-nil w.text in
+      (ap length is ∙ sym as_long ∙ sym counted.whole, subst (IsForm form_of old) (sym is) w.is_so)

@@ -11,7 +11,7 @@ use Rattle.langtag_likely.specs.Good.{is_language_field, is_script_field, is_reg
 use Rattle.langtag_likely.specs.Likely.{Fields, Likely, are_alike_fields, likely_for, looked_up, or_else, or_other, filled, known, known_fields, add_likely, remove_likely, least, suffices, language_alone, without_script, without_region}
 use Rattle.langtag_likely.specs.LikelySubtags.{language_rows, other_rows, likely_subtags}
 use Rattle.langtag_likely.specs.Maximal.{fields_of, language_field, put_fields, put_language, subtag_of, maximal_record, minimal_record}
-use Rattle.langtag_likely.proofs.FieldClasses.{from_primary, from_extended}
+use Rattle.langtag_likely.proofs.FieldClasses.{from_primary, from_extended, from_script, from_region, known_good}
 
 -- each field is of its class
 pub record AreGood (f : Fields) : Type 0 where
@@ -71,13 +71,6 @@ or_other-good : (is_good : List ℕ → Bool) (a b : List ℕ) → is_good a ≡
 or_other-good is_good [] b ga gb = gb
 or_other-good is_good (x ∷ a) b ga gb = ga
 
-known-good : (is_good : List ℕ → Bool) (unknown a : List ℕ) → is_good [] ≡ true → is_good a ≡ true → is_good (known unknown a) ≡ true
-known-good is_good unknown a none good = by_test (are_alike unknown a)
-  where
-    by_test : (b : Bool) → is_good (cond b [] a) ≡ true
-    by_test true = none
-    by_test false = good
-
 filled-good : (f v : Fields) → AreGood f → AreGood v → AreGood (filled f v)
 filled-good f v gf gv = record {
   language = or_other-good is_language_field f.language v.language gf.language gv.language;
@@ -98,8 +91,8 @@ added-good f good = mapped-good (filled f) (looked_up likely_subtags f) (λ v gv
 known_fields-good : (f : Fields) → AreGood f → AreGood (known_fields f)
 known_fields-good f good = record {
   language = good.language;
-  script = known-good is_script_field (codes "Zzzz") f.script refl good.script;
-  region = known-good is_region_field (codes "ZZ") f.region refl good.region;
+  script = known_good is_script_field (codes "Zzzz") f.script refl good.script;
+  region = known_good is_region_field (codes "ZZ") f.region refl good.region;
 }
 
 least-good : (most : Fields) → AreGood most → AreGood (least likely_subtags most)
@@ -120,23 +113,15 @@ least-good most good =
 
 language_field-good :
     (p : List ℕ) (es : List (List ℕ)) → is_primary p ≡ true → AllByRecursion (λ s. IsTrue (is_extended s)) es → is_language_field (language_field p es) ≡ true
-language_field-good p [] is all = known-good is_language_field (codes "und") p refl (from_primary p is)
+language_field-good p [] is all = known_good is_language_field (codes "und") p refl (from_primary p is)
 language_field-good p (e ∷ []) is all = from_extended e all.0
 language_field-good p (e ∷ f ∷ es) is all = language_field-good p (f ∷ es) is all.1
 
 optional-good :
     (is_class is_good : List ℕ → Bool) (unknown : List ℕ) → is_good [] ≡ true → ((s : List ℕ) → is_class s ≡ true → is_good s ≡ true) → (o : Option (List ℕ)) →
     IfSome o (λ s. IsTrue (is_class s)) → is_good (known unknown (unwrap_or o [])) ≡ true
-optional-good is_class is_good unknown none some None is = known-good is_good unknown [] none none
-optional-good is_class is_good unknown none some (Some s) is = known-good is_good unknown s none (some s is)
-
-from_script : (s : List ℕ) → is_script s ≡ true → is_script_field s ≡ true
-from_script [] is = refl
-from_script (b ∷ s) is = is
-
-from_region : (s : List ℕ) → is_region s ≡ true → is_region_field s ≡ true
-from_region [] is = refl
-from_region (b ∷ s) is = is
+optional-good is_class is_good unknown none some None is = known_good is_good unknown [] none none
+optional-good is_class is_good unknown none some (Some s) is = known_good is_good unknown s none (some s is)
 
 pub fields_of-good : (r : Record) → IsWellFormed r → AreGood (fields_of r)
 fields_of-good r well = record {

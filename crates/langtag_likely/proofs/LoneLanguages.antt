@@ -22,8 +22,9 @@ use Rattle.langtag_likely.proofs.AlikeFields.{AlikeOptions}
 use Rattle.langtag_likely.proofs.AlikeRanges.{text_form-alike}
 use Rattle.langtag_likely.proofs.MatchingTables.{aliases_lead}
 use Rattle.langtag_likely.proofs.NearForms.{completed_language}
-use Rattle.langtag_likely.proofs.ReadRanges.{form_read, length-alike}
+use Rattle.langtag_likely.proofs.ReadRanges.{form_read}
 use Rattle.langtag_likely.proofs.TextParts.{all_fields, no_fields}
+use Rattle.langtag_match.proofs.Prefixes.{length-alike}
 
 -- ---- heads
 

@@ -2,7 +2,7 @@
 use Rattle.std.proofs.Common.{◌≡◌, inl, inr, ℕ, zero, suc, ◌+◌, ◌-◌, ◌<◌, ◌==◌, Bool, true, false, cond, not, nat_lt, List, [], ◌∷◌, ◌++◌, length, take, drop, map, get_or, filter, Option, Some, None, is_some, ap, refl, sym, subst, ◌∙◌}
 use Rattle.std.specs.List.{All, slice_get}
 use Rattle.std.specs.Option.{option_map}
-use Rattle.std.proofs.lemmas.Bool.{lt-ltb}
+use Rattle.std.proofs.lemmas.Bool.{lt-ltb, eq-eqb}
 use Rattle.std.proofs.lemmas.Bool.Decides.{eqb_tells}
 use Rattle.std.proofs.lemmas.List.{length-map}
 use Rattle.std.proofs.lemmas.List.Elements.{All-append, All-cons, All-filter, All-map, All-nil, filter_passes}
@@ -18,7 +18,8 @@ use Rattle.langtag_likely.specs.Likely.{or_else}
 use Rattle.langtag_likely.specs.Nearness.{is_fallback, kept}
 use Rattle.langtag_likely.specs.declared.candidate.Candidate.{Candidate}
 use Rattle.langtag_likely.specs.declared.candidate.Pass.TheVariants.{Near, Acceptable, LookUp}
-use Rattle.langtag_likely.proofs.ReadRanges.{length-alike}
+use Rattle.std.proofs.Math.Seq.{take-append_seam, drop-append_seam, take-length, drop-length}
+use Rattle.langtag_match.proofs.Prefixes.{length-alike}
 
 -- ---- what a range falls back to
 
@@ -51,34 +52,12 @@ ends_in_single-fold text = rw (length-map text fold_byte, get_or-fold text (leng
 pub ends_in_single-alike : (a b : List ℕ) → Alike a b → ends_in_single a ≡ ends_in_single b
 ends_in_single-alike a b alike = sym (ends_in_single-fold a) ∙ ap ends_in_single alike ∙ ends_in_single-fold b
 
-take_front : (text rest : List ℕ) → take (length text) (text ++ rest) ≡ text
-take_front [] rest = refl
-take_front (b ∷ text) rest = ap (λ t. b ∷ t) (take_front text rest)
-
-drop_front : (text rest : List ℕ) → drop (length text) (text ++ rest) ≡ rest
-drop_front [] rest = refl
-drop_front (b ∷ text) rest = drop_front text rest
-
-pub take_whole : (text : List ℕ) → take (length text) text ≡ text
-take_whole [] = refl
-take_whole (b ∷ text) = ap (λ t. b ∷ t) (take_whole text)
-
-drop_whole : (text : List ℕ) → drop (length text) text ≡ []
-drop_whole [] = refl
-drop_whole (b ∷ text) = drop_whole text
-
 -- a tag that is the whole range
 pub whole_fallback : (range tag : List ℕ) → Alike range tag → is_fallback range tag ≡ true
 whole_fallback range tag alike =
     let long : length tag ≡ length range = sym (length-alike range tag alike) in
     let same = (are_alike-decides range tag).1 alike in
-    rw (long, take_whole range, drop_whole range, same, (eqb_same (length range))) refl
-  where
-    eqb_same : (n : ℕ) → (n == n) ≡ true
-    eqb_same n = elim (eqb_tells n n) [
-      | inl same ↦ same.0
-      | inr other ↦ absurd (other.1 refl)
-    ]
+    rw (long, take-length range, drop-length range, same, (eq-eqb (length range) (length range) refl)) refl
 
 shorter_fallback : (range text tag : List ℕ) → IsBefore range text → not (ends_in_single text) ≡ true → Alike text tag → is_fallback range tag ≡ true
 shorter_fallback range text tag before multiple alike =
@@ -91,8 +70,8 @@ shorter_fallback range text tag before multiple alike =
     by_length :
         (b : Bool) → length tag ≡ length text → are_alike text tag ≡ true → not (ends_in_single tag) ≡ true → range ≡ text ++ 45 ∷ before.0 → (length tag == length range) ≡ b →
         is_fallback range tag ≡ true
-    by_length true long same multiple whole is = rw (is, long, whole, take_front text (45 ∷ before.0), drop_front text (45 ∷ before.0), same) refl
-    by_length false long same multiple whole is = rw (is, multiple, long, whole, take_front text (45 ∷ before.0), drop_front text (45 ∷ before.0), same) refl
+    by_length true long same multiple whole is = rw (is, long, whole, take-append_seam text (45 ∷ before.0), drop-append_seam text (45 ∷ before.0), same) refl
+    by_length false long same multiple whole is = rw (is, multiple, long, whole, take-append_seam text (45 ∷ before.0), drop-append_seam text (45 ∷ before.0), same) refl
 
 abbrev Falls : List ℕ → List ℕ → Type 0
 Falls range text = (tag : List ℕ) → Alike text tag → is_fallback range tag ≡ true

@@ -5,8 +5,7 @@ use Rattle.std.specs.List.{list_all}
 use Rattle.langtag_scan.specs.Case.{fold_byte}
 use Rattle.langtag_scan.specs.Class.{is_letter, is_digit, are_alphanumeric, is_primary, is_script, is_region}
 use Rattle.langtag_scan.specs.Case.{folded_number}
-use Rattle.langtag_registry.specs.Numbers.{letter_number, climbs_from}
-use Rattle.langtag_registry.proofs.Rising.{rises_from}
+use Rattle.langtag_registry.specs.Numbers.{letter_number}
 use Rattle.langtag_likely.specs.declared.matching_tables.TheConstants as table
 use Rattle.langtag_likely.specs.Distance.{maghreb, en_us, americas, cnsar}
 use Rattle.langtag_likely.specs.Good.{is_language_field, is_script_field, is_region_field}
@@ -61,12 +60,6 @@ pub alias_scripts_good : list_all (λ name. is_script_field (name_text name)) ta
 unfolding is_script is_letter
 alias_scripts_good = refl
 
-pub aliases_rise : rises_from 0 table.ALIAS_KEYS ≡ true
-aliases_rise = refl
-
-pub aliases_climb : climbs_from 0 table.ALIAS_KEYS ≡ true
-aliases_climb = refl
-
 pub region_alias_numbers : table.REGION_ALIAS_KEYS ≡ map (λ row. folded_number row.from.region) list.region_aliases
 unfolding list.region_aliases folded_number fold_byte
 region_alias_numbers = refl
@@ -95,12 +88,6 @@ pub region_aliases_good : list_all (λ name. is_region_field (name_text name)) t
 unfolding is_region is_letter is_digit
 region_aliases_good = refl
 
-pub region_aliases_rise : rises_from 0 table.REGION_ALIAS_KEYS ≡ true
-region_aliases_rise = refl
-
-pub region_aliases_climb : climbs_from 0 table.REGION_ALIAS_KEYS ≡ true
-region_aliases_climb = refl
-
 -- ---- rules
 
 pub language_rule_numbers : table.LANGUAGE_RULE_KEYS ≡ map (λ rule. language_pair rule.desired rule.supported) list.language_rules
@@ -122,12 +109,6 @@ language_rules_short = refl
 pub language_rule_count : length list.language_rules ≡ 317
 unfolding list.language_rules fold_byte
 language_rule_count = refl
-
-pub language_rules_rise : rises_from 0 table.LANGUAGE_RULE_KEYS ≡ true
-language_rules_rise = refl
-
-pub language_rules_climb : climbs_from 0 table.LANGUAGE_RULE_KEYS ≡ true
-language_rules_climb = refl
 
 pub language_rules_some : list_all (λ n. ltb 0 n) table.LANGUAGE_RULE_DISTANCES ≡ true
 language_rules_some = refl
@@ -155,12 +136,6 @@ pub script_rule_count : length list.script_rules ≡ 50
 unfolding list.script_rules fold_byte
 script_rule_count = refl
 
-pub script_rules_rise : rises_from 0 table.SCRIPT_RULE_KEYS ≡ true
-script_rules_rise = refl
-
-pub script_rules_climb : climbs_from 0 table.SCRIPT_RULE_KEYS ≡ true
-script_rules_climb = refl
-
 pub script_rules_some : list_all (λ n. ltb 0 n) table.SCRIPT_RULE_DISTANCES ≡ true
 script_rules_some = refl
 
@@ -177,12 +152,6 @@ pub replacing_listed : list_all is_listed (map (λ row. row.to.language) list.la
 unfolding list.language_aliases letter_number is_letter fold_byte
 replacing_listed = refl
 
-pub related_rise : rises_from 0 table.RELATED_KEYS ≡ true
-related_rise = refl
-
-pub related_climb : climbs_from 0 table.RELATED_KEYS ≡ true
-related_climb = refl
-
 -- ---- sets of regions
 
 pub maghreb_inside_numbers : table.MAGHREB_INSIDE ≡ map folded_number maghreb.inside
@@ -193,12 +162,6 @@ pub maghreb_inside_plain : list_all are_alphanumeric maghreb.inside ≡ true
 unfolding maghreb list.maghreb_inside is_letter is_digit fold_byte
 maghreb_inside_plain = refl
 
-pub maghreb_inside_rises : rises_from 0 table.MAGHREB_INSIDE ≡ true
-maghreb_inside_rises = refl
-
-pub maghreb_inside_climbs : climbs_from 0 table.MAGHREB_INSIDE ≡ true
-maghreb_inside_climbs = refl
-
 pub maghreb_partly_numbers : table.MAGHREB_PARTLY ≡ map folded_number maghreb.partly
 unfolding maghreb list.maghreb_partly folded_number fold_byte
 maghreb_partly_numbers = refl
@@ -206,12 +169,6 @@ maghreb_partly_numbers = refl
 pub maghreb_partly_plain : list_all are_alphanumeric maghreb.partly ≡ true
 unfolding maghreb list.maghreb_partly is_letter is_digit fold_byte
 maghreb_partly_plain = refl
-
-pub maghreb_partly_rises : rises_from 0 table.MAGHREB_PARTLY ≡ true
-maghreb_partly_rises = refl
-
-pub maghreb_partly_climbs : climbs_from 0 table.MAGHREB_PARTLY ≡ true
-maghreb_partly_climbs = refl
 
 pub en_us_inside_numbers : table.EN_US_INSIDE ≡ map folded_number en_us.inside
 unfolding en_us list.en_us_inside folded_number fold_byte
@@ -221,12 +178,6 @@ pub en_us_inside_plain : list_all are_alphanumeric en_us.inside ≡ true
 unfolding en_us list.en_us_inside is_letter is_digit fold_byte
 en_us_inside_plain = refl
 
-pub en_us_inside_rises : rises_from 0 table.EN_US_INSIDE ≡ true
-en_us_inside_rises = refl
-
-pub en_us_inside_climbs : climbs_from 0 table.EN_US_INSIDE ≡ true
-en_us_inside_climbs = refl
-
 pub en_us_partly_numbers : table.EN_US_PARTLY ≡ map folded_number en_us.partly
 unfolding en_us list.en_us_partly folded_number fold_byte
 en_us_partly_numbers = refl
@@ -234,12 +185,6 @@ en_us_partly_numbers = refl
 pub en_us_partly_plain : list_all are_alphanumeric en_us.partly ≡ true
 unfolding en_us list.en_us_partly is_letter is_digit fold_byte
 en_us_partly_plain = refl
-
-pub en_us_partly_rises : rises_from 0 table.EN_US_PARTLY ≡ true
-en_us_partly_rises = refl
-
-pub en_us_partly_climbs : climbs_from 0 table.EN_US_PARTLY ≡ true
-en_us_partly_climbs = refl
 
 pub americas_inside_numbers : table.AMERICAS_INSIDE ≡ map folded_number americas.inside
 unfolding americas list.americas_inside folded_number fold_byte
@@ -249,12 +194,6 @@ pub americas_inside_plain : list_all are_alphanumeric americas.inside ≡ true
 unfolding americas list.americas_inside is_letter is_digit fold_byte
 americas_inside_plain = refl
 
-pub americas_inside_rises : rises_from 0 table.AMERICAS_INSIDE ≡ true
-americas_inside_rises = refl
-
-pub americas_inside_climbs : climbs_from 0 table.AMERICAS_INSIDE ≡ true
-americas_inside_climbs = refl
-
 pub americas_partly_numbers : table.AMERICAS_PARTLY ≡ map folded_number americas.partly
 unfolding americas list.americas_partly folded_number fold_byte
 americas_partly_numbers = refl
@@ -262,12 +201,6 @@ americas_partly_numbers = refl
 pub americas_partly_plain : list_all are_alphanumeric americas.partly ≡ true
 unfolding americas list.americas_partly is_letter is_digit fold_byte
 americas_partly_plain = refl
-
-pub americas_partly_rises : rises_from 0 table.AMERICAS_PARTLY ≡ true
-americas_partly_rises = refl
-
-pub americas_partly_climbs : climbs_from 0 table.AMERICAS_PARTLY ≡ true
-americas_partly_climbs = refl
 
 pub cnsar_inside_numbers : table.CNSAR_INSIDE ≡ map folded_number cnsar.inside
 unfolding cnsar list.cnsar_inside folded_number fold_byte
@@ -277,12 +210,6 @@ pub cnsar_inside_plain : list_all are_alphanumeric cnsar.inside ≡ true
 unfolding cnsar list.cnsar_inside is_letter is_digit fold_byte
 cnsar_inside_plain = refl
 
-pub cnsar_inside_rises : rises_from 0 table.CNSAR_INSIDE ≡ true
-cnsar_inside_rises = refl
-
-pub cnsar_inside_climbs : climbs_from 0 table.CNSAR_INSIDE ≡ true
-cnsar_inside_climbs = refl
-
 pub cnsar_partly_numbers : table.CNSAR_PARTLY ≡ map folded_number cnsar.partly
 unfolding cnsar list.cnsar_partly folded_number fold_byte
 cnsar_partly_numbers = refl
@@ -290,9 +217,3 @@ cnsar_partly_numbers = refl
 pub cnsar_partly_plain : list_all are_alphanumeric cnsar.partly ≡ true
 unfolding cnsar list.cnsar_partly is_letter is_digit fold_byte
 cnsar_partly_plain = refl
-
-pub cnsar_partly_rises : rises_from 0 table.CNSAR_PARTLY ≡ true
-cnsar_partly_rises = refl
-
-pub cnsar_partly_climbs : climbs_from 0 table.CNSAR_PARTLY ≡ true
-cnsar_partly_climbs = refl

@@ -1,14 +1,13 @@
 -- The form of a text that is a normal tag is that of its record.
-use Rattle.std.proofs.Common.{◌≡◌, inl, inr, ℕ, ◌≤◌, true, false, Bool, cond, IsTrue, List, [], ◌∷◌, ◌++◌, length, Option, None, Some, option_map, refl, sym, ap, ◌∙◌, arith}
+use Rattle.std.proofs.Common.{◌≡◌, inl, inr, ℕ, true, false, Bool, cond, IsTrue, List, [], ◌∷◌, ◌++◌, Option, None, Some, option_map, refl, sym, ap, ◌∙◌, arith}
 use Rattle.std.specs.Prelude.{codes, unwrap_or, IfSome}
 use Rattle.std.specs.List.{AllByRecursion, flat_map}
 use Rattle.std.specs.Cmp.{on_equiv}
 use Rattle.std.specs.Cmp.Lexicographic.{nat_list_eq_equiv}
-use Rattle.std.proofs.lemmas.Bool.{and_parts}
 use Rattle.std.proofs.lemmas.Bool.Decides.{eqb_tells, nat_tests}
 use Rattle.std.proofs.lemmas.List.{map-append}
 use Rattle.langtag_scan.specs.Case.{are_alike, fold_text}
-use Rattle.langtag_scan.specs.Class.{is_letter, is_digit, are_letters, are_digits, starts_with_digit, is_alphanumeric, is_primary, is_extended, is_script, is_region, is_variant}
+use Rattle.langtag_scan.specs.Class.{is_letter, is_digit, is_alphanumeric, is_primary, is_extended, is_script, is_region, is_variant}
 use Rattle.langtag_scan.specs.Record.{Record, Extension, PrivateUse, IsWellFormed, extension_flat, one_flat, private_part_flat, flat, spell}
 use Rattle.langtag_scan.specs.Subtags.{join, subtags}
 use Rattle.langtag_scan.specs.Tag.{IsNormal}
@@ -23,6 +22,7 @@ use Rattle.langtag_likely.specs.Maximal.{fields_of, language_field}
 use Rattle.langtag_likely.specs.Nearness.{IsChoiceDistance, far, text_form}
 use Rattle.langtag_likely.specs.TextFields.{text_fields, fields_of_subtags, language_of, after_language, script_of, after_script, region_of}
 use Rattle.langtag_likely.proofs.TextParts.{read_same}
+use Rattle.langtag_scan.proofs.Disjoint.{first_no_digit, digits_begin}
 
 -- ---- no tag has a "_"
 
@@ -54,18 +54,6 @@ IsLater tail = (begins is_extended tail ≡ false) × (begins is_script tail ≡
 one_later : (c : ℕ) (others : List (List ℕ)) → IsLater ((c ∷ []) ∷ others)
 unfolding is_extended is_script is_region
 one_later c others = (refl, refl, refl)
-
-letter_no_digit : (b : ℕ) → is_letter b ≡ true → is_digit b ≡ true → ⊥
-unfolding is_letter is_digit
-letter_no_digit b l d = grind (arith, nat_tests)
-
-first_no_digit : (s : List ℕ) → are_letters s ≡ true → starts_with_digit s ≡ true → ⊥
-first_no_digit [] l d = absurd cc
-first_no_digit (b ∷ s) l d = let k = and_parts (is_letter b) (are_letters s) l in letter_no_digit b k.0 d
-
-digits_begin : (s : List ℕ) → 1 ≤ length s → are_digits s ≡ true → starts_with_digit s ≡ true
-digits_begin [] n d = absurd (omega arith)
-digits_begin (b ∷ s) n d = (and_parts (is_digit b) (are_digits s) d).0
 
 script_first : (s : List ℕ) → is_script s ≡ true → is_extended s ≡ false
 unfolding is_extended is_script

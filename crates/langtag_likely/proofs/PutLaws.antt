@@ -2,7 +2,7 @@
 use Rattle.std.proofs.Common.{◌≡◌, ℕ, ◌+◌, ◌≤◌, true, false, Bool, cond, List, [], ◌∷◌, ◌++◌, length, drop, refl, sym, ap, ◌∙◌, arith, append_assoc}
 use Rattle.std.specs.Prelude.{codes}
 use Rattle.std.specs.List.{flat_map}
-use Rattle.std.proofs.lemmas.List.{length-append, length-drop}
+use Rattle.std.proofs.lemmas.List.{length-append, length-drop, append-nil}
 use Rattle.langtag_scan.specs.Case.{are_alike}
 use Rattle.langtag_scan.specs.CaseLaws.{are_alike-decides}
 use Rattle.langtag_scan.specs.Ends.{ends_of}
@@ -46,11 +46,7 @@ und_alone primary (e ∷ es) text other spells und =
 
 one_hyphenated : (s : List ℕ) → hyphenated (one_flat (subtag_of s)) ≡ after_hyphen s
 one_hyphenated [] = refl
-one_hyphenated (b ∷ s) = append-nil_here (45 ∷ b ∷ s)
-  where
-    append-nil_here : (t : List ℕ) → t ++ [] ≡ t
-    append-nil_here [] = refl
-    append-nil_here (x ∷ t) = ap (λ u. x ∷ u) (append-nil_here t)
+one_hyphenated (b ∷ s) = append-nil (45 ∷ b ∷ s)
 
 rest_of : (r : Record) → drop (ends_of r).region (spell r) ≡ hyphenated (r.variants ++ (flat_map extension_flat r.extensions ++ private_part_flat r.private_use))
 rest_of r =

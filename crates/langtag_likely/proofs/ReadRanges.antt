@@ -6,6 +6,7 @@ use Rattle.langtag_scan.specs.CaseLaws.{are_alike-decides}
 use Rattle.std.proofs.lemmas.Bool.Decides.{eqb_tells}
 use Rattle.langtag_likely.specs.Nearness.{text_form}
 use Rattle.langtag_match.specs.Wanted.{hyphened, hyphened_byte}
+use Rattle.langtag_match.proofs.Prefixes.{length-alike}
 
 pub length_read : (range : List ℕ) → length (hyphened range) ≡ length range
 length_read range = length-map range hyphened_byte
@@ -15,10 +16,6 @@ take_read range n = take-map hyphened_byte n range
 
 pub drop_read : (range : List ℕ) (n : ℕ) → drop n (hyphened range) ≡ hyphened (drop n range)
 drop_read range n = drop-map hyphened_byte n range
-
--- texts that are alike are as long
-pub length-alike : (a b : List ℕ) → Alike a b → length a ≡ length b
-length-alike a b alike = sym (length-map a fold_byte) ∙ ap length alike ∙ length-map b fold_byte
 
 pub too_short : (range tag : List ℕ) → length range < length tag → are_alike (take (length tag) (hyphened range)) tag ≡ false
 too_short range tag short = by_test (are_alike (take (length tag) (hyphened range)) tag) refl

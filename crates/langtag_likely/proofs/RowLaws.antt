@@ -3,7 +3,7 @@ use Rattle.std.proofs.Common.{◌≡◌, ℕ, ◌+◌, ◌<◌, true, ◌==◌, 
 use Rattle.std.specs.Prelude.{◌&&◌}
 use Rattle.std.proofs.Math.Bool.{and-true}
 use Rattle.std.proofs.lemmas.Bool.{and_parts, ltb-true}
-use Rattle.std.proofs.lemmas.List.{get_or-map, length-map, nil_from_length}
+use Rattle.std.proofs.lemmas.List.{get_or-map, nil_from_length}
 use Rattle.langtag_scan.specs.Case.{are_alike}
 use Rattle.langtag_scan.specs.Class.{are_letters}
 use Rattle.langtag_registry.specs.Numbers.{letter_number}
@@ -12,7 +12,6 @@ use Rattle.langtag_likely.specs.Likely.{Fields, Likely, are_alike_fields, likely
 use Rattle.langtag_likely.specs.LikelySubtags.{language_rows, other_rows, likely_subtags}
 use Rattle.langtag_likely.specs.Numbers.{first_index, key_number}
 use Rattle.langtag_likely.specs.Rows.{of_language, places_of, places_for}
-use Rattle.langtag_likely.proofs.FirstIndex.{first_index-is}
 use Rattle.langtag_likely.proofs.KeyNumbers.{are_plain, is_numbered, key_number-tells}
 use Rattle.langtag_likely.proofs.RowsFound.{no_row, found_by_number, likely_for-append, is_alone, long_nowhere, alone_nowhere, other_nowhere}
 use Rattle.langtag_likely.proofs.TableRows.{languages_alone, languages_short, languages_only, others_numbered, others_other, others_short}
@@ -39,49 +38,39 @@ language-tells l letters row good =
 
 -- ---- what is found by a number
 
-language_found : (l : List ℕ) → are_letters l ≡ true → option_map (λ i. (get_or language_rows i no_row).to) (first_index (map (λ row. letter_number row.from.language) language_rows) (letter_number l)) ≡ likely_for language_rows (of_language l)
-language_found l letters = found_by_number language_number is_language (of_language l) (language-tells l letters) language_rows languages_alone
+pub language_found :
+    (l : List ℕ) (keys : List ℕ) (number : ℕ) (o : Option ℕ) → are_letters l ≡ true → keys ≡ map (λ row. letter_number row.from.language) language_rows → number ≡ letter_number l → o ≡ first_index keys number →
+    option_map (λ i. (get_or language_rows i no_row).to) o ≡ likely_for language_rows (of_language l)
+language_found l keys number o letters keys_are number_is is =
+    ap (option_map (λ i. (get_or language_rows i no_row).to)) (is ∙ ap (λ list. first_index list number) keys_are ∙ ap (first_index (map (λ row. letter_number row.from.language) language_rows)) number_is)
+    ∙ found_by_number language_number is_language (of_language l) (language-tells l letters) language_rows languages_alone
 
-other_found : (key : Fields) → are_plain key ≡ true → option_map (λ i. (get_or other_rows i no_row).to) (first_index (map (λ row. key_number row.from) other_rows) (key_number key)) ≡ likely_for other_rows key
-other_found key plain = found_by_number key_number is_numbered key (λ row good. key_number-tells key row plain good) other_rows others_numbered
-
-pub index_inside : (rows : List Likely) (number : Likely → ℕ) (key i : ℕ) → first_index (map number rows) key ≡ Some i → i < length rows
-index_inside rows number key i is = let at = (first_index-is (map number rows) key i is).inside in omega (arith, at, length-map rows number)
+pub other_found :
+    (key : Fields) (keys : List ℕ) (number : ℕ) (o : Option ℕ) → are_plain key ≡ true → keys ≡ map (λ row. key_number row.from) other_rows → number ≡ key_number key → o ≡ first_index keys number →
+    option_map (λ i. (get_or other_rows i no_row).to) o ≡ likely_for other_rows key
+other_found key keys number o plain keys_are number_is is =
+    ap (option_map (λ i. (get_or other_rows i no_row).to)) (is ∙ ap (λ list. first_index list number) keys_are ∙ ap (first_index (map (λ row. key_number row.from) other_rows)) number_is)
+    ∙ found_by_number key_number is_numbered key (λ row good. key_number-tells key row plain good) other_rows others_numbered
 
 -- a language at an index
 pub language_at :
-    (l : List ℕ) (i : ℕ) (script region : List ℕ) → are_letters l ≡ true →
-    first_index (map (λ row. letter_number row.from.language) language_rows) (letter_number l) ≡ Some i →
+    (i : ℕ) (script region : List ℕ) → i < length language_rows →
     script ≡ get_or (map (λ row. row.to.script) language_rows) i [] → region ≡ get_or (map (λ row. row.to.region) language_rows) i [] →
-    Some (record { language = []; script = script; region = region }) ≡ places_for l
-language_at l i script region letters is script_is region_is =
-    let inside = index_inside language_rows (λ row. letter_number row.from.language) (letter_number l) i is in
-    ap (λ s. Some (record { language = []; script = s; region = region })) (script_is ∙ get_or-map (λ row. row.to.script) language_rows i no_row [] inside)
-    ∙ ap (λ r. Some (record { language = []; script = (get_or language_rows i no_row).to.script; region = r })) (region_is ∙ get_or-map (λ row. row.to.region) language_rows i no_row [] inside)
-    ∙ ap (option_map places_of) (sym (ap (option_map (λ j. (get_or language_rows j no_row).to)) is) ∙ language_found l letters)
-
-pub language_absent :
-    (l : List ℕ) → are_letters l ≡ true → first_index (map (λ row. letter_number row.from.language) language_rows) (letter_number l) ≡ None → None ≡ places_for l
-language_absent l letters none =
-    ap (option_map places_of) (sym (ap (option_map (λ j. (get_or language_rows j no_row).to)) none) ∙ language_found l letters)
+    record { language = []; script = script; region = region } ≡ places_of (get_or language_rows i no_row).to
+language_at i script region inside script_is region_is =
+    ap (λ s. record { language = []; script = s; region = region }) (script_is ∙ get_or-map (λ row. row.to.script) language_rows i no_row [] inside)
+    ∙ ap (λ r. record { language = []; script = (get_or language_rows i no_row).to.script; region = r }) (region_is ∙ get_or-map (λ row. row.to.region) language_rows i no_row [] inside)
 
 -- any other row at an index
 pub other_at :
-    (key : Fields) (i : ℕ) (language script region : List ℕ) → are_plain key ≡ true →
-    first_index (map (λ row. key_number row.from) other_rows) (key_number key) ≡ Some i →
+    (i : ℕ) (language script region : List ℕ) → i < length other_rows →
     language ≡ get_or (map (λ row. row.to.language) other_rows) i [] → script ≡ get_or (map (λ row. row.to.script) other_rows) i [] →
     region ≡ get_or (map (λ row. row.to.region) other_rows) i [] →
-    Some (record { language = language; script = script; region = region }) ≡ likely_for other_rows key
-other_at key i language script region plain is language_is script_is region_is =
-    let inside = index_inside other_rows (λ row. key_number row.from) (key_number key) i is in
-    ap (λ l. Some (record { language = l; script = script; region = region })) (language_is ∙ get_or-map (λ row. row.to.language) other_rows i no_row [] inside)
-    ∙ ap (λ s. Some (record { language = (get_or other_rows i no_row).to.language; script = s; region = region })) (script_is ∙ get_or-map (λ row. row.to.script) other_rows i no_row [] inside)
-    ∙ ap (λ r. Some (record { language = (get_or other_rows i no_row).to.language; script = (get_or other_rows i no_row).to.script; region = r })) (region_is ∙ get_or-map (λ row. row.to.region) other_rows i no_row [] inside)
-    ∙ sym (ap (option_map (λ j. (get_or other_rows j no_row).to)) is) ∙ other_found key plain
-
-pub other_absent :
-    (key : Fields) → are_plain key ≡ true → first_index (map (λ row. key_number row.from) other_rows) (key_number key) ≡ None → None ≡ likely_for other_rows key
-other_absent key plain none = sym (ap (option_map (λ j. (get_or other_rows j no_row).to)) none) ∙ other_found key plain
+    record { language = language; script = script; region = region } ≡ (get_or other_rows i no_row).to
+other_at i language script region inside language_is script_is region_is =
+    ap (λ l. record { language = l; script = script; region = region }) (language_is ∙ get_or-map (λ row. row.to.language) other_rows i no_row [] inside)
+    ∙ ap (λ s. record { language = (get_or other_rows i no_row).to.language; script = s; region = region }) (script_is ∙ get_or-map (λ row. row.to.script) other_rows i no_row [] inside)
+    ∙ ap (λ r. record { language = (get_or other_rows i no_row).to.language; script = (get_or other_rows i no_row).to.script; region = r }) (region_is ∙ get_or-map (λ row. row.to.region) other_rows i no_row [] inside)
 
 -- ---- all rows
 

@@ -3,11 +3,11 @@ use Rattle.std.proofs.Common.{◌≡◌, ℕ, suc, ◌+◌, ◌*◌, ◌<◌, tr
 use Rattle.std.specs.Prelude.{◌&&◌}
 use Rattle.std.specs.List.{list_all}
 use Rattle.std.proofs.lemmas.Bool.{and_parts, ltb-true, false_from_ne_true}
-use Rattle.std.proofs.lemmas.List.{length-map}
-use Rattle.langtag_scan.specs.Case.{fold_byte, are_alike}
+use Rattle.langtag_scan.specs.Case.{are_alike}
 use Rattle.langtag_scan.specs.CaseLaws.{are_alike-decides}
 use Rattle.langtag_likely.specs.Likely.{Fields, Likely, are_alike_fields, likely_for, or_else}
 use Rattle.langtag_likely.specs.Numbers.{first_index}
+use Rattle.langtag_match.proofs.Prefixes.{length-alike}
 
 pub no_row : Likely
 no_row = record { from = record { language = []; script = []; region = [] }; to = record { language = []; script = []; region = [] } }
@@ -58,9 +58,7 @@ likely_for-append (row ∷ xs) ys key =
 -- ---- by the lengths of fields
 
 pub alike_length : (a b : List ℕ) → are_alike a b ≡ true → length a ≡ length b
-alike_length a b alike =
-    let same = ap length ((are_alike-decides a b).0 alike) in
-    omega (arith, same, length-map a fold_byte, length-map b fold_byte)
+alike_length a b alike = length-alike a b ((are_alike-decides a b).0 alike)
 
 record HaveLengths (a b : Fields) : Type 0 where
   language : length a.language ≡ length b.language

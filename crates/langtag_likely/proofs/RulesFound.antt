@@ -1,5 +1,5 @@
 -- A rule is found by the number of what it is for, and a text among others by its own.
-use Rattle.std.proofs.Common.{◌≡◌, ℕ, zero, suc, ◌<◌, true, false, ◌==◌, Bool, cond, ltb, List, [], ◌∷◌, length, get_or, map, Option, None, Some, option_map, refl, ap, ◌∙◌, arith}
+use Rattle.std.proofs.Common.{◌≡◌, ℕ, suc, ◌<◌, true, false, ◌==◌, Bool, cond, ltb, List, [], ◌∷◌, length, get_or, map, Option, None, Some, option_map, refl, ap, ◌∙◌, arith}
 use Rattle.std.specs.Option.{option_map_or}
 use Rattle.std.specs.Prelude.{◌&&◌, ◌||◌, is_some}
 use Rattle.std.specs.List.{list_all}
@@ -13,6 +13,7 @@ use Rattle.langtag_likely.specs.Likely.{Fields, are_alike_fields}
 use Rattle.langtag_likely.specs.Numbers.{first_index}
 use Rattle.langtag_likely.specs.Rules.{Rule, fits, distance_by}
 use Rattle.langtag_likely.proofs.RowsFound.{alike_length}
+use Rattle.std.proofs.Math.Bool.{and-false}
 
 abbrev pub distance_of : Rule → ℕ
 distance_of rule = rule.distance
@@ -53,20 +54,11 @@ long_apart a b long short = false_from_ne_true (are_alike_fields a b) (λ alike.
     let few = ltb-true (length a.language) 4 short in
     omega (arith, same, long, few))
 
-and-right : (a : Bool) → (a && false) ≡ false
-and-right true = refl
-and-right false = refl
-
-long_fits : (desired supported : Fields) (rule : Rule) → is_short rule ≡ true → (3 < length desired.language → fits desired supported rule ≡ false)
-long_fits desired supported rule short long =
-    let k = and_parts (ltb (length rule.desired.language) 4) (ltb (length rule.supported.language) 4) short in
-    ap (λ b. b && are_alike_fields rule.supported supported) (long_apart rule.desired desired long k.0)
-
 pub long_desired : (otherwise : ℕ) (rules : List Rule) (desired supported : Fields) → 3 < length desired.language → list_all is_short rules ≡ true → distance_by rules otherwise desired supported ≡ otherwise
 long_desired otherwise [] desired supported long all = refl
 long_desired otherwise (rule ∷ rules) desired supported long all =
     let k = and_parts (is_short rule) (list_all is_short rules) all in
-    ap (λ b. cond b rule.distance (distance_by rules otherwise desired supported)) (long_fits desired supported rule k.0 long)
+    ap (λ b. cond b rule.distance (distance_by rules otherwise desired supported)) (ap (λ b. b && are_alike_fields rule.supported supported) (long_apart rule.desired desired long (and_parts (ltb (length rule.desired.language) 4) (ltb (length rule.supported.language) 4) k.0).0))
     ∙ long_desired otherwise rules desired supported long k.1
 
 pub long_supported : (otherwise : ℕ) (rules : List Rule) (desired supported : Fields) → 3 < length supported.language → list_all is_short rules ≡ true → distance_by rules otherwise desired supported ≡ otherwise
@@ -75,18 +67,10 @@ long_supported otherwise (rule ∷ rules) desired supported long all =
     let k = and_parts (is_short rule) (list_all is_short rules) all in
     let s = and_parts (ltb (length rule.desired.language) 4) (ltb (length rule.supported.language) 4) k.0 in
     ap (λ b. cond b rule.distance (distance_by rules otherwise desired supported))
-    (ap (λ b. are_alike_fields rule.desired desired && b) (long_apart rule.supported supported long s.1) ∙ and-right (are_alike_fields rule.desired desired))
+    (ap (λ b. are_alike_fields rule.desired desired && b) (long_apart rule.supported supported long s.1) ∙ and-false (are_alike_fields rule.desired desired))
     ∙ long_supported otherwise rules desired supported long k.1
 
 -- ---- a text among others
-
-later-some : (o : Option ℕ) → is_some (option_map suc o) ≡ is_some o
-later-some None = refl
-later-some (Some i) = refl
-
-by_first : (b : Bool) (o : Option ℕ) → is_some (cond b (Some 0) (option_map suc o)) ≡ (b || is_some o)
-by_first true o = refl
-by_first false o = later-some o
 
 pub among_by_number :
     (words : List (List ℕ)) (text : List ℕ) → list_all are_alphanumeric words ≡ true → are_alphanumeric text ≡ true →
@@ -97,10 +81,10 @@ among_by_number (word ∷ words) text all plain =
     by_first (folded_number text == folded_number word) (first_index (map folded_number words) (folded_number text))
     ∙ ap (λ b. b || is_some (first_index (map folded_number words) (folded_number text))) (folded_number-tells word text k.0 plain)
     ∙ ap (λ b. are_alike word text || b) (among_by_number words text k.1 plain)
+  where
+    by_first : (b : Bool) (o : Option ℕ) → is_some (cond b (Some 0) (option_map suc o)) ≡ (b || is_some o)
+    by_first true o = refl
+    by_first false None = refl
+    by_first false (Some i) = refl
 
 -- ---- a number of a column
-
-pub some_at : (numbers : List ℕ) (i : ℕ) → list_all (λ n. ltb 0 n) numbers ≡ true → i < length numbers → 0 < get_or numbers i 0
-some_at [] i all inside = absurd (omega (arith, inside))
-some_at (n ∷ numbers) zero all inside = ltb-true 0 n (and_parts (ltb 0 n) (list_all (λ n. ltb 0 n) numbers) all).0
-some_at (n ∷ numbers) (suc i) all inside = some_at numbers i (and_parts (ltb 0 n) (list_all (λ n. ltb 0 n) numbers) all).1 (omega (arith, inside))

@@ -5,8 +5,7 @@ use Rattle.std.specs.List.{list_all}
 use Rattle.langtag_scan.specs.Case.{fold_byte}
 use Rattle.langtag_scan.specs.Class.{is_letter, is_digit, are_letters, is_primary, is_script, is_region}
 use Rattle.langtag_scan.specs.Case.{folded_number}
-use Rattle.langtag_registry.specs.Numbers.{letter_number, climbs_from}
-use Rattle.langtag_registry.proofs.Rising.{rises_from}
+use Rattle.langtag_registry.specs.Numbers.{letter_number}
 use Rattle.langtag_likely.specs.declared.tables.TheConstants as table
 use Rattle.langtag_likely.specs.Good.{is_language_field, is_script_field, is_region_field}
 use Rattle.langtag_likely.specs.LikelySubtags.{language_rows, other_rows}
@@ -78,32 +77,6 @@ other_count = refl
 pub others_short : list_all is_short other_rows ≡ true
 unfolding other_rows fold_byte
 others_short = refl
-
--- ---- the numbers rise
-
-pub scripts_rise : rises_from 0 table.SCRIPT_KEYS ≡ true
-scripts_rise = refl
-
-pub scripts_climb : climbs_from 0 table.SCRIPT_KEYS ≡ true
-scripts_climb = refl
-
-pub regions_rise : rises_from 0 table.REGION_KEYS ≡ true
-regions_rise = refl
-
-pub regions_climb : climbs_from 0 table.REGION_KEYS ≡ true
-regions_climb = refl
-
-pub languages_rise : rises_from 0 table.LANGUAGE_KEYS ≡ true
-languages_rise = refl
-
-pub languages_climb : climbs_from 0 table.LANGUAGE_KEYS ≡ true
-languages_climb = refl
-
-pub others_rise : rises_from 0 table.OTHER_KEYS ≡ true
-others_rise = refl
-
-pub others_climb : climbs_from 0 table.OTHER_KEYS ≡ true
-others_climb = refl
 
 -- ---- the classes of names
 

@@ -1,25 +1,15 @@
 -- The subtags of a text in which "_" is read as "-", one after the other.
-use Rattle.std.proofs.Common.{◌≡◌, ◌⊎◌, inl, inr, ℕ, ◌+◌, ◌<◌, Bool, true, false, ◌&&◌, not, ◌==◌, codes, Some, None, List, [], ◌∷◌, map, length, length-drop, ap, refl, sym, ◌∙◌, arith}
-use Rattle.std.specs.List.{list_all, before_first, after_first, position, position_or_len}
-use Rattle.std.specs.Option.{unwrap_or}
+use Rattle.std.proofs.Common.{◌≡◌, ◌⊎◌, inl, inr, ℕ, Bool, true, false, ◌&&◌, not, ◌==◌, codes, Some, None, List, [], ◌∷◌, map, length, ap, refl, sym, ◌∙◌, arith}
+use Rattle.std.specs.List.{list_all, before_first, after_first}
 use Rattle.std.proofs.lemmas.Bool.{and_parts, or_cases}
-use Rattle.std.proofs.lemmas.Bool.Decides.{nat_tests, eqb_tells}
-use Rattle.std.proofs.lemmas.List.Sums.{prefix_len-le-length}
-use Rattle.langtag_scan.specs.Case.{are_alike}
+use Rattle.std.proofs.lemmas.Bool.Decides.{eqb_tells}
 use Rattle.langtag_scan.specs.Class.{is_letter, is_digit, are_letters, are_digits, is_primary, is_extended, is_script, is_region}
 use Rattle.langtag_registry.proofs.Letters.{primary_letters}
 use Rattle.langtag_scan.specs.Subtags.{subtags}
 use Rattle.langtag_match.specs.Wanted.{hyphened, hyphened_byte, is_mark}
 use Rattle.langtag_match.proofs.WantedTexts.{cut_or_whole, segments-read, is_letter-read, is_digit-read, list_all-read, length-read}
-use Rattle.langtag_likely.specs.Good.{is_language_field, is_script_field, is_region_field}
 use Rattle.langtag_likely.specs.Likely.{known}
 use Rattle.langtag_likely.specs.TextFields.{fields_of_subtags, text_fields, after_language, after_script, language_of, parts, places_of, region_of, script_of}
-
-pub first_or_length : (text : List ℕ) → unwrap_or (position is_mark text) (length text) ≡ position_or_len is_mark text
-first_or_length text = grind (arith, nat_tests, prefix_len-le-length (λ byte. not (is_mark byte)) text)
-
-pub shorter : (text : List ℕ) → 0 < length text → length (after_first is_mark text) < length text
-shorter text some = omega (arith, length-drop (position_or_len is_mark text + 1) text)
 
 -- ---- a subtag is read as it stands
 
@@ -190,37 +180,6 @@ module _ (text : List ℕ) where
   no_region not =
       let read = is_region-read (before_first is_mark text) ∙ not in
       seen region_of text (λ first. refl) ∙ rw read refl
-
--- ---- the classes of fields
-
-pub from_script : (text : List ℕ) → is_script text ≡ true → is_script_field text ≡ true
-from_script [] is = refl
-from_script (b ∷ text) is = is
-
-pub from_region : (text : List ℕ) → is_region text ≡ true → is_region_field text ≡ true
-from_region [] is = refl
-from_region (b ∷ text) is = is
-
-pub known_language : (unknown text : List ℕ) → is_language_field text ≡ true → is_language_field (known unknown text) ≡ true
-known_language unknown text good = by_first (are_alike unknown text) refl
-  where
-    by_first : (one : Bool) → are_alike unknown text ≡ one → is_language_field (known unknown text) ≡ true
-    by_first true one = rw one refl
-    by_first false one = rw one good
-
-pub known_script : (unknown text : List ℕ) → is_script_field text ≡ true → is_script_field (known unknown text) ≡ true
-known_script unknown text good = by_first (are_alike unknown text) refl
-  where
-    by_first : (one : Bool) → are_alike unknown text ≡ one → is_script_field (known unknown text) ≡ true
-    by_first true one = rw one refl
-    by_first false one = rw one good
-
-pub known_region : (unknown text : List ℕ) → is_region_field text ≡ true → is_region_field (known unknown text) ≡ true
-known_region unknown text good = by_first (are_alike unknown text) refl
-  where
-    by_first : (one : Bool) → are_alike unknown text ≡ one → is_region_field (known unknown text) ≡ true
-    by_first true one = rw one refl
-    by_first false one = rw one good
 
 -- ---- all of them
 

@@ -1,15 +1,8 @@
 -- What the tables have. Contracts of private functions alone speak of this page.
-use Rattle.std.specs.Prelude.{ℕ, IsTrue, List, [], Option}
+use Rattle.std.specs.Prelude.{ℕ, List, [], Option}
 use Rattle.std.specs.Option.{option_map}
-use Rattle.std.specs.List.Sorted.{IsNonDecreasing}
-use Rattle.langtag_registry.specs.Numbers.{climbs_from}
 use Rattle.langtag_likely.specs.Likely.{Fields, likely_for}
 use Rattle.langtag_likely.specs.LikelySubtags.{language_rows}
-
--- numbers among which one is searched
-pub record AreKeys (keys : List ℕ) : Type 0 where
-  pub rises : IsNonDecreasing keys
-  pub climbs : IsTrue (climbs_from 0 keys)
 
 -- a language and no more
 abbrev pub of_language : List ℕ → Fields

@@ -1,12 +1,11 @@
 //! What is deprecated in the fields of a tag, replaced.
-ghost use Rattle.std.specs.Prelude.{◌≡◌, map};
+ghost use Rattle.std.specs.Prelude.{◌≡◌, IsTrue, length, map};
 ghost use Rattle.std.specs.Option.{option_map};
 ghost use Rattle.langtag_scan.specs.Case.{folded_number};
-ghost use Rattle.langtag_registry.specs.Numbers.{letter_number};
+ghost use Rattle.langtag_registry.specs.Numbers.{climbs_from, letter_number};
 ghost use Rattle.langtag_likely.specs.Likely.{likely_for, language_alone};
 ghost use Rattle.langtag_likely.specs.Matching as spec;
 ghost use Rattle.langtag_likely.specs.MatchingData.{language_aliases, region_aliases};
-ghost use Rattle.langtag_likely.specs.Rows.{AreKeys};
 ghost use Rattle.langtag_likely.specs.Texts.{field_texts};
 
 use crate::fields::or_other;
@@ -54,6 +53,7 @@ fn language_alias(fields: TagFields<'_>) -> Option<TagFields<'static>>
 }
 
 /// Returns what the region is replaced by.
+#[tactic(auto, using(crate::proofs::FieldClasses::region_length))]
 fn region_alias(fields: TagFields<'_>) -> Option<TagFields<'static>>
     ensures { option_map field_texts result ≡ likely_for region_aliases (spec.region_alone (field_texts fields.entry)) }
 {
@@ -67,14 +67,16 @@ fn region_alias(fields: TagFields<'_>) -> Option<TagFields<'static>>
 
 fn alias_keys() -> &'static [u16]
     ensures numbers { result.now ≡ map (λ row. letter_number row.from.language) language_aliases }
-    ensures searched { AreKeys result.now }
+    ensures climbs { IsTrue (climbs_from 0 result.now) }
+    ensures count { length result.now ≡ 9 }
 {
     &tables::ALIAS_KEYS
 }
 
 fn region_alias_keys() -> &'static [u32]
     ensures numbers { result.now ≡ map (λ row. folded_number row.from.region) region_aliases }
-    ensures searched { AreKeys result.now }
+    ensures climbs { IsTrue (climbs_from 0 result.now) }
+    ensures count { length result.now ≡ 27 }
 {
     &tables::REGION_ALIAS_KEYS
 }

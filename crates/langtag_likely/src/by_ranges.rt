@@ -71,7 +71,7 @@ fn first_for_range<T: TagList>(
 }
 
 /// Returns what stands at an index as a candidate for a range. Whether it is a tag is asked last.
-#[tactic(auto, using(crate::proofs::Chosen::no_tag))]
+#[tactic(auto, using(crate::proofs::ChoiceLaws::no_tag))]
 fn candidate_at<T: TagList>(pass: Pass, wish: Wish<'_>, tags: &T, index: usize) -> Option<Candidate>
     requires { index < length (T.texts tags.now) }
     ensures { result ≡ spec.as_candidate pass (wish_element wish.entry) wish.entry.place (slice_index_or (T.texts tags.now) index None) index }

@@ -7,7 +7,8 @@ ghost use Rattle.langtag_likely.specs.Maximal.{IsMaximalForm, IsMinimalForm, IsO
 ghost use Rattle.langtag_likely.specs.MaximalLaws.{IsAlikeForm, KeepsOthers, TellsAsMaximal, UndoesMaximal, UndoesMinimal};
 
 use crate::likely::{add_likely, remove_likely};
-use crate::put::write_fields;
+use crate::output::write_text;
+use crate::put::write_changed;
 use crate::tag_fields::TagFields;
 use langtag::{LangTag, LangTagBuf};
 use std::alloc::{AllocError, Global};
@@ -59,10 +60,7 @@ pub fn write_maximized(tag: LangTag<'_>, buffer: &mut [u8]) -> usize
     let Some(normal) = tag.as_normal() else {
         return write_text(tag.as_bytes(), buffer);
     };
-    match add_likely(TagFields::of(normal)) {
-        Some(fields) => write_fields(normal, fields, buffer),
-        None => write_text(tag.as_bytes(), buffer),
-    }
+    write_changed(normal, add_likely(TagFields::of(normal)), buffer)
 }
 
 /// Writes a tag without its likely subtags, as [`minimized`] returns it, into a buffer, and returns its length in bytes. Where
@@ -73,10 +71,7 @@ pub fn write_minimized(tag: LangTag<'_>, buffer: &mut [u8]) -> usize
     let Some(normal) = tag.as_normal() else {
         return write_text(tag.as_bytes(), buffer);
     };
-    match remove_likely(TagFields::of(normal)) {
-        Some(fields) => write_fields(normal, fields, buffer),
-        None => write_text(tag.as_bytes(), buffer),
-    }
+    write_changed(normal, remove_likely(TagFields::of(normal)), buffer)
 }
 
 fn maximal_bytes(alloc: Global, tag: LangTag<'_>) -> Result<Vec<u8>, AllocError>
@@ -107,14 +102,4 @@ pub(crate) fn tag_of(bytes: Vec<u8>) -> LangTagBuf
         unreachable!()
     };
     form
-}
-
-/// Writes a text.
-pub(crate) fn write_text(text: &[u8], buffer: &mut [u8]) -> usize
-    ensures { Writes (λ new. new ≡ text.now) buffer.old buffer.new result }
-{
-    if text.len() <= buffer.len() {
-        buffer[..text.len()].copy_from_slice(text);
-    }
-    text.len()
 }

@@ -1,6 +1,5 @@
 //! The numbers by which the tables know texts, and where they stand in a table.
-ghost use Rattle.std.specs.Prelude.{◌≡◌, ◌≤◌, ◌<◌, ◌*◌, ◌+◌, IsTrue, length};
-ghost use Rattle.std.specs.List.Sorted.{IsNonDecreasing};
+ghost use Rattle.std.specs.Prelude.{◌≡◌, ◌≤◌, ◌<◌, ◌*◌, ◌+◌, IfSome, IsTrue, length};
 ghost use Rattle.langtag_scan.specs.Class as class;
 ghost use Rattle.langtag_scan.specs.Case.{folded_number};
 ghost use Rattle.langtag_registry.specs.Numbers.{letter, letter_number, climbs_from};
@@ -10,27 +9,27 @@ use langtag_scan::into_smallcase;
 
 /// Returns where a number stands among others, which rise.
 pub(crate) fn index_of(keys: &[u32], key: u32) -> Option<usize>
-    requires rises { IsNonDecreasing keys.now }
-    requires climbs { IsTrue (climbs_from 0 keys.now) }
-    ensures { result ≡ first_index keys.now key }
+    requires { IsTrue (climbs_from 0 keys.now) }
+    ensures found { result ≡ first_index keys.now key }
+    ensures within { IfSome result (λ index. index < length keys.now) }
 {
     keys.binary_search(&key).ok()
 }
 
 /// Returns where a shorter number stands among others, which rise.
 pub(crate) fn index_of_short(keys: &[u16], key: u16) -> Option<usize>
-    requires rises { IsNonDecreasing keys.now }
-    requires climbs { IsTrue (climbs_from 0 keys.now) }
-    ensures { result ≡ first_index keys.now key }
+    requires { IsTrue (climbs_from 0 keys.now) }
+    ensures found { result ≡ first_index keys.now key }
+    ensures within { IfSome result (λ index. index < length keys.now) }
 {
     keys.binary_search(&key).ok()
 }
 
 /// Returns where a longer number stands among others, which rise.
 pub(crate) fn index_of_long(keys: &[u64], key: u64) -> Option<usize>
-    requires rises { IsNonDecreasing keys.now }
-    requires climbs { IsTrue (climbs_from 0 keys.now) }
-    ensures { result ≡ first_index keys.now key }
+    requires { IsTrue (climbs_from 0 keys.now) }
+    ensures found { result ≡ first_index keys.now key }
+    ensures within { IfSome result (λ index. index < length keys.now) }
 {
     keys.binary_search(&key).ok()
 }
@@ -38,7 +37,6 @@ pub(crate) fn index_of_long(keys: &[u64], key: u64) -> Option<usize>
 /// Returns the place of a text among those whose numbers are keys, from 1 on: 0 of the empty text, and of one that is not
 /// among them the place after the last.
 pub(crate) fn place(keys: &[u32], text: &[u8]) -> u32
-    requires rises { IsNonDecreasing keys.now }
     requires climbs { IsTrue (climbs_from 0 keys.now) }
     requires few { length keys.now ≤ 256 }
     requires short { length text.now ≤ 4 }

@@ -1,9 +1,9 @@
 //! Languages that no other is near, as the first letters of a tag show.
 ghost use Rattle.std.specs.Prelude.{◌≡◌, IsTrue, Some, false, length};
 ghost use Rattle.std.specs.Option.{ForSome, option_map};
+ghost use Rattle.langtag_registry.specs.Numbers.{climbs_from};
 ghost use Rattle.langtag_likely.specs.Lone as spec;
 ghost use Rattle.langtag_likely.specs.Good.{is_language_field};
-ghost use Rattle.langtag_likely.specs.Rows.{AreKeys};
 ghost use Rattle.langtag_likely.specs.Texts.{field_texts};
 ghost use Rattle.langtag_likely.specs.declared.matching_tables.TheConstants.{RELATED_KEYS};
 
@@ -45,7 +45,7 @@ fn is_related(language: &[u8]) -> bool
 
 fn related_keys() -> &'static [u16]
     ensures numbers { result.now ≡ RELATED_KEYS }
-    ensures searched { AreKeys result.now }
+    ensures climbs { IsTrue (climbs_from 0 result.now) }
 {
     &tables::RELATED_KEYS
 }

@@ -1,5 +1,6 @@
 //! A text that is written into a buffer of the caller's, piece by piece.
 ghost use Rattle.std.specs.Prelude.{◌≡◌, []};
+ghost use Rattle.langtag_registry.specs.Writes.{Writes};
 ghost use Rattle.langtag_likely.specs.Output.{Appends, HasText, after_hyphen};
 
 /// A buffer, and the length of the text that was put into it so far. What does not fit is counted, and not written.
@@ -48,4 +49,14 @@ impl<'a> Output<'a> {
         }
         self.len = end;
     }
+}
+
+/// Writes a text.
+pub(crate) fn write_text(text: &[u8], buffer: &mut [u8]) -> usize
+    ensures { Writes (λ new. new ≡ text.now) buffer.old buffer.new result }
+{
+    if text.len() <= buffer.len() {
+        buffer[..text.len()].copy_from_slice(text);
+    }
+    text.len()
 }

@@ -1,6 +1,6 @@
 //! The tag of a POSIX locale's name.
-ghost use Rattle.std.specs.Prelude.{◌≡◌, ℕ, ◌==◌, ◌≤◌, IsTrue, List, None, Some, IfOk, IfErr, MatchOption, length, ◌++◌};
-ghost use Rattle.std.specs.List.{before_first, after_first, position, replace_range};
+ghost use Rattle.std.specs.Prelude.{◌≡◌, ℕ, ◌≤◌, IsTrue, List, None, Some, IfOk, IfErr, MatchOption, length, ◌++◌};
+ghost use Rattle.std.specs.List.{replace_range};
 ghost use Rattle.langtag_scan.specs.Record.{Record, EachRecord, Spells};
 ghost use Rattle.langtag.specs.Edit.{SetsPart, SetsScript, SetsVariants};
 ghost use Rattle.langtag_place.specs.Variants.{IsVariants};
@@ -11,13 +11,14 @@ ghost use Rattle.langtag_likely.specs.Maximal.{IsForm};
 ghost use Rattle.langtag_likely.specs.Output.{IsCounted};
 ghost use Rattle.langtag_likely.specs.Posix.{IsPlace, IsRefusal, IsTagOfName, NamesTag, hyphenated, with_modifier};
 
-use crate::forms::{tag_of, write_text};
-use crate::output::Output;
+use crate::forms::tag_of;
+use crate::output::{Output, write_text};
 use crate::posix_error::PosixError;
 use langtag::{
     LangTag, LangTagBuf, NormalLangTag, Part, Replacement, case_insensitive_eq, put_part,
 };
 use langtag_place::{Script, Variants};
+use langtag_scan::split_at_byte;
 use std::alloc::{AllocError, Global};
 
 /// The greatest length of a language and a territory, in bytes.
@@ -67,29 +68,11 @@ pub fn write_from_posix(name: &[u8], buffer: &mut [u8]) -> Option<usize>
         (λ len. NamesTag name.now × Writes (IsTagOfName name.now) buffer.old buffer.new len) }
     ensures nothing { result ≡ None → buffer.new ≡ buffer.old }
 {
-    let (place_and_codeset, modifier) = split_at_first(name, b'@');
-    let (place, _codeset) = split_at_first(place_and_codeset, b'.');
+    let (place_and_codeset, modifier) = split_at_byte(name, b'@');
+    let (place, _codeset) = split_at_byte(place_and_codeset, b'.');
     let mut room = [0; MOST];
     let tag = tag_of_place(place, &mut room)?;
     Some(write_modified(tag, modifier, buffer))
-}
-
-/// Returns what stands before the first such byte, which is all where there is none, and what stands after it.
-fn split_at_first<'a>(text: &'a [u8], mark: u8) -> (&'a [u8], &'a [u8])
-    ensures before { result.0.now ≡ before_first (λ b. b == mark) text.now }
-    ensures after { result.1.now ≡ after_first (λ b. b == mark) text.now }
-{
-    match first(text, mark) {
-        Some(index) => (&text[..index], &text[index + 1..]),
-        None => (text, b""),
-    }
-}
-
-/// Returns where a byte stands first.
-fn first(text: &[u8], mark: u8) -> Option<usize>
-    ensures { result ≡ position (λ b. b == mark) text.now }
-{
-    text.iter().position(|byte| *byte == mark)
 }
 
 /// Returns the tag that a language and a territory are, written into this room.

@@ -1,9 +1,9 @@
 //! A tag with other fields.
-ghost use Rattle.std.specs.Prelude.{◌≡◌, drop};
+ghost use Rattle.std.specs.Prelude.{◌≡◌, ◌∷◌, drop};
+ghost use Rattle.std.specs.Option.{option_map, option_map_or};
 ghost use Rattle.langtag_scan.specs.Ends.{ends_of};
 ghost use Rattle.langtag_scan.specs.Record.{EachRecord, spell};
 ghost use Rattle.langtag_scan.specs.Subtags.{join};
-ghost use Rattle.std.specs.Prelude.{◌∷◌};
 ghost use Rattle.langtag_language.specs.Language.{EachLanguageSpelling};
 ghost use Rattle.langtag_language.specs.Text.{language_text};
 ghost use Rattle.langtag.specs.Text.{normal_lang_tag_text};
@@ -13,17 +13,28 @@ ghost use Rattle.langtag_likely.specs.Output.{IsCounted};
 ghost use Rattle.langtag_likely.specs.Texts.{field_texts};
 
 use crate::fields::or_other;
-use crate::output::Output;
+use crate::output::{Output, write_text};
 use crate::tag_fields::TagFields;
 use langtag::NormalLangTag;
 use langtag_language::Language;
 
-/// Writes a tag with these fields into a buffer, where it has room, and returns how long that tag is.
-pub(crate) fn write_fields(
+/// Writes a tag with other fields into a buffer, or as it is where there are none.
+pub(crate) fn write_changed(
     tag: NormalLangTag<'_>,
-    fields: TagFields<'_>,
+    fields: Option<TagFields<'_>>,
     buffer: &mut [u8],
 ) -> usize
+    ensures { EachRecord (normal_lang_tag_text tag.entry)
+        (λ r. Writes (λ form. form ≡ spell (option_map_or (put_fields r) (option_map field_texts fields.entry) r)) buffer.old buffer.new result) }
+{
+    match fields {
+        Some(fields) => write_fields(tag, fields, buffer),
+        None => write_text(tag.as_str().as_bytes(), buffer),
+    }
+}
+
+/// Writes a tag with these fields into a buffer, where it has room, and returns how long that tag is.
+fn write_fields(tag: NormalLangTag<'_>, fields: TagFields<'_>, buffer: &mut [u8]) -> usize
     ensures { EachRecord (normal_lang_tag_text tag.entry)
         (λ r. Writes (λ form. form ≡ spell (put_fields r (field_texts fields.entry))) buffer.old buffer.new result) }
 {

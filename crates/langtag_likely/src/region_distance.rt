@@ -2,9 +2,9 @@
 ghost use Rattle.std.specs.Prelude.{◌≡◌, ◌≤◌, ◌==◌, IsTrue, false, map};
 ghost use Rattle.langtag_scan.specs.Case.{are_alike};
 ghost use Rattle.langtag_scan.specs.Case.{folded_number};
+ghost use Rattle.langtag_registry.specs.Numbers.{climbs_from};
 ghost use Rattle.langtag_likely.specs.Distance as spec;
 ghost use Rattle.langtag_likely.specs.Good.{is_region_field};
-ghost use Rattle.langtag_likely.specs.Rows.{AreKeys};
 ghost use Rattle.langtag_likely.specs.Sets.{set_of};
 ghost use Rattle.langtag_likely.specs.Texts.{field_texts};
 
@@ -102,7 +102,7 @@ impl SetName {
     /// Returns the regions of the set, and the groups of which all countries are in it.
     fn inside(self) -> &'static [u32]
         ensures numbers { result.now ≡ map folded_number (set_of self).inside }
-        ensures searched { AreKeys result.now }
+        ensures climbs { IsTrue (climbs_from 0 result.now) }
     {
         match self {
             SetName::Maghreb => &tables::MAGHREB_INSIDE,
@@ -115,7 +115,7 @@ impl SetName {
     /// Returns the groups of which some countries are in the set, but not all.
     fn partly(self) -> &'static [u32]
         ensures numbers { result.now ≡ map folded_number (set_of self).partly }
-        ensures searched { AreKeys result.now }
+        ensures climbs { IsTrue (climbs_from 0 result.now) }
     {
         match self {
             SetName::Maghreb => &tables::MAGHREB_PARTLY,
@@ -125,12 +125,14 @@ impl SetName {
         }
     }
 
+    #[tactic(auto, using(crate::proofs::FieldClasses::region_length))]
     fn is_inside(self, fields: TagFields<'_>) -> bool
         ensures { result ≡ spec.is_among (set_of self).inside fields.entry.region.now }
     {
         index_of(self.inside(), short_number(fields.region)).is_some()
     }
 
+    #[tactic(auto, using(crate::proofs::FieldClasses::region_length))]
     fn is_partly_inside(self, fields: TagFields<'_>) -> bool
         ensures { result ≡ spec.is_among (set_of self).partly fields.entry.region.now }
     {

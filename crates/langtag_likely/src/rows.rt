@@ -2,12 +2,12 @@
 ghost use Rattle.std.specs.Prelude.{◌≡◌, ◌≤◌, ◌<◌, IsTrue, [], length, map, slice_index_or};
 ghost use Rattle.std.specs.Option.{option_map};
 ghost use Rattle.langtag_scan.specs.Class as class;
-ghost use Rattle.langtag_registry.specs.Numbers.{letter_number};
+ghost use Rattle.langtag_registry.specs.Numbers.{climbs_from, letter_number};
 ghost use Rattle.langtag_likely.specs.Good.{is_language_field, is_script_field, is_region_field};
 ghost use Rattle.langtag_likely.specs.Likely.{filled, likely_for};
 ghost use Rattle.langtag_likely.specs.LikelySubtags.{likely_subtags, language_rows, other_rows};
 ghost use Rattle.langtag_likely.specs.Numbers.{key_number};
-ghost use Rattle.langtag_likely.specs.Rows.{AreKeys, places_for};
+ghost use Rattle.langtag_likely.specs.Rows.{places_for};
 ghost use Rattle.langtag_likely.specs.Texts.{field_texts};
 ghost use Rattle.langtag_likely.specs.declared.tables.TheConstants.{SCRIPT_KEYS, REGION_KEYS};
 
@@ -58,6 +58,7 @@ fn other_row(key: TagFields<'_>) -> Option<TagFields<'static>>
 }
 
 /// Returns fields as one number, which is not 0.
+#[tactic(auto, using(crate::proofs::FieldClasses::script_length, crate::proofs::FieldClasses::region_length))]
 pub(crate) fn key_number(key: TagFields<'_>) -> u32
     requires { length key.language.now ≤ 3 }
     ensures { result ≡ key_number (field_texts key.entry) }
@@ -82,7 +83,7 @@ pub(crate) fn language_number(language: &[u8]) -> u32
 
 fn script_keys() -> &'static [u32]
     ensures numbers { result.now ≡ SCRIPT_KEYS }
-    ensures searched { AreKeys result.now }
+    ensures climbs { IsTrue (climbs_from 0 result.now) }
     ensures few { length result.now ≤ 256 }
 {
     &tables::SCRIPT_KEYS
@@ -90,7 +91,7 @@ fn script_keys() -> &'static [u32]
 
 fn region_keys() -> &'static [u32]
     ensures numbers { result.now ≡ REGION_KEYS }
-    ensures searched { AreKeys result.now }
+    ensures climbs { IsTrue (climbs_from 0 result.now) }
     ensures few { length result.now ≤ 256 }
 {
     &tables::REGION_KEYS
@@ -98,14 +99,16 @@ fn region_keys() -> &'static [u32]
 
 fn language_keys() -> &'static [u16]
     ensures numbers { result.now ≡ map (λ row. letter_number row.from.language) language_rows }
-    ensures searched { AreKeys result.now }
+    ensures climbs { IsTrue (climbs_from 0 result.now) }
+    ensures count { length result.now ≡ length language_rows }
 {
     &tables::LANGUAGE_KEYS
 }
 
 fn other_keys() -> &'static [u32]
     ensures numbers { result.now ≡ map (λ row. key_number row.from) other_rows }
-    ensures searched { AreKeys result.now }
+    ensures climbs { IsTrue (climbs_from 0 result.now) }
+    ensures count { length result.now ≡ length other_rows }
 {
     &tables::OTHER_KEYS
 }

@@ -1,11 +1,11 @@
 //! The distances of languages and of scripts, by the rules in the tables.
-ghost use Rattle.std.specs.Prelude.{◌≡◌, ◌≤◌, ◌<◌, ◌==◌, map, length, slice_index_or};
+ghost use Rattle.std.specs.Prelude.{◌≡◌, ◌≤◌, ◌<◌, ◌==◌, map, length, slice_index_or, IsTrue};
 ghost use Rattle.langtag_scan.specs.Case.{are_alike};
+ghost use Rattle.langtag_registry.specs.Numbers.{climbs_from, letter_number};
 ghost use Rattle.langtag_likely.specs.Distance as spec;
 ghost use Rattle.langtag_likely.specs.Likely.{without_region};
 ghost use Rattle.langtag_likely.specs.MatchingData.{language_rules, script_rules};
 ghost use Rattle.langtag_likely.specs.Numbers.{key_number, language_pair, script_pair};
-ghost use Rattle.langtag_likely.specs.Rows.{AreKeys};
 ghost use Rattle.langtag_likely.specs.Texts.{field_texts};
 
 use crate::keys::{index_of, index_of_long};
@@ -27,8 +27,7 @@ pub(crate) fn language_distance(desired: TagFields<'_>, supported: TagFields<'_>
     if desired.language.len() > 3 || supported.language.len() > 3 {
         return 80;
     }
-    let key = language_number(desired.language) * 32768 + language_number(supported.language);
-    match index_of(language_rule_keys(), key) {
+    match index_of(language_rule_keys(), language_pair(desired, supported)) {
         Some(index) => language_rule_distance(index),
         None => 80,
     }
@@ -53,6 +52,16 @@ pub(crate) fn script_distance(desired: TagFields<'_>, supported: TagFields<'_>) 
     }
 }
 
+/// Returns two languages as one number.
+fn language_pair(desired: TagFields<'_>, supported: TagFields<'_>) -> u32
+    requires desired { length desired.language.now ≤ 3 }
+    requires supported { length supported.language.now ≤ 3 }
+    ensures number { result ≡ language_pair (field_texts desired.entry) (field_texts supported.entry) }
+    ensures half { letter_number supported.entry.language.now < 32768 }
+{
+    language_number(desired.language) * 32768 + language_number(supported.language)
+}
+
 /// Returns two languages, each with its script, as one number.
 fn script_pair(desired: TagFields<'_>, supported: TagFields<'_>) -> u64
     requires desired { length desired.language.now ≤ 3 }
@@ -66,14 +75,16 @@ fn script_pair(desired: TagFields<'_>, supported: TagFields<'_>) -> u64
 
 fn language_rule_keys() -> &'static [u32]
     ensures numbers { result.now ≡ map (λ rule. language_pair rule.desired rule.supported) language_rules }
-    ensures searched { AreKeys result.now }
+    ensures climbs { IsTrue (climbs_from 0 result.now) }
+    ensures count { length result.now ≡ length language_rules }
 {
     &tables::LANGUAGE_RULE_KEYS
 }
 
 fn script_rule_keys() -> &'static [u64]
     ensures numbers { result.now ≡ map (λ rule. script_pair rule.desired rule.supported) script_rules }
-    ensures searched { AreKeys result.now }
+    ensures climbs { IsTrue (climbs_from 0 result.now) }
+    ensures count { length result.now ≡ length script_rules }
 {
     &tables::SCRIPT_RULE_KEYS
 }

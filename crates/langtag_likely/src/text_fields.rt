@@ -1,6 +1,6 @@
 //! The fields of a text that need not be a tag.
-ghost use Rattle.std.specs.Prelude.{◌≡◌, ◌≤◌, IsTrue, length};
-ghost use Rattle.std.specs.List.{after_first, before_first, position, position_or_len};
+ghost use Rattle.std.specs.Prelude.{◌≡◌, IsTrue};
+ghost use Rattle.std.specs.List.{after_first, before_first};
 ghost use Rattle.std.specs.Option.{option_map};
 ghost use Rattle.langtag_match.specs.Wanted.{hyphened, is_mark};
 ghost use Rattle.langtag_likely.specs.Good.{is_language_field, is_script_field, is_region_field};
@@ -10,10 +10,10 @@ ghost use Rattle.langtag_likely.specs.Texts.{field_texts};
 
 use crate::fields::known;
 use crate::tag_fields::TagFields;
-use langtag_scan::{is_extended, is_primary, is_region, is_script};
+use langtag_scan::{is_extended, is_primary, is_region, is_script, split_at_either};
 
 /// Returns the fields of a text in which `_` is read as `-`: None where it does not begin with a language.
-#[tactic(auto, using(crate::proofs::TextParts::known_language, crate::proofs::TextParts::known_script, crate::proofs::TextParts::known_region, crate::proofs::FieldClasses::from_primary))]
+#[tactic(auto, using(crate::proofs::FieldClasses::known_language, crate::proofs::FieldClasses::known_script, crate::proofs::FieldClasses::known_region, crate::proofs::FieldClasses::from_primary))]
 pub(crate) fn text_fields(text: &[u8]) -> Option<TagFields<'_>>
     ensures { option_map field_texts result ≡ spec.text_fields (hyphened text.now) }
 {
@@ -32,7 +32,7 @@ pub(crate) fn text_fields(text: &[u8]) -> Option<TagFields<'_>>
 }
 
 /// Returns the last of the extended subtags in front, or else the language before them, and what follows.
-#[tactic(auto, using(crate::proofs::TextParts::next_language, crate::proofs::TextParts::next_places, crate::proofs::TextParts::stop_language, crate::proofs::TextParts::stop_places, crate::proofs::TextParts::shorter, crate::proofs::TextParts::nothing_language, crate::proofs::TextParts::nothing_places, crate::proofs::FieldClasses::from_extended))]
+#[tactic(auto, using(crate::proofs::TextParts::next_language, crate::proofs::TextParts::next_places, crate::proofs::TextParts::stop_language, crate::proofs::TextParts::stop_places, langtag_match::proofs::WantedTexts::shorter, crate::proofs::TextParts::nothing_language, crate::proofs::TextParts::nothing_places, crate::proofs::FieldClasses::from_extended))]
 fn last_extended<'a>(language: &'a [u8], text: &'a [u8]) -> (&'a [u8], &'a [u8])
     requires { IsTrue (is_language_field language.now) }
     ensures language { result.0.now ≡ language_of language.now (parts text.now) }
@@ -53,7 +53,7 @@ fn last_extended<'a>(language: &'a [u8], text: &'a [u8]) -> (&'a [u8], &'a [u8])
 }
 
 /// Returns the script in front, and what follows.
-#[tactic(auto, using(crate::proofs::TextParts::script_here, crate::proofs::TextParts::no_script, crate::proofs::TextParts::region_after, crate::proofs::TextParts::region_still, crate::proofs::TextParts::from_script))]
+#[tactic(auto, using(crate::proofs::TextParts::script_here, crate::proofs::TextParts::no_script, crate::proofs::TextParts::region_after, crate::proofs::TextParts::region_still, crate::proofs::FieldClasses::from_script))]
 fn script_before<'a>(text: &'a [u8]) -> (&'a [u8], &'a [u8])
     ensures script { result.0.now ≡ script_of (parts text.now) }
     ensures rest { region_of (parts result.1.now) ≡ region_of (after_script (parts text.now)) }
@@ -68,7 +68,7 @@ fn script_before<'a>(text: &'a [u8]) -> (&'a [u8], &'a [u8])
 }
 
 /// Returns the region in front.
-#[tactic(auto, using(crate::proofs::TextParts::region_here, crate::proofs::TextParts::no_region, crate::proofs::TextParts::from_region))]
+#[tactic(auto, using(crate::proofs::TextParts::region_here, crate::proofs::TextParts::no_region, crate::proofs::FieldClasses::from_region))]
 fn region_before(text: &[u8]) -> &[u8]
     ensures region { result.now ≡ region_of (parts text.now) }
     ensures in_class { IsTrue (is_region_field result.now) }
@@ -82,24 +82,5 @@ fn first_subtag(text: &[u8]) -> (&[u8], &[u8])
     ensures before { result.0.now ≡ before_first is_mark text.now }
     ensures after { result.1.now ≡ after_first is_mark text.now }
 {
-    let end = first_len(text);
-    if end == text.len() {
-        return (text, b"");
-    }
-    (&text[..end], &text[end + 1..])
-}
-
-/// Returns how many bytes stand before the first `-` or `_`.
-#[tactic(auto, using(crate::proofs::TextParts::first_or_length))]
-fn first_len(text: &[u8]) -> usize
-    ensures within { result ≤ length text.now }
-    ensures first { result ≡ position_or_len is_mark text.now }
-{
-    first_mark(text).unwrap_or(text.len())
-}
-
-fn first_mark(text: &[u8]) -> Option<usize>
-    ensures { result ≡ position is_mark text.now }
-{
-    text.iter().position(|byte| *byte == b'-' || *byte == b'_')
+    split_at_either(text, b'-', b'_')
 }

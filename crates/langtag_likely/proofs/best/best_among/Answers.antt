@@ -7,25 +7,13 @@ use Rattle.langtag_likely.proofs.LookUpAnswers.{look_up_answered}
 use Rattle.langtag_likely.proofs.best.best_among.Goals as goal
 
 pub returns-clause-listed : goal.returns-clause-listed
-returns-clause-listed g c =
-    let elements = g.R.RangeList.elements c.args.ranges in
-    let tags = g.T.TagList.texts c.args.tags.now in
-    subst (IsIndex elements tags) (sym c.best.ensures) (best_index elements tags)
+returns-clause-listed g c = subst (IsIndex _ _) (sym c.best.ensures) (best_index _ _)
 
 pub returns-clause-looked_up : goal.returns-clause-looked_up
-returns-clause-looked_up g c =
-    let elements = g.R.RangeList.elements c.args.ranges in
-    let tags = g.T.TagList.texts c.args.tags.now in
-    subst (AnswersLookUp elements tags) (sym c.best.ensures) (look_up_answered elements tags)
+returns-clause-looked_up g c = subst (AnswersLookUp _ _) (sym c.best.ensures) (look_up_answered _ _)
 
 pub returns-clause-equal : goal.returns-clause-equal
-returns-clause-equal g c =
-    let elements = g.R.RangeList.elements c.args.ranges in
-    let tags = g.T.TagList.texts c.args.tags.now in
-    subst (AnswersEqual elements tags) (sym c.best.ensures) (equal_answered elements tags)
+returns-clause-equal g c = subst (AnswersEqual _ _) (sym c.best.ensures) (equal_answered _ _)
 
 pub returns-clause-case : goal.returns-clause-case
-returns-clause-case g c =
-    let elements = g.R.RangeList.elements c.args.ranges in
-    let tags = g.T.TagList.texts c.args.tags.now in
-    subst (IgnoresCase elements tags) (sym c.best.ensures) (case_ignored elements tags)
+returns-clause-case g c = subst (IgnoresCase _ _) (sym c.best.ensures) (case_ignored _ _)

@@ -1,5 +1,4 @@
 use Rattle.std.proofs.Common.{◌+◌, ◌*◌, take, arith, refl, sym, ap, ◌∙◌}
-use Rattle.std.proofs.lemmas.List.{take_all}
 use Rattle.std.proofs.lemmas.List.Sums.{fold_more}
 use Rattle.langtag_scan.specs.Case.{fold_byte}
 use Rattle.langtag_scan.specs.Case.{folded_number}
@@ -18,16 +17,6 @@ overflow_mul-number c =
     let fits = fits_32 (c.loop-byte.number * 256 + 0) (c.loop-byte.byte-index + 1) below (omega (arith, short, inside)) in
     omega (arith, fits)
 
-pub overflow_add-number : goal.overflow_add-number
-overflow_add-number c =
-    let small = c.into_smallcase.type_inv in
-    let same = c.from.ensures in
-    let below = digit_fits c.loop-byte.number c.loop-byte.byte-index c.from.result c.loop-byte.invariant.digits (omega (arith, small, same)) in
-    let inside = c.loop-byte-test.true in
-    let short = c.requires in
-    let fits = fits_32 (c.loop-byte.number * 256 + c.from.result) (c.loop-byte.byte-index + 1) below (omega (arith, short, inside)) in
-    omega (arith, fits)
-
 pub loop-byte-preserved : goal.loop-byte-preserved
 unfolding folded_number
 loop-byte-preserved c =
@@ -40,8 +29,3 @@ loop-byte-preserved c =
           ∙ sym (fold_more (λ number byte. number * 256 + fold_byte byte) 0 c.args.bytes.now c.loop-byte.byte-index 0 c.loop-byte-test.true);
       digits = digit_fits c.loop-byte.number c.loop-byte.byte-index c.from.result c.loop-byte.invariant.digits (omega (arith, small, same));
     }
-
-pub returns : goal.returns
-returns c =
-    let ends = c.loop-byte-test.false in
-    c.loop-byte.invariant.so_far ∙ ap folded_number (take_all c.loop-byte.byte-index c.args.bytes.now (omega (arith, ends)))

@@ -15,7 +15,7 @@ returns c none =
     let language = c.args.language.now in
     let letters = language_letters language c.requires.in_class in
     let absent : first_index RELATED_KEYS (letter_number language) ≡ None =
-    sym (ap (λ keys. first_index keys (letter_number language)) c.related_keys.ensures.numbers) ∙ sym (ap (first_index c.related_keys.result.now) c.language_number.ensures.number) ∙ sym c.index_of_short.ensures
+    sym (ap (λ keys. first_index keys (letter_number language)) c.related_keys.ensures.numbers) ∙ sym (ap (first_index c.related_keys.result.now) c.language_number.ensures.number) ∙ sym c.index_of_short.ensures.found
     ∙ none_found c.index_of_short.result (sym c.is_some.ensures ∙ none) in
     let apart : is_related language ≡ false =
     or_from _ _ (not_among language c.requires.two letters absent _ desired_listed) (not_among language c.requires.two letters absent _ replacing_listed) in

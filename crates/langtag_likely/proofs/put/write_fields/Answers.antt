@@ -1,4 +1,4 @@
-use Rattle.std.proofs.Common.{◌≡◌, ◌<◌, ◌^◌, ◌++◌, length, drop, refl, sym, ap, ◌∙◌, arith}
+use Rattle.std.proofs.Common.{◌≡◌, ◌<◌, ◌^◌, length, refl, ap, arith}
 use Rattle.langtag_scan.specs.Record.{spell}
 use Rattle.langtag.specs.Text.{normal_lang_tag_text}
 use Rattle.langtag_likely.specs.Maximal.{put_fields}
@@ -6,25 +6,6 @@ use Rattle.langtag_likely.specs.Texts.{field_texts}
 use Rattle.langtag_likely.proofs.FieldClasses.{language_length, script_length, region_length}
 use Rattle.langtag_likely.proofs.PutLaws.{put_length}
 use Rattle.langtag_likely.proofs.put.write_fields.Goals as goal
-
-pub returns-then-len-buffer : goal.returns-then-len-buffer
-returns-then-len-buffer c = λ r spells.
-    let form = spell (put_fields r (field_texts c.args.fields)) in
-    let len = c.put_fields-len.result in
-    let counted = (c.put_fields-len.ensures r spells).counted in
-    let room : length (normal_lang_tag_text c.args.tag) < 2 ^ 63 = omega arith in
-    let most = put_length r (field_texts c.args.fields) in
-    let l = language_length c.args.fields.language.now c.args.fields.language_class in
-    let s = script_length c.args.fields.script.now c.args.fields.script_class in
-    let g = region_length c.args.fields.region.now c.args.fields.region_class in
-    let whole : len ≡ length form = omega (arith, counted, most, ap length spells.1, room, l, s, g) in
-    record {
-      text = form;
-      is_so = refl;
-      whole = whole;
-      written = λ fits. (c.put_fields.ensures r spells).written (omega (arith, whole, fits)) ∙ ap (λ n. form ++ drop n c.args.buffer.now) (sym whole);
-      untouched = λ less. absurd (omega (arith, less, c.if-len-buffer.true));
-    }
 
 pub returns-else-len-buffer : goal.returns-else-len-buffer
 returns-else-len-buffer c = λ r spells.

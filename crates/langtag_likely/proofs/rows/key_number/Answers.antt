@@ -2,14 +2,7 @@ use Rattle.std.proofs.Common.{◌+◌, ◌*◌, ap, ◌∙◌}
 use Rattle.langtag_registry.specs.Numbers.{letter_number}
 use Rattle.langtag_likely.specs.declared.tables.TheConstants.{SCRIPT_KEYS}
 use Rattle.langtag_likely.specs.Numbers.{key_number, place}
-use Rattle.langtag_likely.proofs.FieldClasses.{script_length, region_length}
 use Rattle.langtag_likely.proofs.rows.key_number.Goals as goal
-
-pub place-requires-clause-short : goal.place-requires-clause-short
-place-requires-clause-short c = script_length c.args.key.script.now c.args.key.script_class
-
-pub place-requires-2-clause-short : goal.place-requires-2-clause-short
-place-requires-2-clause-short c = region_length c.args.key.region.now c.args.key.region_class
 
 pub returns : goal.returns
 unfolding key_number

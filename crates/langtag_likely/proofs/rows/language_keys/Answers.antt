@@ -1,10 +1,11 @@
-use Rattle.langtag_registry.proofs.Rising.{IsNonDecreasing-from_test}
-use Rattle.langtag_likely.specs.declared.tables.TheConstants.{LANGUAGE_KEYS}
-use Rattle.langtag_likely.proofs.TableRows.{language_numbers, languages_rise, languages_climb}
+use Rattle.std.proofs.Common.{length, ap, ◌∙◌}
+use Rattle.std.proofs.lemmas.List.{length-map}
+use Rattle.langtag_likely.specs.LikelySubtags.{language_rows}
+use Rattle.langtag_likely.proofs.TableRows.{language_numbers}
 use Rattle.langtag_likely.proofs.rows.language_keys.Goals as goal
 
 pub returns-clause-numbers : goal.returns-clause-numbers
 returns-clause-numbers c = language_numbers
 
-pub returns-clause-searched : goal.returns-clause-searched
-returns-clause-searched c = record { rises = IsNonDecreasing-from_test LANGUAGE_KEYS languages_rise; climbs = languages_climb }
+pub returns-clause-count : goal.returns-clause-count
+returns-clause-count c = ap length language_numbers ∙ length-map language_rows _

@@ -1,10 +1,11 @@
-use Rattle.langtag_registry.proofs.Rising.{IsNonDecreasing-from_test}
-use Rattle.langtag_likely.specs.declared.matching_tables.TheConstants.{LANGUAGE_RULE_KEYS}
-use Rattle.langtag_likely.proofs.MatchingTables.{language_rule_numbers, language_rules_rise, language_rules_climb}
+use Rattle.std.proofs.Common.{length, ap, ◌∙◌}
+use Rattle.std.proofs.lemmas.List.{length-map}
+use Rattle.langtag_likely.specs.MatchingData.{language_rules}
+use Rattle.langtag_likely.proofs.MatchingTables.{language_rule_numbers}
 use Rattle.langtag_likely.proofs.rule_distance.language_rule_keys.Goals as goal
 
 pub returns-clause-numbers : goal.returns-clause-numbers
 returns-clause-numbers c = language_rule_numbers
 
-pub returns-clause-searched : goal.returns-clause-searched
-returns-clause-searched c = record { rises = IsNonDecreasing-from_test LANGUAGE_RULE_KEYS language_rules_rise; climbs = language_rules_climb }
+pub returns-clause-count : goal.returns-clause-count
+returns-clause-count c = ap length language_rule_numbers ∙ length-map language_rules _

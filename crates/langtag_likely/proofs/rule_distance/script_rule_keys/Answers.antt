@@ -1,10 +1,11 @@
-use Rattle.langtag_registry.proofs.Rising.{IsNonDecreasing-from_test}
-use Rattle.langtag_likely.specs.declared.matching_tables.TheConstants.{SCRIPT_RULE_KEYS}
-use Rattle.langtag_likely.proofs.MatchingTables.{script_rule_numbers, script_rules_rise, script_rules_climb}
+use Rattle.std.proofs.Common.{length, ap, ◌∙◌}
+use Rattle.std.proofs.lemmas.List.{length-map}
+use Rattle.langtag_likely.specs.MatchingData.{script_rules}
+use Rattle.langtag_likely.proofs.MatchingTables.{script_rule_numbers}
 use Rattle.langtag_likely.proofs.rule_distance.script_rule_keys.Goals as goal
 
 pub returns-clause-numbers : goal.returns-clause-numbers
 returns-clause-numbers c = script_rule_numbers
 
-pub returns-clause-searched : goal.returns-clause-searched
-returns-clause-searched c = record { rises = IsNonDecreasing-from_test SCRIPT_RULE_KEYS script_rules_rise; climbs = script_rules_climb }
+pub returns-clause-count : goal.returns-clause-count
+returns-clause-count c = ap length script_rule_numbers ∙ length-map script_rules _

@@ -3,18 +3,15 @@ use Rattle.std.specs.Prelude.{is_some}
 use Rattle.langtag_scan.specs.Case.{folded_number}
 use Rattle.langtag_likely.specs.Numbers.{first_index}
 use Rattle.langtag_likely.specs.Sets.{set_of}
-use Rattle.langtag_likely.proofs.FieldClasses.{region_alphanumeric, region_length}
+use Rattle.langtag_likely.proofs.FieldClasses.{region_alphanumeric}
 use Rattle.langtag_likely.proofs.RulesFound.{among_by_number}
 use Rattle.langtag_likely.proofs.SetLaws.{partly_plain}
 use Rattle.langtag_likely.proofs.region_distance.SetName.is_partly_inside.Goals as goal
-
-pub short_number-requires : goal.short_number-requires
-short_number-requires c = region_length c.args.fields.region.now c.args.fields.region_class
 
 pub returns : goal.returns
 returns c =
     let words = (set_of c.args.self).partly in
     let region = c.args.fields.region.now in
     c.is_some.ensures
-    ∙ ap is_some (c.index_of.ensures ∙ ap (λ keys. first_index keys c.short_number.result) c.partly.ensures.numbers ∙ ap (first_index (map folded_number words)) c.short_number.ensures)
+    ∙ ap is_some (c.index_of.ensures.found ∙ ap (λ keys. first_index keys c.short_number.result) c.partly.ensures.numbers ∙ ap (first_index (map folded_number words)) c.short_number.ensures)
     ∙ among_by_number words region (partly_plain c.args.self) (region_alphanumeric region c.args.fields.region_class)
