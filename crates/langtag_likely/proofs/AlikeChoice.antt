@@ -1,5 +1,5 @@
 -- What is chosen does not change with the case of letters.
-use Rattle.std.proofs.Common.{◌≡◌, ℕ, ◌+◌, ◌==◌, true, false, Bool, cond, not, ◌&&◌, ◌||◌, nat_lt, max, List, [], ◌∷◌, map, length, take, drop, Option, None, Some, option_map, refl, sym, ap, ◌∙◌}
+use Rattle.std.proofs.Common.{◌≡◌, ℕ, ◌+◌, ◌==◌, Bool, cond, not, ◌&&◌, ◌||◌, nat_lt, max, List, [], ◌∷◌, map, length, take, drop, Option, None, Some, option_map, refl, sym, ap, ◌∙◌}
 use Rattle.std.proofs.lemmas.List.{take-map, drop-map}
 use Rattle.langtag_scan.specs.Case.{are_alike, fold_byte, fold_text}
 use Rattle.langtag_scan.proofs.CaseLaw.{hyphen-fold, length-fold}
@@ -16,7 +16,7 @@ use Rattle.langtag_likely.specs.Likely.{or_else}
 use Rattle.langtag_likely.specs.Nearness.{is_fallback, kept}
 use Rattle.langtag_likely.specs.declared.candidate.Pass.{Pass}
 use Rattle.langtag_likely.specs.declared.candidate.Pass.TheVariants.{Near, Acceptable, LookUp}
-use Rattle.langtag_likely.proofs.AlikeRanges.{far-alike, unlikely-alike}
+use Rattle.langtag_likely.proofs.AlikeRanges.{far-alike, unlikely-alike, cond-map}
 use Rattle.langtag_likely.proofs.DistanceCase.{both-alike}
 use Rattle.langtag_likely.proofs.LookUpAnswers.{ends_in_single-fold}
 
@@ -91,13 +91,7 @@ is_refused-fold elements tag =
 
 unrefused-fold : (elements : List Element) (tag : Option (List ℕ)) → unrefused (map folded elements) (option_map fold_text tag) ≡ option_map fold_text (unrefused elements tag)
 unrefused-fold elements None = refl
-unrefused-fold elements (Some tag) = by_test (is_refused elements tag) (is_refused-fold elements tag) refl
-  where
-    by_test :
-        (b : Bool) → is_refused (map folded elements) (fold_text tag) ≡ is_refused elements tag → is_refused elements tag ≡ b →
-        unrefused (map folded elements) (Some (fold_text tag)) ≡ option_map fold_text (unrefused elements (Some tag))
-    by_test true same is = rw (same, is) refl
-    by_test false same is = rw (same, is) refl
+unrefused-fold elements (Some tag) = rw (is_refused-fold elements tag) (cond-map (option_map fold_text) (is_refused elements tag) None (Some tag))
 
 -- ---- what is chosen
 

@@ -1,5 +1,5 @@
 -- Fields that are equal but for case have likely subtags that are.
-use Rattle.std.proofs.Common.{◌≡◌, ℕ, true, false, Bool, cond, List, [], ◌∷◌, Option, None, Some, option_map, refl, sym, ap, ◌∙◌}
+use Rattle.std.proofs.Common.{◌≡◌, ℕ, true, false, Bool, cond, List, [], ◌∷◌, Option, None, Some, option_map, refl, ap, ◌∙◌, subst}
 use Rattle.std.specs.Prelude.{◌&&◌, codes}
 use Rattle.std.specs.Option.{option_map_or}
 use Rattle.std.specs.Str.{bytes_eq}
@@ -80,27 +80,33 @@ AlikeOptions None (Some b) = ⊥
 AlikeOptions (Some a) None = ⊥
 AlikeOptions (Some a) (Some b) = AlikeFields a b
 
+-- what holds of none, and of fields that are alike, holds of these
+pub by_options :
+    (P : Option Fields → Option Fields → Type 0) → P None None → ((a b : Fields) → AlikeFields a b → P (Some a) (Some b)) → (o p : Option Fields) → AlikeOptions o p → P o p
+by_options P none some None None same = none
+by_options P none some None (Some b) same = absurd same
+by_options P none some (Some a) None same = absurd same
+by_options P none some (Some a) (Some b) same = some a b same
+
+-- what holds of a value twice holds of two that are the same
+pub by_same : {A : Type 0} (P : A → A → Type 0) → ((x : A) → P x x) → (x y : A) → x ≡ y → P x y
+by_same P each x y same = subst (P x) same (each x)
+
 pub added-alike : (a b : Fields) → AlikeFields a b → AlikeOptions (add_likely likely_subtags a) (add_likely likely_subtags b)
-added-alike a b h = by_rows (looked_up likely_subtags a) (looked_up likely_subtags b) (looked_up-alike a b h)
+added-alike a b h = by_same (λ o p. AlikeOptions (option_map (filled a) o) (option_map (filled b) p)) by_row _ _ (looked_up-alike a b h)
   where
-    by_rows : (o p : Option Fields) → o ≡ p → AlikeOptions (option_map (filled a) o) (option_map (filled b) p)
-    by_rows None None same = tt
-    by_rows None (Some w) same = absurd cc
-    by_rows (Some v) None same = absurd cc
-    by_rows (Some v) (Some w) same =
-        let one : v ≡ w = cc in
-        rw (← one) (filled-alike a b v h)
+    by_row : (o : Option Fields) → AlikeOptions (option_map (filled a) o) (option_map (filled b) o)
+    by_row None = tt
+    by_row (Some v) = filled-alike a b v h
 
 -- ---- and removed
 
 pub known-alike : (unknown a b : List ℕ) → Alike a b → Alike (known unknown a) (known unknown b)
-known-alike unknown a b h = by_test (are_alike unknown a) (are_alike unknown b) (are_alike-right unknown a b h)
+known-alike unknown a b h = by_same (λ s t. Alike (cond s [] a) (cond t [] b)) by_test _ _ (are_alike-right unknown a b h)
   where
-    by_test : (s t : Bool) → s ≡ t → Alike (cond s [] a) (cond t [] b)
-    by_test true true same = refl
-    by_test true false same = absurd cc
-    by_test false true same = absurd cc
-    by_test false false same = h
+    by_test : (t : Bool) → Alike (cond t [] a) (cond t [] b)
+    by_test true = refl
+    by_test false = h
 
 pub known_fields-alike : (a b : Fields) → AlikeFields a b → AlikeFields (known_fields a) (known_fields b)
 known_fields-alike a b h = record {
@@ -110,14 +116,9 @@ known_fields-alike a b h = record {
 }
 
 pub suffices-alike : (m n a b : Fields) → AlikeFields m n → AlikeFields a b → suffices likely_subtags m a ≡ suffices likely_subtags n b
-suffices-alike m n a b most few = by_options (add_likely likely_subtags a) (add_likely likely_subtags b) (added-alike a b few)
-  where
-    by_options :
-        (o p : Option Fields) → AlikeOptions o p → option_map_or (λ form. are_alike_fields m form) o false ≡ option_map_or (λ form. are_alike_fields n form) p false
-    by_options None None same = refl
-    by_options None (Some w) same = absurd same
-    by_options (Some v) None same = absurd same
-    by_options (Some v) (Some w) same = fields-left m n v most ∙ fields-right n v w same
+suffices-alike m n a b most few =
+    by_options (λ o p. option_map_or (λ form. are_alike_fields m form) o false ≡ option_map_or (λ form. are_alike_fields n form) p false) refl
+    (λ v w same. fields-left m n v most ∙ fields-right n v w same) _ _ (added-alike a b few)
 
 least-alike : (m n : Fields) → AlikeFields m n → AlikeFields (least likely_subtags m) (least likely_subtags n)
 least-alike m n h =
@@ -168,10 +169,5 @@ least-alike m n h =
     by_tests false false false false false false e f g = h
 
 pub removed-alike : (a b : Fields) → AlikeFields a b → AlikeOptions (remove_likely likely_subtags a) (remove_likely likely_subtags b)
-removed-alike a b h = by_options (add_likely likely_subtags a) (add_likely likely_subtags b) (added-alike a b h)
-  where
-    by_options : (o p : Option Fields) → AlikeOptions o p → AlikeOptions (option_map (least likely_subtags) o) (option_map (least likely_subtags) p)
-    by_options None None same = tt
-    by_options None (Some w) same = absurd same
-    by_options (Some v) None same = absurd same
-    by_options (Some v) (Some w) same = least-alike v w same
+removed-alike a b h =
+    by_options (λ o p. AlikeOptions (option_map (least likely_subtags) o) (option_map (least likely_subtags) p)) tt least-alike _ _ (added-alike a b h)

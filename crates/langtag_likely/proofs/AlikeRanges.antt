@@ -1,7 +1,6 @@
 -- How near a tag is to a range does not change with the case of letters.
 use Rattle.std.proofs.Common.{◌≡◌, ℕ, ◌+◌, true, false, Bool, cond, List, [], ◌∷◌, map, Option, None, Some, option_map, refl, sym, ap, ◌∙◌}
 use Rattle.std.specs.Prelude.{codes}
-use Rattle.std.specs.Str.{bytes_eq}
 use Rattle.std.specs.Option.{option_map_or}
 use Rattle.langtag_scan.specs.Case.{Alike, are_alike, fold_text}
 use Rattle.langtag_scan.specs.CaseLaws.{are_alike-decides}
@@ -16,7 +15,7 @@ use Rattle.langtag_likely.specs.Likely.{Fields, known, without_region}
 use Rattle.langtag_likely.specs.Matching.{matching_fields}
 use Rattle.langtag_likely.specs.Nearness.{far, text_form, is_form, unlikely, unlikely_form}
 use Rattle.langtag_likely.specs.TextFields.{text_fields, fields_of_subtags, language_of, after_language, script_of, after_script, region_of}
-use Rattle.langtag_likely.proofs.AlikeFields.{AlikeFields, AlikeOptions, are_alike-right, suffices-alike}
+use Rattle.langtag_likely.proofs.AlikeFields.{AlikeFields, AlikeOptions, are_alike-right, suffices-alike, by_options, by_same, are_alike-left}
 use Rattle.langtag_likely.proofs.DistanceCase.{forms-alike, matching-alike}
 
 -- ---- bytes and subtags
@@ -42,56 +41,32 @@ is_region-fold s = rw (length-fold s, all-fold is_letter is_letter-fold s, all-f
 
 -- ---- the fields of subtags
 
+pub cond-map : {A B : Type 0} (f : A → B) (b : Bool) (x y : A) → cond b (f x) (f y) ≡ f (cond b x y)
+cond-map f true x y = refl
+cond-map f false x y = refl
+
 language_of-fold : (language : List ℕ) (subtags : List (List ℕ)) → language_of (fold_text language) (map fold_text subtags) ≡ fold_text (language_of language subtags)
 language_of-fold language [] = refl
-language_of-fold language (s ∷ others) = by_test (is_extended s) (is_extended-fold s) refl (language_of-fold s others)
-  where
-    by_test :
-        (b : Bool) → is_extended (fold_text s) ≡ is_extended s → is_extended s ≡ b → language_of (fold_text s) (map fold_text others) ≡ fold_text (language_of s others) →
-        language_of (fold_text language) (map fold_text (s ∷ others)) ≡ fold_text (language_of language (s ∷ others))
-    by_test true same is rest = rw (same, is) rest
-    by_test false same is rest = rw (same, is) refl
+language_of-fold language (s ∷ others) = rw (is_extended-fold s, language_of-fold s others) (cond-map fold_text (is_extended s) (language_of s others) language)
 
 after_language-fold : (subtags : List (List ℕ)) → after_language (map fold_text subtags) ≡ map fold_text (after_language subtags)
 after_language-fold [] = refl
-after_language-fold (s ∷ others) = by_test (is_extended s) (is_extended-fold s) refl (after_language-fold others)
-  where
-    by_test :
-        (b : Bool) → is_extended (fold_text s) ≡ is_extended s → is_extended s ≡ b → after_language (map fold_text others) ≡ map fold_text (after_language others) →
-        after_language (map fold_text (s ∷ others)) ≡ map fold_text (after_language (s ∷ others))
-    by_test true same is rest = rw (same, is) rest
-    by_test false same is rest = rw (same, is) refl
+after_language-fold (s ∷ others) = rw (is_extended-fold s, after_language-fold others) (cond-map (map fold_text) (is_extended s) (after_language others) (s ∷ others))
 
 script_of-fold : (subtags : List (List ℕ)) → script_of (map fold_text subtags) ≡ fold_text (script_of subtags)
 script_of-fold [] = refl
-script_of-fold (s ∷ others) = by_test (is_script s) (is_script-fold s) refl
-  where
-    by_test : (b : Bool) → is_script (fold_text s) ≡ is_script s → is_script s ≡ b → script_of (map fold_text (s ∷ others)) ≡ fold_text (script_of (s ∷ others))
-    by_test true same is = rw (same, is) refl
-    by_test false same is = rw (same, is) refl
+script_of-fold (s ∷ others) = rw (is_script-fold s) (cond-map fold_text (is_script s) s [])
 
 after_script-fold : (subtags : List (List ℕ)) → after_script (map fold_text subtags) ≡ map fold_text (after_script subtags)
 after_script-fold [] = refl
-after_script-fold (s ∷ others) = by_test (is_script s) (is_script-fold s) refl
-  where
-    by_test : (b : Bool) → is_script (fold_text s) ≡ is_script s → is_script s ≡ b → after_script (map fold_text (s ∷ others)) ≡ map fold_text (after_script (s ∷ others))
-    by_test true same is = rw (same, is) refl
-    by_test false same is = rw (same, is) refl
+after_script-fold (s ∷ others) = rw (is_script-fold s) (cond-map (map fold_text) (is_script s) others (s ∷ others))
 
 region_of-fold : (subtags : List (List ℕ)) → region_of (map fold_text subtags) ≡ fold_text (region_of subtags)
 region_of-fold [] = refl
-region_of-fold (s ∷ others) = by_test (is_region s) (is_region-fold s) refl
-  where
-    by_test : (b : Bool) → is_region (fold_text s) ≡ is_region s → is_region s ≡ b → region_of (map fold_text (s ∷ others)) ≡ fold_text (region_of (s ∷ others))
-    by_test true same is = rw (same, is) refl
-    by_test false same is = rw (same, is) refl
+region_of-fold (s ∷ others) = rw (is_region-fold s) (cond-map fold_text (is_region s) s [])
 
 known-fold : (unknown text : List ℕ) → known unknown (fold_text text) ≡ fold_text (known unknown text)
-known-fold unknown text = by_test (are_alike unknown text) (are_alike-right unknown (fold_text text) text (fold_text-twice text)) refl
-  where
-    by_test : (b : Bool) → are_alike unknown (fold_text text) ≡ are_alike unknown text → are_alike unknown text ≡ b → known unknown (fold_text text) ≡ fold_text (known unknown text)
-    by_test true same is = rw (same, is) refl
-    by_test false same is = rw (same, is) refl
+known-fold unknown text = rw (are_alike-right unknown (fold_text text) text (fold_text-twice text)) (cond-map fold_text (are_alike unknown text) [] text)
 
 abbrev fold_fields : Fields → Fields
 fold_fields f = record { language = fold_text f.language; script = fold_text f.script; region = fold_text f.region }
@@ -99,22 +74,18 @@ fold_fields f = record { language = fold_text f.language; script = fold_text f.s
 fields_of_subtags-fold : (subtags : List (List ℕ)) → fields_of_subtags (map fold_text subtags) ≡ option_map fold_fields (fields_of_subtags subtags)
 fields_of_subtags-fold [] = refl
 fields_of_subtags-fold (s ∷ others) =
-    by_test (is_primary s) (is_primary-fold s) refl
-    (ap (λ l. language_of l (map fold_text others)) (known-fold (codes "und") s) ∙ language_of-fold (known (codes "und") s) others)
-    (ap (λ t. known (codes "Zzzz") (script_of t)) (after_language-fold others) ∙ ap (known (codes "Zzzz")) (script_of-fold (after_language others)) ∙ known-fold (codes "Zzzz") (script_of (after_language others)))
-    (ap (λ t. known (codes "ZZ") (region_of (after_script t))) (after_language-fold others)
+    let language = ap (λ l. language_of l (map fold_text others)) (known-fold (codes "und") s) ∙ language_of-fold (known (codes "und") s) others in
+    let script = ap (λ t. known (codes "Zzzz") (script_of t)) (after_language-fold others) ∙ ap (known (codes "Zzzz")) (script_of-fold (after_language others)) ∙ known-fold (codes "Zzzz") (script_of (after_language others)) in
+    let region =
+    ap (λ t. known (codes "ZZ") (region_of (after_script t))) (after_language-fold others)
     ∙ ap (λ t. known (codes "ZZ") (region_of t)) (after_script-fold (after_language others))
     ∙ ap (known (codes "ZZ")) (region_of-fold (after_script (after_language others)))
-    ∙ known-fold (codes "ZZ") (region_of (after_script (after_language others))))
+    ∙ known-fold (codes "ZZ") (region_of (after_script (after_language others))) in
+    rw (is_primary-fold s, language, script, region) (by_test (is_primary s) _)
   where
-    by_test :
-        (b : Bool) → is_primary (fold_text s) ≡ is_primary s → is_primary s ≡ b →
-        language_of (known (codes "und") (fold_text s)) (map fold_text others) ≡ fold_text (language_of (known (codes "und") s) others) →
-        known (codes "Zzzz") (script_of (after_language (map fold_text others))) ≡ fold_text (known (codes "Zzzz") (script_of (after_language others))) →
-        known (codes "ZZ") (region_of (after_script (after_language (map fold_text others)))) ≡ fold_text (known (codes "ZZ") (region_of (after_script (after_language others)))) →
-        fields_of_subtags (map fold_text (s ∷ others)) ≡ option_map fold_fields (fields_of_subtags (s ∷ others))
-    by_test true same is l t r = rw (same, is, l, t, r) refl
-    by_test false same is l t r = rw (same, is) refl
+    by_test : (b : Bool) (f : Fields) → cond b (Some (fold_fields f)) None ≡ option_map fold_fields (cond b (Some f) None)
+    by_test true f = refl
+    by_test false f = refl
 
 text_fields-fold : (text : List ℕ) → text_fields (fold_text text) ≡ option_map fold_fields (text_fields text)
 unfolding text_fields
@@ -132,22 +103,16 @@ same_fields (Some a) (Some b) same =
 
 pub text_form-alike : (a b : List ℕ) → Alike a b → AlikeOptions (text_form a) (text_form b)
 unfolding text_form
-text_form-alike a b alike = by_test (are_alike (hyphened a) (codes "und")) (are_alike (hyphened b) (codes "und")) (ap (λ t. on_und t) read)
-    (sym (text_fields-fold (hyphened a)) ∙ ap text_fields read ∙ text_fields-fold (hyphened b))
+text_form-alike a b alike =
+    by_same (λ s t. AlikeOptions (cond s None (option_map matching_fields (text_fields (hyphened a)))) (cond t None (option_map matching_fields (text_fields (hyphened b))))) by_test _ _
+    (are_alike-left (hyphened a) (hyphened b) (codes "und") read)
   where
     read : Alike (hyphened a) (hyphened b)
     read = hyphened-alike a b alike
 
-    on_und : List ℕ → Bool
-    on_und t = bytes_eq t (fold_text (codes "und"))
-
-    by_test :
-        (s t : Bool) → s ≡ t → option_map fold_fields (text_fields (hyphened a)) ≡ option_map fold_fields (text_fields (hyphened b)) →
-        AlikeOptions (cond s None (option_map matching_fields (text_fields (hyphened a)))) (cond t None (option_map matching_fields (text_fields (hyphened b))))
-    by_test true true same fields = tt
-    by_test true false same fields = absurd cc
-    by_test false true same fields = absurd cc
-    by_test false false same fields = same_fields (text_fields (hyphened a)) (text_fields (hyphened b)) fields
+    by_test : (t : Bool) → AlikeOptions (cond t None (option_map matching_fields (text_fields (hyphened a)))) (cond t None (option_map matching_fields (text_fields (hyphened b))))
+    by_test true = tt
+    by_test false = same_fields (text_fields (hyphened a)) (text_fields (hyphened b)) (sym (text_fields-fold (hyphened a)) ∙ ap text_fields read ∙ text_fields-fold (hyphened b))
 
 pub far-alike : (a b c d : List ℕ) → Alike a b → Alike c d → far a c ≡ far b d
 unfolding far
@@ -161,12 +126,9 @@ no_distance a b same =
 -- what is alike is at no distance
 pub far-none : (a b : List ℕ) → Alike a b → far a b ≡ 0
 unfolding far
-far-none a b alike = by_forms (text_form a) (text_form b) (text_form-alike a b alike) ((are_alike-decides a b).1 alike)
-  where
-    by_forms : (f g : Option Fields) → AlikeOptions f g → are_alike a b ≡ true → distance_of_forms a b f g ≡ 0
-    by_forms None g forms same = rw same refl
-    by_forms (Some x) None forms same = absurd forms
-    by_forms (Some x) (Some y) forms same = no_distance x y forms
+far-none a b alike =
+    let same = (are_alike-decides a b).1 alike in
+    by_options (λ f g. distance_of_forms a b f g ≡ 0) (rw same refl) no_distance _ _ (text_form-alike a b alike)
 
 is_form-alike : (language region : List ℕ) (f g : Fields) → AlikeFields f g → is_form language region f ≡ is_form language region g
 is_form-alike language region f g same =
@@ -183,10 +145,4 @@ unlikely_form-alike f g same =
 
 pub unlikely-alike : (a b : List ℕ) → Alike a b → unlikely a ≡ unlikely b
 unfolding unlikely
-unlikely-alike a b alike = by_forms (text_form a) (text_form b) (text_form-alike a b alike)
-  where
-    by_forms : (f g : Option Fields) → AlikeOptions f g → option_map_or unlikely_form f 2 ≡ option_map_or unlikely_form g 2
-    by_forms None None same = refl
-    by_forms None (Some y) same = absurd same
-    by_forms (Some x) None same = absurd same
-    by_forms (Some x) (Some y) same = unlikely_form-alike x y same
+unlikely-alike a b alike = by_options (λ f g. option_map_or unlikely_form f 2 ≡ option_map_or unlikely_form g 2) refl unlikely_form-alike _ _ (text_form-alike a b alike)

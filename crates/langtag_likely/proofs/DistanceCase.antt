@@ -9,62 +9,43 @@ use Rattle.langtag_scan.specs.Tag.{IsNormal}
 use Rattle.langtag_scan.proofs.CaseLaw.{alike_normal, alike_parts}
 use Rattle.langtag_registry.proofs.AlikeForms.{spelled_alike}
 use Rattle.langtag_likely.specs.Distance as Distance
-use Rattle.langtag_likely.specs.Likely.{Fields, are_alike_fields, likely_for, language_alone, without_region, add_likely}
-use Rattle.langtag_likely.specs.LikelySubtags.{likely_subtags}
+use Rattle.langtag_likely.specs.Likely.{Fields, are_alike_fields, language_alone, without_region}
 use Rattle.langtag_likely.specs.Matching.{OfForm, language_replaced, region_replaced, region_alone, with_language, with_region, without_language, keeping_language, most_unknown, most_likely, matching_fields, matching_form}
 use Rattle.langtag_likely.specs.MatchingData.{language_aliases, region_aliases, language_rules, script_rules}
 use Rattle.langtag_likely.specs.Maximal.{fields_of}
 use Rattle.langtag_likely.specs.Rules.{Rule, fits, distance_by}
-use Rattle.langtag_likely.proofs.AlikeFields.{AlikeFields, AlikeOptions, are_alike-left, are_alike-right, fields-right, likely_for-alike, alone_alike, or_other-alike, added-alike}
+use Rattle.langtag_likely.proofs.AlikeFields.{AlikeFields, AlikeOptions, are_alike-left, are_alike-right, fields-right, likely_for-alike, alone_alike, or_other-alike, added-alike, by_options, by_same}
 use Rattle.langtag_likely.proofs.FormsTwice.{fields-alike}
 
 -- ---- the matching form
 
 language-alike : (a b : Fields) → AlikeFields a b → AlikeFields (language_replaced a) (language_replaced b)
 unfolding language_replaced
-language-alike a b h = by_rows (likely_for language_aliases (language_alone a)) (likely_for language_aliases (language_alone b))
-    (likely_for-alike language_aliases (language_alone a) (language_alone b) (alone_alike a b h.language))
+language-alike a b h = by_same (λ o p. AlikeFields (option_map_or (with_language a) o a) (option_map_or (with_language b) p b)) by_row _ _ (likely_for-alike language_aliases (language_alone a) (language_alone b) (alone_alike a b h.language))
   where
-    by_rows : (o p : Option Fields) → o ≡ p → AlikeFields (option_map_or (with_language a) o a) (option_map_or (with_language b) p b)
-    by_rows None None same = h
-    by_rows None (Some w) same = absurd cc
-    by_rows (Some v) None same = absurd cc
-    by_rows (Some v) (Some w) same =
-        let one : v ≡ w = cc in
-        rw (← one) (record { language = refl; script = or_other-alike a.script b.script v.script h.script; region = or_other-alike a.region b.region v.region h.region })
+    by_row : (o : Option Fields) → AlikeFields (option_map_or (with_language a) o a) (option_map_or (with_language b) o b)
+    by_row None = h
+    by_row (Some v) = record { language = refl; script = or_other-alike a.script b.script v.script h.script; region = or_other-alike a.region b.region v.region h.region }
 
 region-alike : (a b : Fields) → AlikeFields a b → AlikeFields (region_replaced a) (region_replaced b)
 unfolding region_replaced
-region-alike a b h = by_rows (likely_for region_aliases (region_alone a)) (likely_for region_aliases (region_alone b))
-    (likely_for-alike region_aliases (region_alone a) (region_alone b) (record { language = refl; script = refl; region = h.region }))
+region-alike a b h = by_same (λ o p. AlikeFields (option_map_or (with_region a) o a) (option_map_or (with_region b) p b)) by_row _ _ (likely_for-alike region_aliases (region_alone a) (region_alone b) (record { language = refl; script = refl; region = h.region }))
   where
-    by_rows : (o p : Option Fields) → o ≡ p → AlikeFields (option_map_or (with_region a) o a) (option_map_or (with_region b) p b)
-    by_rows None None same = h
-    by_rows None (Some w) same = absurd cc
-    by_rows (Some v) None same = absurd cc
-    by_rows (Some v) (Some w) same =
-        let one : v ≡ w = cc in
-        rw (← one) (record { language = h.language; script = h.script; region = refl })
+    by_row : (o : Option Fields) → AlikeFields (option_map_or (with_region a) o a) (option_map_or (with_region b) o b)
+    by_row None = h
+    by_row (Some v) = record { language = h.language; script = h.script; region = refl }
 
 unknown-alike : (a b : Fields) → AlikeFields a b → AlikeFields (most_unknown a) (most_unknown b)
-unknown-alike a b h = by_options (add_likely likely_subtags (without_language a)) (add_likely likely_subtags (without_language b))
+unknown-alike a b h =
+    by_options (λ o p. AlikeFields (option_map_or (keeping_language a) o a) (option_map_or (keeping_language b) p b)) h
+    (λ v w same. record { language = h.language; script = same.script; region = same.region }) _ _
     (added-alike (without_language a) (without_language b) (record { language = refl; script = h.script; region = h.region }))
-  where
-    by_options : (o p : Option Fields) → AlikeOptions o p → AlikeFields (option_map_or (keeping_language a) o a) (option_map_or (keeping_language b) p b)
-    by_options None None same = h
-    by_options None (Some w) same = absurd same
-    by_options (Some v) None same = absurd same
-    by_options (Some v) (Some w) same = record { language = h.language; script = same.script; region = same.region }
 
 likely-alike : (a b : Fields) → AlikeFields a b → AlikeFields (most_likely a) (most_likely b)
 unfolding most_likely
-likely-alike a b h = by_options (add_likely likely_subtags a) (add_likely likely_subtags b) (added-alike a b h)
-  where
-    by_options : (o p : Option Fields) → AlikeOptions o p → AlikeFields (option_map_or (λ most. most) o (most_unknown a)) (option_map_or (λ most. most) p (most_unknown b))
-    by_options None None same = unknown-alike a b h
-    by_options None (Some w) same = absurd same
-    by_options (Some v) None same = absurd same
-    by_options (Some v) (Some w) same = same
+likely-alike a b h =
+    by_options (λ o p. AlikeFields (option_map_or (λ most. most) o (most_unknown a)) (option_map_or (λ most. most) p (most_unknown b))) (unknown-alike a b h)
+    (λ v w same. same) _ _ (added-alike a b h)
 
 pub matching-alike : (a b : Fields) → AlikeFields a b → AlikeFields (matching_fields a) (matching_fields b)
 matching-alike a b same = likely-alike _ _ (region-alike _ _ (language-alike a b same))
@@ -72,16 +53,12 @@ matching-alike a b same = likely-alike _ _ (region-alike _ _ (language-alike a b
 form-alike : (r q : Record) → AlikeRecords r q → AlikeOptions (matching_form r) (matching_form q)
 unfolding matching_form
 form-alike r q same =
-    by_tests (are_alike (codes "und") (spell r)) (are_alike (codes "und") (spell q)) (are_alike-right (codes "und") (spell r) (spell q) (spelled_alike r q same))
+    by_same (λ s t. AlikeOptions (cond s None (Some (matching_fields (fields_of r)))) (cond t None (Some (matching_fields (fields_of q))))) by_test _ _
+    (are_alike-right (codes "und") (spell r) (spell q) (spelled_alike r q same))
   where
-    fields : AlikeFields (matching_fields (fields_of r)) (matching_fields (fields_of q))
-    fields = matching-alike _ _ (fields-alike r q same)
-
-    by_tests : (s t : Bool) → s ≡ t → AlikeOptions (cond s None (Some (matching_fields (fields_of r)))) (cond t None (Some (matching_fields (fields_of q))))
-    by_tests true true same = tt
-    by_tests true false same = absurd cc
-    by_tests false true same = absurd cc
-    by_tests false false same = fields
+    by_test : (t : Bool) → AlikeOptions (cond t None (Some (matching_fields (fields_of r)))) (cond t None (Some (matching_fields (fields_of q))))
+    by_test true = tt
+    by_test false = matching-alike _ _ (fields-alike r q same)
 
 -- what is said of the form of a text is said of that of a text that is alike
 of_alike :

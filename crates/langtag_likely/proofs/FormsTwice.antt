@@ -12,7 +12,7 @@ use Rattle.langtag_likely.specs.Likely.{Fields, or_other, known, known_fields, a
 use Rattle.langtag_likely.specs.LikelySubtags.{likely_subtags}
 use Rattle.langtag_likely.specs.Maximal.{fields_of, language_field, put_fields, put_language, subtag_of, maximal_record, minimal_record}
 use Rattle.langtag_likely.proofs.AddedTwice.{AreKnown, added, either_way, or_other_there, known_stays, known_goes}
-use Rattle.langtag_likely.proofs.AlikeFields.{AlikeFields, AlikeOptions, are_alike-right, known-alike, added-alike, removed-alike}
+use Rattle.langtag_likely.proofs.AlikeFields.{AlikeFields, AlikeOptions, are_alike-right, known-alike, added-alike, removed-alike, by_options, by_same}
 use Rattle.langtag_likely.proofs.LeastTwice.{has_form}
 use Rattle.langtag_likely.proofs.SettledRows.{is_there}
 
@@ -168,13 +168,11 @@ or_other-both (x ∷ a) (y ∷ b) v w h k = h
 
 put_language-alike :
     (p q : List ℕ) (es fs : List (List ℕ)) (l m : List ℕ) → Alike p q → map fold_text es ≡ map fold_text fs → Alike l m → Alike (put_language p es l) (put_language q fs m)
-put_language-alike p q [] [] l m h all k = by_tests (are_alike (codes "und") p) (are_alike (codes "und") q) (are_alike-right (codes "und") p q h)
+put_language-alike p q [] [] l m h all k = by_same (λ s t. Alike (cond s (or_other l p) p) (cond t (or_other m q) q)) by_test _ _ (are_alike-right (codes "und") p q h)
   where
-    by_tests : (s t : Bool) → s ≡ t → Alike (cond s (or_other l p) p) (cond t (or_other m q) q)
-    by_tests true true same = or_other-both l m p q k h
-    by_tests true false same = absurd cc
-    by_tests false true same = absurd cc
-    by_tests false false same = h
+    by_test : (t : Bool) → Alike (cond t (or_other l p) p) (cond t (or_other m q) q)
+    by_test true = or_other-both l m p q k h
+    by_test false = h
 put_language-alike p q [] (f ∷ fs) l m h all k = absurd cc
 put_language-alike p q (e ∷ es) [] l m h all k = absurd cc
 put_language-alike p q (e ∷ es) (f ∷ fs) l m h all k = h
@@ -218,10 +216,7 @@ fields-alike r q same = record {
 }
 
 option-alike : (r q : Record) (o p : Option Fields) → AlikeRecords r q → AlikeOptions o p → AlikeRecords (option_map_or (put_fields r) o r) (option_map_or (put_fields q) p q)
-option-alike r q None None same h = same
-option-alike r q None (Some b) same h = absurd h
-option-alike r q (Some a) None same h = absurd h
-option-alike r q (Some a) (Some b) same h = put-alike r q a b same h
+option-alike r q o p same = by_options (λ o p. AlikeRecords (option_map_or (put_fields r) o r) (option_map_or (put_fields q) p q)) same (λ a b alike. put-alike r q a b same alike) o p
 
 pub maximal-alike : (r q : Record) → AlikeRecords r q → AlikeRecords (maximal_record r) (maximal_record q)
 unfolding maximal_record

@@ -18,7 +18,7 @@ use Rattle.langtag_likely.specs.MatchingData.{language_aliases, language_rules}
 use Rattle.langtag_likely.specs.Nearness.{far, text_form}
 use Rattle.langtag_likely.specs.Rules.{Rule, distance_by}
 use Rattle.langtag_likely.specs.TextFields.{language_of, parts, text_fields}
-use Rattle.langtag_likely.proofs.AlikeFields.{AlikeOptions}
+use Rattle.langtag_likely.proofs.AlikeFields.{by_options}
 use Rattle.langtag_likely.proofs.AlikeRanges.{text_form-alike}
 use Rattle.langtag_likely.proofs.MatchingTables.{aliases_lead}
 use Rattle.langtag_likely.proofs.NearForms.{completed_language}
@@ -174,12 +174,8 @@ language_far desired supported apart other =
 -- what is alike has a form or has none
 form_alone : (range tag : List ℕ) (f : Fields) → text_form (hyphened range) ≡ Some f → text_form tag ≡ None → are_alike (hyphened range) tag ≡ false
 form_alone range tag f some none = false_from_ne_true (are_alike (hyphened range) tag) (λ yes.
-    by_forms (text_form (hyphened range)) (text_form tag) (text_form-alike (hyphened range) tag ((are_alike-decides (hyphened range) tag).0 yes)) some none)
-  where
-    by_forms : (a b : Option Fields) → AlikeOptions a b → a ≡ Some f → b ≡ None → ⊥
-    by_forms None b alike is not = cc
-    by_forms (Some a) None alike is not = alike
-    by_forms (Some a) (Some b) alike is not = cc
+    by_options (λ a b. a ≡ Some f → b ≡ None → ⊥) (λ is not. cc) (λ a b alike is not. cc) _ _
+    (text_form-alike (hyphened range) tag ((are_alike-decides (hyphened range) tag).0 yes)) some none)
 
 lone_language : (f : Fields) (letters : ℕ × ℕ) → lone_head (Some f) ≡ Some letters → (is_lone f.language ≡ true) × (head f.language ≡ Some letters)
 lone_language f letters is = by_test (is_lone f.language) is

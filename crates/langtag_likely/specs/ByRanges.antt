@@ -1,4 +1,4 @@
--- The choice range by range, among tags of which none is refused. Contracts of private functions alone speak of this page.
+-- The choice range by range, over all tags, whoever is refused. Contracts of private functions alone speak of this page.
 use Rattle.std.specs.Prelude.{ℕ, ◌+◌, ◌-◌, Bool, false, ◌==◌, ◌&&◌, ◌||◌, List, [], ◌∷◌, Option, Some, None, codes, if◌then◌else◌, nat_lt}
 use Rattle.langtag_match.specs.AcceptLanguage.{Element}
 use Rattle.langtag_likely.specs.Best.{as_candidate, first_of}
