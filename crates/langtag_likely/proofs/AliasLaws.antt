@@ -12,7 +12,8 @@ use Rattle.langtag_likely.specs.Numbers.{first_index, name_at}
 use Rattle.langtag_likely.proofs.MatchingTables.{aliases_alone, alias_languages, alias_scripts, alias_regions, region_aliases_alone, region_alias_languages, region_alias_scripts, region_alias_names}
 use Rattle.langtag_likely.proofs.PairNumbers.{is_region_alone, region_number, region-tells}
 use Rattle.langtag_likely.proofs.RowLaws.{is_language, language_number, language-tells}
-use Rattle.langtag_likely.proofs.RowsFound.{no_row, found_by_number}
+use Rattle.langtag_likely.proofs.RowsFound.{found_by_number}
+use Rattle.langtag_likely.specs.Rows.{no_row}
 
 -- what a list has at an index, where another list has the same
 at_index :

@@ -3,7 +3,7 @@ use Rattle.std.proofs.Common.{◌≡◌, true, ltb, length, map, refl}
 use Rattle.std.specs.Prelude.{[]}
 use Rattle.std.specs.List.{list_all}
 use Rattle.langtag_scan.specs.Case.{fold_byte}
-use Rattle.langtag_scan.specs.Class.{is_letter, is_digit, are_alphanumeric, is_primary, is_script, is_region}
+use Rattle.langtag_scan.specs.Class.{is_letter, is_digit, is_primary, is_script, is_region}
 use Rattle.langtag_scan.specs.Case.{folded_number}
 use Rattle.langtag_registry.specs.Numbers.{letter_number}
 use Rattle.langtag_likely.specs.declared.matching_tables.TheConstants as table
@@ -158,62 +158,30 @@ pub maghreb_inside_numbers : table.MAGHREB_INSIDE ≡ map folded_number maghreb.
 unfolding maghreb list.maghreb_inside folded_number fold_byte
 maghreb_inside_numbers = refl
 
-pub maghreb_inside_plain : list_all are_alphanumeric maghreb.inside ≡ true
-unfolding maghreb list.maghreb_inside is_letter is_digit fold_byte
-maghreb_inside_plain = refl
-
 pub maghreb_partly_numbers : table.MAGHREB_PARTLY ≡ map folded_number maghreb.partly
 unfolding maghreb list.maghreb_partly folded_number fold_byte
 maghreb_partly_numbers = refl
-
-pub maghreb_partly_plain : list_all are_alphanumeric maghreb.partly ≡ true
-unfolding maghreb list.maghreb_partly is_letter is_digit fold_byte
-maghreb_partly_plain = refl
 
 pub en_us_inside_numbers : table.EN_US_INSIDE ≡ map folded_number en_us.inside
 unfolding en_us list.en_us_inside folded_number fold_byte
 en_us_inside_numbers = refl
 
-pub en_us_inside_plain : list_all are_alphanumeric en_us.inside ≡ true
-unfolding en_us list.en_us_inside is_letter is_digit fold_byte
-en_us_inside_plain = refl
-
 pub en_us_partly_numbers : table.EN_US_PARTLY ≡ map folded_number en_us.partly
 unfolding en_us list.en_us_partly folded_number fold_byte
 en_us_partly_numbers = refl
-
-pub en_us_partly_plain : list_all are_alphanumeric en_us.partly ≡ true
-unfolding en_us list.en_us_partly is_letter is_digit fold_byte
-en_us_partly_plain = refl
 
 pub americas_inside_numbers : table.AMERICAS_INSIDE ≡ map folded_number americas.inside
 unfolding americas list.americas_inside folded_number fold_byte
 americas_inside_numbers = refl
 
-pub americas_inside_plain : list_all are_alphanumeric americas.inside ≡ true
-unfolding americas list.americas_inside is_letter is_digit fold_byte
-americas_inside_plain = refl
-
 pub americas_partly_numbers : table.AMERICAS_PARTLY ≡ map folded_number americas.partly
 unfolding americas list.americas_partly folded_number fold_byte
 americas_partly_numbers = refl
-
-pub americas_partly_plain : list_all are_alphanumeric americas.partly ≡ true
-unfolding americas list.americas_partly is_letter is_digit fold_byte
-americas_partly_plain = refl
 
 pub cnsar_inside_numbers : table.CNSAR_INSIDE ≡ map folded_number cnsar.inside
 unfolding cnsar list.cnsar_inside folded_number fold_byte
 cnsar_inside_numbers = refl
 
-pub cnsar_inside_plain : list_all are_alphanumeric cnsar.inside ≡ true
-unfolding cnsar list.cnsar_inside is_letter is_digit fold_byte
-cnsar_inside_plain = refl
-
 pub cnsar_partly_numbers : table.CNSAR_PARTLY ≡ map folded_number cnsar.partly
 unfolding cnsar list.cnsar_partly folded_number fold_byte
 cnsar_partly_numbers = refl
-
-pub cnsar_partly_plain : list_all are_alphanumeric cnsar.partly ≡ true
-unfolding cnsar list.cnsar_partly is_letter is_digit fold_byte
-cnsar_partly_plain = refl

@@ -11,9 +11,9 @@ use Rattle.langtag_registry.proofs.Letters.{letter_number-tells}
 use Rattle.langtag_likely.specs.Likely.{Fields, Likely, are_alike_fields, likely_for, or_else, filled}
 use Rattle.langtag_likely.specs.LikelySubtags.{language_rows, other_rows, likely_subtags}
 use Rattle.langtag_likely.specs.Numbers.{first_index, key_number}
-use Rattle.langtag_likely.specs.Rows.{of_language, places_of, places_for}
+use Rattle.langtag_likely.specs.Rows.{of_language, places_of, places_for, no_row}
 use Rattle.langtag_likely.proofs.KeyNumbers.{are_plain, is_numbered, key_number-tells}
-use Rattle.langtag_likely.proofs.RowsFound.{no_row, found_by_number, likely_for-append, is_alone, long_nowhere, alone_nowhere, other_nowhere}
+use Rattle.langtag_likely.proofs.RowsFound.{found_by_number, likely_for-append, is_alone, long_nowhere, alone_nowhere, other_nowhere}
 use Rattle.langtag_likely.proofs.TableRows.{languages_alone, languages_short, languages_only, others_numbered, others_other, others_short}
 
 abbrev pub is_language : Likely → Bool

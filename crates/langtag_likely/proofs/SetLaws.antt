@@ -1,20 +1,24 @@
--- The regions of sets are of letters and digits.
-use Rattle.std.proofs.Common.{◌≡◌, true}
+-- The regions of sets are of letters and digits: by computation.
+use Rattle.std.proofs.Common.{◌≡◌, true, refl}
 use Rattle.std.specs.List.{list_all}
-use Rattle.langtag_scan.specs.Class.{are_alphanumeric}
+use Rattle.langtag_scan.specs.Case.{fold_byte}
+use Rattle.langtag_scan.specs.Class.{is_letter, is_digit, are_alphanumeric}
+use Rattle.langtag_likely.specs.Distance.{maghreb, en_us, americas, cnsar}
+use Rattle.langtag_likely.specs.MatchingData as list
 use Rattle.langtag_likely.specs.declared.region_distance.SetName.{SetName}
 use Rattle.langtag_likely.specs.declared.region_distance.SetName.TheVariants.{Maghreb, UnitedStates, Americas, HongKongAndMacao}
 use Rattle.langtag_likely.specs.Sets.{set_of}
-use Rattle.langtag_likely.proofs.MatchingTables as tables
 
 pub inside_plain : (set : SetName) → list_all are_alphanumeric (set_of set).inside ≡ true
-inside_plain Maghreb = tables.maghreb_inside_plain
-inside_plain UnitedStates = tables.en_us_inside_plain
-inside_plain Americas = tables.americas_inside_plain
-inside_plain HongKongAndMacao = tables.cnsar_inside_plain
+unfolding maghreb list.maghreb_inside en_us list.en_us_inside americas list.americas_inside cnsar list.cnsar_inside is_letter is_digit fold_byte
+inside_plain Maghreb = refl
+inside_plain UnitedStates = refl
+inside_plain Americas = refl
+inside_plain HongKongAndMacao = refl
 
 pub partly_plain : (set : SetName) → list_all are_alphanumeric (set_of set).partly ≡ true
-partly_plain Maghreb = tables.maghreb_partly_plain
-partly_plain UnitedStates = tables.en_us_partly_plain
-partly_plain Americas = tables.americas_partly_plain
-partly_plain HongKongAndMacao = tables.cnsar_partly_plain
+unfolding maghreb list.maghreb_partly en_us list.en_us_partly americas list.americas_partly cnsar list.cnsar_partly is_letter is_digit fold_byte
+partly_plain Maghreb = refl
+partly_plain UnitedStates = refl
+partly_plain Americas = refl
+partly_plain HongKongAndMacao = refl

@@ -1,5 +1,5 @@
 -- The tables have the rows of the lists: by computation.
-use Rattle.std.proofs.Common.{◌≡◌, true, ltb, length, map, refl}
+use Rattle.std.proofs.Common.{◌≡◌, true, length, map, refl}
 use Rattle.std.specs.Prelude.{◌&&◌}
 use Rattle.std.specs.List.{list_all}
 use Rattle.langtag_scan.specs.Case.{fold_byte}
@@ -91,20 +91,3 @@ regions_good = refl
 pub languages_good : list_all (λ name. is_language_field (name_text name)) table.LANGUAGE_NAMES ≡ true
 unfolding is_primary is_letter
 languages_good = refl
-
--- ---- the indices are inside
-
-pub language_scripts_inside : list_all (λ i. ltb i 166) table.LANGUAGE_SCRIPTS ≡ true
-language_scripts_inside = refl
-
-pub language_regions_inside : list_all (λ i. ltb i 256) table.LANGUAGE_REGIONS ≡ true
-language_regions_inside = refl
-
-pub other_languages_inside : list_all (λ i. ltb i 223) table.OTHER_LANGUAGES ≡ true
-other_languages_inside = refl
-
-pub other_scripts_inside : list_all (λ i. ltb i 166) table.OTHER_SCRIPTS ≡ true
-other_scripts_inside = refl
-
-pub other_regions_inside : list_all (λ i. ltb i 256) table.OTHER_REGIONS ≡ true
-other_regions_inside = refl

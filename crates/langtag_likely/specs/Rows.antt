@@ -1,7 +1,7 @@
 -- What the tables have. Contracts of private functions alone speak of this page.
 use Rattle.std.specs.Prelude.{ℕ, List, [], Option}
 use Rattle.std.specs.Option.{option_map}
-use Rattle.langtag_likely.specs.Likely.{Fields, likely_for}
+use Rattle.langtag_likely.specs.Likely.{Fields, Likely, likely_for}
 use Rattle.langtag_likely.specs.LikelySubtags.{language_rows}
 
 -- a language and no more
@@ -14,3 +14,7 @@ places_of to = record { language = []; script = to.script; region = to.region }
 
 abbrev pub places_for : List ℕ → Option Fields
 places_for language = option_map places_of (likely_for language_rows (of_language language))
+
+-- what stands past the end of a list
+abbrev pub no_row : Likely
+no_row = record { from = of_language []; to = of_language [] }

@@ -65,6 +65,7 @@ pub(crate) fn short_number(bytes: &[u8]) -> u32
 }
 
 /// Returns the letters of a text of two or three as the digits of a number in base 26.
+#[tactic(auto, using(langtag_registry::proofs::Letters::primary_length, langtag_registry::proofs::Letters::letter_at, langtag_registry::proofs::Letters::number_of_two, langtag_registry::proofs::Letters::number_of_three))]
 pub(crate) fn letter_number(bytes: &[u8]) -> usize
     requires primary { IsTrue (class.is_primary bytes.now) }
     requires short { length bytes.now ≤ 3 }

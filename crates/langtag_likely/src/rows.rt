@@ -1,18 +1,18 @@
 //! The rows of likely subtags, in tables: those of a language alone, and the others.
-ghost use Rattle.std.specs.Prelude.{◌≡◌, ◌≤◌, ◌<◌, IsTrue, [], length, map, slice_index_or};
+ghost use Rattle.std.specs.Prelude.{◌≡◌, ◌≤◌, ◌<◌, IsTrue, length, map, slice_index_or};
 ghost use Rattle.std.specs.Option.{option_map};
 ghost use Rattle.langtag_scan.specs.Class as class;
 ghost use Rattle.langtag_registry.specs.Numbers.{climbs_from, letter_number};
-ghost use Rattle.langtag_likely.specs.Good.{is_language_field, is_script_field, is_region_field};
+ghost use Rattle.langtag_likely.specs.Good.{is_language_field};
 ghost use Rattle.langtag_likely.specs.Likely.{filled, likely_for};
 ghost use Rattle.langtag_likely.specs.LikelySubtags.{likely_subtags, language_rows, other_rows};
 ghost use Rattle.langtag_likely.specs.Numbers.{key_number};
-ghost use Rattle.langtag_likely.specs.Rows.{places_for};
+ghost use Rattle.langtag_likely.specs.Rows.{no_row, places_for, places_of};
 ghost use Rattle.langtag_likely.specs.Texts.{field_texts};
 ghost use Rattle.langtag_likely.specs.declared.tables.TheConstants.{SCRIPT_KEYS, REGION_KEYS};
 
 use crate::keys::{index_of, index_of_short, letter_number, place};
-use crate::names::name_at;
+use crate::names::name_in;
 use crate::tables;
 use crate::tag_fields::TagFields;
 
@@ -37,11 +37,7 @@ fn language_row(language: &[u8]) -> Option<TagFields<'static>>
     ensures { option_map field_texts result ≡ places_for language.now }
 {
     let index = index_of_short(language_keys(), letter_number(language) as u16)?;
-    Some(TagFields {
-        language: b"",
-        script: language_script(index),
-        region: language_region(index),
-    })
+    Some(language_places(index))
 }
 
 /// Returns the right side of a row whose left side is no language alone.
@@ -50,11 +46,7 @@ fn other_row(key: TagFields<'_>) -> Option<TagFields<'static>>
     ensures { option_map field_texts result ≡ likely_for other_rows (field_texts key.entry) }
 {
     let index = index_of(other_keys(), key_number(key))?;
-    Some(TagFields {
-        language: other_language(index),
-        script: other_script(index),
-        region: other_region(index),
-    })
+    Some(other_fields(index))
 }
 
 /// Returns fields as one number, which is not 0.
@@ -113,43 +105,28 @@ fn other_keys() -> &'static [u32]
     &tables::OTHER_KEYS
 }
 
-fn language_script(index: usize) -> &'static [u8]
+/// Returns the script and the region of the language at an index.
+#[tactic(auto, using(crate::proofs::TableRows::language_count))]
+fn language_places(index: usize) -> TagFields<'static>
     requires { index < length language_rows }
-    ensures text { result.now ≡ slice_index_or (map (λ row. row.to.script) language_rows) index [] }
-    ensures in_class { IsTrue (is_script_field result.now) }
+    ensures { field_texts result ≡ places_of (slice_index_or language_rows index no_row).to }
 {
-    name_at(&tables::SCRIPT_NAMES, tables::LANGUAGE_SCRIPTS[index])
+    TagFields {
+        language: b"",
+        script: name_in(&tables::SCRIPT_NAMES, &tables::LANGUAGE_SCRIPTS, index),
+        region: name_in(&tables::REGION_NAMES, &tables::LANGUAGE_REGIONS, index),
+    }
 }
 
-fn language_region(index: usize) -> &'static [u8]
-    requires { index < length language_rows }
-    ensures text { result.now ≡ slice_index_or (map (λ row. row.to.region) language_rows) index [] }
-    ensures in_class { IsTrue (is_region_field result.now) }
-{
-    name_at(&tables::REGION_NAMES, tables::LANGUAGE_REGIONS[index])
-}
-
-/// Returns the language of the right side, which is empty where none is known.
-fn other_language(index: usize) -> &'static [u8]
+/// Returns the right side at an index. Its language is empty where none is known.
+#[tactic(auto, using(crate::proofs::TableRows::other_count))]
+fn other_fields(index: usize) -> TagFields<'static>
     requires { index < length other_rows }
-    ensures text { result.now ≡ slice_index_or (map (λ row. row.to.language) other_rows) index [] }
-    ensures in_class { IsTrue (is_language_field result.now) }
+    ensures { field_texts result ≡ (slice_index_or other_rows index no_row).to }
 {
-    name_at(&tables::LANGUAGE_NAMES, tables::OTHER_LANGUAGES[index])
-}
-
-fn other_script(index: usize) -> &'static [u8]
-    requires { index < length other_rows }
-    ensures text { result.now ≡ slice_index_or (map (λ row. row.to.script) other_rows) index [] }
-    ensures in_class { IsTrue (is_script_field result.now) }
-{
-    name_at(&tables::SCRIPT_NAMES, tables::OTHER_SCRIPTS[index])
-}
-
-fn other_region(index: usize) -> &'static [u8]
-    requires { index < length other_rows }
-    ensures text { result.now ≡ slice_index_or (map (λ row. row.to.region) other_rows) index [] }
-    ensures in_class { IsTrue (is_region_field result.now) }
-{
-    name_at(&tables::REGION_NAMES, tables::OTHER_REGIONS[index])
+    TagFields {
+        language: name_in(&tables::LANGUAGE_NAMES, &tables::OTHER_LANGUAGES, index),
+        script: name_in(&tables::SCRIPT_NAMES, &tables::OTHER_SCRIPTS, index),
+        region: name_in(&tables::REGION_NAMES, &tables::OTHER_REGIONS, index),
+    }
 }

@@ -5,7 +5,7 @@ use Rattle.langtag_likely.specs.Likely.{language_alone}
 use Rattle.langtag_likely.specs.MatchingData.{language_aliases}
 use Rattle.langtag_likely.specs.Texts.{field_texts}
 use Rattle.langtag_likely.proofs.AliasLaws.{alias_at, alias_found}
-use Rattle.langtag_likely.proofs.Columns.{column_good}
+use Rattle.langtag_likely.proofs.Columns.{name_good}
 use Rattle.langtag_likely.proofs.FieldClasses.{language_letters}
 use Rattle.langtag_likely.proofs.MatchingTables.{alias_count, aliases_short, alias_languages_good, alias_scripts_good}
 use Rattle.langtag_likely.proofs.RowsFound.{long_nowhere}
@@ -23,8 +23,8 @@ pub invariant_of-result : goal.invariant_of-result
 invariant_of-result c =
     let within : c.in_ok-index.index < 9 = omega (arith, c.in_ok-index.ensures.within, c.alias_keys.ensures.count) in
     record {
-      language_class = column_good is_language_field ALIAS_LANGUAGES c.name_at.result.now c.in_ok-index.index alias_languages_good within c.name_at.ensures;
-      script_class = column_good is_script_field ALIAS_SCRIPTS c.name_at-2.result.now c.in_ok-index.index alias_scripts_good within c.name_at-2.ensures;
+      language_class = name_good is_language_field ALIAS_LANGUAGES c.name_at.result.now c.in_ok-index.index alias_languages_good within c.name_at.ensures;
+      script_class = name_good is_script_field ALIAS_SCRIPTS c.name_at-2.result.now c.in_ok-index.index alias_scripts_good within c.name_at-2.ensures;
       region_class = refl;
     }
 

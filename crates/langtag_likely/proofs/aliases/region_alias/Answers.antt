@@ -4,7 +4,7 @@ use Rattle.langtag_likely.specs.Good.{is_region_field}
 use Rattle.langtag_likely.specs.MatchingData.{region_aliases}
 use Rattle.langtag_likely.specs.Texts.{field_texts}
 use Rattle.langtag_likely.proofs.AliasLaws.{region_at, region_found}
-use Rattle.langtag_likely.proofs.Columns.{column_good}
+use Rattle.langtag_likely.proofs.Columns.{name_good}
 use Rattle.langtag_likely.proofs.FieldClasses.{region_alphanumeric}
 use Rattle.langtag_likely.proofs.MatchingTables.{region_alias_count, region_aliases_good}
 use Rattle.langtag_likely.proofs.aliases.region_alias.Goals as goal
@@ -20,7 +20,7 @@ invariant_of-result c =
     record {
       language_class = refl;
       script_class = refl;
-      region_class = column_good is_region_field REGION_ALIAS_NAMES c.name_at.result.now c.in_ok-index.index region_aliases_good within c.name_at.ensures;
+      region_class = name_good is_region_field REGION_ALIAS_NAMES c.name_at.result.now c.in_ok-index.index region_aliases_good within c.name_at.ensures;
     }
 
 pub returns : goal.returns
