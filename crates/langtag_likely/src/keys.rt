@@ -53,6 +53,7 @@ pub(crate) fn place(keys: &[u32], text: &[u8]) -> u32
 }
 
 /// Returns the lowercase bytes of a text of at most four as the digits of one number.
+#[tactic(auto, using(langtag_scan::proofs::FoldedNumbers::digit_fits, langtag_scan::proofs::FoldedNumbers::fits_32, std::proofs::lemmas::List::Sums::fold_more), unfolding(langtag_scan::specs::Case::folded_number))]
 pub(crate) fn short_number(bytes: &[u8]) -> u32
     requires { length bytes.now ≤ 4 }
     ensures { result ≡ folded_number bytes.now }
@@ -80,6 +81,7 @@ pub(crate) fn letter_number(bytes: &[u8]) -> usize
 }
 
 /// Returns the place of a letter in the alphabet, from 1 on.
+#[tactic(auto, using(langtag_registry::proofs::Letters::letter_place))]
 fn letter_place(byte: u8) -> usize
     requires { IsTrue (class.is_letter byte) }
     ensures place { result ≡ letter byte }

@@ -115,6 +115,7 @@ fn write_modified(tag: LangTag<'_>, modifier: &[u8], buffer: &mut [u8]) -> usize
 }
 
 /// Returns the part that a modifier says; None of one that says nothing of the language.
+#[tactic(auto, using(crate::proofs::PosixLaws::valencia_spelled), unfolding(langtag_scan::specs::Class::is_script, langtag_scan::specs::Class::is_letter))]
 fn part_of(modifier: &[u8]) -> Option<Part<'static>>
     ensures { MatchOption result ((r : Record) → with_modifier modifier.now r ≡ r)
         (λ part. (old new : List ℕ) → SetsPart part old new → EachRecord old (λ r. Spells (with_modifier modifier.now r) new)) }

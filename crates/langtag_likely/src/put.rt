@@ -67,6 +67,7 @@ fn after_region<'a>(tag: NormalLangTag<'a>) -> &'a [u8]
 }
 
 /// Returns the language of a tag, or another in place of `und`.
+#[tactic(auto, using(crate::proofs::PutLaws::und_alone))]
 fn put_language<'a>(language: Language<'a>, other: &'a [u8]) -> &'a [u8]
     ensures { EachLanguageSpelling (language_text language.entry)
         (λ primary extended. result.now ≡ join (put_language primary extended other.now ∷ extended)) }

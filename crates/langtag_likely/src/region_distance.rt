@@ -100,6 +100,7 @@ pub(crate) enum SetName {
 
 impl SetName {
     /// Returns the regions of the set, and the groups of which all countries are in it.
+    #[tactic(auto, using(crate::proofs::MatchingTables::maghreb_inside_numbers, crate::proofs::MatchingTables::en_us_inside_numbers, crate::proofs::MatchingTables::americas_inside_numbers, crate::proofs::MatchingTables::cnsar_inside_numbers))]
     fn inside(self) -> &'static [u32]
         ensures numbers { result.now ≡ map folded_number (set_of self).inside }
         ensures climbs { IsTrue (climbs_from 0 result.now) }
@@ -113,6 +114,7 @@ impl SetName {
     }
 
     /// Returns the groups of which some countries are in the set, but not all.
+    #[tactic(auto, using(crate::proofs::MatchingTables::maghreb_partly_numbers, crate::proofs::MatchingTables::en_us_partly_numbers, crate::proofs::MatchingTables::americas_partly_numbers, crate::proofs::MatchingTables::cnsar_partly_numbers))]
     fn partly(self) -> &'static [u32]
         ensures numbers { result.now ≡ map folded_number (set_of self).partly }
         ensures climbs { IsTrue (climbs_from 0 result.now) }
@@ -125,14 +127,14 @@ impl SetName {
         }
     }
 
-    #[tactic(auto, using(crate::proofs::FieldClasses::region_length))]
+    #[tactic(auto, using(crate::proofs::FieldClasses::region_length, crate::proofs::FieldClasses::region_alphanumeric, crate::proofs::RulesFound::among_by_number, crate::proofs::SetLaws::inside_plain))]
     fn is_inside(self, fields: TagFields<'_>) -> bool
         ensures { result ≡ spec.is_among (set_of self).inside fields.entry.region.now }
     {
         index_of(self.inside(), short_number(fields.region)).is_some()
     }
 
-    #[tactic(auto, using(crate::proofs::FieldClasses::region_length))]
+    #[tactic(auto, using(crate::proofs::FieldClasses::region_length, crate::proofs::FieldClasses::region_alphanumeric, crate::proofs::RulesFound::among_by_number, crate::proofs::SetLaws::partly_plain))]
     fn is_partly_inside(self, fields: TagFields<'_>) -> bool
         ensures { result ≡ spec.is_among (set_of self).partly fields.entry.region.now }
     {

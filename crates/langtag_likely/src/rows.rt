@@ -17,6 +17,7 @@ use crate::tables;
 use crate::tag_fields::TagFields;
 
 /// Returns the right side of the row with this left side. Its language is empty where the left side has one.
+#[tactic(auto, using(crate::proofs::RowLaws::all_long, crate::proofs::RowLaws::all_alone, crate::proofs::RowLaws::all_other))]
 pub(crate) fn likely_for(key: TagFields<'_>) -> Option<TagFields<'static>>
     ensures { option_map (filled (field_texts key.entry)) (option_map field_texts result)
         ≡ option_map (filled (field_texts key.entry)) (likely_for likely_subtags (field_texts key.entry)) }
@@ -50,7 +51,7 @@ fn other_row(key: TagFields<'_>) -> Option<TagFields<'static>>
 }
 
 /// Returns fields as one number, which is not 0.
-#[tactic(auto, using(crate::proofs::FieldClasses::script_length, crate::proofs::FieldClasses::region_length))]
+#[tactic(auto, using(crate::proofs::FieldClasses::script_length, crate::proofs::FieldClasses::region_length), unfolding(crate::specs::Numbers::key_number))]
 pub(crate) fn key_number(key: TagFields<'_>) -> u32
     requires { length key.language.now ≤ 3 }
     ensures { result ≡ key_number (field_texts key.entry) }
@@ -89,6 +90,7 @@ fn region_keys() -> &'static [u32]
     &tables::REGION_KEYS
 }
 
+#[tactic(auto, using(crate::proofs::TableRows::language_numbers))]
 fn language_keys() -> &'static [u16]
     ensures numbers { result.now ≡ map (λ row. letter_number row.from.language) language_rows }
     ensures climbs { IsTrue (climbs_from 0 result.now) }
@@ -97,6 +99,7 @@ fn language_keys() -> &'static [u16]
     &tables::LANGUAGE_KEYS
 }
 
+#[tactic(auto, using(crate::proofs::TableRows::other_numbers))]
 fn other_keys() -> &'static [u32]
     ensures numbers { result.now ≡ map (λ row. key_number row.from) other_rows }
     ensures climbs { IsTrue (climbs_from 0 result.now) }

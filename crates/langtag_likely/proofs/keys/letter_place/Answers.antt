@@ -8,10 +8,3 @@ overflow_sub-result c =
     let same = c.from.ensures in
     let folded = c.into_smallcase.ensures in
     omega (arith, some, same, folded)
-
-pub returns-clause-most : goal.returns-clause-most
-returns-clause-most c =
-    let most = (letter_place c.args.byte c.requires).most in
-    let same = c.from.ensures in
-    let folded = c.into_smallcase.ensures in
-    omega (arith, most, same, folded)

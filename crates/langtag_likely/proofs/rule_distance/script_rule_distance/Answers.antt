@@ -1,15 +1,9 @@
-use Rattle.std.proofs.Common.{◌<◌, get_or, ap, arith, ltb}
+use Rattle.std.proofs.Common.{◌<◌, get_or, arith, ltb}
 use Rattle.langtag_likely.specs.declared.matching_tables.TheConstants.{SCRIPT_RULE_DISTANCES}
-use Rattle.langtag_likely.proofs.MatchingTables.{script_rule_count, script_rule_distances, script_rules_some, script_rules_most}
+use Rattle.langtag_likely.proofs.MatchingTables.{script_rule_count, script_rules_some, script_rules_most}
 use Rattle.langtag_likely.proofs.FirstIndex.{index_inside, test_at}
 use Rattle.langtag_likely.proofs.rule_distance.script_rule_distance.Goals as goal
 use Rattle.std.proofs.lemmas.Bool.{ltb-true}
-
-pub bounds-index : goal.bounds-index
-bounds-index c = omega (arith, c.requires, script_rule_count)
-
-pub returns-clause-distance : goal.returns-clause-distance
-returns-clause-distance c = ap (λ list. get_or list c.args.index 0) script_rule_distances
 
 pub returns-clause-some : goal.returns-clause-some
 returns-clause-some c =

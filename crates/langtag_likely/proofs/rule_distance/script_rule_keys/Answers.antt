@@ -4,8 +4,5 @@ use Rattle.langtag_likely.specs.MatchingData.{script_rules}
 use Rattle.langtag_likely.proofs.MatchingTables.{script_rule_numbers}
 use Rattle.langtag_likely.proofs.rule_distance.script_rule_keys.Goals as goal
 
-pub returns-clause-numbers : goal.returns-clause-numbers
-returns-clause-numbers c = script_rule_numbers
-
 pub returns-clause-count : goal.returns-clause-count
 returns-clause-count c = ap length script_rule_numbers ∙ length-map script_rules _
