@@ -11,6 +11,7 @@ use Rattle.langtag_scan.proofs.Ascii.{IsAscii-private, IsAscii-spelled}
 use Rattle.langtag_extension.proofs.Rules.{all_subtags-flat}
 use Rattle.langtag_scan.proofs.SubtagFacts.{IsSubtag, of_extended, of_primary, of_region, of_script, of_variant}
 use Rattle.langtag_scan.proofs.SubtagLists.{each_subtag}
+use Rattle.langtag_scan.proofs.TagLaws.{tag_private}
 use Rattle.langtag_place.specs.Text.{region_text, script_text}
 use Rattle.langtag_private.specs.Text.{private_use_text}
 use Rattle.langtag_private.proofs.Rules.{IsPrivate-from_test}
@@ -20,7 +21,7 @@ use Rattle.langtag.specs.Text.{part_text}
 use Rattle.langtag.specs.declared.part.Part.{Part}
 use Rattle.langtag.specs.declared.part.Part.TheVariants.{Language, Script, Region, Variants, Extensions, PrivateUse}
 use Rattle.langtag_c.specs.Setting.{PartName, language, script, region, variants, extensions, private_use, IsPartText, IsTextOf, SetsPart, name_of, part_numbered, some_text}
-use Rattle.langtag_c.proofs.TagLengths.{some_private}
+use Rattle.langtag_c.proofs.TagLengths.{some_tag}
 
 -- ---- what a part does
 
@@ -44,7 +45,7 @@ part_sets (Region part) text old new is set =
 part_sets (Variants part) text old new is set = subst (λ t. SetsVariants t old new) is set
 part_sets (Extensions part) text old new is set = subst (λ t. SetsExtensions t old new) is set
 part_sets (PrivateUse part) text old new is set =
-    subst (λ t. SetsPrivateUse t old new) (same_part private_use_text (λ p. some_private _ (IsPrivate-from_test _ p.in_class)) part text is) set
+    subst (λ t. SetsPrivateUse t old new) (same_part private_use_text (λ p. some_tag _ (tag_private _ (IsPrivate-from_test _ p.in_class))) part text is) set
 
 -- ---- bytes that are not UTF-8 are no text of a part
 

@@ -1,5 +1,5 @@
 -- Where the first subtag ends that is refused, by how much of a text and a hyphen is viable.
-use Rattle.std.proofs.Common.{◌≡◌, ◌↔◌, ℕ, ◌+◌, ◌<◌, ◌≤◌, ◌⊎◌, IsTrue, List, [], ◌∷◌, ◌++◌, length, take, slice_index, Option, None, Some, is_some, MatchOption, inl, inr, refl, sym, ap, subst, ◌∙◌, arith, append-nil}
+use Rattle.std.proofs.Common.{◌≡◌, ◌↔◌, ℕ, ◌+◌, ◌<◌, ◌≤◌, ◌⊎◌, List, [], ◌∷◌, ◌++◌, length, take, slice_index, inl, inr, refl, sym, ap, subst, ◌∙◌, arith, append-nil}
 use Rattle.std.proofs.Math.Seq.{take-length}
 use Rattle.std.proofs.lemmas.Bool.{cases_lt}
 use Rattle.std.proofs.lemmas.List.{take-append-le, take_all, take_more, length_push}
@@ -110,8 +110,3 @@ module _ (t : List ℕ) (m : ℕ) (v : IsViableLength (t ++ 45 ∷ []) m) where
 
   pub open_end : (IsTag t → ⊥) → length t ≡ m → IsOpen t → EndsTooSoon t
   open_end no_tag all ended = record { no_tag = no_tag; viable = viable_whole (omega (arith, all)); goes_on = inr (inl ended) }
-
--- what is told of a tag, or of none
-pub tells_tag : {X : Type 0} (t : List ℕ) (P : X → Type 0) (o : Option X) → MatchOption o (IsTag t → ⊥) (λ x. P x × IsTag t) → IsTrue (is_some o) ↔ IsTag t
-tells_tag t P None none = (λ told. absurd cc, λ tag. absurd (none tag))
-tells_tag t P (Some x) some = (λ told. some.1, λ tag. refl)

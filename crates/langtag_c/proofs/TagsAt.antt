@@ -1,15 +1,20 @@
 -- What spans of a text are: tags, where the test says so.
-use Rattle.std.proofs.Common.{◌≡◌, ℕ, ◌+◌, ◌<◌, Bool, true, false, ltb, ◌&&◌, ◌||◌, List, length, get_or, Option, None, Some, inl, inr, refl, sym, ap, subst, ◌∙◌, arith}
+use Rattle.std.proofs.Common.{◌≡◌, ℕ, ◌+◌, ◌<◌, ◌≤◌, Bool, true, false, ltb, ◌&&◌, ◌||◌, List, length, get_or, unwrap_or, Option, None, Some, inl, inr, refl, sym, ap, subst, ◌∙◌, arith}
 use Rattle.std.specs.Option.{ForSome}
 use Rattle.std.proofs.lemmas.Bool.{both_ways, and_parts, and_from, or_cases, or_left, or_right, ltb-true}
 use Rattle.std.proofs.lemmas.Bool.Decides.{nat_tests}
 use Rattle.std.proofs.lemmas.List.{length-map, get_or-map}
+use Rattle.std.proofs.lemmas.Option.{slice_get_within}
 use Rattle.langtag_scan.specs.Tag.{IsTag}
 use Rattle.langtag_scan.proofs.NormalTexts.{normal_from_runs, runs_from_normal}
 use Rattle.langtag_scan.proofs.TagLaws.{tag_normal, tag_private, tag_of_irregular}
+use Rattle.langtag_match.specs.AcceptLanguage.{Element}
+use Rattle.langtag_match.specs.Wanted.{wanted_elements}
+use Rattle.langtag_likely.specs.Best.{best}
+use Rattle.langtag_likely.specs.ChoiceLaws.{IsIndex}
 use Rattle.langtag_private.specs.Decided.{is_private_use}
 use Rattle.langtag_private.proofs.Rules.{IsPrivate-from_test, is_private_use-from_rule}
-use Rattle.langtag_c.specs.Choice.{AreTagsAt, HasTag, IsTagAt}
+use Rattle.langtag_c.specs.Choice.{AreTagsAt, HasTag, IsBest, IsTagAt}
 use Rattle.langtag_c.specs.Spans.{HasBytes, empty_at, end_of, span_text}
 use Rattle.langtag_c.specs.TagsAt.{has_bytes, is_irregular, is_normal, is_tag, tag_at, tags_at}
 use Rattle.langtag_c.proofs.IrregularTests.{alike_some}
@@ -26,7 +31,7 @@ tag_from_test text test = elim (or_cases (is_normal text) (is_private_use text |
   ]
 ]
 
-test_from_tag : (text : List ℕ) → IsTag text → is_tag text ≡ true
+pub test_from_tag : (text : List ℕ) → IsTag text → is_tag text ≡ true
 unfolding IsTag
 test_from_tag text (inl normal) = or_left (is_normal text) (is_private_use text || is_irregular text) (runs_from_normal text normal)
 test_from_tag text (inr (inl private)) =
@@ -78,19 +83,38 @@ one_tag_at text span tag is = one tag (tag_at text span) is (is_tag_at text span
 -- ---- spans
 
 pub tags_at_index :
-    (text : List ℕ) (spans : List Span) (index : ℕ) → index < length spans → get_or (tags_at text spans) index None ≡ tag_at text (get_or spans index (empty_at 0))
-tags_at_index text spans index within = get_or-map (tag_at text) spans index (empty_at 0) None within
+    (text : List ℕ) (spans : List Span) (index : ℕ) → index < length (tags_at text spans) →
+    get_or (tags_at text spans) index None ≡ tag_at text (get_or spans index (empty_at 0))
+tags_at_index text spans index within =
+    get_or-map (tag_at text) spans index (empty_at 0) None (omega (arith, within, length-map spans (tag_at text)))
 
 -- the bytes of a span that is a tag are the tag
 pub tag_bytes :
-    (text : List ℕ) (spans : List Span) (index : ℕ) (bytes : List ℕ) → index < length spans →
+    (text : List ℕ) (spans : List Span) (index : ℕ) (bytes : List ℕ) → index < length (tags_at text spans) →
     (HasBytes text (get_or spans index (empty_at 0)) → bytes ≡ span_text text (get_or spans index (empty_at 0))) → ForSome (get_or (tags_at text spans) index None) (λ tag. bytes ≡ tag)
 tag_bytes text spans index bytes within same tag is =
     let at = subst (IsTagAt text (get_or spans index (empty_at 0))) (sym (tags_at_index text spans index within) ∙ is) (is_tag_at text (get_or spans index (empty_at 0))) in
     same at.0.0 ∙ sym at.1
 
-pub are_tags_at : (text : List ℕ) (spans : List Span) → AreTagsAt text spans (tags_at text spans)
+are_tags_at : (text : List ℕ) (spans : List Span) → AreTagsAt text spans (tags_at text spans)
 are_tags_at text spans = record {
   same_len = length-map spans (tag_at text);
-  each = λ index within. subst (IsTagAt text (get_or spans index (empty_at 0))) (sym (tags_at_index text spans index within)) (is_tag_at text (get_or spans index (empty_at 0)));
+  each = λ index within.
+      let there = tags_at_index text spans index (omega (arith, within, length-map spans (tag_at text))) in
+      subst (IsTagAt text (get_or spans index (empty_at 0))) (sym there) (is_tag_at text (get_or spans index (empty_at 0)));
 }
+
+-- ---- the one that is wanted
+
+pub is_best :
+    (header text : List ℕ) (spans : List Span) (answer : ℕ) →
+    answer ≡ unwrap_or (best (wanted_elements header) (tags_at text spans)) (length spans) → IsBest header text spans answer
+is_best header text spans answer is = record { tags = tags_at text spans; are = are_tags_at text spans; best = is }
+
+-- an index of a tag, or the number of the spans, is not above that number
+pub within_spans :
+    (elements : List Element) (text : List ℕ) (spans : List Span) (answer : Option ℕ) → IsIndex elements (tags_at text spans) answer →
+    unwrap_or answer (length spans) ≤ length spans
+within_spans elements text spans None listed = omega arith
+within_spans elements text spans (Some index) listed =
+    omega (arith, length-map spans (tag_at text), slice_get_within (tags_at text spans) index _ listed.1)

@@ -12,6 +12,7 @@ use langtag_registry::{is_canonical, write_canonical};
 /// much room there has to be: never more than twice as many bytes as the tag has, and 14.
 ///
 /// 0 where the bytes are not a tag; the buffer then stays, too.
+#[tactic(auto, using(crate::proofs::LikelyForms::some_canonical))]
 #[unsafe(no_mangle)]
 pub extern "C" fn langtag_canonical(bytes: &[u8], buffer: &mut [u8]) -> usize
     ensures canonical { IsTag bytes.now → Writes (IsCanonicalForm bytes.now) buffer.old buffer.new result }

@@ -29,6 +29,7 @@ pub extern "C" fn langtag_distance(desired: &[u8], supported: &[u8]) -> u32
 /// Returns the index of the tag that the reader wants who sent an Accept-Language header, among tags that spans of a text are:
 /// 2 for `zh-TW,zh;q=0.9,en;q=0.8` and `en`, `zh-Hans` and `zh-Hant`. Their number where the reader wants none of them. A span
 /// that is no tag, or reaches out of the text, is passed over.
+#[tactic(auto, using(crate::proofs::TagsAt::is_best, crate::proofs::TagsAt::within_spans))]
 #[unsafe(no_mangle)]
 pub extern "C" fn langtag_best_for_header(header: &[u8], bytes: &[u8], tags: &[Span]) -> usize
     ensures best { IsBest header.now bytes.now tags.now result }

@@ -14,6 +14,7 @@ use langtag_likely::{CLDR_VERSION, write_maximized, write_minimized};
 /// `zh-TW`. Where the buffer is too short it stays as it was, and the length says how much room there has to be.
 ///
 /// 0 where the bytes are not a tag; the buffer then stays, too.
+#[tactic(auto, using(crate::proofs::LikelyForms::some_maximal))]
 #[unsafe(no_mangle)]
 pub extern "C" fn langtag_maximize(bytes: &[u8], buffer: &mut [u8]) -> usize
     ensures maximal { IsTag bytes.now → Writes (IsMaximalForm bytes.now) buffer.old buffer.new result }
@@ -31,6 +32,7 @@ pub extern "C" fn langtag_maximize(bytes: &[u8], buffer: &mut [u8]) -> usize
 /// be.
 ///
 /// 0 where the bytes are not a tag; the buffer then stays, too.
+#[tactic(auto, using(crate::proofs::LikelyForms::some_minimal))]
 #[unsafe(no_mangle)]
 pub extern "C" fn langtag_minimize(bytes: &[u8], buffer: &mut [u8]) -> usize
     ensures minimal { IsTag bytes.now → Writes (IsMinimalForm bytes.now) buffer.old buffer.new result }

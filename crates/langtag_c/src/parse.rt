@@ -1,7 +1,7 @@
 //! Whether bytes are a tag, of which kind, and where its parts stand.
-ghost use Rattle.std.specs.Prelude.{◌≡◌, length, MatchOption};
-ghost use Rattle.langtag_scan.specs.Ends.{ends_of};
-ghost use Rattle.langtag_scan.specs.Found.{IsFoundOf, finding};
+ghost use Rattle.std.specs.Prelude.{◌≡◌, length, IfSome, MatchOption};
+ghost use Rattle.langtag_scan.specs.Ends.{HasEnds, ends_of};
+ghost use Rattle.langtag_scan.specs.Found.{IsFoundOf, finding, normal_ends};
 ghost use Rattle.langtag_scan.specs.Parts.{AreInOrder};
 ghost use Rattle.langtag_scan.specs.Record.{EachRecord};
 ghost use Rattle.langtag_scan.specs.Tag.{IsTag, IsNormal, IsPrivate};
@@ -65,15 +65,18 @@ impl Parts {
 }
 
 /// What the recogniser finds of the bytes; None where they are not a tag.
+#[tactic(auto, using(langtag_scan::proofs::FoundLaws::found_ends))]
 #[inline(always)]
 fn found_of(bytes: &[u8]) -> Option<Found>
-    ensures { MatchOption result (IsTag bytes.now → ⊥) (λ found. IsFoundOf bytes.now (finding found)) }
+    ensures found { MatchOption result (IsTag bytes.now → ⊥) (λ found. IsFoundOf bytes.now (finding found)) }
+    ensures ends { IfSome result (λ found. MatchOption (normal_ends (finding found)) (IsNormal bytes.now → ⊥) (HasEnds bytes.now)) }
 {
     recognise(&mut Metered::of_bytes(bytes))
 }
 
 /// Returns the kind of the tag that the bytes are: 1 for a normal one, 2 for private use, 3 for an irregular one, and 0
 /// where they are not a tag.
+#[tactic(auto, using(crate::proofs::KindLaws::kind_none, crate::proofs::KindLaws::kind_normal, crate::proofs::KindLaws::kind_private, crate::proofs::KindLaws::kind_irregular, crate::proofs::KindLaws::irregular_left, langtag_scan::proofs::FoundLaws::tag_found, langtag_scan::proofs::FoundLaws::normal_found, langtag_scan::proofs::FoundLaws::private_found))]
 #[unsafe(no_mangle)]
 pub extern "C" fn langtag_kind(bytes: &[u8]) -> u32
     ensures { IsKind bytes.now result }
@@ -92,6 +95,7 @@ pub extern "C" fn langtag_kind(bytes: &[u8]) -> u32
 
 /// Returns the kind, as [`langtag_kind`] returns it, and where the parts stand. A tag for private use is its own
 /// private use part; an irregular one has no parts. All of `parts` is written, also where the answer is 0.
+#[tactic(auto, using(crate::proofs::KindLaws::kind_none, crate::proofs::KindLaws::kind_normal, crate::proofs::KindLaws::kind_private, crate::proofs::KindLaws::kind_irregular, crate::proofs::KindLaws::irregular_left, langtag_scan::proofs::FoundLaws::tag_found, langtag_scan::proofs::FoundLaws::private_found, langtag_scan::proofs::TagLaws::tag_normal, langtag_scan::proofs::TagLaws::tag_private, langtag_scan::proofs::SpelledTexts::normal_spelled, langtag_scan::proofs::SpelledTexts::normal_from_ends, langtag_scan::proofs::SpelledTexts::ends_ordered, langtag_scan::proofs::OneKind::normal_no_private, crate::proofs::SpanLaws::spans_parts, crate::proofs::SpanLaws::spans_are, crate::proofs::SpanLaws::spans_within))]
 #[unsafe(no_mangle)]
 pub extern "C" fn langtag_parse(bytes: &[u8], parts: &mut Parts) -> u32
     ensures kind { IsKind bytes.now result }

@@ -10,6 +10,7 @@ use langtag_likely::write_from_posix;
 /// room there has to be.
 ///
 /// 0 where the name says no tag, as `C` and `POSIX`; the buffer then stays, too.
+#[tactic(auto, using(crate::proofs::LikelyForms::some_named))]
 #[unsafe(no_mangle)]
 pub extern "C" fn langtag_from_posix(name: &[u8], buffer: &mut [u8]) -> usize
     ensures tag { NamesTag name.now → Writes (IsTagOfName name.now) buffer.old buffer.new result }

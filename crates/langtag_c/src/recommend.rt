@@ -11,6 +11,7 @@ use langtag_case::make_recommended_case;
 /// Puts the letters into their recommended case, in place: `MN-cYRL-mn-X-LATN` becomes `mn-Cyrl-MN-x-latn`. Texts that are equal
 /// but for case come out the same. What is not an ASCII letter stays, so any bytes will do. A tag stays of its kind, with its
 /// parts at the same offsets.
+#[tactic(auto, using(langtag_case::proofs::RecommendedLaws::alike_of_recommended))]
 #[unsafe(no_mangle)]
 pub extern "C" fn langtag_recommend(bytes: &mut [u8])
     ensures case { bytes.new ≡ recommended_text bytes.old }

@@ -64,6 +64,7 @@ fn is_tag(bytes: &[u8]) -> bool
 }
 
 /// Whether bytes that are no tag end too soon, by how much of them and a hyphen is viable.
+#[tactic(auto, using(crate::proofs::RefusedLaws::irregular_left, crate::proofs::RefusedLaws::open_end))]
 fn ends_too_soon(bytes: &[u8], viable: usize) -> bool
     requires no_tag { IsTag bytes.now → ⊥ }
     requires viable { IsViableLength (bytes.now ++ 45 ∷ []) viable }

@@ -18,6 +18,7 @@ use langtag_registry::{InvalidSubtag, fault_at};
 /// language and an extended language that is not registered, 4 for a second extended one, 5, 6 and 7 for a script, a
 /// region and a variant that is not registered, 8 and 9 for a repeated variant and singleton. `invalid` is where that
 /// subtag stands; it has no byte where the answer is 0 or 1.
+#[tactic(auto, using(langtag_scan::proofs::SpelledTexts::normal_spelled, langtag_scan::proofs::TagLaws::tag_normal, langtag_registry::proofs::ValidLaws::valid_of_other, langtag_registry::proofs::ValidLaws::valid_of_none))]
 #[unsafe(no_mangle)]
 pub extern "C" fn langtag_validity(bytes: &[u8], invalid: &mut Span) -> u32
     ensures no_tag { result ≡ 0 ↔ (IsTag bytes.now → ⊥) }
@@ -82,6 +83,7 @@ fn place(tag: &NormalLangTag<'_>, fault: InvalidSubtag<'_>, index: usize) -> Spa
 }
 
 /// The number of bytes of the primary language of a tag.
+#[tactic(auto, using(langtag_scan::proofs::SubtagFacts::of_primary))]
 fn primary_len(tag: &NormalLangTag<'_>) -> usize
     ensures len { EachRecord (normal_lang_tag_text tag.now) (λ r. result ≡ length r.primary) }
     ensures few { result ≤ 8 }

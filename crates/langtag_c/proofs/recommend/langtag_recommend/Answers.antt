@@ -1,10 +1,7 @@
 use Rattle.langtag_scan.proofs.CaseLaw.{alike_parts}
-use Rattle.langtag_case.proofs.RecommendedLaws.{alike_of_recommended}
 use Rattle.langtag.proofs.KeptFound.{alike_kinds}
+use Rattle.langtag_case.proofs.RecommendedLaws.{alike_of_recommended}
 use Rattle.langtag_c.proofs.recommend.langtag_recommend.Goals as goal
-
-pub returns-clause-alike : goal.returns-clause-alike
-returns-clause-alike c = alike_of_recommended _ _ c.make_recommended_case.ensures.case
 
 pub returns-clause-same_kind : goal.returns-clause-same_kind
 returns-clause-same_kind c = alike_kinds _ _ (alike_of_recommended _ _ c.make_recommended_case.ensures.case)

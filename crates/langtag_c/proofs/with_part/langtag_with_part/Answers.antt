@@ -1,6 +1,7 @@
 use Rattle.std.proofs.Common.{◌≤◌, length, arith}
+use Rattle.langtag_scan.proofs.TagLaws.{tag_normal}
 use Rattle.langtag_c.proofs.PartLaws.{part_sets}
-use Rattle.langtag_c.proofs.TagLengths.{some_normal}
+use Rattle.langtag_c.proofs.TagLengths.{some_tag}
 use Rattle.langtag_c.proofs.with_part.langtag_with_part.Goals as goal
 
 pub returns-clause-set : goal.returns-clause-set
@@ -23,5 +24,5 @@ returns-clause-refused c =
     let tag = c.in-Some-normal_tag_of.ensures in
     let made = rw (c.as_bytes.ensures, tag.0) at w.is_so in
     let normal = rw tag.0 at c.put_part.ensures.normal in
-    let some : 1 ≤ length w.text = some_normal w.text (rw made normal) in
+    let some : 1 ≤ length w.text = some_tag w.text (tag_normal w.text (rw made normal)) in
     (λ zero can. absurd (omega (arith, zero, w.whole, some)), λ cannot. absurd (cannot (tag.1, c.in-Some.ensures.has)))
