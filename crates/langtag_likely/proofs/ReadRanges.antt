@@ -1,7 +1,7 @@
 -- Texts in which "_" is read as "-".
-use Rattle.std.proofs.Common.{◌≡◌, ℕ, ◌<◌, Bool, true, false, inl, inr, List, [], ◌∷◌, length, length-take, take, drop, ap, refl, sym, ◌∙◌, arith}
+use Rattle.std.proofs.Common.{◌≡◌, ℕ, ◌<◌, Bool, true, false, inl, inr, List, [], ◌∷◌, length, length-take, take, drop, refl, arith}
 use Rattle.std.proofs.lemmas.List.{take-map, drop-map, length-map}
-use Rattle.langtag_scan.specs.Case.{fold_byte, Alike, are_alike}
+use Rattle.langtag_scan.specs.Case.{are_alike}
 use Rattle.langtag_scan.specs.CaseLaws.{are_alike-decides}
 use Rattle.std.proofs.lemmas.Bool.Decides.{eqb_tells}
 use Rattle.langtag_likely.specs.Nearness.{text_form}

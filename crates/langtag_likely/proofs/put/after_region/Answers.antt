@@ -1,4 +1,4 @@
-use Rattle.std.proofs.Common.{◌-◌, length, ap, ◌∙◌, arith}
+use Rattle.std.proofs.Common.{length, ap, ◌∙◌, arith}
 use Rattle.langtag_scan.specs.Tag.{IsNormal}
 use Rattle.langtag_likely.proofs.PutLaws.{region_inside}
 use Rattle.langtag_likely.proofs.put.after_region.Goals as goal

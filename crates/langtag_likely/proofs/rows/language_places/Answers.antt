@@ -1,4 +1,4 @@
-use Rattle.std.proofs.Common.{◌≡◌, ◌<◌, [], length, get_or, refl, ap, ◌∙◌, arith}
+use Rattle.std.proofs.Common.{[], get_or, refl, ap, ◌∙◌, arith}
 use Rattle.langtag_likely.specs.declared.tables.TheConstants.{SCRIPT_NAMES, LANGUAGE_SCRIPTS, REGION_NAMES, LANGUAGE_REGIONS}
 use Rattle.langtag_likely.specs.Good.{is_script_field, is_region_field}
 use Rattle.langtag_likely.proofs.Columns.{column_good}
