@@ -43,7 +43,7 @@ pub fn best_for_accept_language(
 }
 
 /// Returns the index of the tag that a reader wants, as [`best_for_header`] does, who names language ranges of which the first
-/// is wanted most: 1 for `nn` and `de`, and the tags `en` and `nb`.
+/// is wanted most: 1 for `nn` and `de`, and the tags `en` and `nb`. It is meant for basic ranges.
 pub fn best_for_ranges(ranges: &[LanguageRange<'_>], tags: &[LangTag<'_>]) -> Option<usize>
     ensures chosen { result ≡ spec.best (ordered_elements ranges.now) (tag_texts tags.now) }
     ensures listed { laws.IsIndex (ordered_elements ranges.now) (tag_texts tags.now) result }
