@@ -22,9 +22,12 @@ pub fn is_registered_language(language: PrimaryLanguage<'_>) -> bool
     is_set(letter_number(bytes) - 27)
 }
 
-/// Returns the letters of a text of two or three as the digits of a number in base 26.
+/// Returns the letters of a text as the digits of a number in base 26, in any case: 27 of `aa`, 31 of `ae` and `AE`, 18278 of
+/// `zzz`. The number tells texts of two and three letters apart, as languages (RFC 5646 section 2.2.1) mostly have.
+///
+/// The text has to be two or three ASCII letters.
 #[tactic(auto, using(crate::proofs::Letters::primary_length, crate::proofs::Letters::letter_at, crate::proofs::Letters::number_of_two, crate::proofs::Letters::number_of_three))]
-pub(crate) fn letter_number(bytes: &[u8]) -> usize
+pub fn letter_number(bytes: &[u8]) -> usize
     requires primary { IsTrue (class.is_primary bytes.now) }
     requires short { length bytes.now ≤ 3 }
     ensures number { result ≡ letter_number bytes.now }
