@@ -1,4 +1,4 @@
--- The numbers by which the tables know texts. Contracts of private functions alone speak of this page.
+-- The numbers by which the tables know texts.
 use Rattle.std.specs.Prelude.{ℕ, ◌+◌, ◌*◌, ◌-◌, ◌/◌, ◌%◌, ◌^◌, ◌==◌, ◌&&◌, nat_lt, Bool, true, false, List, [], ◌∷◌, fold, map, slice_index_or}
 use Rattle.std.specs.List.{flat_map, range_with_len}
 use Rattle.langtag_scan.specs.Case.{fold_byte}
