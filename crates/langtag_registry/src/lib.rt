@@ -39,6 +39,7 @@ mod subtags;
 mod table;
 mod tables;
 mod validity;
+mod write;
 
 pub use canonical_form::{canonical, canonical_bound, is_canonical, write_canonical};
 pub use deprecated::{
@@ -57,3 +58,4 @@ pub use subtags::{
 };
 pub use tables::FILE_DATE;
 pub use validity::{fault_at, validate};
+pub use write::write_pieces;

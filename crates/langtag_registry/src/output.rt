@@ -37,7 +37,7 @@ impl<'a> Output<'a> {
     }
 
     /// Puts bytes at the end. The length stays at its greatest where a text has more bytes than that.
-    fn push(&mut self, bytes: &[u8])
+    pub(crate) fn push(&mut self, bytes: &[u8])
         ensures same_buffer { self.new.buffer.ghost_name ≡ self.old.buffer.ghost_name }
         ensures appended { Appends bytes.now self.old self.new }
     {
