@@ -72,16 +72,9 @@ form_is_tag old new is p = by_way (way_of old)
 
 -- ---- where it is its own canonical form
 
-pub none_preferred : {A : Type 0} (view : A → List ℕ) (found : Option A) (text : List ℕ) → option_map view found ≡ preferred_tag text → is_some found ≡ false → preferred_tag text ≡ None
-none_preferred view None text same none = sym same
-none_preferred view (Some x) text same none = absurd cc
-
-pub preferred_goes :
-    {A : Type 0} (view : A → List ℕ) (found : Option A) (text : List ℕ) → option_map view found ≡ preferred_tag text → is_some found ≡ true → IsCanonicalForm text text → ⊥
-preferred_goes view None text same some is = absurd cc
-preferred_goes view (Some x) text same some is =
-    let here : text ≡ view x = is.whole (view x) (sym same) in
-    let none : preferred_tag text ≡ None = ap preferred_tag here ∙ whole_settled text (view x) (sym same) in
+pub preferred_goes : (text new : List ℕ) → preferred_tag text ≡ Some new → IsCanonicalForm text text → ⊥
+preferred_goes text new found is =
+    let none : preferred_tag text ≡ None = ap preferred_tag (is.whole new found) ∙ whole_settled text new found in
     absurd cc
 
 -- a text that is its own canonical form has a record that stays
@@ -94,14 +87,3 @@ own_record text r spells same = by_option (preferred_tag (spell (canonical_recor
         let s = preferred_spelled (spell (canonical_record r)) w is in
         let one : record_of w ≡ r = spelled_once (record_of w) r s.0 spells.0 (s.1 ∙ sym own ∙ sym spells.1) in
         subst (λ q. canonical_record q ≡ q) one (preferred_record_stays (spell (canonical_record r)) w is)
-
--- where its parts do not stay, it is where it is grandfathered
-pub parts_itself :
-    (text : List ℕ) (stays grandfathered : Bool) → preferred_tag text ≡ None → IsNormal text → EachRecord text (λ r. (stays ≡ true) ↔ (canonical_record r ≡ r)) →
-    stays ≡ false → (grandfathered ≡ true) ↔ IsGrandfathered text → (grandfathered ≡ true) ↔ IsCanonicalForm text text
-unfolding IsNormal
-parts_itself text stays true none (r, spells) decided goes old = (λ h. kept_form text text none (inl (old.0 h)) refl, λ is. refl)
-parts_itself text stays false none (r, spells) decided goes old = (
-  λ h. absurd cc,
-  λ is. absurd (both_ways stays goes ((decided r spells).1 (own_record text r spells (is.parts none (λ whole. let no = old.1 whole in absurd cc) r spells)))),
-)

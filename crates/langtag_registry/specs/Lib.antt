@@ -8,6 +8,7 @@ pub mod Fault
 pub mod Compared
 pub mod Valid
 pub mod Canonical
+pub mod Form
 pub mod CanonicalLaws
 pub mod Prefix
 pub mod Noted

@@ -1,23 +1,18 @@
 //! The canonical form of a tag (RFC 5646 section 4.5).
 ghost use Rattle.std.specs.Prelude.{◌≡◌, ◌↔◌, ℕ, ◌-◌, ◌^◌, ◌≤◌, List, length, min, unwrap_or, true, IfOk};
-ghost use Rattle.std.specs.Option.{option_map};
 ghost use Rattle.langtag_scan.specs.Case.{Alike};
 ghost use Rattle.langtag_scan.specs.Record.{EachRecord};
-ghost use Rattle.langtag_place.specs.Text.{region_text};
 ghost use Rattle.langtag.specs.Text.{lang_tag_text, lang_tag_buf_text, normal_lang_tag_text};
 ghost use Rattle.langtag_registry.specs.CanonicalLaws.{IsOnlyForm, IsAlikeForm, IsValidForm, HasNoExtlang};
 ghost use Rattle.langtag_registry.specs.Canonical as form;
-ghost use Rattle.langtag_registry.specs.Canonical.{IsCanonicalForm, canonical_record, canonical_region, canonical_text};
+ghost use Rattle.langtag_registry.specs.Canonical.{IsCanonicalForm, canonical_text};
 ghost use Rattle.langtag_registry.specs.Fields as field;
 ghost use Rattle.langtag_registry.specs.Writes.{Writes};
 
-use crate::canonical_language::is_canonical_language;
 use crate::canonical_parts::put_canonical_parts;
-use crate::canonical_variants::are_canonical_variants;
-use crate::extension_order::are_in_order;
-use crate::preferred::{preferred_for, preferred_region, preferred_tag};
+use crate::form::{Form, form_of};
+use crate::preferred::preferred_for;
 use langtag::{LangTag, LangTagBuf, NormalLangTag};
-use langtag_place::Region;
 use std::alloc::{AllocError, Global};
 
 /// No text that is replaced as a whole has more bytes.
@@ -81,24 +76,21 @@ pub fn canonical_bound(tag_len: usize) -> usize
 }
 
 /// Writes the canonical form of a tag.
-#[tactic(auto, using(crate::proofs::CanonicalParts::kept_form, crate::proofs::TwiceLaws::itself))]
 fn write_form(tag: LangTag<'_>, buffer: &mut [u8]) -> usize
     ensures { Writes (IsCanonicalForm (lang_tag_text tag.entry)) buffer.old buffer.new result }
 {
-    if let Some(preferred) = preferred_tag(tag) {
-        return write_text(preferred.as_bytes(), buffer);
+    match form_of(tag) {
+        Form::Same => write_text(tag.as_bytes(), buffer),
+        Form::Whole(preferred) => write_text(preferred.as_bytes(), buffer),
+        Form::Parts(normal) => write_parts(normal, buffer),
     }
-    let Some(normal) = tag.as_normal() else {
-        return write_text(tag.as_bytes(), buffer);
-    };
-    // Most tags are their own canonical form.
-    if has_canonical_parts(normal) {
-        return write_text(tag.as_bytes(), buffer);
-    }
-    if tag.is_grandfathered() {
-        return write_text(tag.as_bytes(), buffer);
-    }
-    write_parts(normal, buffer)
+}
+
+/// Returns whether a tag is its own canonical form.
+fn is_canonical_form(tag: LangTag<'_>) -> bool
+    ensures { (result ≡ true) ↔ IsCanonicalForm (lang_tag_text tag.entry) (lang_tag_text tag.entry) }
+{
+    matches!(form_of(tag), Form::Same)
 }
 
 /// Returns the canonical form of a tag.
@@ -158,45 +150,4 @@ fn write_text(text: &[u8], buffer: &mut [u8]) -> usize
         buffer[..text.len()].copy_from_slice(text);
     }
     text.len()
-}
-
-/// Returns whether a tag is its own canonical form.
-#[tactic(auto, using(crate::proofs::CanonicalParts::kept_form, crate::proofs::CanonicalParts::parts_itself, crate::proofs::CanonicalParts::none_preferred, crate::proofs::CanonicalParts::preferred_goes, crate::proofs::TwiceLaws::itself))]
-fn is_canonical_form(tag: LangTag<'_>) -> bool
-    ensures { (result ≡ true) ↔ IsCanonicalForm (lang_tag_text tag.entry) (lang_tag_text tag.entry) }
-{
-    if preferred_tag(tag).is_some() {
-        return false;
-    }
-    let Some(normal) = tag.as_normal() else {
-        return true;
-    };
-    has_canonical_parts(normal) || tag.is_grandfathered()
-}
-
-/// Returns whether all parts of a tag are in their canonical forms.
-#[tactic(auto, using(crate::proofs::CanonicalParts::parts_stay, crate::proofs::CanonicalParts::record_stays, crate::proofs::FaultLaws::language_spelled, crate::proofs::FaultLaws::variants_listed))]
-fn has_canonical_parts(tag: NormalLangTag<'_>) -> bool
-    ensures { EachRecord (normal_lang_tag_text tag.entry) (λ r. (result ≡ true) ↔ (canonical_record r ≡ r)) }
-{
-    if !is_canonical_language(tag.language()) {
-        return false;
-    }
-    if !is_canonical_region(tag.region()) {
-        return false;
-    }
-    if !are_canonical_variants(tag.variants()) {
-        return false;
-    }
-    are_in_order(tag.extensions())
-}
-
-/// Returns whether no region is preferred to this one.
-fn is_canonical_region(region: Option<Region<'_>>) -> bool
-    ensures { (result ≡ true) ↔ (canonical_region (option_map region_text region.entry) ≡ option_map region_text region.entry) }
-{
-    match region {
-        Some(region) => preferred_region(region).is_none(),
-        None => true,
-    }
 }

@@ -28,6 +28,7 @@ mod canonical_variants;
 mod deprecated;
 mod extension_order;
 mod extlang_forms;
+mod form;
 mod invalid_subtag;
 mod language_fields;
 mod languages;

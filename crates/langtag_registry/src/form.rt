@@ -1,0 +1,76 @@
+//! What the canonical form of a tag is (RFC 5646 section 4.5).
+ghost use Rattle.std.specs.Prelude.{◌≡◌, ◌↔◌, true};
+ghost use Rattle.std.specs.Option.{option_map};
+ghost use Rattle.langtag_scan.specs.Record.{EachRecord};
+ghost use Rattle.langtag_place.specs.Text.{region_text};
+ghost use Rattle.langtag.specs.Text.{lang_tag_text, normal_lang_tag_text};
+ghost use Rattle.langtag_registry.specs.Canonical.{IsCanonicalForm, canonical_record, canonical_region};
+ghost use Rattle.langtag_registry.specs.Form.{IsForm};
+ghost use Rattle.langtag_registry.specs.declared.form.Form.TheVariants.{Same};
+
+use crate::canonical_language::is_canonical_language;
+use crate::canonical_variants::are_canonical_variants;
+use crate::extension_order::are_in_order;
+use crate::preferred::{preferred_region, preferred_tag};
+use langtag::{LangTag, NormalLangTag};
+use langtag_place::Region;
+
+/// What the canonical form of a tag is.
+#[derive(Drop)]
+pub(crate) enum Form<'a> {
+    /// The tag itself.
+    Same,
+    /// Another tag, which is preferred to it as a whole.
+    Whole(LangTag<'static>),
+    /// This tag with its parts in their canonical forms, or what is preferred to that as a whole.
+    Parts(NormalLangTag<'a>),
+}
+
+/// Returns what the canonical form of a tag is.
+#[tactic(auto, using(crate::proofs::CanonicalParts::kept_form, crate::proofs::CanonicalParts::preferred_goes, crate::proofs::TwiceLaws::itself))]
+pub(crate) fn form_of<'a>(tag: LangTag<'a>) -> Form<'a>
+    ensures form { IsForm (lang_tag_text tag.entry) result }
+    ensures same { IsCanonicalForm (lang_tag_text tag.entry) (lang_tag_text tag.entry) → result ≡ Same }
+{
+    if let Some(preferred) = preferred_tag(tag) {
+        return Form::Whole(preferred);
+    }
+    let Some(normal) = tag.as_normal() else {
+        return Form::Same;
+    };
+    // Most tags are their own canonical form.
+    if has_canonical_parts(normal) {
+        return Form::Same;
+    }
+    if tag.is_grandfathered() {
+        return Form::Same;
+    }
+    Form::Parts(normal)
+}
+
+/// Returns whether all parts of a tag are in their canonical forms.
+#[tactic(auto, using(crate::proofs::CanonicalParts::parts_stay, crate::proofs::CanonicalParts::record_stays, crate::proofs::FaultLaws::language_spelled, crate::proofs::FaultLaws::variants_listed))]
+fn has_canonical_parts(tag: NormalLangTag<'_>) -> bool
+    ensures { EachRecord (normal_lang_tag_text tag.entry) (λ r. (result ≡ true) ↔ (canonical_record r ≡ r)) }
+{
+    if !is_canonical_language(tag.language()) {
+        return false;
+    }
+    if !is_canonical_region(tag.region()) {
+        return false;
+    }
+    if !are_canonical_variants(tag.variants()) {
+        return false;
+    }
+    are_in_order(tag.extensions())
+}
+
+/// Returns whether no region is preferred to this one.
+fn is_canonical_region(region: Option<Region<'_>>) -> bool
+    ensures { (result ≡ true) ↔ (canonical_region (option_map region_text region.entry) ≡ option_map region_text region.entry) }
+{
+    match region {
+        Some(region) => preferred_region(region).is_none(),
+        None => true,
+    }
+}
