@@ -27,8 +27,8 @@ pub(crate) enum Form<'a> {
 }
 
 /// Returns what the canonical form of a tag is.
-#[tactic(auto, using(crate::proofs::CanonicalParts::kept_form, crate::proofs::CanonicalParts::preferred_goes, crate::proofs::TwiceLaws::itself))]
-pub(crate) fn form_of<'a>(tag: LangTag<'a>) -> Form<'a>
+#[tactic(auto, using(crate::proofs::CanonicalParts::kept_form, crate::proofs::CanonicalParts::preferred_goes, crate::proofs::CanonicalParts::record_form, crate::proofs::CanonicalParts::own_record, crate::proofs::TwiceLaws::itself), unfolding(langtag_scan::specs::Tag::IsNormal))]
+pub(crate) fn form_of(tag: LangTag<'_>) -> Form<'_>
     ensures form { IsForm (lang_tag_text tag.entry) result }
     ensures same { IsCanonicalForm (lang_tag_text tag.entry) (lang_tag_text tag.entry) → result ≡ Same }
 {
@@ -39,10 +39,7 @@ pub(crate) fn form_of<'a>(tag: LangTag<'a>) -> Form<'a>
         return Form::Same;
     };
     // Most tags are their own canonical form.
-    if has_canonical_parts(normal) {
-        return Form::Same;
-    }
-    if tag.is_grandfathered() {
+    if has_canonical_parts(normal) || tag.is_grandfathered() {
         return Form::Same;
     }
     Form::Parts(normal)
