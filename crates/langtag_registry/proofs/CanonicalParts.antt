@@ -1,7 +1,6 @@
 -- The canonical record, part by part, and what a tag becomes by it.
-use Rattle.std.proofs.Common.{◌≡◌, ◌↔◌, ℕ, true, false, Bool, List, Option, None, Some, is_some, option_map, unwrap_or, inl, inr, ◌⊎◌, refl, sym, ap, subst, ◌∙◌}
-use Rattle.std.proofs.lemmas.Bool.{both_ways}
-use Rattle.langtag_scan.specs.Record.{Record, EachRecord, Spells, spell}
+use Rattle.std.proofs.Common.{◌≡◌, ℕ, List, Option, None, Some, unwrap_or, inl, inr, ◌⊎◌, refl, sym, ap, subst, ◌∙◌}
+use Rattle.langtag_scan.specs.Record.{Record, Spells, spell}
 use Rattle.langtag_scan.specs.Tag.{IsNormal, IsTag}
 use Rattle.langtag_scan.proofs.NormalTexts.{spelled_once}
 use Rattle.langtag.specs.Registered.{IsGrandfathered}

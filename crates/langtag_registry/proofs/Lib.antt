@@ -18,7 +18,6 @@ pub mod FewVariants
 pub mod ValidForms
 pub mod NoExtlang
 pub mod CanonicalCase
-pub mod FormLaws
 pub mod PreferredValues
 pub mod Pushed
 pub mod CanonicalLanguages

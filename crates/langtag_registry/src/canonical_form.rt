@@ -35,6 +35,7 @@ const LONGEST_PREFERRED: usize = 14;
 /// # Errors
 ///
 /// Out of memory.
+#[tactic(auto, using(crate::proofs::TwiceLaws::one_form, crate::proofs::TwiceLaws::form_twice, crate::proofs::ValidForms::valid_form, crate::proofs::ValidForms::apart_form, crate::proofs::NoExtlang::no_extlang_form))]
 pub fn canonical(alloc: Global, tag: LangTag<'_>) -> Result<LangTagBuf, AllocError>
     ensures canonical { IfOk result (λ form. IsCanonicalForm (lang_tag_text tag.entry) (lang_tag_buf_text form)) }
 
@@ -43,59 +44,6 @@ pub fn canonical(alloc: Global, tag: LangTag<'_>) -> Result<LangTagBuf, AllocErr
     ensures alike { IfOk result (λ form. IsAlikeForm (lang_tag_text tag.entry) (lang_tag_buf_text form)) }
     ensures valid { IfOk result (λ form. IsValidForm (lang_tag_text tag.entry) (lang_tag_buf_text form)) }
     ensures no_extlang { IfOk result (λ form. HasNoExtlang (lang_tag_text tag.entry) (lang_tag_buf_text form)) }
-{
-    canonical_form(alloc, tag)
-}
-
-/// Returns whether a tag is its own canonical form (RFC 5646 section 4.5): true of `he`, `zh-min` and `x-iw`,
-/// false of `iw` and of `en-b-ccc-a-aaa`. The case of letters changes nothing: true of `HE`. No memory is taken.
-pub fn is_canonical(tag: LangTag<'_>) -> bool
-    ensures canonical { (result ≡ true) ↔ IsCanonicalForm (lang_tag_text tag.entry) (lang_tag_text tag.entry) }
-    ensures any_case { (other : List ℕ) → Alike (lang_tag_text tag.entry) other → (result ≡ true) ↔ IsCanonicalForm other other }
-{
-    is_canonical_form(tag)
-}
-
-/// Writes the canonical form of a tag (RFC 5646 section 4.5), as [`canonical`] returns it, into a buffer, and returns its
-/// length in bytes. Where the buffer is too short it stays as it was: the length says how much room there has to be. A buffer
-/// of [`canonical_bound`] bytes always has the room. No memory is taken.
-#[tactic(auto, using(crate::proofs::FormLengths::form_bounded))]
-pub fn write_canonical(tag: LangTag<'_>, buffer: &mut [u8]) -> usize
-    ensures canonical { Writes (IsCanonicalForm (lang_tag_text tag.entry)) buffer.old buffer.new result }
-    ensures bounded { result ≤ form.canonical_bound (length (lang_tag_text tag.entry)) }
-{
-    write_form(tag, buffer)
-}
-
-/// Returns how many bytes the canonical form of a tag of this length may have at most, so that a caller makes room for it
-/// before [`write_canonical`]: twice as many, and 14 more.
-pub fn canonical_bound(tag_len: usize) -> usize
-    ensures { result ≡ min (form.canonical_bound tag_len) (2 ^ 64 - 1) }
-{
-    tag_len.saturating_mul(2).saturating_add(LONGEST_PREFERRED)
-}
-
-/// Writes the canonical form of a tag.
-fn write_form(tag: LangTag<'_>, buffer: &mut [u8]) -> usize
-    ensures { Writes (IsCanonicalForm (lang_tag_text tag.entry)) buffer.old buffer.new result }
-{
-    match form_of(tag) {
-        Form::Same => write_text(tag.as_bytes(), buffer),
-        Form::Whole(preferred) => write_text(preferred.as_bytes(), buffer),
-        Form::Parts(normal) => write_parts(normal, buffer),
-    }
-}
-
-/// Returns whether a tag is its own canonical form.
-fn is_canonical_form(tag: LangTag<'_>) -> bool
-    ensures { (result ≡ true) ↔ IsCanonicalForm (lang_tag_text tag.entry) (lang_tag_text tag.entry) }
-{
-    matches!(form_of(tag), Form::Same)
-}
-
-/// Returns the canonical form of a tag.
-fn canonical_form(alloc: Global, tag: LangTag<'_>) -> Result<LangTagBuf, AllocError>
-    ensures { IfOk result (λ form. IsCanonicalForm (lang_tag_text tag.entry) (lang_tag_buf_text form)) }
 {
     let Ok(text) = String::from_utf8(canonical_bytes(alloc, tag)?) else {
         unreachable!()
@@ -106,7 +54,40 @@ fn canonical_form(alloc: Global, tag: LangTag<'_>) -> Result<LangTagBuf, AllocEr
     Ok(form)
 }
 
-/// Returns the bytes of that form.
+/// Returns whether a tag is its own canonical form (RFC 5646 section 4.5): true of `he`, `zh-min` and `x-iw`,
+/// false of `iw` and of `en-b-ccc-a-aaa`. The case of letters changes nothing: true of `HE`. No memory is taken.
+#[tactic(auto, using(crate::proofs::CanonicalCase::canonical_in_any_case))]
+pub fn is_canonical(tag: LangTag<'_>) -> bool
+    ensures canonical { (result ≡ true) ↔ IsCanonicalForm (lang_tag_text tag.entry) (lang_tag_text tag.entry) }
+    ensures any_case { (other : List ℕ) → Alike (lang_tag_text tag.entry) other → (result ≡ true) ↔ IsCanonicalForm other other }
+{
+    matches!(form_of(tag), Form::Same)
+}
+
+/// Writes the canonical form of a tag (RFC 5646 section 4.5), as [`canonical`] returns it, into a buffer, and returns its
+/// length in bytes. Where the buffer is too short it stays as it was: the length says how much room there has to be. A buffer
+/// of [`canonical_bound`] bytes always has the room. No memory is taken.
+#[tactic(auto, using(crate::proofs::FormLengths::form_bounded))]
+pub fn write_canonical(tag: LangTag<'_>, buffer: &mut [u8]) -> usize
+    ensures canonical { Writes (IsCanonicalForm (lang_tag_text tag.entry)) buffer.old buffer.new result }
+    ensures bounded { result ≤ form.canonical_bound (length (lang_tag_text tag.entry)) }
+{
+    match form_of(tag) {
+        Form::Same => write_text(tag.as_bytes(), buffer),
+        Form::Whole(preferred) => write_text(preferred.as_bytes(), buffer),
+        Form::Parts(normal) => write_parts(normal, buffer),
+    }
+}
+
+/// Returns how many bytes the canonical form of a tag of this length may have at most, so that a caller makes room for it
+/// before [`write_canonical`]: twice as many, and 14 more.
+pub fn canonical_bound(tag_len: usize) -> usize
+    ensures { result ≡ min (form.canonical_bound tag_len) (2 ^ 64 - 1) }
+{
+    tag_len.saturating_mul(2).saturating_add(LONGEST_PREFERRED)
+}
+
+/// Returns the bytes of the canonical form of a tag.
 fn canonical_bytes(alloc: Global, tag: LangTag<'_>) -> Result<Vec<u8>, AllocError>
     ensures { IfOk result (λ bytes. IsCanonicalForm (lang_tag_text tag.entry) bytes.items) }
 {

@@ -1,18 +1,25 @@
-use Rattle.langtag.specs.Text.{lang_tag_text, lang_tag_buf_text}
-use Rattle.langtag_registry.proofs.FormLaws.{only_form, settled_form, alike_form, form_valid, form_no_extlang}
+use Rattle.std.proofs.Common.{IsOk, sym, ap, subst, ◌∙◌}
+use Rattle.std.proofs.lemmas.Bool.{false≢true}
+use Rattle.langtag.proofs.KeptFound.{found_kept}
+use Rattle.langtag.specs.Text.{lang_tag_text}
+use Rattle.langtag_scan.proofs.Ascii.{IsUtf8-tag}
+use Rattle.langtag_scan.specs.Tag.{IsTag}
+use Rattle.langtag_registry.specs.Canonical.{IsCanonicalForm}
+use Rattle.langtag_registry.proofs.AlikeForms.{alike_forms}
+use Rattle.langtag_registry.proofs.CanonicalParts.{form_is_tag}
 use Rattle.langtag_registry.proofs.canonical_form.canonical.Goals as goal
 
-pub returns-clause-one : goal.returns-clause-one
-returns-clause-one c = only_form lang_tag_buf_text (lang_tag_text c.args.tag) c.canonical_form.result c.canonical_form.ensures
+pub unreachable-requires : goal.unreachable-requires
+unreachable-requires c =
+    let is_tag = form_is_tag _ _ (found_kept _ _ c.args.tag.kept_found).tag c.in_ok-canonical_bytes.ensures in
+    false≢true (subst IsOk c.in_default.is (c.from_utf8.ensures.succeeds (IsUtf8-tag _ is_tag)))
 
-pub returns-clause-settled : goal.returns-clause-settled
-returns-clause-settled c = settled_form lang_tag_buf_text (lang_tag_text c.args.tag) c.canonical_form.result c.canonical_form.ensures
+pub unreachable-requires-in_default-new : goal.unreachable-requires-in_default-new
+unreachable-requires-in_default-new c =
+    let is_tag = form_is_tag _ _ (found_kept _ _ c.args.tag.kept_found).tag c.in_ok-canonical_bytes.ensures in
+    false≢true (c.in_default-new.ensures.accepts.1 (subst IsTag (sym (ap (λ bytes. bytes.items) c.in-Ok.ensures.ok)) is_tag))
 
 pub returns-clause-alike : goal.returns-clause-alike
-returns-clause-alike c = alike_form lang_tag_buf_text (lang_tag_text c.args.tag) c.canonical_form.result c.canonical_form.ensures
-
-pub returns-clause-valid : goal.returns-clause-valid
-returns-clause-valid c = form_valid lang_tag_buf_text (lang_tag_text c.args.tag) c.canonical_form.result c.canonical_form.ensures
-
-pub returns-clause-no_extlang : goal.returns-clause-no_extlang
-returns-clause-no_extlang c = form_no_extlang lang_tag_buf_text (lang_tag_text c.args.tag) c.canonical_form.result c.canonical_form.ensures
+returns-clause-alike c = λ other form alike is.
+    alike_forms _ other _ form alike
+    (subst (IsCanonicalForm (lang_tag_text c.args.tag)) (sym (c.in-Ok-new.ensures.same_text ∙ ap (λ bytes. bytes.items) c.in-Ok.ensures.ok)) c.in_ok-canonical_bytes.ensures) is
