@@ -26,7 +26,8 @@ pub(crate) enum Form<'a> {
     Parts(NormalLangTag<'a>),
 }
 
-/// Returns what the canonical form of a tag is.
+/// Returns what the canonical form of a tag is. It is inlined, so that no form is written to memory.
+#[inline(always)]
 #[tactic(auto, using(crate::proofs::CanonicalParts::kept_form, crate::proofs::CanonicalParts::preferred_goes, crate::proofs::CanonicalParts::record_form, crate::proofs::CanonicalParts::own_record, crate::proofs::TwiceLaws::itself), unfolding(langtag_scan::specs::Tag::IsNormal))]
 pub(crate) fn form_of(tag: LangTag<'_>) -> Form<'_>
     ensures form { IsForm (lang_tag_text tag.entry) result }
