@@ -12,6 +12,7 @@ ghost use Rattle.langtag_registry.specs.Writes.{Writes};
 use crate::canonical_parts::put_canonical_parts;
 use crate::form::{Form, form_of};
 use crate::preferred::preferred_for;
+use crate::write::write_pieces;
 use langtag::{LangTag, LangTagBuf, NormalLangTag};
 use std::alloc::{AllocError, Global};
 
@@ -127,8 +128,5 @@ fn preferred_to(parts: &[u8]) -> &[u8]
 fn write_text(text: &[u8], buffer: &mut [u8]) -> usize
     ensures { Writes (λ new. new ≡ text.now) buffer.old buffer.new result }
 {
-    if text.len() <= buffer.len() {
-        buffer[..text.len()].copy_from_slice(text);
-    }
-    text.len()
+    write_pieces(&[text], buffer)
 }
