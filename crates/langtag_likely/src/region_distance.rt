@@ -8,7 +8,7 @@ ghost use Rattle.langtag_likely.specs.Good.{is_region_field};
 ghost use Rattle.langtag_likely.specs.Sets.{set_of};
 ghost use Rattle.langtag_likely.specs.Texts.{field_texts};
 
-use crate::keys::{index_of, short_number};
+use crate::keys::index_of;
 use crate::matching_tables as tables;
 use crate::tag_fields::TagFields;
 use langtag_scan::case_insensitive_eq;
@@ -101,7 +101,7 @@ pub(crate) enum SetName {
 impl SetName {
     /// Returns the regions of the set, and the groups of which all countries are in it.
     #[tactic(auto, using(crate::proofs::MatchingTables::maghreb_inside_numbers, crate::proofs::MatchingTables::en_us_inside_numbers, crate::proofs::MatchingTables::americas_inside_numbers, crate::proofs::MatchingTables::cnsar_inside_numbers))]
-    fn inside(self) -> &'static [u32]
+    fn inside(self) -> &'static [u64]
         ensures numbers { result.now ≡ map folded_number (set_of self).inside }
         ensures climbs { IsTrue (climbs_from 0 result.now) }
     {
@@ -115,7 +115,7 @@ impl SetName {
 
     /// Returns the groups of which some countries are in the set, but not all.
     #[tactic(auto, using(crate::proofs::MatchingTables::maghreb_partly_numbers, crate::proofs::MatchingTables::en_us_partly_numbers, crate::proofs::MatchingTables::americas_partly_numbers, crate::proofs::MatchingTables::cnsar_partly_numbers))]
-    fn partly(self) -> &'static [u32]
+    fn partly(self) -> &'static [u64]
         ensures numbers { result.now ≡ map folded_number (set_of self).partly }
         ensures climbs { IsTrue (climbs_from 0 result.now) }
     {
@@ -131,14 +131,14 @@ impl SetName {
     fn is_inside(self, fields: TagFields<'_>) -> bool
         ensures { result ≡ spec.is_among (set_of self).inside fields.entry.region.now }
     {
-        index_of(self.inside(), short_number(fields.region)).is_some()
+        index_of(self.inside(), fields.region).is_some()
     }
 
     #[tactic(auto, using(crate::proofs::FieldClasses::region_length, crate::proofs::FieldClasses::region_alphanumeric, crate::proofs::RulesFound::among_by_number, crate::proofs::SetLaws::partly_plain))]
     fn is_partly_inside(self, fields: TagFields<'_>) -> bool
         ensures { result ≡ spec.is_among (set_of self).partly fields.entry.region.now }
     {
-        index_of(self.partly(), short_number(fields.region)).is_some()
+        index_of(self.partly(), fields.region).is_some()
     }
 
     fn is_outside(self, fields: TagFields<'_>) -> bool
