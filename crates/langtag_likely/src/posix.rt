@@ -161,11 +161,7 @@ fn write_with<'a>(tag: NormalLangTag<'a>, part: Part<'a>, buffer: &mut [u8]) -> 
     let text = tag.as_str().as_bytes();
     let new = put_part(tag, part);
     let hyphen: &'a [u8] = new.hyphen.as_bytes();
-    let pieces = [
-        &text[..new.start],
-        hyphen,
-        new.part.as_bytes(),
-        &text[new.end..],
-    ];
+    let part = new.part.as_bytes();
+    let pieces = [&text[..new.start], hyphen, part, &text[new.end..]];
     write_pieces(&pieces, buffer)
 }
