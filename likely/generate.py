@@ -103,7 +103,7 @@ def table(name, doc, kind, items):
 
 
 def numbers(name, doc, bits, items):
-    return table(name, doc, f"u{bits}", [f"0x{item:02X}" for item in items])
+    return table(name, doc, f"u{bits}", [f"0x{item:0{bits // 4}X}" for item in items])
 
 
 def names(name, doc, texts):
@@ -116,9 +116,9 @@ def tables(likely):
     return "\n".join([
         f"//! Unicode's CLDR {CLDR_VERSION} in tables (the notice: likely/LICENSE-UNICODE). Written by likely/generate.py. Do not edit.\n",
         "/// The version of Unicode's CLDR that this crate has.\n" f'pub const CLDR_VERSION: &str = "{CLDR_VERSION}";\n',
-        numbers("SCRIPT_KEYS", "The scripts: their lowercase bytes as the digits of a number, in rising order.", 64, map(folded_number, likely.scripts)),
+        numbers("SCRIPT_KEYS", "The scripts: their lowercase bytes as the digits of a number, in rising order.", 32, map(folded_number, likely.scripts)),
         names("SCRIPT_NAMES", "The same scripts.", likely.scripts),
-        numbers("REGION_KEYS", "The regions: their lowercase bytes as the digits of a number, in rising order.", 64, map(folded_number, likely.regions)),
+        numbers("REGION_KEYS", "The regions: their lowercase bytes as the digits of a number, in rising order.", 32, map(folded_number, likely.regions)),
         names("REGION_NAMES", "The same regions.", likely.regions),
         names("LANGUAGE_NAMES", "No language, and then those that are likely where none is known.", likely.languages),
         numbers("LANGUAGE_KEYS", "The languages with likely subtags: their letters as the digits of a number, in rising order.", 16,
@@ -138,7 +138,7 @@ def matching_tables(matching):
         numbers("ALIAS_KEYS", "The languages that are replaced: their letters as the digits of a number, in rising order.", 16, [letter_number(row[0]) for row in matching.aliases]),
         names("ALIAS_LANGUAGES", "What each of them becomes.", [row[1] for row in matching.aliases]),
         names("ALIAS_SCRIPTS", "The script that this brings.", [row[2] for row in matching.aliases]),
-        numbers("REGION_ALIAS_KEYS", "The regions that are replaced: their lowercase bytes as the digits of a number, in rising order.", 64,
+        numbers("REGION_ALIAS_KEYS", "The regions that are replaced: their lowercase bytes as the digits of a number, in rising order.", 32,
                 [folded_number(row[0]) for row in matching.region_aliases]),
         names("REGION_ALIAS_NAMES", "What each of them becomes.", [row[1] for row in matching.region_aliases]),
         numbers("LANGUAGE_RULE_KEYS", "A desired and a supported language as one number, in rising order.", 32, map(matching.language_key, matching.languages)),
@@ -148,7 +148,7 @@ def matching_tables(matching):
         numbers("SCRIPT_RULE_KEYS", "A desired and a supported language, each with its script, as one number, in rising order.", 64, map(matching.script_key, matching.scripts)),
         numbers("SCRIPT_RULE_DISTANCES", "The distance of each such pair.", 8, [row[2] for row in matching.scripts]),
     ] + [
-        numbers(f"{const}_{part.upper()}", f"The regions that lie {part} {name}: their lowercase bytes as the digits of a number, in rising order.", 64, map(folded_number, texts))
+        numbers(f"{const}_{part.upper()}", f"The regions that lie {part} {name}: their lowercase bytes as the digits of a number, in rising order.", 32, map(folded_number, texts))
         for name, const in SETS for part, texts in zip(("inside", "partly"), matching.sets[name])
     ])
 

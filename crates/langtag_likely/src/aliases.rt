@@ -76,7 +76,7 @@ fn alias_keys() -> &'static [u16]
 }
 
 #[tactic(auto, using(crate::proofs::MatchingTables::region_alias_numbers))]
-fn region_alias_keys() -> &'static [u64]
+fn region_alias_keys() -> &'static [u32]
     ensures numbers { result.now ≡ map (λ row. folded_number row.from.region) region_aliases }
     ensures climbs { IsTrue (climbs_from 0 result.now) }
     ensures count { length result.now ≡ 27 }

@@ -7,18 +7,19 @@ ghost use Rattle.langtag_likely.specs.Numbers.{first_index, place};
 use langtag_scan::folded_number;
 
 /// Returns where the number of a text stands among others, which rise.
-pub(crate) fn index_of(keys: &[u64], text: &[u8]) -> Option<usize>
+pub(crate) fn index_of(keys: &[u32], text: &[u8]) -> Option<usize>
     requires climbs { IsTrue (climbs_from 0 keys.now) }
     requires short { length text.now ≤ 4 }
     ensures found { result ≡ first_index keys.now (folded_number text.now) }
     ensures within { IfSome result (λ index. index < length keys.now) }
 {
-    keys.binary_search(&folded_number(text)).ok()
+    keys.binary_search_by_key(&folded_number(text), |key| u64::from(*key))
+        .ok()
 }
 
 /// Returns the place of a text among those whose numbers are keys, from 1 on: 0 of the empty text, and of one that is not
 /// among them the place after the last.
-pub(crate) fn place(keys: &[u64], text: &[u8]) -> u32
+pub(crate) fn place(keys: &[u32], text: &[u8]) -> u32
     requires climbs { IsTrue (climbs_from 0 keys.now) }
     requires few { length keys.now ≤ 256 }
     requires short { length text.now ≤ 4 }

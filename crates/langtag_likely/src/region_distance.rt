@@ -101,7 +101,7 @@ pub(crate) enum SetName {
 impl SetName {
     /// Returns the regions of the set, and the groups of which all countries are in it.
     #[tactic(auto, using(crate::proofs::MatchingTables::maghreb_inside_numbers, crate::proofs::MatchingTables::en_us_inside_numbers, crate::proofs::MatchingTables::americas_inside_numbers, crate::proofs::MatchingTables::cnsar_inside_numbers))]
-    fn inside(self) -> &'static [u64]
+    fn inside(self) -> &'static [u32]
         ensures numbers { result.now ≡ map folded_number (set_of self).inside }
         ensures climbs { IsTrue (climbs_from 0 result.now) }
     {
@@ -115,7 +115,7 @@ impl SetName {
 
     /// Returns the groups of which some countries are in the set, but not all.
     #[tactic(auto, using(crate::proofs::MatchingTables::maghreb_partly_numbers, crate::proofs::MatchingTables::en_us_partly_numbers, crate::proofs::MatchingTables::americas_partly_numbers, crate::proofs::MatchingTables::cnsar_partly_numbers))]
-    fn partly(self) -> &'static [u64]
+    fn partly(self) -> &'static [u32]
         ensures numbers { result.now ≡ map folded_number (set_of self).partly }
         ensures climbs { IsTrue (climbs_from 0 result.now) }
     {

@@ -76,7 +76,7 @@ pub(crate) fn language_number(language: &[u8]) -> u32
     letter_number(language) as u32
 }
 
-fn script_keys() -> &'static [u64]
+fn script_keys() -> &'static [u32]
     ensures numbers { result.now ≡ SCRIPT_KEYS }
     ensures climbs { IsTrue (climbs_from 0 result.now) }
     ensures few { length result.now ≤ 256 }
@@ -84,7 +84,7 @@ fn script_keys() -> &'static [u64]
     &tables::SCRIPT_KEYS
 }
 
-fn region_keys() -> &'static [u64]
+fn region_keys() -> &'static [u32]
     ensures numbers { result.now ≡ REGION_KEYS }
     ensures climbs { IsTrue (climbs_from 0 result.now) }
     ensures few { length result.now ≤ 256 }
