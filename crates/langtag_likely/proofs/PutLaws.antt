@@ -57,12 +57,17 @@ put_spelled r f before_script before_region script_is region_is =
     let language = put_language r.primary r.extended f.language in
     let script = one_flat (subtag_of f.script) in
     let region = one_flat (subtag_of f.region) in
-    ap (λ t. join (language ∷ r.extended) ++ (before_script ++ (f.script ++ (before_region ++ (f.region ++ t))))) (append-nil (drop (ends_of r).region (spell r)) ∙ rest_of r)
-    ∙ ap (λ t. join (language ∷ r.extended) ++ (before_script ++ (f.script ++ t))) (sym (append_assoc before_region f.region (hyphenated others)) ∙ ap (λ t. t ++ hyphenated others) region_is)
-    ∙ ap (λ t. join (language ∷ r.extended) ++ t) (sym (append_assoc before_script f.script (hyphenated region ++ hyphenated others)) ∙ ap (λ t. t ++ (hyphenated region ++ hyphenated others)) script_is)
-    ∙ ap (λ t. join (language ∷ r.extended) ++ (hyphenated script ++ t)) (sym (hyphenated-append region others))
-    ∙ ap (λ t. join (language ∷ r.extended) ++ t) (sym (hyphenated-append script (region ++ others)))
-    ∙ sym (join-append language r.extended (script ++ (region ++ others)))
+    rw (
+      append-nil (drop (ends_of r).region (spell r)),
+      rest_of r,
+      sym (append_assoc before_region f.region (hyphenated others)),
+      region_is,
+      sym (append_assoc before_script f.script (hyphenated region ++ hyphenated others)),
+      script_is,
+      sym (hyphenated-append region others),
+      sym (hyphenated-append script (region ++ others)),
+    )
+    (sym (join-append language r.extended (script ++ (region ++ others))))
 
 -- ---- its length
 
