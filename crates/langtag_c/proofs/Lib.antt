@@ -10,7 +10,6 @@ mod ItemLaws
 mod PlaceLaws
 mod ReadingLaws
 mod PartLaws
-mod PutLaws
 mod TagLengths
 mod LikelyForms
 mod DateLaws

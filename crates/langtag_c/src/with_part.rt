@@ -1,5 +1,5 @@
 //! A tag with another part, in the caller's buffer (RFC 5646 sections 2.2.1 to 2.2.7).
-ghost use Rattle.std.specs.Prelude.{◌≡◌, ◌↔◌, ◌+◌, ◌≤◌, ◌++◌, IfSome, drop, length, take};
+ghost use Rattle.std.specs.Prelude.{◌≡◌, ◌↔◌, ◌≤◌, ◌++◌, IfSome, length};
 ghost use Rattle.std.specs.List.{replace_range};
 ghost use Rattle.langtag_registry.specs.Writes.{Writes};
 ghost use Rattle.langtag_c.specs.Setting.{CanSet, SetsPart, part_numbered};
@@ -7,6 +7,7 @@ ghost use Rattle.langtag_c.specs.Setting.{CanSet, SetsPart, part_numbered};
 use crate::part::part_of;
 use crate::tag::normal_tag_of;
 use langtag::{Replacement, put_part};
+use langtag_registry::write_pieces;
 
 /// Writes a normal tag with one of its parts set to a text, or taken out where that is empty, and returns its length in
 /// bytes. The parts are counted from 0, the language, in the order in which they stand. Where the buffer is too short it
@@ -31,33 +32,14 @@ pub extern "C" fn langtag_with_part(tag: &[u8], part: u32, text: &[u8], buffer: 
 }
 
 /// Writes a text in which some bytes are replaced, where the buffer has room for it. Answers its length.
-fn write_replaced(text: &[u8], new: Replacement<'_>, buffer: &mut [u8]) -> usize
+fn write_replaced<'a>(text: &'a [u8], new: Replacement<'a>, buffer: &mut [u8]) -> usize
     requires order { new.start ≤ new.end }
     requires within { new.end ≤ length text.now }
     requires one { length new.hyphen.now ≤ 1 }
     ensures { Writes (λ whole. whole ≡ replace_range text.now new.entry.start new.entry.end (new.entry.hyphen.now ++ new.entry.part.now)) buffer.old buffer.new result }
 {
-    let hyphen = new.hyphen.as_bytes();
+    let hyphen: &'a [u8] = new.hyphen.as_bytes();
     let part = new.part.as_bytes();
-    let rest = &text[new.end..];
-    let after_hyphen = new.start + hyphen.len();
-    let after_part = after_hyphen + part.len();
-    let len = after_part + rest.len();
-    if len <= buffer.len() {
-        put(buffer, 0, &text[..new.start]);
-        put(buffer, new.start, hyphen);
-        put(buffer, after_hyphen, part);
-        put(buffer, after_part, rest);
-    }
-    len
-}
-
-/// Writes bytes into a buffer, from an index on.
-fn put(buffer: &mut [u8], start: usize, bytes: &[u8])
-    requires room { start + length bytes.now ≤ length buffer.old }
-    ensures len { length buffer.new ≡ length buffer.old }
-    ensures put { take (start + length bytes.now) buffer.new ≡ take start buffer.old ++ bytes.now }
-    ensures rest { drop (start + length bytes.now) buffer.new ≡ drop (start + length bytes.now) buffer.old }
-{
-    buffer[start..start + bytes.len()].copy_from_slice(bytes);
+    let pieces = [&text[..new.start], hyphen, part, &text[new.end..]];
+    write_pieces(&pieces, buffer)
 }

@@ -2,13 +2,16 @@
 use Rattle.std.proofs.Common.{◌≡◌, ◌≢◌, ℕ, zero, suc, ◌<◌, true, cond, ltb, List, [], ◌∷◌, length, get_or, Option, None, Some, option_map, inl, inr, refl, sym, ap, ◌∙◌, arith, Bool}
 use Rattle.std.specs.Prelude.{Result, Ok, Err}
 use Rattle.std.specs.List.{list_all}
+use Rattle.std.specs.List.Sorted.{IsBinarySearchResult}
+use Rattle.std.specs.Ordering.{nat_cmp}
 use Rattle.std.specs.Result.{result_ok}
 use Rattle.std.proofs.lemmas.Bool.{and_parts, ltb-true, eq-eqb, ne_eqb, true_from_ne_false, both_ways}
 use Rattle.std.proofs.lemmas.Bool.Decides.{eqb_tells}
 use Rattle.langtag_registry.specs.Numbers.{climbs_from}
-use Rattle.langtag_registry.proofs.Rising.{IsSearched, searched_apart}
+use Rattle.langtag_registry.proofs.Rising.{IsSearched, climb_searched, searched_apart}
 use Rattle.langtag_likely.specs.Numbers.{first_index}
 use Rattle.std.proofs.lemmas.List.Folds.{list_all_at}
+use Rattle.std.proofs.lemmas.List.Sorted.{searched}
 
 above_first : (low : ℕ) (numbers : List ℕ) (k : ℕ) → climbs_from low numbers ≡ true → k < length numbers → low < get_or numbers k 0
 above_first low [] k climbs inside = absurd (omega (arith, inside))
@@ -34,9 +37,13 @@ index_absent (k ∷ keys) key none =
     rw (ne_eqb key k (λ same. none zero (omega arith) (sym same)), index_absent keys key (λ j inside. none (suc j) (omega (arith, inside)))) refl
 
 -- what a binary search finds
-pub index_searched : (keys : List ℕ) (key : ℕ) (found : Result ℕ ℕ) → climbs_from 0 keys ≡ true → IsSearched keys key found → result_ok found ≡ first_index keys key
-index_searched keys key (Ok i) climbs at = sym (index_found 0 keys key i climbs at.0 at.1)
-index_searched keys key (Err i) climbs at = sym (index_absent keys key (searched_apart keys key i at))
+pub index_searched :
+    (keys : List ℕ) (key : ℕ) (found : Result ℕ ℕ) → climbs_from 0 keys ≡ true → IsBinarySearchResult (λ k. nat_cmp k key) keys found → result_ok found ≡ first_index keys key
+index_searched keys key found climbs position = by_result found (searched keys key found position (climb_searched keys climbs))
+  where
+    by_result : (found : Result ℕ ℕ) → IsSearched keys key found → result_ok found ≡ first_index keys key
+    by_result (Ok i) at = sym (index_found 0 keys key i climbs at.0 at.1)
+    by_result (Err i) at = sym (index_absent keys key (searched_apart keys key i at))
 
 -- a first index is one of the list, and the number stands there
 pub record IsIndex (keys : List ℕ) (key i : ℕ) : Type 0 where

@@ -1,25 +1,20 @@
 -- A tag with other fields, piece by piece.
-use Rattle.std.proofs.Common.{◌≡◌, ℕ, ◌+◌, ◌≤◌, true, false, Bool, cond, List, [], ◌∷◌, ◌++◌, length, drop, refl, sym, ap, ◌∙◌, arith, append_assoc}
+use Rattle.std.proofs.Common.{◌≡◌, ℕ, ◌+◌, ◌≤◌, true, false, Bool, cond, List, [], ◌∷◌, ◌++◌, length, drop, sym, ap, ◌∙◌, arith, append_assoc}
 use Rattle.std.specs.Prelude.{codes}
 use Rattle.std.specs.List.{flat_map}
-use Rattle.std.proofs.lemmas.List.{length-append, length-drop, append-nil}
+use Rattle.std.proofs.lemmas.List.{length-append, append-nil}
 use Rattle.langtag_scan.specs.Case.{are_alike}
 use Rattle.langtag_scan.specs.CaseLaws.{are_alike-decides}
 use Rattle.langtag_scan.specs.Ends.{ends_of}
 use Rattle.langtag_scan.specs.Record.{Record, one_flat, extension_flat, private_part_flat, spell}
 use Rattle.langtag_scan.specs.Subtags.{join}
-use Rattle.langtag_scan.proofs.Joins.{hyphenated, hyphenated-append, join-append, length-join, length-join-append, drop-join}
+use Rattle.langtag_scan.proofs.Joins.{hyphenated, hyphenated-append, join-append, length-hyphenated, length-join, drop-join}
 use Rattle.langtag_scan.proofs.PartOffsets.{ends_in_order}
 use Rattle.langtag_language.specs.Language.{SpellsLanguage}
 use Rattle.langtag_registry.proofs.Letters.{primary_length, extended_primary}
 use Rattle.langtag_likely.specs.Likely.{Fields, or_other}
 use Rattle.langtag_likely.specs.Maximal.{put_fields, put_language, subtag_of}
-use Rattle.langtag_likely.specs.Output.{after_hyphen}
 use Rattle.langtag_likely.proofs.RowsFound.{alike_length}
-
-pub hyphen_before : (s : List ℕ) → (length s ≡ 0 → ⊥) → 45 ∷ s ≡ after_hyphen s
-hyphen_before [] some = absurd (some refl)
-hyphen_before (b ∷ s) some = refl
 
 -- ---- the language
 
@@ -44,32 +39,35 @@ und_alone primary (e ∷ es) text other spells und =
 
 -- ---- the whole text
 
-one_hyphenated : (s : List ℕ) → hyphenated (one_flat (subtag_of s)) ≡ after_hyphen s
-one_hyphenated [] = refl
-one_hyphenated (b ∷ s) = append-nil (45 ∷ b ∷ s)
-
 rest_of : (r : Record) → drop (ends_of r).region (spell r) ≡ hyphenated (r.variants ++ (flat_map extension_flat r.extensions ++ private_part_flat r.private_use))
 rest_of r =
     let others = r.variants ++ (flat_map extension_flat r.extensions ++ private_part_flat r.private_use) in
     let cut = drop-join r.primary (r.extended ++ (one_flat r.script ++ one_flat r.region)) others in
     simp append_assoc at cut
 
--- the language, the script, the region, and what stands after the old region
+-- the language, the script and the region, each with its hyphen, and what stands after the old region
 pub put_spelled :
-    (r : Record) (f : Fields) →
-    ((join (put_language r.primary r.extended f.language ∷ r.extended) ++ after_hyphen f.script) ++ after_hyphen f.region) ++ drop (ends_of r).region (spell r)
+    (r : Record) (f : Fields) (before_script before_region : List ℕ) →
+    before_script ++ f.script ≡ hyphenated (one_flat (subtag_of f.script)) → before_region ++ f.region ≡ hyphenated (one_flat (subtag_of f.region)) →
+    join (put_language r.primary r.extended f.language ∷ r.extended)
+    ++ (before_script ++ (f.script ++ (before_region ++ (f.region ++ (drop (ends_of r).region (spell r) ++ [])))))
     ≡ spell (put_fields r f)
-put_spelled r f =
+put_spelled r f before_script before_region script_is region_is =
     let others = r.variants ++ (flat_map extension_flat r.extensions ++ private_part_flat r.private_use) in
     let language = put_language r.primary r.extended f.language in
-    ap (λ t. ((join (language ∷ r.extended) ++ after_hyphen f.script) ++ after_hyphen f.region) ++ t) (rest_of r)
-    ∙ ap (λ t. ((join (language ∷ r.extended) ++ t) ++ after_hyphen f.region) ++ hyphenated others) (sym (one_hyphenated f.script))
-    ∙ ap (λ t. ((join (language ∷ r.extended) ++ hyphenated (one_flat (subtag_of f.script))) ++ t) ++ hyphenated others) (sym (one_hyphenated f.region))
-    ∙ sym (join-append language r.extended (one_flat (subtag_of f.script) ++ (one_flat (subtag_of f.region) ++ others))
-    ∙ ap (λ t. join (language ∷ r.extended) ++ t) (hyphenated-append (one_flat (subtag_of f.script)) (one_flat (subtag_of f.region) ++ others)
-    ∙ ap (λ t. hyphenated (one_flat (subtag_of f.script)) ++ t) (hyphenated-append (one_flat (subtag_of f.region)) others))
-    ∙ sym (append_assoc (join (language ∷ r.extended)) (hyphenated (one_flat (subtag_of f.script))) (hyphenated (one_flat (subtag_of f.region)) ++ hyphenated others))
-    ∙ sym (append_assoc (join (language ∷ r.extended) ++ hyphenated (one_flat (subtag_of f.script))) (hyphenated (one_flat (subtag_of f.region))) (hyphenated others)))
+    let script = one_flat (subtag_of f.script) in
+    let region = one_flat (subtag_of f.region) in
+    rw (
+      append-nil (drop (ends_of r).region (spell r)),
+      rest_of r,
+      sym (append_assoc before_region f.region (hyphenated others)),
+      region_is,
+      sym (append_assoc before_script f.script (hyphenated region ++ hyphenated others)),
+      script_is,
+      sym (hyphenated-append region others),
+      sym (hyphenated-append script (region ++ others)),
+    )
+    (sym (join-append language r.extended (script ++ (region ++ others))))
 
 -- ---- its length
 
@@ -82,9 +80,15 @@ region_inside r =
     let c = order.private_use in
     omega (arith, a, b, c)
 
-after_hyphen-length : (s : List ℕ) → length (after_hyphen s) ≤ length s + 1
-after_hyphen-length [] = omega arith
-after_hyphen-length (b ∷ s) = omega arith
+subtag-length : (s : List ℕ) → length (hyphenated (one_flat (subtag_of s))) ≤ length s + 1
+subtag-length [] = omega arith
+subtag-length (b ∷ s) = let same = ap length (append-nil s) in omega (arith, same)
+
+all_lengths :
+    (x : List ℕ) (es ss gs others : List (List ℕ)) →
+    length (join (x ∷ (es ++ (ss ++ (gs ++ others)))))
+    ≡ length x + (length (hyphenated es) + (length (hyphenated ss) + (length (hyphenated gs) + length (hyphenated others))))
+all_lengths x es ss gs others = simp (length-join, length-hyphenated)
 
 put_language-length : (p : List ℕ) (es : List (List ℕ)) (l : List ℕ) → length (put_language p es l) ≤ length p + length l
 put_language-length p [] l = by_test (are_alike (codes "und") p) l
@@ -98,17 +102,11 @@ put_language-length p (e ∷ es) l = omega arith
 -- a tag with other fields is longer by no more than these and two hyphens
 pub put_length : (r : Record) (f : Fields) → length (spell (put_fields r f)) ≤ length (spell r) + (length f.language + (length f.script + (length f.region + 2)))
 put_length r f =
+    let others = r.variants ++ (flat_map extension_flat r.extensions ++ private_part_flat r.private_use) in
     let language = put_language r.primary r.extended f.language in
     let a = put_language-length r.primary r.extended f.language in
-    let b = length-join language r.extended in
-    let c = length-join r.primary r.extended in
-    let d = length-join-append r.primary r.extended (one_flat r.script ++ one_flat r.region) in
-    let e = after_hyphen-length f.script in
-    let g = after_hyphen-length f.region in
-    let h = length-drop (ends_of r).region (spell r) in
-    let inside = region_inside r in
-    let first = length-append (join (language ∷ r.extended)) (after_hyphen f.script) in
-    let second = length-append (join (language ∷ r.extended) ++ after_hyphen f.script) (after_hyphen f.region) in
-    let third = length-append ((join (language ∷ r.extended) ++ after_hyphen f.script) ++ after_hyphen f.region) (drop (ends_of r).region (spell r)) in
-    let whole = ap length (put_spelled r f) in
-    omega (arith, a, b, c, d, e, g, h, inside, first, second, third, whole)
+    let b = subtag-length f.script in
+    let c = subtag-length f.region in
+    let new = all_lengths language r.extended (one_flat (subtag_of f.script)) (one_flat (subtag_of f.region)) others in
+    let old = all_lengths r.primary r.extended (one_flat r.script) (one_flat r.region) others in
+    omega (arith, a, b, c, new, old)

@@ -14,7 +14,6 @@ pub mod Maximal
 pub mod MaximalLaws
 pub mod Nearness
 pub mod Numbers
-pub mod Output
 pub mod Posix
 pub mod Rows
 pub mod Rules

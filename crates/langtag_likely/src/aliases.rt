@@ -9,7 +9,7 @@ ghost use Rattle.langtag_likely.specs.MatchingData.{language_aliases, region_ali
 ghost use Rattle.langtag_likely.specs.Texts.{field_texts};
 
 use crate::fields::or_other;
-use crate::keys::{index_of, index_of_short, short_number};
+use crate::keys::index_of;
 use crate::matching_tables as tables;
 use crate::names::name_at;
 use crate::rows::language_number;
@@ -44,7 +44,8 @@ fn language_alias(fields: TagFields<'_>) -> Option<TagFields<'static>>
     if fields.language.len() > 3 {
         return None;
     }
-    let index = index_of_short(alias_keys(), language_number(fields.language) as u16)?;
+    let number = language_number(fields.language) as u16;
+    let index = alias_keys().binary_search(&number).ok()?;
     Some(TagFields {
         language: name_at(&tables::ALIAS_LANGUAGES, index as u8),
         script: name_at(&tables::ALIAS_SCRIPTS, index as u8),
@@ -57,7 +58,7 @@ fn language_alias(fields: TagFields<'_>) -> Option<TagFields<'static>>
 fn region_alias(fields: TagFields<'_>) -> Option<TagFields<'static>>
     ensures { option_map field_texts result ≡ likely_for region_aliases (spec.region_alone (field_texts fields.entry)) }
 {
-    let index = index_of(region_alias_keys(), short_number(fields.region))?;
+    let index = index_of(region_alias_keys(), fields.region)?;
     Some(TagFields {
         language: b"",
         script: b"",

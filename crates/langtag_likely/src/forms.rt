@@ -7,8 +7,7 @@ ghost use Rattle.langtag_likely.specs.Maximal.{IsMaximalForm, IsMinimalForm, IsO
 ghost use Rattle.langtag_likely.specs.MaximalLaws.{IsAlikeForm, KeepsOthers, TellsAsMaximal, UndoesMaximal, UndoesMinimal};
 
 use crate::likely::{add_likely, remove_likely};
-use crate::output::write_text;
-use crate::put::write_changed;
+use crate::put::{write_changed, write_text};
 use crate::tag_fields::TagFields;
 use langtag::{LangTag, LangTagBuf};
 use std::alloc::{AllocError, Global};

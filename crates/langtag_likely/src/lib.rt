@@ -25,7 +25,6 @@ mod matching;
 mod matching_tables;
 mod names;
 mod nearness;
-mod output;
 mod posix;
 mod posix_error;
 mod put;

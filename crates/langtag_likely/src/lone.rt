@@ -7,7 +7,6 @@ ghost use Rattle.langtag_likely.specs.Good.{is_language_field};
 ghost use Rattle.langtag_likely.specs.Texts.{field_texts};
 ghost use Rattle.langtag_likely.specs.declared.matching_tables.TheConstants.{RELATED_KEYS};
 
-use crate::keys::index_of_short;
 use crate::matching_tables as tables;
 use crate::rows::language_number;
 use crate::tag_fields::TagFields;
@@ -40,7 +39,8 @@ fn is_related(language: &[u8]) -> bool
     requires in_class { IsTrue (is_language_field language.now) }
     ensures { result ≡ false → IsTrue (spec.is_lone language.now) }
 {
-    index_of_short(related_keys(), language_number(language) as u16).is_some()
+    let number = language_number(language) as u16;
+    related_keys().binary_search(&number).is_ok()
 }
 
 fn related_keys() -> &'static [u16]

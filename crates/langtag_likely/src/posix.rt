@@ -1,6 +1,5 @@
 //! The tag of a POSIX locale's name.
-ghost use Rattle.std.specs.Prelude.{◌≡◌, ℕ, ◌≤◌, IsTrue, List, None, Some, IfOk, IfErr, MatchOption, length, ◌++◌};
-ghost use Rattle.std.specs.List.{replace_range};
+ghost use Rattle.std.specs.Prelude.{◌≡◌, ℕ, IsTrue, List, None, Some, IfOk, IfErr, MatchOption};
 ghost use Rattle.langtag_scan.specs.Record.{Record, EachRecord, Spells};
 ghost use Rattle.langtag.specs.Edit.{SetsPart, SetsScript, SetsVariants};
 ghost use Rattle.langtag_place.specs.Variants.{IsVariants};
@@ -8,16 +7,14 @@ ghost use Rattle.langtag_scan.specs.Class.{is_script};
 ghost use Rattle.langtag.specs.Text.{lang_tag_text, lang_tag_buf_text, normal_lang_tag_text};
 ghost use Rattle.langtag_registry.specs.Writes.{Writes};
 ghost use Rattle.langtag_likely.specs.Maximal.{IsForm};
-ghost use Rattle.langtag_likely.specs.Output.{IsCounted};
 ghost use Rattle.langtag_likely.specs.Posix.{IsPlace, IsRefusal, IsTagOfName, NamesTag, hyphenated, with_modifier};
 
 use crate::forms::tag_of;
-use crate::output::{Output, write_text};
 use crate::posix_error::PosixError;
-use langtag::{
-    LangTag, LangTagBuf, NormalLangTag, Part, Replacement, case_insensitive_eq, put_part,
-};
+use crate::put::write_text;
+use langtag::{LangTag, LangTagBuf, NormalLangTag, Part, case_insensitive_eq, put_part};
 use langtag_place::{Script, Variants};
+use langtag_registry::write_pieces;
 use langtag_scan::split_at_byte;
 use std::alloc::{AllocError, Global};
 
@@ -158,29 +155,13 @@ fn variants_part(variants: &str) -> Part<'_>
 }
 
 /// Writes a tag with a part into a buffer, where it has room, and returns how long that tag is.
-fn write_with(tag: NormalLangTag<'_>, part: Part<'_>, buffer: &mut [u8]) -> usize
+fn write_with<'a>(tag: NormalLangTag<'a>, part: Part<'a>, buffer: &mut [u8]) -> usize
     ensures { Writes (SetsPart part.entry (normal_lang_tag_text tag.entry)) buffer.old buffer.new result }
 {
-    let text = tag.as_str();
+    let text = tag.as_str().as_bytes();
     let new = put_part(tag, part);
-    let len = put_replaced(text.as_bytes(), &new, &mut []);
-    if len <= buffer.len() {
-        put_replaced(text.as_bytes(), &new, buffer);
-    }
-    len
-}
-
-/// Puts a text in which some bytes are replaced into a buffer, as far as it has room. Returns how long that text is.
-fn put_replaced(text: &[u8], new: &Replacement<'_>, buffer: &mut [u8]) -> usize
-    requires order { new.now.start ≤ new.now.end }
-    requires within { new.now.end ≤ length text.now }
-    ensures { IsCounted (replace_range text.now new.now.start new.now.end (new.now.hyphen.now ++ new.now.part.now))
-        buffer.old buffer.new result }
-{
-    let mut out = Output::new(buffer);
-    out.push(&text[..new.start]);
-    out.push(new.hyphen.as_bytes());
-    out.push(new.part.as_bytes());
-    out.push(&text[new.end..]);
-    out.len()
+    let hyphen: &'a [u8] = new.hyphen.as_bytes();
+    let part = new.part.as_bytes();
+    let pieces = [&text[..new.start], hyphen, part, &text[new.end..]];
+    write_pieces(&pieces, buffer)
 }

@@ -1,22 +1,22 @@
 //! A tag with other fields.
-ghost use Rattle.std.specs.Prelude.{◌≡◌, ◌∷◌, drop};
+ghost use Rattle.std.specs.Prelude.{◌≡◌, ◌∷◌, ◌++◌, drop};
 ghost use Rattle.std.specs.Option.{option_map, option_map_or};
 ghost use Rattle.langtag_scan.specs.Ends.{ends_of};
-ghost use Rattle.langtag_scan.specs.Record.{EachRecord, spell};
+ghost use Rattle.langtag_scan.specs.Record.{EachRecord, one_flat, spell};
 ghost use Rattle.langtag_scan.specs.Subtags.{join};
+ghost use Rattle.langtag_scan.proofs.Joins.{hyphenated};
 ghost use Rattle.langtag_language.specs.Language.{EachLanguageSpelling};
 ghost use Rattle.langtag_language.specs.Text.{language_text};
 ghost use Rattle.langtag.specs.Text.{normal_lang_tag_text};
 ghost use Rattle.langtag_registry.specs.Writes.{Writes};
-ghost use Rattle.langtag_likely.specs.Maximal.{put_fields, put_language};
-ghost use Rattle.langtag_likely.specs.Output.{IsCounted};
+ghost use Rattle.langtag_likely.specs.Maximal.{put_fields, put_language, subtag_of};
 ghost use Rattle.langtag_likely.specs.Texts.{field_texts};
 
 use crate::fields::or_other;
-use crate::output::{Output, write_text};
 use crate::tag_fields::TagFields;
 use langtag::NormalLangTag;
 use langtag_language::Language;
+use langtag_registry::write_pieces;
 
 /// Writes a tag with other fields into a buffer, or as it is where there are none.
 pub(crate) fn write_changed(
@@ -34,28 +34,33 @@ pub(crate) fn write_changed(
 }
 
 /// Writes a tag with these fields into a buffer, where it has room, and returns how long that tag is.
-fn write_fields(tag: NormalLangTag<'_>, fields: TagFields<'_>, buffer: &mut [u8]) -> usize
+fn write_fields<'a>(tag: NormalLangTag<'a>, fields: TagFields<'a>, buffer: &mut [u8]) -> usize
     ensures { EachRecord (normal_lang_tag_text tag.entry)
         (λ r. Writes (λ form. form ≡ spell (put_fields r (field_texts fields.entry))) buffer.old buffer.new result) }
 {
-    let len = put_fields(tag, fields, &mut []);
-    if len <= buffer.len() {
-        put_fields(tag, fields, buffer);
-    }
-    len
+    let pieces = [
+        put_language(tag.language(), fields.language),
+        hyphen_before(fields.script),
+        fields.script,
+        hyphen_before(fields.region),
+        fields.region,
+        after_region(tag),
+    ];
+    write_pieces(&pieces, buffer)
 }
 
-/// Puts a tag with these fields into a buffer, as far as it has room. Returns how long that tag is.
-fn put_fields(tag: NormalLangTag<'_>, fields: TagFields<'_>, buffer: &mut [u8]) -> usize
-    ensures { EachRecord (normal_lang_tag_text tag.entry)
-        (λ r. IsCounted (spell (put_fields r (field_texts fields.entry))) buffer.old buffer.new result) }
+/// Writes a text.
+pub(crate) fn write_text(text: &[u8], buffer: &mut [u8]) -> usize
+    ensures { Writes (λ new. new ≡ text.now) buffer.old buffer.new result }
 {
-    let mut out = Output::new(buffer);
-    out.push(put_language(tag.language(), fields.language));
-    out.push_subtag(fields.script);
-    out.push_subtag(fields.region);
-    out.push(after_region(tag));
-    out.len()
+    write_pieces(&[text], buffer)
+}
+
+/// Returns the hyphen before a subtag; nothing, if there is none.
+fn hyphen_before(subtag: &[u8]) -> &[u8]
+    ensures { result.now ++ subtag.now ≡ hyphenated (one_flat (subtag_of subtag.now)) }
+{
+    if subtag.is_empty() { b"" } else { b"-" }
 }
 
 /// Returns what stands in a tag after its region, with the hyphen before it.

@@ -8,7 +8,7 @@ ghost use Rattle.langtag_likely.specs.Good.{is_region_field};
 ghost use Rattle.langtag_likely.specs.Sets.{set_of};
 ghost use Rattle.langtag_likely.specs.Texts.{field_texts};
 
-use crate::keys::{index_of, short_number};
+use crate::keys::index_of;
 use crate::matching_tables as tables;
 use crate::tag_fields::TagFields;
 use langtag_scan::case_insensitive_eq;
@@ -131,14 +131,14 @@ impl SetName {
     fn is_inside(self, fields: TagFields<'_>) -> bool
         ensures { result ≡ spec.is_among (set_of self).inside fields.entry.region.now }
     {
-        index_of(self.inside(), short_number(fields.region)).is_some()
+        index_of(self.inside(), fields.region).is_some()
     }
 
     #[tactic(auto, using(crate::proofs::FieldClasses::region_length, crate::proofs::FieldClasses::region_alphanumeric, crate::proofs::RulesFound::among_by_number, crate::proofs::SetLaws::partly_plain))]
     fn is_partly_inside(self, fields: TagFields<'_>) -> bool
         ensures { result ≡ spec.is_among (set_of self).partly fields.entry.region.now }
     {
-        index_of(self.partly(), short_number(fields.region)).is_some()
+        index_of(self.partly(), fields.region).is_some()
     }
 
     fn is_outside(self, fields: TagFields<'_>) -> bool

@@ -11,10 +11,11 @@ ghost use Rattle.langtag_likely.specs.Rows.{no_row, places_for, places_of};
 ghost use Rattle.langtag_likely.specs.Texts.{field_texts};
 ghost use Rattle.langtag_likely.specs.declared.tables.TheConstants.{SCRIPT_KEYS, REGION_KEYS};
 
-use crate::keys::{index_of, index_of_short, letter_number, place};
+use crate::keys::place;
 use crate::names::name_in;
 use crate::tables;
 use crate::tag_fields::TagFields;
+use langtag_registry::letter_number;
 
 /// Returns the right side of the row with this left side. Its language is empty where the left side has one.
 #[tactic(auto, using(crate::proofs::RowLaws::all_long, crate::proofs::RowLaws::all_alone, crate::proofs::RowLaws::all_other))]
@@ -37,7 +38,8 @@ fn language_row(language: &[u8]) -> Option<TagFields<'static>>
     requires short { length language.now ≤ 3 }
     ensures { option_map field_texts result ≡ places_for language.now }
 {
-    let index = index_of_short(language_keys(), letter_number(language) as u16)?;
+    let number = letter_number(language) as u16;
+    let index = language_keys().binary_search(&number).ok()?;
     Some(language_places(index))
 }
 
@@ -46,7 +48,7 @@ fn other_row(key: TagFields<'_>) -> Option<TagFields<'static>>
     requires { length key.language.now ≤ 3 }
     ensures { option_map field_texts result ≡ likely_for other_rows (field_texts key.entry) }
 {
-    let index = index_of(other_keys(), key_number(key))?;
+    let index = other_keys().binary_search(&key_number(key)).ok()?;
     Some(other_fields(index))
 }
 

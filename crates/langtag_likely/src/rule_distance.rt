@@ -8,7 +8,6 @@ ghost use Rattle.langtag_likely.specs.MatchingData.{language_rules, script_rules
 ghost use Rattle.langtag_likely.specs.Numbers.{key_number, language_pair, script_pair};
 ghost use Rattle.langtag_likely.specs.Texts.{field_texts};
 
-use crate::keys::{index_of, index_of_long};
 use crate::matching_tables as tables;
 use crate::rows::{key_number, language_number};
 use crate::tag_fields::TagFields;
@@ -27,9 +26,9 @@ pub(crate) fn language_distance(desired: TagFields<'_>, supported: TagFields<'_>
     if desired.language.len() > 3 || supported.language.len() > 3 {
         return 80;
     }
-    match index_of(language_rule_keys(), language_pair(desired, supported)) {
-        Some(index) => language_rule_distance(index),
-        None => 80,
+    match language_rule_keys().binary_search(&language_pair(desired, supported)) {
+        Ok(index) => language_rule_distance(index),
+        Err(_) => 80,
     }
 }
 
@@ -46,9 +45,9 @@ pub(crate) fn script_distance(desired: TagFields<'_>, supported: TagFields<'_>) 
     if desired.language.len() > 3 || supported.language.len() > 3 {
         return 50;
     }
-    match index_of_long(script_rule_keys(), script_pair(desired, supported)) {
-        Some(index) => script_rule_distance(index),
-        None => 50,
+    match script_rule_keys().binary_search(&script_pair(desired, supported)) {
+        Ok(index) => script_rule_distance(index),
+        Err(_) => 50,
     }
 }
 

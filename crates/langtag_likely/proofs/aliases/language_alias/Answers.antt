@@ -8,6 +8,7 @@ use Rattle.langtag_likely.proofs.AliasLaws.{alias_at, alias_found}
 use Rattle.langtag_likely.proofs.Columns.{name_good}
 use Rattle.langtag_likely.proofs.FieldClasses.{language_letters}
 use Rattle.langtag_likely.proofs.MatchingTables.{alias_count, aliases_short, alias_languages_good, alias_scripts_good}
+use Rattle.langtag_likely.proofs.FirstIndex.{first_index-is, index_searched}
 use Rattle.langtag_likely.proofs.RowsFound.{long_nowhere}
 use Rattle.langtag_likely.proofs.aliases.language_alias.Goals as goal
 
@@ -17,11 +18,12 @@ returns-then-fields-gt3 c = sym (long_nowhere language_aliases (language_alone (
 pub returns-in_err-index : goal.returns-in_err-index
 returns-in_err-index c =
     ap (option_map field_texts) c.from_residual.ensures
-    ∙ alias_found (field_texts c.args.fields) _ _ _ (language_letters _ c.args.fields.language_class) c.alias_keys.ensures.numbers c.language_number.ensures.number c.in_err-index.ensures.found
+    ∙ alias_found (field_texts c.args.fields) _ _ _ (language_letters _ c.args.fields.language_class) c.alias_keys.ensures.numbers c.language_number.ensures.number (c.in_err-index.ensures.value ∙ index_searched c.alias_keys.result.now c.language_number.result _ c.alias_keys.ensures.climbs c.binary_search.ensures.position)
 
 pub invariant_of-result : goal.invariant_of-result
 invariant_of-result c =
-    let within : c.in_ok-index.index < 9 = omega (arith, c.in_ok-index.ensures.within, c.alias_keys.ensures.count) in
+    let at = first_index-is c.alias_keys.result.now c.language_number.result c.in_ok-index.index (sym (c.in_ok-index.ensures.value ∙ index_searched c.alias_keys.result.now c.language_number.result _ c.alias_keys.ensures.climbs c.binary_search.ensures.position)) in
+    let within : c.in_ok-index.index < 9 = omega (arith, at.inside, c.alias_keys.ensures.count) in
     record {
       language_class = name_good is_language_field ALIAS_LANGUAGES c.name_at.result.now c.in_ok-index.index alias_languages_good within c.name_at.ensures;
       script_class = name_good is_script_field ALIAS_SCRIPTS c.name_at-2.result.now c.in_ok-index.index alias_scripts_good within c.name_at-2.ensures;
@@ -30,6 +32,8 @@ invariant_of-result c =
 
 pub returns : goal.returns
 returns c =
-    let inside : c.in_ok-index.index < length language_aliases = omega (arith, c.in_ok-index.ensures.within, c.alias_keys.ensures.count, alias_count) in
+    let found = c.in_ok-index.ensures.value ∙ index_searched c.alias_keys.result.now c.language_number.result _ c.alias_keys.ensures.climbs c.binary_search.ensures.position in
+    let at = first_index-is c.alias_keys.result.now c.language_number.result c.in_ok-index.index (sym found) in
+    let inside : c.in_ok-index.index < length language_aliases = omega (arith, at.inside, c.alias_keys.ensures.count, alias_count) in
     ap Some (alias_at c.in_ok-index.index c.name_at.result.now c.name_at-2.result.now inside c.name_at.ensures c.name_at-2.ensures)
-    ∙ alias_found (field_texts c.args.fields) _ _ _ (language_letters _ c.args.fields.language_class) c.alias_keys.ensures.numbers c.language_number.ensures.number c.in_ok-index.ensures.found
+    ∙ alias_found (field_texts c.args.fields) _ _ _ (language_letters _ c.args.fields.language_class) c.alias_keys.ensures.numbers c.language_number.ensures.number found

@@ -1,11 +1,12 @@
-use Rattle.std.proofs.Common.{◌∙◌}
-use Rattle.std.proofs.lemmas.List.Sorted.{searched}
-use Rattle.langtag_registry.proofs.Rising.{climb_searched}
+use Rattle.std.proofs.Common.{◌∙◌, ap, rules}
+use Rattle.std.proofs.lemmas.List.Sorted.{answers_always}
+use Rattle.langtag_likely.specs.Numbers.{first_index}
 use Rattle.langtag_likely.proofs.FirstIndex.{index_searched}
 use Rattle.langtag_likely.proofs.keys.index_of.Goals as goal
 
+-- the closure gives the key itself
 pub returns-clause-found : goal.returns-clause-found
 returns-clause-found c =
-    c.ok.ensures.value
-    ∙ index_searched c.args.keys.now c.args.key c.binary_search.result c.requires
-    (searched c.args.keys.now c.args.key c.binary_search.result c.binary_search.ensures.position (climb_searched c.args.keys.now c.requires))
+    let position = c.binary_search_by_key.ensures.position (λ key. key) (answers_always _ _ _ (λ f a r g called. search rules)) in
+    c.ok.ensures.value ∙ index_searched c.args.keys.now c.folded_number.result _ c.requires.climbs position
+    ∙ ap (first_index c.args.keys.now) c.folded_number.ensures.number

@@ -1,27 +1,25 @@
-use Rattle.std.proofs.Common.{◌≡◌, ◌<◌, ◌^◌, length, refl, ap, arith}
+use Rattle.std.proofs.Common.{◌≡◌, ◌<◌, ◌^◌, [], ◌++◌, length, ap, ◌∙◌, arith}
+use Rattle.langtag_registry.proofs.FaultLaws.{language_spelled}
 use Rattle.langtag_scan.specs.Record.{spell}
 use Rattle.langtag.specs.Text.{normal_lang_tag_text}
 use Rattle.langtag_likely.specs.Maximal.{put_fields}
 use Rattle.langtag_likely.specs.Texts.{field_texts}
 use Rattle.langtag_likely.proofs.FieldClasses.{language_length, script_length, region_length}
-use Rattle.langtag_likely.proofs.PutLaws.{put_length}
+use Rattle.langtag_likely.proofs.FormLaws.{rewritten}
+use Rattle.langtag_likely.proofs.PutLaws.{put_length, put_spelled}
 use Rattle.langtag_likely.proofs.put.write_fields.Goals as goal
 
-pub returns-else-len-buffer : goal.returns-else-len-buffer
-returns-else-len-buffer c = λ r spells.
-    let form = spell (put_fields r (field_texts c.args.fields)) in
-    let len = c.put_fields-len.result in
-    let counted = (c.put_fields-len.ensures r spells).counted in
+pub returns : goal.returns
+returns c = λ r spells.
+    let f = field_texts c.args.fields in
+    let text = c.put_language.result.now ++ (c.hyphen_before.result.now ++ (f.script ++ (c.hyphen_before-2.result.now ++ (f.region ++ (c.after_region.result.now ++ []))))) in
+    let same : text ≡ spell (put_fields r f) =
+    rw (c.put_language.ensures r.primary r.extended (language_spelled r _ spells.0 (c.language.ensures r spells)), c.after_region.ensures r spells)
+    (put_spelled r f c.hyphen_before.result.now c.hyphen_before-2.result.now c.hyphen_before.ensures c.hyphen_before-2.ensures) in
     let room : length (normal_lang_tag_text c.args.tag) < 2 ^ 63 = omega arith in
-    let most = put_length r (field_texts c.args.fields) in
+    let most = put_length r f in
     let l = language_length c.args.fields.language.now c.args.fields.language_class in
     let s = script_length c.args.fields.script.now c.args.fields.script_class in
     let g = region_length c.args.fields.region.now c.args.fields.region_class in
-    let whole : len ≡ length form = omega (arith, counted, most, ap length spells.1, room, l, s, g) in
-    record {
-      text = form;
-      is_so = refl;
-      whole = whole;
-      written = λ fits. absurd (omega (arith, fits, c.if-len-buffer.false));
-      untouched = λ less. refl;
-    }
+    let short : length text < 2 ^ 64 = omega (arith, ap length same, most, ap length spells.1, room, l, s, g) in
+    rewritten _ _ _ (λ new is. is ∙ same) (c.write_pieces.ensures.written short)

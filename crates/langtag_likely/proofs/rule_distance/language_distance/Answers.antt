@@ -1,7 +1,9 @@
-use Rattle.std.proofs.Common.{None, Some, refl, sym, ◌∙◌}
+use Rattle.std.proofs.Common.{None, Some, refl, sym, ap, ◌∙◌}
+use Rattle.std.specs.Result.{result_ok}
 use Rattle.langtag_likely.specs.Texts.{field_texts}
 use Rattle.langtag_likely.proofs.DistanceLaws.{language_long_desired, language_long_supported, language_found}
 use Rattle.langtag_likely.proofs.FieldClasses.{language_letters}
+use Rattle.langtag_likely.proofs.FirstIndex.{index_searched}
 use Rattle.langtag_likely.proofs.rule_distance.language_distance.Goals as goal
 use Rattle.langtag_likely.proofs.rule_distance.language_distance.Goals.{then-desired-gt3-via-then-desired-gt3, then-desired-gt3-via-else-desired-gt3+then-supported-gt3}
 
@@ -13,14 +15,14 @@ returns-then-desired-gt3-clause-distance c =
       | then-desired-gt3-via-else-desired-gt3+then-supported-gt3 w ↦ language_long_supported (field_texts c.args.desired) (field_texts c.args.supported) other w.if-supported-gt3.true
     ]
 
-pub returns-in-Some-clause-distance : goal.returns-in-Some-clause-distance
-returns-in-Some-clause-distance c =
-    language_found (field_texts c.args.desired) (field_texts c.args.supported) (Some c.in-Some.index) _ _ _ (sym c.case_insensitive_eq.ensures.test ∙ c.if-case_insensitive_eq.false)
+pub returns-in-Ok-clause-distance : goal.returns-in-Ok-clause-distance
+returns-in-Ok-clause-distance c =
+    language_found (field_texts c.args.desired) (field_texts c.args.supported) (Some c.in-Ok.index) _ _ _ (sym c.case_insensitive_eq.ensures.test ∙ c.if-case_insensitive_eq.false)
     (language_letters _ c.args.desired.language_class) (language_letters _ c.args.supported.language_class) c.language_pair.ensures.half
-    c.language_rule_keys.ensures.numbers c.language_pair.ensures.number (sym c.in-Some.is ∙ c.index_of.ensures.found) c.language_rule_distance.ensures.distance
+    c.language_rule_keys.ensures.numbers c.language_pair.ensures.number (ap result_ok (sym c.in-Ok.is) ∙ index_searched c.language_rule_keys.result.now c.language_pair.result _ c.language_rule_keys.ensures.climbs c.binary_search.ensures.position) c.language_rule_distance.ensures.distance
 
-pub returns-in-None-clause-distance : goal.returns-in-None-clause-distance
-returns-in-None-clause-distance c =
+pub returns-in-Err-clause-distance : goal.returns-in-Err-clause-distance
+returns-in-Err-clause-distance c =
     language_found (field_texts c.args.desired) (field_texts c.args.supported) None 80 _ _ (sym c.case_insensitive_eq.ensures.test ∙ c.if-case_insensitive_eq.false)
     (language_letters _ c.args.desired.language_class) (language_letters _ c.args.supported.language_class) c.language_pair.ensures.half
-    c.language_rule_keys.ensures.numbers c.language_pair.ensures.number (sym c.in-None.is ∙ c.index_of.ensures.found) refl
+    c.language_rule_keys.ensures.numbers c.language_pair.ensures.number (ap result_ok (sym c.in-Err.is) ∙ index_searched c.language_rule_keys.result.now c.language_pair.result _ c.language_rule_keys.ensures.climbs c.binary_search.ensures.position) refl

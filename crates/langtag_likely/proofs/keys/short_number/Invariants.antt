@@ -1,8 +1,0 @@
-use Rattle.std.proofs.Common.{◌≡◌, ◌<◌, take}
-use Prim.Native.Nat.{◌^◌}
-use Rattle.langtag_scan.specs.Case.{folded_number}
-use Rattle.langtag_likely.proofs.keys.short_number.Given as goal
-
--- the number is that of the bytes so far, and has no more digits than they are
-abbrev pub invariant-loop-byte : goal.invariant-loop-byte
-invariant-loop-byte l = record { so_far : l.number ≡ folded_number (take l.byte-index l.bytes); digits : l.number < 256 ^ l.byte-index }
