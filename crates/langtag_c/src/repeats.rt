@@ -66,14 +66,17 @@ pub(crate) fn variant_at(tag: &NormalLangTag<'_>, wanted: usize) -> Option<Span>
     ensures { EachRecord (normal_lang_tag_text tag.now) (λ r. result ≡ member_span (variant_place r) r.variants (Some wanted)) }
 {
     let ends = tag.ends();
-    let mut rest = Span::between(ends.region, ends.variants);
-    for (index, variant) in tag.variants().iter().enumerate() {
-        let place = rest.take_first(variant.as_str().len());
-        if index == wanted {
-            return Some(place);
-        }
-    }
-    None
+    let variants = tag.variants();
+    let variant = variants.iter().nth(wanted)?;
+    let before: usize = variants
+        .iter()
+        .take(wanted)
+        .map(|variant| variant.as_str().len() + 1)
+        .sum();
+    Some(Span {
+        start: ends.region + before + 1,
+        len: variant.as_str().len(),
+    })
 }
 
 /// Where the first repeated singleton stands in a tag.
@@ -89,14 +92,17 @@ pub(crate) fn singleton_at(tag: &NormalLangTag<'_>, wanted: usize) -> Option<Spa
     ensures { EachRecord (normal_lang_tag_text tag.now) (λ r. result ≡ member_span (singleton_place r) r.extensions (Some wanted)) }
 {
     let ends = tag.ends();
-    let mut rest = Span::between(ends.variants, ends.extensions);
-    for (index, extension) in tag.extensions().iter().enumerate() {
-        let place = rest.take_first(extension.as_str().len());
-        if index == wanted {
-            return Some(Span { len: 1, ..place });
-        }
-    }
-    None
+    let extensions = tag.extensions();
+    extensions.iter().nth(wanted)?;
+    let before: usize = extensions
+        .iter()
+        .take(wanted)
+        .map(|extension| extension.as_str().len() + 1)
+        .sum();
+    Some(Span {
+        start: ends.variants + before + 1,
+        len: 1,
+    })
 }
 
 /// 1 for a variant, and 2 more for a singleton.

@@ -1,75 +1,67 @@
-use Rattle.std.proofs.Common.{◌+◌, Some, arith, length, map, sym, ap, ◌∙◌, append-nil, rules}
-use Rattle.langtag_scan.specs.Ends.{ends_of, to_variants}
+use Rattle.std.proofs.Common.{◌≡◌, ◌+◌, ◌++◌, ◌<◌, ◌^◌, Some, arith, length, map, slice_get, take, refl, sym, ap, ◌∙◌, rules}
+use Rattle.std.specs.List.{flat_map, sum_by}
+use Rattle.std.specs.Option.{option_map}
+use Rattle.std.proofs.lemmas.Iterator.{YieldsList-from_take, YieldsList-from_map}
+use Rattle.std.proofs.lemmas.Iterator.Consumers.{YieldsList-at, YieldsList-from_first, nth_from_yields_List, sum_by_from_yields_List, fits_by_from_yields_list}
+use Rattle.std.proofs.lemmas.List.{take-map}
+use Rattle.std.proofs.lemmas.List.Sums.{sum_by-take-le}
+use Rattle.std.proofs.lemmas.Option.{slice_get-map}
+use Rattle.langtag_scan.specs.Ends.{to_variants}
+use Rattle.langtag_scan.specs.Record.{extension_flat}
 use Rattle.langtag_scan.specs.Subtags.{join}
 use Rattle.langtag_scan.specs.Tag.{IsNormal}
-use Rattle.langtag_scan.proofs.SpelledTexts.{ends_ordered, offsets_kept}
+use Rattle.langtag_scan.proofs.SpelledTexts.{offsets_kept}
 use Rattle.langtag_extension.specs.Spelling.{extension_spelling}
-use Rattle.langtag.proofs.PartLaws.{ends_of_tag}
-use Rattle.langtag.proofs.RepeatLaws.{IsAt-drop, next_extension, no_extension}
-use Rattle.langtag_c.specs.Repeats.{singleton_place}
-use Rattle.langtag_c.specs.Spans.{end_of, span_between}
-use Rattle.langtag_c.proofs.RepeatSpans.{extension_member, singleton_stands, span_past, takes}
+use Rattle.langtag_extension.specs.Text.{extension_text, extensions_left}
+use Rattle.langtag_c.proofs.RepeatSpans.{extensions_end, extensions_spelled, length-extensions, place_within, singleton_span, some_span, span_there, width}
 use Rattle.langtag_c.proofs.repeats.singleton_at.Goals as goal
 
-pub between-rest-requires : goal.between-rest-requires
-between-rest-requires c = (ends_ordered _ _ (ends_of_tag _ _ c.ends-ends.result c.args.tag.now.kept_ends c.ends-ends.ensures)).extensions
+pub returns-in_err-nth : goal.returns-in_err-nth
+returns-in_err-nth c r spells =
+    let texts = map extension_spelling r.extensions in
+    let at = nth_from_yields_List c.nth.result c.nth.new.self c.args.wanted c.nth.ensures.ran
+    (YieldsList-from_first extension_text extensions_left texts (c.iter.ensures.list r.extensions (extensions_spelled r _ spells.0 (c.extensions-extensions.ensures r spells)))) in
+    c.from_residual.ensures ∙ ap (option_map (λ _. singleton_span r c.args.wanted)) (sym c.in_err-nth.was) ∙ span_there extension_text extension_spelling (singleton_span r c.args.wanted) c.nth.result (slice_get r.extensions c.args.wanted) (at ∙ slice_get-map extension_spelling r.extensions c.args.wanted)
 
-pub loop-index-init : goal.loop-index-init
-loop-index-init c = record {
-  can_next = tt;
-  is_finite = tt;
-  counter = search rules;
-  before = omega arith;
-  left = λ r spells. sym (c.iter-extension-items.ensures.list r.extensions (record { members = spells.0.extensions; joined = sym (c.extensions.ensures r spells) }));
-  rest = λ r spells.
-      c.between-rest.ensures ∙ ap (λ ends. span_between ends.variants ends.extensions) (c.ends-ends.ensures r spells)
-      ∙ ap (λ ss. span_between (length (join ss)) (ends_of r).extensions) (sym (append-nil (to_variants r)));
-}
-
-pub take_first-place-requires-clause-few : goal.take_first-place-requires-clause-few
+pub sum-before-requires-clause-fits : goal.sum-before-requires-clause-fits
 unfolding IsNormal
-take_first-place-requires-clause-few c =
+sum-before-requires-clause-fits c =
     let (r, spells) = (offsets_kept _ _ c.args.tag.now.kept_ends).normal in
-    let next = next_extension _ _ _ (c.loop-index.invariant.left r spells ∙ c.in-Some.ensures.steps) in
-    let member = extension_member r c.loop-index.index _ _ next.is in
-    let taken = takes _ _ _ _ c.loop-index.rest member (c.loop-index.invariant.rest r spells) in
-    omega (arith, taken.few, ap length c.as_str.ensures.same_text, ap length next.spelled)
+    let texts = map extension_spelling r.extensions in
+    let few : sum_by width (take c.args.wanted texts) < 2 ^ 64 =
+    omega (arith, sum_by-take-le width texts c.args.wanted, extensions_end r, ap (λ ends. ends.extensions) (c.ends-ends.ensures r spells)) in
+    let walk = YieldsList-from_first extension_text extensions_left texts (c.iter-2.ensures.list r.extensions (extensions_spelled r _ spells.0 (c.extensions-extensions.ensures r spells))) in
+    let first = YieldsList-from_take {s = c.take.result} c.args.wanted (YieldsList-at c.take.ensures.source walk) c.take.ensures.count in
+    fits_by_from_yields_list width (take c.args.wanted texts) c.map.result _
+    (YieldsList-from_map _ width (YieldsList-at c.map.ensures.source first) c.map.ensures.closure (λ x r q k. search rules)) few
 
-pub take_first-place-requires-clause-within : goal.take_first-place-requires-clause-within
+pub overflow_add-result-2 : goal.overflow_add-result-2
 unfolding IsNormal
-take_first-place-requires-clause-within c =
+overflow_add-result-2 c =
     let (r, spells) = (offsets_kept _ _ c.args.tag.now.kept_ends).normal in
-    let next = next_extension _ _ _ (c.loop-index.invariant.left r spells ∙ c.in-Some.ensures.steps) in
-    let member = extension_member r c.loop-index.index _ _ next.is in
-    let taken = takes _ _ _ _ c.loop-index.rest member (c.loop-index.invariant.rest r spells) in
-    omega (arith, taken.ends, ap (λ ends. ends.extensions) (c.ends-ends.ensures r spells))
+    let texts = map extension_spelling r.extensions in
+    let spelled = extensions_spelled r _ spells.0 (c.extensions-extensions.ensures r spells) in
+    let at = nth_from_yields_List c.nth.result c.nth.new.self c.args.wanted c.nth.ensures.ran (YieldsList-from_first extension_text extensions_left texts (c.iter.ensures.list r.extensions spelled)) in
+    let walk = YieldsList-from_first extension_text extensions_left texts (c.iter-2.ensures.list r.extensions spelled) in
+    let first = YieldsList-from_take {s = c.take.result} c.args.wanted (YieldsList-at c.take.ensures.source walk) c.take.ensures.count in
+    let before = sum_by_from_yields_List width (take c.args.wanted texts) c.map.result c.sum-before.result c.sum-before.ensures.ran
+    (YieldsList-from_map _ width (YieldsList-at c.map.ensures.source first) c.map.ensures.closure (λ x r q k. search rules)) in
+    let within = place_within texts c.args.wanted _ _ _ (extensions_end r) (sym at ∙ ap (option_map extension_text) c.in_ok-nth.was) in
+    omega (arith, within, before, ap (λ ends. ends.variants) (c.ends-ends.ensures r spells), ap (λ ends. ends.extensions) (c.ends-ends.ensures r spells))
 
-pub returns-then-index-wanted : goal.returns-then-index-wanted
-returns-then-index-wanted c r spells =
-    let next = next_extension _ _ _ (c.loop-index.invariant.left r spells ∙ c.in-Some.ensures.steps) in
-    let member = extension_member r c.loop-index.index _ _ next.is in
-    let taken = takes _ _ _ _ c.loop-index.rest member (c.loop-index.invariant.rest r spells) in
-    let start = ap (λ span. span.start) c.take_first-place.ensures.first ∙ taken.start in
-    singleton_stands r c.loop-index.index _ _ _ _ next.is start (ap Some (sym c.if-index-wanted.true))
-
-pub loop-index-preserved : goal.loop-index-preserved
-loop-index-preserved c = record {
-  can_next = tt;
-  is_finite = tt;
-  counter = omega (arith, c.loop-index.invariant.counter, ap length c.in-Some.ensures.steps);
-  before = omega (arith, c.loop-index.invariant.before, c.if-index-wanted.false);
-  left = λ r spells.
-      let next = next_extension _ _ _ (c.loop-index.invariant.left r spells ∙ c.in-Some.ensures.steps) in
-      ap (map extension_spelling) (IsAt-drop r.extensions c.loop-index.index _ _ next.is).later ∙ next.others;
-  rest = λ r spells.
-      let next = next_extension _ _ _ (c.loop-index.invariant.left r spells ∙ c.in-Some.ensures.steps) in
-      let member = extension_member r c.loop-index.index _ _ next.is in
-      let taken = takes _ _ _ _ c.loop-index.rest member (c.loop-index.invariant.rest r spells) in
-      let size = ap length c.as_str.ensures.same_text ∙ sym (ap length next.spelled) in
-      c.take_first-place.ensures.rest ∙ ap (λ n. span_between (c.loop-index.rest.start + n) (end_of c.loop-index.rest)) size ∙ taken.left;
-}
+pub overflow_add-result : goal.overflow_add-result
+overflow_add-result c = omega (arith, overflow_add-result-2 c)
 
 pub returns : goal.returns
 returns c r spells =
-    let place = singleton_place r in
-    sym (span_past place r.extensions c.loop-index.index c.args.wanted (no_extension _ (c.loop-index.invariant.left r spells ∙ c.in-None.ensures.steps.0)) c.loop-index.invariant.before)
+    let texts = map extension_spelling r.extensions in
+    let k = c.args.wanted in
+    let spelled = extensions_spelled r _ spells.0 (c.extensions-extensions.ensures r spells) in
+    let at = nth_from_yields_List c.nth.result c.nth.new.self k c.nth.ensures.ran (YieldsList-from_first extension_text extensions_left texts (c.iter.ensures.list r.extensions spelled)) in
+    let walk = YieldsList-from_first extension_text extensions_left texts (c.iter-2.ensures.list r.extensions spelled) in
+    let first = YieldsList-from_take {s = c.take.result} k (YieldsList-at c.take.ensures.source walk) c.take.ensures.count in
+    let before = sum_by_from_yields_List width (take k texts) c.map.result c.sum-before.result c.sum-before.ensures.ran
+    (YieldsList-from_map _ width (YieldsList-at c.map.ensures.source first) c.map.ensures.closure (λ x r q k. search rules)) in
+    let start : c.ends-ends.result.variants + c.sum-before.result + 1 ≡ length (join (to_variants r ++ flat_map extension_flat (take k r.extensions))) + 1 =
+    omega (arith, before, ap (sum_by width) (take-map extension_spelling k r.extensions), ap (λ ends. ends.variants) (c.ends-ends.ensures r spells), length-extensions r (take k r.extensions)) in
+    some_span start refl ∙ ap (option_map (λ _. singleton_span r k)) (sym c.in_ok-nth.was) ∙ span_there extension_text extension_spelling (singleton_span r k) c.nth.result (slice_get r.extensions k) (at ∙ slice_get-map extension_spelling r.extensions k)
