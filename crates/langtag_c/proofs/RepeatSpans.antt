@@ -1,7 +1,8 @@
 -- Where the variants and the singletons of a record stand in its text.
-use Rattle.std.proofs.Common.{◌≡◌, ℕ, ◌+◌, ◌≤◌, List, [], ◌∷◌, ◌++◌, length, take, drop, map, slice_get, Option, None, Some, is_some, refl, ap, sym, ◌∙◌, append_assoc, arith}
-use Rattle.std.specs.List.{flat_map, sum_by}
+use Rattle.std.proofs.Common.{◌≡◌, ℕ, zero, suc, ◌+◌, ◌≤◌, List, [], ◌∷◌, ◌++◌, length, take, drop, map, slice_get, Option, None, Some, is_some, refl, ap, sym, ◌∙◌, append_assoc, arith}
+use Rattle.std.specs.List.{flat_map, scan, sum_by}
 use Rattle.std.specs.Option.{option_and_then, option_map}
+use Rattle.std.proofs.lemmas.List.{length-append}
 use Rattle.std.proofs.lemmas.List.Concat.{length-flat_map}
 use Rattle.std.proofs.lemmas.List.Sums.{sum_by_more_le}
 use Rattle.std.proofs.lemmas.Option.{slice_get-map, slice_get_within}
@@ -29,10 +30,33 @@ extensions_spelled r text well is = record { members = well.extensions; joined =
 abbrev pub width : List ℕ → ℕ
 width text = length (45 ∷ text)
 
-pub length-variants : (r : Record) (vs : List (List ℕ)) → length (join (to_region r ++ vs)) ≡ (ends_of r).region + sum_by width vs
-length-variants r vs =
-    length-join-append r.primary (drop 1 (to_region r)) vs ∙ ap (λ n. (ends_of r).region + n) (length-flat_map (λ s. 45 ∷ s) vs)
+-- so many bytes after an end and a hyphen
+abbrev pub after : ℕ → ℕ → Span
+after end len = record { start = end + 1; len = len }
 
+-- texts that follow an end, one after another
+abbrev pub spans_after : (List ℕ → ℕ) → ℕ → List (List ℕ) → List Span
+spans_after size end texts = scan (λ end text. end + 1 + length text) (λ end text. after end (size text)) end texts
+
+pub spans_after-at :
+    (size : List ℕ → ℕ) (end : ℕ) (texts : List (List ℕ)) (k : ℕ) →
+    slice_get (spans_after size end texts) k ≡ option_map (λ text. after (end + length (hyphenated (take k texts))) (size text)) (slice_get texts k)
+spans_after-at size end [] k = refl
+spans_after-at size end (x ∷ xs) zero = let start : end ≡ end + 0 = omega arith in ap (λ n. Some (after n (size x))) start
+spans_after-at size end (x ∷ xs) (suc k) =
+    let start : end + 1 + length x + length (hyphenated (take k xs)) ≡ end + length (hyphenated (take (suc k) (x ∷ xs))) = omega (arith, length-append x (hyphenated (take k xs))) in
+    spans_after-at size (end + 1 + length x) xs k ∙ ap (λ n. option_map (λ text. after n (size text)) (slice_get xs k)) start
+
+-- the variants follow the end of the region, up to their own
+pub length-variants : (r : Record) (vs : List (List ℕ)) → length (join (to_region r ++ vs)) ≡ (ends_of r).region + length (hyphenated vs)
+length-variants r vs = length-join-append r.primary (drop 1 (to_region r)) vs
+
+pub variants_end : (r : Record) → (ends_of r).region + sum_by width r.variants ≡ (ends_of r).variants
+variants_end r =
+    ap (λ n. (ends_of r).region + n) (sym (length-flat_map (λ s. 45 ∷ s) r.variants)) ∙ sym (length-variants r r.variants)
+    ∙ ap (λ ss. length (join (r.primary ∷ ss))) (simp append_assoc)
+
+-- the singletons follow the end of the variants, up to that of the extensions
 hyphenated-spellings : (es : List Extension) → hyphenated (flat_map extension_flat es) ≡ hyphenated (map extension_spelling es)
 hyphenated-spellings [] = refl
 hyphenated-spellings (e ∷ es) =
@@ -40,36 +64,19 @@ hyphenated-spellings (e ∷ es) =
 
 pub length-extensions :
     (r : Record) (es : List Extension) →
-    length (join (to_variants r ++ flat_map extension_flat es)) ≡ (ends_of r).variants + sum_by width (map extension_spelling es)
+    length (join (to_variants r ++ flat_map extension_flat es)) ≡ (ends_of r).variants + length (hyphenated (map extension_spelling es))
 length-extensions r es =
-    length-join-append r.primary (drop 1 (to_variants r)) (flat_map extension_flat es)
-    ∙ ap (λ n. (ends_of r).variants + n) (ap length (hyphenated-spellings es) ∙ length-flat_map (λ s. 45 ∷ s) (map extension_spelling es))
+    length-join-append r.primary (drop 1 (to_variants r)) (flat_map extension_flat es) ∙ ap (λ t. (ends_of r).variants + length t) (hyphenated-spellings es)
 
--- and so of all of them
-pub variants_end : (r : Record) → (ends_of r).variants ≡ (ends_of r).region + sum_by width r.variants
-variants_end r = ap (λ ss. length (join (r.primary ∷ ss))) (simp append_assoc) ∙ length-variants r r.variants
+pub extensions_end : (r : Record) → (ends_of r).variants + sum_by width (map extension_spelling r.extensions) ≡ (ends_of r).extensions
+extensions_end r =
+    ap (λ n. (ends_of r).variants + n) (sym (length-flat_map (λ s. 45 ∷ s) (map extension_spelling r.extensions))) ∙ sym (length-extensions r r.extensions)
+    ∙ ap (λ ss. length (join (r.primary ∷ ss))) (simp append_assoc)
 
-pub extensions_end : (r : Record) → (ends_of r).extensions ≡ (ends_of r).variants + sum_by width (map extension_spelling r.extensions)
-extensions_end r = ap (λ ss. length (join (r.primary ∷ ss))) (simp append_assoc) ∙ length-extensions r r.extensions
-
--- before the end there is room for a member that is there, and for its hyphen
-pub place_within :
-    (texts : List (List ℕ)) (k from to : ℕ) (t : List ℕ) → to ≡ from + sum_by width texts → slice_get texts k ≡ Some t →
-    from + sum_by width (take k texts) + 1 ≤ to
-place_within texts k from to t all at = omega (arith, all, sum_by_more_le width texts k t (slice_get_within texts k t at))
-
-pub some_span : {start first len size : ℕ} → start ≡ first → len ≡ size → ◌≡◌ {A = Option Span} (Some (record { start = start; len = len })) (Some (record { start = first; len = size }))
-some_span start len = rw (start, len) refl
-
-abbrev pub singleton_span : Record → ℕ → Span
-singleton_span r k = span_after (to_variants r ++ flat_map extension_flat (take k r.extensions)) 1
-
--- where one is there the other is, and so is the same span
-pub span_there : {A B C : Type 0} (f : A → C) (g : B → C) (span : Span) (o : Option A) (p : Option B) → option_map f o ≡ option_map g p → option_map (λ _. span) o ≡ option_map (λ _. span) p
-span_there f g span None None same = refl
-span_there f g span None (Some y) same = absurd cc
-span_there f g span (Some x) None same = absurd cc
-span_there f g span (Some x) (Some y) same = refl
+-- a span that no member changes
+pub option_map-same : {A B C : Type 0} (f : A → B) (z : C) (o : Option A) → option_map (λ _. z) (option_map f o) ≡ option_map (λ _. z) o
+option_map-same f z None = refl
+option_map-same f z (Some x) = refl
 
 -- ---- a member is there where its span is
 

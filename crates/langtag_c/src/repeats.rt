@@ -65,18 +65,15 @@ fn repeated_variant(tag: &NormalLangTag<'_>) -> Option<Span>
 pub(crate) fn variant_at(tag: &NormalLangTag<'_>, wanted: usize) -> Option<Span>
     ensures { EachRecord (normal_lang_tag_text tag.now) (λ r. result ≡ member_span (variant_place r) r.variants (Some wanted)) }
 {
-    let ends = tag.ends();
-    let variants = tag.variants();
-    let variant = variants.iter().nth(wanted)?;
-    let before: usize = variants
+    tag.variants()
         .iter()
-        .take(wanted)
-        .map(|variant| variant.as_str().len() + 1)
-        .sum();
-    Some(Span {
-        start: ends.region + before + 1,
-        len: variant.as_str().len(),
-    })
+        .scan(tag.ends().region, |end, variant| {
+            let start = *end + 1;
+            let len = variant.as_str().len();
+            *end = start + len;
+            Some(Span { start, len })
+        })
+        .nth(wanted)
 }
 
 /// Where the first repeated singleton stands in a tag.
@@ -91,18 +88,14 @@ fn repeated_singleton(tag: &NormalLangTag<'_>) -> Option<Span>
 pub(crate) fn singleton_at(tag: &NormalLangTag<'_>, wanted: usize) -> Option<Span>
     ensures { EachRecord (normal_lang_tag_text tag.now) (λ r. result ≡ member_span (singleton_place r) r.extensions (Some wanted)) }
 {
-    let ends = tag.ends();
-    let extensions = tag.extensions();
-    extensions.iter().nth(wanted)?;
-    let before: usize = extensions
+    tag.extensions()
         .iter()
-        .take(wanted)
-        .map(|extension| extension.as_str().len() + 1)
-        .sum();
-    Some(Span {
-        start: ends.variants + before + 1,
-        len: 1,
-    })
+        .scan(tag.ends().variants, |end, extension| {
+            let start = *end + 1;
+            *end = start + extension.as_str().len();
+            Some(Span { start, len: 1 })
+        })
+        .nth(wanted)
 }
 
 /// 1 for a variant, and 2 more for a singleton.

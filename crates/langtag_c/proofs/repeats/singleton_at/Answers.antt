@@ -1,67 +1,40 @@
-use Rattle.std.proofs.Common.{◌≡◌, ◌+◌, ◌++◌, ◌<◌, ◌^◌, Some, arith, length, map, slice_get, take, refl, sym, ap, ◌∙◌, rules}
-use Rattle.std.specs.List.{flat_map, sum_by}
+use Rattle.std.proofs.Common.{◌≡◌, ◌+◌, ◌<◌, ◌^◌, Some, arith, length, map, take, slice_get, sym, ap, ◌∙◌, rules}
+use Rattle.std.specs.List.{sum_by}
 use Rattle.std.specs.Option.{option_map}
-use Rattle.std.proofs.lemmas.Iterator.{YieldsList-from_take, YieldsList-from_map}
-use Rattle.std.proofs.lemmas.Iterator.Consumers.{YieldsList-at, YieldsList-from_first, nth_from_yields_List, sum_by_from_yields_List, fits_by_from_yields_list}
+use Rattle.std.proofs.lemmas.Iterator.Adapters.{option_map_id, serves_from_total}
+use Rattle.std.proofs.lemmas.Iterator.Consumers.{YieldsList-at, YieldsList-from_first, YieldsList-from_scan, nth_from_yields_List}
 use Rattle.std.proofs.lemmas.List.{take-map}
-use Rattle.std.proofs.lemmas.List.Sums.{sum_by-take-le}
 use Rattle.std.proofs.lemmas.Option.{slice_get-map}
-use Rattle.langtag_scan.specs.Ends.{to_variants}
-use Rattle.langtag_scan.specs.Record.{extension_flat}
-use Rattle.langtag_scan.specs.Subtags.{join}
+use Rattle.langtag_scan.specs.Ends.{ends_of}
 use Rattle.langtag_scan.specs.Tag.{IsNormal}
+use Rattle.langtag_scan.proofs.Joins.{hyphenated}
 use Rattle.langtag_scan.proofs.SpelledTexts.{offsets_kept}
 use Rattle.langtag_extension.specs.Spelling.{extension_spelling}
 use Rattle.langtag_extension.specs.Text.{extension_text, extensions_left}
-use Rattle.langtag_c.proofs.RepeatSpans.{extensions_end, extensions_spelled, length-extensions, place_within, singleton_span, some_span, span_there, width}
+use Rattle.langtag_c.proofs.RepeatSpans.{after, extensions_end, extensions_spelled, length-extensions, option_map-same, spans_after-at, width}
+use Rattle.langtag_c.specs.declared.span.Span.{Span}
 use Rattle.langtag_c.proofs.repeats.singleton_at.Goals as goal
 
-pub returns-in_err-nth : goal.returns-in_err-nth
-returns-in_err-nth c r spells =
-    let texts = map extension_spelling r.extensions in
-    let at = nth_from_yields_List c.nth.result c.nth.new.self c.args.wanted c.nth.ensures.ran
-    (YieldsList-from_first extension_text extensions_left texts (c.iter.ensures.list r.extensions (extensions_spelled r _ spells.0 (c.extensions-extensions.ensures r spells)))) in
-    c.from_residual.ensures ∙ ap (option_map (λ _. singleton_span r c.args.wanted)) (sym c.in_err-nth.was) ∙ span_there extension_text extension_spelling (singleton_span r c.args.wanted) c.nth.result (slice_get r.extensions c.args.wanted) (at ∙ slice_get-map extension_spelling r.extensions c.args.wanted)
-
-pub sum-before-requires-clause-fits : goal.sum-before-requires-clause-fits
+pub nth-requires : goal.nth-requires
 unfolding IsNormal
-sum-before-requires-clause-fits c =
+nth-requires c =
     let (r, spells) = (offsets_kept _ _ c.args.tag.now.kept_ends).normal in
     let texts = map extension_spelling r.extensions in
-    let few : sum_by width (take c.args.wanted texts) < 2 ^ 64 =
-    omega (arith, sum_by-take-le width texts c.args.wanted, extensions_end r, ap (λ ends. ends.extensions) (c.ends-ends.ensures r spells)) in
-    let walk = YieldsList-from_first extension_text extensions_left texts (c.iter-2.ensures.list r.extensions (extensions_spelled r _ spells.0 (c.extensions-extensions.ensures r spells))) in
-    let first = YieldsList-from_take {s = c.take.result} c.args.wanted (YieldsList-at c.take.ensures.source walk) c.take.ensures.count in
-    fits_by_from_yields_list width (take c.args.wanted texts) c.map.result _
-    (YieldsList-from_map _ width (YieldsList-at c.map.ensures.source first) c.map.ensures.closure (λ x r q k. search rules)) few
-
-pub overflow_add-result-2 : goal.overflow_add-result-2
-unfolding IsNormal
-overflow_add-result-2 c =
-    let (r, spells) = (offsets_kept _ _ c.args.tag.now.kept_ends).normal in
-    let texts = map extension_spelling r.extensions in
-    let spelled = extensions_spelled r _ spells.0 (c.extensions-extensions.ensures r spells) in
-    let at = nth_from_yields_List c.nth.result c.nth.new.self c.args.wanted c.nth.ensures.ran (YieldsList-from_first extension_text extensions_left texts (c.iter.ensures.list r.extensions spelled)) in
-    let walk = YieldsList-from_first extension_text extensions_left texts (c.iter-2.ensures.list r.extensions spelled) in
-    let first = YieldsList-from_take {s = c.take.result} c.args.wanted (YieldsList-at c.take.ensures.source walk) c.take.ensures.count in
-    let before = sum_by_from_yields_List width (take c.args.wanted texts) c.map.result c.sum-before.result c.sum-before.ensures.ran
-    (YieldsList-from_map _ width (YieldsList-at c.map.ensures.source first) c.map.ensures.closure (λ x r q k. search rules)) in
-    let within = place_within texts c.args.wanted _ _ _ (extensions_end r) (sym at ∙ ap (option_map extension_text) c.in_ok-nth.was) in
-    omega (arith, within, before, ap (λ ends. ends.variants) (c.ends-ends.ensures r spells), ap (λ ends. ends.extensions) (c.ends-ends.ensures r spells))
-
-pub overflow_add-result : goal.overflow_add-result
-overflow_add-result c = omega (arith, overflow_add-result-2 c)
+    let few : c.scan.result.state + sum_by width texts < 2 ^ 64 = omega (arith, extensions_end r, c.scan.ensures.state, ap (λ ends. ends.variants) (c.ends.ensures r spells), ap (λ ends. ends.extensions) (c.ends.ensures r spells)) in
+    let walk = YieldsList-from_first extension_text extensions_left texts (c.iter.ensures.list r.extensions (extensions_spelled r _ spells.0 (c.extensions.ensures r spells))) in
+    (tt, serves_from_total (YieldsList-at c.scan.ensures.source walk) width (λ n x q k. search rules) (λ n x le. search rules))
 
 pub returns : goal.returns
 returns c r spells =
     let texts = map extension_spelling r.extensions in
     let k = c.args.wanted in
-    let spelled = extensions_spelled r _ spells.0 (c.extensions-extensions.ensures r spells) in
-    let at = nth_from_yields_List c.nth.result c.nth.new.self k c.nth.ensures.ran (YieldsList-from_first extension_text extensions_left texts (c.iter.ensures.list r.extensions spelled)) in
-    let walk = YieldsList-from_first extension_text extensions_left texts (c.iter-2.ensures.list r.extensions spelled) in
-    let first = YieldsList-from_take {s = c.take.result} k (YieldsList-at c.take.ensures.source walk) c.take.ensures.count in
-    let before = sum_by_from_yields_List width (take k texts) c.map.result c.sum-before.result c.sum-before.ensures.ran
-    (YieldsList-from_map _ width (YieldsList-at c.map.ensures.source first) c.map.ensures.closure (λ x r q k. search rules)) in
-    let start : c.ends-ends.result.variants + c.sum-before.result + 1 ≡ length (join (to_variants r ++ flat_map extension_flat (take k r.extensions))) + 1 =
-    omega (arith, before, ap (sum_by width) (take-map extension_spelling k r.extensions), ap (λ ends. ends.variants) (c.ends-ends.ensures r spells), length-extensions r (take k r.extensions)) in
-    some_span start refl ∙ ap (option_map (λ _. singleton_span r k)) (sym c.in_ok-nth.was) ∙ span_there extension_text extension_spelling (singleton_span r k) c.nth.result (slice_get r.extensions k) (at ∙ slice_get-map extension_spelling r.extensions k)
+    let end = (ends_of r).variants in
+    let walk = YieldsList-from_first extension_text extensions_left texts (c.iter.ensures.list r.extensions (extensions_spelled r _ spells.0 (c.extensions.ensures r spells))) in
+    sym (option_map_id c.nth.result) ∙ nth_from_yields_List c.nth.result c.nth.new.self k c.nth.ensures.ran
+    (YieldsList-from_scan {C = Span} _ (λ end text. end + 1 + length text) (λ end text. after end 1) end
+    (YieldsList-at c.scan.ensures.source walk) (c.scan.ensures.state ∙ ap (λ ends. ends.variants) (c.ends.ensures r spells)) c.scan.ensures.closure (λ b x o q d k. search rules))
+    ∙ spans_after-at (λ _. 1) end texts k
+    ∙ ap (option_map (λ _. after (end + length (hyphenated (take k texts))) 1)) (slice_get-map extension_spelling r.extensions k)
+    ∙ option_map-same extension_spelling _ (slice_get r.extensions k)
+    ∙ ap (λ n. option_map (λ _. after n 1) (slice_get r.extensions k))
+    (ap (λ ts. end + length (hyphenated ts)) (take-map extension_spelling k r.extensions) ∙ sym (length-extensions r (take k r.extensions)))
