@@ -1,11 +1,10 @@
 -- Where the variants and the singletons of a record stand in its text.
-use Rattle.std.proofs.Common.{◌≡◌, ℕ, zero, suc, ◌+◌, ◌≤◌, List, [], ◌∷◌, ◌++◌, length, take, drop, map, slice_get, Option, None, Some, is_some, refl, ap, sym, ◌∙◌, append_assoc, arith}
+use Rattle.std.proofs.Common.{◌≡◌, ℕ, zero, suc, ◌+◌, List, [], ◌∷◌, ◌++◌, length, take, drop, map, slice_get, Option, None, Some, is_some, refl, ap, sym, ◌∙◌, append_assoc, arith}
 use Rattle.std.specs.List.{flat_map, scan, sum_by}
 use Rattle.std.specs.Option.{option_and_then, option_map}
 use Rattle.std.proofs.lemmas.List.{length-append}
 use Rattle.std.proofs.lemmas.List.Concat.{length-flat_map}
-use Rattle.std.proofs.lemmas.List.Sums.{sum_by_more_le}
-use Rattle.std.proofs.lemmas.Option.{slice_get-map, slice_get_within}
+use Rattle.std.proofs.lemmas.Option.{slice_get-map}
 use Rattle.langtag_scan.specs.Class.{is_variant}
 use Rattle.langtag_scan.specs.Ends.{ends_of, to_region, to_variants}
 use Rattle.langtag_scan.specs.Record.{Record, Extension, IsWellFormed, extension_flat}
@@ -15,7 +14,7 @@ use Rattle.langtag_scan.proofs.Joins.{hyphenated, hyphenated-append, join-hyphen
 use Rattle.langtag_scan.proofs.SubtagFacts.{of_variant}
 use Rattle.langtag_scan.proofs.SubtagLists.{each_subtag, subtags-joined}
 use Rattle.langtag_extension.specs.Spelling.{SpellsExtensions, extension_spelling}
-use Rattle.langtag_c.specs.Repeats.{member_span, span_after}
+use Rattle.langtag_c.specs.Repeats.{member_span}
 use Rattle.langtag_c.specs.declared.span.Span.{Span}
 
 -- the variants of a record are the subtags of their join
@@ -84,15 +83,10 @@ is_some-map : {A B : Type 0} (f : A → B) (o : Option A) → is_some (option_ma
 is_some-map f None = refl
 is_some-map f (Some x) = refl
 
+-- also where it is asked of what is made of each member
 pub is_some-span :
-    {A : Type 0} (place : List A → A → Span) (xs : List A) (index : Option ℕ) → is_some (member_span place xs index) ≡ is_some (option_and_then (slice_get xs) index)
-is_some-span place xs None = refl
-is_some-span place xs (Some k) = is_some-map (place (take k xs)) (slice_get xs k)
-
--- and where what is made of the member is
-pub is_some-span_of :
     {A B : Type 0} (place : List A → A → Span) (f : A → B) (xs : List A) (index : Option ℕ) →
     is_some (member_span place xs index) ≡ is_some (option_and_then (slice_get (map f xs)) index)
-is_some-span_of place f xs None = refl
-is_some-span_of place f xs (Some k) =
+is_some-span place f xs None = refl
+is_some-span place f xs (Some k) =
     is_some-map (place (take k xs)) (slice_get xs k) ∙ sym (is_some-map f (slice_get xs k)) ∙ ap is_some (sym (slice_get-map f xs k))

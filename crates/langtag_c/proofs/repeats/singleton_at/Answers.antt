@@ -1,4 +1,4 @@
-use Rattle.std.proofs.Common.{◌≡◌, ◌+◌, ◌<◌, ◌^◌, Some, arith, length, map, take, slice_get, sym, ap, ◌∙◌, rules}
+use Rattle.std.proofs.Common.{◌+◌, ◌<◌, ◌^◌, arith, length, map, take, slice_get, sym, ap, ◌∙◌, rules}
 use Rattle.std.specs.List.{sum_by}
 use Rattle.std.specs.Option.{option_map}
 use Rattle.std.proofs.lemmas.Iterator.Adapters.{option_map_id, serves_from_total}
