@@ -13,13 +13,15 @@ pub struct Span {
 impl Span {
     /// What stands between the end of one part and the end of the next, after the hyphen.
     pub(crate) fn between(before: usize, end: usize) -> Span
-        requires { before ≤ end }
-        ensures { result ≡ span_between before end }
+        ensures { before ≤ end → result ≡ span_between before end }
     {
-        let start = if before == end { end } else { before + 1 };
-        Span {
-            start,
-            len: end - start,
+        if before < end {
+            Span {
+                start: before + 1,
+                len: end - before - 1,
+            }
+        } else {
+            Span { start: end, len: 0 }
         }
     }
 
