@@ -13,7 +13,9 @@ pub struct Span {
 impl Span {
     /// What stands between the end of one part and the end of the next, after the hyphen.
     pub(crate) fn between(before: usize, end: usize) -> Span
-        ensures { before ≤ end → result ≡ span_between before end }
+        ensures span { before ≤ end → result ≡ span_between before end }
+        ensures begins { before ≤ end → before ≤ result.start }
+        ensures ends { before ≤ end → end_of result ≡ end }
     {
         if before < end {
             Span {
@@ -43,6 +45,8 @@ impl Span {
         requires within { end_of self.old < 2 ^ 64 }
         ensures first { result ≡ record { start = self.old.start; len = len } }
         ensures rest { self.new ≡ span_between (self.old.start + len) (end_of self.old) }
+        ensures begins { self.old.start + len ≤ self.new.start }
+        ensures ends { end_of self.new ≡ end_of self.old }
     {
         let first = Span {
             start: self.start,
