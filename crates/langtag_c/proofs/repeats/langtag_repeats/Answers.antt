@@ -1,5 +1,4 @@
 use Rattle.std.proofs.Common.{is_some, refl, sym, ap, ◌∙◌}
-use Rattle.std.specs.Option.{option_and_then}
 use Rattle.std.proofs.lemmas.List.{map-id}
 use Rattle.langtag_scan.specs.Record.{Spells}
 use Rattle.langtag.specs.Text.{normal_lang_tag_text}
