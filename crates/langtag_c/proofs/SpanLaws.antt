@@ -27,6 +27,3 @@ spans_parts text ends h r spells =
       extensions = between_text text ends.variants ends.extensions order.extensions ∙ extensions_found text ends h r spells;
       private_use = between_text text ends.extensions ends.whole order.private_use ∙ ap (λ o. unwrap_or o []) (private_use_found text ends h r spells);
     }
-
-pub spans_are : (text : List ℕ) (ends : Ends) → HasEnds text ends → EachRecord text (λ r. spans_at ends ≡ spans_at (ends_of r))
-spans_are text ends h r spells = ap spans_at (ends_each text ends h r spells)
