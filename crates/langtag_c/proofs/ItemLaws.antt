@@ -2,7 +2,6 @@
 use Rattle.std.proofs.Common.{◌≡◌, ℕ, ◌+◌, ◌<◌, ◌≤◌, true, false, List, [], ◌∷◌, length, take, drop, inl, inr, refl, ap, sym, ◌∙◌, arith}
 use Rattle.std.specs.List.{All, position_or_len}
 use Rattle.std.proofs.lemmas.Bool.{cases_lt}
-use Rattle.std.proofs.lemmas.Bool.Decides.{eqb_tells}
 use Rattle.std.proofs.lemmas.List.{take_all, drop_all}
 use Rattle.std.proofs.lemmas.List.Sums.{fails_before_first}
 use Rattle.std.proofs.lemmas.List.Splits.{slice_split_first, slice_split_none}
@@ -38,18 +37,6 @@ module _ (text : List ℕ) (len : ℕ) (first : len ≡ position_or_len is_comma
   ]
 
 -- ---- the same of spans
-
-pub between_begins : (before end : ℕ) → before ≤ end → before ≤ (span_between before end).start
-between_begins before end le = elim (eqb_tells before end) [
-  | inl same ↦ rw same.0 (omega (arith, le))
-  | inr other ↦ rw other.0 (omega (arith, le))
-]
-
-pub between_ends : (before end : ℕ) → before ≤ end → end_of (span_between before end) ≡ end
-between_ends before end le = elim (eqb_tells before end) [
-  | inl same ↦ rw same.0 (omega arith)
-  | inr other ↦ rw other.0 (omega (arith, le, other.1))
-]
 
 -- no more bytes are taken than there are
 pub item_few : (header list : List ℕ) (before : Span) (len : ℕ) → HasBytes header before → list ≡ span_text header before → len ≤ length list → len ≤ before.len

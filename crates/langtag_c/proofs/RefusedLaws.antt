@@ -81,12 +81,6 @@ module _ (t : List ℕ) (m : ℕ) (v : IsViableLength (t ++ 45 ∷ []) m) where
   pub viable_whole : length t ≤ m → IsViable t
   viable_whole le = subst IsViable whole_text (v.viable (length t) le)
 
-  pub viable_within : IsViable t → length t ≤ m
-  viable_within viable = elim (cases_lt m (length t)) [
-    | inl less ↦ absurd (v.longest (length t) less (omega (arith, length_push t 45)) (subst IsViable (sym whole_text) viable))
-    | inr le ↦ omega (arith, le)
-  ]
-
   pub goes_on_by_hyphen : (IsTag t → ⊥) → length t < m → EndsTooSoon t
   goes_on_by_hyphen no_tag less = record {
     no_tag = no_tag;

@@ -16,12 +16,6 @@ between_text text before end le = elim (eqb_tells before end) [
   | inr other ↦ let size : before + 1 + (end - before - 1) ≡ end = omega (arith, le, other.1) in rw other.0 (ap (λ n. take (n - (before + 1)) (drop (before + 1) text)) size)
 ]
 
-pub between_end : (text : List ℕ) (before end : ℕ) → before ≤ end → end ≤ length text → IsWithin text (span_between before end)
-between_end text before end le within = elim (eqb_tells before end) [
-  | inl same ↦ rw same.0 (omega (arith, within))
-  | inr other ↦ rw other.0 (omega (arith, le, within, other.1))
-]
-
 pub spans_parts : (text : List ℕ) (ends : Ends) → HasEnds text ends → EachRecord text (λ r. ArePartsOf text r (spans_at ends))
 spans_parts text ends h r spells =
     let order = ends_ordered text ends h in
@@ -32,20 +26,4 @@ spans_parts text ends h r spells =
       variants = between_text text ends.region ends.variants order.variants ∙ variants_found text ends h r spells;
       extensions = between_text text ends.variants ends.extensions order.extensions ∙ extensions_found text ends h r spells;
       private_use = between_text text ends.extensions ends.whole order.private_use ∙ ap (λ o. unwrap_or o []) (private_use_found text ends h r spells);
-    }
-
-pub spans_are : (text : List ℕ) (ends : Ends) → HasEnds text ends → EachRecord text (λ r. spans_at ends ≡ spans_at (ends_of r))
-spans_are text ends h r spells = ap spans_at (ends_each text ends h r spells)
-
-pub spans_within : (text : List ℕ) (ends : Ends) → HasEnds text ends → AreWithin text (spans_at ends)
-spans_within text ends h =
-    let order = ends_ordered text ends h in
-    let whole = ends_whole text ends h in
-    record {
-      language = omega (arith, order.script, order.region, order.variants, order.extensions, order.private_use, whole);
-      script = between_end text ends.language ends.script order.script (omega (arith, order.region, order.variants, order.extensions, order.private_use, whole));
-      region = between_end text ends.script ends.region order.region (omega (arith, order.variants, order.extensions, order.private_use, whole));
-      variants = between_end text ends.region ends.variants order.variants (omega (arith, order.extensions, order.private_use, whole));
-      extensions = between_end text ends.variants ends.extensions order.extensions (omega (arith, order.private_use, whole));
-      private_use = between_end text ends.extensions ends.whole order.private_use (omega (arith, whole));
     }

@@ -1,5 +1,5 @@
 //! Whether bytes are a tag, of which kind, and where its parts stand.
-ghost use Rattle.std.specs.Prelude.{◌≡◌, length, IfSome, MatchOption};
+ghost use Rattle.std.specs.Prelude.{◌≡◌, ◌≤◌, ℕ, List, length, IfSome, MatchOption};
 ghost use Rattle.langtag_scan.specs.Ends.{HasEnds, ends_of};
 ghost use Rattle.langtag_scan.specs.Found.{IsFoundOf, finding, normal_ends};
 ghost use Rattle.langtag_scan.specs.Parts.{AreInOrder};
@@ -27,7 +27,8 @@ impl Parts {
     /// The parts of a normal tag, by where they end.
     fn at(ends: &Ends) -> Parts
         requires { AreInOrder ends.now }
-        ensures { result ≡ spans_at ends.now }
+        ensures spans { result ≡ spans_at ends.now }
+        ensures within { (text : List ℕ) → ends.now.whole ≤ length text → AreWithin text result }
     {
         Parts {
             language: Span {
@@ -95,7 +96,7 @@ pub extern "C" fn langtag_kind(bytes: &[u8]) -> u32
 
 /// Returns the kind, as [`langtag_kind`] returns it, and where the parts stand. A tag for private use is its own
 /// private use part; an irregular one has no parts. All of `parts` is written, also where the answer is 0.
-#[tactic(auto, using(crate::proofs::KindLaws::kind_none, crate::proofs::KindLaws::kind_normal, crate::proofs::KindLaws::kind_private, crate::proofs::KindLaws::kind_irregular, crate::proofs::KindLaws::irregular_left, langtag_scan::proofs::FoundLaws::tag_found, langtag_scan::proofs::FoundLaws::private_found, langtag_scan::proofs::TagLaws::tag_normal, langtag_scan::proofs::TagLaws::tag_private, langtag_scan::proofs::SpelledTexts::normal_spelled, langtag_scan::proofs::SpelledTexts::normal_from_ends, langtag_scan::proofs::SpelledTexts::ends_ordered, langtag_scan::proofs::OneKind::normal_no_private, crate::proofs::SpanLaws::spans_parts, crate::proofs::SpanLaws::spans_are, crate::proofs::SpanLaws::spans_within))]
+#[tactic(auto, using(crate::proofs::KindLaws::kind_none, crate::proofs::KindLaws::kind_normal, crate::proofs::KindLaws::kind_private, crate::proofs::KindLaws::kind_irregular, crate::proofs::KindLaws::irregular_left, langtag_scan::proofs::FoundLaws::tag_found, langtag_scan::proofs::FoundLaws::private_found, langtag_scan::proofs::TagLaws::tag_normal, langtag_scan::proofs::TagLaws::tag_private, langtag_scan::proofs::SpelledTexts::normal_spelled, langtag_scan::proofs::SpelledTexts::normal_from_ends, langtag_scan::proofs::SpelledTexts::ends_ordered, langtag_scan::proofs::OneKind::normal_no_private, crate::proofs::SpanLaws::spans_parts, langtag_scan::proofs::SpelledTexts::ends_each, langtag_scan::proofs::SpelledTexts::ends_whole))]
 #[unsafe(no_mangle)]
 pub extern "C" fn langtag_parse(bytes: &[u8], parts: &mut Parts) -> u32
     ensures kind { IsKind bytes.now result }

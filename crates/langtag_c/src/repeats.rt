@@ -65,15 +65,15 @@ fn repeated_variant(tag: &NormalLangTag<'_>) -> Option<Span>
 pub(crate) fn variant_at(tag: &NormalLangTag<'_>, wanted: usize) -> Option<Span>
     ensures { EachRecord (normal_lang_tag_text tag.now) (λ r. result ≡ member_span (variant_place r) r.variants (Some wanted)) }
 {
-    let ends = tag.ends();
-    let mut rest = Span::between(ends.region, ends.variants);
-    for (index, variant) in tag.variants().iter().enumerate() {
-        let place = rest.take_first(variant.as_str().len());
-        if index == wanted {
-            return Some(place);
-        }
-    }
-    None
+    tag.variants()
+        .iter()
+        .scan(tag.ends().region, |end, variant| {
+            let start = *end + 1;
+            let len = variant.as_str().len();
+            *end = start + len;
+            Some(Span { start, len })
+        })
+        .nth(wanted)
 }
 
 /// Where the first repeated singleton stands in a tag.
@@ -88,15 +88,14 @@ fn repeated_singleton(tag: &NormalLangTag<'_>) -> Option<Span>
 pub(crate) fn singleton_at(tag: &NormalLangTag<'_>, wanted: usize) -> Option<Span>
     ensures { EachRecord (normal_lang_tag_text tag.now) (λ r. result ≡ member_span (singleton_place r) r.extensions (Some wanted)) }
 {
-    let ends = tag.ends();
-    let mut rest = Span::between(ends.variants, ends.extensions);
-    for (index, extension) in tag.extensions().iter().enumerate() {
-        let place = rest.take_first(extension.as_str().len());
-        if index == wanted {
-            return Some(Span { len: 1, ..place });
-        }
-    }
-    None
+    tag.extensions()
+        .iter()
+        .scan(tag.ends().variants, |end, extension| {
+            let start = *end + 1;
+            *end = start + extension.as_str().len();
+            Some(Span { start, len: 1 })
+        })
+        .nth(wanted)
 }
 
 /// 1 for a variant, and 2 more for a singleton.

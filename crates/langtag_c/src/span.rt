@@ -13,13 +13,17 @@ pub struct Span {
 impl Span {
     /// What stands between the end of one part and the end of the next, after the hyphen.
     pub(crate) fn between(before: usize, end: usize) -> Span
-        requires { before ≤ end }
-        ensures { result ≡ span_between before end }
+        ensures span { before ≤ end → result ≡ span_between before end }
+        ensures begins { before ≤ end → before ≤ result.start }
+        ensures ends { before ≤ end → end_of result ≡ end }
     {
-        let start = if before == end { end } else { before + 1 };
-        Span {
-            start,
-            len: end - start,
+        if before < end {
+            Span {
+                start: before + 1,
+                len: end - before - 1,
+            }
+        } else {
+            Span { start: end, len: 0 }
         }
     }
 
@@ -41,6 +45,8 @@ impl Span {
         requires within { end_of self.old < 2 ^ 64 }
         ensures first { result ≡ record { start = self.old.start; len = len } }
         ensures rest { self.new ≡ span_between (self.old.start + len) (end_of self.old) }
+        ensures begins { self.old.start + len ≤ self.new.start }
+        ensures ends { end_of self.new ≡ end_of self.old }
     {
         let first = Span {
             start: self.start,

@@ -55,6 +55,7 @@ fn number(fault: InvalidSubtag<'_>) -> u32
 }
 
 /// Where the subtag that is wrong, and that has this index among its like, stands in its tag.
+#[tactic(auto, using(langtag_scan::proofs::PartOffsets::ends_in_order))]
 fn place(tag: &NormalLangTag<'_>, fault: InvalidSubtag<'_>, index: usize) -> Span
     ensures { EachRecord (normal_lang_tag_text tag.now) (λ r. fault_index r (told fault.entry) ≡ Some index
         → result ≡ place_of r (told fault.entry)) }

@@ -1,6 +1,6 @@
 use Rattle.std.proofs.Common.{◌≡◌, ◌+◌, ap, sym, ◌∙◌, arith}
 use Rattle.langtag_c.specs.Spans.{end_of, span_between}
-use Rattle.langtag_c.proofs.ItemLaws.{between_begins, between_ends, item_few, item_passed, item_taken}
+use Rattle.langtag_c.proofs.ItemLaws.{item_few, item_passed, item_taken}
 use Rattle.langtag_c.proofs.accepted.next_item.Goals as goal
 
 pub returns-then-not-is_empty_element-clause-taken : goal.returns-then-not-is_empty_element-clause-taken
@@ -28,11 +28,10 @@ loop-list-preserved c =
     let invariant = c.loop-list.invariant in
     let empty = sym c.is_empty_element.ensures ∙ c.if-not-is_empty_element.false in
     let left = c.loop-list.left in
-    let few = item_few _ _ left _ part.0 part.1 len.within in
     record {
       kept = invariant.kept;
-      begins = omega (arith, invariant.begins, between_begins (left.start + c.len_before-len.result) (end_of left) (omega (arith, few)), ap (λ span. span.start) taken.rest, few);
-      ends = ap end_of taken.rest ∙ between_ends (left.start + c.len_before-len.result) (end_of left) (omega (arith, few)) ∙ invariant.ends;
+      begins = omega (arith, invariant.begins, taken.begins);
+      ends = taken.ends ∙ invariant.ends;
       same = item_passed _ _ left _ _ part.0 part.1 len.within len.first taken.rest empty ∙ invariant.same;
     }
 
