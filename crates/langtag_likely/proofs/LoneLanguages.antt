@@ -2,8 +2,8 @@
 use Rattle.std.proofs.Common.{◌≡◌, ◌⊎◌, ℕ, ◌<◌, ◌≤◌, Bool, true, false, cond, ltb, not, ◌==◌, List, [], ◌∷◌, length, map, take, zero, suc, Option, Some, None, option_map, inl, inr, refl, sym, ap, ◌∙◌, arith}
 use Rattle.std.specs.Prelude.{◌&&◌, codes}
 use Rattle.std.specs.List.{after_first, before_first, list_all, position_or_len}
-use Rattle.std.specs.Option.{option_eq, option_map_or}
-use Rattle.std.proofs.lemmas.Bool.{and_parts, both_ways, eq-eqb, false_from_ne_true, ltb-true, or_parts, eqb-true, not-true}
+use Rattle.std.specs.Option.{option_map_or}
+use Rattle.std.proofs.lemmas.Bool.{and_parts, both_ways, false_from_ne_true, ltb-true, or_parts, eqb-true, not-true}
 use Rattle.std.proofs.lemmas.Bool.Decides.{nat_tests}
 use Rattle.langtag_scan.specs.Case.{Alike, are_alike, fold_byte, fold_text}
 use Rattle.langtag_scan.specs.CaseLaws.{are_alike-decides}
@@ -50,10 +50,6 @@ head-take (suc (suc n)) (a ∷ b ∷ text) long = refl
 
 head_first : (text : List ℕ) → is_primary (before_first is_mark text) ≡ true → head (before_first is_mark text) ≡ head text
 head_first text primary = head-take (position_or_len is_mark text) text (primary_length (before_first is_mark text) primary)
-
-pub begins_otherwise : (begins : Option (ℕ × ℕ)) (letters : ℕ × ℕ) → not (option_eq (λ a b. (a.0 == b.0) && (a.1 == b.1)) begins (Some letters)) ≡ true → begins ≡ Some letters → ⊥
-begins_otherwise begins letters other same =
-    both_ways _ (ap (λ b. not (option_eq (λ a b. (a.0 == b.0) && (a.1 == b.1)) b (Some letters))) same ∙ rw (eq-eqb letters.0 letters.0 refl, eq-eqb letters.1 letters.1 refl) refl) other
 
 -- ---- the language of a text
 

@@ -1,8 +1,6 @@
 -- The tag of a POSIX locale's name: its parts, and its length.
-use Rattle.std.proofs.Common.{ℕ, ◌+◌, ◌≤◌, true, false, Bool, cond, List, [], ◌∷◌, ◌++◌, length, take, drop, Option, None, Some, IsTrue, refl, arith}
+use Rattle.std.proofs.Common.{ℕ, true, false, Bool, cond, List, [], ◌∷◌, length, Option, None, Some, IsTrue, refl}
 use Rattle.std.specs.Prelude.{codes, MatchOption}
-use Rattle.std.specs.List.{replace_range}
-use Rattle.std.proofs.lemmas.List.{length-append, length-drop, length-take}
 use Rattle.langtag_scan.specs.Case.{are_alike}
 use Rattle.langtag_scan.specs.Class.{is_letter, is_digit, is_script, is_variant}
 use Rattle.langtag_scan.specs.Record.{Record, IsWellFormed}
@@ -54,16 +52,3 @@ modified_well_formed modifier r fits =
 pub written_of : {N : Type 0} {W : ℕ → Type 0} (o : Option ℕ) → MatchOption o (N → ⊥) (λ len. N × W len) → N → (len : ℕ) × W len
 written_of None none named = absurd (none named)
 written_of (Some len) is named = (len, is.1)
-
--- ---- its length
-
-pub replaced_length :
-    (t : List ℕ) (start end : ℕ) (hyphen part : List ℕ) → start ≤ end → end ≤ length t →
-    length (replace_range t start end (hyphen ++ part)) ≤ length t + (length hyphen + length part)
-replaced_length t start end hyphen part order within =
-    let a = length-append (take start t ++ (hyphen ++ part)) (drop end t) in
-    let b = length-append (take start t) (hyphen ++ part) in
-    let c = length-append hyphen part in
-    let d = length-take start t in
-    let e = length-drop end t in
-    grind (arith, a, b, c, d, e, order, within)
