@@ -1,13 +1,13 @@
 -- What the spans that are kept say of the text.
-use Rattle.std.proofs.Common.{◌≡◌, ◌+◌, ◌-◌, ◌≤◌, ℕ, List, [], length, take, drop, unwrap_or, ap, ◌∙◌, arith, inl, inr}
+use Rattle.std.proofs.Common.{◌≡◌, ◌+◌, ◌-◌, ◌≤◌, ℕ, List, [], take, drop, unwrap_or, ap, ◌∙◌, arith, inl, inr}
 use Rattle.std.proofs.lemmas.Bool.Decides.{eqb_tells}
-use Rattle.langtag_scan.specs.Ends.{ends_of, HasEnds}
+use Rattle.langtag_scan.specs.Ends.{HasEnds}
 use Rattle.langtag_scan.specs.Parts.{text_between}
 use Rattle.langtag_scan.specs.Record.{EachRecord}
 use Rattle.langtag_scan.specs.declared.ends.Ends.{Ends}
-use Rattle.langtag_scan.proofs.SpelledTexts.{ends_each, ends_ordered, ends_whole}
+use Rattle.langtag_scan.proofs.SpelledTexts.{ends_ordered}
 use Rattle.langtag.proofs.PartsFound.{language_found, script_found, region_found, variants_found, extensions_found, private_use_found}
-use Rattle.langtag_c.specs.Spans.{span_text, span_between, spans_at, ArePartsOf, AreWithin, IsWithin}
+use Rattle.langtag_c.specs.Spans.{span_text, span_between, spans_at, ArePartsOf}
 
 -- the span between two ends has what stands between them
 pub between_text : (text : List ℕ) (before end : ℕ) → before ≤ end → span_text text (span_between before end) ≡ unwrap_or (text_between text before end) []
