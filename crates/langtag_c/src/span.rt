@@ -17,13 +17,10 @@ impl Span {
         ensures begins { before ≤ end → before ≤ result.start }
         ensures ends { before ≤ end → end_of result ≡ end }
     {
-        if before < end {
-            Span {
-                start: before + 1,
-                len: end - before - 1,
-            }
-        } else {
-            Span { start: end, len: 0 }
+        let start = if before < end { before + 1 } else { end };
+        Span {
+            start,
+            len: end - start,
         }
     }
 
