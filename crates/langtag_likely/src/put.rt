@@ -1,10 +1,10 @@
 //! A tag with other fields.
 ghost use Rattle.std.specs.Prelude.{◌≡◌, ◌∷◌, ◌++◌, drop};
+ghost use Rattle.std.specs.List.{flat_map};
 ghost use Rattle.std.specs.Option.{option_map, option_map_or};
 ghost use Rattle.langtag_scan.specs.Ends.{ends_of};
 ghost use Rattle.langtag_scan.specs.Record.{EachRecord, one_flat, spell};
 ghost use Rattle.langtag_scan.specs.Subtags.{join};
-ghost use Rattle.langtag_scan.proofs.Joins.{hyphenated};
 ghost use Rattle.langtag_language.specs.Language.{EachLanguageSpelling};
 ghost use Rattle.langtag_language.specs.Text.{language_text};
 ghost use Rattle.langtag.specs.Text.{normal_lang_tag_text};
@@ -58,7 +58,7 @@ pub(crate) fn write_text(text: &[u8], buffer: &mut [u8]) -> usize
 
 /// Returns the hyphen before a subtag; nothing, if there is none.
 fn hyphen_before(subtag: &[u8]) -> &[u8]
-    ensures { result.now ++ subtag.now ≡ hyphenated (one_flat (subtag_of subtag.now)) }
+    ensures { result.now ++ subtag.now ≡ flat_map (λ s. 45 ∷ s) (one_flat (subtag_of subtag.now)) }
 {
     if subtag.is_empty() { b"" } else { b"-" }
 }
