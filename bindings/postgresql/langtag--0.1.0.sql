@@ -200,29 +200,29 @@ CREATE FUNCTION recommended(langtag) RETURNS langtag AS 'MODULE_PATHNAME', 'pg_l
 
 -- By IANA's registry of one date and one version of CLDR, in the module with their names: the next ones are another module,
 -- and come by ALTER EXTENSION UPDATE. So IMMUTABLE, as normalize() is by Unicode's data.
-CREATE FUNCTION is_valid(langtag) RETURNS boolean AS '$libdir/langtag-2025-05-15-cldr41', 'pg_langtag_is_valid'
+CREATE FUNCTION is_valid(langtag) RETURNS boolean AS '$libdir/langtag-2025-08-25-cldr41', 'pg_langtag_is_valid'
     LANGUAGE C IMMUTABLE STRICT PARALLEL SAFE COST 20;
-CREATE FUNCTION invalid_subtag(langtag) RETURNS langtag_part AS '$libdir/langtag-2025-05-15-cldr41', 'pg_langtag_invalid_subtag'
+CREATE FUNCTION invalid_subtag(langtag) RETURNS langtag_part AS '$libdir/langtag-2025-08-25-cldr41', 'pg_langtag_invalid_subtag'
     LANGUAGE C IMMUTABLE STRICT PARALLEL SAFE COST 20;
-CREATE FUNCTION canonical(langtag) RETURNS langtag AS '$libdir/langtag-2025-05-15-cldr41', 'pg_langtag_canonical'
+CREATE FUNCTION canonical(langtag) RETURNS langtag AS '$libdir/langtag-2025-08-25-cldr41', 'pg_langtag_canonical'
     LANGUAGE C IMMUTABLE STRICT PARALLEL SAFE COST 20;
-CREATE FUNCTION langtag_registry_date() RETURNS text AS '$libdir/langtag-2025-05-15-cldr41', 'pg_langtag_registry_date'
+CREATE FUNCTION langtag_registry_date() RETURNS text AS '$libdir/langtag-2025-08-25-cldr41', 'pg_langtag_registry_date'
     LANGUAGE C STABLE STRICT PARALLEL SAFE;
 
 -- A tag with its likely subtags, and without those that are likely anyway (UTS #35, part 1).
-CREATE FUNCTION maximized(langtag) RETURNS langtag AS '$libdir/langtag-2025-05-15-cldr41', 'pg_langtag_maximized'
+CREATE FUNCTION maximized(langtag) RETURNS langtag AS '$libdir/langtag-2025-08-25-cldr41', 'pg_langtag_maximized'
     LANGUAGE C IMMUTABLE STRICT PARALLEL SAFE COST 20;
-CREATE FUNCTION minimized(langtag) RETURNS langtag AS '$libdir/langtag-2025-05-15-cldr41', 'pg_langtag_minimized'
+CREATE FUNCTION minimized(langtag) RETURNS langtag AS '$libdir/langtag-2025-08-25-cldr41', 'pg_langtag_minimized'
     LANGUAGE C IMMUTABLE STRICT PARALLEL SAFE COST 20;
 -- How far a tag that is there is from one that is wanted; and whether its script runs from right to left.
-CREATE FUNCTION distance(desired langtag, supported langtag) RETURNS integer AS '$libdir/langtag-2025-05-15-cldr41', 'pg_langtag_distance'
+CREATE FUNCTION distance(desired langtag, supported langtag) RETURNS integer AS '$libdir/langtag-2025-08-25-cldr41', 'pg_langtag_distance'
     LANGUAGE C IMMUTABLE STRICT PARALLEL SAFE COST 40;
-CREATE FUNCTION is_right_to_left(langtag) RETURNS boolean AS '$libdir/langtag-2025-05-15-cldr41', 'pg_langtag_is_right_to_left'
+CREATE FUNCTION is_right_to_left(langtag) RETURNS boolean AS '$libdir/langtag-2025-08-25-cldr41', 'pg_langtag_is_right_to_left'
     LANGUAGE C IMMUTABLE STRICT PARALLEL SAFE COST 20;
 -- The tag of some that whoever sent an Accept-Language header would read best, or NULL.
-CREATE FUNCTION best_for_header(langtag[], text) RETURNS langtag AS '$libdir/langtag-2025-05-15-cldr41', 'pg_langtag_best_for_header'
+CREATE FUNCTION best_for_header(langtag[], text) RETURNS langtag AS '$libdir/langtag-2025-08-25-cldr41', 'pg_langtag_best_for_header'
     LANGUAGE C IMMUTABLE STRICT PARALLEL SAFE COST 100;
-CREATE FUNCTION langtag_cldr_version() RETURNS integer AS '$libdir/langtag-2025-05-15-cldr41', 'pg_langtag_cldr_version'
+CREATE FUNCTION langtag_cldr_version() RETURNS integer AS '$libdir/langtag-2025-08-25-cldr41', 'pg_langtag_cldr_version'
     LANGUAGE C STABLE STRICT PARALLEL SAFE;
 
 -- What bounds the tags that a range matches. It need not be a tag, and no text becomes one.
