@@ -74,7 +74,7 @@ other_at i language script region inside language_is script_is region_is =
 
 -- ---- all rows
 
-either : (key : Fields) → likely_for likely_subtags key ≡ or_else (likely_for language_rows key) (likely_for other_rows key)
+pub either : (key : Fields) → likely_for likely_subtags key ≡ or_else (likely_for language_rows key) (likely_for other_rows key)
 unfolding likely_subtags
 either key = likely_for-append language_rows other_rows key
 

@@ -70,7 +70,7 @@ fn region_alias(fields: TagFields<'_>) -> Option<TagFields<'static>>
 fn alias_keys() -> &'static [u16]
     ensures numbers { result.now ≡ map (λ row. letter_number row.from.language) language_aliases }
     ensures climbs { IsTrue (climbs_from 0 result.now) }
-    ensures count { length result.now ≡ 9 }
+    ensures count { length result.now ≡ length language_aliases }
 {
     &tables::ALIAS_KEYS
 }
@@ -79,7 +79,7 @@ fn alias_keys() -> &'static [u16]
 fn region_alias_keys() -> &'static [u32]
     ensures numbers { result.now ≡ map (λ row. folded_number row.from.region) region_aliases }
     ensures climbs { IsTrue (climbs_from 0 result.now) }
-    ensures count { length result.now ≡ 27 }
+    ensures count { length result.now ≡ length region_aliases }
 {
     &tables::REGION_ALIAS_KEYS
 }
