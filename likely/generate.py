@@ -8,8 +8,7 @@ usage: generate.py                        writes them from the data whose checks
                                           that would be written otherwise, a list that oracle.py's reading has otherwise
 
 Data that break what the crate rests on are refused: the row that does is named, nothing is written, and the status is 1. So are
-newer data in which a language has neither a row nor a rule any more, unless it is named or is an alias that is followed
-(`matching.ALIASES`).
+newer data in which a language has lost its row, unless it is one of LANGUAGE or an alias that is followed (`matching.ALIASES`).
 """
 from __future__ import annotations
 
@@ -26,6 +25,7 @@ HERE = pathlib.Path(__file__).resolve().parent
 DATA = HERE / "data"
 CHECKSUMS = HERE / "data.sha256"
 CRATE = HERE.parent / "crates" / "langtag_likely"
+MODULE = HERE.parent / "bindings" / "postgresql" / "cldr_version.mk"
 
 # The variants of Arab and Syrc that have codes of their own (ISO 15924). The data do not name them.
 SCRIPT_VARIANTS = ["Aran", "Syre", "Syrj", "Syrn"]
@@ -150,7 +150,7 @@ def tables(likely):
     region = lambda row: likely.regions.index(row[5])
     return "\n".join([
         f"//! Unicode's CLDR {version()} in tables (the notice: likely/LICENSE-UNICODE). Written by likely/generate.py. Do not edit.\n",
-        f"/// The major version of Unicode's CLDR, whose version {version()} this crate has.\n" f'pub const CLDR_VERSION: &str = "{version().partition(".")[0]}";\n',
+        f"/// The major version of the Unicode CLDR that this crate has, which is {version()}.\n" f'pub const CLDR_VERSION: &str = "{major_version()}";\n',
         numbers("SCRIPT_KEYS", "The scripts: their lowercase bytes as the digits of a number, in rising order.", 32, map(folded_number, likely.scripts)),
         names("SCRIPT_NAMES", "The same scripts.", likely.scripts),
         numbers("REGION_KEYS", "The regions: their lowercase bytes as the digits of a number, in rising order.", 32, map(folded_number, likely.regions)),
@@ -261,25 +261,33 @@ def script_list():
     ])
 
 
-def written(likely, matching):
-    """The files that are made of the data: of each its path in the crate and its text."""
-    return {"src/tables.rt": tables(likely), "src/matching_tables.rt": matching_tables(matching),
-            "specs/LikelySubtags.antt": likely_lists(likely), "specs/MatchingData.antt": matching_lists(matching),
-            "specs/RightToLeft.antt": script_list()}
+def major_version():
+    return version().partition(".")[0]
 
 
-def known_languages(crate):
-    """The languages with a row or a rule in the lists that stand."""
-    standing = second_reading.standing(crate / "specs")
-    return {row[0] for row in standing.get("language_rows", [])} | {text for row in standing.get("language_rules", []) for text in row[:2]}
+def module_version():
+    """The version in the name of PostgreSQL's module, for its Makefile."""
+    return f"# The version of CLDR in the library. Written by likely/generate.py. Do not edit.\nCLDR_VERSION = {major_version()}\n"
+
+
+def written(crate, likely, matching):
+    """The files that are made of the data: of each its path and its text."""
+    return {crate / "src/tables.rt": tables(likely), crate / "src/matching_tables.rt": matching_tables(matching),
+            crate / "specs/LikelySubtags.antt": likely_lists(likely), crate / "specs/MatchingData.antt": matching_lists(matching),
+            crate / "specs/RightToLeft.antt": script_list(), MODULE: module_version()}
 
 
 def lost(crate, likely, matching, named):
-    """The languages that had a row or a rule, and have neither now: without it their tags get nothing."""
-    kept = {row[0] for row in likely.of_languages} | {text for row in matching.languages for text in row[:2]} | set(ALIASES) | set(named)
+    """The languages that had a row and have none now, or that had a rule and have neither: their tags get other answers, or none."""
+    standing = second_reading.standing(crate / "specs")
+    rows = {row[0] for row in likely.of_languages}
+    rules = {text for row in matching.languages for text in row[:2]}
+    had_row = {row[0] for row in standing.get("language_rows", [])}
+    had_rule = {text for row in standing.get("language_rules", []) for text in row[:2]}
     aliases = {row[0]: row[1] for row in read("language-alias.txt")}
-    for language in sorted(known_languages(crate) - kept):
-        yield f"{language}: it had a row or a rule, and has none now" + (f"; it is an alias of {aliases[language]}" if language in aliases else "")
+    for language in sorted((had_row - rows | had_rule - rows - rules) - set(ALIASES) - set(named)):
+        had = "row" if language in had_row else "rule"
+        yield f"{language}: it had a {had}, and has none now" + (f"; it is an alias of {aliases[language]}" if language in aliases else "")
 
 
 def refuse_unaccepted(crate, likely, matching, accept, named):
@@ -303,12 +311,11 @@ def main(words, crate):
     told = []
     if check and checksums() != CHECKSUMS.read_text(encoding="utf-8"):
         told.append(f"the data are not those of {CHECKSUMS.name}")
-    for name, text in written(likely, matching).items():
-        path = crate / name
+    for path, text in written(crate, likely, matching).items():
         if not check:
             path.write_text(text, encoding="utf-8")
         elif not path.is_file() or path.read_text(encoding="utf-8") != text:
-            told.append(f"differs: crates/{crate.name}/{name}")
+            told.append(f"differs: {path.relative_to(crate.parent) if crate in path.parents else path.name}")
     if accept:
         CHECKSUMS.write_text(checksums(), encoding="utf-8")
     if check:

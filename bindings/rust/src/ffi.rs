@@ -522,7 +522,7 @@ pub(crate) fn from_posix(name: &str, buffer: &mut [u8]) -> usize {
     unsafe { c::langtag_from_posix(name.as_ptr(), name.len(), to, room) }
 }
 
-/// The version of CLDR.
+/// The major version of CLDR.
 pub(crate) fn cldr_version() -> u32 {
     // SAFETY: it takes nothing, and only returns a number.
     unsafe { c::langtag_cldr_version() }

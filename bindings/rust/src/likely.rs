@@ -151,7 +151,7 @@ pub fn from_posix(name: &str) -> Option<LangTagBuf> {
     LangTagBuf::new(alloc::string::String::from_utf8(tag).ok()?).ok()
 }
 
-/// Returns the version of Unicode's CLDR whose likely subtags and distances these are.
+/// Returns the major version of the Unicode CLDR whose likely subtags and distances these are, such as 48 for CLDR 48.2.
 pub fn cldr_version() -> u32 {
     ffi::cldr_version()
 }
