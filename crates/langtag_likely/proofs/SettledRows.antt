@@ -2,15 +2,15 @@
 use Rattle.std.specs.Prelude.{◌&&◌, ◌||◌, codes}
 use Rattle.std.specs.List.{list_all}
 use Rattle.std.specs.Option.{option_map_or}
-use Rattle.std.proofs.Common.{◌≡◌, ◌≤◌, ◌<◌, ◌-◌, ◌+◌, ◌==◌, ◌%◌, true, false, Bool, cond, leb, ltb, not, List, [], ◌∷◌, ℕ, Option, None, Some, option_map, is_some, length, refl, sym, ap, ◌∙◌, arith}
-use Rattle.std.proofs.lemmas.Bool.{and_parts, leb-true, ltb-true, eqb-true}
+use Rattle.std.proofs.Common.{◌≡◌, ◌==◌, ◌%◌, true, false, Bool, cond, leb, not, List, [], ◌∷◌, ℕ, Option, None, Some, is_some, length, refl, sym, ap, ◌∙◌, arith}
+use Rattle.std.proofs.lemmas.Bool.{and_parts, leb-true, eqb-true}
 use Rattle.langtag_scan.specs.Case.{fold_byte, are_alike}
 use Rattle.langtag_scan.specs.Class.{is_letter, are_letters}
 use Rattle.langtag_registry.specs.Numbers.{letter_number}
 use Rattle.langtag_likely.specs.Likely.{Fields, Likely, language_alone, without_region, without_script, likely_for, looked_up, or_else}
 use Rattle.langtag_likely.specs.LikelySubtags.{language_rows, other_rows, likely_subtags}
 use Rattle.langtag_likely.specs.Rows.{of_language}
-use Rattle.langtag_likely.proofs.LanguageBits.{from_bit, index_by_bit}
+use Rattle.langtag_likely.proofs.LanguageBits.{from_bit, row_at}
 use Rattle.langtag_likely.proofs.RowLaws.{all_other, either, language_found}
 
 -- a text that is there
@@ -45,10 +45,10 @@ stays_unknown row =
     && option_map_or (λ v. not (is_there v.language)) (looked_up other_rows row.to) false)
 
 -- the bit of a language is set in the table of those that have a row
-abbrev pub has_bit : List ℕ → Bool
+unfoldable pub has_bit : List ℕ → Bool
 has_bit language =
     are_letters language
-    && (leb 27 (letter_number language) && (ltb (letter_number language) 18304 && (from_bit (letter_number language - 27) % 2 == 1)))
+    && (leb 27 (letter_number language) && (leb (letter_number language) 18278 && (from_bit (letter_number language) % 2 == 1)))
 
 -- of another row: its language has a row of its own
 abbrev pub is_other_row : Likely → Bool
@@ -58,7 +58,7 @@ abbrev pub is_settled : Likely → Bool
 is_settled row = is_whole row && (is_language_row row || is_other_row row)
 
 pub rows_settled : list_all is_settled likely_subtags ≡ true
-unfolding likely_subtags language_rows other_rows letter_number is_letter fold_byte
+unfolding likely_subtags language_rows other_rows has_bit letter_number is_letter fold_byte
 rows_settled = refl
 
 -- ---- a language whose bit is set has a row
@@ -67,23 +67,17 @@ some_first : (a b : Option Fields) → is_some a ≡ true → is_some (or_else a
 some_first None b h = absurd cc
 some_first (Some v) b h = refl
 
-some_map : {A B : Type 0} (f : A → B) (o : Option A) → is_some (option_map f o) ≡ is_some o
-some_map f None = refl
-some_map f (Some x) = refl
-
 pub row_by_bit : (language : List ℕ) → has_bit language ≡ true → is_some (likely_for likely_subtags (of_language language)) ≡ true
+unfolding has_bit
 row_by_bit language h =
-    let a = and_parts (are_letters language) _ h in
-    let b = and_parts (leb 27 (letter_number language)) _ a.1 in
-    let c = and_parts (ltb (letter_number language) 18304) (from_bit (letter_number language - 27) % 2 == 1) b.1 in
-    let from = leb-true 27 (letter_number language) b.0 in
-    let to = ltb-true (letter_number language) 18304 c.0 in
-    let set = eqb-true (from_bit (letter_number language - 27) % 2) 1 c.1 in
-    let at : letter_number language ≡ 27 + (letter_number language - 27) = omega (arith, from) in
-    let found = index_by_bit (letter_number language - 27) (omega (arith, to)) (λ none. omega (arith, none, set)) in
+    let a = and_parts (are_letters language) (leb 27 (letter_number language) && (leb (letter_number language) 18278 && (from_bit (letter_number language) % 2 == 1))) h in
+    let b = and_parts (leb 27 (letter_number language)) (leb (letter_number language) 18278 && (from_bit (letter_number language) % 2 == 1)) a.1 in
+    let c = and_parts (leb (letter_number language) 18278) (from_bit (letter_number language) % 2 == 1) b.1 in
+    let found =
+    row_at (letter_number language) (leb-true 27 (letter_number language) b.0) (leb-true (letter_number language) 18278 c.0) (eqb-true (from_bit (letter_number language) % 2) 1 c.1) in
     ap is_some (either (of_language language))
     ∙ some_first (likely_for language_rows (of_language language)) (likely_for other_rows (of_language language))
-    (ap is_some (sym (language_found language _ (27 + (letter_number language - 27)) _ a.0 refl (sym at) (sym found))))
+    (ap is_some (sym (language_found language (letter_number language) _ a.0 refl (sym found))))
 
 -- ---- a look-up without a language
 

@@ -43,6 +43,7 @@ fn language_row(language: &[u8]) -> Option<TagFields<'static>>
 }
 
 /// Returns where the language with a number stands among those with a row: how many bits are set before its own, if that is set.
+#[tactic(auto, using(crate::proofs::LanguageBits::no_row, crate::proofs::LanguageBits::enough_ends, crate::proofs::LanguageBits::row_at))]
 fn language_index(number: usize) -> Option<usize>
     requires from_aa { 27 ≤ number }
     requires to_zzz { number ≤ 18278 }
