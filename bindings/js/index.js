@@ -32,6 +32,9 @@ function textOf(value) {
     throw new TypeError(`a text or a tag is wanted, and this is ${value === null ? "null" : `of type ${typeof value}`}`);
 }
 
+/** Returns the text of a header. A request without one asks for nothing: Node has undefined for it, and fetch has null. */
+const headerText = (header) => textOf(header ?? "");
+
 /** An error that tells the text that is refused. */
 class Refusal extends RangeError {
     constructor(message, more) {
@@ -359,7 +362,7 @@ export class AcceptLanguage {
     #header;
 
     constructor(header, isLenient = false) {
-        const text = textOf(header);
+        const text = headerText(header);
         this.#header = text;
         const ranges = [];
         for (const [answer, offset, length, weight] of calls.accepted(text)) {
@@ -403,7 +406,7 @@ export function distance(desired, supported) {
 
 export function bestForHeader(header, tags, otherwise) {
     const list = [...tags];
-    const index = calls.bestForHeader(textOf(header), list.map((tag) => tagOf(tag).text));
+    const index = calls.bestForHeader(headerText(header), list.map((tag) => tagOf(tag).text));
     return index < list.length ? list[index] : otherwise;
 }
 

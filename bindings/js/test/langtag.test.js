@@ -127,12 +127,33 @@ test("likely subtags, distances and the best tag", () => {
     assert.ok(CLDR_VERSION >= 41);
 });
 
+const HEADER_CALLS = [
+    bestForHeader, tagForHeader, tagForHeaderLenient,
+    (header, tags, otherwise) => AcceptLanguage.parse(header).best(tags, otherwise),
+    (header, tags, otherwise) => AcceptLanguage.parse(header).lookUp(tags, otherwise),
+    (header, tags, otherwise) => AcceptLanguage.lenient(header).best(tags, otherwise),
+    (header, tags, otherwise) => AcceptLanguage.lenient(header).lookUp(tags, otherwise),
+];
+
+test("a request without a header asks for nothing", () => {
+    for (const header of [undefined, null, ""]) {
+        for (const call of HEADER_CALLS) {
+            assert.equal(call(header, ["de", "en"], "en"), "en");
+            assert.equal(call(header, ["de", "en"]), undefined);
+            assert.throws(() => call(header, ["de_CH"], "en"), InvalidTag);
+        }
+        assert.deepEqual([AcceptLanguage.parse(header).ranges, AcceptLanguage.lenient(header).ranges], [[], []]);
+    }
+});
+
 test("what is no text is a TypeError", () => {
     for (const value of [undefined, null, 5, ["en"], {}, Symbol("en"), 5n, { text: 5 }]) {
         assert.throws(() => LanguageTag.parse(value), TypeError);
         assert.throws(() => LanguageRange.parse(value), TypeError);
-        assert.throws(() => tagForHeader(value, ["en"]), TypeError);
         assert.throws(() => LanguageTag.parse("en").equals(value), TypeError);
+        assert.throws(() => bestForRanges([value], ["en"]), TypeError);
+        if (value === undefined || value === null) continue; // no header
+        for (const call of HEADER_CALLS) assert.throws(() => call(value, ["en"]), TypeError);
     }
     assert.throws(() => LanguageTag.parse("en").with({ scripts: "Latn" }), TypeError);
     assert.throws(() => LanguageTag.parse("en").with({ variants: 5 }), TypeError);
