@@ -88,17 +88,22 @@ class InvalidSubtag {
     }
 }
 
-/** What a part is set to, as a text: null is none, and so is an empty list. */
+/**
+ * Returns what a part is set to, as a text. null takes a part out, and so does an empty list. One empty subtag makes "-", which no
+ * part is, so that it is refused.
+ */
 function partText(value) {
     if (value === null) return "";
     if (typeof value === "string") return value;
     if (typeof value !== "object") throw new TypeError(`a part is a text or has several, and this is of type ${typeof value}`);
-    const members = typeof value === "object" && !(Symbol.iterator in value) ? Object.entries(value) : [...value];
-    return members.map((member) => {
+    const members = Symbol.iterator in value ? [...value] : Object.entries(value);
+    if (members.length === 0) return "";
+    const texts = members.map((member) => {
         if (typeof member === "string") return member;
         const [singleton, subtags] = member;
         return [singleton, ...(typeof subtags === "string" ? [subtags] : subtags)].join("-");
-    }).join("-");
+    });
+    return texts.join("-") || "-";
 }
 
 export class LanguageTag {

@@ -252,7 +252,12 @@ class Edits(unittest.TestCase):
         self.assertEqual(str(tag.replace(extensions={"u": ["co", "eor"]}, variants=[])), "zh-yue-Hant-HK-u-co-eor-x-mine")
         with self.assertRaises(EditError):
             Tag("de-x-a").replace(language=None)
-        for wrong in ({"variants": [""]}, {"variants": ["1994", ""]}, {"extensions": {"u": []}}, {"extensions": {"": ["a"]}}):
+        for nothing in ([], (), {}, set(), "", None):
+            self.assertEqual(str(Tag("de-1996-u-co-pinyin").replace(variants=nothing, extensions=nothing)), "de")
+        wrongs = [{part: wrong} for part in ("variants", "extensions") for wrong in (
+            [""], ["", ""], {""}, ["1994", ""], {"": []}, {"": ""}, {"": ["a"]}, {"u": []}, {"u": ""}, {"u": [""]})]
+        wrongs += [{part: wrong} for part in ("language", "script", "region", "private_use") for wrong in ([], [""], {})]
+        for wrong in wrongs:
             with self.assertRaises(EditError):
                 tag.replace(**wrong)
         for wrong in ({"script": b"Latn"}, {"region": 419}, {"variants": [1994]}):

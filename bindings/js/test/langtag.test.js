@@ -198,6 +198,15 @@ test("edits", () => {
     assert.throws(() => tag.with({ region: "Switzerland" }), (error) => error instanceof EditError && error instanceof RangeError &&
         error.message === `"Switzerland" can't be the region of a tag` && error.part === "region" && error.text === "Switzerland");
     assert.throws(() => LanguageTag.parse("x-a").with({ region: "CH" }), { name: "EditError", message: "not a normal language tag" });
+    for (const list of [[], new Set(), {}, new Map(), "", null]) {
+        assert.equal(String(LanguageTag.parse("de-1996-u-co-pinyin").with({ variants: list, extensions: list })), "de");
+    }
+    for (const list of [[""], ["", ""], new Set([""]), ["1996", ""], { "": [] }, { "": "" }, new Map([["", []]]), { u: [] }, { u: "" }, { u: [""] }]) {
+        for (const part of ["variants", "extensions"]) assert.throws(() => LanguageTag.parse("de-1996-u-co-pinyin").with({ [part]: list }), EditError);
+    }
+    for (const list of [[], [""], {}]) {
+        for (const part of ["language", "script", "region", "privateUse"]) assert.throws(() => LanguageTag.parse("de-Latn-x-a").with({ [part]: list }), EditError);
+    }
     for (const parts of [{ language: null }, { script: "" }, { region: "\u212aE" }, { script: "La\ud800n" }]) {
         assert.throws(() => tag.with(parts), EditError);
     }
