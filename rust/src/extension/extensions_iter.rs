@@ -1,0 +1,39 @@
+//! The walk over the extensions of a tag.
+
+use crate::extension::extension::Extension;
+use crate::extension::extension_texts::ExtensionTexts;
+
+/// The extensions that are still to come (RFC 5646 section 2.2.6), in the order in which they are written: `a-ext1`
+/// and `u-co` of `Extensions::new("a-ext1-u-co")?.iter()`.
+#[derive(Debug)]
+pub struct ExtensionsIter<'a> {
+    rest: ExtensionTexts<'a>,
+}
+
+impl<'a> ExtensionsIter<'a> {
+    /// The extensions of a text.
+    #[inline]
+    pub(crate) fn new(text: &'a str) -> Self {
+        ExtensionsIter {
+            rest: ExtensionTexts::new(text),
+        }
+    }
+}
+
+impl Clone for ExtensionsIter<'_> {
+    #[inline]
+    fn clone(&self) -> Self {
+        let rest = self.rest.clone();
+        ExtensionsIter { rest }
+    }
+}
+
+impl<'a> Iterator for ExtensionsIter<'a> {
+    type Item = Extension<'a>;
+
+    #[inline]
+    fn next(&mut self) -> Option<Extension<'a>> {
+        let text = self.rest.next()?;
+        Some(Extension::from_checked(text))
+    }
+}

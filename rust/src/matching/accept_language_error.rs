@@ -1,0 +1,63 @@
+//! Why an Accept-Language header was refused.
+
+#[cfg(feature = "alloc")]
+use crate::shim::AllocError;
+use core::fmt;
+
+/// The part of an element that is bad: of `de-` its language range, of `de;q=2` its weight. Where both are, it is the range.
+#[derive(Debug)]
+pub enum ElementPart {
+    /// What stands before the `;`, or the whole element without one, is not a basic language range.
+    Range,
+    /// What stands after the `;` is not a weight.
+    Weight,
+}
+
+impl fmt::Display for ElementPart {
+    #[inline]
+    fn fmt(&self, f: &mut fmt::Formatter<'_>) -> fmt::Result {
+        f.write_str(match self {
+            ElementPart::Range => "language range",
+            ElementPart::Weight => "weight",
+        })
+    }
+}
+
+/// Why a header was refused: `de, *-CH` is a `BadElement` with the index 1, the offset 3 and [`ElementPart::Range`].
+#[cfg(feature = "alloc")]
+#[derive(Debug)]
+pub enum AcceptLanguageError<'a> {
+    /// The header; of its first bad element the index, which counts the commas before it, the offset in bytes just after
+    /// the last of these, and the part that is bad.
+    BadElement {
+        header: &'a str,
+        index: usize,
+        offset: usize,
+        part: ElementPart,
+    },
+    /// Out of memory for the list. The caller has the header still.
+    Memory(AllocError),
+}
+
+#[cfg(feature = "alloc")]
+impl core::fmt::Display for AcceptLanguageError<'_> {
+    fn fmt(&self, f: &mut core::fmt::Formatter<'_>) -> core::fmt::Result {
+        match self {
+            AcceptLanguageError::BadElement { index, part, .. } => {
+                write!(f, "element {index} has a bad {part}")
+            }
+            AcceptLanguageError::Memory(_) => f.write_str("out of memory"),
+        }
+    }
+}
+
+#[cfg(feature = "alloc")]
+impl core::error::Error for AcceptLanguageError<'_> {}
+
+#[cfg(feature = "alloc")]
+impl From<AllocError> for AcceptLanguageError<'_> {
+    #[inline]
+    fn from(error: AllocError) -> Self {
+        AcceptLanguageError::Memory(error)
+    }
+}

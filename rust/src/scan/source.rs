@@ -1,0 +1,19 @@
+//! Where a recogniser reads its bytes from, one by one, with a count of the reads.
+
+/// A list of bytes that are read one at a time, by index. It counts the reads and how far they reached, so that a
+/// contract can say that no byte too many was read.
+///
+/// Indices are counted in bytes from 0. A source may hold its bytes, or compute them.
+pub trait ByteSource {
+    /// How many bytes there are: 5 of `Metered::new("fr-FR")`.
+    fn len(&self) -> usize;
+
+    /// How many reads were made: 2 after `byte(0)` and `byte(0)`.
+    fn reads(&self) -> u128;
+
+    /// One past the furthest index that was read, or 0: 1 after `byte(0)` and `byte(0)`.
+    fn reach(&self) -> usize;
+
+    /// Reads the byte at an index: `b'r'` at 1 in `fr-FR`.
+    fn byte(&mut self, index: usize) -> u8;
+}

@@ -1,0 +1,35 @@
+//! Why a tag could not be edited.
+
+#[cfg(feature = "alloc")]
+use crate::shim::AllocError;
+/// Why a part was not put into a tag, or taken out of it. The tag is as it was.
+#[cfg(feature = "alloc")]
+#[derive(Clone, Copy, Debug, PartialEq, Eq)]
+pub enum EditError {
+    /// The tag is not a normal one, and has no parts (RFC 5646 section 2.1): `x-a` and `i-klingon` are refused so.
+    NotNormal,
+    /// Out of memory.
+    Memory(AllocError),
+}
+
+#[cfg(feature = "alloc")]
+impl core::fmt::Display for EditError {
+    #[inline]
+    fn fmt(&self, f: &mut core::fmt::Formatter<'_>) -> core::fmt::Result {
+        match self {
+            EditError::NotNormal => f.write_str("not a normal language tag"),
+            EditError::Memory(_) => f.write_str("out of memory"),
+        }
+    }
+}
+
+#[cfg(feature = "alloc")]
+impl core::error::Error for EditError {}
+
+#[cfg(feature = "alloc")]
+impl From<AllocError> for EditError {
+    #[inline]
+    fn from(error: AllocError) -> Self {
+        EditError::Memory(error)
+    }
+}

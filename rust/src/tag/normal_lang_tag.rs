@@ -1,0 +1,272 @@
+//! Normal tags, which are made of parts: rule `langtag` of RFC 5646 section 2.1.
+
+use crate::case::{is_in_recommended_case, InRecommendedCase};
+use crate::extension::{Extensions, Singleton};
+use crate::language::Language;
+use crate::place::{Region, Script, Variant, Variants};
+use crate::private::{PrivateUse, PrivateUseIter};
+use crate::scan::{Caseless, Ends, Subtags};
+#[cfg(feature = "alloc")]
+use crate::shim::{try_string, AllocError};
+use crate::tag::lang_tag::LangTag;
+#[cfg(feature = "alloc")]
+use crate::tag::normal_lang_tag_buf::NormalLangTagBuf;
+use crate::tag::recognise_text::normal_ends;
+use crate::tag::recognised::Recognised;
+use crate::tag::repeats::{first_repeated_singleton, first_repeated_variant};
+use core::fmt;
+
+/// The error for a text that is not a normal tag. It hands the text back.
+#[derive(Debug)]
+pub struct InvalidNormalLangTag<T>(pub T);
+
+impl<T> core::fmt::Display for InvalidNormalLangTag<T> {
+    #[inline]
+    fn fmt(&self, f: &mut core::fmt::Formatter<'_>) -> core::fmt::Result {
+        f.write_str("invalid normal language tag")
+    }
+}
+
+impl<T: core::fmt::Debug> core::error::Error for InvalidNormalLangTag<T> {}
+
+/// A normal tag (rule `langtag` of RFC 5646 section 2.1): a language, and after it a script, a region, variants,
+/// extensions and a private use part, each of which may be absent, as `sl-Latn-IT-rozaj-u-co-phonebk-x-mine`.
+///
+/// It keeps where its parts end, so that each is cut from the text. Two tags are equal where their texts differ at most
+/// in the case of ASCII letters.
+#[derive(Clone, Copy)]
+pub struct NormalLangTag<'a> {
+    text: Caseless<&'a str>,
+    ends: Ends,
+}
+
+by_text!(NormalLangTag<'_>);
+
+impl<'a> NormalLangTag<'a> {
+    /// Parses a text as a normal tag: `NormalLangTag::new("sl-IT-rozaj")` is Ok.
+    ///
+    /// Its contract also has laws: a normal tag has one record of its parts; the parts that are there, joined by hyphens, are
+    /// the whole text; and each stands between the end of the part before and its own.
+    ///
+    /// # Errors
+    ///
+    /// A text that is not a normal tag comes back: `sl_IT`, and also `x-a`, which is a tag of another kind.
+    #[inline]
+    pub fn new(text: &'a str) -> Result<NormalLangTag<'a>, InvalidNormalLangTag<&'a str>> {
+        let Some(ends) = normal_ends(text) else {
+            return Err(InvalidNormalLangTag(text));
+        };
+        Ok(NormalLangTag::with_ends(text, ends))
+    }
+
+    /// Returns the normal tag of a text that is known to be one: `NormalLangTag::from_checked(tag.as_str()) == tag` of
+    /// each normal tag. The recogniser goes over the text once more, for the ends of its parts.
+    #[inline]
+    pub(crate) fn from_checked(text: &'a str) -> NormalLangTag<'a> {
+        let Some(ends) = normal_ends(text) else {
+            unreachable!()
+        };
+        NormalLangTag::with_ends(text, ends)
+    }
+
+    /// The normal tag of a text whose parts are known to end at these offsets: it is not looked at again.
+    #[inline]
+    pub(crate) fn with_ends(text: &'a str, ends: Ends) -> NormalLangTag<'a> {
+        NormalLangTag {
+            text: Caseless(text),
+            ends,
+        }
+    }
+
+    /// Returns the text, with its case: `SL-it` of `SL-it`.
+    #[inline]
+    pub fn as_str(&self) -> &'a str {
+        self.text.0
+    }
+
+    /// Returns the bytes of the text: `b"sl-IT"` of `sl-IT`.
+    #[inline]
+    pub fn as_bytes(&self) -> &'a [u8] {
+        self.as_str().as_bytes()
+    }
+
+    /// Returns all subtags of the tag, in order and from both ends: `sl`, `Latn` and `IT` of `sl-Latn-IT`.
+    #[inline]
+    pub fn subtags(&self) -> Subtags<'a> {
+        Subtags::new(self.as_str())
+    }
+
+    /// Returns whether another text, of any form, is equal but for the case of ASCII letters: true of `sl-IT` and
+    /// `SL-it`. Then it is a normal tag too, with alike parts at the same offsets.
+    ///
+    /// The contract also says that normal tags are compared, ordered and hashed without regard to case, that a clone is the tag
+    /// itself, and that a tag that begins another is the greater of the two: `sl` comes after `sl-IT`.
+    #[inline]
+    pub fn eq_str(&self, other: &str) -> bool {
+        self.text == Caseless(other)
+    }
+
+    /// Returns the same tag as one of any kind, with the ends that are kept: `tag.as_lang_tag().kind()` is
+    /// `Kind::Normal`.
+    #[inline]
+    pub fn as_lang_tag(&self) -> LangTag<'a> {
+        LangTag::with_found(self.as_str(), Recognised::Normal(self.ends))
+    }
+
+    /// Returns where the parts end, in bytes from the start of the text: of `sl-IT` the language at 2, and all others
+    /// at 5.
+    #[inline]
+    pub fn ends(&self) -> Ends {
+        self.ends
+    }
+
+    /// Returns the language: `zh-min` of `zh-min-Latn-TW`.
+    #[inline]
+    pub fn language(&self) -> Language<'a> {
+        Language::from_checked(self.language_str())
+    }
+
+    /// Returns the script: `Latn` of `zh-min-Latn-TW`, None of `zh-TW`.
+    #[inline]
+    pub fn script(&self) -> Option<Script<'a>> {
+        let script = self.part(self.ends.language, self.ends.script)?;
+        Some(Script::from_checked(script))
+    }
+
+    /// Returns the region: `TW` of `zh-min-Latn-TW`, None of `zh-Latn`.
+    #[inline]
+    pub fn region(&self) -> Option<Region<'a>> {
+        let region = self.part(self.ends.script, self.ends.region)?;
+        Some(Region::from_checked(region))
+    }
+
+    /// Returns the variants: `rozaj-1994` of `sl-rozaj-1994`, the empty text of `sl`.
+    #[inline]
+    pub fn variants(&self) -> Variants<'a> {
+        Variants::from_checked(self.part_or_empty(self.ends.region, self.ends.variants))
+    }
+
+    /// Returns the extensions: `a-bb-u-co` of `en-a-bb-u-co-x-y`, the empty text of `en-x-y`.
+    #[inline]
+    pub fn extensions(&self) -> Extensions<'a> {
+        Extensions::from_checked(self.part_or_empty(self.ends.variants, self.ends.extensions))
+    }
+
+    /// Returns the private use part: `x-y` of `en-a-bb-u-co-x-y`, None of `en-a-bb`.
+    #[inline]
+    pub fn private_use(&self) -> Option<PrivateUse<'a>> {
+        let private_use = self.part(self.ends.extensions, self.ends.whole)?;
+        Some(PrivateUse::from_checked(private_use))
+    }
+
+    /// Returns the subtags of the private use part: `x` and `y` of `en-x-x-y`, none where there is no such part.
+    #[inline]
+    pub fn private_use_subtags(&self) -> PrivateUseIter<'a> {
+        match self.private_use() {
+            Some(private_use) => private_use.iter(),
+            None => PrivateUseIter::empty(),
+        }
+    }
+
+    /// Returns the first variant that is equal, but for case, to an earlier one: the second `1996` of `de-1996-1996`.
+    ///
+    /// Such a tag is well formed, and is not valid (RFC 5646 section 2.2.5). No memory is taken, and less than 92 kB of the
+    /// stack. Up to 8,192 variants the time grows hardly faster than their number; past them, with its square divided by that.
+    #[inline]
+    pub fn repeated_variant(&self) -> Option<Variant<'a>> {
+        let index = self.repeated_variant_index()?;
+        self.variants().iter().nth(index)
+    }
+
+    /// Returns which of the variants [`repeated_variant`](NormalLangTag::repeated_variant) returns, counted from 0:
+    /// Some(1) of `de-1996-1996`.
+    #[inline]
+    pub fn repeated_variant_index(&self) -> Option<usize> {
+        first_repeated_variant(self.variants())
+    }
+
+    /// Returns the first singleton that is equal, but for case, to an earlier one, with its exact byte: the `A` of
+    /// `fr-a-bb-A-cc`.
+    ///
+    /// Such a tag is well formed, and is not valid (RFC 5646 section 2.2.6). No memory is taken.
+    #[inline]
+    pub fn repeated_singleton(&self) -> Option<Singleton> {
+        let index = self.repeated_singleton_index()?;
+        Some(self.extensions().iter().nth(index)?.singleton())
+    }
+
+    /// Returns which of the extensions has the singleton that [`repeated_singleton`](NormalLangTag::repeated_singleton)
+    /// returns, counted from 0: Some(1) of `fr-a-bb-A-cc`.
+    #[inline]
+    pub fn repeated_singleton_index(&self) -> Option<usize> {
+        first_repeated_singleton(self.extensions())
+    }
+
+    /// Returns the owned form of the same text: `owned.as_str()` is `sl-IT` where this is `sl-IT`.
+    ///
+    /// # Errors
+    ///
+    /// Out of memory.
+    #[cfg(feature = "alloc")]
+    #[inline]
+    pub fn try_to_owned(&self) -> Result<NormalLangTagBuf, AllocError> {
+        let text = try_string(self.as_str())?;
+        Ok(NormalLangTagBuf::with_ends(text, self.ends))
+    }
+
+    /// Returns the tag as it reads in the case that RFC 5646 section 2.1.1 recommends, to be displayed: `{}` of
+    /// `tag.in_recommended_case()` prints `mn-Cyrl-MN` of `MN-cYRL-mn`. No memory is taken.
+    #[inline]
+    pub fn in_recommended_case(&self) -> InRecommendedCase<'a> {
+        InRecommendedCase::from_checked(self.as_str())
+    }
+
+    /// Returns whether the tag is in the case that RFC 5646 section 2.1.1 recommends: true of `mn-Cyrl-MN`, false of
+    /// `mn-cyrl-MN`.
+    #[inline]
+    pub fn is_in_recommended_case(&self) -> bool {
+        is_in_recommended_case(self.as_bytes())
+    }
+
+    /// Returns the owned form of the tag in the case that RFC 5646 section 2.1.1 recommends: `mn-Cyrl-MN` of
+    /// `MN-cYRL-mn`.
+    ///
+    /// # Errors
+    ///
+    /// Out of memory.
+    #[cfg(feature = "alloc")]
+    #[inline]
+    pub fn try_to_recommended_case(&self) -> Result<NormalLangTagBuf, AllocError> {
+        let mut owned = self.try_to_owned()?;
+        owned.make_recommended_case();
+        Ok(owned)
+    }
+
+    /// What stands before the first end.
+    #[inline]
+    fn language_str(&self) -> &'a str {
+        &self.as_str()[..self.ends.language]
+    }
+
+    /// What stands between the end of one part and the end of the next, after the hyphen.
+    #[inline]
+    fn part(&self, before: usize, end: usize) -> Option<&'a str> {
+        if before == end {
+            return None;
+        }
+        Some(&self.as_str()[before + 1..end])
+    }
+
+    /// The same, and the empty text where there is no such part.
+    #[inline]
+    fn part_or_empty(&self, before: usize, end: usize) -> &'a str {
+        self.part(before, end).unwrap_or("")
+    }
+}
+
+impl fmt::Display for NormalLangTag<'_> {
+    #[inline]
+    fn fmt(&self, f: &mut fmt::Formatter<'_>) -> fmt::Result {
+        f.write_str(self.as_str())
+    }
+}
