@@ -10,6 +10,7 @@ extern crate alloc;
 #[macro_use]
 mod shim;
 mod case;
+#[allow(dead_code, unused_imports)] // The C library calls first_extension_end.
 mod extension;
 mod language;
 pub mod likely;
@@ -17,7 +18,9 @@ pub mod matching;
 mod place;
 mod private;
 pub mod registry;
+#[allow(dead_code, unused_imports)] // The C library calls viable_len_with_hyphen.
 mod scan;
+#[allow(dead_code)] // Callers in Rattle have NormalLangTag::from_checked.
 mod tag;
 
 #[cfg(feature = "alloc")]
