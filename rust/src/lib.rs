@@ -9,17 +9,30 @@ extern crate alloc;
 
 #[macro_use]
 mod shim;
+#[macro_use]
+mod text_types;
 mod case;
+mod caseless_text;
 mod extension;
+mod invalid;
 mod language;
+#[cfg(feature = "alloc")]
+mod lent;
 pub mod likely;
 pub mod matching;
+#[cfg(feature = "oxilangtag")]
+pub mod oxilangtag;
 mod place;
 mod private;
 pub mod registry;
 mod scan;
+#[cfg(feature = "serde")]
+mod serde;
 mod tag;
+mod text;
+mod walks;
 
+pub use caseless_text::CaselessText;
 #[cfg(feature = "alloc")]
 #[cfg(feature = "alloc")]
 pub use shim::AllocError;

@@ -7,7 +7,7 @@ use Rattle.langtag_scan.specs.Subtags.{NoHyphenWithin}
 use Rattle.langtag_scan.specs.Tag.{IsTag}
 use Rattle.langtag_scan.specs.Viable.{IsViable, IsViableLength, IsIrregularPrefix}
 use Rattle.langtag_scan.proofs.TagLaws.{prefixes_viable, viable_from_tag}
-use Rattle.langtag_c.specs.Refused.{MayStand, IsRefusedEnd, EndsTooSoon, IsOpen}
+use Rattle.langtag.specs.Refusal.{MayStand, IsRefusedEnd, EndsTooSoon, IsOpen}
 
 -- the text up to the end of a subtag, and a hyphen
 hyphened : (t : List ℕ) (k : ℕ) → k ≤ length t → (k < length t → slice_index t k ≡ 45) → take (k + 1) (t ++ 45 ∷ []) ≡ take k t ++ 45 ∷ []

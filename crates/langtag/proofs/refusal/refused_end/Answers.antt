@@ -1,9 +1,9 @@
 use Rattle.std.proofs.Common.{take, subst, arith}
 use Rattle.std.proofs.lemmas.List.{take_all}
 use Rattle.langtag_scan.specs.Tag.{IsTag}
-use Rattle.langtag_c.proofs.RefusedLaws.{first_end, second_end}
-use Rattle.langtag_c.proofs.refused.refused_end.Goals.{else-end-bytes-via-then-end-bytes+else-is_tag, else-end-bytes-via-else-end-bytes}
-use Rattle.langtag_c.proofs.refused.refused_end.Goals as goal
+use Rattle.langtag.proofs.RefusalLaws.{first_end, second_end}
+use Rattle.langtag.proofs.refusal.refused_end.Goals.{else-end-bytes-via-then-end-bytes+else-is_tag, else-end-bytes-via-else-end-bytes}
+use Rattle.langtag.proofs.refusal.refused_end.Goals as goal
 
 pub returns-then-is_tag : goal.returns-then-is_tag
 returns-then-is_tag c =

@@ -2,8 +2,8 @@ use Rattle.std.proofs.Common.{◌≡◌, length, take, sym, ◌∙◌}
 use Rattle.std.specs.List.{list_any}
 use Rattle.langtag_scan.specs.Case.{are_alike}
 use Rattle.langtag_scan.specs.Grandfathered.{grandfathered_tags, irregular_texts}
-use Rattle.langtag_c.proofs.IrregularTests.{begins_some}
-use Rattle.langtag_c.proofs.refused.begins_irregular.Goals as goal
+use Rattle.langtag.proofs.IrregularTests.{begins_some}
+use Rattle.langtag.proofs.refusal.begins_irregular.Goals as goal
 
 pub returns : goal.returns
 unfolding irregular_texts grandfathered_tags

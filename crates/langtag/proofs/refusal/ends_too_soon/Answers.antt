@@ -1,7 +1,7 @@
 use Rattle.std.proofs.Common.{length}
 use Rattle.std.proofs.lemmas.Bool.{lt-ltb}
-use Rattle.langtag_c.proofs.RefusedLaws.{goes_on_by_hyphen}
-use Rattle.langtag_c.proofs.refused.ends_too_soon.Goals as goal
+use Rattle.langtag.proofs.RefusalLaws.{goes_on_by_hyphen}
+use Rattle.langtag.proofs.refusal.ends_too_soon.Goals as goal
 
 pub returns-then-viable-bytes-clause-soon : goal.returns-then-viable-bytes-clause-soon
 returns-then-viable-bytes-clause-soon c =

@@ -5,8 +5,6 @@ use Rattle.langtag_scan.specs.Class.{is_alphanumeric}
 use Rattle.langtag_scan.specs.Subtags.{NoHyphenWithin}
 use Rattle.langtag_scan.specs.Tag.{IsTag}
 use Rattle.langtag_scan.specs.Viable.{IsViable, IsIrregularPrefix}
-use Rattle.langtag_c.specs.Spans.{end_of}
-use Rattle.langtag_c.specs.declared.span.Span.{Span}
 
 -- subtags that a tag has: they are one, or some tag begins with them and a hyphen
 abbrev pub MayStand : List ℕ → Type 0
@@ -20,10 +18,11 @@ pub record IsRefusedEnd (t : List ℕ) (end : ℕ) : Type 0 where
   pub before : (k : ℕ) → k < end → slice_index t k ≡ 45 → MayStand (take k t)
 
 -- that subtag: it begins after a hyphen or with the text
-pub record IsRefusedSubtag (t : List ℕ) (subtag : Span) : Type 0 where
-  pub begins : 0 < subtag.start → slice_index t (subtag.start - 1) ≡ 45
-  pub hyphen_free : NoHyphenWithin t subtag.start (end_of subtag)
-  pub ends : IsRefusedEnd t (end_of subtag)
+pub record IsRefusedSubtag (t : List ℕ) (start : ℕ) (end : ℕ) : Type 0 where
+  pub order : start ≤ end
+  pub begins : 0 < start → slice_index t (start - 1) ≡ 45
+  pub hyphen_free : NoHyphenWithin t start end
+  pub ends : IsRefusedEnd t end
 
 -- the last subtag has no byte
 abbrev pub IsOpen : List ℕ → Type 0
@@ -39,9 +38,9 @@ pub record EndsTooSoon (t : List ℕ) : Type 0 where
 abbrev pub AlphanumericWithin : List ℕ → ℕ → ℕ → Type 0
 AlphanumericWithin t low high = AllWithin (λ b. is_alphanumeric b ≡ true) t low high
 
--- the first byte of a span that is no letter and no digit
-pub record IsFirstOther (t : List ℕ) (span : Span) (offset : ℕ) : Type 0 where
-  pub from : span.start ≤ offset
-  pub below : offset < end_of span
-  pub before : AlphanumericWithin t span.start offset
+-- the first byte from one index up to another that is no letter and no digit
+pub record IsFirstOther (t : List ℕ) (start : ℕ) (end : ℕ) (offset : ℕ) : Type 0 where
+  pub from : start ≤ offset
+  pub below : offset < end
+  pub before : AlphanumericWithin t start offset
   pub other : is_alphanumeric (slice_index t offset) ≡ false
