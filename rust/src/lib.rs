@@ -4,36 +4,39 @@
 #![cfg_attr(not(feature = "alloc"), allow(dead_code, unused_imports))]
 
 #[cfg(feature = "alloc")]
-#[cfg(feature = "alloc")]
 extern crate alloc;
 
 #[macro_use]
 mod shim;
 #[macro_use]
 mod text_types;
+
 mod case;
-mod caseless_text;
+#[allow(dead_code, unused_imports)] // The C library calls first_extension_end.
 mod extension;
-mod invalid;
 mod language;
-#[cfg(feature = "alloc")]
-mod lent;
 pub mod likely;
 pub mod matching;
-#[cfg(feature = "oxilangtag")]
-pub mod oxilangtag;
 mod place;
 mod private;
 pub mod registry;
 mod scan;
+#[allow(dead_code)] // Callers in Rattle have NormalLangTag::from_checked.
+mod tag;
+
+// Habits of Rust, by hand over these.
+mod caseless_text;
+mod invalid;
+#[cfg(feature = "alloc")]
+mod lent;
+#[cfg(feature = "oxilangtag")]
+pub mod oxilangtag;
 #[cfg(feature = "serde")]
 mod serde;
-mod tag;
 mod text;
 mod walks;
 
 pub use caseless_text::CaselessText;
-#[cfg(feature = "alloc")]
 #[cfg(feature = "alloc")]
 pub use shim::AllocError;
 pub use tag::*;

@@ -1,3 +1,5 @@
+// Made by rust/erase from crates/langtag_case/src/in_recommended_case.rt. Change that file, not this one.
+
 //! A text that is displayed in its recommended case.
 
 use crate::case::recommended_bytes::RecommendedBytes;

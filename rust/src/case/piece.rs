@@ -1,3 +1,5 @@
+// Made by rust/erase from crates/langtag_case/src/piece.rt. Change that file, not this one.
+
 //! The pieces of a text: each has some capitals first, and then lowercase letters.
 
 use crate::scan::segment_end;

@@ -1,3 +1,5 @@
+// Made by rust/erase from crates/langtag_case/src/recommended_bytes.rt. Change that file, not this one.
+
 //! The bytes of a text in its recommended case, one by one.
 
 use crate::case::piece::Piece;

@@ -1,3 +1,5 @@
+// Made by rust/erase from crates/langtag_case/src/recommended_case.rt. Change that file, not this one.
+
 //! Putting a text into its recommended case, and testing for it.
 
 use crate::case::piece::Piece;

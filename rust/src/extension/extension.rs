@@ -1,3 +1,5 @@
+// Made by rust/erase from crates/langtag_extension/src/extension.rt. Change that file, not this one.
+
 //! An extension (RFC 5646 section 2.2.6).
 
 use crate::extension::extension_iter::ExtensionIter;
@@ -13,14 +15,14 @@ use core::fmt;
 #[derive(Debug)]
 pub struct InvalidExtension<T>(pub T);
 
-impl<T> core::fmt::Display for InvalidExtension<T> {
+impl<T> fmt::Display for InvalidExtension<T> {
     #[inline]
-    fn fmt(&self, f: &mut core::fmt::Formatter<'_>) -> core::fmt::Result {
+    fn fmt(&self, f: &mut fmt::Formatter<'_>) -> fmt::Result {
         f.write_str("invalid extension")
     }
 }
 
-impl<T: core::fmt::Debug> core::error::Error for InvalidExtension<T> {}
+impl<T: fmt::Debug> core::error::Error for InvalidExtension<T> {}
 
 /// An extension (RFC 5646 section 2.2.6): a singleton and one or more subtags of two to eight letters and digits, as
 /// `u-co-phonebk`.

@@ -1,3 +1,5 @@
+// Made by rust/erase from crates/langtag_extension/src/extension_iter.rt. Change that file, not this one.
+
 //! The walk over the subtags of an extension.
 
 use crate::extension::extension_subtag::ExtensionSubtag;

@@ -1,3 +1,5 @@
+// Made by rust/erase from crates/langtag_extension/src/extension_subtag.rt. Change that file, not this one.
+
 //! A subtag of an extension (RFC 5646 section 2.2.6).
 
 use crate::scan::{is_extension_subtag, Caseless};
@@ -11,14 +13,14 @@ use core::fmt;
 #[derive(Debug)]
 pub struct InvalidExtensionSubtag<T>(pub T);
 
-impl<T> core::fmt::Display for InvalidExtensionSubtag<T> {
+impl<T> fmt::Display for InvalidExtensionSubtag<T> {
     #[inline]
-    fn fmt(&self, f: &mut core::fmt::Formatter<'_>) -> core::fmt::Result {
+    fn fmt(&self, f: &mut fmt::Formatter<'_>) -> fmt::Result {
         f.write_str("invalid extension subtag")
     }
 }
 
-impl<T: core::fmt::Debug> core::error::Error for InvalidExtensionSubtag<T> {}
+impl<T: fmt::Debug> core::error::Error for InvalidExtensionSubtag<T> {}
 
 /// A subtag of an extension (RFC 5646 section 2.2.6): two to eight letters and digits, as `phonebk` in
 /// `u-co-phonebk`.

@@ -1,3 +1,5 @@
+// Made by rust/erase from crates/langtag_extension/src/extension_texts.rt. Change that file, not this one.
+
 //! The walk over a text from one extension to the next.
 
 use crate::scan::segment_end;

@@ -1,3 +1,5 @@
+// Made by rust/erase from crates/langtag_extension/src/extensions.rt. Change that file, not this one.
+
 //! The extensions of a tag (RFC 5646 section 2.2.6).
 
 use crate::extension::extension::{is_extension, Extension};
@@ -16,14 +18,14 @@ use core::fmt;
 #[derive(Debug)]
 pub struct InvalidExtensions<T>(pub T);
 
-impl<T> core::fmt::Display for InvalidExtensions<T> {
+impl<T> fmt::Display for InvalidExtensions<T> {
     #[inline]
-    fn fmt(&self, f: &mut core::fmt::Formatter<'_>) -> core::fmt::Result {
+    fn fmt(&self, f: &mut fmt::Formatter<'_>) -> fmt::Result {
         f.write_str("invalid extensions")
     }
 }
 
-impl<T: core::fmt::Debug> core::error::Error for InvalidExtensions<T> {}
+impl<T: fmt::Debug> core::error::Error for InvalidExtensions<T> {}
 
 /// The extensions of a tag (RFC 5646 section 2.2.6), joined by hyphens, as `a-ext1-ext2-u-co-phonebk`, or none at
 /// all, which is the empty text.

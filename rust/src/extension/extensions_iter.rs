@@ -1,3 +1,5 @@
+// Made by rust/erase from crates/langtag_extension/src/extensions_iter.rt. Change that file, not this one.
+
 //! The walk over the extensions of a tag.
 
 use crate::extension::extension::Extension;

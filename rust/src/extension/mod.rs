@@ -1,3 +1,5 @@
+// Made by rust/erase from crates/langtag_extension/src/lib.rt. Change that file, not this one.
+
 //! Extensions of language tags, and the singletons that open them (RFC 5646 section 2.2.6).
 //!
 //! ```rust
@@ -7,7 +9,8 @@
 //! let extensions = Extensions::new("a-ext1-u-co-phonebk")?;
 //! let unicode = extensions.get(Singleton::new(b'U')?).ok_or("no such extension")?;
 //! assert_eq!(unicode.as_str(), "u-co-phonebk");
-//! # Ok(()) }
+//! # Ok(())
+//! # }
 //! ```
 
 mod extension;

@@ -1,3 +1,5 @@
+// Made by rust/erase from crates/langtag_extension/src/singleton.rt. Change that file, not this one.
+
 //! The singleton, which opens an extension (RFC 5646 section 2.2.6).
 
 use crate::scan::is_singleton;
@@ -8,14 +10,14 @@ use core::fmt::Write as _;
 #[derive(Debug)]
 pub struct InvalidSingleton<T>(pub T);
 
-impl<T> core::fmt::Display for InvalidSingleton<T> {
+impl<T> fmt::Display for InvalidSingleton<T> {
     #[inline]
-    fn fmt(&self, f: &mut core::fmt::Formatter<'_>) -> core::fmt::Result {
+    fn fmt(&self, f: &mut fmt::Formatter<'_>) -> fmt::Result {
         f.write_str("invalid extension identifier")
     }
 }
 
-impl<T: core::fmt::Debug> core::error::Error for InvalidSingleton<T> {}
+impl<T: fmt::Debug> core::error::Error for InvalidSingleton<T> {}
 
 /// The letter or digit, other than `x` and `X`, that opens an extension (RFC 5646 section 2.2.6), as the `u` of
 /// `u-co-phonebk`.

@@ -1,3 +1,5 @@
+// Made by rust/erase from crates/langtag_language/src/extended_lang_tag.rt. Change that file, not this one.
+
 //! The extended language subtag (RFC 5646 section 2.2.2).
 
 use crate::scan::{is_extended, Caseless};
@@ -11,14 +13,14 @@ use core::fmt;
 #[derive(Debug)]
 pub struct InvalidExtendedLangTag<T>(pub T);
 
-impl<T> core::fmt::Display for InvalidExtendedLangTag<T> {
+impl<T> fmt::Display for InvalidExtendedLangTag<T> {
     #[inline]
-    fn fmt(&self, f: &mut core::fmt::Formatter<'_>) -> core::fmt::Result {
+    fn fmt(&self, f: &mut fmt::Formatter<'_>) -> fmt::Result {
         f.write_str("invalid extended language subtag")
     }
 }
 
-impl<T: core::fmt::Debug> core::error::Error for InvalidExtendedLangTag<T> {}
+impl<T: fmt::Debug> core::error::Error for InvalidExtendedLangTag<T> {}
 
 /// An extended language subtag (RFC 5646 section 2.2.2): three letters, as `yue` in `zh-yue`.
 ///

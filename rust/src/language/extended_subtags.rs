@@ -1,3 +1,5 @@
+// Made by rust/erase from crates/langtag_language/src/extended_subtags.rt. Change that file, not this one.
+
 //! The subtags that may follow a primary language subtag (RFC 5646 section 2.2.2).
 
 use crate::scan::{is_extended, Subtags};

@@ -1,3 +1,5 @@
+// Made by rust/erase from crates/langtag_language/src/language_extension.rt. Change that file, not this one.
+
 //! The extended subtags of a language as one text (RFC 5646 section 2.2.2).
 
 use crate::language::extended_subtags::are_extended_within;
@@ -13,14 +15,14 @@ use core::fmt;
 #[derive(Debug)]
 pub struct InvalidLanguageExtension<T>(pub T);
 
-impl<T> core::fmt::Display for InvalidLanguageExtension<T> {
+impl<T> fmt::Display for InvalidLanguageExtension<T> {
     #[inline]
-    fn fmt(&self, f: &mut core::fmt::Formatter<'_>) -> core::fmt::Result {
+    fn fmt(&self, f: &mut fmt::Formatter<'_>) -> fmt::Result {
         f.write_str("invalid language extension")
     }
 }
 
-impl<T: core::fmt::Debug> core::error::Error for InvalidLanguageExtension<T> {}
+impl<T: fmt::Debug> core::error::Error for InvalidLanguageExtension<T> {}
 
 /// The extended subtags of a language (RFC 5646 section 2.2.2): one to three, joined by hyphens, as `min-nan`.
 ///

@@ -1,3 +1,5 @@
+// Made by rust/erase from crates/langtag_language/src/language_extension_iter.rt. Change that file, not this one.
+
 //! The extended subtags of a language one by one.
 
 use crate::language::extended_lang_tag::ExtendedLangTag;

@@ -1,3 +1,5 @@
+// Made by rust/erase from crates/langtag_language/src/lib.rt. Change that file, not this one.
+
 //! The language of a tag: its primary subtag and its extended subtags (RFC 5646 sections 2.2.1 and 2.2.2).
 //!
 //! Of `zh-min-nan` the [`PrimaryLanguage`] is `zh`, the [`LanguageExtension`] is `min-nan`, whose subtags are the
@@ -12,7 +14,8 @@
 //! assert_eq!(language.primary().as_str(), "zh");
 //! let extension = language.extension().ok_or("no extended subtags")?;
 //! assert_eq!(extension.as_str(), "min-nan");
-//! # Ok(()) }
+//! # Ok(())
+//! # }
 //! ```
 //!
 //! A returned part has the bytes of that part of the text and lives as long as the text. Both are proved; that it

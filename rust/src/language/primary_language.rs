@@ -1,3 +1,5 @@
+// Made by rust/erase from crates/langtag_language/src/primary_language.rt. Change that file, not this one.
+
 //! The primary language subtag (RFC 5646 section 2.2.1).
 
 use crate::scan::{is_primary, Caseless};
@@ -11,14 +13,14 @@ use core::fmt;
 #[derive(Debug)]
 pub struct InvalidPrimaryLanguage<T>(pub T);
 
-impl<T> core::fmt::Display for InvalidPrimaryLanguage<T> {
+impl<T> fmt::Display for InvalidPrimaryLanguage<T> {
     #[inline]
-    fn fmt(&self, f: &mut core::fmt::Formatter<'_>) -> core::fmt::Result {
+    fn fmt(&self, f: &mut fmt::Formatter<'_>) -> fmt::Result {
         f.write_str("invalid primary language")
     }
 }
 
-impl<T: core::fmt::Debug> core::error::Error for InvalidPrimaryLanguage<T> {}
+impl<T: fmt::Debug> core::error::Error for InvalidPrimaryLanguage<T> {}
 
 /// A primary language subtag (RFC 5646 section 2.2.1): two to eight letters, as `fr`.
 ///

@@ -1,3 +1,5 @@
+// Made by rust/erase from crates/langtag_likely/src/aliases.rt. Change that file, not this one.
+
 //! What is deprecated in the fields of a tag, replaced.
 
 use crate::likely::fields::or_other;

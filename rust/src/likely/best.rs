@@ -1,3 +1,5 @@
+// Made by rust/erase from crates/langtag_likely/src/best.rt. Change that file, not this one.
+
 //! The tag that a reader wants.
 
 use crate::likely::by_ranges::first_in;

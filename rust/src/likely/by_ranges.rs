@@ -1,3 +1,5 @@
+// Made by rust/erase from crates/langtag_likely/src/by_ranges.rt. Change that file, not this one.
+
 //! The choice range by range, which passes over lighter ranges where a heavier one has a tag.
 
 use crate::likely::by_tags::first_by_tags;

@@ -1,3 +1,5 @@
+// Made by rust/erase from crates/langtag_likely/src/by_tags.rt. Change that file, not this one.
+
 //! The choice tag by tag, which asks of each tag once whether it is refused.
 
 use crate::likely::candidate::{as_candidate, first_of, is_settled, Candidate, Pass};

@@ -1,3 +1,5 @@
+// Made by rust/erase from crates/langtag_likely/src/candidate.rt. Change that file, not this one.
+
 //! A tag that may serve a range.
 
 use crate::likely::nearness::{kept, nearer_than, unlikely};

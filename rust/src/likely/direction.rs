@@ -1,3 +1,5 @@
+// Made by rust/erase from crates/langtag_likely/src/direction.rt. Change that file, not this one.
+
 //! Whether a tag is written from right to left.
 
 use crate::likely::matching::matching_form;

@@ -1,3 +1,5 @@
+// Made by rust/erase from crates/langtag_likely/src/fields.rt. Change that file, not this one.
+
 //! The texts of fields: the empty text where there is none, or none that is known.
 
 use crate::language::Language;

@@ -1,3 +1,5 @@
+// Made by rust/erase from crates/langtag_likely/src/forms.rt. Change that file, not this one.
+
 //! The maximal and the minimal form of a tag (UTS #35, part 1, section 'Likely Subtags').
 
 use crate::likely::likely::{add_likely, remove_likely};

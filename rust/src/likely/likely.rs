@@ -1,3 +1,5 @@
+// Made by rust/erase from crates/langtag_likely/src/likely.rt. Change that file, not this one.
+
 //! Likely subtags of fields, added and removed (UTS #35, part 1, section 'Likely Subtags').
 
 use crate::likely::rows::likely_for;

@@ -1,3 +1,5 @@
+// Made by rust/erase from crates/langtag_likely/src/lone.rt. Change that file, not this one.
+
 //! Languages that no other is near, as the first letters of a tag show.
 
 use crate::likely::matching_tables as tables;

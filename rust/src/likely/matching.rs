@@ -1,3 +1,5 @@
+// Made by rust/erase from crates/langtag_likely/src/matching.rt. Change that file, not this one.
+
 //! The fields by which two tags are compared (UTS #35, part 1, section 'Language Matching').
 
 use crate::likely::aliases::{language_replaced, region_replaced};

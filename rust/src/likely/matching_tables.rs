@@ -1,3 +1,5 @@
+// Made by rust/erase from crates/langtag_likely/src/matching_tables.rt. Change that file, not this one.
+
 //! What Unicode's CLDR 41 says of language matching, in tables (the notice: likely/LICENSE-UNICODE). Written by likely/generate.py. Do not edit.
 
 /// The languages that are replaced: their letters as the digits of a number, in rising order.

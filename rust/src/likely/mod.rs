@@ -1,3 +1,5 @@
+// Made by rust/erase from crates/langtag_likely/src/lib.rt. Change that file, not this one.
+
 //! Likely subtags (UTS #35, part 1, section 'Likely Subtags') over Unicode's CLDR: the script and the region that a language has
 //! most likely, added to a tag or taken out of it.
 //!
@@ -8,7 +10,8 @@
 //!
 //! maximized(LangTag::new("zh-TW")?)?;      // zh-Hant-TW
 //! minimized(LangTag::new("zh-Hant-TW")?)?; // zh-TW
-//! # Ok(()) }
+//! # Ok(())
+//! # }
 //! ```
 
 mod aliases;

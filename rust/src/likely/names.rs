@@ -1,3 +1,5 @@
+// Made by rust/erase from crates/langtag_likely/src/names.rt. Change that file, not this one.
+
 //! The names of languages, scripts and regions, by their places in the tables.
 
 /// Returns the name at an index.

@@ -1,3 +1,5 @@
+// Made by rust/erase from crates/langtag_likely/src/nearness.rt. Change that file, not this one.
+
 //! How far a tag is from a range.
 
 use crate::likely::aliases::language_replaced;

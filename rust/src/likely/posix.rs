@@ -1,3 +1,5 @@
+// Made by rust/erase from crates/langtag_likely/src/posix.rt. Change that file, not this one.
+
 //! The tag of a POSIX locale's name.
 
 #[cfg(feature = "alloc")]

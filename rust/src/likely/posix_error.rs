@@ -1,7 +1,11 @@
+// Made by rust/erase from crates/langtag_likely/src/posix_error.rt. Change that file, not this one.
+
 //! Why a POSIX locale's name gave no tag.
 
 #[cfg(feature = "alloc")]
 use crate::shim::AllocError;
+use core::fmt;
+
 /// Why there is no tag of a POSIX locale's name.
 #[cfg(feature = "alloc")]
 #[derive(Debug)]
@@ -13,13 +17,11 @@ pub enum PosixError<'a> {
 }
 
 #[cfg(feature = "alloc")]
-impl core::fmt::Display for PosixError<'_> {
+impl fmt::Display for PosixError<'_> {
     #[inline]
-    fn fmt(&self, f: &mut core::fmt::Formatter<'_>) -> core::fmt::Result {
+    fn fmt(&self, f: &mut fmt::Formatter<'_>) -> fmt::Result {
         match self {
-            PosixError::NoTag(field0) => {
-                write!(f, "no locale's name that says a language: {field0}")
-            }
+            PosixError::NoTag(value) => write!(f, "no locale's name that says a language: {value}"),
             PosixError::Memory(_) => f.write_str("out of memory"),
         }
     }

@@ -1,3 +1,5 @@
+// Made by rust/erase from crates/langtag_likely/src/put.rt. Change that file, not this one.
+
 //! A tag with other fields.
 
 use crate::language::Language;

@@ -1,3 +1,5 @@
+// Made by rust/erase from crates/langtag_likely/src/range_list.rt. Change that file, not this one.
+
 //! Language ranges for which a tag is chosen.
 
 use crate::matching::{split_wanted, LanguageRange, WantedRange, WeightedRange};

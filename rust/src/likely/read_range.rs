@@ -1,3 +1,5 @@
+// Made by rust/erase from crates/langtag_likely/src/read_range.rt. Change that file, not this one.
+
 //! Texts of ranges in which `_` is read as `-`.
 
 use crate::scan::into_smallcase;

@@ -1,3 +1,5 @@
+// Made by rust/erase from crates/langtag_likely/src/refused.rt. Change that file, not this one.
+
 //! Which tags the ranges of weight 0 refuse.
 
 use crate::likely::range_list::RangeList;

@@ -1,3 +1,5 @@
+// Made by rust/erase from crates/langtag_likely/src/region_distance.rt. Change that file, not this one.
+
 //! The distance of regions: for some languages, by the sets in which they lie.
 
 use crate::likely::keys::index_of;

@@ -1,3 +1,5 @@
+// Made by rust/erase from crates/langtag_likely/src/rows.rt. Change that file, not this one.
+
 //! The rows of likely subtags, in tables: those of a language alone, and the others.
 
 use crate::likely::keys::place;

@@ -1,3 +1,5 @@
+// Made by rust/erase from crates/langtag_likely/src/rule_distance.rt. Change that file, not this one.
+
 //! The distances of languages and of scripts, by the rules in the tables.
 
 use crate::likely::matching_tables as tables;

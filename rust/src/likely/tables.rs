@@ -1,3 +1,5 @@
+// Made by rust/erase from crates/langtag_likely/src/tables.rt. Change that file, not this one.
+
 //! Unicode's CLDR 41 in tables (the notice: likely/LICENSE-UNICODE). Written by likely/generate.py. Do not edit.
 
 /// The version of Unicode's CLDR that this crate has.

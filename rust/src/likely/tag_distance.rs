@@ -1,3 +1,5 @@
+// Made by rust/erase from crates/langtag_likely/src/tag_distance.rt. Change that file, not this one.
+
 //! How far a tag is from another that a reader desires (UTS #35, part 1, section 'Language Matching').
 
 use crate::likely::matching::matching_form;

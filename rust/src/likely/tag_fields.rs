@@ -1,3 +1,5 @@
+// Made by rust/erase from crates/langtag_likely/src/tag_fields.rt. Change that file, not this one.
+
 //! The fields of a tag that likely subtags are about: its language, its script and its region.
 
 use crate::likely::fields::{known, language_field, or_other, region_field, script_field};

@@ -1,3 +1,5 @@
+// Made by rust/erase from crates/langtag_likely/src/tag_list.rt. Change that file, not this one.
+
 //! Tags among which one is chosen.
 
 use crate::tag::LangTag;

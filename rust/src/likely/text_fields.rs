@@ -1,3 +1,5 @@
+// Made by rust/erase from crates/langtag_likely/src/text_fields.rt. Change that file, not this one.
+
 //! The fields of a text that need not be a tag.
 
 use crate::likely::fields::known;

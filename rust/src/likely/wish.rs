@@ -1,3 +1,5 @@
+// Made by rust/erase from crates/langtag_likely/src/wish.rt. Change that file, not this one.
+
 //! A range of a header that tags may serve.
 
 use crate::likely::lone::{head, lone_letters};

@@ -1,3 +1,5 @@
+// Made by rust/erase from crates/langtag_match/src/accept_language.rt. Change that file, not this one.
+
 //! The language ranges that an Accept-Language header asks for (RFC 9110 section 12.5.4).
 
 #[cfg(feature = "alloc")]

@@ -1,3 +1,5 @@
+// Made by rust/erase from crates/langtag_match/src/accept_language_error.rt. Change that file, not this one.
+
 //! Why an Accept-Language header was refused.
 
 #[cfg(feature = "alloc")]
@@ -40,8 +42,8 @@ pub enum AcceptLanguageError<'a> {
 }
 
 #[cfg(feature = "alloc")]
-impl core::fmt::Display for AcceptLanguageError<'_> {
-    fn fmt(&self, f: &mut core::fmt::Formatter<'_>) -> core::fmt::Result {
+impl fmt::Display for AcceptLanguageError<'_> {
+    fn fmt(&self, f: &mut fmt::Formatter<'_>) -> fmt::Result {
         match self {
             AcceptLanguageError::BadElement { index, part, .. } => {
                 write!(f, "element {index} has a bad {part}")

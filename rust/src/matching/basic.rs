@@ -1,3 +1,5 @@
+// Made by rust/erase from crates/langtag_match/src/basic.rt. Change that file, not this one.
+
 //! Basic filtering (RFC 4647 section 3.3.1).
 
 use crate::tag::case_insensitive_eq;

@@ -1,3 +1,5 @@
+// Made by rust/erase from crates/langtag_match/src/element.rt. Change that file, not this one.
+
 //! An element of an Accept-Language header: a language range, and a weight (RFC 9110 section 12.5.4).
 
 use crate::matching::accept_language_error::ElementPart;

@@ -1,3 +1,5 @@
+// Made by rust/erase from crates/langtag_match/src/extended.rt. Change that file, not this one.
+
 //! Extended filtering (RFC 4647 section 3.3.2).
 
 use crate::tag::{case_insensitive_eq, Subtags};

@@ -1,3 +1,5 @@
+// Made by rust/erase from crates/langtag_match/src/fallbacks.rt. Change that file, not this one.
+
 //! What is left of a language range when subtags are taken away from its end (RFC 4647 section 3.4).
 
 use crate::matching::language_range::LanguageRange;

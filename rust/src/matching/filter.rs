@@ -1,3 +1,5 @@
+// Made by rust/erase from crates/langtag_match/src/filter.rt. Change that file, not this one.
+
 //! Filtering of a list of tags by a language priority list (RFC 4647 section 3.3).
 
 use crate::matching::filter_rule::FilterRule;

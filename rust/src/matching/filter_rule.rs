@@ -1,3 +1,5 @@
+// Made by rust/erase from crates/langtag_match/src/filter_rule.rt. Change that file, not this one.
+
 //! The two rules of filtering (RFC 4647 section 3.3).
 
 use crate::matching::language_range::LanguageRange;

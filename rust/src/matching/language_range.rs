@@ -1,3 +1,5 @@
+// Made by rust/erase from crates/langtag_match/src/language_range.rt. Change that file, not this one.
+
 //! Language ranges (RFC 4647 section 2), borrowed and owned.
 
 use crate::matching::basic::matches_basic;
@@ -16,14 +18,14 @@ use core::fmt;
 #[derive(Debug)]
 pub struct InvalidLanguageRange<T>(pub T);
 
-impl<T> core::fmt::Display for InvalidLanguageRange<T> {
+impl<T> fmt::Display for InvalidLanguageRange<T> {
     #[inline]
-    fn fmt(&self, f: &mut core::fmt::Formatter<'_>) -> core::fmt::Result {
+    fn fmt(&self, f: &mut fmt::Formatter<'_>) -> fmt::Result {
         f.write_str("invalid language range")
     }
 }
 
-impl<T: core::fmt::Debug> core::error::Error for InvalidLanguageRange<T> {}
+impl<T: fmt::Debug> core::error::Error for InvalidLanguageRange<T> {}
 
 /// A language range, basic or extended (RFC 4647 sections 2.1 and 2.2): `de-CH`, `*`, `*-CH`, `de-*-DE`.
 ///

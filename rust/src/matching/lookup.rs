@@ -1,3 +1,5 @@
+// Made by rust/erase from crates/langtag_match/src/lookup.rt. Change that file, not this one.
+
 //! The look-up of one tag for a list of ranges (RFC 4647 section 3.4).
 
 use crate::matching::language_range::LanguageRange;

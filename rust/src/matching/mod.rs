@@ -1,3 +1,5 @@
+// Made by rust/erase from crates/langtag_match/src/lib.rt. Change that file, not this one.
+
 //! Matching of language tags by RFC 4647: language ranges, which tags they match, and the tag for an Accept-Language
 //! header (RFC 9110 section 12.5.4).
 //!
@@ -7,16 +9,17 @@
 //! use langtag::matching::{AcceptLanguage, LanguageRange, look_up};
 //!
 //! let range = LanguageRange::new("de-*-DE")?;
-//! assert_eq!(range.matches_extended(&LangTag::new("de-Latn-DE-1996")?), true);
-//! assert_eq!(range.matches_extended(&LangTag::new("de-x-DE")?), false); // false: no singleton may be left out
-//! assert_eq!(LanguageRange::new("de-DE")?.matches_basic(&LangTag::new("de-de-1996")?), true);
+//! assert!(range.matches_extended(&LangTag::new("de-Latn-DE-1996")?));
+//! assert!(!range.matches_extended(&LangTag::new("de-x-DE")?)); // no singleton may be left out
+//! assert!(LanguageRange::new("de-DE")?.matches_basic(&LangTag::new("de-de-1996")?));
 //!
 //! let (english, german) = (LangTag::new("en")?, LangTag::new("de")?);
 //! look_up(&[LanguageRange::new("de-CH")?], &[english, german], english); // de
 //! let accepted = AcceptLanguage::new("en;q=0.5, de-CH")?;
 //! assert_eq!(accepted.ranges()[0].range.as_str(), "de-CH");
 //! accepted.look_up(&[english, german], english);  // de
-//! # Ok(()) }
+//! # Ok(())
+//! # }
 //! ```
 
 mod accept_language;

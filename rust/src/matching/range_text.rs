@@ -1,3 +1,5 @@
+// Made by rust/erase from crates/langtag_match/src/range_text.rt. Change that file, not this one.
+
 //! Which texts are language ranges (RFC 4647 section 2).
 
 use crate::scan::are_letters;

@@ -1,3 +1,5 @@
+// Made by rust/erase from crates/langtag_match/src/wanted.rt. Change that file, not this one.
+
 //! The language ranges of a header of which nothing is refused.
 
 use crate::matching::wanted_element::wanted_at;

@@ -1,3 +1,5 @@
+// Made by rust/erase from crates/langtag_match/src/wanted_element.rt. Change that file, not this one.
+
 //! An element of a header of which nothing is refused.
 
 use crate::matching::element::trimmed_place;

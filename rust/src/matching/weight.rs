@@ -1,3 +1,5 @@
+// Made by rust/erase from crates/langtag_match/src/weight.rt. Change that file, not this one.
+
 //! The weight of a language range in a header (RFC 9110 section 12.4.2).
 
 /// Returns the weight that a text writes, in thousandths (RFC 9110 section 12.4.2): 500 of `q=0.5` and of `Q=0.500`. [`None`]

@@ -1,3 +1,5 @@
+// Made by rust/erase from crates/langtag_match/src/weighted_range.rt. Change that file, not this one.
+
 //! A language range with its weight (RFC 9110 section 12.5.4).
 use crate::matching::language_range::LanguageRange;
 

@@ -1,3 +1,5 @@
+// Made by rust/erase from crates/langtag_place/src/lib.rt. Change that file, not this one.
+
 //! What may stand after the language of a tag: script, region and variants (RFC 5646 sections 2.2.3 to 2.2.5).
 //!
 //! ```rust
@@ -9,7 +11,8 @@
 //! let variants = Variants::new("rozaj-1994")?;
 //! let last = variants.last().ok_or("no variants")?;
 //! assert_eq!(last.as_str(), "1994");
-//! # Ok(()) }
+//! # Ok(())
+//! # }
 //! ```
 
 mod region;

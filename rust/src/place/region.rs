@@ -1,3 +1,5 @@
+// Made by rust/erase from crates/langtag_place/src/region.rt. Change that file, not this one.
+
 //! The region subtag (RFC 5646 section 2.2.4).
 
 use crate::scan::{is_region, Caseless};
@@ -11,14 +13,14 @@ use core::fmt;
 #[derive(Debug)]
 pub struct InvalidRegion<T>(pub T);
 
-impl<T> core::fmt::Display for InvalidRegion<T> {
+impl<T> fmt::Display for InvalidRegion<T> {
     #[inline]
-    fn fmt(&self, f: &mut core::fmt::Formatter<'_>) -> core::fmt::Result {
+    fn fmt(&self, f: &mut fmt::Formatter<'_>) -> fmt::Result {
         f.write_str("invalid region")
     }
 }
 
-impl<T: core::fmt::Debug> core::error::Error for InvalidRegion<T> {}
+impl<T: fmt::Debug> core::error::Error for InvalidRegion<T> {}
 
 /// A region subtag (RFC 5646 section 2.2.4): two letters, as `FR`, or three digits, as `419`.
 ///

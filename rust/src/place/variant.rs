@@ -1,3 +1,5 @@
+// Made by rust/erase from crates/langtag_place/src/variant.rt. Change that file, not this one.
+
 //! The variant subtag (RFC 5646 section 2.2.5).
 
 use crate::scan::{is_variant, Caseless};
@@ -11,14 +13,14 @@ use core::fmt;
 #[derive(Debug)]
 pub struct InvalidVariant<T>(pub T);
 
-impl<T> core::fmt::Display for InvalidVariant<T> {
+impl<T> fmt::Display for InvalidVariant<T> {
     #[inline]
-    fn fmt(&self, f: &mut core::fmt::Formatter<'_>) -> core::fmt::Result {
+    fn fmt(&self, f: &mut fmt::Formatter<'_>) -> fmt::Result {
         f.write_str("invalid variant")
     }
 }
 
-impl<T: core::fmt::Debug> core::error::Error for InvalidVariant<T> {}
+impl<T: fmt::Debug> core::error::Error for InvalidVariant<T> {}
 
 /// A variant subtag (RFC 5646 section 2.2.5): five to eight letters and digits, as `rozaj`, or four of which the
 /// first is a digit, as `1996`.

@@ -1,3 +1,5 @@
+// Made by rust/erase from crates/langtag_place/src/variants.rt. Change that file, not this one.
+
 //! The variants of a tag as one text (RFC 5646 section 2.2.5).
 
 use crate::place::variant::Variant;
@@ -13,14 +15,14 @@ use core::fmt;
 #[derive(Debug)]
 pub struct InvalidVariants<T>(pub T);
 
-impl<T> core::fmt::Display for InvalidVariants<T> {
+impl<T> fmt::Display for InvalidVariants<T> {
     #[inline]
-    fn fmt(&self, f: &mut core::fmt::Formatter<'_>) -> core::fmt::Result {
+    fn fmt(&self, f: &mut fmt::Formatter<'_>) -> fmt::Result {
         f.write_str("invalid variants")
     }
 }
 
-impl<T: core::fmt::Debug> core::error::Error for InvalidVariants<T> {}
+impl<T: fmt::Debug> core::error::Error for InvalidVariants<T> {}
 
 /// The variants of a tag, joined by hyphens, or nothing (RFC 5646 section 2.2.5), as `rozaj-1994`.
 ///

@@ -1,3 +1,5 @@
+// Made by rust/erase from crates/langtag_place/src/variants_iter.rt. Change that file, not this one.
+
 //! The variants of a tag one by one, from either end.
 
 use crate::place::variant::Variant;

@@ -1,3 +1,5 @@
+// Made by rust/erase from crates/langtag_private/src/lib.rt. Change that file, not this one.
+
 //! The private use part of a tag (RFC 5646 section 2.2.7), which may also be a tag of its own.
 //!
 //! `x-a-x-b` is a [`PrivateUse`] with the [`PrivateUseSubtag`]s `a`, `x` and `b`. Both have an owned form, as
@@ -11,7 +13,8 @@
 //! assert_eq!(private_use.iter().count(), 3);
 //! let first = private_use.iter().next().ok_or("no subtags")?;
 //! assert_eq!(first.as_str(), "a");
-//! # Ok(()) }
+//! # Ok(())
+//! # }
 //! ```
 //!
 //! A returned subtag has its bytes of the text and lives as long as the text. Both are proved; that it stands at the

@@ -1,3 +1,5 @@
+// Made by rust/erase from crates/langtag_private/src/private_use.rt. Change that file, not this one.
+
 //! The private use part of a tag (RFC 5646 section 2.2.7).
 
 use crate::private::private_use_iter::PrivateUseIter;
@@ -12,14 +14,14 @@ use core::fmt;
 #[derive(Debug)]
 pub struct InvalidPrivateUse<T>(pub T);
 
-impl<T> core::fmt::Display for InvalidPrivateUse<T> {
+impl<T> fmt::Display for InvalidPrivateUse<T> {
     #[inline]
-    fn fmt(&self, f: &mut core::fmt::Formatter<'_>) -> core::fmt::Result {
+    fn fmt(&self, f: &mut fmt::Formatter<'_>) -> fmt::Result {
         f.write_str("invalid private use")
     }
 }
 
-impl<T: core::fmt::Debug> core::error::Error for InvalidPrivateUse<T> {}
+impl<T: fmt::Debug> core::error::Error for InvalidPrivateUse<T> {}
 
 /// A private use part (RFC 5646 section 2.2.7): the mark `x`, in either case, and one subtag or more after it, joined
 /// by hyphens, as `x-twain`. It may stand at the end of a tag, and alone as a tag of its own.

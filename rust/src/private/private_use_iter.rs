@@ -1,3 +1,5 @@
+// Made by rust/erase from crates/langtag_private/src/private_use_iter.rt. Change that file, not this one.
+
 //! The subtags of a private use part one by one.
 
 use crate::private::private_use_subtag::PrivateUseSubtag;

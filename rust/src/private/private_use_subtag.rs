@@ -1,3 +1,5 @@
+// Made by rust/erase from crates/langtag_private/src/private_use_subtag.rt. Change that file, not this one.
+
 //! A subtag of a private use part (RFC 5646 section 2.2.7).
 
 use crate::scan::{is_private_subtag, Caseless};
@@ -11,14 +13,14 @@ use core::fmt;
 #[derive(Debug)]
 pub struct InvalidPrivateUseSubtag<T>(pub T);
 
-impl<T> core::fmt::Display for InvalidPrivateUseSubtag<T> {
+impl<T> fmt::Display for InvalidPrivateUseSubtag<T> {
     #[inline]
-    fn fmt(&self, f: &mut core::fmt::Formatter<'_>) -> core::fmt::Result {
+    fn fmt(&self, f: &mut fmt::Formatter<'_>) -> fmt::Result {
         f.write_str("invalid private use subtag")
     }
 }
 
-impl<T: core::fmt::Debug> core::error::Error for InvalidPrivateUseSubtag<T> {}
+impl<T: fmt::Debug> core::error::Error for InvalidPrivateUseSubtag<T> {}
 
 /// A private use subtag (RFC 5646 section 2.2.7): one to eight letters and digits, as `twain` in `en-x-twain`.
 ///

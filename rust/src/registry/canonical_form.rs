@@ -1,3 +1,5 @@
+// Made by rust/erase from crates/langtag_registry/src/canonical_form.rt. Change that file, not this one.
+
 //! The canonical form of a tag (RFC 5646 section 4.5).
 
 use crate::registry::canonical_parts::put_canonical_parts;

@@ -1,3 +1,5 @@
+// Made by rust/erase from crates/langtag_registry/src/canonical_language.rt. Change that file, not this one.
+
 //! Whether a language with its extended subtags is its own canonical form (RFC 5646 section 4.5).
 
 use crate::language::Language;

@@ -1,3 +1,5 @@
+// Made by rust/erase from crates/langtag_registry/src/canonical_variants.rt. Change that file, not this one.
+
 //! Whether variants are their own canonical forms (RFC 5646 section 4.5).
 
 use crate::place::Variants;

@@ -1,3 +1,5 @@
+// Made by rust/erase from crates/langtag_registry/src/deprecated.rt. Change that file, not this one.
+
 //! Deprecated subtags and tags (RFC 5646 section 3.1.6). They stay valid.
 
 use crate::language::{ExtendedLangTag, PrimaryLanguage};

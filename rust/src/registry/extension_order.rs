@@ -1,3 +1,5 @@
+// Made by rust/erase from crates/langtag_registry/src/extension_order.rt. Change that file, not this one.
+
 //! The order of extensions (RFC 5646 section 4.5): by their singletons, whatever their case.
 
 use crate::extension::{Extension, Extensions};

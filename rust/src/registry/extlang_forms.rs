@@ -1,3 +1,5 @@
+// Made by rust/erase from crates/langtag_registry/src/extlang_forms.rt. Change that file, not this one.
+
 //! The extlang form of a tag (RFC 5646 section 4.5).
 
 use crate::language::Language;

@@ -1,3 +1,5 @@
+// Made by rust/erase from crates/langtag_registry/src/form.rt. Change that file, not this one.
+
 //! What the canonical form of a tag is (RFC 5646 section 4.5).
 
 use crate::place::Region;

@@ -1,7 +1,11 @@
+// Made by rust/erase from crates/langtag_registry/src/invalid_subtag.rt. Change that file, not this one.
+
 //! What makes a well-formed tag invalid (RFC 5646 section 2.2.9).
+
 use crate::extension::Singleton;
 use crate::language::{ExtendedLangTag, PrimaryLanguage};
 use crate::place::{Region, Script, Variant};
+use core::fmt;
 
 /// Why a tag is not valid: its first subtag that is not registered, is a second extended language, or repeats an earlier
 /// one.
@@ -28,21 +32,21 @@ pub enum InvalidSubtag<'a> {
     RepeatedSingleton(Singleton),
 }
 
-impl core::fmt::Display for InvalidSubtag<'_> {
-    fn fmt(&self, f: &mut core::fmt::Formatter<'_>) -> core::fmt::Result {
+impl fmt::Display for InvalidSubtag<'_> {
+    fn fmt(&self, f: &mut fmt::Formatter<'_>) -> fmt::Result {
         match self {
-            InvalidSubtag::Language(field0) => write!(f, "language {field0} is not registered"),
-            InvalidSubtag::Extlang(field0) => {
-                write!(f, "extended language {field0} is not registered")
+            InvalidSubtag::Language(value) => write!(f, "language {value} is not registered"),
+            InvalidSubtag::Extlang(value) => {
+                write!(f, "extended language {value} is not registered")
             }
-            InvalidSubtag::SecondExtlang(field0) => {
-                write!(f, "extended language {field0} is the second")
+            InvalidSubtag::SecondExtlang(value) => {
+                write!(f, "extended language {value} is the second")
             }
-            InvalidSubtag::Script(field0) => write!(f, "script {field0} is not registered"),
-            InvalidSubtag::Region(field0) => write!(f, "region {field0} is not registered"),
-            InvalidSubtag::Variant(field0) => write!(f, "variant {field0} is not registered"),
-            InvalidSubtag::RepeatedVariant(field0) => write!(f, "variant {field0} is repeated"),
-            InvalidSubtag::RepeatedSingleton(field0) => write!(f, "singleton {field0} is repeated"),
+            InvalidSubtag::Script(value) => write!(f, "script {value} is not registered"),
+            InvalidSubtag::Region(value) => write!(f, "region {value} is not registered"),
+            InvalidSubtag::Variant(value) => write!(f, "variant {value} is not registered"),
+            InvalidSubtag::RepeatedVariant(value) => write!(f, "variant {value} is repeated"),
+            InvalidSubtag::RepeatedSingleton(value) => write!(f, "singleton {value} is repeated"),
         }
     }
 }

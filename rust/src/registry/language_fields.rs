@@ -1,3 +1,5 @@
+// Made by rust/erase from crates/langtag_registry/src/language_fields.rt. Change that file, not this one.
+
 //! What the registry says of a language (RFC 5646 sections 3.1.7, 3.1.9 and 3.1.10).
 
 use crate::language::PrimaryLanguage;

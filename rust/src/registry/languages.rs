@@ -1,3 +1,5 @@
+// Made by rust/erase from crates/langtag_registry/src/languages.rt. Change that file, not this one.
+
 //! Registered languages (RFC 5646 section 2.2.1).
 
 use crate::language::PrimaryLanguage;

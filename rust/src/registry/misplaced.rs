@@ -1,3 +1,5 @@
+// Made by rust/erase from crates/langtag_registry/src/misplaced.rt. Change that file, not this one.
+
 //! Variants and extended languages that do not stand after one of their prefixes (RFC 5646 section 3.1.8).
 
 use crate::language::ExtendedLangTag;

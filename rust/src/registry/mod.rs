@@ -1,8 +1,10 @@
+// Made by rust/erase from crates/langtag_registry/src/lib.rt. Change that file, not this one.
+
 //! The IANA Language Subtag Registry over language tags: which subtags are registered, what the registry says of them
 //! (RFC 5646 section 3.1), which tags are valid (section 2.2.9), the canonical form of a tag (section 4.5), and which
 //! variants and extended languages stand after none of their prefixes (section 3.1.8).
 //!
-//! ```ignore
+//! ```
 //! # fn main() -> Result<(), Box<dyn std::error::Error>> {
 //! use langtag::{LangTag, NormalLangTag};
 //! use langtag::PrimaryLanguage;
@@ -15,11 +17,12 @@
 //!     Err(InvalidSubtag::Language(language)) => language.as_str(), // "qt"
 //!     ..
 //! }
-//! assert_eq!(is_registered_language(PrimaryLanguage::new("fr")?), true);
-//! preferred_language(PrimaryLanguage::new("iw")?); // Some(he)
+//! assert!(is_registered_language(PrimaryLanguage::new("fr")?));
+//! assert_eq!(preferred_language(PrimaryLanguage::new("iw")?), Some(he));
 //! canonical(LangTag::new("iw-BU")?)?;       // he-MM
-//! misplaced_variant(NormalLangTag::new("fr-nedis")?); // Some(nedis): it goes with `sl`
-//! # Ok(()) }
+//! assert_eq!(misplaced_variant(NormalLangTag::new("fr-nedis")?), Some(nedis)); // it goes with `sl`
+//! # Ok(())
+//! # }
 //! ```
 
 mod canonical_form;

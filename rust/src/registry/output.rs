@@ -1,3 +1,5 @@
+// Made by rust/erase from crates/langtag_registry/src/output.rt. Change that file, not this one.
+
 //! A text that is written into a buffer of the caller's, subtag by subtag.
 
 /// A buffer, and the length of the text that was put into it so far. What does not fit is counted, and not written.

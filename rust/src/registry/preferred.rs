@@ -1,3 +1,5 @@
+// Made by rust/erase from crates/langtag_registry/src/preferred.rt. Change that file, not this one.
+
 //! The Preferred-Value of a region, a variant or a whole tag (RFC 5646 section 3.1.7).
 
 use crate::place::{Region, Variant};

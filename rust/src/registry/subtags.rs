@@ -1,3 +1,5 @@
+// Made by rust/erase from crates/langtag_registry/src/subtags.rt. Change that file, not this one.
+
 //! Registered extended languages, scripts, regions and variants (RFC 5646 sections 2.2.2 to 2.2.5).
 
 use crate::language::ExtendedLangTag;

@@ -1,3 +1,5 @@
+// Made by rust/erase from crates/langtag_registry/src/table.rt. Change that file, not this one.
+
 //! Tables of subtags, in which texts are looked up in any case.
 
 use crate::scan::folded_number;

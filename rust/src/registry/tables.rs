@@ -1,3 +1,5 @@
+// Made by rust/erase from crates/langtag_registry/src/tables.rt. Change that file, not this one.
+
 //! The registry in tables. Written by registry/generate.py from the registry of 2025-05-15. Do not edit.
 
 /// The File-Date of the registry that this crate has (RFC 5646 section 3.1.1).

@@ -1,3 +1,5 @@
+// Made by rust/erase from crates/langtag_registry/src/validity.rt. Change that file, not this one.
+
 //! Valid tags (RFC 5646 section 2.2.9).
 
 use crate::language::Language;

@@ -1,3 +1,5 @@
+// Made by rust/erase from crates/langtag_registry/src/write.rt. Change that file, not this one.
+
 //! Pieces of a text that are written into a buffer of the caller's.
 
 use crate::registry::output::Output;

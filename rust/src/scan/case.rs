@@ -1,3 +1,5 @@
+// Made by rust/erase from crates/langtag_scan/src/case.rt. Change that file, not this one.
+
 //! The case of ASCII letters, to which tags are indifferent (RFC 5646 section 2.1.1): texts are compared and hashed by
 //! their folded bytes, in which each capital letter is small. Nothing else is folded, so `[` and `{` stay apart.
 

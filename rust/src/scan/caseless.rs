@@ -1,3 +1,5 @@
+// Made by rust/erase from crates/langtag_scan/src/caseless.rt. Change that file, not this one.
+
 //! Texts that compare without regard to the case of ASCII letters (RFC 5646 section 2.1.1).
 
 use crate::scan::case::{case_insensitive_cmp, case_insensitive_eq, case_insensitive_hash};

@@ -1,3 +1,5 @@
+// Made by rust/erase from crates/langtag_scan/src/class.rt. Change that file, not this one.
+
 //! The classes of subtags (RFC 5646 section 2.1), over any bytes. Letters and digits are those of ASCII.
 
 #[inline]

@@ -1,3 +1,5 @@
+// Made by rust/erase from crates/langtag_scan/src/ends.rt. Change that file, not this one.
+
 //! Where the parts of a normal tag end.
 
 use crate::scan::stage::Stage;

@@ -1,3 +1,5 @@
+// Made by rust/erase from crates/langtag_scan/src/finding.rt. Change that file, not this one.
+
 //! What is found of a tag, case by case.
 use crate::scan::ends::Ends;
 

@@ -1,3 +1,5 @@
+// Made by rust/erase from crates/langtag_scan/src/found.rt. Change that file, not this one.
+
 //! What a recogniser found.
 
 use crate::scan::ends::Ends;

@@ -1,3 +1,5 @@
+// Made by rust/erase from crates/langtag_scan/src/irregular.rt. Change that file, not this one.
+
 //! The irregular tags (RFC 5646 section 2.2.8) that a text may still become.
 
 use crate::scan::case::into_smallcase;

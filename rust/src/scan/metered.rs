@@ -1,3 +1,5 @@
+// Made by rust/erase from crates/langtag_scan/src/metered.rt. Change that file, not this one.
+
 //! Bytes, with a count of the reads.
 
 use crate::scan::source::ByteSource;

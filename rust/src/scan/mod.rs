@@ -1,20 +1,23 @@
+// Made by rust/erase from crates/langtag_scan/src/lib.rt. Change that file, not this one.
+
 //! Language tags over bytes, by RFC 5646 section 2.1: the fold, the classes of subtags, and what decides whether
 //! the bytes of a source are a tag.
 //!
-//! ```ignore
+//! ```
 //! # fn main() -> Result<(), Box<dyn std::error::Error>> {
 //! use langtag::{ByteSource, Metered, recognise, viable_len};
 //!
 //! let mut source = Metered::new("fr-abc-bz-x-a");
 //! let ends = recognise(&mut source)?.ends()?;
-//! (ends.language, ends.script, ends.region, ends.whole); // 6, 6, 9, 13: no script, and the region is `bz`
+//! assert_eq!((ends.language, ends.script, ends.region, ends.whole), 6); // 6, 9, 13: no script, and the region is `bz`
 //!
 //! let mut source = Metered::new("i-notexist");
 //! assert_eq!(recognise(&mut source), None);
-//! assert_eq!(source.reads(), 4); // 4: no tag begins with `i-no`
+//! assert_eq!(source.reads(), 4); // no tag begins with `i-no`
 //!
-//! assert_eq!(viable_len(b"zh_Hant"), 2); // 2: no tag begins with `zh_`
-//! # Ok(()) }
+//! assert_eq!(viable_len(b"zh_Hant"), 2); // no tag begins with `zh_`
+//! # Ok(())
+//! # }
 //! ```
 //!
 //! `Caseless` and `folded_number` serve the crates of this workspace that build the text types.

@@ -1,3 +1,5 @@
+// Made by rust/erase from crates/langtag_scan/src/recogniser.rt. Change that file, not this one.
+
 //! The recognisers: one pass over a source of bytes.
 
 use crate::scan::found::Found;

@@ -1,3 +1,5 @@
+// Made by rust/erase from crates/langtag_scan/src/segment.rt. Change that file, not this one.
+
 //! Where a segment of a text, what stands between two hyphens, ends and begins (RFC 5646 section 2.1). Indices count
 //! bytes.
 

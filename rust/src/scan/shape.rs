@@ -1,3 +1,5 @@
+// Made by rust/erase from crates/langtag_scan/src/shape.rt. Change that file, not this one.
+
 //! What is known of a subtag that was read, in a few numbers: each class of subtags can be told from it.
 
 use crate::scan::class::{is_digit, is_mark};

@@ -1,3 +1,5 @@
+// Made by rust/erase from crates/langtag_scan/src/source.rt. Change that file, not this one.
+
 //! Where a recogniser reads its bytes from, one by one, with a count of the reads.
 
 /// A list of bytes that are read one at a time, by index. It counts the reads and how far they reached, so that a

@@ -1,3 +1,5 @@
+// Made by rust/erase from crates/langtag_scan/src/split.rt. Change that file, not this one.
+
 //! A text taken apart at the first byte of a kind.
 
 /// Returns what stands before the first `mark` of a text, and what stands after it: all and nothing where it has none.

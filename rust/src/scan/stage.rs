@@ -1,3 +1,5 @@
+// Made by rust/erase from crates/langtag_scan/src/stage.rt. Change that file, not this one.
+
 //! How the subtags of a normal tag, or of a private use one, follow one another (RFC 5646 section 2.1).
 //!
 //! ```text
@@ -19,7 +21,6 @@
 //! AfterMark, InPrivate          private use subtag      InPrivate
 //! AfterFirstMark, InPrivateTag  private use subtag      InPrivateTag
 //! ```
-//! # fn main() -> Result<(), Box<dyn std::error::Error>> {
 //!
 //! A tag may end after any stage but `Start`, `AfterSingleton`, `AfterMark` and `AfterFirstMark`.
 

@@ -1,3 +1,5 @@
+// Made by rust/erase from crates/langtag_scan/src/subtags.rt. Change that file, not this one.
+
 //! The walk over the subtags of a text (RFC 5646 section 2.1), from both ends and without a copy.
 
 use crate::scan::segment::{segment_end, segment_start};

@@ -1,3 +1,5 @@
+// Made by rust/erase from crates/langtag_scan/src/viable.rt. Change that file, not this one.
+
 //! How far bytes are the beginning of a tag.
 
 use crate::scan::metered::Metered;

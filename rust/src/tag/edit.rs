@@ -1,3 +1,5 @@
+// Made by rust/erase from crates/langtag/src/edit.rt. Change that file, not this one.
+
 //! A part of a tag's text that is replaced, and where the parts end then.
 
 use crate::scan::Ends;

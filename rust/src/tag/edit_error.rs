@@ -1,7 +1,11 @@
+// Made by rust/erase from crates/langtag/src/edit_error.rt. Change that file, not this one.
+
 //! Why a tag could not be edited.
 
 #[cfg(feature = "alloc")]
 use crate::shim::AllocError;
+use core::fmt;
+
 /// Why a part was not put into a tag, or taken out of it. The tag is as it was.
 #[cfg(feature = "alloc")]
 #[derive(Clone, Copy, Debug, PartialEq, Eq)]
@@ -13,9 +17,9 @@ pub enum EditError {
 }
 
 #[cfg(feature = "alloc")]
-impl core::fmt::Display for EditError {
+impl fmt::Display for EditError {
     #[inline]
-    fn fmt(&self, f: &mut core::fmt::Formatter<'_>) -> core::fmt::Result {
+    fn fmt(&self, f: &mut fmt::Formatter<'_>) -> fmt::Result {
         match self {
             EditError::NotNormal => f.write_str("not a normal language tag"),
             EditError::Memory(_) => f.write_str("out of memory"),

@@ -1,3 +1,5 @@
+// Made by rust/erase from crates/langtag/src/grandfathered.rt. Change that file, not this one.
+
 //! The grandfathered tags (RFC 5646 section 2.2.8).
 
 use crate::language::Language;
@@ -9,14 +11,14 @@ use core::fmt;
 #[derive(Debug)]
 pub struct InvalidGrandfatheredTag<T>(pub T);
 
-impl<T> core::fmt::Display for InvalidGrandfatheredTag<T> {
+impl<T> fmt::Display for InvalidGrandfatheredTag<T> {
     #[inline]
-    fn fmt(&self, f: &mut core::fmt::Formatter<'_>) -> core::fmt::Result {
+    fn fmt(&self, f: &mut fmt::Formatter<'_>) -> fmt::Result {
         f.write_str("invalid grandfathered tag")
     }
 }
 
-impl<T: core::fmt::Debug> core::error::Error for InvalidGrandfatheredTag<T> {}
+impl<T: fmt::Debug> core::error::Error for InvalidGrandfatheredTag<T> {}
 
 /// A grandfathered tag: one of the 26 that were registered before the grammar (RFC 5646 section 2.2.8), in the order in
 /// which section 2.1 lists them. The first seventeen are irregular: no rule but their own admits them. The nine regular

@@ -1,3 +1,5 @@
+// Made by rust/erase from crates/langtag/src/kind.rt. Change that file, not this one.
+
 //! The kinds of language tags.
 
 /// The kind of a language tag: the three cases of the rule `Language-Tag` (RFC 5646 section 2.1).

@@ -1,3 +1,5 @@
+// Made by rust/erase from crates/langtag/src/lang_tag.rt. Change that file, not this one.
+
 //! Language tags of every kind: rule `Language-Tag` of RFC 5646 section 2.1.
 
 use crate::case::{is_in_recommended_case, InRecommendedCase};
@@ -23,14 +25,14 @@ use core::fmt;
 #[derive(Debug)]
 pub struct InvalidLangTag<T>(pub T);
 
-impl<T> core::fmt::Display for InvalidLangTag<T> {
+impl<T> fmt::Display for InvalidLangTag<T> {
     #[inline]
-    fn fmt(&self, f: &mut core::fmt::Formatter<'_>) -> core::fmt::Result {
+    fn fmt(&self, f: &mut fmt::Formatter<'_>) -> fmt::Result {
         f.write_str("invalid language tag")
     }
 }
 
-impl<T: core::fmt::Debug> core::error::Error for InvalidLangTag<T> {}
+impl<T: fmt::Debug> core::error::Error for InvalidLangTag<T> {}
 
 /// A language tag (RFC 5646 section 2.1): a normal one, as `zh-Hant-TW`, one for private use as a whole, as `x-fr-CH`, or
 /// an irregular grandfathered one, as `i-klingon`.
@@ -70,10 +72,8 @@ impl<'a> LangTag<'a> {
         let Some(found) = recognise_bytes(bytes) else {
             return Err(InvalidLangTag(bytes));
         };
-
-        let ascii = match core::str::from_utf8(bytes) {
-            Ok(text) => text,
-            Err(_) => return Err(InvalidLangTag(bytes)),
+        let Ok(ascii) = core::str::from_utf8(bytes) else {
+            return Err(InvalidLangTag(bytes));
         };
         Ok(LangTag::with_found(ascii, found))
     }

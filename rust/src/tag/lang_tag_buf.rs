@@ -1,3 +1,5 @@
+// Made by rust/erase from crates/langtag/src/lang_tag_buf.rt. Change that file, not this one.
+
 //! Language tags of every kind that own their text.
 
 use crate::extension::Extensions;

@@ -1,3 +1,5 @@
+// Made by rust/erase from crates/langtag/src/lengths.rt. Change that file, not this one.
+
 //! How long the parts of a normal tag are.
 
 use crate::scan::Ends;

@@ -1,3 +1,5 @@
+// Made by rust/erase from crates/langtag/src/lib.rt. Change that file, not this one.
+
 //! Language tags, by RFC 5646 section 2.1: parsed, taken apart, compared without regard to case, and edited.
 //!
 //! A [`LangTag`] is a tag of any kind: a normal one, one for private use as a whole, or a grandfathered one:
@@ -9,10 +11,11 @@
 //! let tag = LangTag::new("zh-Hant-TW-x-mine")?;
 //! assert_eq!(tag.kind(), Kind::Normal);
 //! assert_eq!(tag.script().map(|script| script.as_str()), Some("Hant"));
-//! assert_eq!(tag.eq_str("ZH-hant-tw-X-mine"), true);
-//! assert_eq!(LangTag::new("I-Klingon")?.is_grandfathered(), true);
+//! assert!(tag.eq_str("ZH-hant-tw-X-mine"));
+//! assert!(LangTag::new("I-Klingon")?.is_grandfathered());
 //! assert_eq!(LangTag::new("zh_Hant").err().map(|error| error.0), Some("zh_Hant"));
-//! # Ok(()) }
+//! # Ok(())
+//! # }
 //! ```
 //!
 //! A [`NormalLangTag`] is a tag made of parts. It keeps where they end, so that each is cut from the text:
@@ -26,12 +29,13 @@
 //! assert_eq!(tag.region().map(|region| region.as_str()), Some("IT"));
 //! assert_eq!(tag.variants().first().map(|first| first.as_str()), Some("rozaj"));
 //! assert_eq!(tag.script(), None);
-//! assert_eq!(tag.eq_str("SL-it-ROZAJ-x-mine"), true);
+//! assert!(tag.eq_str("SL-it-ROZAJ-x-mine"));
 //!
 //! let mut owned = tag.try_to_owned()?;
 //! owned.set_script(Some(Script::new("Latn")?))?;
 //! assert_eq!(owned.as_str(), "sl-Latn-IT-rozaj-x-mine");
-//! # Ok(()) }
+//! # Ok(())
+//! # }
 //! ```
 //!
 //! Each part has a type of its own, lent and owned, as [`Script`] and [`ScriptBuf`]. All of them are reached from this
@@ -51,6 +55,7 @@ mod private_use_lang_tag;
 mod recognise_text;
 mod recognised;
 mod recommended_case;
+mod refusal;
 mod repeats;
 mod text_of_parts;
 mod typed_lang_tag;
@@ -102,5 +107,6 @@ pub use part::{put_part, Part, Replacement};
 pub use private_use_lang_tag::PrivateUseLangTag;
 #[cfg(feature = "alloc")]
 pub use private_use_lang_tag::PrivateUseLangTagBuf;
+pub use refusal::{Refusal, RefusalKind};
 pub use repeats::is_among_first;
 pub use typed_lang_tag::TypedLangTag;

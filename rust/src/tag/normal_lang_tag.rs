@@ -1,3 +1,5 @@
+// Made by rust/erase from crates/langtag/src/normal_lang_tag.rt. Change that file, not this one.
+
 //! Normal tags, which are made of parts: rule `langtag` of RFC 5646 section 2.1.
 
 use crate::case::{is_in_recommended_case, InRecommendedCase};
@@ -20,14 +22,14 @@ use core::fmt;
 #[derive(Debug)]
 pub struct InvalidNormalLangTag<T>(pub T);
 
-impl<T> core::fmt::Display for InvalidNormalLangTag<T> {
+impl<T> fmt::Display for InvalidNormalLangTag<T> {
     #[inline]
-    fn fmt(&self, f: &mut core::fmt::Formatter<'_>) -> core::fmt::Result {
+    fn fmt(&self, f: &mut fmt::Formatter<'_>) -> fmt::Result {
         f.write_str("invalid normal language tag")
     }
 }
 
-impl<T: core::fmt::Debug> core::error::Error for InvalidNormalLangTag<T> {}
+impl<T: fmt::Debug> core::error::Error for InvalidNormalLangTag<T> {}
 
 /// A normal tag (rule `langtag` of RFC 5646 section 2.1): a language, and after it a script, a region, variants,
 /// extensions and a private use part, each of which may be absent, as `sl-Latn-IT-rozaj-u-co-phonebk-x-mine`.

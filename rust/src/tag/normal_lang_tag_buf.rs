@@ -1,3 +1,5 @@
+// Made by rust/erase from crates/langtag/src/normal_lang_tag_buf.rt. Change that file, not this one.
+
 //! Normal tags that own their text.
 
 use crate::extension::Extensions;

@@ -1,3 +1,5 @@
+// Made by rust/erase from crates/langtag/src/part.rt. Change that file, not this one.
+
 //! The parts of a normal tag, and how one is put into its text (RFC 5646 section 2.1).
 
 use crate::extension::Extensions;

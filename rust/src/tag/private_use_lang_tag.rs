@@ -1,3 +1,5 @@
+// Made by rust/erase from crates/langtag/src/private_use_lang_tag.rt. Change that file, not this one.
+
 //! Tags for private use as a whole (RFC 5646 section 2.2.7).
 use crate::private::PrivateUse;
 #[cfg(feature = "alloc")]

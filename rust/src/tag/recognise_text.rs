@@ -1,3 +1,5 @@
+// Made by rust/erase from crates/langtag/src/recognise_text.rt. Change that file, not this one.
+
 //! The one place where this crate runs a recogniser.
 
 use crate::scan::{recognise, Ends, Found, Metered};

@@ -1,3 +1,5 @@
+// Made by rust/erase from crates/langtag/src/recognised.rt. Change that file, not this one.
+
 //! What a tag keeps of what the recogniser found of its text.
 
 use crate::scan::Ends;

@@ -1,3 +1,5 @@
+// Made by rust/erase from crates/langtag/src/repeats.rt. Change that file, not this one.
+
 //! Variants and singletons that stand in a tag twice. Such a tag is well formed, and is not valid (RFC 5646 section
 //! 2.2.9).
 

@@ -1,9 +1,12 @@
+// Made by rust/erase from crates/langtag/src/text_of_parts.rt. Change that file, not this one.
+
 //! The text of a language, a script and a region.
 
 #[cfg(feature = "alloc")]
 use crate::shim::{try_string_with_capacity, AllocError, TryText};
 #[cfg(feature = "alloc")]
 use alloc::string::String;
+
 /// A new text with room for so many bytes: a language, and a script and a region after it, each after its hyphen; an empty
 /// one is none.
 #[cfg(feature = "alloc")]

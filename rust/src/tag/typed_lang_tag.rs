@@ -1,3 +1,5 @@
+// Made by rust/erase from crates/langtag/src/typed_lang_tag.rt. Change that file, not this one.
+
 //! Language tags by their kinds.
 
 use crate::language::Language;
@@ -7,7 +9,7 @@ use crate::tag::normal_lang_tag::NormalLangTag;
 use crate::tag::private_use_lang_tag::PrivateUseLangTag;
 
 /// A language tag as a value of the type of its kind (RFC 5646 section 2.1), as
-/// [`LangTag::as_typed`](crate::tag::LangTag::as_typed) returns it. Each call looks at the variant alone, and at no text.
+/// [`LangTag::as_typed`](crate::LangTag::as_typed) returns it. Each call looks at the variant alone, and at no text.
 #[derive(Clone, Copy, Debug, PartialEq, Eq)]
 pub enum TypedLangTag<'a> {
     /// A normal tag. The regular grandfathered tags are normal.
@@ -53,8 +55,8 @@ impl<'a> TypedLangTag<'a> {
 
     /// Returns whether this is a grandfathered tag by its kind: true of `i-lux`.
     ///
-    /// As [`LangTag::as_typed`](crate::tag::LangTag::as_typed) returns it, this is false of `art-lojban`, a regular grandfathered tag
-    /// and so a normal one: [`LangTag::is_grandfathered`](crate::tag::LangTag::is_grandfathered) is true of it.
+    /// As [`LangTag::as_typed`](crate::LangTag::as_typed) returns it, this is false of `art-lojban`, a regular grandfathered tag
+    /// and so a normal one: [`LangTag::is_grandfathered`](crate::LangTag::is_grandfathered) is true of it.
     #[inline]
     pub fn is_grandfathered(&self) -> bool {
         self.kind().is_grandfathered()

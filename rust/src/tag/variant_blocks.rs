@@ -1,3 +1,5 @@
+// Made by rust/erase from crates/langtag/src/variant_blocks.rt. Change that file, not this one.
+
 //! The first repeated variant of very many: they are gone over a block at a time.
 
 use crate::place::{Variant, Variants, VariantsIter};

@@ -28,7 +28,11 @@ impl Answer {
         }
         let between = if options.tsv { "\t" } else { between };
         line.extend_from_slice(columns.join(between).as_bytes());
-        Answer { line: Some(line), good: true, reason: None }
+        Answer {
+            line: Some(line),
+            good: true,
+            reason: None,
+        }
     }
 
     fn because(mut self, reason: String) -> Answer {
@@ -63,7 +67,11 @@ impl<'a> Asked<'a> {
             Command::Match => Some(range_of(options)?),
             _ => None,
         };
-        Ok(Asked { command, options, range })
+        Ok(Asked {
+            command,
+            options,
+            range,
+        })
     }
 
     pub fn answer(&self, text: &[u8]) -> Result<Answer, Failure> {
@@ -109,14 +117,20 @@ impl<'a> Asked<'a> {
             (false, true) => Some(tag.as_bytes().to_vec()),
             (false, false) => None,
         };
-        Answer { line, good: is_matched, reason: None }
+        Answer {
+            line,
+            good: is_matched,
+            reason: None,
+        }
     }
 }
 
 /// The range of `match`. What is no range ends the run as wrong arguments do.
 fn range_of(options: &Options) -> Result<LanguageRange<'_>, Failure> {
     let range = core::str::from_utf8(&options.first).ok();
-    range.and_then(|text| LanguageRange::new(text).ok()).ok_or(Failure::Range)
+    range
+        .and_then(|text| LanguageRange::new(text).ok())
+        .ok_or(Failure::Range)
 }
 
 /// The line of `show`, which is the proved program's.
@@ -141,7 +155,9 @@ fn show(tag: LangTag<'_>, options: &Options) -> Answer {
 /// The answer to a tag that is not made of parts.
 fn whole(kind: &str, text: &[u8], tag: &str, options: &Options) -> Answer {
     match options.tsv {
-        true if kind == "private" => Answer::of(text, &[kind, "", "", "", "", "", tag, ""], options, ""),
+        true if kind == "private" => {
+            Answer::of(text, &[kind, "", "", "", "", "", tag, ""], options, "")
+        }
         true => Answer::of(text, &[kind, "", "", "", "", "", "", ""], options, ""),
         false => Answer::of(text, &[kind, tag], options, " "),
     }
@@ -156,7 +172,10 @@ fn parts_of<'a>(tag: &NormalLangTag<'a>) -> [(&'static str, &'a str); 7] {
         ("region", tag.region().map_or("", |region| region.as_str())),
         ("variants", tag.variants().as_str()),
         ("extensions", tag.extensions().as_str()),
-        ("private", tag.private_use().map_or("", |part| part.as_str())),
+        (
+            "private",
+            tag.private_use().map_or("", |part| part.as_str()),
+        ),
         ("repeats", if is_repeated { "yes" } else { "no" }),
     ]
 }
@@ -165,13 +184,31 @@ fn parts_of<'a>(tag: &NormalLangTag<'a>) -> [(&'static str, &'a str); 7] {
 fn check(tag: LangTag<'_>, options: &Options) -> Result<Answer, Failure> {
     let form = canonical(tag)?;
     let Err(invalid) = validate(tag) else {
-        let columns: &[&str] = if options.tsv { &["valid", "", "", &form] } else { &["valid", &format!("canonical={form}")] };
+        let columns: &[&str] = if options.tsv {
+            &["valid", "", "", &form]
+        } else {
+            &["valid", &format!("canonical={form}")]
+        };
         return Ok(Answer::of(tag.as_bytes(), columns, options, " "));
     };
     let (what, subtag) = fault_of(&invalid);
     let answer = match options.tsv {
-        true => Answer::of(tag.as_bytes(), &["invalid", what, &subtag, &form], options, ""),
-        false => Answer::of(tag.as_bytes(), &["invalid", &format!("{what}={subtag}"), &format!("canonical={form}")], options, " "),
+        true => Answer::of(
+            tag.as_bytes(),
+            &["invalid", what, &subtag, &form],
+            options,
+            "",
+        ),
+        false => Answer::of(
+            tag.as_bytes(),
+            &[
+                "invalid",
+                &format!("{what}={subtag}"),
+                &format!("canonical={form}"),
+            ],
+            options,
+            " ",
+        ),
     };
     Ok(answer.because(pointer::invalid(tag, &invalid)))
 }
@@ -186,7 +223,9 @@ fn fault_of(invalid: &InvalidSubtag<'_>) -> (&'static str, String) {
         InvalidSubtag::Region(subtag) => ("region", subtag.to_string()),
         InvalidSubtag::Variant(subtag) => ("variant", subtag.to_string()),
         InvalidSubtag::RepeatedVariant(subtag) => ("repeated-variant", subtag.to_string()),
-        InvalidSubtag::RepeatedSingleton(singleton) => ("repeated-singleton", singleton.to_string()),
+        InvalidSubtag::RepeatedSingleton(singleton) => {
+            ("repeated-singleton", singleton.to_string())
+        }
     }
 }
 
@@ -196,29 +235,47 @@ pub fn best(options: &Options, texts: &[Vec<u8>]) -> Result<Answer, Failure> {
     for text in texts {
         match LangTag::from_bytes(text) {
             Ok(tag) => tags.push(tag),
-            Err(_) => return Ok(Answer::of(&options.first, &["-"], options, "").because(pointer::refused(text))),
+            Err(_) => {
+                return Ok(
+                    Answer::of(&options.first, &["-"], options, "").because(pointer::refused(text))
+                )
+            }
         }
     }
     let best = best_for_header(&options.first, &tags).map(|index| tags[index]);
-    let mut answer = Answer::of(&options.first, &[best.map_or("-", |tag| tag.as_str())], options, "");
+    let mut answer = Answer::of(
+        &options.first,
+        &[best.map_or("-", |tag| tag.as_str())],
+        options,
+        "",
+    );
     answer.good = best.is_some();
     Ok(answer)
 }
 
 /// The answer of `distance` to a line of two tags.
 pub fn distance_in(line: &[u8], options: &Options) -> Answer {
-    let mut words = line.split(|byte| byte.is_ascii_whitespace()).filter(|word| !word.is_empty());
+    let mut words = line
+        .split(|byte| byte.is_ascii_whitespace())
+        .filter(|word| !word.is_empty());
     match (words.next(), words.next(), words.next()) {
         (Some(desired), Some(supported), None) => distance_of(desired, supported, options),
-        _ => Answer::of(line, &["-"], options, "").because("two tags are wanted in a line: A B".into()),
+        _ => Answer::of(line, &["-"], options, "")
+            .because("two tags are wanted in a line: A B".into()),
     }
 }
 
 pub fn distance_of(desired: &[u8], supported: &[u8], options: &Options) -> Answer {
     let both = [desired, supported].join(&b' ');
     match (LangTag::from_bytes(desired), LangTag::from_bytes(supported)) {
-        (Ok(desired), Ok(supported)) => Answer::of(&both, &[&distance(desired, supported).to_string()], options, ""),
-        (Err(error), _) | (_, Err(error)) => Answer::of(&both, &["-"], options, "").because(pointer::refused(error.0)),
+        (Ok(desired), Ok(supported)) => Answer::of(
+            &both,
+            &[&distance(desired, supported).to_string()],
+            options,
+            "",
+        ),
+        (Err(error), _) | (_, Err(error)) => {
+            Answer::of(&both, &["-"], options, "").because(pointer::refused(error.0))
+        }
     }
 }
-

@@ -9,6 +9,8 @@ pub enum Failure {
     Memory,
     Read,
     Write,
+    /// The first argument of `match` is no range.
+    Range,
     /// Nobody reads the answers any more, as behind `head`.
     Closed,
 }
@@ -19,12 +21,14 @@ impl Failure {
             Failure::Memory => Some("out of memory"),
             Failure::Read => Some("read failed"),
             Failure::Write => Some("write failed"),
+            Failure::Range => Some("the first argument of `match` is not a language range"),
             Failure::Closed => None,
         }
     }
 
     pub fn status(self) -> u8 {
         match self {
+            Failure::Range => 2,
             Failure::Memory => 3,
             Failure::Read => 4,
             Failure::Write | Failure::Closed => 5,
@@ -55,7 +59,9 @@ pub fn texts<W: Write>(
             output.flush().map_err(Failure::write)?;
         }
         line.clear();
-        let count = input.read_until(b'\n', &mut line).map_err(|_| Failure::Read)?;
+        let count = input
+            .read_until(b'\n', &mut line)
+            .map_err(|_| Failure::Read)?;
         if count == 0 {
             return Ok(());
         }

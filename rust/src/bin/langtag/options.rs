@@ -109,7 +109,9 @@ impl Options {
             return Err(Words::Wrong(format!("there is no command `{name}`")));
         };
         let first = match (command.first(), texts.next()) {
-            (Some(usage), None) => return Err(Words::Wrong(format!("an argument is missing: {usage}"))),
+            (Some(usage), None) => {
+                return Err(Words::Wrong(format!("an argument is missing: {usage}")))
+            }
             (Some(_), Some(first)) => (first, None),
             (None, text) => (Vec::new(), text),
         };
@@ -120,7 +122,13 @@ impl Options {
         if basic && command != Command::Match {
             return Err(Words::Wrong(format!("`{name}` has no --basic")));
         }
-        Ok(Options { command, tsv, basic, first: first.0, texts })
+        Ok(Options {
+            command,
+            tsv,
+            basic,
+            first: first.0,
+            texts,
+        })
     }
 }
 

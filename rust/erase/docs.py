@@ -1,0 +1,58 @@
+"""Doc comments: the examples become code that rustdoc runs, and names are those of the Rust crate."""
+import re
+
+from crates import MODULES, public_path_of
+
+VALUE = r"""(?:b?"(?:[^"\\]|\\.)*"|b?'(?:[^'\\]|\\.)+'|\d+|true|false|None|(?:Some|Ok|Err)\((?:[^()]|\([^()]*\))*\)|\[[^\]]*\]|[A-Z]\w*::\w+(?:\([^()]*\))?)"""
+ASSERTED = re.compile(rf"(?P<code>(?!let ).*\S);\s+// (?P<value>{VALUE})(?P<rest>[:,.;].*)?$")
+
+
+def erase_docs(code, module):
+    for token in code.tokens:
+        if "///" in token.before or "//!" in token.before:
+            token.before = with_examples(with_names(token.before, module))
+
+
+def with_names(text, module):
+    """Names paths as users of the crate do, and takes the allocator out of calls."""
+    text = re.sub(r"(\]\(|\]: |)\b(crate|langtag\w*)::(?=[\w{])", lambda it: it[1] + name_of(it[2], module, it[1]) + "::", text)
+    return re.sub(r"(?<=[(\s])alloc, |, alloc\b(?=\))|(?<=\()alloc(?=\))", "", text)
+
+
+def name_of(word, module, is_link):
+    path = public_path_of(module.crate if word == "crate" else word) or word
+    return path.replace("langtag", "crate") if is_link else path
+
+
+def with_examples(before):
+    """Changes the lines of each block of code between the marks."""
+    out, block = [], None
+    for line in before.split("\n"):
+        mark, text = re.match(r"(\s*//[/!] ?|)(.*)", line).groups()
+        if not text.startswith("```") or not mark:
+            out, block = (out, block + [line]) if block is not None else (out + [line], None)
+        elif block is None:
+            out, block = out + [line], []
+        else:
+            out, block = out + doc_test(block, mark.rstrip() + " ") + [line], None
+    return "\n".join(out)
+
+
+def doc_test(lines, mark):
+    """Returns the lines of an example, in a `main` that can fail, where a value after an expression is asserted."""
+    lines = [re.sub(r"assert(_eq|_ne|)!\(rt; ", r"assert\1!(", line) for line in lines]
+    lines = [asserted(line) for line in lines]
+    if any("?" in re.sub(r"//[^/!].*|\"[^\"]*\"", "", line) for line in lines):
+        return [mark + "# fn main() -> Result<(), Box<dyn std::error::Error>> {", *lines, mark + "# Ok(())", mark + "# }"]
+    return lines
+
+
+def asserted(line):
+    mark, code = re.match(r"(\s*//[/!] ?)(.*)", line).groups()
+    found = ASSERTED.match(code)
+    if not found:
+        return line
+    rest = f" // {found['rest'].lstrip(':,.; ')}" if found["rest"] else ""
+    value = found["value"]
+    test = {"true": f"assert!({found['code']});", "false": f"assert!(!{found['code']});"}
+    return mark + test.get(value, f"assert_eq!({found['code']}, {value});") + rest
