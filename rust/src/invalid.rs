@@ -1,4 +1,6 @@
-//! The errors for texts that are refused: compared, and kept longer than the text.
+//! The errors for texts that are refused: compared, kept longer than the text, and explained.
+use core::fmt;
+
 use crate::matching::InvalidLanguageRange;
 use crate::*;
 
@@ -38,3 +40,49 @@ macro_rules! errors {
 }
 
 for_text_types!(errors);
+
+impl<T: AsRef<str>> InvalidLangTag<T> {
+    /// Returns where the text goes wrong. `None` only of an error that was made of a tag.
+    ///
+    /// ```
+    /// use langtag::{LangTag, RefusalKind};
+    ///
+    /// let error = LangTag::new("de-419-DE").unwrap_err();
+    /// let refusal = error.refusal().unwrap();
+    /// assert_eq!(refusal.kind, RefusalKind::Subtag);
+    /// assert_eq!(&error.0[refusal.start..refusal.end], "DE");
+    /// ```
+    pub fn refusal(&self) -> Option<Refusal> {
+        Refusal::of(self.0.as_ref().as_bytes())
+    }
+
+    /// Returns why the text is refused, in words, to be displayed.
+    ///
+    /// ```
+    /// use langtag::LangTag;
+    ///
+    /// let error = LangTag::new("de-419-DE").unwrap_err();
+    /// assert_eq!(error.reason().to_string(), "`DE` does not fit there");
+    /// ```
+    pub fn reason(&self) -> impl fmt::Display + '_ {
+        Reason(self.0.as_ref())
+    }
+}
+
+/// Why a text is not a tag.
+struct Reason<'a>(&'a str);
+
+impl fmt::Display for Reason<'_> {
+    fn fmt(&self, f: &mut fmt::Formatter<'_>) -> fmt::Result {
+        let Some(refusal) = Refusal::of(self.0.as_bytes()) else {
+            return f.write_str("it is a tag");
+        };
+        let subtag = &self.0[refusal.start..refusal.end];
+        match refusal.kind {
+            RefusalKind::Subtag if subtag.is_empty() => f.write_str("a subtag is empty"),
+            RefusalKind::Subtag => write!(f, "`{subtag}` does not fit there"),
+            RefusalKind::Byte => write!(f, "`{subtag}` has a byte that is no letter and no digit"),
+            RefusalKind::End => f.write_str("it ends too soon"),
+        }
+    }
+}
