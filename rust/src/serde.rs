@@ -74,3 +74,25 @@ macro_rules! strings {
 }
 
 for_text_types!(strings);
+
+#[cfg(feature = "oxilangtag")]
+mod oxilangtag {
+    use core::ops::Deref;
+
+    use ::serde::de::{Deserialize, Deserializer, Error};
+    use ::serde::ser::{Serialize, Serializer};
+
+    use crate::oxilangtag::LanguageTag;
+
+    impl<T: Deref<Target = str>> Serialize for LanguageTag<T> {
+        fn serialize<S: Serializer>(&self, serializer: S) -> Result<S::Ok, S::Error> {
+            serializer.serialize_str(self.as_str())
+        }
+    }
+
+    impl<'de, T: Deref<Target = str> + Deserialize<'de>> Deserialize<'de> for LanguageTag<T> {
+        fn deserialize<D: Deserializer<'de>>(deserializer: D) -> Result<Self, D::Error> {
+            LanguageTag::parse(T::deserialize(deserializer)?).map_err(D::Error::custom)
+        }
+    }
+}

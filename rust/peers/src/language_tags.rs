@@ -1,7 +1,8 @@
 use std::fmt;
 use std::str::FromStr;
 
-use langtag_verified::LanguageRange;
+use langtag::matching::LanguageRange;
+use langtag::registry;
 
 use crate::parts::{accessors, normal, parsed, tag};
 use crate::ParseError;
@@ -21,11 +22,12 @@ impl LanguageTag {
     }
 
     pub fn validate(&self) -> Result<(), ParseError> {
-        tag(&self.text).validate().map_err(|_| ParseError)
+        registry::validate(tag(&self.text)).map_err(|_| ParseError)
     }
 
     pub fn canonicalize(&self) -> Result<LanguageTag, ParseError> {
-        Ok(LanguageTag { text: tag(&self.text).to_canonical().into_string() })
+        let form = registry::canonical(tag(&self.text)).map_err(|_| ParseError)?;
+        Ok(LanguageTag { text: form.into_string() })
     }
 
     /// Extended filtering, with the tag for a range.

@@ -1,10 +1,10 @@
-//! What the tests of oxilangtag and language-tags call, over `langtag_verified`: for the first the module that it has, and for
+//! What the tests of oxilangtag and language-tags call, over `langtag`: for the first the module that it has, and for
 //! the second types with its names and methods. What language-tags does beyond it or in another way stands behind two features.
 mod parts;
 
 pub mod language_tags;
 
-pub use langtag_verified::oxilangtag;
+pub use langtag::oxilangtag;
 
 use std::fmt;
 

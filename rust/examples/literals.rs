@@ -6,7 +6,7 @@
 //! ```
 //!
 //! It is written for the crate oxilangtag, and stands over it where the next line alone is changed.
-use langtag_verified::oxilangtag::{LanguageTag, LanguageTagParseError};
+use langtag::oxilangtag::{LanguageTag, LanguageTagParseError};
 
 use std::collections::{BTreeMap, BTreeSet};
 use std::error::Error;

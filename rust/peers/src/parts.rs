@@ -1,5 +1,5 @@
 //! The parts as both peers name them: of what is not made of parts, the whole text is the language.
-use langtag_verified::{LangTag, LangTagBuf};
+use langtag::{LangTag, LangTagBuf, NormalLangTag};
 
 use crate::ParseError;
 
@@ -17,10 +17,10 @@ pub fn parsed(text: &str) -> Result<String, ParseError> {
 }
 
 /// The tag, where it is to be read as having parts.
-pub fn normal(text: &str) -> Option<LangTag<'_>> {
+pub fn normal(text: &str) -> Option<NormalLangTag<'_>> {
     let tag = tag(text);
-    let has_parts = tag.is_normal() && !(cfg!(feature = "grandfathered_first") && tag.is_grandfathered());
-    has_parts.then_some(tag)
+    let is_whole = cfg!(feature = "grandfathered_first") && tag.is_grandfathered();
+    tag.as_normal().filter(|_| !is_whole)
 }
 
 macro_rules! accessors {
@@ -30,27 +30,27 @@ macro_rules! accessors {
         }
 
         pub fn primary_language(&self) -> &str {
-            normal(&self.text).map_or(&self.text, |tag| tag.language().unwrap().primary())
+            normal(&self.text).map_or(&self.text, |tag| tag.language().primary().into())
         }
 
         pub fn full_language(&self) -> &str {
-            normal(&self.text).map_or(&self.text, |tag| tag.language().unwrap().as_str())
+            normal(&self.text).map_or(&self.text, |tag| tag.language().into())
         }
 
         pub fn extended_language(&self) -> Option<&str> {
-            normal(&self.text)?.language()?.extension()
+            normal(&self.text)?.language().extension().map(Into::into)
         }
 
         pub fn extended_language_subtags(&self) -> impl Iterator<Item = &str> {
-            normal(&self.text).into_iter().flat_map(|tag| tag.language().unwrap().extension_subtags())
+            normal(&self.text).into_iter().flat_map(|tag| tag.language().extension_subtags()).map(Into::into)
         }
 
         pub fn script(&self) -> Option<&str> {
-            normal(&self.text)?.script()
+            normal(&self.text)?.script().map(Into::into)
         }
 
         pub fn region(&self) -> Option<&str> {
-            normal(&self.text)?.region()
+            normal(&self.text)?.region().map(Into::into)
         }
 
         pub fn variant(&self) -> Option<&str> {
@@ -58,7 +58,7 @@ macro_rules! accessors {
         }
 
         pub fn variant_subtags(&self) -> impl Iterator<Item = &str> {
-            normal(&self.text).into_iter().flat_map(|tag| tag.variants())
+            normal(&self.text).into_iter().flat_map(|tag| tag.variants()).map(Into::into)
         }
 
         pub fn extension(&self) -> Option<&str> {
@@ -67,15 +67,17 @@ macro_rules! accessors {
 
         pub fn extension_subtags(&self) -> impl Iterator<Item = (char, &str)> {
             let extensions = normal(&self.text).into_iter().flat_map(|tag| tag.extensions());
-            extensions.map(|extension| (extension.singleton(), &extension.as_str()[2..]))
+            extensions.map(|extension| (extension.singleton().into(), &extension.as_str()[2..]))
         }
 
         pub fn private_use(&self) -> Option<&str> {
-            tag(&self.text).private_use().map(|part| part.as_str())
+            let tag = tag(&self.text);
+            tag.private_use().or(tag.as_private_use()).map(Into::into)
         }
 
         pub fn private_use_subtags(&self) -> impl Iterator<Item = &str> {
-            tag(&self.text).private_use_subtags()
+            let tag = tag(&self.text);
+            tag.private_use().or(tag.as_private_use()).into_iter().flatten().map(Into::into)
         }
     };
 }
