@@ -55,6 +55,7 @@ mod private_use_lang_tag;
 mod recognise_text;
 mod recognised;
 mod recommended_case;
+mod refusal;
 mod repeats;
 mod text_of_parts;
 mod typed_lang_tag;
@@ -106,5 +107,6 @@ pub use part::{put_part, Part, Replacement};
 pub use private_use_lang_tag::PrivateUseLangTag;
 #[cfg(feature = "alloc")]
 pub use private_use_lang_tag::PrivateUseLangTagBuf;
+pub use refusal::{Refusal, RefusalKind};
 pub use repeats::is_among_first;
 pub use typed_lang_tag::TypedLangTag;
