@@ -7,6 +7,12 @@ use crate::shim::AllocError;
 use core::fmt;
 
 /// The part of an element that is bad: of `de-` its language range, of `de;q=2` its weight. Where both are, it is the range.
+///
+/// ```
+/// use langtag::matching::ElementPart;
+///
+/// assert_eq!(format!("{}", ElementPart::Range), "language range");
+/// ```
 #[derive(Debug)]
 pub enum ElementPart {
     /// What stands before the `;`, or the whole element without one, is not a basic language range.
@@ -26,6 +32,13 @@ impl fmt::Display for ElementPart {
 }
 
 /// Why a header was refused: `de, *-CH` is a `BadElement` with the index 1, the offset 3 and [`ElementPart::Range`].
+///
+/// ```
+/// use langtag::matching::{AcceptLanguage, AcceptLanguageError};
+///
+/// let error = AcceptLanguage::new("de, *-CH").err();
+/// assert!(matches!(error, Some(AcceptLanguageError::BadElement { index: 1, offset: 3, .. })));
+/// ```
 #[cfg(feature = "alloc")]
 #[derive(Debug)]
 pub enum AcceptLanguageError<'a> {

@@ -8,11 +8,11 @@
 //! use langtag::{ByteSource, Metered, recognise, viable_len};
 //!
 //! let mut source = Metered::new("fr-abc-bz-x-a");
-//! let ends = recognise(&mut source)?.ends()?;
-//! assert_eq!((ends.language, ends.script, ends.region, ends.whole), 6); // 6, 9, 13: no script, and the region is `bz`
+//! let ends = recognise(&mut source).and_then(|found| found.ends()).ok_or("no normal tag")?;
+//! assert_eq!((ends.language, ends.script, ends.region, ends.whole), (6, 6, 9, 13)); // no script, and the region is `bz`
 //!
 //! let mut source = Metered::new("i-notexist");
-//! assert_eq!(recognise(&mut source), None);
+//! assert!(recognise(&mut source).is_none());
 //! assert_eq!(source.reads(), 4); // no tag begins with `i-no`
 //!
 //! assert_eq!(viable_len(b"zh_Hant"), 2); // no tag begins with `zh_`
