@@ -22,7 +22,10 @@ fn keep_their_text() {
     assert_eq!(copy, tag);
     let (kept, copied) = (tag.into_string(), copy.into_string());
     assert!(kept.as_ptr() == place && copied.as_ptr() != place);
-    assert_eq!(LangTagBuf::new("a b".into()), Err(InvalidLangTag("a b".into())));
+    assert_eq!(
+        LangTagBuf::new("a b".into()),
+        Err(InvalidLangTag("a b".into()))
+    );
 }
 
 #[test]
@@ -33,7 +36,10 @@ fn are_made_of_lent_ones() {
     assert_eq!(lent, owned);
     assert_eq!(owned, String::from("ZH-hant-X-A"));
     assert_eq!(String::from("ZH-hant-X-A"), owned);
-    assert_eq!((owned.private_use(), LangTagBuf::from(lent)), (lent.private_use(), owned.clone()));
+    assert_eq!(
+        (owned.private_use(), LangTagBuf::from(lent)),
+        (lent.private_use(), owned.clone())
+    );
     assert_eq!(String::from(owned), "zh-Hant-x-a");
     // A reference to a tag has the same method, and not the one of ToOwned.
     let texts: Vec<LangTagBuf> = [lent].iter().map(|tag| tag.to_owned()).collect();
@@ -43,7 +49,10 @@ fn are_made_of_lent_ones() {
 #[test]
 fn are_keys() {
     let map = HashMap::from([(owned("en-US"), 1)]);
-    assert_eq!(map.get(&LangTagBuf::try_from(String::from("EN-us")).unwrap()), Some(&1));
+    assert_eq!(
+        map.get(&LangTagBuf::try_from(String::from("EN-us")).unwrap()),
+        Some(&1)
+    );
     assert_eq!("a b".parse::<LangTagBuf>().unwrap_err().0, "a b");
 }
 
@@ -60,21 +69,36 @@ fn are_found_by_what_owns_nothing() {
         assert_eq!(hashed.get(String::from(text).caseless()), Some(&1));
     }
     for text in ["en", "en-UK", "no tag", ""] {
-        assert_eq!((hashed.get(text.caseless()), sorted.get(text.caseless())), (None, None));
+        assert_eq!(
+            (hashed.get(text.caseless()), sorted.get(text.caseless())),
+            (None, None)
+        );
     }
     let borrowed = HashMap::from([(LangTag::new("de-CH").unwrap(), 2)]);
     assert_eq!(borrowed.get("DE-ch".caseless()), Some(&2));
     let scripts = BTreeMap::from([(ScriptBuf::try_from("Latn").unwrap(), 3)]);
-    assert_eq!(scripts.get(Script::new("LATN").unwrap().caseless()), Some(&3));
+    assert_eq!(
+        scripts.get(Script::new("LATN").unwrap().caseless()),
+        Some(&3)
+    );
 }
 
 #[test]
 fn are_compared_with_lent_ones() {
     let (owned, lent) = (owned("de-CH"), LangTag::new("de-AT").unwrap());
-    assert_eq!((lent < owned, owned < lent, LangTag::from(&owned) == owned), (true, false, true));
+    assert_eq!(
+        (lent < owned, owned < lent, LangTag::from(&owned) == owned),
+        (true, false, true)
+    );
     let text: Cow<str> = "DE-ch".into();
-    assert_eq!((owned == text, LangTag::from(&owned) == text, text == lent), (true, true, false));
-    assert_eq!(LangTagBuf::try_from("a b"), Err(InvalidLangTag("a b".into())));
+    assert_eq!(
+        (owned == text, LangTag::from(&owned) == text, text == lent),
+        (true, true, false)
+    );
+    assert_eq!(
+        LangTagBuf::try_from("a b"),
+        Err(InvalidLangTag("a b".into()))
+    );
 }
 
 #[test]
@@ -82,23 +106,75 @@ fn have_what_lent_ones_have() {
     let tag = owned("zh-yue-Hant-HK-1994-u-co-x-a");
     let lent = tag.as_lang_tag();
     assert_eq!((tag.kind(), tag.language()), (lent.kind(), lent.language()));
-    assert_eq!((tag.script().unwrap(), tag.region().unwrap()), (Script::new("Hant").unwrap(), Region::new("HK").unwrap()));
-    assert_eq!((tag.variants(), tag.extensions(), tag.private_use()), (lent.variants(), lent.extensions(), lent.private_use()));
-    assert!(tag.private_use_subtags().eq(lent.private_use_subtags()) && tag.subtags().eq(lent.subtags()));
+    assert_eq!(
+        (tag.script().unwrap(), tag.region().unwrap()),
+        (Script::new("Hant").unwrap(), Region::new("HK").unwrap())
+    );
+    assert_eq!(
+        (tag.variants(), tag.extensions(), tag.private_use()),
+        (lent.variants(), lent.extensions(), lent.private_use())
+    );
+    assert!(
+        tag.private_use_subtags().eq(lent.private_use_subtags())
+            && tag.subtags().eq(lent.subtags())
+    );
     assert_eq!(tag.as_bytes(), lent.as_bytes());
-    assert_eq!((tag.is_normal(), tag.is_private_use(), tag.is_grandfathered()), (true, false, false));
+    assert_eq!(
+        (
+            tag.is_normal(),
+            tag.is_private_use(),
+            tag.is_grandfathered()
+        ),
+        (true, false, false)
+    );
     assert_eq!(tag.as_typed().kind(), Kind::Normal);
     let normal = tag.clone().into_normal().unwrap();
-    assert_eq!((normal.language(), normal.script(), normal.region()), (lent.language().unwrap(), lent.script(), lent.region()));
-    assert_eq!((normal.ends(), normal.as_lang_tag()), (lent.as_normal().unwrap().ends(), lent));
+    assert_eq!(
+        (normal.language(), normal.script(), normal.region()),
+        (lent.language().unwrap(), lent.script(), lent.region())
+    );
+    assert_eq!(
+        (normal.ends(), normal.as_lang_tag()),
+        (lent.as_normal().unwrap().ends(), lent)
+    );
     let parts = (normal.variants().to_owned(), normal.extensions().to_owned());
-    assert_eq!((parts.0.first(), parts.0.last(), parts.0.iter().count()), (lent.variants().first(), lent.variants().last(), 1));
-    assert_eq!(parts.1.get(Singleton::new(b'U').unwrap()).unwrap().to_owned().singleton(), b'u');
-    assert!(normal.language().to_owned().extension().unwrap().to_owned().iter().eq(["yue"]));
+    assert_eq!(
+        (parts.0.first(), parts.0.last(), parts.0.iter().count()),
+        (lent.variants().first(), lent.variants().last(), 1)
+    );
+    assert_eq!(
+        parts
+            .1
+            .get(Singleton::new(b'U').unwrap())
+            .unwrap()
+            .to_owned()
+            .singleton(),
+        b'u'
+    );
+    assert!(normal
+        .language()
+        .to_owned()
+        .extension()
+        .unwrap()
+        .to_owned()
+        .iter()
+        .eq(["yue"]));
     let twice = owned("de-1996-1996-a-bb-A-cc").into_normal().unwrap();
-    assert_eq!((twice.repeated_variant().unwrap(), twice.repeated_singleton().unwrap()), (Variant::new("1996").unwrap(), Singleton::new(b'A').unwrap()));
-    assert_eq!(owned("I-hak").as_grandfathered(), Some(GrandfatheredLangTag::IHak));
-    assert_eq!((VariantsBuf::default(), ExtensionsBuf::default().len()), (Variants::EMPTY.to_owned(), 0));
+    assert_eq!(
+        (
+            twice.repeated_variant().unwrap(),
+            twice.repeated_singleton().unwrap()
+        ),
+        (Variant::new("1996").unwrap(), Singleton::new(b'A').unwrap())
+    );
+    assert_eq!(
+        owned("I-hak").as_grandfathered(),
+        Some(GrandfatheredLangTag::IHak)
+    );
+    assert_eq!(
+        (VariantsBuf::default(), ExtensionsBuf::default().len()),
+        (Variants::EMPTY.to_owned(), 0)
+    );
 }
 
 #[test]
@@ -109,7 +185,10 @@ fn are_edited() -> Result<(), Box<dyn Error>> {
     tag.set_private_use(None)?;
     assert_eq!(tag.as_str(), "sl-Latn-IT");
     let mut private = owned("x-a");
-    assert_eq!(private.set_region(Some(Region::new("DE")?)), Err(EditError::NotNormal));
+    assert_eq!(
+        private.set_region(Some(Region::new("DE")?)),
+        Err(EditError::NotNormal)
+    );
     let (language, script) = (Language::new("zh-yue")?, Script::new("Hant")?);
     let made = NormalLangTagBuf::from_parts(language, Some(script), Some(Region::new("HK")?))?;
     assert_eq!(made, NormalLangTag::new("zh-yue-Hant-HK")?);
@@ -122,7 +201,10 @@ fn ranges_are_stored() {
     let (lent, copy) = (range.as_language_range(), range.clone());
     assert_eq!((lent.is_basic(), copy.is_basic()), (false, false));
     assert_eq!((&copy, lent), (&range, LanguageRange::from(&copy)));
-    assert_eq!((range.as_str(), String::from(copy)), ("DE-*", "DE-*".into()));
+    assert_eq!(
+        (range.as_str(), String::from(copy)),
+        ("DE-*", "DE-*".into())
+    );
     assert!(range.fallbacks().eq(["DE-*", "DE"]));
     let refused = LanguageRangeBuf::try_from(String::from("de_"));
     assert_eq!(refused, Err(InvalidLanguageRange("de_".into())));
@@ -142,7 +224,11 @@ fn errors_outlive_their_text() {
     fn read_range(range: &str) -> Result<bool, InvalidLanguageRange<String>> {
         Ok(LanguageRange::new(range)?.is_basic())
     }
-    let error = |tag: &str, range: &str| read(&String::from(tag), &String::from(range)).unwrap_err().to_string();
+    let error = |tag: &str, range: &str| {
+        read(&String::from(tag), &String::from(range))
+            .unwrap_err()
+            .to_string()
+    };
     assert_eq!(error("en-", "*"), "invalid language tag");
     assert_eq!(error("de", "d*"), "invalid language range");
     assert_eq!(error("qt", "*"), "language qt is not registered");
@@ -161,10 +247,19 @@ fn callers() {
         language: LangTagBuf,
         original: Option<LangTagBuf>,
     }
-    assert_eq!((script_of("zh-Hant-TW").unwrap(), script_of("zh")), (Script::new("hant").unwrap().to_owned(), None));
-    let subtitles = Subtitles { language: owned("de"), original: Some(owned("EN")) };
+    assert_eq!(
+        (script_of("zh-Hant-TW").unwrap(), script_of("zh")),
+        (Script::new("hant").unwrap().to_owned(), None)
+    );
+    let subtitles = Subtitles {
+        language: owned("de"),
+        original: Some(owned("EN")),
+    };
     assert_eq!(subtitles.clone(), subtitles);
-    let regions: Vec<_> = ["de-CH", "zh", "fr-FR"].iter().filter_map(|text| LangTag::new(text).ok()?.region()).collect();
+    let regions: Vec<_> = ["de-CH", "zh", "fr-FR"]
+        .iter()
+        .filter_map(|text| LangTag::new(text).ok()?.region())
+        .collect();
     assert_eq!(regions, ["CH", "FR"]);
 }
 
@@ -172,10 +267,16 @@ fn callers() {
 fn headers() {
     let tags = ["en", "de-CH", "fr"].map(|text| LangTag::new(text).unwrap());
     let accepted = AcceptLanguage::lenient("FR;q=0.5, d!, de, *;q=0, nl;q=0.25").unwrap();
-    let read: Vec<_> = accepted.ranges().iter().map(|it| (it.range.as_str(), it.weight)).collect();
+    let read: Vec<_> = accepted
+        .ranges()
+        .iter()
+        .map(|it| (it.range.as_str(), it.weight))
+        .collect();
     assert_eq!(read, [("de", 1000), ("FR", 500), ("nl", 250)]);
     assert_eq!(accepted.look_up(&tags, tags[0]), "fr");
-    let AcceptLanguageError::BadElement { index, offset, .. } = AcceptLanguage::new("fr;q=0.3, de_CH").unwrap_err() else {
+    let AcceptLanguageError::BadElement { index, offset, .. } =
+        AcceptLanguage::new("fr;q=0.3, de_CH").unwrap_err()
+    else {
         panic!("there is memory");
     };
     assert_eq!((index, offset), (1, 9));
@@ -186,8 +287,14 @@ fn headers() {
 fn long_headers() {
     let begun = std::time::Instant::now();
     let tags = ["en", "de"].map(|text| LangTag::new(text).unwrap());
-    for header in ["ab-".repeat(300_000) + "ab", "a-".repeat(500_000) + "b", "de-CH,".repeat(170_000)] {
-        AcceptLanguage::lenient(&header).unwrap().look_up(&tags, tags[0]);
+    for header in [
+        "ab-".repeat(300_000) + "ab",
+        "a-".repeat(500_000) + "b",
+        "de-CH,".repeat(170_000),
+    ] {
+        AcceptLanguage::lenient(&header)
+            .unwrap()
+            .look_up(&tags, tags[0]);
     }
     assert!(begun.elapsed().as_secs() < 30, "{:?}", begun.elapsed());
 }

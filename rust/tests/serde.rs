@@ -33,17 +33,32 @@ struct Lent<'a> {
 fn owned() {
     let json = r#"{"language":"de-CH","original":null,"translations":["fr","ZH-hant"],"titles":{"en":"Bike"},"script":"Latn","wanted":"de-*"}"#;
     let text: Text = serde_json::from_str(json).unwrap();
-    assert_eq!((text.language.region().unwrap(), &text.original), (Region::new("CH").unwrap(), &None));
-    assert_eq!((text.translations[1].as_str(), text.titles.get("EN".caseless()).unwrap().as_str()), ("ZH-hant", "Bike"));
+    assert_eq!(
+        (text.language.region().unwrap(), &text.original),
+        (Region::new("CH").unwrap(), &None)
+    );
+    assert_eq!(
+        (
+            text.translations[1].as_str(),
+            text.titles.get("EN".caseless()).unwrap().as_str()
+        ),
+        ("ZH-hant", "Bike")
+    );
     assert_eq!(serde_json::to_string(&text).unwrap(), json);
-    assert_eq!(serde_json::from_reader::<_, Text>(json.as_bytes()).unwrap(), text);
+    assert_eq!(
+        serde_json::from_reader::<_, Text>(json.as_bytes()).unwrap(),
+        text
+    );
 }
 
 #[test]
 fn lent() {
     let json = r#"{"language":"de-CH","regions":["CH","419"],"wanted":"*-CH","counts":{"Latn":2}}"#;
     let text: Lent = serde_json::from_str(json).unwrap();
-    assert_eq!((text.language, text.regions.len(), text.counts.len()), (LangTag::new("de-ch").unwrap(), 2, 1));
+    assert_eq!(
+        (text.language, text.regions.len(), text.counts.len()),
+        (LangTag::new("de-ch").unwrap(), 2, 1)
+    );
     assert_eq!(serde_json::to_string(&text).unwrap(), json);
 }
 
@@ -54,14 +69,35 @@ fn refused<'a, T: Deserialize<'a>>(json: &'a str) -> String {
 
 #[test]
 fn refusals() {
-    assert_eq!(refused::<LangTagBuf>(r#""en_US""#), r#"invalid value: string "en_US", expected a language tag"#);
-    assert_eq!(refused::<ScriptBuf>(r#""Latin""#), r#"invalid value: string "Latin", expected a script"#);
-    assert_eq!(refused::<LanguageRangeBuf>(r#""de_""#), r#"invalid value: string "de_", expected a language range"#);
-    assert_eq!(refused::<LangTagBuf>("1"), "invalid type: integer `1`, expected a language tag");
-    assert_eq!(refused::<LangTag>(r#""en_US""#), r#"invalid value: string "en_US", expected a language tag, borrowed from the input"#);
+    assert_eq!(
+        refused::<LangTagBuf>(r#""en_US""#),
+        r#"invalid value: string "en_US", expected a language tag"#
+    );
+    assert_eq!(
+        refused::<ScriptBuf>(r#""Latin""#),
+        r#"invalid value: string "Latin", expected a script"#
+    );
+    assert_eq!(
+        refused::<LanguageRangeBuf>(r#""de_""#),
+        r#"invalid value: string "de_", expected a language range"#
+    );
+    assert_eq!(
+        refused::<LangTagBuf>("1"),
+        "invalid type: integer `1`, expected a language tag"
+    );
+    assert_eq!(
+        refused::<LangTag>(r#""en_US""#),
+        r#"invalid value: string "en_US", expected a language tag, borrowed from the input"#
+    );
     // A text with an escape can't be borrowed.
-    assert_eq!(refused::<LangTag>(r#""e\u006e""#), r#"invalid type: string "en", expected a language tag, borrowed from the input"#);
-    assert_eq!(serde_json::from_str::<LangTagBuf>(r#""e\u006e""#).unwrap(), "en");
+    assert_eq!(
+        refused::<LangTag>(r#""e\u006e""#),
+        r#"invalid type: string "en", expected a language tag, borrowed from the input"#
+    );
+    assert_eq!(
+        serde_json::from_str::<LangTagBuf>(r#""e\u006e""#).unwrap(),
+        "en"
+    );
 }
 
 #[test]

@@ -7,6 +7,8 @@ ghost use Rattle.langtag_scan.specs.Tag.{IsTag};
 ghost use Rattle.langtag_scan.specs.Viable.{IsViableLength, IsIrregularPrefix};
 ghost use Rattle.langtag.specs.Refusal.{AlphanumericWithin, EndsTooSoon, IsFirstOther, IsOpen, IsRefusedEnd, IsRefusedSubtag};
 ghost use Rattle.langtag.specs.Registered.{text_of};
+ghost use Rattle.langtag.specs.declared.refusal.Refusal.{Refusal};
+ghost use Rattle.langtag.specs.declared.refusal.RefusalKind.{RefusalKind};
 ghost use Rattle.langtag.specs.declared.refusal.RefusalKind.TheVariants as kind;
 
 use crate::grandfathered::{GRANDFATHERED, GrandfatheredLangTag};
@@ -58,6 +60,13 @@ impl Refusal {
         ensures whole { IfSome result (λ it. it.kind ≡ kind.Subtag → AlphanumericWithin bytes.now it.start it.end × (it.offset ≡ it.start)) }
         ensures byte { IfSome result (λ it. it.kind ≡ kind.Byte → IsFirstOther bytes.now it.start it.end it.offset) }
         ensures nothing { IfSome result (λ it. it.kind ≡ kind.End → (it.start ≡ length bytes.now) × (it.end ≡ length bytes.now) × (it.offset ≡ length bytes.now)) }
+
+        ensures compared { (a b : Refusal) → IsTrue (⟦<Refusal as PartialEq>⟧.eq a b) ↔ (a ≡ b) }
+        ensures kinds_compared { (a b : RefusalKind) → IsTrue (⟦<RefusalKind as PartialEq>⟧.eq a b) ↔ (a ≡ b) }
+        ensures cloned { (refusal copy : Refusal) → ⟦<Refusal as Clone>⟧.is_clone refusal copy → copy ≡ refusal }
+        ensures kind_cloned { (kind copy : RefusalKind) → ⟦<RefusalKind as Clone>⟧.is_clone kind copy → copy ≡ kind }
+        ensures clone_succeeds { (refusal : Refusal) → ⟦<Refusal as Clone>⟧.is_infallible refusal }
+        ensures clone_succeeds_of_kind { (kind : RefusalKind) → ⟦<RefusalKind as Clone>⟧.is_infallible kind }
     {
         if is_tag(bytes) {
             return None;

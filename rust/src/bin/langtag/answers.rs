@@ -260,22 +260,25 @@ pub fn distance_in(line: &[u8], options: &Options) -> Answer {
         .filter(|word| !word.is_empty());
     match (words.next(), words.next(), words.next()) {
         (Some(desired), Some(supported), None) => distance_of(desired, supported, options),
-        _ => Answer::of(line, &["-"], options, "")
-            .because("two tags are wanted in a line: A B".into()),
+        _ => between(line, b"", "-", options).because("two tags are wanted in a line: A B".into()),
     }
 }
 
 pub fn distance_of(desired: &[u8], supported: &[u8], options: &Options) -> Answer {
-    let both = [desired, supported].join(&b' ');
     match (LangTag::from_bytes(desired), LangTag::from_bytes(supported)) {
-        (Ok(desired), Ok(supported)) => Answer::of(
-            &both,
-            &[&distance(desired, supported).to_string()],
-            options,
-            "",
-        ),
+        (Ok(from), Ok(to)) => between(desired, supported, &distance(from, to).to_string(), options),
         (Err(error), _) | (_, Err(error)) => {
-            Answer::of(&both, &["-"], options, "").because(pointer::refused(error.0))
+            between(desired, supported, "-", options).because(pointer::refused(error.0))
         }
     }
+}
+
+fn between(desired: &[u8], supported: &[u8], distance: &str, options: &Options) -> Answer {
+    let supported = String::from_utf8_lossy(supported);
+    let columns: &[&str] = if options.tsv {
+        &[&supported, distance]
+    } else {
+        &[distance]
+    };
+    Answer::of(desired, columns, options, "")
 }

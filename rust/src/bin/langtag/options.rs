@@ -5,24 +5,28 @@ use langtag::likely::CLDR_VERSION;
 use langtag::registry::FILE_DATE;
 
 const HELP: &str = "\
-langtag COMMAND [--tsv] [TEXT..]       language tags (BCP 47): arguments, or else lines of standard input
+langtag COMMAND [--tsv] [TEXT..]
+Asks language tags (BCP 47): the arguments, or else the lines of standard input.
 
-  show [TAG..]            the kind and the parts     zh-TW    normal language=zh script= region=TW ..
-  check [TAG..]           validity, canonical form   iw-FQ    invalid region=FQ canonical=he-FQ
-  canonical [TAG..]       the canonical form         iw       he
-  maximize [TAG..]        with likely subtags        zh-TW    zh-Hant-TW
-  minimize [TAG..]        without likely subtags     zh-Hant-TW    zh-TW
-  best HEADER [TAG..]     the best tag for an Accept-Language header, or -
-  distance [A B]          how far B is from A: 0 is nearest, 255 unknown; a line is A and B
-  match RANGE [TAG..]     the tags that a language range matches
+  show [TAG..]          kind and parts: normal language=zh script= region=TW ..
+  check [TAG..]         validity and canonical form: invalid region=FQ canonical=..
+  canonical [TAG..]     the canonical form: he of iw
+  maximize [TAG..]      with likely subtags: zh-Hant-TW of zh-TW
+  minimize [TAG..]      without likely subtags: zh-TW of zh-Hant-TW
+  best HEADER [TAG..]   the best tag for an Accept-Language header
+  distance [A B]        how far B is from A: 0 is nearest, 255 is unknown
+  match RANGE [TAG..]   the tags that a language range matches
 
-  --tsv      the text, a tab, and the answer in columns; of `match`, all texts with yes or no
-  --basic    `match` by basic filtering (RFC 4647 section 3.3.1), not by extended filtering
+  --tsv       the text, a tab, and the answer in columns; `match` answers yes or no
+  --basic     `match` filters by RFC 4647 section 3.3.1, not by section 3.3.2
   --help, --version
 
-A text that is not a tag is `refused`, or -. Arguments are explained on standard error.
-Status: 0 if all is well; 1 if a text is refused, not valid, or nothing is found; 2 for wrong arguments;
-3 out of memory; 4 if a read failed; 5 if a write failed.
+A text that is not a tag is `refused`, or `-`. Standard error says why if the texts
+are arguments. The status is
+  0  all is well                           3  out of memory
+  1  a text is refused or not valid,       4  a read failed
+     or nothing is found                   5  a write failed
+  2  an argument is wrong
 ";
 
 #[derive(Clone, Copy, Debug, PartialEq, Eq)]
