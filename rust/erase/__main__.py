@@ -1,0 +1,101 @@
+"""Takes the contracts out of the Rattle sources: what is left is the Rust crate.
+
+    python3 rust/erase           writes the modules below rust/src
+    python3 rust/erase --check   says by what they differ from what it would write
+"""
+import filecmp
+import pathlib
+import shutil
+import subprocess
+import sys
+import tempfile
+
+from crates import MODULES
+from docs import erase_docs
+from errors import erase_derives
+from exports import keep_inside
+from features import mark_owning, owning_items
+from ghosts import erase_ghosts
+from memory import erase_allocators
+from paths import add_imports, erase_imports, erase_paths
+from rust import erase_forms, mark_inlined
+from tokens import Code
+
+RUST = pathlib.Path(__file__).resolve().parent.parent
+CRATES = RUST.parent / "crates"
+
+
+def erase(source, module):
+    """Returns the code of a source without its contracts, and the names of its free functions with a condition."""
+    code = Code(source.read_text(encoding="utf-8"))
+    conditional = erase_ghosts(code)
+    erase_derives(code)
+    erase_allocators(code)
+    erase_forms(code)
+    mark_inlined(code)
+    erase_paths(code, module)
+    erase_imports(code)
+    add_imports(code)
+    erase_docs(code, module)
+    return code, conditional
+
+
+def head(source):
+    return f"// Made by rust/erase from {source.relative_to(RUST.parent)}. Change that file, not this one.\n\n"
+
+
+def write(out):
+    """Writes all modules below a folder."""
+    files, conditional = {}, set()
+    for module in MODULES:
+        for source in sorted((CRATES / module.crate / "src").glob("*.rt")):
+            name = "mod.rs" if source.stem == "lib" else source.stem + ".rs"
+            code, names = erase(source, module)
+            files[source, out / module.folder / name] = code
+            conditional |= names
+    finish(files.values(), conditional)
+    for (source, path), code in files.items():
+        path.parent.mkdir(parents=True, exist_ok=True)
+        path.write_text(head(source) + str(code), encoding="utf-8")
+    roots = [out / module.folder / "mod.rs" for module in MODULES]
+    subprocess.run(["rustfmt", "--edition", "2021", *roots], check=True)
+
+
+def finish(files, conditional):
+    """Does what takes a look at all files: what is for the crate alone, and what is left out without `alloc`."""
+    for code in files:
+        keep_inside(code, conditional)
+    owning = owning_items(files)
+    for code in files:
+        mark_owning(code, owning)
+
+
+def differences(new, old):
+    """Names the files that differ, or that one of the two folders lacks."""
+    found = filecmp.dircmp(new, old)
+    for name in found.left_only + found.right_only + found.funny_files:
+        yield old / name
+    for name in found.common_files:
+        if (new / name).read_bytes() != (old / name).read_bytes():
+            yield old / name
+    for name in found.common_dirs:
+        yield from differences(new / name, old / name)
+
+
+def main(arguments):
+    with tempfile.TemporaryDirectory() as folder:
+        out = pathlib.Path(folder)
+        write(out)
+        folders = [module.folder for module in MODULES]
+        if arguments == ["--check"]:
+            stale = [path for name in folders for path in differences(out / name, RUST / name)]
+            for path in stale:
+                print(f"rust/erase: {path.relative_to(RUST.parent)} is not what the eraser writes: run python3 rust/erase")
+            return bool(stale)
+        for name in folders:
+            shutil.rmtree(RUST / name, ignore_errors=True)
+            shutil.move(out / name, RUST / name)
+
+
+if __name__ == "__main__":
+    sys.exit(main(sys.argv[1:]))

@@ -1,0 +1,75 @@
+"""Doc comments: the examples become code that rustdoc runs, and names are those of the Rust crate."""
+import re
+
+from crates import MODULES, public_path_of
+
+TEXT = r"""b?"(?:[^"\\]|\\.)*"|b?'(?:[^'\\]|\\.)+'"""
+IN_PARENTHESES = r"\((?:[^()]|\((?:[^()]|\([^()]*\))*\))*\)"
+VALUE = rf"(?:{TEXT}|\d+|true|false|None|(?:Some|Ok|Err|){IN_PARENTHESES}|[A-Z]\w*::\w+)"
+ASSERTED = re.compile(rf"(?P<code>(?!let ).*\S);\s+// (?P<value>{VALUE})(?:[:,.;] ?(?P<rest>.*))?$")
+
+
+def erase_docs(code, module):
+    for token in code.tokens:
+        if "///" in token.before or "//!" in token.before:
+            token.before = with_examples(with_names(token.before, module))
+
+
+def with_names(text, module):
+    """Names paths as users of the crate do, and takes the allocator out of calls."""
+    text = re.sub(r"(\]\(|\]: |)\b(crate|langtag\w*)::(?=[\w{])", lambda it: it[1] + name_of(it[2], module, it[1]) + "::", text)
+    return re.sub(r"(?<=[(\s])alloc, |, alloc\b(?=\))|(?<=\()alloc(?=\))", "", text)
+
+
+def name_of(word, module, is_link):
+    path = public_path_of(module.crate if word == "crate" else word) or word
+    return path.replace("langtag", "crate") if is_link else path
+
+
+def with_examples(before):
+    """Changes the lines of each block of code between the marks."""
+    out, block = [], None
+    for line in before.split("\n"):
+        mark, text = re.match(r"(\s*//[/!] ?|)(.*)", line).groups()
+        is_fence = mark and text.startswith("```")
+        if is_fence and block is not None:
+            out += doc_test(block, mark.rstrip() + " ")
+            block = None
+        elif is_fence:
+            block = []
+            out.append(line)
+            continue
+        (out if block is None else block).append(line)
+    return "\n".join(out)
+
+
+def doc_test(lines, mark):
+    """Returns the lines of an example, in a `main` that can fail, where a value after an expression is asserted."""
+    lines = [re.sub(r"assert(_eq|_ne|)!\(rt; ", r"assert\1!(", line) for line in lines]
+    lines = [asserted(line) for line in lines]
+    if any(can_fail(line) for line in lines):
+        return [mark + "# fn main() -> Result<(), Box<dyn std::error::Error>> {", *lines, mark + "# Ok(())", mark + "# }"]
+    return lines
+
+
+def can_fail(line):
+    code = re.sub(rf"^\s*//[/!]|{TEXT}", "", line)
+    return "?" in code.partition("//")[0]
+
+
+def asserted(line):
+    """`a; // value: why` becomes `assert_eq!(a, value); // why`."""
+    mark, code = re.match(r"(\s*//[/!] ?)(.*)", line).groups()
+    found = ASSERTED.match(code)
+    if not found:
+        return line
+    rest = f" // {found['rest']}" if found["rest"] else ""
+    return mark + assertion(found["code"], found["value"]) + rest
+
+
+def assertion(code, value):
+    if value == "true":
+        return f"assert!({code});"
+    if value == "false":
+        return f"assert!(!({code}));" if " == " in code else f"assert!(!{code});"
+    return f"assert_eq!({code}, {value});"

@@ -1,0 +1,88 @@
+"""Writes out what Rattle's crates derive and Rust's would need a crate for: thiserror's impls, and comparisons by one field."""
+import re
+
+from tokens import words_of
+
+DISPLAY = """
+
+impl{bound} fmt::Display for {type} {{
+    fn fmt(&self, f: &mut fmt::Formatter<'_>) -> fmt::Result {{
+        {body}
+    }}
+}}
+
+impl{debug} core::error::Error for {type} {{}}
+"""
+
+
+class Item:
+    """A struct or an enum: its name, its parameter and where it begins and ends."""
+
+    def __init__(self, code, place):
+        while code[place] not in ("struct", "enum"):
+            place = code.after(place)
+        self.kind, self.name, self.start = code[place], code[place + 1], place
+        generic = code.tokens[place + 3] if code[place + 2] == "<" else None
+        has_lifetime = generic and generic.kind == "lifetime"
+        self.parameter = generic.text if generic and not has_lifetime else ""
+        self.type = self.name + (f"<{self.parameter}>" if self.parameter else "<'_>" if has_lifetime else "")
+        self.body = code.next_of(("{", "("), place)
+        self.end = code.after(self.body) - 1
+        if code[self.end + 1] == ";":
+            self.end += 1
+
+
+def erase_derives(code):
+    place = 0
+    while (place := code.find("#[derive", place)) >= 0:
+        traits = [token.text for token in code.tokens[place + 4 : code.after(place + 1) - 2] if token.text != ","]
+        kept = [trait for trait in traits if trait not in ("Drop", "Error")]
+        end = code.after(place + 1)
+        if "Error" in traits:
+            write_error_impls(code, end)
+        if kept != traits:
+            code.replace(place, end, f"#[derive({', '.join(kept)})]" if kept else "")
+        place += 1 if kept else 0
+    erase_compared(code)
+
+
+def write_error_impls(code, place):
+    item = Item(code, place)
+    body = message_of_struct(code, place, item) if item.kind == "struct" else messages_of_enum(code, item)
+    item = Item(code, place)
+    bounds = (f"<{item.parameter}>", f"<{item.parameter}: fmt::Debug>") if item.parameter else ("", "")
+    code.add_behind(item.end, DISPLAY.format(bound=bounds[0], debug=bounds[1], type=item.type, body=body))
+
+
+def message_of_struct(code, place, item):
+    start = code.find("#[error(", place, item.start)
+    message = code[start + 4]
+    code.replace(start, code.after(start + 1), "")
+    return f"f.write_str({message})"
+
+
+def messages_of_enum(code, item):
+    """Takes the attribute `error` from each variant, and returns the `match` that writes its message."""
+    arms = []
+    while (start := code.find("#[error(", item.body, Item(code, item.start).end)) >= 0:
+        message = code[start + 4]
+        code.replace(start, code.after(start + 1), "")
+        arms.append(arm_of(item.name, code[start], code[start + 1], message))
+    return f"match self {{ {' '.join(arms)} }}"
+
+
+def arm_of(name, variant, opening, message):
+    used = re.findall(r"\{(\w+)\}", message)
+    fields = {"(": "(value)" if used else "(_)", "{": f" {{ {', '.join([*used, '..'])} }}"}.get(opening, "")
+    message = message.replace("{0}", "{value}")
+    return f"{name}::{variant}{fields} => " + (f"write!(f, {message})," if used else f"f.write_str({message}),")
+
+
+def erase_compared(code):
+    """`derive_where`, which the tag types have: they are compared, hashed and shown by their text alone."""
+    while (place := code.find("#[derive_where")) >= 0:
+        end = code.after(place + 1)
+        if not code.at(place + 3, *words_of("(skip)")):
+            item = Item(code, end)
+            code.add_behind(item.end, f"\n\nby_text!({item.type});\n")
+        code.replace(place, end, "")

@@ -1,0 +1,85 @@
+"""The feature `alloc`: what owns memory is left out without it.
+
+An item that names a String, a Vec, an AllocError or another item that is left out is left out itself. In an impl of a type
+that stays, methods are.
+"""
+import re
+
+LEFT_OUT = '#[cfg(feature = "alloc")]\n'
+OWNING = {"String", "Vec", "AllocError", "TryText", "TryItems", "try_string", "try_vec", "try_string_with_capacity"}
+METHODS = {"try_to_owned", "make_recommended_case", "into_string", "try_to_recommended_case"}
+NAMED_ITEMS = ("fn", "struct", "enum", "type", "const")
+
+
+class Item:
+    """An item: where it and its attributes begin, its keyword, where its body begins, its last token."""
+
+    def __init__(self, code, place):
+        self.start = place
+        while code[place] == "#":
+            place = code.after(place + (2 if code[place + 1] == "!" else 1))
+        while code[place] in ("pub", "unsafe") or code.at(place, "const", "fn"):
+            place = code.after(place + 1) if code[place + 1] == "(" else place + 1
+        self.keyword, self.word = place, code[place]
+        is_value = self.word in ("use", "const", "static")
+        self.body = code.next_of((";",) if is_value else (";", "{"), place)
+        self.end = code.after(self.body) - 1
+
+
+def items(code, place, end):
+    while place < end:
+        item = Item(code, place)
+        yield item
+        place = item.end + 1
+
+
+def names(code, start, end):
+    """The names in some code but for those of methods and fields."""
+    is_name = lambda at: code.tokens[at].kind == "word" and code[at - 1] != "." and not code.at(at - 3, "mem", ":", ":")
+    return {code[at] for at in range(start, end) if is_name(at)}
+
+
+def parts(code, owning):
+    """Returns the items of a file, and in place of an impl of a type that stays what is in it; with whether it was in one."""
+    for item in items(code, 0, len(code)):
+        if item.word == "impl" and not names(code, item.keyword, item.body) & owning:
+            yield from ((inner, True) for inner in items(code, item.body + 1, item.end))
+        else:
+            yield item, False
+
+
+def owning_items(files):
+    """Returns the names of all items that are left out without `alloc`."""
+    owning, before = set(OWNING), 0
+    while len(owning) > before:
+        before = len(owning)
+        for code in files:
+            for item, inner in parts(code, owning):
+                if item.word in NAMED_ITEMS and not inner and names(code, item.keyword, item.end) & owning:
+                    owning.add(code[item.keyword + 1])
+    return owning
+
+
+def mark_owning(code, owning):
+    for item, _ in reversed(list(parts(code, owning))):
+        if item.word == "mod":
+            continue
+        calls = {code[at + 1] for at in range(item.keyword, item.end) if code[at] == "."}
+        used = names(code, item.keyword, item.end)
+        if item.word == "use" and used & owning:
+            split_import(code, item, owning)
+        elif used & owning or calls & METHODS:
+            code.replace(item.start, item.start, LEFT_OUT)
+
+
+def split_import(code, item, owning):
+    """Imports what is always there and what is left out in two lines."""
+    text = code.text_of(item.start, item.end)
+    root, brace, listed = text.partition("{")
+    listed = re.findall(r"\w+(?: as \w+)?", listed)
+    stays = [name for name in listed if name not in owning]
+    if not brace or not stays:
+        code.replace(item.start, item.start, LEFT_OUT)
+        return
+    goes = ", ".join(name for name in listed if name in owning)
+    code.replace(item.start, item.end + 1, f"{root}{{{', '.join(stays)}}};\n{LEFT_OUT}{root}{{{goes}}};")

@@ -1,0 +1,38 @@
+"""Allocation: Rattle's std takes an allocator and returns a Result; in Rust the functions of src/shim.rs do."""
+
+FORMS = [
+    ("alloc: Global,", ""),
+    (", alloc: Global", ""),
+    ("alloc: Global", ""),
+    ("String::from_str(alloc,", "try_string("),
+    ("String::with_capacity(alloc,", "try_string_with_capacity("),
+    ("String::new(*text.allocator())", "String::new()"),
+    ("Vec::new(alloc)", "Vec::new()"),
+    ("vec![in alloc; $item; $len]", "try_vec($item, $len)"),
+    ("alloc,", ""),
+    (", alloc", ""),
+    ("(alloc)", "()"),
+]
+METHODS = ["push", "push_str", "replace_range", "sort_by_key"]
+
+
+def erase_allocators(code):
+    for old, new in FORMS:
+        code.rewrite(old, new)
+    if "AllocError" in code.words():
+        for method in METHODS:
+            code.rewrite(f".{method}(", f".try_{method}(")
+    erase_clones(code)
+
+
+def erase_clones(code):
+    """`Clone` of a walk: it copies, so that it has no error."""
+    place = 0
+    while (place := code.find("impl", place)) >= 0:
+        body = code.next_of(("{",), place)
+        if code.find("Clone for", place, body) >= 0:
+            code.rewrite_once("Result<Self, AllocError>", "Self", body)
+            code.rewrite_once("Ok($value)", "$value", body)
+            while (call := code.find(".clone()?", body, code.after(body))) >= 0:
+                code.replace(call + 4, call + 5, "")
+        place = body

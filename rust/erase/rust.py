@@ -1,0 +1,72 @@
+"""What Rattle writes otherwise than Rust of edition 2021."""
+import re
+
+INLINED = 40  # A function of so few tokens is inlined across crates.
+
+FORMS = [
+    ("fn fmt<W: fmt::Write>", "fn fmt"),
+    ("fmt::Formatter<W>", "fmt::Formatter<'_>"),
+    (
+        "let ascii = unsafe { str::from_utf8_unchecked(bytes) };",
+        "let Ok(ascii) = core::str::from_utf8(bytes) else { return Err(InvalidLangTag(bytes)); };",
+    ),
+    ("unsafe { String::from_utf8_unchecked(bytes) }", "String::from_utf8(bytes).unwrap_or_default()"),
+]
+
+
+def erase_forms(code):
+    for old, new in FORMS:
+        code.rewrite(old, new)
+    for place in range(len(code) - 1, -1, -1):
+        if code.at(place, "str", ":", ":", "from_utf8") and code[place - 1] != ":":
+            code.replace(place, place + 1, "core::str")
+    for token in code.tokens:
+        token.before = re.sub(r"// SAFETY:[^\n]*\n(?:\s*//[^\n]*\n)*\s*", "", token.before)
+    nest_let_chains(code)
+
+
+def nest_let_chains(code):
+    """`if a && let b = c {..}` becomes `if a { if let b = c {..} }`: chains of them are of a later edition."""
+    place = 0
+    while (place := code.find("if", place)) >= 0:
+        place += 1
+        body, ands = condition(code, place)
+        if ands and code[body] == "{" and any(code[at] == "let" for at in (place, *(at + 2 for at in ands))):
+            nest(code, ands, body)
+
+
+def condition(code, place):
+    """Returns where a condition ends, and where it has `&&` outside of all groups."""
+    ands = []
+    while code[place] != "{" and not code.at(place, "=", ">"):
+        if code.at(place, "&", "&"):
+            ands.append(place)
+            place += 1
+        place = code.after(place)
+    return place, ands
+
+
+def nest(code, ands, body):
+    behind = code.after(body)
+    if code[behind] == "else":
+        raise ValueError("a let chain with an else")
+    code.add_behind(behind - 1, "}" * len(ands))
+    for at in reversed(ands):
+        code.replace(at, at + 2, "{ if")
+
+
+def mark_inlined(code):
+    """Marks short functions. Private ones too: without it, calls between the modules of this crate cost a quarter more."""
+    place = 0
+    while (place := code.find("fn", place)) >= 0:
+        start = start_of_function(code, place)
+        body = next((at for at in range(place, len(code)) if code[at] in ("{", ";")), place)
+        if code[body] == "{" and code.tokens[place + 1].kind == "word" and code.after(body) - body <= INLINED + 1 and code[start - 1] != "]":
+            place = code.replace(start, start, "#[inline]\n") + (place - start)
+        place += 1
+
+
+def start_of_function(code, place):
+    while code[place - 1] in ("pub", "crate", "(", ")", "const", "unsafe") and code[place] != "pub":
+        place -= 1
+    return place

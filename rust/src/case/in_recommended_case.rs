@@ -1,0 +1,49 @@
+// Made by rust/erase from crates/langtag_case/src/in_recommended_case.rt. Change that file, not this one.
+
+//! A text that is displayed in its recommended case.
+
+use crate::case::recommended_bytes::RecommendedBytes;
+use crate::case::recommended_case::is_in_recommended_case;
+use core::fmt;
+use core::fmt::Write as _;
+
+/// An ASCII text, as each tag is, that is displayed in the case that RFC 5646 section 2.1.1 recommends: `MN-cYRL-mn` is
+/// displayed as `mn-Cyrl-MN`.
+///
+/// It allocates no memory. A text that is in its recommended case already is written in one piece, and any other text one
+/// byte at a time.
+///
+/// ```
+/// # fn main() -> Result<(), Box<dyn std::error::Error>> {
+/// use langtag::LangTag;
+///
+/// let tag = LangTag::new("MN-cYRL-mn")?;
+/// assert_eq!(format!("{}", tag.in_recommended_case()), "mn-Cyrl-MN");
+/// # Ok(())
+/// # }
+/// ```
+#[derive(Clone, Copy, Debug)]
+pub struct InRecommendedCase<'a> {
+    text: &'a str,
+}
+
+impl<'a> InRecommendedCase<'a> {
+    /// Displays an ASCII text in its recommended case. It is proved that a clone succeeds and is the same value.
+    #[inline]
+    pub(crate) fn from_checked(text: &'a str) -> Self {
+        InRecommendedCase { text }
+    }
+}
+
+impl fmt::Display for InRecommendedCase<'_> {
+    fn fmt(&self, f: &mut fmt::Formatter<'_>) -> fmt::Result {
+        let bytes = self.text.as_bytes();
+        if is_in_recommended_case(bytes) {
+            return f.write_str(self.text);
+        }
+        for byte in RecommendedBytes::new(bytes) {
+            f.write_char(char::from(byte))?;
+        }
+        Ok(())
+    }
+}

@@ -1,0 +1,50 @@
+// Made by rust/erase from crates/langtag_case/src/recommended_case.rt. Change that file, not this one.
+
+//! Putting a text into its recommended case, and testing for it.
+
+use crate::case::piece::Piece;
+use crate::case::recommended_bytes::RecommendedBytes;
+
+/// Puts the letters of a text into the case that RFC 5646 section 2.1.1 recommends for a tag, as in `mn-Cyrl-MN`,
+/// `en-CA-x-ca` and `az-Latn-x-latn`.
+///
+/// The first subtag, and each subtag after one of a single byte, becomes lowercase. Of the others, those of two bytes become
+/// uppercase, those of four bytes titlecase, and the rest lowercase. A byte that is not an ASCII letter stays as it is.
+///
+/// Texts that differ in the case of letters alone become the same bytes, so the result can be a key where bytes are
+/// compared.
+#[inline]
+pub fn make_recommended_case(text: &mut [u8]) {
+    text.make_ascii_lowercase();
+    capitalise_pieces(text);
+}
+
+/// Puts a lowercase text into its recommended case, piece by piece.
+fn capitalise_pieces(text: &mut [u8]) {
+    let mut end = Piece::first(text).len;
+    while end < text.len() {
+        let start = end + 1;
+        let piece = Piece::later(&text[start..]);
+        end = start + piece.len;
+        capitalise(&mut text[start..end], piece.capitals);
+    }
+}
+
+/// Capitalises the first letters of a lowercase text. There is nearly always one letter or none, which needs no loop.
+#[inline]
+fn capitalise(text: &mut [u8], capitals: usize) {
+    match capitals {
+        0 => {}
+        1 => text[0].make_ascii_uppercase(),
+        _ => text[..capitals].make_ascii_uppercase(),
+    }
+}
+
+/// Returns `true` if the text is in its recommended case, so that [`make_recommended_case`] would change nothing: true of
+/// `en-CA-x-ca`, false of `en-CA-x-CA`.
+#[inline]
+pub fn is_in_recommended_case(text: &[u8]) -> bool {
+    RecommendedBytes::new(text)
+        .cmp(text.iter().copied())
+        .is_eq()
+}

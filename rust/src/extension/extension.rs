@@ -1,0 +1,223 @@
+// Made by rust/erase from crates/langtag_extension/src/extension.rt. Change that file, not this one.
+
+//! An extension (RFC 5646 section 2.2.6).
+
+use crate::extension::extension_iter::ExtensionIter;
+use crate::extension::singleton::Singleton;
+use crate::scan::{into_smallcase, is_extension_subtag, is_singleton, Caseless, Subtags};
+#[cfg(feature = "alloc")]
+use crate::shim::{try_string, AllocError};
+#[cfg(feature = "alloc")]
+use alloc::string::String;
+use core::fmt;
+
+/// The error for a text that is not an extension. It hands the text back.
+///
+/// ```
+/// use langtag::Extension;
+///
+/// let error = Extension::new("u").err();
+/// assert_eq!(error.map(|error| error.0), Some("u"));
+/// ```
+#[derive(Debug)]
+pub struct InvalidExtension<T>(pub T);
+
+impl<T> fmt::Display for InvalidExtension<T> {
+    #[inline]
+    fn fmt(&self, f: &mut fmt::Formatter<'_>) -> fmt::Result {
+        f.write_str("invalid extension")
+    }
+}
+
+impl<T: fmt::Debug> core::error::Error for InvalidExtension<T> {}
+
+/// An extension (RFC 5646 section 2.2.6): a singleton and one or more subtags of two to eight letters and digits, as
+/// `u-co-phonebk`.
+///
+/// Two extensions are equal where their texts differ at most in the case of ASCII letters: `u-co` and `U-CO` are.
+///
+/// ```
+/// # fn main() -> Result<(), Box<dyn std::error::Error>> {
+/// use langtag::Extension;
+///
+/// let extension = Extension::new("u-co")?;
+/// assert_eq!(extension.as_str(), "u-co");
+/// assert!(extension == Extension::new("U-CO")?);
+/// # Ok(())
+/// # }
+/// ```
+#[derive(Clone, Copy, Debug, PartialEq, Eq, PartialOrd, Ord, Hash)]
+pub struct Extension<'a> {
+    text: Caseless<&'a str>,
+}
+
+impl<'a> Extension<'a> {
+    /// Parses a text as an extension: `Extension::new("u-co-phonebk")` is Ok.
+    ///
+    /// # Errors
+    ///
+    /// A text that is not one extension comes back: one without a subtag, as `a`, or with two singletons, as
+    /// `a-bb-b-cc`, or with the mark of private use in the singleton's place, as `x-bb`. `Extension::new("a")` is
+    /// `Err(InvalidExtension("a"))`.
+    #[inline]
+    pub fn new(text: &'a str) -> Result<Extension<'a>, InvalidExtension<&'a str>> {
+        if !is_extension(text) {
+            return Err(InvalidExtension(text));
+        }
+        Ok(Extension::from_checked(text))
+    }
+
+    /// Returns the extension of a text that is known to be one, without a test.
+    /// `Extension::from_checked(extension.as_str())` is equal to `extension`.
+    #[inline]
+    pub(crate) fn from_checked(text: &'a str) -> Extension<'a> {
+        Extension {
+            text: Caseless(text),
+        }
+    }
+
+    /// Returns the text, with its case: `Extension::new("U-CO")?.as_str()` is `"U-CO"`.
+    #[inline]
+    pub fn as_str(&self) -> &'a str {
+        self.text.0
+    }
+
+    /// Returns the bytes of the text: `Extension::new("U-CO")?.as_bytes()` is `b"U-CO"`.
+    #[inline]
+    pub fn as_bytes(&self) -> &'a [u8] {
+        self.as_str().as_bytes()
+    }
+
+    /// Returns whether another text, of any form, is equal but for the case of ASCII letters:
+    /// `Extension::new("u-co")?.eq_str("U-CO")` is true. It is proved that extensions are compared, ordered and hashed
+    /// so, and that a clone is the value itself.
+    #[inline]
+    pub fn eq_str(&self, other: &str) -> bool {
+        self.text == Caseless(other)
+    }
+
+    /// Returns the owned form of the same text: `Extension::new("U-CO")?.try_to_owned()?.as_str()` is `"U-CO"`.
+    ///
+    /// # Errors
+    ///
+    /// Out of memory.
+    #[cfg(feature = "alloc")]
+    #[inline]
+    pub fn try_to_owned(&self) -> Result<ExtensionBuf, AllocError> {
+        let text = try_string(self.as_str())?;
+        Ok(ExtensionBuf {
+            text: Caseless(text),
+        })
+    }
+
+    /// Returns the singleton that opens the extension, with its case: `U` of `U-co-phonebk`.
+    #[inline]
+    pub fn singleton(&self) -> Singleton {
+        Singleton::from_checked(self.as_bytes()[0])
+    }
+
+    /// Whether the extension is opened by the singleton, without regard to case.
+    #[inline]
+    pub(crate) fn has_singleton(&self, singleton: Singleton) -> bool {
+        into_smallcase(self.singleton().unwrap()) == into_smallcase(singleton.unwrap())
+    }
+
+    /// Returns the subtags after the singleton, in order: `co` and `phonebk` of `u-co-phonebk`.
+    #[inline]
+    pub fn iter(&self) -> ExtensionIter<'a> {
+        ExtensionIter::new(self.as_str())
+    }
+}
+
+impl fmt::Display for Extension<'_> {
+    #[inline]
+    fn fmt(&self, f: &mut fmt::Formatter<'_>) -> fmt::Result {
+        f.write_str(self.as_str())
+    }
+}
+
+/// An extension that owns its text.
+///
+/// ```
+/// # fn main() -> Result<(), Box<dyn std::error::Error>> {
+/// use langtag::Extension;
+///
+/// let owned = Extension::new("u-co")?.try_to_owned()?;
+/// assert!(owned.as_extension() == Extension::new("U-CO")?);
+/// assert_eq!(owned.into_string().as_str(), "u-co");
+/// # Ok(())
+/// # }
+/// ```
+#[cfg(feature = "alloc")]
+#[derive(Debug, PartialEq, Eq, PartialOrd, Ord, Hash)]
+pub struct ExtensionBuf {
+    text: Caseless<String>,
+}
+
+#[cfg(feature = "alloc")]
+impl ExtensionBuf {
+    /// Parses a `String` as an extension, and keeps it, without a copy: `u-co` is Ok.
+    ///
+    /// # Errors
+    ///
+    /// A text that is not one extension comes back, the same `String`: `a` does.
+    #[inline]
+    pub fn new(text: String) -> Result<ExtensionBuf, InvalidExtension<String>> {
+        if !is_extension(text.as_str()) {
+            return Err(InvalidExtension(text));
+        }
+        Ok(ExtensionBuf {
+            text: Caseless(text),
+        })
+    }
+
+    /// Borrows the extension: `as_extension().as_str()` of the owned `U-CO` is `"U-CO"`. It is proved that owned
+    /// extensions are compared, ordered and hashed without regard to case.
+    #[inline]
+    pub fn as_extension(&self) -> Extension<'_> {
+        Extension::from_checked(self.as_str())
+    }
+
+    /// Returns the text, with its case: `as_str()` of the owned `U-CO` is `"U-CO"`.
+    #[inline]
+    pub fn as_str(&self) -> &str {
+        self.text.0.as_str()
+    }
+
+    /// Returns the text itself, without a copy: `into_string()` of the owned `U-CO` is the `String` `U-CO`.
+    #[inline]
+    pub fn into_string(self) -> String {
+        self.text.0
+    }
+}
+
+#[cfg(feature = "alloc")]
+impl fmt::Display for ExtensionBuf {
+    #[inline]
+    fn fmt(&self, f: &mut fmt::Formatter<'_>) -> fmt::Result {
+        f.write_str(self.as_str())
+    }
+}
+
+/// Whether the text is a singleton and at least one subtag of an extension, joined by hyphens.
+pub(crate) fn is_extension(text: &str) -> bool {
+    let mut subtags = Subtags::new(text);
+    if let Some(opening) = subtags.next() {
+        if let [singleton] = opening.as_bytes() {
+            if is_singleton(*singleton) {
+                if let Some(first) = subtags.next() {
+                    if is_extension_subtag(first.as_bytes()) {
+                        return all_are_extension_subtags(subtags);
+                    }
+                }
+            }
+        }
+    }
+    false
+}
+
+/// Whether all that is left is subtags of an extension.
+#[inline]
+fn all_are_extension_subtags(mut subtags: Subtags<'_>) -> bool {
+    subtags.all(|subtag| is_extension_subtag(subtag.as_bytes()))
+}

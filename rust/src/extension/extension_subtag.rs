@@ -1,0 +1,179 @@
+// Made by rust/erase from crates/langtag_extension/src/extension_subtag.rt. Change that file, not this one.
+
+//! A subtag of an extension (RFC 5646 section 2.2.6).
+
+use crate::scan::{is_extension_subtag, Caseless};
+#[cfg(feature = "alloc")]
+use crate::shim::{try_string, AllocError};
+#[cfg(feature = "alloc")]
+use alloc::string::String;
+use core::fmt;
+
+/// The error for a text that is not a subtag of an extension. It hands the text back.
+///
+/// ```
+/// use langtag::ExtensionSubtag;
+///
+/// let error = ExtensionSubtag::new("c").err();
+/// assert_eq!(error.map(|error| error.0), Some("c"));
+/// ```
+#[derive(Debug)]
+pub struct InvalidExtensionSubtag<T>(pub T);
+
+impl<T> fmt::Display for InvalidExtensionSubtag<T> {
+    #[inline]
+    fn fmt(&self, f: &mut fmt::Formatter<'_>) -> fmt::Result {
+        f.write_str("invalid extension subtag")
+    }
+}
+
+impl<T: fmt::Debug> core::error::Error for InvalidExtensionSubtag<T> {}
+
+/// A subtag of an extension (RFC 5646 section 2.2.6): two to eight letters and digits, as `phonebk` in
+/// `u-co-phonebk`.
+///
+/// Two subtags are equal where their texts differ at most in the case of ASCII letters: `co` and `CO` are.
+///
+/// ```
+/// # fn main() -> Result<(), Box<dyn std::error::Error>> {
+/// use langtag::ExtensionSubtag;
+///
+/// let subtag = ExtensionSubtag::new("co")?;
+/// assert_eq!(subtag.as_str(), "co");
+/// assert!(subtag == ExtensionSubtag::new("CO")?);
+/// # Ok(())
+/// # }
+/// ```
+#[derive(Clone, Copy, Debug, PartialEq, Eq, PartialOrd, Ord, Hash)]
+pub struct ExtensionSubtag<'a> {
+    text: Caseless<&'a str>,
+}
+
+impl<'a> ExtensionSubtag<'a> {
+    /// Parses a text as a subtag: `ExtensionSubtag::new("co")` is Ok.
+    ///
+    /// # Errors
+    ///
+    /// A text that is not two to eight letters and digits comes back: `ExtensionSubtag::new("c")` is
+    /// `Err(InvalidExtensionSubtag("c"))`.
+    #[inline]
+    pub fn new(text: &'a str) -> Result<ExtensionSubtag<'a>, InvalidExtensionSubtag<&'a str>> {
+        if !is_extension_subtag(text.as_bytes()) {
+            return Err(InvalidExtensionSubtag(text));
+        }
+        Ok(ExtensionSubtag::from_checked(text))
+    }
+
+    /// Returns the subtag of a text that is known to be one, without a test.
+    /// `ExtensionSubtag::from_checked(subtag.as_str())` is equal to `subtag`.
+    #[inline]
+    pub(crate) fn from_checked(text: &'a str) -> ExtensionSubtag<'a> {
+        ExtensionSubtag {
+            text: Caseless(text),
+        }
+    }
+
+    /// Returns the text, with its case: `ExtensionSubtag::new("CO")?.as_str()` is `"CO"`.
+    #[inline]
+    pub fn as_str(&self) -> &'a str {
+        self.text.0
+    }
+
+    /// Returns the bytes of the text: `ExtensionSubtag::new("CO")?.as_bytes()` is `b"CO"`.
+    #[inline]
+    pub fn as_bytes(&self) -> &'a [u8] {
+        self.as_str().as_bytes()
+    }
+
+    /// Returns whether another text, of any form, is equal but for the case of ASCII letters:
+    /// `ExtensionSubtag::new("co")?.eq_str("CO")` is true. It is proved that subtags are compared, ordered and hashed
+    /// so, and that a clone is the value itself.
+    #[inline]
+    pub fn eq_str(&self, other: &str) -> bool {
+        self.text == Caseless(other)
+    }
+
+    /// Returns the owned form of the same text: `ExtensionSubtag::new("CO")?.try_to_owned()?.as_str()` is `"CO"`.
+    ///
+    /// # Errors
+    ///
+    /// Out of memory.
+    #[cfg(feature = "alloc")]
+    #[inline]
+    pub fn try_to_owned(&self) -> Result<ExtensionSubtagBuf, AllocError> {
+        let text = try_string(self.as_str())?;
+        Ok(ExtensionSubtagBuf {
+            text: Caseless(text),
+        })
+    }
+}
+
+impl fmt::Display for ExtensionSubtag<'_> {
+    #[inline]
+    fn fmt(&self, f: &mut fmt::Formatter<'_>) -> fmt::Result {
+        f.write_str(self.as_str())
+    }
+}
+
+/// A subtag of an extension that owns its text.
+///
+/// ```
+/// # fn main() -> Result<(), Box<dyn std::error::Error>> {
+/// use langtag::ExtensionSubtag;
+///
+/// let owned = ExtensionSubtag::new("co")?.try_to_owned()?;
+/// assert!(owned.as_extension_subtag() == ExtensionSubtag::new("CO")?);
+/// assert_eq!(owned.into_string().as_str(), "co");
+/// # Ok(())
+/// # }
+/// ```
+#[cfg(feature = "alloc")]
+#[derive(Debug, PartialEq, Eq, PartialOrd, Ord, Hash)]
+pub struct ExtensionSubtagBuf {
+    text: Caseless<String>,
+}
+
+#[cfg(feature = "alloc")]
+impl ExtensionSubtagBuf {
+    /// Parses a `String` as a subtag, and keeps it, without a copy: `co` is Ok.
+    ///
+    /// # Errors
+    ///
+    /// A text that is not two to eight letters and digits comes back, the same `String`: `c` does.
+    #[inline]
+    pub fn new(text: String) -> Result<ExtensionSubtagBuf, InvalidExtensionSubtag<String>> {
+        if !is_extension_subtag(text.as_bytes()) {
+            return Err(InvalidExtensionSubtag(text));
+        }
+        Ok(ExtensionSubtagBuf {
+            text: Caseless(text),
+        })
+    }
+
+    /// Borrows the subtag: `as_extension_subtag().as_str()` of the owned `CO` is `"CO"`. It is proved that owned
+    /// subtags are compared, ordered and hashed without regard to case.
+    #[inline]
+    pub fn as_extension_subtag(&self) -> ExtensionSubtag<'_> {
+        ExtensionSubtag::from_checked(self.as_str())
+    }
+
+    /// Returns the text, with its case: `as_str()` of the owned `CO` is `"CO"`.
+    #[inline]
+    pub fn as_str(&self) -> &str {
+        self.text.0.as_str()
+    }
+
+    /// Returns the text itself, without a copy: `into_string()` of the owned `CO` is the `String` `CO`.
+    #[inline]
+    pub fn into_string(self) -> String {
+        self.text.0
+    }
+}
+
+#[cfg(feature = "alloc")]
+impl fmt::Display for ExtensionSubtagBuf {
+    #[inline]
+    fn fmt(&self, f: &mut fmt::Formatter<'_>) -> fmt::Result {
+        f.write_str(self.as_str())
+    }
+}

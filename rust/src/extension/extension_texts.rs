@@ -1,0 +1,64 @@
+// Made by rust/erase from crates/langtag_extension/src/extension_texts.rt. Change that file, not this one.
+
+//! The walk over a text from one extension to the next.
+
+use crate::scan::segment_end;
+
+/// The texts of the extensions that are still to come: a text is cut before each subtag of one byte.
+#[derive(Debug)]
+pub(crate) struct ExtensionTexts<'a> {
+    rest: Option<&'a str>,
+}
+
+impl<'a> ExtensionTexts<'a> {
+    /// What stands from one subtag of one byte up to the next. The empty text has none.
+    #[inline]
+    pub(crate) fn new(text: &'a str) -> Self {
+        if text.is_empty() {
+            return ExtensionTexts { rest: None };
+        }
+        ExtensionTexts { rest: Some(text) }
+    }
+}
+
+impl Clone for ExtensionTexts<'_> {
+    #[inline]
+    fn clone(&self) -> Self {
+        ExtensionTexts { rest: self.rest }
+    }
+}
+
+impl<'a> Iterator for ExtensionTexts<'a> {
+    type Item = &'a str;
+
+    #[inline]
+    fn next(&mut self) -> Option<&'a str> {
+        let text = self.rest?;
+        let (first, rest) = split_extension(text);
+        self.rest = rest;
+        Some(first)
+    }
+}
+
+/// The text of the first extension, and what stands after it and a hyphen, where there is more.
+fn split_extension<'a>(text: &'a str) -> (&'a str, Option<&'a str>) {
+    let end = first_extension_end(text.as_bytes());
+    if end == text.len() {
+        return (text, None);
+    }
+    (&text[..end], Some(&text[end + 1..]))
+}
+
+/// Where the first extension of a text ends: at the first hyphen before a subtag of one byte, or at the end. The subtag that the
+/// text begins with is not looked at.
+pub fn first_extension_end(text: &[u8]) -> usize {
+    let mut end = segment_end(text, 0);
+    while end < text.len() {
+        let next = segment_end(text, end + 1);
+        if next == end + 2 {
+            return end;
+        }
+        end = next;
+    }
+    end
+}

@@ -1,0 +1,224 @@
+// Made by rust/erase from crates/langtag_extension/src/extensions.rt. Change that file, not this one.
+
+//! The extensions of a tag (RFC 5646 section 2.2.6).
+
+use crate::extension::extension::{is_extension, Extension};
+use crate::extension::extension_iter::ExtensionIter;
+use crate::extension::extension_texts::ExtensionTexts;
+use crate::extension::extensions_iter::ExtensionsIter;
+use crate::extension::singleton::Singleton;
+use crate::scan::Caseless;
+#[cfg(feature = "alloc")]
+use crate::shim::{try_string, AllocError};
+#[cfg(feature = "alloc")]
+use alloc::string::String;
+use core::fmt;
+
+/// The error for a text that is not extensions. It hands the text back.
+///
+/// ```
+/// use langtag::Extensions;
+///
+/// let error = Extensions::new("a-bb-u").err();
+/// assert_eq!(error.map(|error| error.0), Some("a-bb-u"));
+/// ```
+#[derive(Debug)]
+pub struct InvalidExtensions<T>(pub T);
+
+impl<T> fmt::Display for InvalidExtensions<T> {
+    #[inline]
+    fn fmt(&self, f: &mut fmt::Formatter<'_>) -> fmt::Result {
+        f.write_str("invalid extensions")
+    }
+}
+
+impl<T: fmt::Debug> core::error::Error for InvalidExtensions<T> {}
+
+/// The extensions of a tag (RFC 5646 section 2.2.6), joined by hyphens, as `a-ext1-ext2-u-co-phonebk`, or none at
+/// all, which is the empty text.
+///
+/// A singleton may come twice: such a tag is well formed, though it is not valid (section 2.2.9). Two lists are equal
+/// where their texts differ at most in the case of ASCII letters: `u-co` and `U-CO` are.
+///
+/// ```
+/// # fn main() -> Result<(), Box<dyn std::error::Error>> {
+/// use langtag::Extensions;
+///
+/// let extensions = Extensions::new("a-bb-u-co")?;
+/// assert_eq!(extensions.as_str(), "a-bb-u-co");
+/// assert!(extensions == Extensions::new("A-BB-U-CO")?);
+/// # Ok(())
+/// # }
+/// ```
+#[derive(Clone, Copy, Debug, PartialEq, Eq, PartialOrd, Ord, Hash)]
+pub struct Extensions<'a> {
+    text: Caseless<&'a str>,
+}
+
+impl<'a> Extensions<'a> {
+    /// No extensions: `Extensions::EMPTY.as_str()` is `""`.
+    pub const EMPTY: Extensions<'static> = Extensions { text: Caseless("") };
+
+    /// Parses a text as extensions: `Extensions::new("a-ext1-u-co")` and `Extensions::new("")` are Ok.
+    ///
+    /// # Errors
+    ///
+    /// A text that is not extensions joined by hyphens comes back: `Extensions::new("u-")` is
+    /// `Err(InvalidExtensions("u-"))`.
+    #[inline]
+    pub fn new(text: &'a str) -> Result<Extensions<'a>, InvalidExtensions<&'a str>> {
+        if !are_extensions(text) {
+            return Err(InvalidExtensions(text));
+        }
+        Ok(Extensions::from_checked(text))
+    }
+
+    /// Returns the extensions of a text that is known to be some, without a test.
+    /// `Extensions::from_checked(extensions.as_str())` is equal to `extensions`.
+    #[inline]
+    pub(crate) fn from_checked(text: &'a str) -> Extensions<'a> {
+        Extensions {
+            text: Caseless(text),
+        }
+    }
+
+    /// Returns the text, with its case: `Extensions::new("U-CO")?.as_str()` is `"U-CO"`.
+    #[inline]
+    pub fn as_str(&self) -> &'a str {
+        self.text.0
+    }
+
+    /// Returns the bytes of the text: `Extensions::new("U-CO")?.as_bytes()` is `b"U-CO"`.
+    #[inline]
+    pub fn as_bytes(&self) -> &'a [u8] {
+        self.as_str().as_bytes()
+    }
+
+    /// Returns whether another text, of any form, is equal but for the case of ASCII letters:
+    /// `Extensions::new("u-co")?.eq_str("U-CO")` is true. It is proved that lists of extensions are compared, ordered
+    /// and hashed so, and that a clone is the value itself.
+    #[inline]
+    pub fn eq_str(&self, other: &str) -> bool {
+        self.text == Caseless(other)
+    }
+
+    /// Returns the owned form of the same text: `Extensions::new("U-CO")?.try_to_owned()?.as_str()` is `"U-CO"`.
+    ///
+    /// # Errors
+    ///
+    /// Out of memory.
+    #[cfg(feature = "alloc")]
+    #[inline]
+    pub fn try_to_owned(&self) -> Result<ExtensionsBuf, AllocError> {
+        let text = try_string(self.as_str())?;
+        Ok(ExtensionsBuf {
+            text: Caseless(text),
+        })
+    }
+
+    /// Returns the extensions in order, those of a repeated singleton too: `a-bb` and `A-cc` of `a-bb-A-cc`.
+    #[inline]
+    pub fn iter(&self) -> ExtensionsIter<'a> {
+        ExtensionsIter::new(self.as_str())
+    }
+
+    /// Returns the first extension of the singleton, without regard to case: `A` finds `a-bb` in `a-bb-A-cc`.
+    #[inline]
+    pub fn get(&self, singleton: Singleton) -> Option<Extension<'a>> {
+        self.iter()
+            .find(|extension| extension.has_singleton(singleton))
+    }
+
+    /// Returns the subtags of the extension that `get` returns, and none where it returns None: for `u`, `co` and
+    /// `phonebk` of `a-bb-u-co-phonebk`.
+    #[inline]
+    pub fn iter_extension(&self, singleton: Singleton) -> ExtensionIter<'a> {
+        let Some(extension) = self.get(singleton) else {
+            return ExtensionIter::empty();
+        };
+        extension.iter()
+    }
+}
+
+impl Default for Extensions<'_> {
+    #[inline]
+    fn default() -> Self {
+        Extensions::EMPTY
+    }
+}
+
+impl fmt::Display for Extensions<'_> {
+    #[inline]
+    fn fmt(&self, f: &mut fmt::Formatter<'_>) -> fmt::Result {
+        f.write_str(self.as_str())
+    }
+}
+
+/// The extensions of a tag, or none, that own their text.
+///
+/// ```
+/// # fn main() -> Result<(), Box<dyn std::error::Error>> {
+/// use langtag::Extensions;
+///
+/// let owned = Extensions::new("a-bb-u-co")?.try_to_owned()?;
+/// assert!(owned.as_extensions() == Extensions::new("A-BB-U-CO")?);
+/// assert_eq!(owned.into_string().as_str(), "a-bb-u-co");
+/// # Ok(())
+/// # }
+/// ```
+#[cfg(feature = "alloc")]
+#[derive(Debug, PartialEq, Eq, PartialOrd, Ord, Hash)]
+pub struct ExtensionsBuf {
+    text: Caseless<String>,
+}
+
+#[cfg(feature = "alloc")]
+impl ExtensionsBuf {
+    /// Parses a `String` as extensions, and keeps it, without a copy: `a-ext1-u-co` is Ok.
+    ///
+    /// # Errors
+    ///
+    /// A text that is not extensions joined by hyphens comes back, the same `String`: `u-` does.
+    #[inline]
+    pub fn new(text: String) -> Result<ExtensionsBuf, InvalidExtensions<String>> {
+        if !are_extensions(text.as_str()) {
+            return Err(InvalidExtensions(text));
+        }
+        Ok(ExtensionsBuf {
+            text: Caseless(text),
+        })
+    }
+
+    /// Borrows the extensions: `as_extensions().as_str()` of the owned `U-CO` is `"U-CO"`. It is proved that owned
+    /// lists of extensions are compared, ordered and hashed without regard to case.
+    #[inline]
+    pub fn as_extensions(&self) -> Extensions<'_> {
+        Extensions::from_checked(self.as_str())
+    }
+
+    /// Returns the text, with its case: `as_str()` of the owned `U-CO` is `"U-CO"`.
+    #[inline]
+    pub fn as_str(&self) -> &str {
+        self.text.0.as_str()
+    }
+
+    /// Returns the text itself, without a copy: `into_string()` of the owned `U-CO` is the `String` `U-CO`.
+    #[inline]
+    pub fn into_string(self) -> String {
+        self.text.0
+    }
+}
+
+#[cfg(feature = "alloc")]
+impl fmt::Display for ExtensionsBuf {
+    #[inline]
+    fn fmt(&self, f: &mut fmt::Formatter<'_>) -> fmt::Result {
+        f.write_str(self.as_str())
+    }
+}
+
+/// Whether the text is extensions joined by hyphens, or nothing.
+#[inline]
+fn are_extensions(text: &str) -> bool {
+    ExtensionTexts::new(text).all(|text| is_extension(text))
+}

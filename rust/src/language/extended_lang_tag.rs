@@ -1,0 +1,179 @@
+// Made by rust/erase from crates/langtag_language/src/extended_lang_tag.rt. Change that file, not this one.
+
+//! The extended language subtag (RFC 5646 section 2.2.2).
+
+use crate::scan::{is_extended, Caseless};
+#[cfg(feature = "alloc")]
+use crate::shim::{try_string, AllocError};
+#[cfg(feature = "alloc")]
+use alloc::string::String;
+use core::fmt;
+
+/// The error for a text that is not an extended language subtag. It hands the text back.
+///
+/// ```
+/// use langtag::ExtendedLangTag;
+///
+/// let error = ExtendedLangTag::new("yu").err();
+/// assert_eq!(error.map(|error| error.0), Some("yu"));
+/// ```
+#[derive(Debug)]
+pub struct InvalidExtendedLangTag<T>(pub T);
+
+impl<T> fmt::Display for InvalidExtendedLangTag<T> {
+    #[inline]
+    fn fmt(&self, f: &mut fmt::Formatter<'_>) -> fmt::Result {
+        f.write_str("invalid extended language subtag")
+    }
+}
+
+impl<T: fmt::Debug> core::error::Error for InvalidExtendedLangTag<T> {}
+
+/// An extended language subtag (RFC 5646 section 2.2.2): three letters, as `yue` in `zh-yue`.
+///
+/// Two of them are equal where their texts differ at most in the case of ASCII letters: `yue` and `YUE` are.
+///
+/// ```
+/// # fn main() -> Result<(), Box<dyn std::error::Error>> {
+/// use langtag::ExtendedLangTag;
+///
+/// let subtag = ExtendedLangTag::new("yue")?;
+/// assert_eq!(subtag.as_str(), "yue");
+/// assert!(subtag == ExtendedLangTag::new("YUE")?);
+/// # Ok(())
+/// # }
+/// ```
+#[derive(Clone, Copy, Debug, PartialEq, Eq, PartialOrd, Ord, Hash)]
+pub struct ExtendedLangTag<'a> {
+    text: Caseless<&'a str>,
+}
+
+impl<'a> ExtendedLangTag<'a> {
+    /// Parses a text as an extended language subtag: `ExtendedLangTag::new("yue")` is Ok.
+    ///
+    /// # Errors
+    ///
+    /// A text that is not three letters comes back: `ExtendedLangTag::new("yu")` is
+    /// `Err(InvalidExtendedLangTag("yu"))`.
+    #[inline]
+    pub fn new(text: &'a str) -> Result<ExtendedLangTag<'a>, InvalidExtendedLangTag<&'a str>> {
+        if !is_extended(text.as_bytes()) {
+            return Err(InvalidExtendedLangTag(text));
+        }
+        Ok(ExtendedLangTag::from_checked(text))
+    }
+
+    /// Returns the subtag of a text that is known to be one, without a test.
+    /// `ExtendedLangTag::from_checked(extended.as_str())` is equal to `extended`.
+    #[inline]
+    pub(crate) fn from_checked(text: &'a str) -> ExtendedLangTag<'a> {
+        ExtendedLangTag {
+            text: Caseless(text),
+        }
+    }
+
+    /// Returns the text, with its case: `ExtendedLangTag::new("YUE")?.as_str()` is `"YUE"`.
+    #[inline]
+    pub fn as_str(&self) -> &'a str {
+        self.text.0
+    }
+
+    /// Returns the bytes of the text: `ExtendedLangTag::new("YUE")?.as_bytes()` is `b"YUE"`.
+    #[inline]
+    pub fn as_bytes(&self) -> &'a [u8] {
+        self.as_str().as_bytes()
+    }
+
+    /// Returns whether another text, of any form, is equal but for the case of ASCII letters:
+    /// `ExtendedLangTag::new("yue")?.eq_str("YUE")` is true. It is proved that extended subtags are compared, ordered
+    /// and hashed so, and that a clone is the value itself.
+    #[inline]
+    pub fn eq_str(&self, other: &str) -> bool {
+        self.text == Caseless(other)
+    }
+
+    /// Returns the owned form of the same text: `ExtendedLangTag::new("YUE")?.try_to_owned()?.as_str()` is
+    /// `"YUE"`.
+    ///
+    /// # Errors
+    ///
+    /// Out of memory.
+    #[cfg(feature = "alloc")]
+    #[inline]
+    pub fn try_to_owned(&self) -> Result<ExtendedLangTagBuf, AllocError> {
+        let text = try_string(self.as_str())?;
+        Ok(ExtendedLangTagBuf {
+            text: Caseless(text),
+        })
+    }
+}
+
+impl fmt::Display for ExtendedLangTag<'_> {
+    #[inline]
+    fn fmt(&self, f: &mut fmt::Formatter<'_>) -> fmt::Result {
+        f.write_str(self.as_str())
+    }
+}
+
+/// An extended language subtag that owns its text.
+///
+/// ```
+/// # fn main() -> Result<(), Box<dyn std::error::Error>> {
+/// use langtag::ExtendedLangTag;
+///
+/// let owned = ExtendedLangTag::new("yue")?.try_to_owned()?;
+/// assert!(owned.as_extended_lang_tag() == ExtendedLangTag::new("YUE")?);
+/// assert_eq!(owned.into_string().as_str(), "yue");
+/// # Ok(())
+/// # }
+/// ```
+#[cfg(feature = "alloc")]
+#[derive(Debug, PartialEq, Eq, PartialOrd, Ord, Hash)]
+pub struct ExtendedLangTagBuf {
+    text: Caseless<String>,
+}
+
+#[cfg(feature = "alloc")]
+impl ExtendedLangTagBuf {
+    /// Parses a `String` as a subtag, and keeps it, without a copy: `yue` is Ok.
+    ///
+    /// # Errors
+    ///
+    /// A text that is not three letters comes back, the same `String`: `yu` does.
+    #[inline]
+    pub fn new(text: String) -> Result<ExtendedLangTagBuf, InvalidExtendedLangTag<String>> {
+        if !is_extended(text.as_bytes()) {
+            return Err(InvalidExtendedLangTag(text));
+        }
+        Ok(ExtendedLangTagBuf {
+            text: Caseless(text),
+        })
+    }
+
+    /// Borrows the subtag: `as_extended_lang_tag().as_str()` of the owned `YUE` is `"YUE"`. It is proved that owned
+    /// extended subtags are compared, ordered and hashed without regard to case.
+    #[inline]
+    pub fn as_extended_lang_tag(&self) -> ExtendedLangTag<'_> {
+        ExtendedLangTag::from_checked(self.as_str())
+    }
+
+    /// Returns the text, with its case: `as_str()` of the owned `YUE` is `"YUE"`.
+    #[inline]
+    pub fn as_str(&self) -> &str {
+        self.text.0.as_str()
+    }
+
+    /// Returns the text itself, without a copy: `into_string()` of the owned `YUE` is the `String` `YUE`.
+    #[inline]
+    pub fn into_string(self) -> String {
+        self.text.0
+    }
+}
+
+#[cfg(feature = "alloc")]
+impl fmt::Display for ExtendedLangTagBuf {
+    #[inline]
+    fn fmt(&self, f: &mut fmt::Formatter<'_>) -> fmt::Result {
+        f.write_str(self.as_str())
+    }
+}

@@ -1,0 +1,194 @@
+// Made by rust/erase from crates/langtag_language/src/language_extension.rt. Change that file, not this one.
+
+//! The extended subtags of a language as one text (RFC 5646 section 2.2.2).
+
+use crate::language::extended_subtags::are_extended_within;
+use crate::language::language_extension_iter::LanguageExtensionIter;
+use crate::scan::{Caseless, Subtags};
+#[cfg(feature = "alloc")]
+use crate::shim::{try_string, AllocError};
+#[cfg(feature = "alloc")]
+use alloc::string::String;
+use core::fmt;
+
+/// The error for a text that is not a language extension. It hands the text back.
+///
+/// ```
+/// use langtag::LanguageExtension;
+///
+/// let error = LanguageExtension::new("min-").err();
+/// assert_eq!(error.map(|error| error.0), Some("min-"));
+/// ```
+#[derive(Debug)]
+pub struct InvalidLanguageExtension<T>(pub T);
+
+impl<T> fmt::Display for InvalidLanguageExtension<T> {
+    #[inline]
+    fn fmt(&self, f: &mut fmt::Formatter<'_>) -> fmt::Result {
+        f.write_str("invalid language extension")
+    }
+}
+
+impl<T: fmt::Debug> core::error::Error for InvalidLanguageExtension<T> {}
+
+/// The extended subtags of a language (RFC 5646 section 2.2.2): one to three, joined by hyphens, as `min-nan`.
+///
+/// Two of them are equal where their texts differ at most in the case of ASCII letters: `min-nan` and `MIN-NAN` are.
+///
+/// ```
+/// # fn main() -> Result<(), Box<dyn std::error::Error>> {
+/// use langtag::LanguageExtension;
+///
+/// let extension = LanguageExtension::new("min-nan")?;
+/// assert_eq!(extension.as_str(), "min-nan");
+/// assert!(extension == LanguageExtension::new("MIN-NAN")?);
+/// # Ok(())
+/// # }
+/// ```
+#[derive(Clone, Copy, Debug, PartialEq, Eq, PartialOrd, Ord, Hash)]
+pub struct LanguageExtension<'a> {
+    text: Caseless<&'a str>,
+}
+
+impl<'a> LanguageExtension<'a> {
+    /// Parses a text as a language extension: `LanguageExtension::new("min-nan")` is Ok.
+    ///
+    /// # Errors
+    ///
+    /// A text that is not one to three extended subtags with one hyphen between neighbours comes back:
+    /// `LanguageExtension::new("min-")` is `Err(InvalidLanguageExtension("min-"))`.
+    #[inline]
+    pub fn new(text: &'a str) -> Result<LanguageExtension<'a>, InvalidLanguageExtension<&'a str>> {
+        if !is_language_extension(text) {
+            return Err(InvalidLanguageExtension(text));
+        }
+        Ok(LanguageExtension::from_checked(text))
+    }
+
+    /// Returns the language extension of a text that is known to be one, without a test.
+    /// `LanguageExtension::from_checked(extension.as_str())` is equal to `extension`.
+    #[inline]
+    pub(crate) fn from_checked(text: &'a str) -> LanguageExtension<'a> {
+        LanguageExtension {
+            text: Caseless(text),
+        }
+    }
+
+    /// Returns the text, with its case: `LanguageExtension::new("MIN-NAN")?.as_str()` is `"MIN-NAN"`.
+    #[inline]
+    pub fn as_str(&self) -> &'a str {
+        self.text.0
+    }
+
+    /// Returns the bytes of the text: `LanguageExtension::new("MIN-NAN")?.as_bytes()` is `b"MIN-NAN"`.
+    #[inline]
+    pub fn as_bytes(&self) -> &'a [u8] {
+        self.as_str().as_bytes()
+    }
+
+    /// Returns whether another text, of any form, is equal but for the case of ASCII letters:
+    /// `LanguageExtension::new("min-nan")?.eq_str("MIN-NAN")` is true. It is proved that language extensions are
+    /// compared, ordered and hashed so, and that a clone is the value itself.
+    #[inline]
+    pub fn eq_str(&self, other: &str) -> bool {
+        self.text == Caseless(other)
+    }
+
+    /// Returns the owned form of the same text: `LanguageExtension::new("MIN-NAN")?.try_to_owned()?.as_str()` is
+    /// `"MIN-NAN"`.
+    ///
+    /// # Errors
+    ///
+    /// Out of memory.
+    #[cfg(feature = "alloc")]
+    #[inline]
+    pub fn try_to_owned(&self) -> Result<LanguageExtensionBuf, AllocError> {
+        let text = try_string(self.as_str())?;
+        Ok(LanguageExtensionBuf {
+            text: Caseless(text),
+        })
+    }
+
+    /// Returns the extended subtags one by one: `LanguageExtension::new("min-nan")?.iter()` yields `min` and `nan`.
+    #[inline]
+    pub fn iter(&self) -> LanguageExtensionIter<'a> {
+        LanguageExtensionIter::new(self.as_str())
+    }
+}
+
+/// Whether the text is one to three extended subtags, joined by hyphens.
+#[inline]
+fn is_language_extension(text: &str) -> bool {
+    !text.is_empty() && are_extended_within(3, Subtags::new(text))
+}
+
+impl fmt::Display for LanguageExtension<'_> {
+    #[inline]
+    fn fmt(&self, f: &mut fmt::Formatter<'_>) -> fmt::Result {
+        f.write_str(self.as_str())
+    }
+}
+
+/// A language extension that owns its text.
+///
+/// ```
+/// # fn main() -> Result<(), Box<dyn std::error::Error>> {
+/// use langtag::LanguageExtension;
+///
+/// let owned = LanguageExtension::new("min-nan")?.try_to_owned()?;
+/// assert!(owned.as_language_extension() == LanguageExtension::new("MIN-NAN")?);
+/// assert_eq!(owned.into_string().as_str(), "min-nan");
+/// # Ok(())
+/// # }
+/// ```
+#[cfg(feature = "alloc")]
+#[derive(Debug, PartialEq, Eq, PartialOrd, Ord, Hash)]
+pub struct LanguageExtensionBuf {
+    text: Caseless<String>,
+}
+
+#[cfg(feature = "alloc")]
+impl LanguageExtensionBuf {
+    /// Parses a `String` as a language extension, and keeps it, without a copy: `min-nan` is Ok.
+    ///
+    /// # Errors
+    ///
+    /// A text that is not one to three extended subtags with one hyphen between neighbours comes back, the same
+    /// `String`: `min-` does.
+    #[inline]
+    pub fn new(text: String) -> Result<LanguageExtensionBuf, InvalidLanguageExtension<String>> {
+        if !is_language_extension(text.as_str()) {
+            return Err(InvalidLanguageExtension(text));
+        }
+        Ok(LanguageExtensionBuf {
+            text: Caseless(text),
+        })
+    }
+
+    /// Borrows the language extension: `as_language_extension().as_str()` of the owned `MIN-NAN` is `"MIN-NAN"`. It is
+    /// proved that owned language extensions are compared, ordered and hashed without regard to case.
+    #[inline]
+    pub fn as_language_extension(&self) -> LanguageExtension<'_> {
+        LanguageExtension::from_checked(self.as_str())
+    }
+
+    /// Returns the text, with its case: `as_str()` of the owned `MIN-NAN` is `"MIN-NAN"`.
+    #[inline]
+    pub fn as_str(&self) -> &str {
+        self.text.0.as_str()
+    }
+
+    /// Returns the text itself, without a copy: `into_string()` of the owned `MIN-NAN` is the `String` `MIN-NAN`.
+    #[inline]
+    pub fn into_string(self) -> String {
+        self.text.0
+    }
+}
+
+#[cfg(feature = "alloc")]
+impl fmt::Display for LanguageExtensionBuf {
+    #[inline]
+    fn fmt(&self, f: &mut fmt::Formatter<'_>) -> fmt::Result {
+        f.write_str(self.as_str())
+    }
+}

@@ -1,0 +1,67 @@
+// Made by rust/erase from crates/langtag_language/src/language_extension_iter.rt. Change that file, not this one.
+
+//! The extended subtags of a language one by one.
+
+use crate::language::extended_lang_tag::ExtendedLangTag;
+use crate::scan::Subtags;
+
+/// The extended subtags that are still to come (RFC 5646 section 2.2.2): `min` and `nan` of `min-nan`.
+///
+/// ```
+/// # fn main() -> Result<(), Box<dyn std::error::Error>> {
+/// use langtag::LanguageExtension;
+///
+/// let mut items = LanguageExtension::new("min-nan")?.iter();
+/// assert_eq!(items.next().map(|item| item.as_str()), Some("min"));
+/// assert_eq!(items.next().map(|item| item.as_str()), Some("nan"));
+/// assert_eq!(items.next(), None);
+/// # Ok(())
+/// # }
+/// ```
+#[derive(Debug)]
+pub struct LanguageExtensionIter<'a> {
+    rest: Subtags<'a>,
+}
+
+impl<'a> LanguageExtensionIter<'a> {
+    /// Returns an iterator over no extended subtags: `LanguageExtensionIter::empty().next()` is None.
+    #[inline]
+    pub fn empty() -> Self {
+        LanguageExtensionIter {
+            rest: Subtags::empty(),
+        }
+    }
+
+    /// The subtags of a language extension.
+    #[inline]
+    pub(crate) fn new(text: &'a str) -> Self {
+        LanguageExtensionIter {
+            rest: Subtags::new(text),
+        }
+    }
+}
+
+impl Default for LanguageExtensionIter<'_> {
+    #[inline]
+    fn default() -> Self {
+        LanguageExtensionIter::empty()
+    }
+}
+
+impl Clone for LanguageExtensionIter<'_> {
+    #[inline]
+    fn clone(&self) -> Self {
+        let rest = self.rest.clone();
+        LanguageExtensionIter { rest }
+    }
+}
+
+impl<'a> Iterator for LanguageExtensionIter<'a> {
+    type Item = ExtendedLangTag<'a>;
+
+    #[inline]
+    fn next(&mut self) -> Option<ExtendedLangTag<'a>> {
+        let text = self.rest.next()?;
+        Some(ExtendedLangTag::from_checked(text))
+    }
+}

@@ -1,0 +1,178 @@
+// Made by rust/erase from crates/langtag_language/src/primary_language.rt. Change that file, not this one.
+
+//! The primary language subtag (RFC 5646 section 2.2.1).
+
+use crate::scan::{is_primary, Caseless};
+#[cfg(feature = "alloc")]
+use crate::shim::{try_string, AllocError};
+#[cfg(feature = "alloc")]
+use alloc::string::String;
+use core::fmt;
+
+/// The error for a text that is not a primary language subtag. It hands the text back.
+///
+/// ```
+/// use langtag::PrimaryLanguage;
+///
+/// let error = PrimaryLanguage::new("f").err();
+/// assert_eq!(error.map(|error| error.0), Some("f"));
+/// ```
+#[derive(Debug)]
+pub struct InvalidPrimaryLanguage<T>(pub T);
+
+impl<T> fmt::Display for InvalidPrimaryLanguage<T> {
+    #[inline]
+    fn fmt(&self, f: &mut fmt::Formatter<'_>) -> fmt::Result {
+        f.write_str("invalid primary language")
+    }
+}
+
+impl<T: fmt::Debug> core::error::Error for InvalidPrimaryLanguage<T> {}
+
+/// A primary language subtag (RFC 5646 section 2.2.1): two to eight letters, as `fr`.
+///
+/// Two of them are equal where their texts differ at most in the case of ASCII letters: `fr` and `FR` are.
+///
+/// ```
+/// # fn main() -> Result<(), Box<dyn std::error::Error>> {
+/// use langtag::PrimaryLanguage;
+///
+/// let language = PrimaryLanguage::new("fr")?;
+/// assert_eq!(language.as_str(), "fr");
+/// assert!(language == PrimaryLanguage::new("FR")?);
+/// # Ok(())
+/// # }
+/// ```
+#[derive(Clone, Copy, Debug, PartialEq, Eq, PartialOrd, Ord, Hash)]
+pub struct PrimaryLanguage<'a> {
+    text: Caseless<&'a str>,
+}
+
+impl<'a> PrimaryLanguage<'a> {
+    /// Parses a text as a primary language subtag: `PrimaryLanguage::new("fr")` is Ok.
+    ///
+    /// # Errors
+    ///
+    /// A text that is not two to eight letters comes back: `PrimaryLanguage::new("f")` is
+    /// `Err(InvalidPrimaryLanguage("f"))`.
+    #[inline]
+    pub fn new(text: &'a str) -> Result<PrimaryLanguage<'a>, InvalidPrimaryLanguage<&'a str>> {
+        if !is_primary(text.as_bytes()) {
+            return Err(InvalidPrimaryLanguage(text));
+        }
+        Ok(PrimaryLanguage::from_checked(text))
+    }
+
+    /// Returns the subtag of a text that is known to be one, without a test.
+    /// `PrimaryLanguage::from_checked(primary.as_str())` is equal to `primary`.
+    #[inline]
+    pub(crate) fn from_checked(text: &'a str) -> PrimaryLanguage<'a> {
+        PrimaryLanguage {
+            text: Caseless(text),
+        }
+    }
+
+    /// Returns the text, with its case: `PrimaryLanguage::new("FR")?.as_str()` is `"FR"`.
+    #[inline]
+    pub fn as_str(&self) -> &'a str {
+        self.text.0
+    }
+
+    /// Returns the bytes of the text: `PrimaryLanguage::new("FR")?.as_bytes()` is `b"FR"`.
+    #[inline]
+    pub fn as_bytes(&self) -> &'a [u8] {
+        self.as_str().as_bytes()
+    }
+
+    /// Returns whether another text, of any form, is equal but for the case of ASCII letters:
+    /// `PrimaryLanguage::new("fr")?.eq_str("FR")` is true. It is proved that primary languages are compared, ordered
+    /// and hashed so, and that a clone is the value itself.
+    #[inline]
+    pub fn eq_str(&self, other: &str) -> bool {
+        self.text == Caseless(other)
+    }
+
+    /// Returns the owned form of the same text: `PrimaryLanguage::new("FR")?.try_to_owned()?.as_str()` is `"FR"`.
+    ///
+    /// # Errors
+    ///
+    /// Out of memory.
+    #[cfg(feature = "alloc")]
+    #[inline]
+    pub fn try_to_owned(&self) -> Result<PrimaryLanguageBuf, AllocError> {
+        let text = try_string(self.as_str())?;
+        Ok(PrimaryLanguageBuf {
+            text: Caseless(text),
+        })
+    }
+}
+
+impl fmt::Display for PrimaryLanguage<'_> {
+    #[inline]
+    fn fmt(&self, f: &mut fmt::Formatter<'_>) -> fmt::Result {
+        f.write_str(self.as_str())
+    }
+}
+
+/// A primary language subtag that owns its text.
+///
+/// ```
+/// # fn main() -> Result<(), Box<dyn std::error::Error>> {
+/// use langtag::PrimaryLanguage;
+///
+/// let owned = PrimaryLanguage::new("fr")?.try_to_owned()?;
+/// assert!(owned.as_primary_language() == PrimaryLanguage::new("FR")?);
+/// assert_eq!(owned.into_string().as_str(), "fr");
+/// # Ok(())
+/// # }
+/// ```
+#[cfg(feature = "alloc")]
+#[derive(Debug, PartialEq, Eq, PartialOrd, Ord, Hash)]
+pub struct PrimaryLanguageBuf {
+    text: Caseless<String>,
+}
+
+#[cfg(feature = "alloc")]
+impl PrimaryLanguageBuf {
+    /// Parses a `String` as a subtag, and keeps it, without a copy: `fr` is Ok.
+    ///
+    /// # Errors
+    ///
+    /// A text that is not two to eight letters comes back, the same `String`: `f` does.
+    #[inline]
+    pub fn new(text: String) -> Result<PrimaryLanguageBuf, InvalidPrimaryLanguage<String>> {
+        if !is_primary(text.as_bytes()) {
+            return Err(InvalidPrimaryLanguage(text));
+        }
+        Ok(PrimaryLanguageBuf {
+            text: Caseless(text),
+        })
+    }
+
+    /// Borrows the subtag: `as_primary_language().as_str()` of the owned `FR` is `"FR"`. It is proved that owned
+    /// primary languages are compared, ordered and hashed without regard to case.
+    #[inline]
+    pub fn as_primary_language(&self) -> PrimaryLanguage<'_> {
+        PrimaryLanguage::from_checked(self.as_str())
+    }
+
+    /// Returns the text, with its case: `as_str()` of the owned `FR` is `"FR"`.
+    #[inline]
+    pub fn as_str(&self) -> &str {
+        self.text.0.as_str()
+    }
+
+    /// Returns the text itself, without a copy: `into_string()` of the owned `FR` is the `String` `FR`.
+    #[inline]
+    pub fn into_string(self) -> String {
+        self.text.0
+    }
+}
+
+#[cfg(feature = "alloc")]
+impl fmt::Display for PrimaryLanguageBuf {
+    #[inline]
+    fn fmt(&self, f: &mut fmt::Formatter<'_>) -> fmt::Result {
+        f.write_str(self.as_str())
+    }
+}

@@ -1,0 +1,84 @@
+// Made by rust/erase from crates/langtag_likely/src/aliases.rt. Change that file, not this one.
+
+//! What is deprecated in the fields of a tag, replaced.
+
+use crate::likely::fields::or_other;
+use crate::likely::keys::index_of;
+use crate::likely::matching_tables as tables;
+use crate::likely::names::name_at;
+use crate::likely::rows::language_number;
+use crate::likely::tag_fields::TagFields;
+
+/// Returns fields with another language in place of one that is deprecated, and with the script that it brings.
+#[inline]
+pub(crate) fn language_replaced<'a>(fields: TagFields<'a>) -> TagFields<'a> {
+    match language_alias(fields) {
+        Some(other) => fields.with_language(other),
+        None => fields,
+    }
+}
+
+/// Returns fields with another region in place of one that is deprecated.
+#[inline]
+pub(crate) fn region_replaced<'a>(fields: TagFields<'a>) -> TagFields<'a> {
+    match region_alias(fields) {
+        Some(other) => fields.with_region(other),
+        None => fields,
+    }
+}
+
+/// Returns what the language is replaced by.
+fn language_alias(fields: TagFields<'_>) -> Option<TagFields<'static>> {
+    if fields.language.len() > 3 {
+        return None;
+    }
+    let number = language_number(fields.language) as u16;
+    let index = alias_keys().binary_search(&number).ok()?;
+    Some(TagFields {
+        language: name_at(&tables::ALIAS_LANGUAGES, index as u8),
+        script: name_at(&tables::ALIAS_SCRIPTS, index as u8),
+        region: b"",
+    })
+}
+
+/// Returns what the region is replaced by.
+fn region_alias(fields: TagFields<'_>) -> Option<TagFields<'static>> {
+    let index = index_of(region_alias_keys(), fields.region)?;
+    Some(TagFields {
+        language: b"",
+        script: b"",
+        region: name_at(&tables::REGION_ALIAS_NAMES, index as u8),
+    })
+}
+
+#[inline]
+fn alias_keys() -> &'static [u16] {
+    &tables::ALIAS_KEYS
+}
+
+#[inline]
+fn region_alias_keys() -> &'static [u32] {
+    &tables::REGION_ALIAS_KEYS
+}
+
+impl<'a> TagFields<'a> {
+    /// Returns another language with what it brings where these fields have no script or no region.
+    #[inline]
+    fn with_language(self, other: TagFields<'a>) -> TagFields<'a> {
+        TagFields {
+            language: other.language,
+            script: or_other(self.script, other.script),
+            region: or_other(self.region, other.region),
+        }
+    }
+
+    /// Returns these fields with the region of others.
+    #[inline]
+    fn with_region(self, other: TagFields<'a>) -> TagFields<'a> {
+        TagFields {
+            language: self.language,
+            script: self.script,
+            region: other.region,
+        }
+    }
+}

@@ -1,0 +1,60 @@
+// Made by rust/erase from crates/langtag_likely/src/fields.rt. Change that file, not this one.
+
+//! The texts of fields: the empty text where there is none, or none that is known.
+
+use crate::language::Language;
+use crate::place::{Region, Script};
+use crate::scan::case_insensitive_eq;
+
+/// Returns a text, or another where it is empty.
+#[inline]
+pub(crate) fn or_other<'a>(text: &'a [u8], other: &'a [u8]) -> &'a [u8] {
+    if text.is_empty() {
+        other
+    } else {
+        text
+    }
+}
+
+/// Returns a text, or the empty one where it says that what it stands for is unknown.
+#[inline]
+pub(crate) fn known<'a>(unknown: &[u8], text: &'a [u8]) -> &'a [u8] {
+    if case_insensitive_eq(unknown, text) {
+        b""
+    } else {
+        text
+    }
+}
+
+/// Returns the last of at most three extended subtags, or else the primary one; the empty text for `und`.
+pub(crate) fn language_field<'a>(language: Language<'a>) -> &'a [u8] {
+    let mut extlangs = language.extension_subtags();
+    let Some(first) = extlangs.next() else {
+        return known(b"und", language.primary().as_bytes());
+    };
+    let Some(second) = extlangs.next() else {
+        return first.as_bytes();
+    };
+    match extlangs.next() {
+        Some(third) => third.as_bytes(),
+        None => second.as_bytes(),
+    }
+}
+
+/// Returns a script, or the empty text for none and for `Zzzz`.
+#[inline]
+pub(crate) fn script_field<'a>(script: Option<Script<'a>>) -> &'a [u8] {
+    match script {
+        Some(script) => known(b"Zzzz", script.as_bytes()),
+        None => b"",
+    }
+}
+
+/// Returns a region, or the empty text for none and for `ZZ`.
+#[inline]
+pub(crate) fn region_field<'a>(region: Option<Region<'a>>) -> &'a [u8] {
+    match region {
+        Some(region) => known(b"ZZ", region.as_bytes()),
+        None => b"",
+    }
+}

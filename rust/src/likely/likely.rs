@@ -1,0 +1,62 @@
+// Made by rust/erase from crates/langtag_likely/src/likely.rt. Change that file, not this one.
+
+//! Likely subtags of fields, added and removed (UTS #35, part 1, section 'Likely Subtags').
+
+use crate::likely::rows::likely_for;
+use crate::likely::tag_fields::TagFields;
+
+/// Returns the fields with what is likely in place of each that is empty; None where nothing is known.
+#[inline]
+pub(crate) fn add_likely<'a>(fields: TagFields<'a>) -> Option<TagFields<'a>> {
+    match looked_up(fields) {
+        Some(likely) => Some(fields.filled(likely)),
+        None => None,
+    }
+}
+
+/// Returns the right side of the first row that fits.
+fn looked_up(fields: TagFields<'_>) -> Option<TagFields<'static>> {
+    if let Some(likely) = likely_for(fields) {
+        return Some(likely);
+    }
+    if let Some(likely) = likely_for(fields.without_region()) {
+        return Some(likely);
+    }
+    if let Some(likely) = likely_for(fields.without_script()) {
+        return Some(likely);
+    }
+    likely_for(fields.language_alone())
+}
+
+/// Returns the fewest fields that have the same maximal form; None where nothing is known.
+#[inline]
+pub(crate) fn remove_likely<'a>(fields: TagFields<'a>) -> Option<TagFields<'a>> {
+    match add_likely(fields) {
+        Some(most) => Some(least(most)),
+        None => None,
+    }
+}
+
+/// Returns the fewest fields of a maximal form that have it too: a region goes before a script.
+fn least<'a>(most: TagFields<'a>) -> TagFields<'a> {
+    let known = most.known();
+    if suffices(most, known.language_alone()) {
+        return known.language_alone();
+    }
+    if suffices(most, known.without_script()) {
+        return known.without_script();
+    }
+    if suffices(most, known.without_region()) {
+        return known.without_region();
+    }
+    most
+}
+
+/// Returns whether few fields have this maximal form.
+#[inline]
+pub(crate) fn suffices(most: TagFields<'_>, few: TagFields<'_>) -> bool {
+    match add_likely(few) {
+        Some(form) => most.are_alike(form),
+        None => false,
+    }
+}

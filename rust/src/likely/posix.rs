@@ -1,0 +1,141 @@
+// Made by rust/erase from crates/langtag_likely/src/posix.rt. Change that file, not this one.
+
+//! The tag of a POSIX locale's name.
+
+#[cfg(feature = "alloc")]
+use crate::likely::forms::tag_of;
+#[cfg(feature = "alloc")]
+use crate::likely::posix_error::PosixError;
+use crate::likely::put::write_text;
+use crate::place::{Script, Variants};
+use crate::registry::write_pieces;
+use crate::scan::split_at_byte;
+#[cfg(feature = "alloc")]
+use crate::shim::{try_vec, AllocError};
+#[cfg(feature = "alloc")]
+use crate::tag::LangTagBuf;
+use crate::tag::{case_insensitive_eq, put_part, LangTag, NormalLangTag, Part};
+#[cfg(feature = "alloc")]
+use alloc::vec::Vec;
+
+/// The greatest length of a language and a territory, in bytes.
+const MOST: usize = 255;
+
+/// Returns the tag of a POSIX locale's name (IEEE Std 1003.1, section 8.2), `language[_territory][.codeset][@modifier]`: `pt-BR` of
+/// `pt_BR.UTF-8`, `sr-Latn-RS` of `sr_RS@latin`, `ca-ES-valencia` of `ca_ES.UTF-8@valencia`.
+///
+/// The codeset is dropped. Of the modifiers `latin`, `cyrillic` and `devanagari` say a script and `valencia` a variant, in any
+/// case; another one, as `euro` or `phonebook`, says how to sort or to pay, and nothing of the language. Each `_` is read as a
+/// hyphen, and all else is left to the caller: case stays, and so does what is deprecated.
+///
+/// # Errors
+///
+/// A name comes back where its language and territory are no tag, as of `C`, `en_` and the empty text, or are `POSIX`, in any
+/// case, or have more than 255 bytes, which no system's names have. Out of memory.
+#[cfg(feature = "alloc")]
+pub fn from_posix(name: &str) -> Result<LangTagBuf, PosixError<'_>> {
+    match bytes_of(name.as_bytes())? {
+        Some(bytes) => Ok(tag_of(bytes)),
+        None => Err(PosixError::NoTag(name)),
+    }
+}
+
+/// Returns the bytes of the tag of a name; None of a name that says none.
+#[cfg(feature = "alloc")]
+fn bytes_of(name: &[u8]) -> Result<Option<Vec<u8>>, AllocError> {
+    let Some(len) = write_from_posix(name, &mut []) else {
+        return Ok(None);
+    };
+    let mut bytes = try_vec(0, len)?;
+    write_from_posix(name, &mut bytes);
+    Ok(Some(bytes))
+}
+
+/// Writes the tag of a POSIX locale's name, as [`from_posix`] returns it, into a buffer, and returns its length in bytes; None
+/// of a name that says none. Where the buffer is too short it stays as it was: the length says how much room there has to be.
+/// No memory is taken.
+pub fn write_from_posix(name: &[u8], buffer: &mut [u8]) -> Option<usize> {
+    let (place_and_codeset, modifier) = split_at_byte(name, b'@');
+    let (place, _codeset) = split_at_byte(place_and_codeset, b'.');
+    let mut room = [0; MOST];
+    let tag = tag_of_place(place, &mut room)?;
+    Some(write_modified(tag, modifier, buffer))
+}
+
+/// Returns the tag that a language and a territory are, written into this room.
+fn tag_of_place<'a>(place: &[u8], room: &'a mut [u8; MOST]) -> Option<LangTag<'a>> {
+    let bytes = room.get_mut(..place.len())?;
+    bytes.copy_from_slice(place);
+    hyphenate(bytes);
+    let tag = LangTag::from_bytes(bytes).ok()?;
+    if tag.eq_str("POSIX") {
+        return None;
+    }
+    Some(tag)
+}
+
+/// Writes a hyphen in place of each `_`.
+#[inline]
+fn hyphenate(bytes: &mut [u8]) {
+    for byte in bytes.iter_mut() {
+        if *byte == b'_' {
+            *byte = b'-';
+        }
+    }
+}
+
+/// Writes a tag with what a modifier says of its script or its variant.
+fn write_modified(tag: LangTag<'_>, modifier: &[u8], buffer: &mut [u8]) -> usize {
+    let Some(normal) = tag.as_normal() else {
+        return write_text(tag.as_bytes(), buffer);
+    };
+    match part_of(modifier) {
+        Some(part) => write_with(normal, part, buffer),
+        None => write_text(tag.as_bytes(), buffer),
+    }
+}
+
+/// Returns the part that a modifier says; None of one that says nothing of the language.
+fn part_of(modifier: &[u8]) -> Option<Part<'static>> {
+    if case_insensitive_eq(b"latin", modifier) {
+        return Some(script_part("Latn"));
+    }
+    if case_insensitive_eq(b"cyrillic", modifier) {
+        return Some(script_part("Cyrl"));
+    }
+    if case_insensitive_eq(b"devanagari", modifier) {
+        return Some(script_part("Deva"));
+    }
+    if case_insensitive_eq(b"valencia", modifier) {
+        return Some(variants_part("valencia"));
+    }
+    None
+}
+
+/// Returns the part that a script is.
+#[inline]
+fn script_part(script: &str) -> Part<'_> {
+    match Script::new(script) {
+        Ok(script) => Part::Script(Some(script)),
+        Err(_) => unreachable!(),
+    }
+}
+
+/// Returns the part that variants are.
+#[inline]
+fn variants_part(variants: &str) -> Part<'_> {
+    match Variants::new(variants) {
+        Ok(variants) => Part::Variants(variants),
+        Err(_) => unreachable!(),
+    }
+}
+
+/// Writes a tag with a part into a buffer, where it has room, and returns how long that tag is.
+fn write_with<'a>(tag: NormalLangTag<'a>, part: Part<'a>, buffer: &mut [u8]) -> usize {
+    let text = tag.as_str().as_bytes();
+    let new = put_part(tag, part);
+    let hyphen: &'a [u8] = new.hyphen.as_bytes();
+    let part = new.part.as_bytes();
+    let pieces = [&text[..new.start], hyphen, part, &text[new.end..]];
+    write_pieces(&pieces, buffer)
+}

@@ -1,0 +1,67 @@
+// Made by rust/erase from crates/langtag_likely/src/put.rt. Change that file, not this one.
+
+//! A tag with other fields.
+
+use crate::language::Language;
+use crate::likely::fields::or_other;
+use crate::likely::tag_fields::TagFields;
+use crate::registry::write_pieces;
+use crate::tag::NormalLangTag;
+
+/// Writes a tag with other fields into a buffer, or as it is where there are none.
+#[inline]
+pub(crate) fn write_changed(
+    tag: NormalLangTag<'_>,
+    fields: Option<TagFields<'_>>,
+    buffer: &mut [u8],
+) -> usize {
+    match fields {
+        Some(fields) => write_fields(tag, fields, buffer),
+        None => write_text(tag.as_str().as_bytes(), buffer),
+    }
+}
+
+/// Writes a tag with these fields into a buffer, where it has room, and returns how long that tag is.
+fn write_fields<'a>(tag: NormalLangTag<'a>, fields: TagFields<'a>, buffer: &mut [u8]) -> usize {
+    let pieces = [
+        put_language(tag.language(), fields.language),
+        hyphen_before(fields.script),
+        fields.script,
+        hyphen_before(fields.region),
+        fields.region,
+        after_region(tag),
+    ];
+    write_pieces(&pieces, buffer)
+}
+
+/// Writes a text.
+#[inline]
+pub(crate) fn write_text(text: &[u8], buffer: &mut [u8]) -> usize {
+    write_pieces(&[text], buffer)
+}
+
+/// Returns the hyphen before a subtag; nothing, if there is none.
+#[inline]
+fn hyphen_before(subtag: &[u8]) -> &[u8] {
+    if subtag.is_empty() {
+        b""
+    } else {
+        b"-"
+    }
+}
+
+/// Returns what stands in a tag after its region, with the hyphen before it.
+#[inline]
+fn after_region<'a>(tag: NormalLangTag<'a>) -> &'a [u8] {
+    let text = tag.as_str();
+    &text.as_bytes()[tag.ends().region..]
+}
+
+/// Returns the language of a tag, or another in place of `und`.
+#[inline]
+fn put_language<'a>(language: Language<'a>, other: &'a [u8]) -> &'a [u8] {
+    if language.eq_str("und") {
+        return or_other(other, language.as_bytes());
+    }
+    language.as_bytes()
+}

@@ -1,0 +1,84 @@
+// Made by rust/erase from crates/langtag_likely/src/tag_fields.rt. Change that file, not this one.
+
+//! The fields of a tag that likely subtags are about: its language, its script and its region.
+
+use crate::likely::fields::{known, language_field, or_other, region_field, script_field};
+use crate::scan::case_insensitive_eq;
+use crate::tag::NormalLangTag;
+
+/// A language, a script and a region, each the empty text where there is none.
+#[derive(Clone, Copy)]
+pub(crate) struct TagFields<'a> {
+    pub(crate) language: &'a [u8],
+    pub(crate) script: &'a [u8],
+    pub(crate) region: &'a [u8],
+}
+
+impl<'a> TagFields<'a> {
+    /// Returns the fields of a normal tag.
+    #[inline]
+    pub(crate) fn of(tag: NormalLangTag<'a>) -> TagFields<'a> {
+        TagFields {
+            language: language_field(tag.language()),
+            script: script_field(tag.script()),
+            region: region_field(tag.region()),
+        }
+    }
+
+    /// Returns the language alone.
+    #[inline]
+    pub(crate) fn language_alone(self) -> TagFields<'a> {
+        TagFields {
+            language: self.language,
+            script: b"",
+            region: b"",
+        }
+    }
+
+    /// Returns the language and the script.
+    #[inline]
+    pub(crate) fn without_region(self) -> TagFields<'a> {
+        TagFields {
+            language: self.language,
+            script: self.script,
+            region: b"",
+        }
+    }
+
+    /// Returns the language and the region.
+    #[inline]
+    pub(crate) fn without_script(self) -> TagFields<'a> {
+        TagFields {
+            language: self.language,
+            script: b"",
+            region: self.region,
+        }
+    }
+
+    /// Returns the fields without a script `Zzzz` and a region `ZZ`.
+    #[inline]
+    pub(crate) fn known(self) -> TagFields<'a> {
+        TagFields {
+            language: self.language,
+            script: known(b"Zzzz", self.script),
+            region: known(b"ZZ", self.region),
+        }
+    }
+
+    /// Returns these fields, and in place of each that is empty that of others.
+    pub(crate) fn filled(self, others: TagFields<'a>) -> TagFields<'a> {
+        TagFields {
+            language: or_other(self.language, others.language),
+            script: or_other(self.script, others.script),
+            region: or_other(self.region, others.region),
+        }
+    }
+
+    /// Returns whether the fields are equal but for case.
+    #[inline]
+    pub(crate) fn are_alike(self, others: TagFields<'_>) -> bool {
+        case_insensitive_eq(self.language, others.language)
+            && (case_insensitive_eq(self.script, others.script)
+                && case_insensitive_eq(self.region, others.region))
+    }
+}

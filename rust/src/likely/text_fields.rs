@@ -1,0 +1,66 @@
+// Made by rust/erase from crates/langtag_likely/src/text_fields.rt. Change that file, not this one.
+
+//! The fields of a text that need not be a tag.
+
+use crate::likely::fields::known;
+use crate::likely::tag_fields::TagFields;
+use crate::scan::{is_extended, is_primary, is_region, is_script, split_at_either};
+
+/// Returns the fields of a text in which `_` is read as `-`: None where it does not begin with a language.
+pub(crate) fn text_fields(text: &[u8]) -> Option<TagFields<'_>> {
+    let (first, rest) = first_subtag(text);
+    if !is_primary(first) {
+        return None;
+    }
+    let (language, rest) = last_extended(known(b"und", first), rest);
+    let (script, rest) = script_before(rest);
+    let region = region_before(rest);
+    Some(TagFields {
+        language,
+        script: known(b"Zzzz", script),
+        region: known(b"ZZ", region),
+    })
+}
+
+/// Returns the last of the extended subtags in front, or else the language before them, and what follows.
+fn last_extended<'a>(language: &'a [u8], text: &'a [u8]) -> (&'a [u8], &'a [u8]) {
+    let mut language = language;
+    let mut left = text;
+    while !left.is_empty() {
+        let (subtag, rest) = first_subtag(left);
+        if !is_extended(subtag) {
+            return (language, left);
+        }
+        language = subtag;
+        left = rest;
+    }
+    (language, left)
+}
+
+/// Returns the script in front, and what follows.
+#[inline]
+fn script_before<'a>(text: &'a [u8]) -> (&'a [u8], &'a [u8]) {
+    let (subtag, rest) = first_subtag(text);
+    if is_script(subtag) {
+        (subtag, rest)
+    } else {
+        (b"", text)
+    }
+}
+
+/// Returns the region in front.
+#[inline]
+fn region_before(text: &[u8]) -> &[u8] {
+    let (subtag, _) = first_subtag(text);
+    if is_region(subtag) {
+        subtag
+    } else {
+        b""
+    }
+}
+
+/// Returns what stands before the first `-` or `_`, and what stands after it.
+#[inline]
+fn first_subtag(text: &[u8]) -> (&[u8], &[u8]) {
+    split_at_either(text, b'-', b'_')
+}

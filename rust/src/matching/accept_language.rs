@@ -1,0 +1,156 @@
+// Made by rust/erase from crates/langtag_match/src/accept_language.rt. Change that file, not this one.
+
+//! The language ranges that an Accept-Language header asks for (RFC 9110 section 12.5.4).
+
+#[cfg(feature = "alloc")]
+use crate::matching::accept_language_error::AcceptLanguageError;
+use crate::matching::element::{element_at, is_empty_element};
+use crate::matching::lookup::tag_for;
+use crate::matching::weighted_range::WeightedRange;
+#[cfg(feature = "alloc")]
+use crate::shim::{AllocError, TryItems};
+use crate::tag::LangTag;
+#[cfg(feature = "alloc")]
+use alloc::vec::Vec;
+use core::cmp::Reverse;
+
+/// The ranges that a header accepts, those of the greatest weight first: of `fr;q=0.5, de, *;q=0` they are `de` with the
+/// weight 1000 and `fr` with 500.
+///
+/// ```
+/// # fn main() -> Result<(), Box<dyn std::error::Error>> {
+/// use langtag::matching::AcceptLanguage;
+///
+/// let accepted = AcceptLanguage::new("fr;q=0.5, de, *;q=0")?;
+/// assert_eq!(accepted.ranges().len(), 2);
+/// assert_eq!(accepted.ranges()[0].range.as_str(), "de");
+/// # Ok(())
+/// # }
+/// ```
+#[cfg(feature = "alloc")]
+#[derive(Debug)]
+pub struct AcceptLanguage<'a> {
+    ranges: Vec<WeightedRange<'a>>,
+}
+
+#[cfg(feature = "alloc")]
+impl<'a> AcceptLanguage<'a> {
+    /// Reads a header, and leaves out the ranges of weight 0, which are not acceptable. Ranges of one weight keep their
+    /// order, and empty elements are passed over: `AcceptLanguage::new(",de,")` is Ok.
+    ///
+    /// # Errors
+    ///
+    /// Refuses a whole header for one element that is neither empty nor a basic language range with or without a weight, and
+    /// returns it with the offset of the first such element; or out of memory.
+    #[inline]
+    pub fn new(header: &'a str) -> Result<AcceptLanguage<'a>, AcceptLanguageError<'a>> {
+        let read = elements(header)?;
+        Ok(AcceptLanguage::by_weight(read)?)
+    }
+
+    /// Reads a header as [`AcceptLanguage::new`] does, and passes bad elements over: of `de, *-CH` it takes `de`.
+    ///
+    /// # Errors
+    ///
+    /// Out of memory.
+    #[inline]
+    pub fn lenient(header: &'a str) -> Result<AcceptLanguage<'a>, AllocError> {
+        let read = good_elements(header)?;
+        AcceptLanguage::by_weight(read)
+    }
+
+    /// Leaves out the elements of weight 0, and sorts the others by falling weight.
+    fn by_weight(elements: Vec<WeightedRange<'a>>) -> Result<AcceptLanguage<'a>, AllocError> {
+        let mut ranges = elements;
+        ranges.retain(|weighted| weighted.weight > 0);
+        ranges.try_sort_by_key(|weighted| Reverse(weighted.weight))?;
+        Ok(AcceptLanguage { ranges })
+    }
+
+    /// Returns the ranges, those of the greatest weight first: `ranges()[0].range.as_str()` is `"de"` for `fr;q=0.5,
+    /// de`. It is proved which of them are equal, and that a clone of one is the same.
+    #[inline]
+    pub fn ranges(&self) -> &[WeightedRange<'a>] {
+        self.ranges.as_slice()
+    }
+
+    /// Looks up a tag for the ranges, or returns the default, as [`look_up`](crate::matching::look_up) does: `de-CH` for
+    /// `fr;q=0.3, DE-ch-1996;q=0.9` and the tags `de-CH` and `fr`.
+    #[inline]
+    pub fn look_up<'t>(&self, tags: &[LangTag<'t>], default: LangTag<'t>) -> LangTag<'t> {
+        for weighted in self.ranges() {
+            if let Some(tag) = tag_for(weighted.range, tags) {
+                return tag;
+            }
+        }
+        default
+    }
+}
+
+/// Looks up a tag for a header: `AcceptLanguage::new` and `look_up` in one call.
+///
+/// For `fr;q=0.3, DE-ch-1996;q=0.9` and the tags `de-CH` and `fr` it is `de-CH`.
+///
+/// This is RFC 4647 to the letter: `zh-TW` finds no `zh-Hant`. What a site wants is `langtag::likely::best_for_header`.
+///
+/// # Errors
+///
+/// Those of [`AcceptLanguage::new`].
+#[cfg(feature = "alloc")]
+#[inline]
+pub fn tag_for_header<'h, 't>(
+    header: &'h str,
+    tags: &[LangTag<'t>],
+    default: LangTag<'t>,
+) -> Result<LangTag<'t>, AcceptLanguageError<'h>> {
+    let accepted = AcceptLanguage::new(header)?;
+    Ok(accepted.look_up(tags, default))
+}
+
+/// Returns the elements of a header, in order.
+#[cfg(feature = "alloc")]
+fn elements(header: &str) -> Result<Vec<WeightedRange<'_>>, AcceptLanguageError<'_>> {
+    let mut elements = Vec::new();
+    for (index, item) in header.split(',').enumerate() {
+        let item = item.as_bytes();
+        match element_at(item) {
+            Ok(element) => elements
+                .try_push(element.weighted)
+                .map_err(AllocError::from)?,
+            Err(_) if is_empty_element(item) => {}
+            Err(part) => {
+                return Err(AcceptLanguageError::BadElement {
+                    header,
+                    index,
+                    offset: offset_of(header, index),
+                    part,
+                });
+            }
+        }
+    }
+    Ok(elements)
+}
+
+/// Returns the elements of a header, in order, and passes over what is bad.
+#[cfg(feature = "alloc")]
+fn good_elements(header: &str) -> Result<Vec<WeightedRange<'_>>, AllocError> {
+    let mut elements = Vec::new();
+    for item in header.split(',') {
+        if let Ok(element) = element_at(item.as_bytes()) {
+            elements
+                .try_push(element.weighted)
+                .map_err(AllocError::from)?;
+        }
+    }
+    Ok(elements)
+}
+
+/// Returns how many bytes stand before the item at an index.
+#[inline]
+fn offset_of(header: &str, index: usize) -> usize {
+    header
+        .split(',')
+        .take(index)
+        .map(|item| item.len() + 1)
+        .sum()
+}

@@ -1,0 +1,19 @@
+// Made by rust/erase from crates/langtag_match/src/basic.rt. Change that file, not this one.
+
+//! Basic filtering (RFC 4647 section 3.3.1).
+
+use crate::tag::case_insensitive_eq;
+
+/// Returns whether a range is `*`, or a tag is equal to it but for case, or begins so and goes on with a hyphen.
+#[inline]
+pub(crate) fn matches_basic(range: &str, tag: &str) -> bool {
+    range == "*" || begins_with(tag.as_bytes(), range.as_bytes())
+}
+
+/// Returns whether a tag is a range but for case, or begins so and goes on with a hyphen.
+fn begins_with(tag: &[u8], range: &[u8]) -> bool {
+    if range.len() > tag.len() || !case_insensitive_eq(range, &tag[..range.len()]) {
+        return false;
+    }
+    range.len() == tag.len() || tag[range.len()] == b'-'
+}

@@ -1,0 +1,105 @@
+// Made by rust/erase from crates/langtag_match/src/element.rt. Change that file, not this one.
+
+//! An element of an Accept-Language header: a language range, and a weight (RFC 9110 section 12.5.4).
+
+use crate::matching::accept_language_error::ElementPart;
+use crate::matching::language_range::LanguageRange;
+use crate::matching::range_text::is_basic_range;
+use crate::matching::weight::weight_of;
+use crate::matching::weighted_range::WeightedRange;
+use crate::scan::len_before;
+
+/// An element of a header, and where its range stands.
+///
+/// ```
+/// use langtag::matching::element_at;
+///
+/// let element = element_at(b" fr;q=0.5").ok();
+/// assert_eq!(element.map(|element| (element.start, element.weighted.weight)), Some((1, 500)));
+/// ```
+#[derive(Debug)]
+pub struct Element<'a> {
+    /// The number of bytes before the range: spaces and tabs.
+    pub start: usize,
+    /// The range and its weight.
+    pub weighted: WeightedRange<'a>,
+}
+
+/// Reads what stands between two commas of an Accept-Language header (RFC 9110 section 12.5.4), which need not be UTF-8: of
+/// ` fr;q=0.5` the range is `fr`, which begins at 1, and the weight 500. Without a weight it is 1000.
+///
+/// # Errors
+///
+/// Returns the part that is bad where it is not an element: of `fr_FR` the range, of `fr;q=2` the weight, and the range where
+/// both are. It is the range too where nothing stands there, or white space alone, which [`is_empty_element`] tells.
+pub fn element_at(item: &[u8]) -> Result<Element<'_>, ElementPart> {
+    let end = len_before(item, b';');
+    let before = &item[..end];
+    let (start, stop) = trimmed_place(before);
+    let Some(range) = basic_range(&before[start..stop]) else {
+        return Err(ElementPart::Range);
+    };
+    let Some(weight) = weight_after(item, end) else {
+        return Err(ElementPart::Weight);
+    };
+    let weighted = WeightedRange { range, weight };
+    Ok(Element { start, weighted })
+}
+
+/// Returns whether what stands between two commas of a header is empty, but for spaces and tabs: such an element is to be
+/// passed over (RFC 9110 section 5.6.1.2).
+#[inline]
+pub fn is_empty_element(item: &[u8]) -> bool {
+    item.iter().all(|byte| is_space(*byte))
+}
+
+/// Returns the weight that stands after the first `;`, and 1000 where there is none.
+fn weight_after(item: &[u8], semicolon: usize) -> Option<u32> {
+    if semicolon == item.len() {
+        return Some(1000);
+    }
+    let text = &item[semicolon + 1..];
+    let (start, end) = trimmed_place(text);
+    weight_of(&text[start..end])
+}
+
+/// Returns the basic language range that the bytes are, if they are one.
+fn basic_range(bytes: &[u8]) -> Option<LanguageRange<'_>> {
+    let text = core::str::from_utf8(bytes).ok()?;
+    if !is_basic_range(text) {
+        return None;
+    }
+    Some(LanguageRange::from_checked(text))
+}
+
+/// Returns where a text begins and ends without the white space around it.
+#[inline]
+pub(crate) fn trimmed_place(text: &[u8]) -> (usize, usize) {
+    let start = leading_spaces(text);
+    (start, start + len_without_spaces(&text[start..]))
+}
+
+/// Returns how many bytes of white space a text begins with.
+#[inline]
+fn leading_spaces(text: &[u8]) -> usize {
+    let mut start = 0;
+    while start < text.len() && is_space(text[start]) {
+        start += 1;
+    }
+    start
+}
+
+/// Returns the length without the white space at the end.
+#[inline]
+fn len_without_spaces(text: &[u8]) -> usize {
+    let mut len = text.len();
+    while len > 0 && is_space(text[len - 1]) {
+        len -= 1;
+    }
+    len
+}
+
+#[inline]
+fn is_space(byte: u8) -> bool {
+    byte == b' ' || byte == b'\t'
+}

@@ -1,0 +1,47 @@
+// Made by rust/erase from crates/langtag_match/src/extended.rt. Change that file, not this one.
+
+//! Extended filtering (RFC 4647 section 3.3.2).
+
+use crate::tag::{case_insensitive_eq, Subtags};
+
+/// Returns whether the first subtags match, and the others of the range stand among those of the tag.
+pub(crate) fn matches_extended(range: &str, tag: &str) -> bool {
+    let mut wanted = Subtags::new(range);
+    let mut subtags = Subtags::new(tag);
+    let (Some(first), Some(subtag)) = (wanted.next(), subtags.next()) else {
+        return false;
+    };
+    matches_first(first, subtag) && stand_among(wanted, subtags)
+}
+
+/// Returns whether a subtag of a range is `*`, or that of a tag but for case.
+#[inline]
+fn matches_first(range: &str, subtag: &str) -> bool {
+    range == "*" || case_insensitive_eq(range.as_bytes(), subtag.as_bytes())
+}
+
+/// Returns whether the subtags of a range, but for each `*`, stand among those of a tag in their order, with no singleton
+/// left out between.
+#[inline]
+fn stand_among(wanted: Subtags<'_>, mut subtags: Subtags<'_>) -> bool {
+    for subtag in wanted {
+        if subtag != "*" && !pass(&mut subtags, subtag) {
+            return false;
+        }
+    }
+    true
+}
+
+/// Goes on to what follows the next subtag that is the wanted one but for case. Returns false where none stands before
+/// the next singleton.
+fn pass(subtags: &mut Subtags<'_>, wanted: &str) -> bool {
+    while let Some(subtag) = subtags.next() {
+        if case_insensitive_eq(wanted.as_bytes(), subtag.as_bytes()) {
+            return true;
+        }
+        if subtag.len() == 1 {
+            return false;
+        }
+    }
+    false
+}

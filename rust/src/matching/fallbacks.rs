@@ -1,0 +1,74 @@
+// Made by rust/erase from crates/langtag_match/src/fallbacks.rt. Change that file, not this one.
+
+//! What is left of a language range when subtags are taken away from its end (RFC 4647 section 3.4).
+
+use crate::matching::language_range::LanguageRange;
+use crate::tag::segment_start;
+
+/// What is left of a range when subtags are taken away from its end, the longest first and the range itself before all:
+/// `zh-Hant-TW`, `zh-Hant` and `zh` (RFC 4647 section 3.4).
+///
+/// A single letter or digit goes with the subtag after it, and so does `*`: `de-CH-x-a` is followed by `de-CH`, and
+/// `de-*-DE` by `de`.
+///
+/// ```
+/// # fn main() -> Result<(), Box<dyn std::error::Error>> {
+/// use langtag::matching::LanguageRange;
+///
+/// let range = LanguageRange::new("de-CH-x-a")?;
+/// let mut shorter = range.fallbacks();
+/// assert_eq!(shorter.next().map(|range| range.as_str()), Some("de-CH-x-a"));
+/// assert_eq!(shorter.next().map(|range| range.as_str()), Some("de-CH"));
+/// # Ok(())
+/// # }
+/// ```
+#[derive(Clone, Debug)]
+pub struct Fallbacks<'a> {
+    rest: Option<LanguageRange<'a>>,
+}
+
+impl<'a> Fallbacks<'a> {
+    /// Starts at the range itself.
+    #[inline]
+    pub(crate) fn new(range: LanguageRange<'a>) -> Self {
+        Fallbacks { rest: Some(range) }
+    }
+}
+
+impl<'a> Iterator for Fallbacks<'a> {
+    type Item = LanguageRange<'a>;
+
+    #[inline]
+    fn next(&mut self) -> Option<LanguageRange<'a>> {
+        let range = self.rest?;
+        self.rest = shortened(range);
+        Some(range)
+    }
+}
+
+/// Returns what is left of a range without its last subtag, and without each single character that would stand last then.
+fn shortened(range: LanguageRange<'_>) -> Option<LanguageRange<'_>> {
+    let mut text = range.as_str();
+    while let Some(before) = without_last(text) {
+        if !ends_in_single(before) {
+            return Some(LanguageRange::from_checked(before));
+        }
+        text = before;
+    }
+    None
+}
+
+/// Returns what stands before the last hyphen of a text.
+fn without_last(text: &str) -> Option<&str> {
+    let start = segment_start(text.as_bytes(), text.len());
+    if start == 0 {
+        return None;
+    }
+    Some(&text[..start - 1])
+}
+
+/// Returns whether the last subtag of a text is a single character.
+#[inline]
+fn ends_in_single(text: &str) -> bool {
+    matches!(text.as_bytes(), [_] | [.., b'-', _])
+}

@@ -1,0 +1,144 @@
+// Made by rust/erase from crates/langtag_match/src/filter.rt. Change that file, not this one.
+
+//! Filtering of a list of tags by a language priority list (RFC 4647 section 3.3).
+
+use crate::matching::filter_rule::FilterRule;
+use crate::matching::language_range::LanguageRange;
+use crate::tag::LangTag;
+
+/// Iterates over the tags that basic filtering finds for a language priority list (RFC 4647 sections 3.3 and 3.3.1): those
+/// of the first range in their order, and then, for each later range, those that no range before it matches.
+///
+/// For the ranges `de-CH` and `de` and the tags `en`, `de-AT` and `de-CH-1996` these are `de-CH-1996` and `de-AT`. A tag is
+/// found as often as it stands in the list.
+///
+/// Each tag is compared with each range, and with those before it once more for each range that matches it: where many
+/// ranges match one tag the time grows with the square of their number.
+#[inline]
+pub fn filter_basic<'a, 't>(
+    ranges: &'a [LanguageRange<'a>],
+    tags: &'a [LangTag<'t>],
+) -> Filtered<'a, 't> {
+    Filtered::new(FilterRule::Basic, ranges, tags)
+}
+
+/// Does the same by extended filtering (section 3.3.2), at the same cost: for `*-CH` and the tags `de-AT` and `de-Latn-CH`
+/// it is `de-Latn-CH`.
+#[inline]
+pub fn filter_extended<'a, 't>(
+    ranges: &'a [LanguageRange<'a>],
+    tags: &'a [LangTag<'t>],
+) -> Filtered<'a, 't> {
+    Filtered::new(FilterRule::Extended, ranges, tags)
+}
+
+/// The tags that [`filter_basic`] or [`filter_extended`] finds and that are still to come. It takes no memory.
+///
+/// ```
+/// # fn main() -> Result<(), Box<dyn std::error::Error>> {
+/// use langtag::LangTag;
+/// use langtag::matching::{LanguageRange, filter_basic};
+///
+/// let tags = [LangTag::new("en")?, LangTag::new("de-AT")?];
+/// assert_eq!(filter_basic(&[LanguageRange::new("de")?], &tags).count(), 1);
+/// # Ok(())
+/// # }
+/// ```
+#[derive(Clone, Debug)]
+pub struct Filtered<'a, 't> {
+    rule: FilterRule,
+    ranges: &'a [LanguageRange<'a>],
+    tags: &'a [LangTag<'t>],
+    range_index: usize,
+    tag_index: usize,
+}
+
+impl<'a, 't> Filtered<'a, 't> {
+    /// Starts at the first tag that the ranges find.
+    #[inline]
+    fn new(
+        rule: FilterRule,
+        ranges: &'a [LanguageRange<'a>],
+        tags: &'a [LangTag<'t>],
+    ) -> Filtered<'a, 't> {
+        Filtered {
+            rule,
+            ranges,
+            tags,
+            range_index: 0,
+            tag_index: 0,
+        }
+    }
+}
+
+impl<'a, 't> Iterator for Filtered<'a, 't> {
+    type Item = LangTag<'t>;
+
+    fn next(&mut self) -> Option<LangTag<'t>> {
+        let Some((range_index, tag_index)) = next_place(
+            self.rule,
+            self.ranges,
+            self.tags,
+            self.range_index,
+            self.tag_index,
+        ) else {
+            self.range_index = self.ranges.len();
+            return None;
+        };
+        self.range_index = range_index;
+        self.tag_index = tag_index + 1;
+        Some(self.tags[tag_index])
+    }
+}
+
+/// Returns the indices of the next range that finds a tag and of that tag, from a range on and a tag of it on.
+fn next_place(
+    rule: FilterRule,
+    ranges: &[LanguageRange<'_>],
+    tags: &[LangTag<'_>],
+    range_index: usize,
+    tag_index: usize,
+) -> Option<(usize, usize)> {
+    let mut from = tag_index;
+    for index in range_index..ranges.len() {
+        if let Some(found) = next_found(rule, &ranges[..index], ranges[index], tags, from) {
+            return Some((index, found));
+        }
+        from = 0;
+    }
+    None
+}
+
+/// Returns the index of the first tag, from an index on, that a range matches and none of the ranges before it.
+#[inline]
+fn next_found(
+    rule: FilterRule,
+    before: &[LanguageRange<'_>],
+    range: LanguageRange<'_>,
+    tags: &[LangTag<'_>],
+    from: usize,
+) -> Option<usize> {
+    for index in from..tags.len() {
+        if is_newly_found(rule, before, range, tags[index]) {
+            return Some(index);
+        }
+    }
+    None
+}
+
+/// Returns whether a range matches a tag, and none of the ranges before it does.
+#[inline]
+fn is_newly_found(
+    rule: FilterRule,
+    before: &[LanguageRange<'_>],
+    range: LanguageRange<'_>,
+    tag: LangTag<'_>,
+) -> bool {
+    rule.matches(range, tag) && !is_found(rule, before, tag)
+}
+
+/// Returns whether one of some ranges matches a tag.
+#[inline]
+fn is_found(rule: FilterRule, ranges: &[LanguageRange<'_>], tag: LangTag<'_>) -> bool {
+    ranges.iter().any(|range| rule.matches(*range, tag))
+}

@@ -1,0 +1,206 @@
+// Made by rust/erase from crates/langtag_match/src/language_range.rt. Change that file, not this one.
+
+//! Language ranges (RFC 4647 section 2), borrowed and owned.
+
+use crate::matching::basic::matches_basic;
+use crate::matching::extended::matches_extended;
+use crate::matching::fallbacks::Fallbacks;
+use crate::matching::range_text::{is_basic_range, is_language_range};
+use crate::scan::Caseless;
+#[cfg(feature = "alloc")]
+use crate::shim::{try_string, AllocError};
+use crate::tag::LangTag;
+#[cfg(feature = "alloc")]
+use alloc::string::String;
+use core::fmt;
+
+/// The error for a text that is not a language range. It holds the text.
+///
+/// ```
+/// use langtag::matching::LanguageRange;
+///
+/// assert_eq!(LanguageRange::new("de_CH").err().map(|error| error.0), Some("de_CH"));
+/// ```
+#[derive(Debug)]
+pub struct InvalidLanguageRange<T>(pub T);
+
+impl<T> fmt::Display for InvalidLanguageRange<T> {
+    #[inline]
+    fn fmt(&self, f: &mut fmt::Formatter<'_>) -> fmt::Result {
+        f.write_str("invalid language range")
+    }
+}
+
+impl<T: fmt::Debug> core::error::Error for InvalidLanguageRange<T> {}
+
+/// A language range, basic or extended (RFC 4647 sections 2.1 and 2.2): `de-CH`, `*`, `*-CH`, `de-*-DE`.
+///
+/// It is one or more subtags of up to eight letters or digits, the first of letters alone, and in the place of each may
+/// stand `*`. A range need not be a tag: `de-x` and `a-1` are ranges. Two ranges are equal where their texts differ at most
+/// in the case of ASCII letters.
+///
+/// ```
+/// # fn main() -> Result<(), Box<dyn std::error::Error>> {
+/// use langtag::LangTag;
+/// use langtag::matching::LanguageRange;
+///
+/// let range = LanguageRange::new("de-*-DE")?;
+/// assert!(range.matches_extended(&LangTag::new("de-Latn-DE-1996")?));
+/// assert!(!range.matches_basic(&LangTag::new("de-Latn-DE-1996")?));
+/// # Ok(())
+/// # }
+/// ```
+#[derive(Clone, Copy, Debug, PartialEq, Eq, PartialOrd, Ord, Hash)]
+pub struct LanguageRange<'a> {
+    text: Caseless<&'a str>,
+}
+
+impl<'a> LanguageRange<'a> {
+    /// Reads a text as a range: `LanguageRange::new("de-*-DE")` is Ok.
+    ///
+    /// # Errors
+    ///
+    /// Returns the text where it is not a range: `LanguageRange::new("de_DE")` is `Err(InvalidLanguageRange("de_DE"))`.
+    #[inline]
+    pub fn new(text: &'a str) -> Result<LanguageRange<'a>, InvalidLanguageRange<&'a str>> {
+        if !is_language_range(text) {
+            return Err(InvalidLanguageRange(text));
+        }
+        Ok(LanguageRange::from_checked(text))
+    }
+
+    /// Makes a range of a text that is known to be one, and does not read it again.
+    /// `LanguageRange::from_checked(range.as_str())` is equal to `range`.
+    #[inline]
+    pub(crate) fn from_checked(text: &'a str) -> LanguageRange<'a> {
+        LanguageRange {
+            text: Caseless(text),
+        }
+    }
+
+    /// Returns the text, with its case: `LanguageRange::new("de-ch")?.as_str()` is `"de-ch"`.
+    #[inline]
+    pub fn as_str(&self) -> &'a str {
+        self.text.0
+    }
+
+    /// Returns whether any text is equal but for the case of ASCII letters:
+    /// `LanguageRange::new("de-CH")?.eq_str("DE-ch")` is true. It is proved that ranges compare and hash so, and that a
+    /// clone is the range itself.
+    #[inline]
+    pub fn eq_str(&self, other: &str) -> bool {
+        self.text == Caseless(other)
+    }
+
+    /// Returns whether the range is a basic one (RFC 4647 section 2.1): true of `de-CH` and of `*`, false of `*-CH`.
+    #[inline]
+    pub fn is_basic(&self) -> bool {
+        is_basic_range(self.as_str())
+    }
+
+    /// Returns whether the range matches a tag by basic filtering (RFC 4647 section 3.3.1): `de-DE` matches `de-DE-1996`, and
+    /// neither `de-Deva` nor `de-Latn-DE`.
+    ///
+    /// It is meant for basic ranges. A `*` beside other subtags equals no subtag of a tag, so `de-*` matches nothing.
+    #[inline]
+    pub fn matches_basic(&self, tag: &LangTag<'_>) -> bool {
+        matches_basic(self.as_str(), tag.as_str())
+    }
+
+    /// Returns whether the range matches a tag by extended filtering (RFC 4647 section 3.3.2): `de-DE` and `de-*-DE` match
+    /// `de-Latn-DE-1996`, and not `de-x-DE`, where a singleton would be left out.
+    #[inline]
+    pub fn matches_extended(&self, tag: &LangTag<'_>) -> bool {
+        matches_extended(self.as_str(), tag.as_str())
+    }
+
+    /// Iterates over the range and what is left of it when subtags are taken away from its end, the longest first (RFC 4647
+    /// section 3.4): `zh-Hant-TW`, `zh-Hant` and `zh`. [`look_up`](crate::matching::look_up) looks for these.
+    #[inline]
+    pub fn fallbacks(&self) -> Fallbacks<'a> {
+        Fallbacks::new(*self)
+    }
+
+    /// Copies the text into an owned range: `LanguageRange::new("de-*")?.try_to_owned()?.as_str()` is `"de-*"`.
+    ///
+    /// # Errors
+    ///
+    /// Out of memory.
+    #[cfg(feature = "alloc")]
+    #[inline]
+    pub fn try_to_owned(&self) -> Result<LanguageRangeBuf, AllocError> {
+        let text = try_string(self.as_str())?;
+        Ok(LanguageRangeBuf {
+            text: Caseless(text),
+        })
+    }
+}
+
+impl fmt::Display for LanguageRange<'_> {
+    #[inline]
+    fn fmt(&self, f: &mut fmt::Formatter<'_>) -> fmt::Result {
+        f.write_str(self.as_str())
+    }
+}
+
+/// A language range that owns its text.
+///
+/// ```
+/// # fn main() -> Result<(), Box<dyn std::error::Error>> {
+/// use langtag::matching::LanguageRange;
+///
+/// let owned = LanguageRange::new("de-*")?.try_to_owned()?;
+/// assert!(owned.as_language_range() == LanguageRange::new("DE-*")?);
+/// # Ok(())
+/// # }
+/// ```
+#[cfg(feature = "alloc")]
+#[derive(Debug, PartialEq, Eq, PartialOrd, Ord, Hash)]
+pub struct LanguageRangeBuf {
+    text: Caseless<String>,
+}
+
+#[cfg(feature = "alloc")]
+impl LanguageRangeBuf {
+    /// Reads a text as a range, and neither copies it nor moves it in memory: of the `String` `de-*` it is Ok.
+    ///
+    /// # Errors
+    ///
+    /// Returns the same `String` where it is not a range, as `de-`.
+    #[inline]
+    pub fn new(text: String) -> Result<LanguageRangeBuf, InvalidLanguageRange<String>> {
+        if !is_language_range(text.as_str()) {
+            return Err(InvalidLanguageRange(text));
+        }
+        Ok(LanguageRangeBuf {
+            text: Caseless(text),
+        })
+    }
+
+    /// Borrows the range: `as_language_range().is_basic()` of the owned `de` is true. It is proved that owned ranges
+    /// compare and hash without regard to case.
+    #[inline]
+    pub fn as_language_range(&self) -> LanguageRange<'_> {
+        LanguageRange::from_checked(self.as_str())
+    }
+
+    /// Returns the text, with its case: `as_str()` of the owned `de-ch` is `"de-ch"`.
+    #[inline]
+    pub fn as_str(&self) -> &str {
+        self.text.0.as_str()
+    }
+
+    /// Returns the text itself, which is not copied: `into_string()` of the owned `de-ch` is the `String` `de-ch`.
+    #[inline]
+    pub fn into_string(self) -> String {
+        self.text.0
+    }
+}
+
+#[cfg(feature = "alloc")]
+impl fmt::Display for LanguageRangeBuf {
+    #[inline]
+    fn fmt(&self, f: &mut fmt::Formatter<'_>) -> fmt::Result {
+        f.write_str(self.as_str())
+    }
+}

@@ -1,0 +1,75 @@
+// Made by rust/erase from crates/langtag_match/src/lookup.rt. Change that file, not this one.
+
+//! The look-up of one tag for a list of ranges (RFC 4647 section 3.4).
+
+use crate::matching::language_range::LanguageRange;
+use crate::tag::LangTag;
+
+/// Returns the tag of the first range that finds one, or the default (RFC 4647 section 3.4). A range finds the tag that is
+/// equal to it, or else to the first of its [`fallbacks`](LanguageRange::fallbacks) that is one of the tags.
+///
+/// For the ranges `nl` and `zh-Hant-CN` it is `nl` where the tags have it, else `zh-Hant-CN`, `zh-Hant` or `zh`, and else
+/// the default.
+///
+/// An extended range is looked up as the basic one without its `*` (section 3.2): `de-*-DE` as `de-DE`. A range that begins
+/// with `*` finds no tag, so that the next range is looked up.
+#[inline]
+pub fn look_up<'a>(
+    ranges: &[LanguageRange<'_>],
+    tags: &[LangTag<'a>],
+    default: LangTag<'a>,
+) -> LangTag<'a> {
+    for range in ranges {
+        if let Some(tag) = tag_for(*range, tags) {
+            return tag;
+        }
+    }
+    default
+}
+
+/// Returns the tag that a range finds.
+#[inline]
+pub(crate) fn tag_for<'a>(range: LanguageRange<'_>, tags: &[LangTag<'a>]) -> Option<LangTag<'a>> {
+    for fallback in range.fallbacks() {
+        if let Some(tag) = tag_alike(fallback, tags) {
+            return Some(tag);
+        }
+    }
+    None
+}
+
+/// Returns the first tag that is a range, in any case.
+#[inline]
+fn tag_alike<'a>(range: LanguageRange<'_>, tags: &[LangTag<'a>]) -> Option<LangTag<'a>> {
+    let range = range.as_str().as_bytes();
+    tags.iter()
+        .copied()
+        .find(|tag| is_range(tag.as_bytes(), range))
+}
+
+/// Returns whether a tag is a range without each `-*`, in any case.
+fn is_range(tag: &[u8], range: &[u8]) -> bool {
+    let mut tag = tag;
+    let mut range = range;
+    while let [first, others @ ..] = range {
+        if begins_with_wildcard(range) {
+            range = &range[2..];
+            continue;
+        }
+        let [byte, rest @ ..] = tag else {
+            return false;
+        };
+        if !byte.eq_ignore_ascii_case(first) {
+            return false;
+        }
+        tag = rest;
+        range = others;
+    }
+    tag.is_empty()
+}
+
+/// Returns whether a text begins with `-*`.
+#[inline]
+fn begins_with_wildcard(text: &[u8]) -> bool {
+    matches!(text, [b'-', b'*', ..])
+}

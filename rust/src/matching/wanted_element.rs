@@ -1,0 +1,101 @@
+// Made by rust/erase from crates/langtag_match/src/wanted_element.rt. Change that file, not this one.
+
+//! An element of a header of which nothing is refused.
+
+use crate::matching::element::trimmed_place;
+use crate::matching::range_text::is_first_subtag;
+use crate::matching::wanted::WantedRange;
+use crate::matching::weight::{are_digits, digit_at};
+use crate::scan::{first_place, split_at_byte, split_at_either};
+use crate::tag::is_private_subtag;
+
+/// Returns the range that an item of a header has, with its weight.
+pub(crate) fn wanted_at(item: &[u8]) -> Option<WantedRange<'_>> {
+    let (before, parameters) = split_at_byte(item, b';');
+    let (bytes, _codeset) = split_at_either(trimmed(before), b'.', b'@');
+    if !is_wanted_range(bytes) {
+        return None;
+    }
+    let weight = wanted_weight(parameters);
+    Some(WantedRange { bytes, weight })
+}
+
+/// Returns whether a text is a basic language range where `_` is read as `-`.
+#[inline]
+fn is_wanted_range(text: &[u8]) -> bool {
+    let (first, _) = split_at_either(text, b'-', b'_');
+    is_star(text) || (is_first_subtag(first) && are_wanted_subtags(text))
+}
+
+#[inline]
+fn is_star(text: &[u8]) -> bool {
+    matches!(text, [b'*'])
+}
+
+/// Returns whether each subtag is 1 to 8 letters or digits.
+#[inline]
+fn are_wanted_subtags(text: &[u8]) -> bool {
+    text.split(|byte| is_mark(*byte))
+        .all(|subtag| is_private_subtag(subtag))
+}
+
+#[inline]
+fn is_mark(byte: u8) -> bool {
+    byte == b'-' || byte == b'_'
+}
+
+/// Returns the weight that the first parameter named `q` says, and 1000 without one.
+fn wanted_weight(parameters: &[u8]) -> u32 {
+    let mut left = parameters;
+    while !left.is_empty() {
+        let (parameter, rest) = split_at_byte(left, b';');
+        if let Some(value) = q_value(parameter) {
+            return value_weight(value);
+        }
+        left = rest;
+    }
+    1000
+}
+
+/// Returns the value of a parameter named `q`.
+fn q_value(parameter: &[u8]) -> Option<&[u8]> {
+    let Some(equals) = first_place(parameter, b'=') else {
+        return None;
+    };
+    if !is_q_name(trimmed(&parameter[..equals])) {
+        return None;
+    }
+    Some(trimmed(&parameter[equals + 1..]))
+}
+
+#[inline]
+fn is_q_name(name: &[u8]) -> bool {
+    matches!(name, [b'q' | b'Q'])
+}
+
+/// Returns the weight that a value says: 1 where it is no number or a number above 1.
+fn value_weight(value: &[u8]) -> u32 {
+    let (whole, fraction) = split_at_byte(value, b'.');
+    if !is_number(whole, fraction) || !are_zeros(whole) {
+        return 1000;
+    }
+    100 * digit_at(fraction, 0) + 10 * digit_at(fraction, 1) + digit_at(fraction, 2)
+}
+
+/// Returns whether what stands before and after a point are digits, and not both nothing.
+#[inline]
+fn is_number(whole: &[u8], fraction: &[u8]) -> bool {
+    are_digits(whole, b'9') && are_digits(fraction, b'9') && whole.len() + fraction.len() > 0
+}
+
+/// Returns a text without the white space around it.
+#[inline]
+fn trimmed(text: &[u8]) -> &[u8] {
+    let (start, end) = trimmed_place(text);
+    &text[start..end]
+}
+
+#[inline]
+fn are_zeros(digits: &[u8]) -> bool {
+    digits.iter().all(|digit| *digit == b'0')
+}

@@ -1,0 +1,178 @@
+// Made by rust/erase from crates/langtag_place/src/region.rt. Change that file, not this one.
+
+//! The region subtag (RFC 5646 section 2.2.4).
+
+use crate::scan::{is_region, Caseless};
+#[cfg(feature = "alloc")]
+use crate::shim::{try_string, AllocError};
+#[cfg(feature = "alloc")]
+use alloc::string::String;
+use core::fmt;
+
+/// The error for a text that is not a region. It hands the text back.
+///
+/// ```
+/// use langtag::Region;
+///
+/// let error = Region::new("fra").err();
+/// assert_eq!(error.map(|error| error.0), Some("fra"));
+/// ```
+#[derive(Debug)]
+pub struct InvalidRegion<T>(pub T);
+
+impl<T> fmt::Display for InvalidRegion<T> {
+    #[inline]
+    fn fmt(&self, f: &mut fmt::Formatter<'_>) -> fmt::Result {
+        f.write_str("invalid region")
+    }
+}
+
+impl<T: fmt::Debug> core::error::Error for InvalidRegion<T> {}
+
+/// A region subtag (RFC 5646 section 2.2.4): two letters, as `FR`, or three digits, as `419`.
+///
+/// Two regions are equal where their texts differ at most in the case of ASCII letters: `fr` and `FR` are.
+///
+/// ```
+/// # fn main() -> Result<(), Box<dyn std::error::Error>> {
+/// use langtag::Region;
+///
+/// let region = Region::new("fr")?;
+/// assert_eq!(region.as_str(), "fr");
+/// assert!(region == Region::new("FR")?);
+/// # Ok(())
+/// # }
+/// ```
+#[derive(Clone, Copy, Debug, PartialEq, Eq, PartialOrd, Ord, Hash)]
+pub struct Region<'a> {
+    text: Caseless<&'a str>,
+}
+
+impl<'a> Region<'a> {
+    /// Parses a text as a region: `Region::new("fr")` is Ok.
+    ///
+    /// # Errors
+    ///
+    /// A text that is neither two letters nor three digits comes back: `Region::new("FR1")` is
+    /// `Err(InvalidRegion("FR1"))`.
+    #[inline]
+    pub fn new(text: &'a str) -> Result<Region<'a>, InvalidRegion<&'a str>> {
+        if !is_region(text.as_bytes()) {
+            return Err(InvalidRegion(text));
+        }
+        Ok(Region::from_checked(text))
+    }
+
+    /// Returns the region of a text that is known to be one, without a test. `Region::from_checked(region.as_str())` is
+    /// equal to `region`.
+    #[inline]
+    pub(crate) fn from_checked(text: &'a str) -> Region<'a> {
+        Region {
+            text: Caseless(text),
+        }
+    }
+
+    /// Returns the text, with its case: `Region::new("FR")?.as_str()` is `"FR"`.
+    #[inline]
+    pub fn as_str(&self) -> &'a str {
+        self.text.0
+    }
+
+    /// Returns the bytes of the text: `Region::new("FR")?.as_bytes()` is `b"FR"`.
+    #[inline]
+    pub fn as_bytes(&self) -> &'a [u8] {
+        self.as_str().as_bytes()
+    }
+
+    /// Returns whether another text, of any form, is equal but for the case of ASCII letters:
+    /// `Region::new("fr")?.eq_str("FR")` is true. It is proved that regions are compared, ordered and hashed so, and
+    /// that a clone is the value itself.
+    #[inline]
+    pub fn eq_str(&self, other: &str) -> bool {
+        self.text == Caseless(other)
+    }
+
+    /// Returns the owned form of the same text: `Region::new("FR")?.try_to_owned()?.as_str()` is `"FR"`.
+    ///
+    /// # Errors
+    ///
+    /// Out of memory.
+    #[cfg(feature = "alloc")]
+    #[inline]
+    pub fn try_to_owned(&self) -> Result<RegionBuf, AllocError> {
+        let text = try_string(self.as_str())?;
+        Ok(RegionBuf {
+            text: Caseless(text),
+        })
+    }
+}
+
+impl fmt::Display for Region<'_> {
+    #[inline]
+    fn fmt(&self, f: &mut fmt::Formatter<'_>) -> fmt::Result {
+        f.write_str(self.as_str())
+    }
+}
+
+/// A region that owns its text.
+///
+/// ```
+/// # fn main() -> Result<(), Box<dyn std::error::Error>> {
+/// use langtag::Region;
+///
+/// let owned = Region::new("fr")?.try_to_owned()?;
+/// assert!(owned.as_region() == Region::new("FR")?);
+/// assert_eq!(owned.into_string().as_str(), "fr");
+/// # Ok(())
+/// # }
+/// ```
+#[cfg(feature = "alloc")]
+#[derive(Debug, PartialEq, Eq, PartialOrd, Ord, Hash)]
+pub struct RegionBuf {
+    text: Caseless<String>,
+}
+
+#[cfg(feature = "alloc")]
+impl RegionBuf {
+    /// Parses a `String` as a region, and keeps it, without a copy: `fr` is Ok.
+    ///
+    /// # Errors
+    ///
+    /// A text that is neither two letters nor three digits comes back, the same `String`: `FR1` does.
+    #[inline]
+    pub fn new(text: String) -> Result<RegionBuf, InvalidRegion<String>> {
+        if !is_region(text.as_bytes()) {
+            return Err(InvalidRegion(text));
+        }
+        Ok(RegionBuf {
+            text: Caseless(text),
+        })
+    }
+
+    /// Borrows the region: `as_region().as_str()` of the owned `FR` is `"FR"`. It is proved that owned regions are
+    /// compared, ordered and hashed without regard to case.
+    #[inline]
+    pub fn as_region(&self) -> Region<'_> {
+        Region::from_checked(self.as_str())
+    }
+
+    /// Returns the text, with its case: `as_str()` of the owned `FR` is `"FR"`.
+    #[inline]
+    pub fn as_str(&self) -> &str {
+        self.text.0.as_str()
+    }
+
+    /// Returns the text itself, without a copy: `into_string()` of the owned `FR` is the `String` `FR`.
+    #[inline]
+    pub fn into_string(self) -> String {
+        self.text.0
+    }
+}
+
+#[cfg(feature = "alloc")]
+impl fmt::Display for RegionBuf {
+    #[inline]
+    fn fmt(&self, f: &mut fmt::Formatter<'_>) -> fmt::Result {
+        f.write_str(self.as_str())
+    }
+}

@@ -1,0 +1,180 @@
+// Made by rust/erase from crates/langtag_place/src/variant.rt. Change that file, not this one.
+
+//! The variant subtag (RFC 5646 section 2.2.5).
+
+use crate::scan::{is_variant, Caseless};
+#[cfg(feature = "alloc")]
+use crate::shim::{try_string, AllocError};
+#[cfg(feature = "alloc")]
+use alloc::string::String;
+use core::fmt;
+
+/// The error for a text that is not a variant. It hands the text back.
+///
+/// ```
+/// use langtag::Variant;
+///
+/// let error = Variant::new("roz").err();
+/// assert_eq!(error.map(|error| error.0), Some("roz"));
+/// ```
+#[derive(Debug)]
+pub struct InvalidVariant<T>(pub T);
+
+impl<T> fmt::Display for InvalidVariant<T> {
+    #[inline]
+    fn fmt(&self, f: &mut fmt::Formatter<'_>) -> fmt::Result {
+        f.write_str("invalid variant")
+    }
+}
+
+impl<T: fmt::Debug> core::error::Error for InvalidVariant<T> {}
+
+/// A variant subtag (RFC 5646 section 2.2.5): five to eight letters and digits, as `rozaj`, or four of which the
+/// first is a digit, as `1996`.
+///
+/// Two variants are equal where their texts differ at most in the case of ASCII letters: `rozaj` and `ROZAJ` are.
+///
+/// ```
+/// # fn main() -> Result<(), Box<dyn std::error::Error>> {
+/// use langtag::Variant;
+///
+/// let variant = Variant::new("rozaj")?;
+/// assert_eq!(variant.as_str(), "rozaj");
+/// assert!(variant == Variant::new("ROZAJ")?);
+/// # Ok(())
+/// # }
+/// ```
+#[derive(Clone, Copy, Debug, PartialEq, Eq, PartialOrd, Ord, Hash)]
+pub struct Variant<'a> {
+    text: Caseless<&'a str>,
+}
+
+impl<'a> Variant<'a> {
+    /// Parses a text as a variant: `Variant::new("rozaj")` is Ok.
+    ///
+    /// # Errors
+    ///
+    /// A text that is neither five to eight letters and digits nor four of which the first is a digit
+    /// comes back: `Variant::new("roza")` is `Err(InvalidVariant("roza"))`.
+    #[inline]
+    pub fn new(text: &'a str) -> Result<Variant<'a>, InvalidVariant<&'a str>> {
+        if !is_variant(text.as_bytes()) {
+            return Err(InvalidVariant(text));
+        }
+        Ok(Variant::from_checked(text))
+    }
+
+    /// Returns the variant of a text that is known to be one, without a test. `Variant::from_checked(variant.as_str())`
+    /// is equal to `variant`.
+    #[inline]
+    pub(crate) fn from_checked(text: &'a str) -> Variant<'a> {
+        Variant {
+            text: Caseless(text),
+        }
+    }
+
+    /// Returns the text, with its case: `Variant::new("ROZAJ")?.as_str()` is `"ROZAJ"`.
+    #[inline]
+    pub fn as_str(&self) -> &'a str {
+        self.text.0
+    }
+
+    /// Returns the bytes of the text: `Variant::new("ROZAJ")?.as_bytes()` is `b"ROZAJ"`.
+    #[inline]
+    pub fn as_bytes(&self) -> &'a [u8] {
+        self.as_str().as_bytes()
+    }
+
+    /// Returns whether another text, of any form, is equal but for the case of ASCII letters:
+    /// `Variant::new("rozaj")?.eq_str("ROZAJ")` is true. It is proved that variants are compared, ordered and hashed
+    /// so, and that a clone is the value itself.
+    #[inline]
+    pub fn eq_str(&self, other: &str) -> bool {
+        self.text == Caseless(other)
+    }
+
+    /// Returns the owned form of the same text: `Variant::new("ROZAJ")?.try_to_owned()?.as_str()` is `"ROZAJ"`.
+    ///
+    /// # Errors
+    ///
+    /// Out of memory.
+    #[cfg(feature = "alloc")]
+    #[inline]
+    pub fn try_to_owned(&self) -> Result<VariantBuf, AllocError> {
+        let text = try_string(self.as_str())?;
+        Ok(VariantBuf {
+            text: Caseless(text),
+        })
+    }
+}
+
+impl fmt::Display for Variant<'_> {
+    #[inline]
+    fn fmt(&self, f: &mut fmt::Formatter<'_>) -> fmt::Result {
+        f.write_str(self.as_str())
+    }
+}
+
+/// A variant that owns its text.
+///
+/// ```
+/// # fn main() -> Result<(), Box<dyn std::error::Error>> {
+/// use langtag::Variant;
+///
+/// let owned = Variant::new("rozaj")?.try_to_owned()?;
+/// assert!(owned.as_variant() == Variant::new("ROZAJ")?);
+/// assert_eq!(owned.into_string().as_str(), "rozaj");
+/// # Ok(())
+/// # }
+/// ```
+#[cfg(feature = "alloc")]
+#[derive(Debug, PartialEq, Eq, PartialOrd, Ord, Hash)]
+pub struct VariantBuf {
+    text: Caseless<String>,
+}
+
+#[cfg(feature = "alloc")]
+impl VariantBuf {
+    /// Parses a `String` as a variant, and keeps it, without a copy: `rozaj` is Ok.
+    ///
+    /// # Errors
+    ///
+    /// A text that is neither five to eight letters and digits nor four of which the first is a digit
+    /// comes back, the same `String`: `roza` does.
+    #[inline]
+    pub fn new(text: String) -> Result<VariantBuf, InvalidVariant<String>> {
+        if !is_variant(text.as_bytes()) {
+            return Err(InvalidVariant(text));
+        }
+        Ok(VariantBuf {
+            text: Caseless(text),
+        })
+    }
+
+    /// Borrows the variant: `as_variant().as_str()` of the owned `ROZAJ` is `"ROZAJ"`. It is proved that owned variants
+    /// are compared, ordered and hashed without regard to case.
+    #[inline]
+    pub fn as_variant(&self) -> Variant<'_> {
+        Variant::from_checked(self.as_str())
+    }
+
+    /// Returns the text, with its case: `as_str()` of the owned `ROZAJ` is `"ROZAJ"`.
+    #[inline]
+    pub fn as_str(&self) -> &str {
+        self.text.0.as_str()
+    }
+
+    /// Returns the text itself, without a copy: `into_string()` of the owned `ROZAJ` is the `String` `ROZAJ`.
+    #[inline]
+    pub fn into_string(self) -> String {
+        self.text.0
+    }
+}
+
+#[cfg(feature = "alloc")]
+impl fmt::Display for VariantBuf {
+    #[inline]
+    fn fmt(&self, f: &mut fmt::Formatter<'_>) -> fmt::Result {
+        f.write_str(self.as_str())
+    }
+}

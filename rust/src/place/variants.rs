@@ -1,0 +1,216 @@
+// Made by rust/erase from crates/langtag_place/src/variants.rt. Change that file, not this one.
+
+//! The variants of a tag as one text (RFC 5646 section 2.2.5).
+
+use crate::place::variant::Variant;
+use crate::place::variants_iter::VariantsIter;
+use crate::scan::{is_variant, Caseless, Subtags};
+#[cfg(feature = "alloc")]
+use crate::shim::{try_string, AllocError};
+#[cfg(feature = "alloc")]
+use alloc::string::String;
+use core::fmt;
+
+/// The error for a text that no list of variants spells. It hands the text back.
+///
+/// ```
+/// use langtag::Variants;
+///
+/// let error = Variants::new("rozaj-").err();
+/// assert_eq!(error.map(|error| error.0), Some("rozaj-"));
+/// ```
+#[derive(Debug)]
+pub struct InvalidVariants<T>(pub T);
+
+impl<T> fmt::Display for InvalidVariants<T> {
+    #[inline]
+    fn fmt(&self, f: &mut fmt::Formatter<'_>) -> fmt::Result {
+        f.write_str("invalid variants")
+    }
+}
+
+impl<T: fmt::Debug> core::error::Error for InvalidVariants<T> {}
+
+/// The variants of a tag, joined by hyphens, or nothing (RFC 5646 section 2.2.5), as `rozaj-1994`.
+///
+/// A variant may stand twice: that makes a tag invalid, and leaves it well formed (section 2.2.9).
+/// Two lists are equal where their texts differ at most in the case of ASCII letters: `rozaj` and `ROZAJ` are.
+///
+/// ```
+/// # fn main() -> Result<(), Box<dyn std::error::Error>> {
+/// use langtag::Variants;
+///
+/// let variants = Variants::new("rozaj-1994")?;
+/// assert_eq!(variants.as_str(), "rozaj-1994");
+/// assert!(variants == Variants::new("ROZAJ-1994")?);
+/// # Ok(())
+/// # }
+/// ```
+#[derive(Clone, Copy, Debug, PartialEq, Eq, PartialOrd, Ord, Hash)]
+pub struct Variants<'a> {
+    text: Caseless<&'a str>,
+}
+
+impl<'a> Variants<'a> {
+    /// No variants: `Variants::EMPTY.as_str()` is `""`.
+    pub const EMPTY: Variants<'static> = Variants { text: Caseless("") };
+
+    /// Parses a text as variants: `Variants::new("rozaj-1994")` and `Variants::new("")` are Ok.
+    ///
+    /// # Errors
+    ///
+    /// A text that holds anything else than variants with one hyphen between neighbours comes back:
+    /// `Variants::new("rozaj-")` is `Err(InvalidVariants("rozaj-"))`.
+    #[inline]
+    pub fn new(text: &'a str) -> Result<Variants<'a>, InvalidVariants<&'a str>> {
+        if !all_variants(text) {
+            return Err(InvalidVariants(text));
+        }
+        Ok(Variants::from_checked(text))
+    }
+
+    /// Returns the variants of a text that is known to be spelled by a list of them, without a test.
+    /// `Variants::from_checked(variants.as_str())` is equal to `variants`.
+    #[inline]
+    pub(crate) fn from_checked(text: &'a str) -> Variants<'a> {
+        Variants {
+            text: Caseless(text),
+        }
+    }
+
+    /// Returns the text, with its case: `Variants::new("ROZAJ-1994")?.as_str()` is `"ROZAJ-1994"`.
+    #[inline]
+    pub fn as_str(&self) -> &'a str {
+        self.text.0
+    }
+
+    /// Returns the bytes of the text: `Variants::new("ROZAJ-1994")?.as_bytes()` is `b"ROZAJ-1994"`.
+    #[inline]
+    pub fn as_bytes(&self) -> &'a [u8] {
+        self.as_str().as_bytes()
+    }
+
+    /// Returns whether another text, of any form, is equal but for the case of ASCII letters:
+    /// `Variants::new("rozaj")?.eq_str("ROZAJ")` is true. It is proved that lists of variants are compared, ordered and
+    /// hashed so, and that a clone is the value itself.
+    #[inline]
+    pub fn eq_str(&self, other: &str) -> bool {
+        self.text == Caseless(other)
+    }
+
+    /// Returns the owned form of the same text: `Variants::new("ROZAJ")?.try_to_owned()?.as_str()` is `"ROZAJ"`.
+    ///
+    /// # Errors
+    ///
+    /// Out of memory.
+    #[cfg(feature = "alloc")]
+    #[inline]
+    pub fn try_to_owned(&self) -> Result<VariantsBuf, AllocError> {
+        let text = try_string(self.as_str())?;
+        Ok(VariantsBuf {
+            text: Caseless(text),
+        })
+    }
+
+    /// Returns the variants one by one, from either end: `rozaj` and `1994` of `rozaj-1994`.
+    #[inline]
+    pub fn iter(&self) -> VariantsIter<'a> {
+        VariantsIter::new(self.as_str())
+    }
+
+    /// Returns the first variant, if there is one: `rozaj` of `rozaj-1994`, and None of the empty text.
+    #[inline]
+    pub fn first(&self) -> Option<Variant<'a>> {
+        self.iter().next()
+    }
+
+    /// Returns the last variant, if there is one: `1994` of `rozaj-1994`, and `rozaj` of `rozaj`.
+    #[inline]
+    pub fn last(&self) -> Option<Variant<'a>> {
+        self.iter().next_back()
+    }
+}
+
+impl Default for Variants<'_> {
+    #[inline]
+    fn default() -> Self {
+        Variants::EMPTY
+    }
+}
+
+impl fmt::Display for Variants<'_> {
+    #[inline]
+    fn fmt(&self, f: &mut fmt::Formatter<'_>) -> fmt::Result {
+        f.write_str(self.as_str())
+    }
+}
+
+/// Variants that own their text.
+///
+/// ```
+/// # fn main() -> Result<(), Box<dyn std::error::Error>> {
+/// use langtag::Variants;
+///
+/// let owned = Variants::new("rozaj-1994")?.try_to_owned()?;
+/// assert!(owned.as_variants() == Variants::new("ROZAJ-1994")?);
+/// assert_eq!(owned.into_string().as_str(), "rozaj-1994");
+/// # Ok(())
+/// # }
+/// ```
+#[cfg(feature = "alloc")]
+#[derive(Debug, PartialEq, Eq, PartialOrd, Ord, Hash)]
+pub struct VariantsBuf {
+    text: Caseless<String>,
+}
+
+#[cfg(feature = "alloc")]
+impl VariantsBuf {
+    /// Parses a `String` as variants, and keeps it, without a copy: `rozaj-1994` is Ok.
+    ///
+    /// # Errors
+    ///
+    /// A text that holds anything else than variants with one hyphen between neighbours comes back, the same
+    /// `String`: `rozaj-` does.
+    #[inline]
+    pub fn new(text: String) -> Result<VariantsBuf, InvalidVariants<String>> {
+        if !all_variants(text.as_str()) {
+            return Err(InvalidVariants(text));
+        }
+        Ok(VariantsBuf {
+            text: Caseless(text),
+        })
+    }
+
+    /// Borrows the variants: `as_variants().as_str()` of the owned `ROZAJ` is `"ROZAJ"`. It is proved that owned lists
+    /// of variants are compared, ordered and hashed without regard to case.
+    #[inline]
+    pub fn as_variants(&self) -> Variants<'_> {
+        Variants::from_checked(self.as_str())
+    }
+
+    /// Returns the text, with its case: `as_str()` of the owned `ROZAJ` is `"ROZAJ"`.
+    #[inline]
+    pub fn as_str(&self) -> &str {
+        self.text.0.as_str()
+    }
+
+    /// Returns the text itself, without a copy: `into_string()` of the owned `ROZAJ` is the `String` `ROZAJ`.
+    #[inline]
+    pub fn into_string(self) -> String {
+        self.text.0
+    }
+}
+
+#[cfg(feature = "alloc")]
+impl fmt::Display for VariantsBuf {
+    #[inline]
+    fn fmt(&self, f: &mut fmt::Formatter<'_>) -> fmt::Result {
+        f.write_str(self.as_str())
+    }
+}
+
+/// Whether a text is variants with one hyphen between neighbours, or nothing.
+#[inline]
+fn all_variants(text: &str) -> bool {
+    Subtags::new(text).all(|subtag| is_variant(subtag.as_bytes()))
+}

@@ -1,0 +1,75 @@
+// Made by rust/erase from crates/langtag_place/src/variants_iter.rt. Change that file, not this one.
+
+//! The variants of a tag one by one, from either end.
+
+use crate::place::variant::Variant;
+use crate::place::variants::Variants;
+use crate::scan::Subtags;
+
+/// The variants of a tag that are still to come, in the order in which they are written (RFC 5646 section 2.2.5),
+/// from either end: `rozaj` and `1994` of `Variants::new("rozaj-1994")?.iter()`.
+///
+/// ```
+/// # fn main() -> Result<(), Box<dyn std::error::Error>> {
+/// use langtag::Variants;
+///
+/// let mut items = Variants::new("rozaj-1994")?.iter();
+/// assert_eq!(items.next().map(|item| item.as_str()), Some("rozaj"));
+/// assert_eq!(items.next().map(|item| item.as_str()), Some("1994"));
+/// assert_eq!(items.next(), None);
+/// # Ok(())
+/// # }
+/// ```
+#[derive(Debug)]
+pub struct VariantsIter<'a> {
+    rest: Subtags<'a>,
+}
+
+impl<'a> VariantsIter<'a> {
+    /// Returns the walk over no variants: `VariantsIter::empty().count()` is 0.
+    #[inline]
+    pub fn empty() -> Self {
+        Variants::EMPTY.iter()
+    }
+
+    /// The walk over the variants of a text that is known to be spelled by a list of them.
+    #[inline]
+    pub(crate) fn new(text: &'a str) -> Self {
+        VariantsIter {
+            rest: Subtags::new(text),
+        }
+    }
+}
+
+impl Default for VariantsIter<'_> {
+    #[inline]
+    fn default() -> Self {
+        VariantsIter::empty()
+    }
+}
+
+impl Clone for VariantsIter<'_> {
+    #[inline]
+    fn clone(&self) -> Self {
+        let rest = self.rest.clone();
+        VariantsIter { rest }
+    }
+}
+
+impl<'a> Iterator for VariantsIter<'a> {
+    type Item = Variant<'a>;
+
+    #[inline]
+    fn next(&mut self) -> Option<Variant<'a>> {
+        let text = self.rest.next()?;
+        Some(Variant::from_checked(text))
+    }
+}
+
+impl<'a> DoubleEndedIterator for VariantsIter<'a> {
+    #[inline]
+    fn next_back(&mut self) -> Option<Variant<'a>> {
+        let text = self.rest.next_back()?;
+        Some(Variant::from_checked(text))
+    }
+}

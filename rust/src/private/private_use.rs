@@ -1,0 +1,215 @@
+// Made by rust/erase from crates/langtag_private/src/private_use.rt. Change that file, not this one.
+
+//! The private use part of a tag (RFC 5646 section 2.2.7).
+
+use crate::private::private_use_iter::PrivateUseIter;
+use crate::scan::{is_mark, is_private_subtag, Caseless, Subtags};
+#[cfg(feature = "alloc")]
+use crate::shim::{try_string, AllocError};
+#[cfg(feature = "alloc")]
+use alloc::string::String;
+use core::fmt;
+
+/// The error for a text that is not a private use part. It hands the text back.
+///
+/// ```
+/// use langtag::PrivateUse;
+///
+/// let error = PrivateUse::new("x").err();
+/// assert_eq!(error.map(|error| error.0), Some("x"));
+/// ```
+#[derive(Debug)]
+pub struct InvalidPrivateUse<T>(pub T);
+
+impl<T> fmt::Display for InvalidPrivateUse<T> {
+    #[inline]
+    fn fmt(&self, f: &mut fmt::Formatter<'_>) -> fmt::Result {
+        f.write_str("invalid private use")
+    }
+}
+
+impl<T: fmt::Debug> core::error::Error for InvalidPrivateUse<T> {}
+
+/// A private use part (RFC 5646 section 2.2.7): the mark `x`, in either case, and one subtag or more after it, joined
+/// by hyphens, as `x-twain`. It may stand at the end of a tag, and alone as a tag of its own.
+///
+/// Two of them are equal where their texts differ at most in the case of ASCII letters: `x-twain` and `X-TWAIN` are.
+///
+/// ```
+/// # fn main() -> Result<(), Box<dyn std::error::Error>> {
+/// use langtag::PrivateUse;
+///
+/// let part = PrivateUse::new("x-twain")?;
+/// assert_eq!(part.as_str(), "x-twain");
+/// assert!(part == PrivateUse::new("X-TWAIN")?);
+/// # Ok(())
+/// # }
+/// ```
+#[derive(Clone, Copy, Debug, PartialEq, Eq, PartialOrd, Ord, Hash)]
+pub struct PrivateUse<'a> {
+    text: Caseless<&'a str>,
+}
+
+impl<'a> PrivateUse<'a> {
+    /// Parses a text as a private use part: `PrivateUse::new("x-twain")` is Ok.
+    ///
+    /// # Errors
+    ///
+    /// A text that is not a mark and private use subtags with one hyphen between neighbours comes back:
+    /// `PrivateUse::new("x")` is `Err(InvalidPrivateUse("x"))`.
+    #[inline]
+    pub fn new(text: &'a str) -> Result<PrivateUse<'a>, InvalidPrivateUse<&'a str>> {
+        if !is_private_use(text) {
+            return Err(InvalidPrivateUse(text));
+        }
+        Ok(PrivateUse::from_checked(text))
+    }
+
+    /// Returns the private use part of a text that is known to be one, without a test.
+    /// `PrivateUse::from_checked(private_use.as_str())` is equal to `private_use`.
+    #[inline]
+    pub(crate) fn from_checked(text: &'a str) -> PrivateUse<'a> {
+        PrivateUse {
+            text: Caseless(text),
+        }
+    }
+
+    /// Returns the text, with its case: `PrivateUse::new("X-TWAIN")?.as_str()` is `"X-TWAIN"`.
+    #[inline]
+    pub fn as_str(&self) -> &'a str {
+        self.text.0
+    }
+
+    /// Returns the bytes of the text: `PrivateUse::new("X-TWAIN")?.as_bytes()` is `b"X-TWAIN"`.
+    #[inline]
+    pub fn as_bytes(&self) -> &'a [u8] {
+        self.as_str().as_bytes()
+    }
+
+    /// Returns whether another text, of any form, is equal but for the case of ASCII letters:
+    /// `PrivateUse::new("x-twain")?.eq_str("X-TWAIN")` is true. It is proved that private use parts are compared,
+    /// ordered and hashed so, and that a clone is the value itself.
+    #[inline]
+    pub fn eq_str(&self, other: &str) -> bool {
+        self.text == Caseless(other)
+    }
+
+    /// Returns the owned form of the same text: `PrivateUse::new("X-TWAIN")?.try_to_owned()?.as_str()` is
+    /// `"X-TWAIN"`.
+    ///
+    /// # Errors
+    ///
+    /// Out of memory.
+    #[cfg(feature = "alloc")]
+    #[inline]
+    pub fn try_to_owned(&self) -> Result<PrivateUseBuf, AllocError> {
+        let text = try_string(self.as_str())?;
+        Ok(PrivateUseBuf {
+            text: Caseless(text),
+        })
+    }
+
+    /// Returns the subtags one by one, without the mark: `PrivateUse::new("x-a-x")?.iter()` yields `a` and `x`.
+    #[inline]
+    pub fn iter(&self) -> PrivateUseIter<'a> {
+        PrivateUseIter::new(self.as_str())
+    }
+}
+
+/// Whether the text is a mark and private use subtags, at least one, joined by hyphens.
+fn is_private_use(text: &str) -> bool {
+    let mut subtags = Subtags::new(text);
+    let marked = subtags
+        .next()
+        .is_some_and(|mark| is_mark_alone(mark.as_bytes()));
+    let followed = subtags
+        .next()
+        .is_some_and(|first| is_private_subtag(first.as_bytes()));
+    marked && followed && are_private(subtags)
+}
+
+/// Whether the bytes are the mark alone.
+#[inline]
+fn is_mark_alone(bytes: &[u8]) -> bool {
+    match bytes {
+        [byte] => is_mark(*byte),
+        _ => false,
+    }
+}
+
+/// Whether all subtags that are left are private use subtags.
+#[inline]
+fn are_private(mut subtags: Subtags<'_>) -> bool {
+    subtags.all(|subtag| is_private_subtag(subtag.as_bytes()))
+}
+
+impl fmt::Display for PrivateUse<'_> {
+    #[inline]
+    fn fmt(&self, f: &mut fmt::Formatter<'_>) -> fmt::Result {
+        f.write_str(self.as_str())
+    }
+}
+
+/// A private use part that owns its text.
+///
+/// ```
+/// # fn main() -> Result<(), Box<dyn std::error::Error>> {
+/// use langtag::PrivateUse;
+///
+/// let owned = PrivateUse::new("x-twain")?.try_to_owned()?;
+/// assert!(owned.as_private_use() == PrivateUse::new("X-TWAIN")?);
+/// assert_eq!(owned.into_string().as_str(), "x-twain");
+/// # Ok(())
+/// # }
+/// ```
+#[cfg(feature = "alloc")]
+#[derive(Debug, PartialEq, Eq, PartialOrd, Ord, Hash)]
+pub struct PrivateUseBuf {
+    text: Caseless<String>,
+}
+
+#[cfg(feature = "alloc")]
+impl PrivateUseBuf {
+    /// Parses a `String` as a private use part, and keeps it, without a copy: `x-twain` is Ok.
+    ///
+    /// # Errors
+    ///
+    /// A text that is not a mark and private use subtags with one hyphen between neighbours comes back, the same
+    /// `String`: `x` does.
+    #[inline]
+    pub fn new(text: String) -> Result<PrivateUseBuf, InvalidPrivateUse<String>> {
+        if !is_private_use(text.as_str()) {
+            return Err(InvalidPrivateUse(text));
+        }
+        Ok(PrivateUseBuf {
+            text: Caseless(text),
+        })
+    }
+
+    /// Borrows the private use part: `as_private_use().as_str()` of the owned `X-TWAIN` is `"X-TWAIN"`. It is proved
+    /// that owned private use parts are compared, ordered and hashed without regard to case.
+    #[inline]
+    pub fn as_private_use(&self) -> PrivateUse<'_> {
+        PrivateUse::from_checked(self.as_str())
+    }
+
+    /// Returns the text, with its case: `as_str()` of the owned `X-TWAIN` is `"X-TWAIN"`.
+    #[inline]
+    pub fn as_str(&self) -> &str {
+        self.text.0.as_str()
+    }
+
+    /// Returns the text itself, without a copy: `into_string()` of the owned `X-TWAIN` is the `String` `X-TWAIN`.
+    #[inline]
+    pub fn into_string(self) -> String {
+        self.text.0
+    }
+}
+
+#[cfg(feature = "alloc")]
+impl fmt::Display for PrivateUseBuf {
+    #[inline]
+    fn fmt(&self, f: &mut fmt::Formatter<'_>) -> fmt::Result {
+        f.write_str(self.as_str())
+    }
+}

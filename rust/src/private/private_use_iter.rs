@@ -1,0 +1,75 @@
+// Made by rust/erase from crates/langtag_private/src/private_use_iter.rt. Change that file, not this one.
+
+//! The subtags of a private use part one by one.
+
+use crate::private::private_use_subtag::PrivateUseSubtag;
+use crate::scan::Subtags;
+
+/// The private use subtags that are still to come (RFC 5646 section 2.2.7): `a` and `b` of `x-a-b`.
+///
+/// ```
+/// # fn main() -> Result<(), Box<dyn std::error::Error>> {
+/// use langtag::PrivateUse;
+///
+/// let mut items = PrivateUse::new("x-a-b")?.iter();
+/// assert_eq!(items.next().map(|item| item.as_str()), Some("a"));
+/// assert_eq!(items.next().map(|item| item.as_str()), Some("b"));
+/// assert_eq!(items.next(), None);
+/// # Ok(())
+/// # }
+/// ```
+#[derive(Debug)]
+pub struct PrivateUseIter<'a> {
+    rest: Subtags<'a>,
+}
+
+impl<'a> PrivateUseIter<'a> {
+    /// Returns an iterator over no subtags: `PrivateUseIter::empty().next()` is None.
+    #[inline]
+    pub fn empty() -> Self {
+        PrivateUseIter {
+            rest: Subtags::empty(),
+        }
+    }
+
+    /// The subtags of a private use part, without its mark.
+    #[inline]
+    pub(crate) fn new(text: &'a str) -> Self {
+        PrivateUseIter {
+            rest: after_mark(text),
+        }
+    }
+}
+
+/// The subtags of a text but for the first, which is the mark.
+#[inline]
+fn after_mark<'a>(text: &'a str) -> Subtags<'a> {
+    let mut rest = Subtags::new(text);
+    let _mark = rest.next();
+    rest
+}
+
+impl Default for PrivateUseIter<'_> {
+    #[inline]
+    fn default() -> Self {
+        PrivateUseIter::empty()
+    }
+}
+
+impl Clone for PrivateUseIter<'_> {
+    #[inline]
+    fn clone(&self) -> Self {
+        let rest = self.rest.clone();
+        PrivateUseIter { rest }
+    }
+}
+
+impl<'a> Iterator for PrivateUseIter<'a> {
+    type Item = PrivateUseSubtag<'a>;
+
+    #[inline]
+    fn next(&mut self) -> Option<PrivateUseSubtag<'a>> {
+        let text = self.rest.next()?;
+        Some(PrivateUseSubtag::from_checked(text))
+    }
+}

@@ -1,0 +1,179 @@
+// Made by rust/erase from crates/langtag_private/src/private_use_subtag.rt. Change that file, not this one.
+
+//! A subtag of a private use part (RFC 5646 section 2.2.7).
+
+use crate::scan::{is_private_subtag, Caseless};
+#[cfg(feature = "alloc")]
+use crate::shim::{try_string, AllocError};
+#[cfg(feature = "alloc")]
+use alloc::string::String;
+use core::fmt;
+
+/// The error for a text that is not a private use subtag. It hands the text back.
+///
+/// ```
+/// use langtag::PrivateUseSubtag;
+///
+/// let error = PrivateUseSubtag::new("").err();
+/// assert_eq!(error.map(|error| error.0), Some(""));
+/// ```
+#[derive(Debug)]
+pub struct InvalidPrivateUseSubtag<T>(pub T);
+
+impl<T> fmt::Display for InvalidPrivateUseSubtag<T> {
+    #[inline]
+    fn fmt(&self, f: &mut fmt::Formatter<'_>) -> fmt::Result {
+        f.write_str("invalid private use subtag")
+    }
+}
+
+impl<T: fmt::Debug> core::error::Error for InvalidPrivateUseSubtag<T> {}
+
+/// A private use subtag (RFC 5646 section 2.2.7): one to eight letters and digits, as `twain` in `en-x-twain`.
+///
+/// Two of them are equal where their texts differ at most in the case of ASCII letters: `twain` and `TWAIN` are.
+///
+/// ```
+/// # fn main() -> Result<(), Box<dyn std::error::Error>> {
+/// use langtag::PrivateUseSubtag;
+///
+/// let subtag = PrivateUseSubtag::new("twain")?;
+/// assert_eq!(subtag.as_str(), "twain");
+/// assert!(subtag == PrivateUseSubtag::new("TWAIN")?);
+/// # Ok(())
+/// # }
+/// ```
+#[derive(Clone, Copy, Debug, PartialEq, Eq, PartialOrd, Ord, Hash)]
+pub struct PrivateUseSubtag<'a> {
+    text: Caseless<&'a str>,
+}
+
+impl<'a> PrivateUseSubtag<'a> {
+    /// Parses a text as a private use subtag: `PrivateUseSubtag::new("twain")` is Ok.
+    ///
+    /// # Errors
+    ///
+    /// A text that is not one to eight letters and digits comes back: `PrivateUseSubtag::new("a-b")` is
+    /// `Err(InvalidPrivateUseSubtag("a-b"))`.
+    #[inline]
+    pub fn new(text: &'a str) -> Result<PrivateUseSubtag<'a>, InvalidPrivateUseSubtag<&'a str>> {
+        if !is_private_subtag(text.as_bytes()) {
+            return Err(InvalidPrivateUseSubtag(text));
+        }
+        Ok(PrivateUseSubtag::from_checked(text))
+    }
+
+    /// Returns the subtag of a text that is known to be one, without a test.
+    /// `PrivateUseSubtag::from_checked(subtag.as_str())` is equal to `subtag`.
+    #[inline]
+    pub(crate) fn from_checked(text: &'a str) -> PrivateUseSubtag<'a> {
+        PrivateUseSubtag {
+            text: Caseless(text),
+        }
+    }
+
+    /// Returns the text, with its case: `PrivateUseSubtag::new("TWAIN")?.as_str()` is `"TWAIN"`.
+    #[inline]
+    pub fn as_str(&self) -> &'a str {
+        self.text.0
+    }
+
+    /// Returns the bytes of the text: `PrivateUseSubtag::new("TWAIN")?.as_bytes()` is `b"TWAIN"`.
+    #[inline]
+    pub fn as_bytes(&self) -> &'a [u8] {
+        self.as_str().as_bytes()
+    }
+
+    /// Returns whether another text, of any form, is equal but for the case of ASCII letters:
+    /// `PrivateUseSubtag::new("twain")?.eq_str("TWAIN")` is true. It is proved that private use subtags are compared,
+    /// ordered and hashed so, and that a clone is the value itself.
+    #[inline]
+    pub fn eq_str(&self, other: &str) -> bool {
+        self.text == Caseless(other)
+    }
+
+    /// Returns the owned form of the same text: `PrivateUseSubtag::new("TWAIN")?.try_to_owned()?.as_str()` is
+    /// `"TWAIN"`.
+    ///
+    /// # Errors
+    ///
+    /// Out of memory.
+    #[cfg(feature = "alloc")]
+    #[inline]
+    pub fn try_to_owned(&self) -> Result<PrivateUseSubtagBuf, AllocError> {
+        let text = try_string(self.as_str())?;
+        Ok(PrivateUseSubtagBuf {
+            text: Caseless(text),
+        })
+    }
+}
+
+impl fmt::Display for PrivateUseSubtag<'_> {
+    #[inline]
+    fn fmt(&self, f: &mut fmt::Formatter<'_>) -> fmt::Result {
+        f.write_str(self.as_str())
+    }
+}
+
+/// A private use subtag that owns its text.
+///
+/// ```
+/// # fn main() -> Result<(), Box<dyn std::error::Error>> {
+/// use langtag::PrivateUseSubtag;
+///
+/// let owned = PrivateUseSubtag::new("twain")?.try_to_owned()?;
+/// assert!(owned.as_private_use_subtag() == PrivateUseSubtag::new("TWAIN")?);
+/// assert_eq!(owned.into_string().as_str(), "twain");
+/// # Ok(())
+/// # }
+/// ```
+#[cfg(feature = "alloc")]
+#[derive(Debug, PartialEq, Eq, PartialOrd, Ord, Hash)]
+pub struct PrivateUseSubtagBuf {
+    text: Caseless<String>,
+}
+
+#[cfg(feature = "alloc")]
+impl PrivateUseSubtagBuf {
+    /// Parses a `String` as a subtag, and keeps it, without a copy: `twain` is Ok.
+    ///
+    /// # Errors
+    ///
+    /// A text that is not one to eight letters and digits comes back, the same `String`: `a-b` does.
+    #[inline]
+    pub fn new(text: String) -> Result<PrivateUseSubtagBuf, InvalidPrivateUseSubtag<String>> {
+        if !is_private_subtag(text.as_bytes()) {
+            return Err(InvalidPrivateUseSubtag(text));
+        }
+        Ok(PrivateUseSubtagBuf {
+            text: Caseless(text),
+        })
+    }
+
+    /// Borrows the subtag: `as_private_use_subtag().as_str()` of the owned `TWAIN` is `"TWAIN"`. It is proved that
+    /// owned private use subtags are compared, ordered and hashed without regard to case.
+    #[inline]
+    pub fn as_private_use_subtag(&self) -> PrivateUseSubtag<'_> {
+        PrivateUseSubtag::from_checked(self.as_str())
+    }
+
+    /// Returns the text, with its case: `as_str()` of the owned `TWAIN` is `"TWAIN"`.
+    #[inline]
+    pub fn as_str(&self) -> &str {
+        self.text.0.as_str()
+    }
+
+    /// Returns the text itself, without a copy: `into_string()` of the owned `TWAIN` is the `String` `TWAIN`.
+    #[inline]
+    pub fn into_string(self) -> String {
+        self.text.0
+    }
+}
+
+#[cfg(feature = "alloc")]
+impl fmt::Display for PrivateUseSubtagBuf {
+    #[inline]
+    fn fmt(&self, f: &mut fmt::Formatter<'_>) -> fmt::Result {
+        f.write_str(self.as_str())
+    }
+}

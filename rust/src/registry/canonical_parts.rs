@@ -1,0 +1,123 @@
+// Made by rust/erase from crates/langtag_registry/src/canonical_parts.rt. Change that file, not this one.
+
+//! The canonical forms of a tag's parts (RFC 5646 section 4.5), put into an output in their order.
+
+use crate::extension::Extensions;
+use crate::language::{ExtendedLangTag, Language, PrimaryLanguage};
+use crate::place::{Region, Script, Variants};
+use crate::private::PrivateUse;
+use crate::registry::extension_order::{are_in_order, folded_singleton, singletons_of, SINGLETONS};
+use crate::registry::language_fields::preferred_language;
+use crate::registry::output::Output;
+use crate::registry::preferred::{preferred_region, preferred_variant};
+use crate::registry::subtags::is_registered_extlang;
+use crate::scan::into_smallcase;
+use crate::tag::NormalLangTag;
+
+/// Puts a tag with its parts in their canonical forms into a buffer, as far as it has room. Returns how long that tag is.
+#[inline]
+pub(crate) fn put_canonical_parts(tag: NormalLangTag<'_>, buffer: &mut [u8]) -> usize {
+    let mut out = Output::new(buffer);
+    push_parts(&mut out, tag);
+    out.len()
+}
+
+fn push_parts(out: &mut Output<'_>, tag: NormalLangTag<'_>) {
+    push_language(out, tag.language());
+    push_script(out, tag.script());
+    push_region(out, tag.region());
+    push_variants(out, tag.variants());
+    push_extensions(out, tag.extensions());
+    push_private_use(out, tag.private_use());
+}
+
+/// An extended subtag that is registered takes the place of the language before it, and may be replaced as a language in turn.
+/// Two stay, and so does what is before them.
+fn push_language(out: &mut Output<'_>, language: Language<'_>) {
+    let primary = language.primary();
+    let mut extlangs = language.extension_subtags();
+    let Some(extlang) = extlangs.next() else {
+        return out.push_subtag(preferred_language(primary).unwrap_or(primary).as_bytes());
+    };
+    let None = extlangs.next() else {
+        return out.push_subtag(language.as_bytes());
+    };
+    if is_registered_extlang(extlang) {
+        return push_extlang(out, extlang);
+    }
+    out.push_subtag(preferred_language(primary).unwrap_or(primary).as_bytes());
+    out.push_subtag(extlang.as_bytes());
+}
+
+/// Puts the language that an extended subtag becomes.
+fn push_extlang(out: &mut Output<'_>, extlang: ExtendedLangTag<'_>) {
+    match preferred_language(PrimaryLanguage::from_checked(extlang.as_str())) {
+        Some(preferred) => out.push_subtag(preferred.as_bytes()),
+        None => out.push_subtag(&in_small_letters(extlang)),
+    }
+}
+
+/// Returns an extended subtag in small letters, as the registry has it.
+fn in_small_letters(extlang: ExtendedLangTag<'_>) -> [u8; 3] {
+    let mut small = [0; 3];
+    small.copy_from_slice(extlang.as_bytes());
+    small.make_ascii_lowercase();
+    small
+}
+
+#[inline]
+fn push_script(out: &mut Output<'_>, script: Option<Script<'_>>) {
+    if let Some(script) = script {
+        out.push_subtag(script.as_bytes());
+    }
+}
+
+#[inline]
+fn push_region(out: &mut Output<'_>, region: Option<Region<'_>>) {
+    if let Some(region) = region {
+        out.push_subtag(preferred_region(region).unwrap_or(region).as_bytes());
+    }
+}
+
+/// Each is put after those before it, also where that makes a repeat.
+#[inline]
+fn push_variants(out: &mut Output<'_>, variants: Variants<'_>) {
+    for variant in variants.iter() {
+        out.push_subtag(preferred_variant(variant).unwrap_or(variant).as_bytes());
+    }
+}
+
+/// They are put in the order of their singletons. Those of one singleton, which no valid tag has, keep theirs.
+fn push_extensions(out: &mut Output<'_>, extensions: Extensions<'_>) {
+    if extensions.as_str().is_empty() {
+        return;
+    }
+    if are_in_order(extensions) {
+        return out.push_subtag(extensions.as_bytes());
+    }
+    let present = singletons_of(extensions);
+    for singleton in SINGLETONS {
+        if !present[usize::from(into_smallcase(singleton))] {
+            continue;
+        }
+        push_extensions_of(out, extensions, singleton);
+    }
+}
+
+/// Those of one singleton are put, whatever its case.
+#[inline]
+fn push_extensions_of(out: &mut Output<'_>, extensions: Extensions<'_>, singleton: u8) {
+    for extension in extensions.iter() {
+        if folded_singleton(extension) != into_smallcase(singleton) {
+            continue;
+        }
+        out.push_subtag(extension.as_bytes());
+    }
+}
+
+#[inline]
+fn push_private_use(out: &mut Output<'_>, private_use: Option<PrivateUse<'_>>) {
+    if let Some(private_use) = private_use {
+        out.push_subtag(private_use.as_bytes());
+    }
+}

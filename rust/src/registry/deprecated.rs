@@ -1,0 +1,57 @@
+// Made by rust/erase from crates/langtag_registry/src/deprecated.rt. Change that file, not this one.
+
+//! Deprecated subtags and tags (RFC 5646 section 3.1.6). They stay valid.
+
+use crate::language::{ExtendedLangTag, PrimaryLanguage};
+use crate::place::{Region, Variant};
+use crate::registry::table::is_among;
+use crate::registry::tables::{
+    DEPRECATED_EXTLANG_KEYS, DEPRECATED_LANGUAGE_KEYS, DEPRECATED_REGION_KEYS, DEPRECATED_TAGS,
+    DEPRECATED_VARIANT_KEYS,
+};
+use crate::scan::case_insensitive_eq;
+use crate::tag::LangTag;
+
+/// Returns whether a language is deprecated (RFC 5646 section 3.1.6): true for `iw`, false for `he` and for what is
+/// not registered.
+#[inline]
+pub fn is_deprecated_language(language: PrimaryLanguage<'_>) -> bool {
+    is_among(&DEPRECATED_LANGUAGE_KEYS, language.as_bytes())
+}
+
+/// Returns whether an extended language is deprecated (RFC 5646 section 3.1.6): true for `yds`, false for `yue` and for
+/// what is not registered.
+#[inline]
+pub fn is_deprecated_extlang(extlang: ExtendedLangTag<'_>) -> bool {
+    is_among(&DEPRECATED_EXTLANG_KEYS, extlang.as_bytes())
+}
+
+/// Returns whether a region is deprecated (RFC 5646 section 3.1.6): true for `SU`, false for `FR` and for what is not
+/// registered.
+#[inline]
+pub fn is_deprecated_region(region: Region<'_>) -> bool {
+    is_among(&DEPRECATED_REGION_KEYS, region.as_bytes())
+}
+
+/// Returns whether a variant is deprecated (RFC 5646 section 3.1.6): true for `heploc`, false for `rozaj` and for what
+/// is not registered.
+#[inline]
+pub fn is_deprecated_variant(variant: Variant<'_>) -> bool {
+    is_among(&DEPRECATED_VARIANT_KEYS, variant.as_bytes())
+}
+
+/// Returns whether a tag is deprecated as a whole (RFC 5646 section 3.1.6), which some grandfathered and redundant tags are:
+/// true for `zh-min`, `art-lojban` and `sgn-DE`, false for `i-default`, for `iw`, which is deprecated as a language, and
+/// for what is not registered as a whole, as `sgn-DE-x-a`.
+#[inline]
+pub fn is_deprecated_tag(tag: LangTag<'_>) -> bool {
+    is_listed(&DEPRECATED_TAGS, tag.as_bytes())
+}
+
+/// Returns whether some bytes are one of these texts, but for case.
+#[inline]
+fn is_listed(texts: &[&str], bytes: &[u8]) -> bool {
+    texts
+        .iter()
+        .any(|text| case_insensitive_eq(bytes, text.as_bytes()))
+}

@@ -1,0 +1,61 @@
+// Made by rust/erase from crates/langtag_registry/src/extlang_forms.rt. Change that file, not this one.
+
+//! The extlang form of a tag (RFC 5646 section 4.5).
+
+use crate::language::Language;
+#[cfg(feature = "alloc")]
+use crate::registry::canonical_form::canonical;
+use crate::registry::prefixes::prefix_of_language;
+#[cfg(feature = "alloc")]
+use crate::shim::{try_string, AllocError, TryText};
+use crate::tag::LangTag;
+#[cfg(feature = "alloc")]
+use crate::tag::{LangTagBuf, NormalLangTagBuf};
+#[cfg(feature = "alloc")]
+use alloc::string::String;
+
+/// Returns the extlang form of a tag (RFC 5646 section 4.5): the canonical form, and before a language that is registered
+/// as an extended one, too, its prefix: `zh-hak-CN` of `hak-CN` and of `zh-hak-CN`, `he` of `iw`. A language with three
+/// extended subtags, which no valid tag has, stays.
+///
+/// # Errors
+///
+/// Out of memory.
+#[cfg(feature = "alloc")]
+pub fn extlang_form(tag: LangTag<'_>) -> Result<LangTagBuf, AllocError> {
+    match canonical(tag)?.into_normal() {
+        Ok(form) => Ok(with_prefix(form)?.into_lang_tag()),
+        Err(form) => Ok(form),
+    }
+}
+
+/// Returns a tag with the prefix of its language before it.
+#[cfg(feature = "alloc")]
+fn with_prefix(mut form: NormalLangTagBuf) -> Result<NormalLangTagBuf, AllocError> {
+    let Some(text) = prefixed_language(form.as_normal_lang_tag().language())? else {
+        return Ok(form);
+    };
+    form.set_language(Language::from_checked(text.as_str()))?;
+    Ok(form)
+}
+
+/// Returns the text of a language after its prefix, where it is an extended one, too: `zh-hak` of `hak`.
+#[cfg(feature = "alloc")]
+fn prefixed_language(language: Language<'_>) -> Result<Option<String>, AllocError> {
+    if is_full(language) {
+        return Ok(None);
+    }
+    let Some(prefix) = prefix_of_language(language.primary()) else {
+        return Ok(None);
+    };
+    let mut text = try_string(prefix.as_str())?;
+    text.try_push_str("-")?;
+    text.try_push_str(language.as_str())?;
+    Ok(Some(text))
+}
+
+/// Returns whether a language has three extended subtags, so that there is no room for one more.
+#[inline]
+fn is_full(language: Language<'_>) -> bool {
+    language.extension_subtags().count() == 3
+}

@@ -1,0 +1,73 @@
+// Made by rust/erase from crates/langtag_registry/src/preferred.rt. Change that file, not this one.
+
+//! The Preferred-Value of a region, a variant or a whole tag (RFC 5646 section 3.1.7).
+
+use crate::place::{Region, Variant};
+use crate::registry::table::value_of;
+use crate::registry::tables::{
+    PREFERRED_REGION_KEYS, PREFERRED_REGION_VALUES, PREFERRED_TAGS, PREFERRED_TAG_KEYS,
+    PREFERRED_VARIANT_KEYS, PREFERRED_VARIANT_VALUES,
+};
+use crate::scan::{case_insensitive_eq, folded_number};
+use crate::tag::LangTag;
+
+/// Returns the region that stands for another today (its Preferred-Value, RFC 5646 section 3.1.7): `MM` for `BU`. None for
+/// `MM`, and for what is not registered.
+pub fn preferred_region(region: Region<'_>) -> Option<Region<'static>> {
+    match value_of(
+        &PREFERRED_REGION_KEYS,
+        &PREFERRED_REGION_VALUES,
+        region.as_bytes(),
+    ) {
+        Some(text) => Some(Region::from_checked(text)),
+        None => None,
+    }
+}
+
+/// Returns the variant that stands for another today (its Preferred-Value, RFC 5646 section 3.1.7): `alalc97` for `heploc`.
+/// None for `alalc97`, and for what is not registered.
+pub fn preferred_variant(variant: Variant<'_>) -> Option<Variant<'static>> {
+    match value_of(
+        &PREFERRED_VARIANT_KEYS,
+        &PREFERRED_VARIANT_VALUES,
+        variant.as_bytes(),
+    ) {
+        Some(text) => Some(Variant::from_checked(text)),
+        None => None,
+    }
+}
+
+/// Returns the tag that stands for a grandfathered or redundant tag as a whole today (its Preferred-Value, RFC 5646 section
+/// 3.1.7): `jbo` for `art-lojban`, `gsg` for `sgn-DE`. None for `zh-min`, which has no Preferred-Value, and for what is not
+/// registered as a whole, as `sgn-DE-x-a`.
+#[inline]
+pub fn preferred_tag(tag: LangTag<'_>) -> Option<LangTag<'static>> {
+    preferred_for(tag.as_bytes())
+}
+
+/// Returns the tag that stands for a text as a whole today.
+#[inline]
+pub(crate) fn preferred_for(text: &[u8]) -> Option<LangTag<'static>> {
+    match value_beside(&PREFERRED_TAG_KEYS, &PREFERRED_TAGS, text) {
+        Some(text) => Some(LangTag::from_checked(text)),
+        None => None,
+    }
+}
+
+/// Returns the second text beside the first that is equal to these bytes but for case, if there is one. The pairs stand by
+/// the ends of the first, as numbers.
+fn value_beside(
+    keys: &[u64],
+    table: &'static [(&'static str, &'static str)],
+    bytes: &[u8],
+) -> Option<&'static str> {
+    let end = &bytes[bytes.len().saturating_sub(8)..];
+    let Ok(index) = keys.binary_search(&folded_number(end)) else {
+        return None;
+    };
+    let (text, value) = table[index];
+    if case_insensitive_eq(text.as_bytes(), bytes) {
+        return Some(value);
+    }
+    None
+}

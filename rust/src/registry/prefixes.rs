@@ -1,0 +1,28 @@
+// Made by rust/erase from crates/langtag_registry/src/prefixes.rt. Change that file, not this one.
+
+//! What a subtag is meant to stand after (RFC 5646 section 3.1.8).
+
+use crate::language::{ExtendedLangTag, PrimaryLanguage};
+use crate::registry::table::value_of;
+use crate::registry::tables::{EXTLANG_PREFIX_KEYS, EXTLANG_PREFIX_VALUES};
+
+/// Returns the language that an extended language stands after (the field Prefix, RFC 5646 section 3.1.8): `zh` for `yue`.
+/// None for what is not registered. A tag of another language, as `de-yue`, may be valid.
+#[inline]
+pub fn extlang_prefix(extlang: ExtendedLangTag<'_>) -> Option<PrimaryLanguage<'static>> {
+    prefix_of_language(PrimaryLanguage::from_checked(extlang.as_str()))
+}
+
+/// Returns the same of a language that is an extended one, too: `zh` for the language `yue`, None for `fr`.
+pub(crate) fn prefix_of_language(
+    language: PrimaryLanguage<'_>,
+) -> Option<PrimaryLanguage<'static>> {
+    match value_of(
+        &EXTLANG_PREFIX_KEYS,
+        &EXTLANG_PREFIX_VALUES,
+        language.as_bytes(),
+    ) {
+        Some(text) => Some(PrimaryLanguage::from_checked(text)),
+        None => None,
+    }
+}

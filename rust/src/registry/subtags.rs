@@ -1,0 +1,36 @@
+// Made by rust/erase from crates/langtag_registry/src/subtags.rt. Change that file, not this one.
+
+//! Registered extended languages, scripts, regions and variants (RFC 5646 sections 2.2.2 to 2.2.5).
+
+use crate::language::ExtendedLangTag;
+use crate::place::{Region, Script, Variant};
+use crate::registry::table::is_among;
+use crate::registry::tables::{EXTLANG_KEYS, REGION_KEYS, SCRIPT_KEYS, VARIANT_KEYS};
+
+/// Returns whether an extended language is registered (RFC 5646 section 2.2.2), in any case: true for `yue` and `YUE`,
+/// false for `fra`.
+#[inline]
+pub fn is_registered_extlang(extlang: ExtendedLangTag<'_>) -> bool {
+    is_among(&EXTLANG_KEYS, extlang.as_bytes())
+}
+
+/// Returns whether a script is registered (RFC 5646 section 2.2.3), in any case: true for `Latn`, `latn` and the private
+/// use `Qaaa`, false for `Abcd`.
+#[inline]
+pub fn is_registered_script(script: Script<'_>) -> bool {
+    is_among(&SCRIPT_KEYS, script.as_bytes())
+}
+
+/// Returns whether a region is registered (RFC 5646 section 2.2.4), in any case: true for `FR`, `fr`, `419` and the
+/// private use `XA`, false for `FQ`.
+#[inline]
+pub fn is_registered_region(region: Region<'_>) -> bool {
+    is_among(&REGION_KEYS, region.as_bytes())
+}
+
+/// Returns whether a variant is registered (RFC 5646 section 2.2.5), in any case: true for `rozaj`, `ROZAJ` and `1996`,
+/// false for `1997`.
+#[inline]
+pub fn is_registered_variant(variant: Variant<'_>) -> bool {
+    is_among(&VARIANT_KEYS, variant.as_bytes())
+}

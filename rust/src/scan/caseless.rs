@@ -1,0 +1,54 @@
+// Made by rust/erase from crates/langtag_scan/src/caseless.rt. Change that file, not this one.
+
+//! Texts that compare without regard to the case of ASCII letters (RFC 5646 section 2.1.1).
+
+use crate::scan::case::{case_insensitive_cmp, case_insensitive_eq, case_insensitive_hash};
+use crate::shim::AsStr;
+use core::cmp::Ordering;
+use core::hash::{Hash, Hasher};
+
+/// A text, lent (`&str`) or owned (`String`), whose `==`, order and hash ignore the case of ASCII letters (RFC 5646
+/// section 2.1.1) by the functions of this crate of like name: `Caseless("zh-Latn") == Caseless("ZH-LATN")`.
+///
+/// The text keeps its case. A type that holds one derives `PartialEq`, `Eq`, `PartialOrd`, `Ord` and `Hash` over it, as
+/// each text type of the crates above does.
+#[derive(Clone, Copy, Debug)]
+pub struct Caseless<T>(pub T);
+
+impl<T: AsStr> Caseless<T> {
+    /// The bytes of the text. It is proved that a clone of a lent text is the text itself.
+    #[inline]
+    fn as_bytes(&self) -> &[u8] {
+        self.0.as_str().as_bytes()
+    }
+}
+
+impl<T: AsStr> PartialEq for Caseless<T> {
+    #[inline]
+    fn eq(&self, other: &Self) -> bool {
+        case_insensitive_eq(self.as_bytes(), other.as_bytes())
+    }
+}
+
+impl<T: AsStr> Eq for Caseless<T> {}
+
+impl<T: AsStr> Ord for Caseless<T> {
+    #[inline]
+    fn cmp(&self, other: &Self) -> Ordering {
+        case_insensitive_cmp(self.as_bytes(), other.as_bytes())
+    }
+}
+
+impl<T: AsStr> PartialOrd for Caseless<T> {
+    #[inline]
+    fn partial_cmp(&self, other: &Self) -> Option<Ordering> {
+        Some(self.cmp(other))
+    }
+}
+
+impl<T: AsStr> Hash for Caseless<T> {
+    #[inline]
+    fn hash<H: Hasher>(&self, state: &mut H) {
+        case_insensitive_hash(self.as_bytes(), state);
+    }
+}

@@ -1,0 +1,77 @@
+// Made by rust/erase from crates/langtag_scan/src/metered.rt. Change that file, not this one.
+
+//! Bytes, with a count of the reads.
+
+use crate::scan::source::ByteSource;
+
+/// The bytes of a text, or any others, with a count of the reads, to show how much of them is read to recognise a tag (RFC
+/// 5646 section 2.1). There is no other way to them.
+///
+/// ```
+/// use langtag::{ByteSource, Metered, recognise};
+///
+/// let mut source = Metered::new("i-notexist");
+/// assert!(recognise(&mut source).is_none());
+/// assert_eq!(source.reads(), 4);
+/// ```
+pub struct Metered<'a> {
+    bytes: &'a [u8],
+    /// What is read after the bytes: two more at most.
+    end: &'static [u8],
+    reads: u128,
+    reach: usize,
+}
+
+impl<'a> Metered<'a> {
+    /// Returns the bytes of a text, of which none was read yet: `Metered::new("fr").reads()` is 0.
+    #[inline]
+    pub fn new(text: &'a str) -> Self {
+        Metered::of_bytes(text.as_bytes())
+    }
+
+    /// Returns bytes that need not be UTF-8, of which none was read yet: `Metered::of_bytes(b"fr\xFF").len()` is 3.
+    #[inline]
+    pub fn of_bytes(bytes: &'a [u8]) -> Self {
+        Metered::followed(bytes, b"")
+    }
+
+    /// The bytes, and what is read after them.
+    #[inline]
+    pub(crate) fn followed(bytes: &'a [u8], end: &'static [u8]) -> Self {
+        Metered {
+            bytes,
+            end,
+            reads: 0,
+            reach: 0,
+        }
+    }
+}
+
+impl<'a> ByteSource for Metered<'a> {
+    #[inline]
+    fn len(&self) -> usize {
+        self.bytes.len() + self.end.len()
+    }
+
+    #[inline]
+    fn reads(&self) -> u128 {
+        self.reads
+    }
+
+    #[inline]
+    fn reach(&self) -> usize {
+        self.reach
+    }
+
+    fn byte(&mut self, index: usize) -> u8 {
+        self.reads += 1;
+        if self.reach <= index {
+            self.reach = index + 1;
+        }
+        if index < self.bytes.len() {
+            self.bytes[index]
+        } else {
+            self.end[index - self.bytes.len()]
+        }
+    }
+}

@@ -1,0 +1,28 @@
+// Made by rust/erase from crates/langtag_scan/src/segment.rt. Change that file, not this one.
+
+//! Where a segment of a text, what stands between two hyphens, ends and begins (RFC 5646 section 2.1). Indices count
+//! bytes.
+
+/// Returns where the segment that has begun at or before `index` ends: at the next hyphen, or at the end of the text.
+///
+/// `segment_end(b"fr-FR", 0)` is 2, and `segment_end(b"fr-FR", 3)` is 5.
+#[inline]
+pub fn segment_end(bytes: &[u8], index: usize) -> usize {
+    let mut end = index;
+    while end < bytes.len() && bytes[end] != b'-' {
+        end += 1;
+    }
+    end
+}
+
+/// Returns where the segment begins that ends at `end`: just after a hyphen, or at 0.
+///
+/// `segment_start(b"fr-FR", 5)` is 3, and `segment_start(b"fr-FR", 2)` is 0.
+#[inline]
+pub fn segment_start(bytes: &[u8], end: usize) -> usize {
+    let mut start = end;
+    while start > 0 && bytes[start - 1] != b'-' {
+        start -= 1;
+    }
+    start
+}

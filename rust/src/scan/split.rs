@@ -1,0 +1,43 @@
+// Made by rust/erase from crates/langtag_scan/src/split.rt. Change that file, not this one.
+
+//! A text taken apart at the first byte of a kind.
+
+/// Returns what stands before the first `mark` of a text, and what stands after it: all and nothing where it has none.
+///
+/// `split_at_byte(b"fr;q=1", b';')` is `(b"fr", b"q=1")`.
+#[inline]
+pub fn split_at_byte(text: &[u8], mark: u8) -> (&[u8], &[u8]) {
+    split_at(text, first_place(text, mark))
+}
+
+/// Returns what stands before and after the first of two bytes: `split_at_either(b"zh_TW", b'-', b'_')` is `(b"zh", b"TW")`.
+#[inline]
+pub fn split_at_either(text: &[u8], mark: u8, other: u8) -> (&[u8], &[u8]) {
+    split_at(text, first_of_either(text, mark, other))
+}
+
+/// Returns how many bytes stand before the first `mark`, all where there is none: `len_before(b"fr;q=1", b';')` is 2.
+#[inline]
+pub fn len_before(text: &[u8], mark: u8) -> usize {
+    first_place(text, mark).unwrap_or(text.len())
+}
+
+/// Returns the index of the first `mark`, None where there is none: `first_place(b"q=1", b'=')` is Some(1).
+#[inline]
+pub fn first_place(text: &[u8], mark: u8) -> Option<usize> {
+    text.iter().position(|byte| *byte == mark)
+}
+
+#[inline]
+fn first_of_either(text: &[u8], mark: u8, other: u8) -> Option<usize> {
+    text.iter().position(|byte| *byte == mark || *byte == other)
+}
+
+/// Takes a text apart at an index, and leaves out the byte there; nothing is after it where there is no index.
+#[inline]
+fn split_at(text: &[u8], index: Option<usize>) -> (&[u8], &[u8]) {
+    match index {
+        Some(index) => (&text[..index], &text[index + 1..]),
+        None => (text, b""),
+    }
+}

@@ -1,0 +1,235 @@
+// Made by rust/erase from crates/langtag/src/grandfathered.rt. Change that file, not this one.
+
+//! The grandfathered tags (RFC 5646 section 2.2.8).
+
+use crate::language::Language;
+use crate::scan::case_insensitive_eq;
+use crate::tag::lang_tag::LangTag;
+use core::fmt;
+
+/// Bytes that are no grandfathered tag. It hands them back.
+///
+/// ```
+/// use langtag::GrandfatheredLangTag;
+///
+/// let error = GrandfatheredLangTag::try_from(&b"i-none"[..]).err();
+/// assert_eq!(error.map(|error| error.0), Some(&b"i-none"[..]));
+/// ```
+#[derive(Debug)]
+pub struct InvalidGrandfatheredTag<T>(pub T);
+
+impl<T> fmt::Display for InvalidGrandfatheredTag<T> {
+    #[inline]
+    fn fmt(&self, f: &mut fmt::Formatter<'_>) -> fmt::Result {
+        f.write_str("invalid grandfathered tag")
+    }
+}
+
+impl<T: fmt::Debug> core::error::Error for InvalidGrandfatheredTag<T> {}
+
+/// A grandfathered tag: one of the 26 that were registered before the grammar (RFC 5646 section 2.2.8), in the order in
+/// which section 2.1 lists them. The first seventeen are irregular: no rule but their own admits them. The nine regular
+/// ones, from `art-lojban` on, are normal tags too.
+///
+/// They are compared, ordered and hashed by where they stand in this declaration.
+///
+/// ```
+/// use langtag::GrandfatheredLangTag;
+///
+/// let tag = GrandfatheredLangTag::new(b"I-KLINGON");
+/// assert_eq!(tag.map(|tag| tag.as_str()), Ok("i-klingon"));
+/// ```
+#[derive(Clone, Copy, Debug, PartialEq, Eq, PartialOrd, Ord, Hash)]
+pub enum GrandfatheredLangTag {
+    /// `en-GB-oed`, English, by the spelling of the Oxford English Dictionary.
+    EnGbOed,
+    /// `i-ami`, Amis.
+    IAmi,
+    /// `i-bnn`, Bunun.
+    IBnn,
+    /// `i-default`, the language of messages where none is known.
+    IDefault,
+    /// `i-enochian`, Enochian.
+    IEnochian,
+    /// `i-hak`, Hakka Chinese.
+    IHak,
+    /// `i-klingon`, Klingon.
+    IKlingon,
+    /// `i-lux`, Luxembourgish.
+    ILux,
+    /// `i-mingo`, Mingo.
+    IMingo,
+    /// `i-navajo`, Navajo.
+    INavajo,
+    /// `i-pwn`, Paiwan.
+    IPwn,
+    /// `i-tao`, Tao.
+    ITao,
+    /// `i-tay`, Tayal.
+    ITay,
+    /// `i-tsu`, Tsou.
+    ITsu,
+    /// `sgn-BE-FR`, Belgian-French Sign Language.
+    SgnBeFr,
+    /// `sgn-BE-NL`, Belgian-Flemish Sign Language.
+    SgnBeNl,
+    /// `sgn-CH-DE`, Swiss German Sign Language.
+    SgnChDe,
+    /// `art-lojban`, Lojban.
+    ArtLojban,
+    /// `cel-gaulish`, Gaulish.
+    CelGaulish,
+    /// `no-bok`, Norwegian Bokmål.
+    NoBok,
+    /// `no-nyn`, Norwegian Nynorsk.
+    NoNyn,
+    /// `zh-guoyu`, Mandarin Chinese.
+    ZhGuoyu,
+    /// `zh-hakka`, Hakka Chinese.
+    ZhHakka,
+    /// `zh-min`, Min Chinese.
+    ZhMin,
+    /// `zh-min-nan`, Min Nan Chinese.
+    ZhMinNan,
+    /// `zh-xiang`, Xiang Chinese.
+    ZhXiang,
+}
+
+/// All grandfathered tags, in the order of [`GrandfatheredLangTag`].
+pub const GRANDFATHERED: [GrandfatheredLangTag; 26] = [
+    GrandfatheredLangTag::EnGbOed,
+    GrandfatheredLangTag::IAmi,
+    GrandfatheredLangTag::IBnn,
+    GrandfatheredLangTag::IDefault,
+    GrandfatheredLangTag::IEnochian,
+    GrandfatheredLangTag::IHak,
+    GrandfatheredLangTag::IKlingon,
+    GrandfatheredLangTag::ILux,
+    GrandfatheredLangTag::IMingo,
+    GrandfatheredLangTag::INavajo,
+    GrandfatheredLangTag::IPwn,
+    GrandfatheredLangTag::ITao,
+    GrandfatheredLangTag::ITay,
+    GrandfatheredLangTag::ITsu,
+    GrandfatheredLangTag::SgnBeFr,
+    GrandfatheredLangTag::SgnBeNl,
+    GrandfatheredLangTag::SgnChDe,
+    GrandfatheredLangTag::ArtLojban,
+    GrandfatheredLangTag::CelGaulish,
+    GrandfatheredLangTag::NoBok,
+    GrandfatheredLangTag::NoNyn,
+    GrandfatheredLangTag::ZhGuoyu,
+    GrandfatheredLangTag::ZhHakka,
+    GrandfatheredLangTag::ZhMin,
+    GrandfatheredLangTag::ZhMinNan,
+    GrandfatheredLangTag::ZhXiang,
+];
+
+impl GrandfatheredLangTag {
+    /// Returns the grandfathered tag with these bytes, in any case: `GrandfatheredLangTag::new(b"I-AMI")` is
+    /// `Ok(GrandfatheredLangTag::IAmi)`.
+    ///
+    /// It is proved that no bytes equal two of them, ignoring case, that all of them are tags, that they compare and
+    /// are hashed as their indices, that a clone is the value itself, and that [`GRANDFATHERED`] has each at its index.
+    ///
+    /// # Errors
+    ///
+    /// Bytes that are no such tag come back, the same slice: `b"fr"` does.
+    #[inline]
+    pub fn new(bytes: &[u8]) -> Result<Self, &[u8]> {
+        match first_alike(&GRANDFATHERED, bytes) {
+            Some(index) => Ok(GrandfatheredLangTag::at(index)),
+            None => Err(bytes),
+        }
+    }
+
+    /// The tag at an index of the table.
+    #[inline]
+    pub(crate) fn at(index: usize) -> Self {
+        GRANDFATHERED[index]
+    }
+
+    /// The registered spelling, and the primary language subtag of a regular tag.
+    fn registered(&self) -> (&'static str, Option<&'static str>) {
+        match self {
+            GrandfatheredLangTag::EnGbOed => ("en-GB-oed", None),
+            GrandfatheredLangTag::IAmi => ("i-ami", None),
+            GrandfatheredLangTag::IBnn => ("i-bnn", None),
+            GrandfatheredLangTag::IDefault => ("i-default", None),
+            GrandfatheredLangTag::IEnochian => ("i-enochian", None),
+            GrandfatheredLangTag::IHak => ("i-hak", None),
+            GrandfatheredLangTag::IKlingon => ("i-klingon", None),
+            GrandfatheredLangTag::ILux => ("i-lux", None),
+            GrandfatheredLangTag::IMingo => ("i-mingo", None),
+            GrandfatheredLangTag::INavajo => ("i-navajo", None),
+            GrandfatheredLangTag::IPwn => ("i-pwn", None),
+            GrandfatheredLangTag::ITao => ("i-tao", None),
+            GrandfatheredLangTag::ITay => ("i-tay", None),
+            GrandfatheredLangTag::ITsu => ("i-tsu", None),
+            GrandfatheredLangTag::SgnBeFr => ("sgn-BE-FR", None),
+            GrandfatheredLangTag::SgnBeNl => ("sgn-BE-NL", None),
+            GrandfatheredLangTag::SgnChDe => ("sgn-CH-DE", None),
+            GrandfatheredLangTag::ArtLojban => ("art-lojban", Some("art")),
+            GrandfatheredLangTag::CelGaulish => ("cel-gaulish", Some("cel")),
+            GrandfatheredLangTag::NoBok => ("no-bok", Some("no")),
+            GrandfatheredLangTag::NoNyn => ("no-nyn", Some("no")),
+            GrandfatheredLangTag::ZhGuoyu => ("zh-guoyu", Some("zh")),
+            GrandfatheredLangTag::ZhHakka => ("zh-hakka", Some("zh")),
+            GrandfatheredLangTag::ZhMin => ("zh-min", Some("zh")),
+            GrandfatheredLangTag::ZhMinNan => ("zh-min-nan", Some("zh")),
+            GrandfatheredLangTag::ZhXiang => ("zh-xiang", Some("zh")),
+        }
+    }
+
+    /// Returns the primary language of a regular tag: `zh` of `zh-min-nan`. An irregular one has none: None of `i-lux`.
+    #[inline]
+    pub fn language(&self) -> Option<Language<'static>> {
+        let language = self.registered().1?;
+        Some(Language::from_checked(language))
+    }
+
+    /// Returns the registered spelling: `sgn-BE-FR` of `GrandfatheredLangTag::SgnBeFr`.
+    #[inline]
+    pub fn as_str(&self) -> &'static str {
+        self.registered().0
+    }
+
+    /// Returns the tag with the registered spelling: `GrandfatheredLangTag::ILux.as_lang_tag().kind()` is
+    /// `Kind::Grandfathered`.
+    #[inline]
+    pub fn as_lang_tag(&self) -> LangTag<'static> {
+        LangTag::from_checked(self.as_str())
+    }
+
+    /// Returns the bytes of the registered spelling: `b"i-lux"` of `GrandfatheredLangTag::ILux`.
+    #[inline]
+    pub fn as_bytes(&self) -> &'static [u8] {
+        self.as_str().as_bytes()
+    }
+}
+
+/// The index of the first of some tags that is equal to these bytes but for the case of ASCII letters.
+#[inline]
+fn first_alike(tags: &[GrandfatheredLangTag], bytes: &[u8]) -> Option<usize> {
+    tags.iter()
+        .position(|tag| case_insensitive_eq(tag.as_bytes(), bytes))
+}
+
+impl<'a> TryFrom<&'a [u8]> for GrandfatheredLangTag {
+    type Error = InvalidGrandfatheredTag<&'a [u8]>;
+
+    #[inline]
+    fn try_from(bytes: &'a [u8]) -> Result<Self, InvalidGrandfatheredTag<&'a [u8]>> {
+        match GrandfatheredLangTag::new(bytes) {
+            Ok(tag) => Ok(tag),
+            Err(bytes) => Err(InvalidGrandfatheredTag(bytes)),
+        }
+    }
+}
+
+impl fmt::Display for GrandfatheredLangTag {
+    #[inline]
+    fn fmt(&self, f: &mut fmt::Formatter<'_>) -> fmt::Result {
+        f.write_str(self.as_str())
+    }
+}

@@ -1,0 +1,113 @@
+// Made by rust/erase from crates/langtag/src/lib.rt. Change that file, not this one.
+
+//! Language tags, by RFC 5646 section 2.1: parsed, taken apart, compared without regard to case, and edited.
+//!
+//! A [`LangTag`] is a tag of any kind: a normal one, one for private use as a whole, or a grandfathered one:
+//!
+//! ```
+//! # fn main() -> Result<(), Box<dyn std::error::Error>> {
+//! use langtag::{Kind, LangTag};
+//!
+//! let tag = LangTag::new("zh-Hant-TW-x-mine")?;
+//! assert_eq!(tag.kind(), Kind::Normal);
+//! assert_eq!(tag.script().map(|script| script.as_str()), Some("Hant"));
+//! assert!(tag.eq_str("ZH-hant-tw-X-mine"));
+//! assert!(LangTag::new("I-Klingon")?.is_grandfathered());
+//! assert_eq!(LangTag::new("zh_Hant").err().map(|error| error.0), Some("zh_Hant"));
+//! # Ok(())
+//! # }
+//! ```
+//!
+//! A [`NormalLangTag`] is a tag made of parts. It keeps where they end, so that each is cut from the text:
+//!
+//! ```
+//! # fn main() -> Result<(), Box<dyn std::error::Error>> {
+//! use langtag::{NormalLangTag, Script};
+//!
+//! let tag = NormalLangTag::new("sl-IT-rozaj-x-mine")?;
+//! assert_eq!(tag.language().as_str(), "sl");
+//! assert_eq!(tag.region().map(|region| region.as_str()), Some("IT"));
+//! assert_eq!(tag.variants().first().map(|first| first.as_str()), Some("rozaj"));
+//! assert_eq!(tag.script(), None);
+//! assert!(tag.eq_str("SL-it-ROZAJ-x-mine"));
+//!
+//! let mut owned = tag.try_to_owned()?;
+//! owned.set_script(Some(Script::new("Latn")?))?;
+//! assert_eq!(owned.as_str(), "sl-Latn-IT-rozaj-x-mine");
+//! # Ok(())
+//! # }
+//! ```
+//!
+//! Each part has a type of its own, lent and owned, as [`Script`] and [`ScriptBuf`]. All of them are reached from this
+//! crate, as is what decides over bytes whether they are a tag ([`recognise`]).
+
+mod edit;
+mod edit_error;
+mod grandfathered;
+mod kind;
+mod lang_tag;
+mod lang_tag_buf;
+mod lengths;
+mod normal_lang_tag;
+mod normal_lang_tag_buf;
+mod part;
+mod private_use_lang_tag;
+mod recognise_text;
+mod recognised;
+mod recommended_case;
+mod refusal;
+mod repeats;
+mod text_of_parts;
+mod typed_lang_tag;
+mod variant_blocks;
+
+pub use crate::case::{is_in_recommended_case, make_recommended_case, InRecommendedCase};
+pub use crate::extension::{
+    Extension, ExtensionIter, ExtensionSubtag, Extensions, ExtensionsIter, InvalidExtension,
+    InvalidExtensionSubtag, InvalidExtensions, InvalidSingleton, Singleton,
+};
+#[cfg(feature = "alloc")]
+pub use crate::extension::{ExtensionBuf, ExtensionSubtagBuf, ExtensionsBuf};
+pub use crate::language::{
+    ExtendedLangTag, InvalidExtendedLangTag, InvalidLanguage, InvalidLanguageExtension,
+    InvalidPrimaryLanguage, Language, LanguageExtension, LanguageExtensionIter, PrimaryLanguage,
+};
+#[cfg(feature = "alloc")]
+pub use crate::language::{
+    ExtendedLangTagBuf, LanguageBuf, LanguageExtensionBuf, PrimaryLanguageBuf,
+};
+pub use crate::place::{
+    InvalidRegion, InvalidScript, InvalidVariant, InvalidVariants, Region, Script, Variant,
+    Variants, VariantsIter,
+};
+#[cfg(feature = "alloc")]
+pub use crate::place::{RegionBuf, ScriptBuf, VariantBuf, VariantsBuf};
+pub use crate::private::{
+    InvalidPrivateUse, InvalidPrivateUseSubtag, PrivateUse, PrivateUseIter, PrivateUseSubtag,
+};
+#[cfg(feature = "alloc")]
+pub use crate::private::{PrivateUseBuf, PrivateUseSubtagBuf};
+pub use crate::scan::{
+    case_insensitive_cmp, case_insensitive_eq, case_insensitive_hash, into_smallcase, is_extended,
+    is_extension_subtag, is_mark, is_primary, is_private_subtag, is_region, is_script,
+    is_singleton, is_variant, recognise, recognise_normal, viable_len, ByteSource, Ends, Found,
+    Metered, Subtags,
+};
+pub(crate) use crate::scan::{segment_end, segment_start};
+#[cfg(feature = "alloc")]
+pub use edit_error::EditError;
+pub use grandfathered::{GrandfatheredLangTag, InvalidGrandfatheredTag, GRANDFATHERED};
+pub use kind::Kind;
+pub use lang_tag::{InvalidLangTag, LangTag};
+#[cfg(feature = "alloc")]
+pub use lang_tag_buf::LangTagBuf;
+pub use normal_lang_tag::{InvalidNormalLangTag, NormalLangTag};
+#[cfg(feature = "alloc")]
+pub use normal_lang_tag_buf::NormalLangTagBuf;
+pub use part::{put_part, Part, Replacement};
+pub use private_use_lang_tag::PrivateUseLangTag;
+#[cfg(feature = "alloc")]
+pub use private_use_lang_tag::PrivateUseLangTagBuf;
+pub use refusal::{Refusal, RefusalKind};
+pub use repeats::is_among_first;
+pub use typed_lang_tag::TypedLangTag;

@@ -1,0 +1,125 @@
+// Made by rust/erase from crates/langtag/src/part.rt. Change that file, not this one.
+
+//! The parts of a normal tag, and how one is put into its text (RFC 5646 section 2.1).
+
+use crate::extension::Extensions;
+use crate::language::Language;
+use crate::place::{Region, Script, Variants};
+use crate::private::PrivateUse;
+use crate::scan::Ends;
+use crate::tag::normal_lang_tag::NormalLangTag;
+
+/// A part of a normal tag (RFC 5646 section 2.1), as [`put_part`] puts it into one.
+///
+/// None and the empty text, as [`Variants::EMPTY`], stand for a part that is absent, and take the old one out. There is no tag
+/// without a language.
+///
+/// ```
+/// # fn main() -> Result<(), Box<dyn std::error::Error>> {
+/// use langtag::{Part, Script};
+///
+/// assert_eq!(Part::Script(Some(Script::new("Latn")?)).as_str(), "Latn");
+/// assert_eq!(Part::Script(None).as_str(), "");
+/// # Ok(())
+/// # }
+/// ```
+#[derive(Clone, Copy, Debug)]
+pub enum Part<'a> {
+    /// The language, with its extended subtags (section 2.2.1): `zh-yue`.
+    Language(Language<'a>),
+    /// The script (section 2.2.3): `Latn`.
+    Script(Option<Script<'a>>),
+    /// The region (section 2.2.4): `419`.
+    Region(Option<Region<'a>>),
+    /// All variants (section 2.2.5): `rozaj-1994`.
+    Variants(Variants<'a>),
+    /// All extensions (section 2.2.6): `u-co-phonebk`.
+    Extensions(Extensions<'a>),
+    /// The private use part (section 2.2.7): `x-mine`.
+    PrivateUse(Option<PrivateUse<'a>>),
+}
+
+/// What stands in place of some bytes of a tag's text once a part is put into it: offsets in bytes, a hyphen and the part.
+///
+/// ```
+/// # fn main() -> Result<(), Box<dyn std::error::Error>> {
+/// use langtag::{NormalLangTag, Part, put_part};
+///
+/// let new = put_part(NormalLangTag::new("de-DE-1996")?, Part::Region(None));
+/// assert_eq!((new.start, new.end, new.hyphen, new.part), (2, 5, "", ""));
+/// # Ok(())
+/// # }
+/// ```
+#[derive(Debug)]
+pub struct Replacement<'a> {
+    /// Where the bytes begin that go: 2 in `de-x-a`, for a private use part.
+    pub start: usize,
+    /// Where they end: 6 in `de-x-a`. It is `start` where the tag has no such part.
+    pub end: usize,
+    /// The hyphen before the part; empty before a language, and where the part is taken out.
+    pub hyphen: &'static str,
+    /// The text of the part, empty where it is taken out.
+    pub part: &'a str,
+}
+
+/// Returns what has to be replaced in the text of a normal tag so that it has this part in the old one's place, or where one would
+/// stand (RFC 5646 sections 2.2.1 to 2.2.7). It takes no memory: the caller joins the bytes before, the hyphen, the part and
+/// the bytes after.
+///
+/// Of `de-DE-1996` and `Part::Region(Region::new("AT").ok())` the bytes from 2 to 5 go, and a hyphen and `AT` come. It
+/// is proved that a clone of a part is the part itself.
+#[inline]
+pub fn put_part<'a>(tag: NormalLangTag<'_>, part: Part<'a>) -> Replacement<'a> {
+    part.replacement(&tag.ends())
+}
+
+impl<'a> Part<'a> {
+    /// Returns the text of the part: `Latn` of `Part::Script(Script::new("Latn").ok())`, and the empty one of a part that is
+    /// absent.
+    pub fn as_str(&self) -> &'a str {
+        match self {
+            Part::Language(language) => language.as_str(),
+            Part::Script(script) => script.map_or("", |script| script.as_str()),
+            Part::Region(region) => region.map_or("", |region| region.as_str()),
+            Part::Variants(variants) => variants.as_str(),
+            Part::Extensions(extensions) => extensions.as_str(),
+            Part::PrivateUse(private_use) => {
+                private_use.map_or("", |private_use| private_use.as_str())
+            }
+        }
+    }
+
+    /// What stands in place of the old part, where the parts end at these offsets.
+    pub(crate) fn replacement(&self, ends: &Ends) -> Replacement<'a> {
+        let part = self.as_str();
+        let (start, end) = self.place(ends);
+        Replacement {
+            start,
+            end,
+            hyphen: self.hyphen_before(part),
+            part,
+        }
+    }
+
+    /// Where the part before this one ends, and where this one does.
+    fn place(&self, ends: &Ends) -> (usize, usize) {
+        match self {
+            Part::Language(_) => (0, ends.language),
+            Part::Script(_) => (ends.language, ends.script),
+            Part::Region(_) => (ends.script, ends.region),
+            Part::Variants(_) => (ends.region, ends.variants),
+            Part::Extensions(_) => (ends.variants, ends.extensions),
+            Part::PrivateUse(_) => (ends.extensions, ends.whole),
+        }
+    }
+
+    /// The hyphen that stands before a text of this part, if one does.
+    #[inline]
+    fn hyphen_before(&self, text: &str) -> &'static str {
+        if text.is_empty() || matches!(self, Part::Language(_)) {
+            ""
+        } else {
+            "-"
+        }
+    }
+}

@@ -1,0 +1,32 @@
+// Made by rust/erase from crates/langtag/src/private_use_lang_tag.rt. Change that file, not this one.
+
+//! Tags for private use as a whole (RFC 5646 section 2.2.7).
+use crate::private::PrivateUse;
+#[cfg(feature = "alloc")]
+use crate::private::PrivateUseBuf;
+
+/// A tag for private use as a whole, as `x-fr-CH`: the same text as a private use part.
+///
+/// ```
+/// # fn main() -> Result<(), Box<dyn std::error::Error>> {
+/// use langtag::PrivateUseLangTag;
+///
+/// assert_eq!(PrivateUseLangTag::new("x-fr-CH")?.iter().count(), 2);
+/// # Ok(())
+/// # }
+/// ```
+pub type PrivateUseLangTag<'a> = PrivateUse<'a>;
+
+/// A tag for private use as a whole that owns its text.
+///
+/// ```
+/// # fn main() -> Result<(), Box<dyn std::error::Error>> {
+/// use langtag::{PrivateUseLangTag, PrivateUseLangTagBuf};
+///
+/// let owned: PrivateUseLangTagBuf = PrivateUseLangTag::new("x-fr-CH")?.try_to_owned()?;
+/// assert_eq!(owned.as_str(), "x-fr-CH");
+/// # Ok(())
+/// # }
+/// ```
+#[cfg(feature = "alloc")]
+pub type PrivateUseLangTagBuf = PrivateUseBuf;

@@ -1,0 +1,40 @@
+// Made by rust/erase from crates/langtag/src/recognise_text.rt. Change that file, not this one.
+
+//! The one place where this crate runs a recogniser.
+
+use crate::scan::{recognise, Ends, Found, Metered};
+use crate::tag::grandfathered::GrandfatheredLangTag;
+use crate::tag::recognised::Recognised;
+
+/// What the recogniser finds of bytes; None where they are not a tag.
+///
+/// Each constructor of the crate calls this function. It is not inlined, so that the recogniser's code is there once.
+#[inline(never)]
+pub(crate) fn recognise_bytes(bytes: &[u8]) -> Option<Recognised> {
+    let found = found_in(bytes)?;
+    if let Some(ends) = found.ends() {
+        return Some(Recognised::Normal(ends));
+    }
+    match found.irregular() {
+        Some(index) => Some(Recognised::Irregular(GrandfatheredLangTag::at(index))),
+        None => Some(Recognised::PrivateUse),
+    }
+}
+
+/// What the recogniser finds of bytes, in its own form.
+#[inline]
+fn found_in(bytes: &[u8]) -> Option<Found> {
+    recognise(&mut Metered::of_bytes(bytes))
+}
+
+/// The same of a text.
+#[inline]
+pub(crate) fn recognise_text(text: &str) -> Option<Recognised> {
+    recognise_bytes(text.as_bytes())
+}
+
+/// Where the parts of a normal tag end; None where the text is not a normal tag.
+#[inline]
+pub(crate) fn normal_ends(text: &str) -> Option<Ends> {
+    recognise_text(text)?.ends()
+}

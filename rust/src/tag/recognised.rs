@@ -1,0 +1,40 @@
+// Made by rust/erase from crates/langtag/src/recognised.rt. Change that file, not this one.
+
+//! What a tag keeps of what the recogniser found of its text.
+
+use crate::scan::Ends;
+use crate::tag::grandfathered::GrandfatheredLangTag;
+
+/// Of which kind a tag is (RFC 5646 section 2.1), with what is known of one of that kind, so that its text is not read again.
+#[derive(Clone, Copy)]
+pub(crate) enum Recognised {
+    /// A normal tag, and where its parts end.
+    Normal(Ends),
+    /// A tag for private use as a whole.
+    PrivateUse,
+    /// An irregular grandfathered tag.
+    Irregular(GrandfatheredLangTag),
+}
+
+impl Recognised {
+    /// Whether this is a normal tag.
+    #[inline]
+    pub(crate) fn is_normal(&self) -> bool {
+        matches!(self, Recognised::Normal(_))
+    }
+
+    /// Whether this is a tag for private use as a whole.
+    #[inline]
+    pub(crate) fn is_private_use(&self) -> bool {
+        matches!(self, Recognised::PrivateUse)
+    }
+
+    /// Where the parts of a normal tag end.
+    #[inline]
+    pub(crate) fn ends(&self) -> Option<Ends> {
+        match self {
+            Recognised::Normal(ends) => Some(*ends),
+            _ => None,
+        }
+    }
+}

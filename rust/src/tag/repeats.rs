@@ -1,0 +1,57 @@
+// Made by rust/erase from crates/langtag/src/repeats.rt. Change that file, not this one.
+
+//! Variants and singletons that stand in a tag twice. Such a tag is well formed, and is not valid (RFC 5646 section
+//! 2.2.9).
+
+use crate::extension::Extensions;
+use crate::place::{Variant, Variants};
+use crate::scan::into_smallcase;
+use crate::tag::variant_blocks::first_repeated_of_many;
+
+/// Up to so many bytes of variants, which are 28 variants at most, each is compared to those before it.
+const FEW: usize = 143;
+
+/// The index of the first of these variants that is equal, but for case, to an earlier one.
+#[inline]
+pub(crate) fn first_repeated_variant(variants: Variants<'_>) -> Option<usize> {
+    if variants.as_str().len() > FEW {
+        return first_repeated_of_many(variants);
+    }
+    first_repeated_of_few(variants)
+}
+
+/// The same, where each variant is compared to those before it.
+#[inline]
+fn first_repeated_of_few(variants: Variants<'_>) -> Option<usize> {
+    for (index, variant) in variants.iter().enumerate() {
+        if is_among_first(variants, index, variant) {
+            return Some(index);
+        }
+    }
+    None
+}
+
+/// Returns whether a variant is equal, but for case, to one of the first so many variants of a list (RFC 5646 section 2.2.5),
+/// or of all where they are fewer.
+///
+/// Of `rozaj-1996-1996` and `1996` it is true with a count of 2, and false with a count of 1.
+#[inline]
+pub fn is_among_first(variants: Variants<'_>, count: usize, variant: Variant<'_>) -> bool {
+    variants
+        .iter()
+        .take(count)
+        .any(|earlier| variant == earlier)
+}
+
+/// The index of the first of these extensions whose singleton is equal, but for case, to that of an earlier one.
+pub(crate) fn first_repeated_singleton(extensions: Extensions<'_>) -> Option<usize> {
+    let mut seen = [false; 128];
+    for (index, extension) in extensions.iter().enumerate() {
+        let byte = into_smallcase(extension.singleton().unwrap()) as usize;
+        if seen[byte] {
+            return Some(index);
+        }
+        seen[byte] = true;
+    }
+    None
+}

@@ -1,0 +1,35 @@
+// Made by rust/erase from crates/langtag/src/text_of_parts.rt. Change that file, not this one.
+
+//! The text of a language, a script and a region.
+
+#[cfg(feature = "alloc")]
+use crate::shim::{try_string_with_capacity, AllocError, TryText};
+#[cfg(feature = "alloc")]
+use alloc::string::String;
+
+/// A new text with room for so many bytes: a language, and a script and a region after it, each after its hyphen; an empty
+/// one is none.
+#[cfg(feature = "alloc")]
+pub(crate) fn join_parts(
+    room: usize,
+    language: &str,
+    script: &str,
+    region: &str,
+) -> Result<String, AllocError> {
+    let mut whole = try_string_with_capacity(room)?;
+    whole.try_push_str(language)?;
+    push_part(&mut whole, script)?;
+    push_part(&mut whole, region)?;
+    Ok(whole)
+}
+
+/// Puts a part, after its hyphen, at the end of a text; the empty part is none.
+#[cfg(feature = "alloc")]
+#[inline]
+fn push_part(text: &mut String, part: &str) -> Result<(), AllocError> {
+    if part.is_empty() {
+        return Ok(());
+    }
+    text.try_push_str("-")?;
+    text.try_push_str(part)
+}
