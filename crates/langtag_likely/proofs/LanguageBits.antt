@@ -32,8 +32,8 @@ length-bits zero word = refl
 length-bits (suc k) word = ap suc (length-bits k (word / 2))
 
 count-append : (a b : List Bool) → count (a ++ b) ≡ count a + count b
-count-append [] b = refl
-count-append (true ∷ a) b = ap suc (count-append a b)
+count-append [] b = omega arith
+count-append (true ∷ a) b = let later = count-append a b in omega (arith, later)
 count-append (false ∷ a) b = count-append a b
 
 count-lowest : (word : ℕ) (list : List Bool) → count ((word % 2 == 1) ∷ list) ≡ word % 2 + count list
@@ -71,7 +71,9 @@ bit_at (suc k) word (suc i) inside = bit_at k (word / 2) i (omega (arith, inside
 count-split : (k word i : ℕ) → word < 2 ^ k → i < k → count (take i (bits k word)) + count_ones (word / 2 ^ i) ≡ count (bits k word)
 unfolding bits
 count-split zero word i small inside = absurd (omega (arith, inside))
-count-split (suc k) word zero small inside = ap count_ones (div-one word) ∙ count-bits (suc k) word small
+count-split (suc k) word zero small inside =
+    let whole = ap count_ones (div-one word) ∙ count-bits (suc k) word small in
+    omega (arith, whole)
 count-split (suc k) word (suc i) small inside =
     let few = count-lowest word (take i (bits k (word / 2))) in
     let all = count-lowest word (bits k (word / 2)) in
@@ -164,9 +166,10 @@ module _ (table last numbers : List ℕ) (all : list_all is_word table ≡ true)
   count_is : before + count_ones rest ≡ get_or last (place / 64) 0
   unfolding before
   count_is =
-      ap (λ n. count (take n (words table)) + count_ones rest) divided
-      ∙ count-words 0 table (place / 64) (place % 64) all inside (omega arith)
-      ∙ ap (λ list. get_or list (place / 64) 0) (sym last_is)
+      let kept = ap (λ n. count (take n (words table))) divided in
+      let whole = count-words 0 table (place / 64) (place % 64) all inside (omega arith) in
+      let end = ap (λ list. get_or list (place / 64) 0) last_is in
+      omega (arith, kept, whole, end)
 
   index_is : first_index numbers (27 + place) ≡ cond (rest % 2 == 1) (Some before) None
   unfolding before

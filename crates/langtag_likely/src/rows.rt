@@ -1,5 +1,5 @@
 //! The rows of likely subtags, in tables: those of a language alone, and the others.
-ghost use Rattle.std.specs.Prelude.{◌≡◌, ◌≤◌, ◌<◌, IfSome, IsTrue, length, map, slice_index_or};
+ghost use Rattle.std.specs.Prelude.{◌≡◌, ◌≤◌, ◌<◌, IsTrue, length, map, slice_index_or};
 ghost use Rattle.std.specs.Option.{option_map};
 ghost use Rattle.langtag_scan.specs.Class as class;
 ghost use Rattle.langtag_registry.specs.Numbers.{climbs_from, letter_number};
@@ -47,8 +47,7 @@ fn language_row(language: &[u8]) -> Option<TagFields<'static>>
 fn language_index(number: usize) -> Option<usize>
     requires from_aa { 27 ≤ number }
     requires to_zzz { number ≤ 18278 }
-    ensures index { result ≡ first_index (map (λ row. letter_number row.from.language) language_rows) number }
-    ensures inside { IfSome result (λ index. index < length language_rows) }
+    ensures { result ≡ first_index (map (λ row. letter_number row.from.language) language_rows) number }
 {
     let place = number - 27;
     let bits = tables::LANGUAGE_BITS[place / 64] >> (place % 64);
