@@ -59,16 +59,18 @@
 //! |---|---|
 //! | `&LangTag`, `&Script` .., unsized types behind references | `LangTag<'a>`, `Script<'a>` .., `Copy` values |
 //! | `LangTagBuf`, `ScriptBuf` .. | the same names |
-//! | `X::new`, of anything that has text | `X::new(&str)`, `XBuf::new(String)`; `TryFrom`, `FromStr`; [`LangTag::from_bytes`] |
+//! | `X::new`, of anything that has text | `X::new(&str)`, `XBuf::new(String)`; `TryFrom`; `FromStr` of `XBuf`; [`LangTag::from_bytes`] |
 //! | `X::new_unchecked`, `XBuf::new_unchecked` | none: each value was tested |
 //! | `InvalidX` | the same names; [`InvalidLangTag::refusal`] says where a text goes wrong |
 //! | `as_str`, `as_bytes`, `as_x`, `into_string`, `Display`, `Debug` | the same names |
-//! | `into_bytes`, `validate` | `into_string().into_bytes()`, `X::new(text).is_ok()` |
-//! | `Deref<Target = str>`, `AsRef<str>`, `AsRef<[u8]>` | the same |
+//! | `into_bytes` | the same name |
+//! | `validate` | `X::new(text).is_ok()` |
+//! | `len`, `is_empty` | those of `str`, by `Deref` |
+//! | `Deref<Target = str>`, `AsRef<str>`, `AsRef<[u8]>` | the same, of owned forms too |
 //! | `Borrow` | [`CaselessText`], by which a map is asked with a text in any case |
 //! | `PartialEq` with `str`, `&str`, `String` | the same, both ways; case is ignored; also `eq_str` |
 //! | `PartialEq` with `[u8]` | [`case_insensitive_eq`] |
-//! | `ToOwned`, `Clone` of owned forms | `to_owned`, `Clone`; `try_to_owned` returns an error |
+//! | `ToOwned`, `Clone` of owned forms | the methods `to_owned` and `clone`; `try_to_owned` returns an error if memory is refused |
 //! | `language`, `script`, `region`, `variants`, `extensions`, `private_use`, `private_use_subtags` | the same names |
 //! | `kind`, `is_normal`, `is_private_use`, `is_grandfathered`, `as_normal`, `as_private_use`, `as_grandfathered` | the same names |
 //! | `Kind`, `TypedLangTag`, `PrivateUseLangTag`, `PrivateUseLangTagBuf` | the same names |
@@ -124,3 +126,8 @@ pub use caseless_text::CaselessText;
 #[cfg(feature = "alloc")]
 pub use shim::AllocError;
 pub use tag::*;
+
+/// The examples of README.md.
+#[cfg(all(doctest, feature = "alloc"))]
+#[doc = include_str!("../README.md")]
+pub struct Readme;
