@@ -34,8 +34,9 @@
 //! - rustc and `core`, in place of the compiler and the std of Rattle.
 //! - The differences between the two sources that are not contracts. There are some fifty kinds, and `checker/kinds.txt` gives
 //!   a reason for each. A checker that shares no code with the eraser refuses all others.
-//! - The files directly below `src`, which are written by hand. `shim.rs` has the allocation that returns an error, and the
-//!   comparison of tags by their text. The others add what Rust programs expect, such as `FromStr` and `AsRef<str>`.
+//! - The files directly below `src`, which are written by hand. Erased modules use two of them: `memory.rs` allocates and
+//!   returns an error if memory is refused, and `shim.rs` compares tags by their text. The others add what Rust programs
+//!   expect, such as `FromStr` and `AsRef<str>`.
 //! - The width of `usize`. It is proved for 64 bits that nothing overflows. 32 bits are tested, not proved.
 //! - Your own implementations of [`ByteSource`], [`likely::TagList`] and [`likely::RangeList`]. A fault there can give a
 //!   wrong answer or a panic, and nothing else: the crate has no unsafe code.
@@ -89,6 +90,8 @@
 #[cfg(feature = "alloc")]
 extern crate alloc;
 
+#[cfg(feature = "alloc")]
+mod memory;
 #[macro_use]
 mod shim;
 #[macro_use]
@@ -96,7 +99,8 @@ mod text_types;
 
 // The modules that rust/erase makes: each is a folder.
 mod case;
-#[allow(dead_code, unused_imports)] // The C library calls first_extension_end.
+// For the C library: first_extension_end.
+#[allow(dead_code, unused_imports)]
 mod extension;
 mod language;
 pub mod likely;
@@ -104,9 +108,9 @@ pub mod matching;
 mod place;
 mod private;
 pub mod registry;
-#[allow(dead_code, unused_imports)] // The C library calls viable_len_with_hyphen.
 mod scan;
-#[allow(dead_code, unused_imports)] // NormalLangTag::from_checked and segment_end are for crates of Rattle.
+// For crates of Rattle: NormalLangTag::from_checked, segment_end.
+#[allow(dead_code, unused_imports)]
 mod tag;
 
 // Habits of Rust, by hand over these.
