@@ -12,6 +12,7 @@ from __future__ import annotations
 import concurrent.futures
 import os
 import pathlib
+import queue
 import shutil
 import subprocess
 import sys
@@ -19,7 +20,7 @@ import tempfile
 from typing import NamedTuple
 
 HERE = pathlib.Path(__file__).resolve().parent
-ROWS = HERE.parent / "crates/langtag_rows/data"
+ROWS = HERE.parent / "rows"
 RUST = HERE.parent / "rust"
 H, HPP, SQL, PY = "include/langtag.h", "include/langtag.hpp", "examples/sqlite_langtag.c", "python/langtag/__init__.py"
 CT, NATIVE = "python/langtag/_ctypes.py", "python/native/"
@@ -45,7 +46,7 @@ def swapped(file: str, one: str, other: str, test: str | None = None) -> Fault:
     return Fault(file, one + between + other, other + between + one, test=test)
 
 
-def rust(file: str, old: str, new: str, test: str = "rows") -> Fault:
+def rust(file: str, old: str, new: str, test: str = "owned") -> Fault:
     """One in a file that is written by hand: rust/checker compares the others with their sources."""
     return Fault(f"../rust/src/{file}.rs", old, new, "FAILED", test)
 
@@ -101,23 +102,22 @@ FAULTS = {
     "Rust": [
         rust("text", "case_insensitive_eq(self.as_str().as_bytes(), other.as_bytes())", "self.as_str().as_bytes() == other.as_bytes()"),
         rust("text", "$name::new(text).map_err(|_| $error(bytes))", "$name::new(text.trim()).map_err(|_| $error(bytes))", "habits"),
-        rust("text", "let text = core::str::from_utf8(bytes).map_err(|_| $error(bytes))?;",
-             "let text = core::str::from_utf8(bytes).unwrap_or(\"und\");", "habits"),
+        rust("text", "core::str::from_utf8(bytes).map_err(|_| $error(bytes))?", 'core::str::from_utf8(bytes).unwrap_or("und")', "habits"),
         rust("text", "Ok(lent) => Ok(lent.to_owned()),", "Ok(lent) => Ok($owned::new(lent.to_ascii_lowercase()).unwrap()),"),
         rust("text", "self.$lend() == *other", "self.as_str() == other.as_str()"),
-        rust("text", "*self == other.$lend()", "self.as_str() == other.as_str()", "owned"),
+        rust("text", "*self == other.$lend()", "self.as_str() == other.as_str()"),
         rust("text", "self.$lend().partial_cmp(other)", "self.as_str().partial_cmp(other.as_str())"),
-        rust("text", "self.partial_cmp(&other.$lend())", "self.as_str().partial_cmp(other.as_str())", "owned"),
-        rust("text", "self.unwrap() == *other", "self.unwrap().eq_ignore_ascii_case(other)", "owned"),
+        rust("text", "self.partial_cmp(&other.$lend())", "self.as_str().partial_cmp(other.as_str())"),
+        rust("text", "self.unwrap() == *other", "self.unwrap() != *other"),
         rust("text", "self.into_string().into_bytes()", "self.to_ascii_lowercase().into_bytes()"),
-        rust("lent", "self.$lend().$call($($argument)?)", "$name::try_from(\"zh-Hant\").unwrap().$call($($argument)?)", "habits"),
-        rust("caseless_text", "case_insensitive_eq(self.text().as_bytes(), other.text().as_bytes())", "self.text() == other.text()"),
-        rust("caseless_text", "case_insensitive_cmp(self.text().as_bytes(), other.text().as_bytes())", "self.text().cmp(other.text())"),
-        rust("caseless_text", "case_insensitive_hash(self.text().as_bytes(), state)", "self.text().hash(state)"),
-        rust("invalid", "self.0 == other.0", "true", "habits"),
+        rust("lent", "self.$lend().$call($($argument)?)", '$name::try_from("zh").unwrap().$call($($argument)?)'),
+        rust("caseless_text", "case_insensitive_eq(self.text().as_bytes(), other.text().as_bytes())", "self.text() == other.text()", "habits"),
+        rust("caseless_text", "case_insensitive_cmp(self.text().as_bytes(), other.text().as_bytes())", "self.text().cmp(other.text())", "habits"),
+        rust("caseless_text", "case_insensitive_hash(self.text().as_bytes(), state)", "self.text().hash(state)", "habits"),
+        rust("invalid", "self.0 == other.0", "true"),
         rust("invalid", "$error(self.0.into())", "$error(Default::default())"),
         rust("invalid", "RefusalKind::Subtag if subtag.is_empty()", "RefusalKind::End if subtag.is_empty()", "habits"),
-        rust("walks", "self.iter()", "{ let mut walk = self.iter(); walk.next(); walk }"),
+        rust("walks", "self.iter()", "{ let mut walk = self.iter(); walk.next(); walk }", "habits"),
         rust("oxilangtag", "Some(normal) if !read.is_grandfathered() =>", "Some(normal) =>", "oxilangtag"),
         rust("oxilangtag", "Some(&*self.tag).filter(|tag| begins_private_use(tag))", "None", "oxilangtag"),
         rust("oxilangtag", "tag.make_recommended_case();", "", "oxilangtag"),
@@ -232,11 +232,9 @@ FAULTS = {
 
 # How the tests of a language are built and run, in a copy of bindings/.
 ASKED = '$(make -s -C c ROWS="$ROWS" asked)'
-CARGO = "cd ../rust && cargo test -q --offline --features oxilangtag --test $TEST"
 BUILD = {
     "C": "cc -w -std=c11 -Iinclude c/test/*.c examples/accept_language.c $LIBRARIES/liblangtag_verified.a -o test",
     "C++": "c++ -w -std=c++17 -Iinclude c/test/rows.cc $LIBRARIES/liblangtag_verified.a -o test",
-    "Rust": f"{CARGO} --no-run",
     "Python": "true",
     "Python's C": "python/native/compile $LIBRARIES/liblangtag_verified.a python/langtag/_native.abi3.so $PYTHON",
     "JavaScript": "true",
@@ -246,13 +244,12 @@ BUILD = {
 RUN = {
     "C": f"./test {ASKED}",
     "C++": f"./test {ASKED}",
-    "Rust": CARGO,
     "Python": "cd python && python3 -m unittest $TEST",
     "Python's C": "cd python && env -u LANGTAG_LIBRARY python3 -m unittest $TEST",
     "JavaScript": "node --test js/test/$TEST.test.js",
     "SQLite": "PYTHONPATH=python python3 examples/test_sqlite.py ./sqlite_langtag.so",
 }
-TESTS = {"Rust": ["rows", "habits", "owned", "oxilangtag", "program"], "Python": ["test_rows", "test_langtag.Memory", "test_langtag.Negotiation"], "JavaScript": ["rows", "langtag"],
+TESTS = {"Python": ["test_rows", "test_langtag.Memory", "test_langtag.Negotiation"], "JavaScript": ["rows", "langtag"],
          "Python's C": ["test_rows", "test_langtag.Memory", "test_langtag.Negotiation"]}
 
 
@@ -262,17 +259,14 @@ def asked(libraries: pathlib.Path, language: str, fault: Fault | None, test: str
         folder = pathlib.Path(name)
         copy = folder / "bindings"
         shutil.copytree(HERE, copy, ignore=shutil.ignore_patterns("target", "dist", "__pycache__", "build"))
-        (folder / "crates/langtag_rows").mkdir(parents=True)
-        (folder / "crates/langtag_rows/data").symlink_to(ROWS)
-        if language == "Rust":
-            shutil.copytree(RUST, folder / "rust", ignore=shutil.ignore_patterns("target", "erase", "checker", "peers"))
+        (folder / "rows").symlink_to(ROWS)
         if fault:
             text = (copy / fault.file).read_text()
             if fault.old not in text:
                 return "the text is not there"
             (copy / fault.file).write_text(text.replace(fault.old, fault.new, 1))
         environment = {**os.environ, "LIBRARIES": str(libraries), "PYTHON": os.environ.get("PYTHON", ""), "ROWS": str(ROWS), "TEST": test,
-                       "PYTHONDONTWRITEBYTECODE": "1", "CARGO_TARGET_DIR": str(folder / "target"), "RUSTFLAGS": "-Awarnings",
+                       "PYTHONDONTWRITEBYTECODE": "1",
                        "LANGTAG_LIBRARY": str(libraries / "liblangtag_verified.so.1")}
         environment.pop("LANGTAG_ANSWERS", None)
 
@@ -291,15 +285,75 @@ def asked(libraries: pathlib.Path, language: str, fault: Fault | None, test: str
         return None if fault.says in run.stdout else f"is refused, and not by {fault.says!r}: {run.stdout[-2000:]}"
 
 
+class RustCopies:
+    """Copies of the Rust crate, each with what it was built to: a fault has cargo build little anew."""
+
+    def __init__(self, count: int):
+        self.free: queue.Queue[pathlib.Path] = queue.Queue()
+        for _ in range(count):
+            folder = pathlib.Path(tempfile.mkdtemp())
+            shutil.copytree(RUST, folder / "rust", ignore=shutil.ignore_patterns("target", "erase", "checker", "peers"))
+            (folder / "rows").symlink_to(ROWS)
+            self.free.put(folder)
+
+    def cargo(self, folder: pathlib.Path, test: str, *more: str) -> subprocess.CompletedProcess[str]:
+        environment = {**os.environ, "CARGO_TARGET_DIR": str(folder / "target"), "RUSTFLAGS": "-Awarnings -Cdebuginfo=0"}
+        environment.pop("LANGTAG_ANSWERS", None)
+        return subprocess.run(["cargo", "test", "-q", "--offline", "--features", "oxilangtag", "--test", test, *more], text=True,
+                              cwd=folder / "rust", env=environment, stdout=subprocess.PIPE, stderr=subprocess.STDOUT)
+
+    def asked(self, fault: Fault | None, test: str) -> str | None:
+        """What goes against the expectation, if anything does."""
+        folder = self.free.get()
+        path = folder / "rust" / fault.file.removeprefix("../rust/") if fault else folder
+        text = path.read_text() if fault else ""
+        try:
+            if fault and fault.old not in text:
+                return "the text is not there"
+            if fault:
+                path.write_text(text.replace(fault.old, fault.new, 1))
+            built = self.cargo(folder, test, "--no-run")
+            if built.returncode != 0:
+                return f"does not build: {built.stdout[-2000:]}"
+            run = self.cargo(folder, test)
+            if not fault:
+                return None if run.returncode == 0 else f"is refused without a fault: {run.stdout[-2000:]}"
+            return "PASSES" if run.returncode == 0 else None if fault.says in run.stdout else f"is refused otherwise: {run.stdout[-2000:]}"
+        finally:
+            if fault:
+                path.write_text(text)
+            self.free.put(folder)
+
+    def remove(self) -> None:
+        while not self.free.empty():
+            shutil.rmtree(self.free.get())
+
+
+def rust_asked() -> list[tuple[Fault | None, str | None]]:
+    """Each fault of the Rust crate, with what goes against the expectation."""
+    copies = RustCopies(min(3, os.cpu_count() or 1))
+    try:
+        faults = FAULTS["Rust"]
+        wanted = [(None, test) for test in sorted({fault.test or "" for fault in faults})] + [(fault, fault.test or "") for fault in faults]
+        with concurrent.futures.ThreadPoolExecutor(copies.free.qsize()) as pool:
+            return list(zip([fault for fault, _ in wanted], pool.map(lambda it: copies.asked(*it), wanted)))
+    finally:
+        copies.remove()
+
+
 def main(libraries: pathlib.Path, languages: list[str]) -> int:
     wanted: list[tuple[str, Fault | None, str]] = []
     for language in languages or FAULTS:
+        if language == "Rust":
+            continue
         tests = TESTS.get(language, [""])
         wanted += [(language, None, test) for test in tests]
         wanted += [(language, fault, fault.test or tests[0]) for fault in FAULTS[language]]
     with concurrent.futures.ThreadPoolExecutor(os.cpu_count()) as pool:
         found = list(pool.map(lambda it: asked(libraries, *it), wanted))
     bad = [(it, what) for it, what in zip(wanted, found) if what]
+    if "Rust" in (languages or FAULTS):
+        bad += [(("Rust", fault, ""), what) for fault, what in rust_asked() if what]
     for (language, fault, _), what in bad:
         print(f"{language}: {fault.file if fault else 'no fault'}: {fault.new if fault else ''!r}\n  {what}")
     counts = ", ".join(f"{language} {len(FAULTS[language])}" for language in languages or FAULTS)
