@@ -14,14 +14,14 @@ HEADER, ORDER, KEPT = "Which language a request gets", "Order", "What the caller
 PACKAGES = {
     "c": ("langtag for C and C++", ["C and C++", HEADER, ORDER, KEPT]),
     "python": ("langtag for Python", ["Python", HEADER, ORDER]),
-    "rust": ("langtag for Rust", ["Rust", HEADER, ORDER, KEPT, "The Rust crate, and langtag 0.4.0"]),
+    "rust": ("langtag for Rust", ["Rust", HEADER, ORDER]),
     "js": ("langtag for JavaScript", ["JavaScript", HEADER, "The JavaScript package, and Intl.Locale"]),
     "postgresql": ("langtag for PostgreSQL", ["PostgreSQL", HEADER]),
 }
 LICENCES = """## Licence
 
-Apache License 2.0 or MIT license, at your option; the likely subtags are Unicode's. PROVED.txt names the proved archive in this
-package, and what proved it."""
+Apache License 2.0 or MIT license, at your option; the likely subtags are Unicode's. PROVED.txt says what is proved of this package,
+and what proved it."""
 
 
 def description() -> str:
@@ -40,7 +40,7 @@ def readme(package: str) -> str:
     """The first section stands right below the head, and the others below their headings."""
     title, names = PACKAGES[package]
     found = sections()
-    platform = "" if package in ("js", "postgresql") else f" It runs on {found['Platform and versions'].partition(chr(10) * 2)[0]}"
+    platform = "" if package in ("js", "postgresql", "rust") else f" It runs on {found['Platform and versions'].partition(chr(10) * 2)[0]}"
     page = [f"# {title}", f"{description()}.{platform}", found[names[0]], *(f"## {name}\n\n{found[name]}" for name in names[1:]), LICENCES]
     return "\n\n".join(page) + "\n"
 
