@@ -104,7 +104,8 @@ mod private;
 pub mod registry;
 #[allow(dead_code, unused_imports)] // The C library calls viable_len_with_hyphen.
 mod scan;
-#[allow(dead_code, unused_imports)] // NormalLangTag::from_checked and segment_end are for crates of Rattle.
+#[allow(dead_code, unused_imports)]
+// NormalLangTag::from_checked and segment_end are for crates of Rattle.
 mod tag;
 
 // Habits of Rust, by hand over these.
