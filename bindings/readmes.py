@@ -1,5 +1,5 @@
 """The README of each package: sections of docs/BINDINGS.md that its users need, below a head and above the licences. Run by
-itself it prints one: python3 readmes.py rust"""
+itself it prints one: python3 readmes.py c"""
 from __future__ import annotations
 
 import pathlib
@@ -14,7 +14,6 @@ HEADER, ORDER, KEPT = "Which language a request gets", "Order", "What the caller
 PACKAGES = {
     "c": ("langtag for C and C++", ["C and C++", HEADER, ORDER, KEPT]),
     "python": ("langtag for Python", ["Python", HEADER, ORDER]),
-    "rust": ("langtag for Rust", ["Rust", HEADER, ORDER]),
     "js": ("langtag for JavaScript", ["JavaScript", HEADER, "The JavaScript package, and Intl.Locale"]),
     "postgresql": ("langtag for PostgreSQL", ["PostgreSQL", HEADER]),
 }
@@ -40,7 +39,7 @@ def readme(package: str) -> str:
     """The first section stands right below the head, and the others below their headings."""
     title, names = PACKAGES[package]
     found = sections()
-    platform = "" if package in ("js", "postgresql", "rust") else f" It runs on {found['Platform and versions'].partition(chr(10) * 2)[0]}"
+    platform = "" if package in ("js", "postgresql") else f" It runs on {found['Platform and versions'].partition(chr(10) * 2)[0]}"
     page = [f"# {title}", f"{description()}.{platform}", found[names[0]], *(f"## {name}\n\n{found[name]}" for name in names[1:]), LICENCES]
     return "\n\n".join(page) + "\n"
 

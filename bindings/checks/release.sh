@@ -31,7 +31,7 @@ check "release: each tarball for C unpacks to a folder of its own name" own_fold
 # Each package has the README of its language, and so has what pip shows of the wheel; its Python is asked.
 readmes() {
     local pair
-    for pair in c:langtag-verified-*-x86_64-elf.tar.gz rust:langtag-verified-*.crate python:langtag_verified-*.tar.gz \
+    for pair in c:langtag-verified-*-x86_64-elf.tar.gz python:langtag_verified-*.tar.gz \
         postgresql:langtag-postgresql-*.tar.gz js:langtag-verified-*.tgz; do
         python3 readmes.py ${pair%%:*} >"$work/readme.md" || return 1
         (cd "$work/dist" && if ls ${pair#*:}; then tar -xzOf ${pair#*:} --wildcards --no-wildcards-match-slash '*/README.md' | cmp - "$work/readme.md"; fi) || return 1
