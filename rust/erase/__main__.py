@@ -50,9 +50,12 @@ def write(out):
         for source in sorted((CRATES / module.crate / "src").glob("*.rt")):
             name = "mod.rs" if source.stem == "lib" else source.stem + ".rs"
             files[source, out / module.folder / name] = erase(source, module)
-    owning = owning_items(files.values())
+    owning = owning_items(code for (_, path), code in files.items() if path.is_relative_to(out / "src"))
     for (source, path), code in files.items():
-        mark_owning(code, owning)
+        if path.is_relative_to(out / "src"):
+            mark_owning(code, owning)
+        else:
+            code.rewrite("mod $name;", "pub(crate) mod $name;")  # the C library owns nothing, and its exports stand outside
         path.parent.mkdir(parents=True, exist_ok=True)
         path.write_text(head(source) + str(code), encoding="utf-8")
     roots = [out / module.folder / "mod.rs" for module in MODULES]
