@@ -36,6 +36,6 @@ else
     exit 1
 fi
 build sweep "$here/src/sweep.c"
-"$target/sweep" "$here/../crates/langtag_rows/data/texts.txt"
+"$target/sweep" "$here/../rows/texts.txt"
 build memory -Wl,--wrap=malloc,--wrap=realloc,--wrap=free "$here/src/memory.c"
 "$target/memory"

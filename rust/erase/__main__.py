@@ -13,6 +13,7 @@ import tempfile
 from crates import MODULES
 from docs import erase_docs
 from errors import erase_derives
+from exports import keep_inside
 from features import mark_owning, owning_items
 from ghosts import erase_ghosts
 from memory import erase_allocators
@@ -50,6 +51,9 @@ def write(out):
         for source in sorted((CRATES / module.crate / "src").glob("*.rt")):
             name = "mod.rs" if source.stem == "lib" else source.stem + ".rs"
             files[source, out / module.folder / name] = erase(source, module)
+    conditional = set().union(*(code.conditional for code in files.values()))
+    for code in files.values():
+        keep_inside(code, conditional)
     owning = owning_items(code for (_, path), code in files.items() if path.is_relative_to(out / "src"))
     for (source, path), code in files.items():
         if path.is_relative_to(out / "src"):

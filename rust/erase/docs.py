@@ -3,7 +3,8 @@ import re
 
 from crates import MODULES, public_path_of
 
-VALUE = r"""(?:b?"(?:[^"\\]|\\.)*"|b?'(?:[^'\\]|\\.)+'|\d+|true|false|None|(?:Some|Ok|Err)\((?:[^()]|\([^()]*\))*\)|\[[^\]]*\]|[A-Z]\w*::\w+(?:\([^()]*\))?)"""
+IN_PARENTHESES = r"\((?:[^()]|\((?:[^()]|\([^()]*\))*\))*\)"
+VALUE = rf"""(?:b?"(?:[^"\\]|\\.)*"|b?'(?:[^'\\]|\\.)+'|\d+|true|false|None|(?:Some|Ok|Err|){IN_PARENTHESES}|[A-Z]\w*::\w+)"""
 ASSERTED = re.compile(rf"(?P<code>(?!let ).*\S);\s+// (?P<value>{VALUE})(?P<rest>[:,.;].*)?$")
 
 
@@ -42,9 +43,14 @@ def doc_test(lines, mark):
     """Returns the lines of an example, in a `main` that can fail, where a value after an expression is asserted."""
     lines = [re.sub(r"assert(_eq|_ne|)!\(rt; ", r"assert\1!(", line) for line in lines]
     lines = [asserted(line) for line in lines]
-    if any("?" in re.sub(r"//[^/!].*|\"[^\"]*\"", "", line) for line in lines):
+    if any(can_fail(line) for line in lines):
         return [mark + "# fn main() -> Result<(), Box<dyn std::error::Error>> {", *lines, mark + "# Ok(())", mark + "# }"]
     return lines
+
+
+def can_fail(line):
+    code = re.sub(r"^\s*//[/!]|\"(?:[^\"\\\\]|\\\\.)*\"|b?'.'", "", line)
+    return "?" in code.partition("//")[0]
 
 
 def asserted(line):
@@ -54,5 +60,5 @@ def asserted(line):
         return line
     rest = f" // {found['rest'].lstrip(':,.; ')}" if found["rest"] else ""
     value = found["value"]
-    test = {"true": f"assert!({found['code']});", "false": f"assert!(!{found['code']});"}
+    test = {"true": f"assert!({found['code']});", "false": f"assert!(!({found['code']}));" if " == " in found["code"] else f"assert!(!{found['code']});"}
     return mark + test.get(value, f"assert_eq!({found['code']}, {value});") + rest

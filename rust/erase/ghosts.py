@@ -1,9 +1,11 @@
 """Takes out what is there for the proof alone: ghost items, clauses, tactics, models."""
 
-# Free functions that require something and that users can reach (src/lib.rs has them), and the methods that each source has:
-# what becomes of a call that breaks the condition. All other methods that require something are for the crate alone.
-PANICS = {
-    "byte": "If `index` is not less than `len()`.",
+# What becomes of a call that breaks the condition of a function, for those that users can reach. A method of another name is
+# for the crate alone, and so is a free function (exports.py).
+BROKEN = {
+    "byte": "Panics if `index` is not less than `len()`.",
+    "recognise": "A source that counts wrongly or that changes its bytes gets a wrong answer or a panic, and nothing worse.",
+    "recognise_normal": "A source that counts wrongly or that changes its bytes gets a wrong answer or a panic, and nothing worse.",
 }
 
 
@@ -33,11 +35,23 @@ def drop_clauses(code, word):
 
 
 def restrict(code, place):
-    """Keeps a method with a condition for the crate: its callers were proved to meet it. A free function is in a private module."""
+    """Keeps a function with a condition for the crate: its callers were proved to meet it."""
     while code[place] != "fn":
         place -= 1
-    if code[place - 1] == "pub" and is_method(code, place):
+    name, is_public = code[place + 1], code[place - 1] == "pub"
+    if name in BROKEN:
+        add_doc(code.tokens[place - is_public], BROKEN[name])
+    elif is_public and is_method(code, place):
         code.replace(place - 1, place, "pub(crate)")
+    elif is_public:
+        code.conditional.add(name)
+
+
+def add_doc(token, sentence):
+    """Adds a paragraph to the doc comment of an item, unless it has it."""
+    comment, _, indent = token.before.rpartition("\n")
+    if sentence not in comment:
+        token.before = f"{comment}\n{indent}///\n{indent}/// {sentence}\n{indent}"
 
 
 def is_method(code, place):

@@ -44,6 +44,7 @@ class Code:
 
     def __init__(self, text):
         self.tokens = lex(text)
+        self.conditional = set()  # the free functions of the file that others can name and that have a condition
 
     def __str__(self):
         out, last = [], None

@@ -10,5 +10,7 @@ pub mod OrderLaws
 pub mod RepeatLaws
 pub mod VariantBlockLaws
 pub mod AlikeFound
+pub mod IrregularTests
+mod RefusalLaws
 -- what the crates above cite with the others
 pub use Rattle.langtag_scan.proofs.TagLaws

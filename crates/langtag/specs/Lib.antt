@@ -13,6 +13,7 @@ pub mod Typed
 pub mod Order
 pub mod Part
 pub mod Compared
+pub mod Refusal
 -- what the clauses of this crate and of the types that it passes on cite, so that a caller names one crate
 pub use Rattle.langtag_scan.specs.AlikeRecords
 pub use Rattle.langtag_scan.specs.Case

@@ -6,6 +6,13 @@ use std::alloc::AllocError;
 use thiserror::Error;
 
 /// Why a part was not put into a tag, or taken out of it. The tag is as it was.
+///
+/// ```
+/// use langtag::{EditError, LangTag};
+///
+/// let mut tag = LangTag::new("x-a")?.try_to_owned(alloc)?;
+/// tag.set_script(alloc, None); // Err(EditError::NotNormal)
+/// ```
 #[derive(Clone, Copy, Debug, PartialEq, Eq, Error)]
 pub enum EditError {
     /// The tag is not a normal one, and has no parts (RFC 5646 section 2.1): `x-a` and `i-klingon` are refused so.

@@ -14,6 +14,13 @@ use std::fmt::Debug;
 use thiserror::Error;
 
 /// Bytes that are no grandfathered tag. It hands them back.
+///
+/// ```
+/// use langtag::GrandfatheredLangTag;
+///
+/// let error = GrandfatheredLangTag::try_from(&b"i-none"[..]).err();
+/// error.map(|error| error.0); // Some(&b"i-none"[..])
+/// ```
 #[derive(Debug, Drop, Error)]
 #[error("invalid grandfathered tag")]
 #[error_bound(T: Debug + Drop)]
@@ -24,6 +31,13 @@ pub struct InvalidGrandfatheredTag<T>(pub T);
 /// ones, from `art-lojban` on, are normal tags too.
 ///
 /// They are compared, ordered and hashed by where they stand in this declaration.
+///
+/// ```
+/// use langtag::GrandfatheredLangTag;
+///
+/// let tag = GrandfatheredLangTag::new(b"I-KLINGON");
+/// tag.map(|tag| tag.as_str()); // Ok("i-klingon")
+/// ```
 #[derive(Clone, Copy, Debug, PartialEq, Eq, PartialOrd, Ord, Hash)]
 pub enum GrandfatheredLangTag {
     /// `en-GB-oed`, English, by the spelling of the Oxford English Dictionary.
@@ -119,9 +133,8 @@ impl GrandfatheredLangTag {
     /// Returns the grandfathered tag with these bytes, in any case: `GrandfatheredLangTag::new(b"I-AMI")` is
     /// `Ok(GrandfatheredLangTag::IAmi)`.
     ///
-    /// Its contract also has the laws that no bytes equal two of them, ignoring case, that all of them are tags, that they
-    /// compare and are hashed as their indices, that a clone is the value itself, and that [`GRANDFATHERED`] has each at
-    /// its index.
+    /// It is proved that no bytes equal two of them, ignoring case, that all of them are tags, that they compare and
+    /// are hashed as their indices, that a clone is the value itself, and that [`GRANDFATHERED`] has each at its index.
     ///
     /// # Errors
     ///

@@ -4,6 +4,13 @@ ghost use Rattle.std.specs.Prelude.{◌≡◌, ◌↔◌, IsTrue};
 /// The kind of a language tag: the three cases of the rule `Language-Tag` (RFC 5646 section 2.1).
 ///
 /// Kinds are compared, ordered and hashed by where they stand in this declaration.
+///
+/// ```
+/// use langtag::Kind;
+///
+/// Kind::Normal.is_normal(); // true
+/// Kind::Normal < Kind::Grandfathered; // true
+/// ```
 #[derive(Clone, Copy, Debug, PartialEq, Eq, PartialOrd, Ord, Hash)]
 pub enum Kind {
     /// A tag that is made of parts, which the regular grandfathered tags are too.

@@ -33,6 +33,13 @@ use std::fmt::Debug;
 use thiserror::Error;
 
 /// The error for a text that is not a tag. It hands the text back.
+///
+/// ```
+/// use langtag::LangTag;
+///
+/// let error = LangTag::new("zh_Hant").err();
+/// error.map(|error| error.0); // Some("zh_Hant")
+/// ```
 #[derive(Debug, Drop, Error)]
 #[error("invalid language tag")]
 #[error_bound(T: Debug + Drop)]
@@ -43,6 +50,14 @@ pub struct InvalidLangTag<T>(pub T);
 ///
 /// It keeps what the recogniser found: which of the three it is, and where the parts of a normal tag end. Two tags are
 /// equal where their texts differ at most in the case of ASCII letters.
+///
+/// ```
+/// use langtag::LangTag;
+///
+/// let tag = LangTag::new("zh-Hant-TW")?;
+/// tag.script().map(|script| script.as_str()); // Some("Hant")
+/// tag == LangTag::new("ZH-hant-tw")?; // true
+/// ```
 #[derive(Clone, Copy)]
 #[derive_where(Debug, PartialEq, Eq, PartialOrd, Ord, Hash)]
 pub struct LangTag<'a> {
@@ -62,12 +77,20 @@ impl<'a> LangTag<'a> {
     ghost use Rattle.langtag.specs.Text.{normal_lang_tag_text, lang_tag_text, lang_tag_buf_text};
     ghost use Rattle.langtag.specs.Typed.{IsTypedAs};
 
-    /// Parses a text as a tag: `LangTag::new("zh-Hant-TW")` is Ok, and so are `x-fr-CH` and `I-Klingon`. The contract
-    /// also says that no text is of two kinds.
+    /// Parses a text as a tag: `LangTag::new("zh-Hant-TW")` is Ok, and so are `x-fr-CH` and `I-Klingon`. It is proved
+    /// that no text is of two kinds.
     ///
     /// # Errors
     ///
     /// A text that is not a tag comes back: `zh_Hant`, and the empty text.
+    ///
+    /// ```
+    /// use langtag::LangTag;
+    ///
+    /// LangTag::new("zh-Hant-TW").is_ok(); // true
+    /// LangTag::new("x-fr-CH").is_ok(); // true
+    /// LangTag::new("zh_Hant").err().map(|error| error.0); // Some("zh_Hant")
+    /// ```
     #[tactic(auto, using(crate::proofs::KeptFound::found_kept, crate::proofs::KeptFound::one_kind))]
     pub fn new(text: &'a str) -> Result<LangTag<'a>, InvalidLangTag<&'a str>>
         ensures accepts { IsTrue (is_ok result) ↔ IsTag text.now }
@@ -90,6 +113,13 @@ impl<'a> LangTag<'a> {
     /// # Errors
     ///
     /// Bytes that are not a tag come back, the same slice: `b"zh_Hant"`, and `b"fr\xFF"`.
+    ///
+    /// ```
+    /// use langtag::LangTag;
+    ///
+    /// LangTag::from_bytes(b"zh-Hant-TW")?.as_str(); // "zh-Hant-TW"
+    /// LangTag::from_bytes(b"fr\xFF").is_err(); // true
+    /// ```
     #[tactic(auto, using(crate::proofs::KeptFound::found_kept, crate::proofs::AlikeFound::utf8_found))]
     pub fn from_bytes(bytes: &'a [u8]) -> Result<LangTag<'a>, InvalidLangTag<&'a [u8]>>
         ensures accepts { IsTrue (is_ok result) ↔ IsTag bytes.now }
@@ -128,6 +158,12 @@ impl<'a> LangTag<'a> {
     }
 
     /// Returns the text, with its case: `ZH-hant` of `ZH-hant`.
+    ///
+    /// ```
+    /// use langtag::LangTag;
+    ///
+    /// LangTag::new("ZH-hant")?.as_str(); // "ZH-hant"
+    /// ```
     pub fn as_str(&self) -> &'a str
         ensures same_text { result.now ≡ lang_tag_text self.now }
         ensures in_class { IsTag result.now }
@@ -136,6 +172,12 @@ impl<'a> LangTag<'a> {
     }
 
     /// Returns the bytes of the text: `b"x-a"` of `x-a`.
+    ///
+    /// ```
+    /// use langtag::LangTag;
+    ///
+    /// LangTag::new("x-a")?.as_bytes(); // b"x-a"
+    /// ```
     pub fn as_bytes(&self) -> &'a [u8]
         ensures { result.now ≡ lang_tag_text self.now }
     {
@@ -144,6 +186,17 @@ impl<'a> LangTag<'a> {
 
     /// Returns all subtags of the tag, in order and from both ends: `zh`, `Hant` and `TW` of `zh-Hant-TW`, `x` and `a`
     /// of `x-a`.
+    ///
+    /// ```
+    /// use langtag::LangTag;
+    ///
+    /// let tag = LangTag::new("zh-Hant-TW")?;
+    /// let mut subtags = tag.subtags();
+    /// subtags.next(); // Some("zh")
+    /// subtags.next_back(); // Some("TW")
+    /// subtags.next(); // Some("Hant")
+    /// subtags.next(); // None
+    /// ```
     #[tactic(auto, using(langtag_scan::proofs::SpelledTexts::tag_subtags))]
     pub fn subtags(&self) -> Subtags<'a>
         ensures list { result ≡ subtags (lang_tag_text self.now) }
@@ -157,8 +210,15 @@ impl<'a> LangTag<'a> {
     /// `ZH-hant`. Then it is a tag of the same kind, and, where that is a normal one, has alike parts at the same
     /// offsets.
     ///
-    /// The contract also says that tags are compared, ordered and hashed without regard to case, that a clone is the tag
-    /// itself, and that a tag that begins another is the greater of the two: `zh` comes after `zh-Latn`.
+    /// It is proved that tags are compared, ordered and hashed without regard to case, that a clone is the tag itself,
+    /// and that a tag that begins another is the greater of the two: `zh` comes after `zh-Latn`.
+    ///
+    /// ```
+    /// use langtag::LangTag;
+    ///
+    /// LangTag::new("zh-Hant")?.eq_str("ZH-hant"); // true
+    /// LangTag::new("zh-Hant")?.eq_str("zh_Hant"); // false
+    /// ```
     #[tactic(auto, using(crate::proofs::OrderLaws::tag_ends_first))]
     pub fn eq_str(&self, other: &str) -> bool
         ensures test { result ≡ are_alike (lang_tag_text self.now) other.now }
@@ -174,8 +234,16 @@ impl<'a> LangTag<'a> {
     }
 
     /// Returns the kind of the tag: `Kind::Normal` of `fr-x-a`, `Kind::PrivateUse` of `x-a`, `Kind::Grandfathered` of
-    /// `i-lux`. The regular grandfathered tags are normal. The contract also says that kinds compare and are hashed as
-    /// they are declared, and that a clone of one is the same.
+    /// `i-lux`. The regular grandfathered tags are normal. It is proved that kinds compare and are hashed as they are
+    /// declared, and that a clone of one is the same.
+    ///
+    /// ```
+    /// use langtag::{Kind, LangTag};
+    ///
+    /// LangTag::new("fr-x-a")?.kind(); // Kind::Normal
+    /// LangTag::new("x-a")?.kind(); // Kind::PrivateUse
+    /// LangTag::new("i-lux")?.kind(); // Kind::Grandfathered
+    /// ```
     pub fn kind(&self) -> Kind
         ensures kind { IsOfKind (lang_tag_text self.now) result }
         ensures by_index { KindsCompareByIndex }
@@ -187,6 +255,13 @@ impl<'a> LangTag<'a> {
 
     /// Returns the tag as a value of the type of its kind: `TypedLangTag::PrivateUse(tag)` of `x-a`, where `tag` has
     /// the same text.
+    ///
+    /// ```
+    /// use langtag::{GrandfatheredLangTag, LangTag, TypedLangTag};
+    ///
+    /// let tag = LangTag::new("i-lux")?;
+    /// matches!(tag.as_typed(), TypedLangTag::Grandfathered(GrandfatheredLangTag::ILux)); // true
+    /// ```
     pub fn as_typed(&self) -> TypedLangTag<'a>
         ensures { IsTypedAs (lang_tag_text self.now) result }
     {
@@ -203,6 +278,13 @@ impl<'a> LangTag<'a> {
 
     /// Returns whether the tag is a normal one: true of `zh-Latn`, false of `x-a` and `i-lux`. The regular
     /// grandfathered ones are.
+    ///
+    /// ```
+    /// use langtag::LangTag;
+    ///
+    /// LangTag::new("zh-Latn")?.is_normal(); // true
+    /// LangTag::new("x-a")?.is_normal(); // false
+    /// ```
     pub fn is_normal(&self) -> bool
         ensures { IsTrue result ↔ IsNormal (lang_tag_text self.now) }
     {
@@ -210,6 +292,13 @@ impl<'a> LangTag<'a> {
     }
 
     /// Returns whether the tag is for private use as a whole: true of `x-a`, false of `fr-x-a`.
+    ///
+    /// ```
+    /// use langtag::LangTag;
+    ///
+    /// LangTag::new("x-a")?.is_private_use(); // true
+    /// LangTag::new("fr-x-a")?.is_private_use(); // false
+    /// ```
     pub fn is_private_use(&self) -> bool
         ensures { IsTrue result ↔ IsPrivate (lang_tag_text self.now) }
     {
@@ -221,6 +310,14 @@ impl<'a> LangTag<'a> {
     ///
     /// The regular ones are normal tags too, so this is true of `art-lojban`, whose kind is normal:
     /// [`as_typed().is_grandfathered()`](TypedLangTag::is_grandfathered) is false of it.
+    ///
+    /// ```
+    /// use langtag::LangTag;
+    ///
+    /// LangTag::new("i-lux")?.is_grandfathered(); // true
+    /// LangTag::new("Art-Lojban")?.is_grandfathered(); // true
+    /// LangTag::new("fr")?.is_grandfathered(); // false
+    /// ```
     pub fn is_grandfathered(&self) -> bool
         ensures { IsTrue result ↔ IsGrandfathered (lang_tag_text self.now) }
     {
@@ -228,6 +325,14 @@ impl<'a> LangTag<'a> {
     }
 
     /// Returns the normal tag, where the tag is one: Some of `zh-Latn` and of `art-lojban`, None of `x-a`.
+    ///
+    /// ```
+    /// use langtag::LangTag;
+    ///
+    /// let tag = LangTag::new("zh-Latn")?;
+    /// tag.as_normal().map(|normal| normal.as_str()); // Some("zh-Latn")
+    /// LangTag::new("x-a")?.as_normal(); // None
+    /// ```
     pub fn as_normal(&self) -> Option<NormalLangTag<'a>>
         ensures kind { IsTrue (is_some result) ↔ IsNormal (lang_tag_text self.now) }
         ensures same_text { IfSome result (λ tag. normal_lang_tag_text tag ≡ lang_tag_text self.now) }
@@ -237,6 +342,14 @@ impl<'a> LangTag<'a> {
     }
 
     /// Returns the tag for private use, where the whole tag is one: Some of `x-a`, None of `fr-x-a`.
+    ///
+    /// ```
+    /// use langtag::LangTag;
+    ///
+    /// let tag = LangTag::new("x-a")?;
+    /// tag.as_private_use().map(|tag| tag.as_str()); // Some("x-a")
+    /// LangTag::new("fr-x-a")?.as_private_use(); // None
+    /// ```
     pub fn as_private_use(&self) -> Option<PrivateUseLangTag<'a>>
         ensures kind { IsTrue (is_some result) ↔ IsPrivate (lang_tag_text self.now) }
         ensures same_text { IfSome result (λ tag. private_use_text tag ≡ lang_tag_text self.now) }
@@ -249,6 +362,14 @@ impl<'a> LangTag<'a> {
 
     /// Returns the grandfathered tag, where the tag is one of the 26, in any case: Some of `I-Lux` and of `art-lojban`,
     /// None of `fr`.
+    ///
+    /// ```
+    /// use langtag::LangTag;
+    ///
+    /// let tag = LangTag::new("I-Lux")?;
+    /// tag.as_grandfathered().map(|tag| tag.as_str().len()); // Some(5)
+    /// LangTag::new("fr")?.as_grandfathered().is_none(); // true
+    /// ```
     pub fn as_grandfathered(&self) -> Option<GrandfatheredLangTag>
         ensures kind { IsTrue (is_some result) ↔ IsGrandfathered (lang_tag_text self.now) }
         ensures same_tag { IfSome result (λ tag. IsGrandfatheredAt (index_of tag) (lang_tag_text self.now)) }
@@ -261,6 +382,13 @@ impl<'a> LangTag<'a> {
     /// # Errors
     ///
     /// Out of memory.
+    ///
+    /// ```
+    /// use langtag::LangTag;
+    ///
+    /// let owned = LangTag::new("zh-Latn")?.try_to_owned(alloc)?;
+    /// owned.as_str(); // "zh-Latn"
+    /// ```
     pub fn try_to_owned(&self, alloc: Global) -> Result<LangTagBuf, AllocError>
         ensures { IfOk result (λ owned. lang_tag_buf_text owned ≡ lang_tag_text self.now) }
     {
@@ -270,6 +398,13 @@ impl<'a> LangTag<'a> {
 
     /// Returns the tag as it reads in the case that RFC 5646 section 2.1.1 recommends, to be displayed: `{}` of
     /// `tag.in_recommended_case()` prints `mn-Cyrl-MN` of `MN-cYRL-mn`. No memory is taken.
+    ///
+    /// ```
+    /// use langtag::LangTag;
+    ///
+    /// let tag = LangTag::new("MN-cYRL-mn")?;
+    /// assert_eq!(format!("{}", tag.in_recommended_case()), "mn-Cyrl-MN");
+    /// ```
     #[tactic(auto, using(crate::proofs::AlikeFound::ascii_found))]
     pub fn in_recommended_case(&self) -> InRecommendedCase<'a>
         ensures { in_recommended_case_text result ≡ recommended_text (lang_tag_text self.now) }
@@ -279,6 +414,13 @@ impl<'a> LangTag<'a> {
 
     /// Returns whether the tag is in the case that RFC 5646 section 2.1.1 recommends: true of `mn-Cyrl-MN`, false of
     /// `mn-cyrl-MN`.
+    ///
+    /// ```
+    /// use langtag::LangTag;
+    ///
+    /// LangTag::new("mn-Cyrl-MN")?.is_in_recommended_case(); // true
+    /// LangTag::new("mn-cyrl-MN")?.is_in_recommended_case(); // false
+    /// ```
     pub fn is_in_recommended_case(&self) -> bool
         ensures { IsTrue result ↔ (recommended_text (lang_tag_text self.now) ≡ lang_tag_text self.now) }
     {
@@ -291,6 +433,13 @@ impl<'a> LangTag<'a> {
     /// # Errors
     ///
     /// Out of memory.
+    ///
+    /// ```
+    /// use langtag::LangTag;
+    ///
+    /// let owned = LangTag::new("MN-cYRL-mn")?.try_to_recommended_case(alloc)?;
+    /// owned.as_str(); // "mn-Cyrl-MN"
+    /// ```
     pub fn try_to_recommended_case(&self, alloc: Global) -> Result<LangTagBuf, AllocError>
         ensures { IfOk result (λ owned. lang_tag_buf_text owned ≡ recommended_text (lang_tag_text self.now)) }
     {
@@ -311,6 +460,14 @@ impl<'a> LangTag<'a> {
     ghost use Rattle.langtag.specs.Text.{lang_tag_text};
 
     /// Returns the language of a normal tag: `zh-yue` of `zh-yue-HK`, None of `x-a` and of `i-lux`.
+    ///
+    /// ```
+    /// use langtag::LangTag;
+    ///
+    /// let tag = LangTag::new("zh-yue-HK")?;
+    /// tag.language().map(|language| language.as_str()); // Some("zh-yue")
+    /// LangTag::new("x-a")?.language(); // None
+    /// ```
     pub fn language(&self) -> Option<Language<'a>>
         ensures { PartOf (lang_tag_text self.now) (λ r. Some (language_part r)) None (option_map language_text result) }
     {
@@ -318,6 +475,14 @@ impl<'a> LangTag<'a> {
     }
 
     /// Returns the script of a normal tag: `Latn` of `sl-Latn-IT`, None of `sl-IT` and of `x-a`.
+    ///
+    /// ```
+    /// use langtag::LangTag;
+    ///
+    /// let tag = LangTag::new("sl-Latn-IT")?;
+    /// tag.script().map(|script| script.as_str()); // Some("Latn")
+    /// LangTag::new("sl-IT")?.script(); // None
+    /// ```
     pub fn script(&self) -> Option<Script<'a>>
         ensures { PartOf (lang_tag_text self.now) (λ r. r.script) None (option_map script_text result) }
     {
@@ -325,6 +490,14 @@ impl<'a> LangTag<'a> {
     }
 
     /// Returns the region of a normal tag: `419` of `es-419`, None of `es` and of `x-a`.
+    ///
+    /// ```
+    /// use langtag::LangTag;
+    ///
+    /// let tag = LangTag::new("es-419")?;
+    /// tag.region().map(|region| region.as_str()); // Some("419")
+    /// LangTag::new("es")?.region(); // None
+    /// ```
     pub fn region(&self) -> Option<Region<'a>>
         ensures { PartOf (lang_tag_text self.now) (λ r. r.region) None (option_map region_text result) }
     {
@@ -333,6 +506,13 @@ impl<'a> LangTag<'a> {
 
     /// Returns the variants of a normal tag, none on any other: `rozaj-1994` of `sl-rozaj-1994`, the empty text of
     /// `x-a`.
+    ///
+    /// ```
+    /// use langtag::LangTag;
+    ///
+    /// LangTag::new("sl-rozaj-1994")?.variants().as_str(); // "rozaj-1994"
+    /// LangTag::new("x-a")?.variants().as_str(); // ""
+    /// ```
     pub fn variants(&self) -> Variants<'a>
         ensures { PartOf (lang_tag_text self.now) variants_part [] (variants_text result) }
     {
@@ -344,6 +524,13 @@ impl<'a> LangTag<'a> {
 
     /// Returns the extensions of a normal tag, none on any other: `a-bb-u-co` of `en-a-bb-u-co-x-y`, the empty text of
     /// `x-a`.
+    ///
+    /// ```
+    /// use langtag::LangTag;
+    ///
+    /// LangTag::new("en-a-bb-u-co-x-y")?.extensions().as_str(); // "a-bb-u-co"
+    /// LangTag::new("x-a")?.extensions().as_str(); // ""
+    /// ```
     pub fn extensions(&self) -> Extensions<'a>
         ensures { PartOf (lang_tag_text self.now) extensions_part [] (extensions_text result) }
     {
@@ -355,6 +542,14 @@ impl<'a> LangTag<'a> {
 
     /// Returns the private use part of a normal tag: `x-y` of `en-x-y`. A tag for private use as a whole has none, so
     /// it is None of `x-a`: see [`as_private_use`](LangTag::as_private_use).
+    ///
+    /// ```
+    /// use langtag::LangTag;
+    ///
+    /// let tag = LangTag::new("en-x-y")?;
+    /// tag.private_use().map(|part| part.as_str()); // Some("x-y")
+    /// LangTag::new("x-y")?.private_use(); // None
+    /// ```
     pub fn private_use(&self) -> Option<PrivateUse<'a>>
         ensures { PartOf (lang_tag_text self.now) private_use_part None (option_map private_use_text result) }
     {
@@ -363,6 +558,16 @@ impl<'a> LangTag<'a> {
 
     /// Returns the subtags of the private use part of a normal tag, `x` and `y` of `en-x-x-y`; none where there is no
     /// such part.
+    ///
+    /// ```
+    /// use langtag::LangTag;
+    ///
+    /// let tag = LangTag::new("en-x-x-y")?;
+    /// let mut subtags = tag.private_use_subtags();
+    /// subtags.next().map(|subtag| subtag.as_str()); // Some("x")
+    /// subtags.next().map(|subtag| subtag.as_str()); // Some("y")
+    /// subtags.next(); // None
+    /// ```
     pub fn private_use_subtags(&self) -> PrivateUseIter<'a>
         ensures { PartOf (lang_tag_text self.now) private_use_subtags [] (private_use_subtags_left result) }
     {

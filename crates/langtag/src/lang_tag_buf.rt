@@ -33,6 +33,14 @@ use std::alloc::Global;
 use std::fmt;
 
 /// A tag that owns its text. It keeps what was found of it, as [`LangTag`] does, and lends both.
+///
+/// ```
+/// use langtag::LangTag;
+///
+/// let owned = LangTag::new("ZH-hant")?.try_to_owned(alloc)?;
+/// owned.as_lang_tag() == LangTag::new("zh-Hant")?; // true
+/// owned.into_string().as_str(); // "ZH-hant"
+/// ```
 #[derive(Drop)]
 #[derive_where(Debug, PartialEq, Eq, PartialOrd, Ord, Hash)]
 pub struct LangTagBuf {
@@ -79,7 +87,7 @@ impl LangTagBuf {
     /// Borrows the tag, with what was found of it, so that nothing is looked at again:
     /// `owned.as_lang_tag().kind()` is `Kind::PrivateUse` of `x-a`.
     ///
-    /// The contract also says that owned tags are compared, ordered and hashed without regard to case.
+    /// It is proved that owned tags are compared, ordered and hashed without regard to case.
     pub fn as_lang_tag(&self) -> LangTag<'_>
         ensures same_text { lang_tag_text result ≡ lang_tag_buf_text self.now }
         ensures compared { LangTagBufsCompareByCase }
@@ -151,6 +159,14 @@ impl LangTagBuf {
     /// # Errors
     ///
     /// The tag is not a normal one, as `x-a`, or memory was refused. The tag is as it was.
+    ///
+    /// ```
+    /// use langtag::{LangTag, Language};
+    ///
+    /// let mut tag = LangTag::new("sl-IT")?.try_to_owned(alloc)?;
+    /// tag.set_language(alloc, Language::new("zh-yue")?)?;
+    /// tag.as_str(); // "zh-yue-IT"
+    /// ```
     pub fn set_language(&mut self, alloc: Global, language: Language<'_>) -> Result<(), EditError>
         ensures set { OnOk result (SetsLanguage (language_text language.entry) (lang_tag_buf_text self.old) (lang_tag_buf_text self.new)) }
         ensures not_normal { IsErrOf result EditError.NotNormal ↔ (IsNormal (lang_tag_buf_text self.old) → ⊥) }
@@ -168,6 +184,14 @@ impl LangTagBuf {
     /// # Errors
     ///
     /// The tag is not a normal one, as `x-a`, or memory was refused. The tag is as it was.
+    ///
+    /// ```
+    /// use langtag::{LangTag, Script};
+    ///
+    /// let mut tag = LangTag::new("sl-IT")?.try_to_owned(alloc)?;
+    /// tag.set_script(alloc, Some(Script::new("Latn")?))?;
+    /// tag.as_str(); // "sl-Latn-IT"
+    /// ```
     pub fn set_script(&mut self, alloc: Global, script: Option<Script<'_>>) -> Result<(), EditError>
         ensures set { OnOk result (SetsScript (option_map script_text script.entry) (lang_tag_buf_text self.old) (lang_tag_buf_text self.new)) }
         ensures not_normal { IsErrOf result EditError.NotNormal ↔ (IsNormal (lang_tag_buf_text self.old) → ⊥) }
@@ -183,6 +207,14 @@ impl LangTagBuf {
     /// # Errors
     ///
     /// The tag is not a normal one, as `x-a`, or memory was refused. The tag is as it was.
+    ///
+    /// ```
+    /// use langtag::{LangTag, Region};
+    ///
+    /// let mut tag = LangTag::new("de-DE-1996")?.try_to_owned(alloc)?;
+    /// tag.set_region(alloc, Some(Region::new("AT")?))?;
+    /// tag.as_str(); // "de-AT-1996"
+    /// ```
     pub fn set_region(&mut self, alloc: Global, region: Option<Region<'_>>) -> Result<(), EditError>
         ensures set { OnOk result (SetsRegion (option_map region_text region.entry) (lang_tag_buf_text self.old) (lang_tag_buf_text self.new)) }
         ensures not_normal { IsErrOf result EditError.NotNormal ↔ (IsNormal (lang_tag_buf_text self.old) → ⊥) }
@@ -198,6 +230,14 @@ impl LangTagBuf {
     /// # Errors
     ///
     /// The tag is not a normal one, as `x-a`, or memory was refused. The tag is as it was.
+    ///
+    /// ```
+    /// use langtag::{LangTag, Variants};
+    ///
+    /// let mut tag = LangTag::new("de-AT-1901")?.try_to_owned(alloc)?;
+    /// tag.set_variants(alloc, Variants::new("1996")?)?;
+    /// tag.as_str(); // "de-AT-1996"
+    /// ```
     pub fn set_variants(&mut self, alloc: Global, variants: Variants<'_>) -> Result<(), EditError>
         ensures set { OnOk result (SetsVariants (variants_text variants.entry) (lang_tag_buf_text self.old) (lang_tag_buf_text self.new)) }
         ensures not_normal { IsErrOf result EditError.NotNormal ↔ (IsNormal (lang_tag_buf_text self.old) → ⊥) }
@@ -213,6 +253,14 @@ impl LangTagBuf {
     /// # Errors
     ///
     /// The tag is not a normal one, as `x-a`, or memory was refused. The tag is as it was.
+    ///
+    /// ```
+    /// use langtag::{Extensions, LangTag};
+    ///
+    /// let mut tag = LangTag::new("de-x-mine")?.try_to_owned(alloc)?;
+    /// tag.set_extensions(alloc, Extensions::new("u-co-phonebk")?)?;
+    /// tag.as_str(); // "de-u-co-phonebk-x-mine"
+    /// ```
     pub fn set_extensions(
         &mut self,
         alloc: Global,
@@ -232,6 +280,14 @@ impl LangTagBuf {
     /// # Errors
     ///
     /// The tag is not a normal one, as `x-a`, or memory was refused. The tag is as it was.
+    ///
+    /// ```
+    /// use langtag::{LangTag, PrivateUse};
+    ///
+    /// let mut tag = LangTag::new("de-x-a")?.try_to_owned(alloc)?;
+    /// tag.set_private_use(alloc, Some(PrivateUse::new("x-mine")?))?;
+    /// tag.as_str(); // "de-x-mine"
+    /// ```
     pub fn set_private_use(
         &mut self,
         alloc: Global,

@@ -31,6 +31,13 @@ use std::fmt::Debug;
 use thiserror::Error;
 
 /// The error for a text that is not a normal tag. It hands the text back.
+///
+/// ```
+/// use langtag::NormalLangTag;
+///
+/// let error = NormalLangTag::new("x-a").err();
+/// error.map(|error| error.0); // Some("x-a")
+/// ```
 #[derive(Debug, Drop, Error)]
 #[error("invalid normal language tag")]
 #[error_bound(T: Debug + Drop)]
@@ -41,6 +48,15 @@ pub struct InvalidNormalLangTag<T>(pub T);
 ///
 /// It keeps where its parts end, so that each is cut from the text. Two tags are equal where their texts differ at most
 /// in the case of ASCII letters.
+///
+/// ```
+/// use langtag::NormalLangTag;
+///
+/// let tag = NormalLangTag::new("sl-Latn-IT-rozaj-u-co-phonebk-x-mine")?;
+/// tag.language().as_str(); // "sl"
+/// tag.extensions().as_str(); // "u-co-phonebk"
+/// tag.private_use().map(|part| part.as_str()); // Some("x-mine")
+/// ```
 #[derive(Clone, Copy)]
 #[derive_where(Debug, PartialEq, Eq, PartialOrd, Ord, Hash)]
 pub struct NormalLangTag<'a> {
@@ -61,12 +77,19 @@ impl<'a> NormalLangTag<'a> {
 
     /// Parses a text as a normal tag: `NormalLangTag::new("sl-IT-rozaj")` is Ok.
     ///
-    /// Its contract also has laws: a normal tag has one record of its parts; the parts that are there, joined by hyphens, are
-    /// the whole text; and each stands between the end of the part before and its own.
+    /// It is proved that a normal tag can be divided into its parts in one way only, and that the parts that are there,
+    /// joined by hyphens, are the whole text.
     ///
     /// # Errors
     ///
     /// A text that is not a normal tag comes back: `sl_IT`, and also `x-a`, which is a tag of another kind.
+    ///
+    /// ```
+    /// use langtag::NormalLangTag;
+    ///
+    /// NormalLangTag::new("sl-IT-rozaj").is_ok(); // true
+    /// NormalLangTag::new("x-a").err().map(|error| error.0); // Some("x-a")
+    /// ```
     pub fn new(text: &'a str) -> Result<NormalLangTag<'a>, InvalidNormalLangTag<&'a str>>
         ensures accepts { IsTrue (is_ok result) ↔ IsNormal text.now }
         ensures same_text { IfOk result (λ tag. normal_lang_tag_text tag ≡ text.now) }
@@ -106,6 +129,12 @@ impl<'a> NormalLangTag<'a> {
     }
 
     /// Returns the text, with its case: `SL-it` of `SL-it`.
+    ///
+    /// ```
+    /// use langtag::NormalLangTag;
+    ///
+    /// NormalLangTag::new("SL-it")?.as_str(); // "SL-it"
+    /// ```
     pub fn as_str(&self) -> &'a str
         ensures same_text { result.now ≡ normal_lang_tag_text self.now }
         ensures in_class { IsNormal result.now }
@@ -114,6 +143,12 @@ impl<'a> NormalLangTag<'a> {
     }
 
     /// Returns the bytes of the text: `b"sl-IT"` of `sl-IT`.
+    ///
+    /// ```
+    /// use langtag::NormalLangTag;
+    ///
+    /// NormalLangTag::new("sl-IT")?.as_bytes(); // b"sl-IT"
+    /// ```
     pub fn as_bytes(&self) -> &'a [u8]
         ensures { result.now ≡ normal_lang_tag_text self.now }
     {
@@ -121,6 +156,15 @@ impl<'a> NormalLangTag<'a> {
     }
 
     /// Returns all subtags of the tag, in order and from both ends: `sl`, `Latn` and `IT` of `sl-Latn-IT`.
+    ///
+    /// ```
+    /// use langtag::NormalLangTag;
+    ///
+    /// let tag = NormalLangTag::new("sl-Latn-IT")?;
+    /// let mut subtags = tag.subtags();
+    /// subtags.next(); // Some("sl")
+    /// subtags.next_back(); // Some("IT")
+    /// ```
     #[tactic(auto, using(langtag_scan::proofs::SpelledTexts::tag_subtags))]
     pub fn subtags(&self) -> Subtags<'a>
         ensures list { result ≡ subtags (normal_lang_tag_text self.now) }
@@ -133,8 +177,14 @@ impl<'a> NormalLangTag<'a> {
     /// Returns whether another text, of any form, is equal but for the case of ASCII letters: true of `sl-IT` and
     /// `SL-it`. Then it is a normal tag too, with alike parts at the same offsets.
     ///
-    /// The contract also says that normal tags are compared, ordered and hashed without regard to case, that a clone is the tag
+    /// It is proved that normal tags are compared, ordered and hashed without regard to case, that a clone is the tag
     /// itself, and that a tag that begins another is the greater of the two: `sl` comes after `sl-IT`.
+    ///
+    /// ```
+    /// use langtag::NormalLangTag;
+    ///
+    /// NormalLangTag::new("sl-IT")?.eq_str("SL-it"); // true
+    /// ```
     #[tactic(auto, using(crate::proofs::OrderLaws::normal_ends_first))]
     pub fn eq_str(&self, other: &str) -> bool
         ensures test { result ≡ are_alike (normal_lang_tag_text self.now) other.now }
@@ -150,6 +200,12 @@ impl<'a> NormalLangTag<'a> {
 
     /// Returns the same tag as one of any kind, with the ends that are kept: `tag.as_lang_tag().kind()` is
     /// `Kind::Normal`.
+    ///
+    /// ```
+    /// use langtag::{Kind, NormalLangTag};
+    ///
+    /// NormalLangTag::new("sl-IT")?.as_lang_tag().kind(); // Kind::Normal
+    /// ```
     pub fn as_lang_tag(&self) -> LangTag<'a>
         ensures same_text { lang_tag_text result ≡ normal_lang_tag_text self.now }
         ensures kind { IsNormal (lang_tag_text result) }
@@ -159,6 +215,13 @@ impl<'a> NormalLangTag<'a> {
 
     /// Returns where the parts end, in bytes from the start of the text: of `sl-IT` the language at 2, and all others
     /// at 5.
+    ///
+    /// ```
+    /// use langtag::NormalLangTag;
+    ///
+    /// let ends = NormalLangTag::new("sl-IT")?.ends();
+    /// (ends.language, ends.script, ends.region, ends.whole); // (2, 2, 5, 5)
+    /// ```
     pub fn ends(&self) -> Ends
         ensures { EachRecord (normal_lang_tag_text self.now) (λ r. result ≡ ends_of r) }
     {
@@ -166,6 +229,12 @@ impl<'a> NormalLangTag<'a> {
     }
 
     /// Returns the language: `zh-min` of `zh-min-Latn-TW`.
+    ///
+    /// ```
+    /// use langtag::NormalLangTag;
+    ///
+    /// NormalLangTag::new("zh-min-Latn-TW")?.language().as_str(); // "zh-min"
+    /// ```
     pub fn language(&self) -> Language<'a>
         ensures { EachRecord (normal_lang_tag_text self.now) (λ r. language_text result ≡ language_part r) }
     {
@@ -173,6 +242,14 @@ impl<'a> NormalLangTag<'a> {
     }
 
     /// Returns the script: `Latn` of `zh-min-Latn-TW`, None of `zh-TW`.
+    ///
+    /// ```
+    /// use langtag::NormalLangTag;
+    ///
+    /// let tag = NormalLangTag::new("zh-min-Latn-TW")?;
+    /// tag.script().map(|script| script.as_str()); // Some("Latn")
+    /// NormalLangTag::new("zh-TW")?.script(); // None
+    /// ```
     pub fn script(&self) -> Option<Script<'a>>
         ensures { EachRecord (normal_lang_tag_text self.now) (λ r. option_map script_text result ≡ r.script) }
     {
@@ -181,6 +258,14 @@ impl<'a> NormalLangTag<'a> {
     }
 
     /// Returns the region: `TW` of `zh-min-Latn-TW`, None of `zh-Latn`.
+    ///
+    /// ```
+    /// use langtag::NormalLangTag;
+    ///
+    /// let tag = NormalLangTag::new("zh-min-Latn-TW")?;
+    /// tag.region().map(|region| region.as_str()); // Some("TW")
+    /// NormalLangTag::new("zh-Latn")?.region(); // None
+    /// ```
     pub fn region(&self) -> Option<Region<'a>>
         ensures { EachRecord (normal_lang_tag_text self.now) (λ r. option_map region_text result ≡ r.region) }
     {
@@ -189,6 +274,13 @@ impl<'a> NormalLangTag<'a> {
     }
 
     /// Returns the variants: `rozaj-1994` of `sl-rozaj-1994`, the empty text of `sl`.
+    ///
+    /// ```
+    /// use langtag::NormalLangTag;
+    ///
+    /// NormalLangTag::new("sl-rozaj-1994")?.variants().as_str(); // "rozaj-1994"
+    /// NormalLangTag::new("sl")?.variants().as_str(); // ""
+    /// ```
     pub fn variants(&self) -> Variants<'a>
         ensures { EachRecord (normal_lang_tag_text self.now) (λ r. variants_text result ≡ variants_part r) }
     {
@@ -196,6 +288,13 @@ impl<'a> NormalLangTag<'a> {
     }
 
     /// Returns the extensions: `a-bb-u-co` of `en-a-bb-u-co-x-y`, the empty text of `en-x-y`.
+    ///
+    /// ```
+    /// use langtag::NormalLangTag;
+    ///
+    /// NormalLangTag::new("en-a-bb-u-co-x-y")?.extensions().as_str(); // "a-bb-u-co"
+    /// NormalLangTag::new("en-x-y")?.extensions().as_str(); // ""
+    /// ```
     pub fn extensions(&self) -> Extensions<'a>
         ensures { EachRecord (normal_lang_tag_text self.now) (λ r. extensions_text result ≡ extensions_part r) }
     {
@@ -203,6 +302,14 @@ impl<'a> NormalLangTag<'a> {
     }
 
     /// Returns the private use part: `x-y` of `en-a-bb-u-co-x-y`, None of `en-a-bb`.
+    ///
+    /// ```
+    /// use langtag::NormalLangTag;
+    ///
+    /// let tag = NormalLangTag::new("en-a-bb-u-co-x-y")?;
+    /// tag.private_use().map(|part| part.as_str()); // Some("x-y")
+    /// NormalLangTag::new("en-a-bb")?.private_use(); // None
+    /// ```
     pub fn private_use(&self) -> Option<PrivateUse<'a>>
         ensures { EachRecord (normal_lang_tag_text self.now) (λ r. option_map private_use_text result ≡ private_use_part r) }
     {
@@ -211,6 +318,14 @@ impl<'a> NormalLangTag<'a> {
     }
 
     /// Returns the subtags of the private use part: `x` and `y` of `en-x-x-y`, none where there is no such part.
+    ///
+    /// ```
+    /// use langtag::NormalLangTag;
+    ///
+    /// let tag = NormalLangTag::new("en-x-x-y")?;
+    /// tag.private_use_subtags().count(); // 2
+    /// NormalLangTag::new("en")?.private_use_subtags().count(); // 0
+    /// ```
     pub fn private_use_subtags(&self) -> PrivateUseIter<'a>
         ensures { EachRecord (normal_lang_tag_text self.now) (λ r. private_use_subtags_left result ≡ private_use_subtags r) }
     {
@@ -224,6 +339,14 @@ impl<'a> NormalLangTag<'a> {
     ///
     /// Such a tag is well formed, and is not valid (RFC 5646 section 2.2.5). No memory is taken, and less than 92 kB of the
     /// stack. Up to 8,192 variants the time grows hardly faster than their number; past them, with its square divided by that.
+    ///
+    /// ```
+    /// use langtag::NormalLangTag;
+    ///
+    /// let tag = NormalLangTag::new("de-1996-1996")?;
+    /// tag.repeated_variant().map(|variant| variant.as_str()); // Some("1996")
+    /// NormalLangTag::new("de-1996")?.repeated_variant(); // None
+    /// ```
     pub fn repeated_variant(&self) -> Option<Variant<'a>>
         ensures repeated { EachRecord (normal_lang_tag_text self.now) (λ r. option_map variant_text result ≡ repeat are_alike r.variants) }
         ensures first { (variants : List (List ℕ)) → IsFirstRepeat are_alike variants (repeat are_alike variants) }
@@ -234,6 +357,12 @@ impl<'a> NormalLangTag<'a> {
 
     /// Returns which of the variants [`repeated_variant`](NormalLangTag::repeated_variant) returns, counted from 0:
     /// Some(1) of `de-1996-1996`.
+    ///
+    /// ```
+    /// use langtag::NormalLangTag;
+    ///
+    /// NormalLangTag::new("de-1996-1996")?.repeated_variant_index(); // Some(1)
+    /// ```
     pub fn repeated_variant_index(&self) -> Option<usize>
         ensures repeated { EachRecord (normal_lang_tag_text self.now) (λ r. result ≡ repeat_index are_alike r.variants) }
         ensures first { (variants : List (List ℕ)) → IsFirstRepeatAt are_alike variants (repeat_index are_alike variants) }
@@ -245,6 +374,13 @@ impl<'a> NormalLangTag<'a> {
     /// `fr-a-bb-A-cc`.
     ///
     /// Such a tag is well formed, and is not valid (RFC 5646 section 2.2.6). No memory is taken.
+    ///
+    /// ```
+    /// use langtag::NormalLangTag;
+    ///
+    /// let tag = NormalLangTag::new("fr-a-bb-A-cc")?;
+    /// tag.repeated_singleton().map(|singleton| singleton.unwrap()); // Some(b'A')
+    /// ```
     pub fn repeated_singleton(&self) -> Option<Singleton>
         ensures repeated { EachRecord (normal_lang_tag_text self.now) (λ r.
             option_map singleton_byte result ≡ repeat are_alike_bytes (map (λ e. e.singleton) r.extensions)) }
@@ -256,6 +392,12 @@ impl<'a> NormalLangTag<'a> {
 
     /// Returns which of the extensions has the singleton that [`repeated_singleton`](NormalLangTag::repeated_singleton)
     /// returns, counted from 0: Some(1) of `fr-a-bb-A-cc`.
+    ///
+    /// ```
+    /// use langtag::NormalLangTag;
+    ///
+    /// NormalLangTag::new("fr-a-bb-A-cc")?.repeated_singleton_index(); // Some(1)
+    /// ```
     pub fn repeated_singleton_index(&self) -> Option<usize>
         ensures repeated { EachRecord (normal_lang_tag_text self.now) (λ r.
             result ≡ repeat_index are_alike_bytes (map (λ e. e.singleton) r.extensions)) }
@@ -269,6 +411,13 @@ impl<'a> NormalLangTag<'a> {
     /// # Errors
     ///
     /// Out of memory.
+    ///
+    /// ```
+    /// use langtag::NormalLangTag;
+    ///
+    /// let owned = NormalLangTag::new("sl-IT")?.try_to_owned(alloc)?;
+    /// owned.as_str(); // "sl-IT"
+    /// ```
     pub fn try_to_owned(&self, alloc: Global) -> Result<NormalLangTagBuf, AllocError>
         ensures { IfOk result (λ owned. normal_lang_tag_buf_text owned ≡ normal_lang_tag_text self.now) }
     {
@@ -278,6 +427,13 @@ impl<'a> NormalLangTag<'a> {
 
     /// Returns the tag as it reads in the case that RFC 5646 section 2.1.1 recommends, to be displayed: `{}` of
     /// `tag.in_recommended_case()` prints `mn-Cyrl-MN` of `MN-cYRL-mn`. No memory is taken.
+    ///
+    /// ```
+    /// use langtag::NormalLangTag;
+    ///
+    /// let tag = NormalLangTag::new("MN-cYRL-mn")?;
+    /// assert_eq!(format!("{}", tag.in_recommended_case()), "mn-Cyrl-MN");
+    /// ```
     pub fn in_recommended_case(&self) -> InRecommendedCase<'a>
         ensures { in_recommended_case_text result ≡ recommended_text (normal_lang_tag_text self.now) }
     {
@@ -286,6 +442,13 @@ impl<'a> NormalLangTag<'a> {
 
     /// Returns whether the tag is in the case that RFC 5646 section 2.1.1 recommends: true of `mn-Cyrl-MN`, false of
     /// `mn-cyrl-MN`.
+    ///
+    /// ```
+    /// use langtag::NormalLangTag;
+    ///
+    /// NormalLangTag::new("mn-Cyrl-MN")?.is_in_recommended_case(); // true
+    /// NormalLangTag::new("mn-cyrl-MN")?.is_in_recommended_case(); // false
+    /// ```
     pub fn is_in_recommended_case(&self) -> bool
         ensures { IsTrue result ↔ (recommended_text (normal_lang_tag_text self.now) ≡ normal_lang_tag_text self.now) }
     {
@@ -298,6 +461,13 @@ impl<'a> NormalLangTag<'a> {
     /// # Errors
     ///
     /// Out of memory.
+    ///
+    /// ```
+    /// use langtag::NormalLangTag;
+    ///
+    /// let owned = NormalLangTag::new("MN-cYRL-mn")?.try_to_recommended_case(alloc)?;
+    /// owned.as_str(); // "mn-Cyrl-MN"
+    /// ```
     pub fn try_to_recommended_case(&self, alloc: Global) -> Result<NormalLangTagBuf, AllocError>
         ensures { IfOk result (λ owned. normal_lang_tag_buf_text owned ≡ recommended_text (normal_lang_tag_text self.now)) }
     {

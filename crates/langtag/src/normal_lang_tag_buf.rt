@@ -37,6 +37,14 @@ use std::alloc::{AllocError, Global};
 use std::fmt;
 
 /// A normal tag that owns its text. It keeps where its parts end, as [`NormalLangTag`] does, and lends them with it.
+///
+/// ```
+/// use langtag::NormalLangTag;
+///
+/// let owned = NormalLangTag::new("sl-IT")?.try_to_owned(alloc)?;
+/// owned.as_normal_lang_tag().language().as_str(); // "sl"
+/// owned.into_string().as_str(); // "sl-IT"
+/// ```
 #[derive(Drop)]
 #[derive_where(Debug, PartialEq, Eq, PartialOrd, Ord, Hash)]
 pub struct NormalLangTagBuf {
@@ -74,6 +82,14 @@ impl NormalLangTagBuf {
     /// # Errors
     ///
     /// Out of memory.
+    ///
+    /// ```
+    /// use langtag::{Language, NormalLangTagBuf, Script};
+    ///
+    /// let script = Script::new("Hant")?;
+    /// let tag = NormalLangTagBuf::from_parts(alloc, Language::new("zh")?, Some(script), None)?;
+    /// tag.as_str(); // "zh-Hant"
+    /// ```
     pub fn from_parts(
         alloc: Global,
         language: Language<'_>,
@@ -114,7 +130,7 @@ impl NormalLangTagBuf {
     /// Borrows the tag, with the ends that are kept, so that nothing is looked at again:
     /// `owned.as_normal_lang_tag().region()` is `IT` of `sl-IT`.
     ///
-    /// The contract also says that owned normal tags are compared, ordered and hashed without regard to case.
+    /// It is proved that owned normal tags are compared, ordered and hashed without regard to case.
     pub fn as_normal_lang_tag(&self) -> NormalLangTag<'_>
         ensures same_text { normal_lang_tag_text result ≡ normal_lang_tag_buf_text self.now }
         ensures compared { NormalLangTagBufsCompareByCase }
@@ -169,6 +185,14 @@ impl NormalLangTagBuf {
     /// # Errors
     ///
     /// Out of memory. The tag is as it was.
+    ///
+    /// ```
+    /// use langtag::{Language, NormalLangTag};
+    ///
+    /// let mut tag = NormalLangTag::new("sl-IT")?.try_to_owned(alloc)?;
+    /// tag.set_language(alloc, Language::new("zh-yue")?)?;
+    /// tag.as_str(); // "zh-yue-IT"
+    /// ```
     pub fn set_language(&mut self, alloc: Global, language: Language<'_>) -> Result<(), AllocError>
         ensures set { OnOk result (SetsLanguage (language_text language.entry) (normal_lang_tag_buf_text self.old) (normal_lang_tag_buf_text self.new)) }
         ensures unchanged { OnErr result (self.new ≡ self.old) }
@@ -186,6 +210,14 @@ impl NormalLangTagBuf {
     /// # Errors
     ///
     /// Out of memory. The tag is as it was.
+    ///
+    /// ```
+    /// use langtag::{NormalLangTag, Script};
+    ///
+    /// let mut tag = NormalLangTag::new("sl-IT")?.try_to_owned(alloc)?;
+    /// tag.set_script(alloc, Some(Script::new("Latn")?))?;
+    /// tag.as_str(); // "sl-Latn-IT"
+    /// ```
     pub fn set_script(
         &mut self,
         alloc: Global,
@@ -207,6 +239,14 @@ impl NormalLangTagBuf {
     /// # Errors
     ///
     /// Out of memory. The tag is as it was.
+    ///
+    /// ```
+    /// use langtag::{NormalLangTag, Region};
+    ///
+    /// let mut tag = NormalLangTag::new("de-DE-1996")?.try_to_owned(alloc)?;
+    /// tag.set_region(alloc, Some(Region::new("AT")?))?;
+    /// tag.as_str(); // "de-AT-1996"
+    /// ```
     pub fn set_region(
         &mut self,
         alloc: Global,
@@ -228,6 +268,14 @@ impl NormalLangTagBuf {
     /// # Errors
     ///
     /// Out of memory. The tag is as it was.
+    ///
+    /// ```
+    /// use langtag::{NormalLangTag, Variants};
+    ///
+    /// let mut tag = NormalLangTag::new("de-AT-1901")?.try_to_owned(alloc)?;
+    /// tag.set_variants(alloc, Variants::new("1996")?)?;
+    /// tag.as_str(); // "de-AT-1996"
+    /// ```
     pub fn set_variants(&mut self, alloc: Global, variants: Variants<'_>) -> Result<(), AllocError>
         ensures set { OnOk result (SetsVariants (variants_text variants.entry) (normal_lang_tag_buf_text self.old) (normal_lang_tag_buf_text self.new)) }
         ensures unchanged { OnErr result (self.new ≡ self.old) }
@@ -245,6 +293,14 @@ impl NormalLangTagBuf {
     /// # Errors
     ///
     /// Out of memory. The tag is as it was.
+    ///
+    /// ```
+    /// use langtag::{Extensions, NormalLangTag};
+    ///
+    /// let mut tag = NormalLangTag::new("de-x-mine")?.try_to_owned(alloc)?;
+    /// tag.set_extensions(alloc, Extensions::new("u-co-phonebk")?)?;
+    /// tag.as_str(); // "de-u-co-phonebk-x-mine"
+    /// ```
     pub fn set_extensions(
         &mut self,
         alloc: Global,
@@ -266,6 +322,14 @@ impl NormalLangTagBuf {
     /// # Errors
     ///
     /// Out of memory. The tag is as it was.
+    ///
+    /// ```
+    /// use langtag::{NormalLangTag, PrivateUse};
+    ///
+    /// let mut tag = NormalLangTag::new("de-x-a")?.try_to_owned(alloc)?;
+    /// tag.set_private_use(alloc, Some(PrivateUse::new("x-mine")?))?;
+    /// tag.as_str(); // "de-x-mine"
+    /// ```
     pub fn set_private_use(
         &mut self,
         alloc: Global,

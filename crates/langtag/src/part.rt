@@ -17,6 +17,13 @@ use langtag_scan::Ends;
 ///
 /// None and the empty text, as [`Variants::EMPTY`], stand for a part that is absent, and take the old one out. There is no tag
 /// without a language.
+///
+/// ```
+/// use langtag::{Part, Script};
+///
+/// Part::Script(Some(Script::new("Latn")?)).as_str(); // "Latn"
+/// Part::Script(None).as_str(); // ""
+/// ```
 #[derive(Clone, Copy, Debug)]
 pub enum Part<'a> {
     /// The language, with its extended subtags (section 2.2.1): `zh-yue`.
@@ -34,6 +41,13 @@ pub enum Part<'a> {
 }
 
 /// What stands in place of some bytes of a tag's text once a part is put into it: offsets in bytes, a hyphen and the part.
+///
+/// ```
+/// use langtag::{NormalLangTag, Part, put_part};
+///
+/// let new = put_part(NormalLangTag::new("de-DE-1996")?, Part::Region(None));
+/// (new.start, new.end, new.hyphen, new.part); // (2, 5, "", "")
+/// ```
 #[derive(Debug, Drop)]
 pub struct Replacement<'a> {
     /// Where the bytes begin that go: 2 in `de-x-a`, for a private use part.
@@ -50,8 +64,8 @@ pub struct Replacement<'a> {
 /// stand (RFC 5646 sections 2.2.1 to 2.2.7). It takes no memory: the caller joins the bytes before, the hyphen, the part and
 /// the bytes after.
 ///
-/// Of `de-DE-1996` and `Part::Region(Region::new("AT").ok())` the bytes from 2 to 5 go, and a hyphen and `AT` come. The
-/// contract also says that a clone of a part is the part itself.
+/// Of `de-DE-1996` and `Part::Region(Region::new("AT").ok())` the bytes from 2 to 5 go, and a hyphen and `AT` come. It
+/// is proved that a clone of a part is the part itself.
 pub fn put_part<'a>(tag: NormalLangTag<'_>, part: Part<'a>) -> Replacement<'a>
     ensures order { result.start ≤ result.end }
     ensures within { result.end ≤ length (normal_lang_tag_text tag.entry) }

@@ -2,7 +2,20 @@
 use langtag_private::{PrivateUse, PrivateUseBuf};
 
 /// A tag for private use as a whole, as `x-fr-CH`: the same text as a private use part.
+///
+/// ```
+/// use langtag::PrivateUseLangTag;
+///
+/// PrivateUseLangTag::new("x-fr-CH")?.iter().count(); // 2
+/// ```
 pub type PrivateUseLangTag<'a> = PrivateUse<'a>;
 
 /// A tag for private use as a whole that owns its text.
+///
+/// ```
+/// use langtag::{PrivateUseLangTag, PrivateUseLangTagBuf};
+///
+/// let owned: PrivateUseLangTagBuf = PrivateUseLangTag::new("x-fr-CH")?.try_to_owned(alloc)?;
+/// owned.as_str(); // "x-fr-CH"
+/// ```
 pub type PrivateUseLangTagBuf = PrivateUseBuf;

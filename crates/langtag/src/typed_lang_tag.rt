@@ -9,6 +9,15 @@ use langtag_language::Language;
 
 /// A language tag as a value of the type of its kind (RFC 5646 section 2.1), as
 /// [`LangTag::as_typed`](crate::LangTag::as_typed) returns it. Each call looks at the variant alone, and at no text.
+///
+/// ```
+/// use langtag::{LangTag, TypedLangTag};
+///
+/// match LangTag::new("x-a")?.as_typed() {
+///     TypedLangTag::PrivateUse(tag) => assert_eq!(tag.as_str(), "x-a"),
+///     TypedLangTag::Normal(_) | TypedLangTag::Grandfathered(_) => unreachable!(),
+/// }
+/// ```
 #[derive(Clone, Copy, Debug, PartialEq, Eq)]
 pub enum TypedLangTag<'a> {
     /// A normal tag. The regular grandfathered tags are normal.
@@ -35,8 +44,8 @@ impl<'a> TypedLangTag<'a> {
         }
     }
 
-    /// Returns the kind of the tag: `Kind::PrivateUse` of `x-a`. The contract also says that typed tags are equal where
-    /// they are of one kind and their texts are alike, and that a clone is the value itself.
+    /// Returns the kind of the tag: `Kind::PrivateUse` of `x-a`. It is proved that typed tags are equal where they are
+    /// of one kind and their texts are alike, and that a clone is the value itself.
     pub fn kind(&self) -> Kind
         ensures kind { result ≡ kind_of self.now }
         ensures compared { TypedLangTagsCompareByKind }

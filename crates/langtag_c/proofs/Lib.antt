@@ -1,9 +1,7 @@
 mod KindLaws
 mod SpanLaws
 mod StopLaws
-mod IrregularTests
 mod RangeLaws
-mod RefusedLaws
 mod ExtensionSpans
 mod RepeatSpans
 mod ItemLaws

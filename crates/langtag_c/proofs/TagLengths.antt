@@ -6,7 +6,7 @@ use Rattle.langtag_scan.specs.Tag.{IsNormal, IsTag}
 use Rattle.langtag_scan.proofs.Joins.{length-join}
 use Rattle.langtag_scan.proofs.SubtagFacts.{of_primary}
 use Rattle.langtag_private.proofs.Rules.{is_private_use-from_rule}
-use Rattle.langtag_c.proofs.IrregularTests.{alike_some}
+use Rattle.langtag.proofs.IrregularTests.{alike_some}
 
 pub some_tag : (t : List ℕ) → IsTag t → 1 ≤ length t
 unfolding IsTag IsNormal grandfathered_tags irregular_texts

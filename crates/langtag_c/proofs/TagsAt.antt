@@ -17,7 +17,7 @@ use Rattle.langtag_private.proofs.Rules.{IsPrivate-from_test, is_private_use-fro
 use Rattle.langtag_c.specs.Choice.{AreTagsAt, HasTag, IsBest, IsTagAt}
 use Rattle.langtag_c.specs.Spans.{HasBytes, empty_at, end_of, span_text}
 use Rattle.langtag_c.specs.TagsAt.{has_bytes, is_irregular, is_normal, is_tag, tag_at, tags_at}
-use Rattle.langtag_c.proofs.IrregularTests.{alike_some}
+use Rattle.langtag.proofs.IrregularTests.{alike_some}
 use Rattle.langtag_c.specs.declared.span.Span.{Span}
 
 -- ---- a text

@@ -1,7 +1,6 @@
 pub mod Answers
 pub mod Choice
 pub mod Negotiation
-pub mod Refused
 pub mod Repeats
 pub mod Setting
 pub mod Spans

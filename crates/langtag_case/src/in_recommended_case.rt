@@ -12,6 +12,13 @@ use std::fmt;
 ///
 /// It allocates no memory. A text that is in its recommended case already is written in one piece, and any other text one
 /// byte at a time.
+///
+/// ```
+/// use langtag::LangTag;
+///
+/// let tag = LangTag::new("MN-cYRL-mn")?;
+/// assert_eq!(format!("{}", tag.in_recommended_case()), "mn-Cyrl-MN");
+/// ```
 #[derive(Clone, Copy, Debug)]
 pub struct InRecommendedCase<'a> {
     text: &'a str,
@@ -21,7 +28,7 @@ pub struct InRecommendedCase<'a> {
 impl<'a> InRecommendedCase<'a> {
     ghost use Rattle.langtag_case.specs.Text.{in_recommended_case_text};
 
-    /// Displays an ASCII text in its recommended case. The contract also says that a clone succeeds and is the same value.
+    /// Displays an ASCII text in its recommended case. It is proved that a clone succeeds and is the same value.
     pub fn from_checked(text: &'a str) -> Self
         requires { IsAscii text.now }
         ensures shown { in_recommended_case_text result ≡ recommended_text text.now }

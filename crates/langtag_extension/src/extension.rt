@@ -15,6 +15,13 @@ use std::fmt::Debug;
 use thiserror::Error;
 
 /// The error for a text that is not an extension. It hands the text back.
+///
+/// ```
+/// use langtag_extension::Extension;
+///
+/// let error = Extension::new("u").err();
+/// error.map(|error| error.0); // Some("u")
+/// ```
 #[derive(Debug, Drop, Error)]
 #[error("invalid extension")]
 #[error_bound(T: Debug + Drop)]
@@ -24,6 +31,14 @@ pub struct InvalidExtension<T>(pub T);
 /// `u-co-phonebk`.
 ///
 /// Two extensions are equal where their texts differ at most in the case of ASCII letters: `u-co` and `U-CO` are.
+///
+/// ```
+/// use langtag_extension::Extension;
+///
+/// let extension = Extension::new("u-co")?;
+/// extension.as_str(); // "u-co"
+/// extension == Extension::new("U-CO")?; // true
+/// ```
 #[derive(Clone, Copy, Debug, PartialEq, Eq, PartialOrd, Ord, Hash)]
 pub struct Extension<'a> {
     text: Caseless<&'a str>,
@@ -80,8 +95,8 @@ impl<'a> Extension<'a> {
     }
 
     /// Returns whether another text, of any form, is equal but for the case of ASCII letters:
-    /// `Extension::new("u-co")?.eq_str("U-CO")` is true. The contract also says that extensions are compared, ordered
-    /// and hashed so, and that a clone is the value itself.
+    /// `Extension::new("u-co")?.eq_str("U-CO")` is true. It is proved that extensions are compared, ordered and hashed
+    /// so, and that a clone is the value itself.
     pub fn eq_str(&self, other: &str) -> bool
         ensures test { result ≡ are_alike (extension_text self.now) other.now }
 
@@ -144,6 +159,14 @@ impl fmt::Display for Extension<'_> {
 }
 
 /// An extension that owns its text.
+///
+/// ```
+/// use langtag_extension::Extension;
+///
+/// let owned = Extension::new("u-co")?.try_to_owned(alloc)?;
+/// owned.as_extension() == Extension::new("U-CO")?; // true
+/// owned.into_string().as_str(); // "u-co"
+/// ```
 #[derive(Debug, Drop, PartialEq, Eq, PartialOrd, Ord, Hash)]
 pub struct ExtensionBuf {
     text: Caseless<String>,
@@ -174,8 +197,8 @@ impl ExtensionBuf {
         })
     }
 
-    /// Borrows the extension: `as_extension().as_str()` of the owned `U-CO` is `"U-CO"`. The contract also says that
-    /// owned extensions are compared, ordered and hashed without regard to case.
+    /// Borrows the extension: `as_extension().as_str()` of the owned `U-CO` is `"U-CO"`. It is proved that owned
+    /// extensions are compared, ordered and hashed without regard to case.
     pub fn as_extension(&self) -> Extension<'_>
         ensures same_text { extension_text result ≡ extension_buf_text self.now }
 

@@ -10,6 +10,15 @@ use std::alloc::AllocError;
 
 /// The subtags of an extension that are still to come (RFC 5646 section 2.2.6), without the singleton: `co` and
 /// `phonebk` of `Extension::new("u-co-phonebk")?.iter()`.
+///
+/// ```
+/// use langtag_extension::Extension;
+///
+/// let mut items = Extension::new("u-co-eor")?.iter();
+/// items.next().map(|item| item.as_str()); // Some("co")
+/// items.next().map(|item| item.as_str()); // Some("eor")
+/// items.next(); // None
+/// ```
 #[derive(Debug, Drop)]
 pub struct ExtensionIter<'a> {
     rest: Subtags<'a>,

@@ -14,6 +14,13 @@ use std::fmt::Debug;
 use thiserror::Error;
 
 /// The error for a text that is not a subtag of an extension. It hands the text back.
+///
+/// ```
+/// use langtag_extension::ExtensionSubtag;
+///
+/// let error = ExtensionSubtag::new("c").err();
+/// error.map(|error| error.0); // Some("c")
+/// ```
 #[derive(Debug, Drop, Error)]
 #[error("invalid extension subtag")]
 #[error_bound(T: Debug + Drop)]
@@ -23,6 +30,14 @@ pub struct InvalidExtensionSubtag<T>(pub T);
 /// `u-co-phonebk`.
 ///
 /// Two subtags are equal where their texts differ at most in the case of ASCII letters: `co` and `CO` are.
+///
+/// ```
+/// use langtag_extension::ExtensionSubtag;
+///
+/// let subtag = ExtensionSubtag::new("co")?;
+/// subtag.as_str(); // "co"
+/// subtag == ExtensionSubtag::new("CO")?; // true
+/// ```
 #[derive(Clone, Copy, Debug, PartialEq, Eq, PartialOrd, Ord, Hash)]
 pub struct ExtensionSubtag<'a> {
     text: Caseless<&'a str>,
@@ -33,8 +48,7 @@ impl<'a> ExtensionSubtag<'a> {
     ghost use Rattle.langtag_extension.specs.Compared.{ExtensionSubtagsCompareByCase};
     ghost use Rattle.langtag_extension.specs.Text.{extension_subtag_text, extension_subtag_buf_text};
 
-    /// Parses a text as a subtag: `ExtensionSubtag::new("co")` is Ok. In a proof this computes for a literal
-    /// (`by_number`).
+    /// Parses a text as a subtag: `ExtensionSubtag::new("co")` is Ok.
     ///
     /// # Errors
     ///
@@ -81,8 +95,8 @@ impl<'a> ExtensionSubtag<'a> {
     }
 
     /// Returns whether another text, of any form, is equal but for the case of ASCII letters:
-    /// `ExtensionSubtag::new("co")?.eq_str("CO")` is true. The contract also says that subtags are compared, ordered
-    /// and hashed so, and that a clone is the value itself.
+    /// `ExtensionSubtag::new("co")?.eq_str("CO")` is true. It is proved that subtags are compared, ordered and hashed
+    /// so, and that a clone is the value itself.
     pub fn eq_str(&self, other: &str) -> bool
         ensures test { result ≡ are_alike (extension_subtag_text self.now) other.now }
 
@@ -119,6 +133,14 @@ impl fmt::Display for ExtensionSubtag<'_> {
 }
 
 /// A subtag of an extension that owns its text.
+///
+/// ```
+/// use langtag_extension::ExtensionSubtag;
+///
+/// let owned = ExtensionSubtag::new("co")?.try_to_owned(alloc)?;
+/// owned.as_extension_subtag() == ExtensionSubtag::new("CO")?; // true
+/// owned.into_string().as_str(); // "co"
+/// ```
 #[derive(Debug, Drop, PartialEq, Eq, PartialOrd, Ord, Hash)]
 pub struct ExtensionSubtagBuf {
     text: Caseless<String>,
@@ -148,8 +170,8 @@ impl ExtensionSubtagBuf {
         })
     }
 
-    /// Borrows the subtag: `as_extension_subtag().as_str()` of the owned `CO` is `"CO"`. The contract also says that
-    /// owned subtags are compared, ordered and hashed without regard to case.
+    /// Borrows the subtag: `as_extension_subtag().as_str()` of the owned `CO` is `"CO"`. It is proved that owned
+    /// subtags are compared, ordered and hashed without regard to case.
     pub fn as_extension_subtag(&self) -> ExtensionSubtag<'_>
         ensures same_text { extension_subtag_text result ≡ extension_subtag_buf_text self.now }
 

@@ -19,6 +19,13 @@ use std::fmt::Debug;
 use thiserror::Error;
 
 /// The error for a text that is not extensions. It hands the text back.
+///
+/// ```
+/// use langtag_extension::Extensions;
+///
+/// let error = Extensions::new("a-bb-u").err();
+/// error.map(|error| error.0); // Some("a-bb-u")
+/// ```
 #[derive(Debug, Drop, Error)]
 #[error("invalid extensions")]
 #[error_bound(T: Debug + Drop)]
@@ -29,6 +36,14 @@ pub struct InvalidExtensions<T>(pub T);
 ///
 /// A singleton may come twice: such a tag is well formed, though it is not valid (section 2.2.9). Two lists are equal
 /// where their texts differ at most in the case of ASCII letters: `u-co` and `U-CO` are.
+///
+/// ```
+/// use langtag_extension::Extensions;
+///
+/// let extensions = Extensions::new("a-bb-u-co")?;
+/// extensions.as_str(); // "a-bb-u-co"
+/// extensions == Extensions::new("A-BB-U-CO")?; // true
+/// ```
 #[derive(Clone, Copy, Debug, PartialEq, Eq, PartialOrd, Ord, Hash)]
 pub struct Extensions<'a> {
     text: Caseless<&'a str>,
@@ -88,8 +103,8 @@ impl<'a> Extensions<'a> {
     }
 
     /// Returns whether another text, of any form, is equal but for the case of ASCII letters:
-    /// `Extensions::new("u-co")?.eq_str("U-CO")` is true. The contract also says that lists of extensions are compared,
-    /// ordered and hashed so, and that a clone is the value itself.
+    /// `Extensions::new("u-co")?.eq_str("U-CO")` is true. It is proved that lists of extensions are compared, ordered
+    /// and hashed so, and that a clone is the value itself.
     pub fn eq_str(&self, other: &str) -> bool
         ensures test { result ≡ are_alike (extensions_text self.now) other.now }
 
@@ -170,6 +185,14 @@ impl fmt::Display for Extensions<'_> {
 }
 
 /// The extensions of a tag, or none, that own their text.
+///
+/// ```
+/// use langtag_extension::Extensions;
+///
+/// let owned = Extensions::new("a-bb-u-co")?.try_to_owned(alloc)?;
+/// owned.as_extensions() == Extensions::new("A-BB-U-CO")?; // true
+/// owned.into_string().as_str(); // "a-bb-u-co"
+/// ```
 #[derive(Debug, Drop, PartialEq, Eq, PartialOrd, Ord, Hash)]
 pub struct ExtensionsBuf {
     text: Caseless<String>,
@@ -200,8 +223,8 @@ impl ExtensionsBuf {
         })
     }
 
-    /// Borrows the extensions: `as_extensions().as_str()` of the owned `U-CO` is `"U-CO"`. The contract also says that
-    /// owned lists of extensions are compared, ordered and hashed without regard to case.
+    /// Borrows the extensions: `as_extensions().as_str()` of the owned `U-CO` is `"U-CO"`. It is proved that owned
+    /// lists of extensions are compared, ordered and hashed without regard to case.
     pub fn as_extensions(&self) -> Extensions<'_>
         ensures same_text { extensions_text result ≡ extensions_buf_text self.now }
 

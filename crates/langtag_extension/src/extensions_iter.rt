@@ -10,6 +10,15 @@ use std::alloc::AllocError;
 
 /// The extensions that are still to come (RFC 5646 section 2.2.6), in the order in which they are written: `a-ext1`
 /// and `u-co` of `Extensions::new("a-ext1-u-co")?.iter()`.
+///
+/// ```
+/// use langtag_extension::Extensions;
+///
+/// let mut items = Extensions::new("a-bb-u-co")?.iter();
+/// items.next().map(|item| item.as_str()); // Some("a-bb")
+/// items.next().map(|item| item.as_str()); // Some("u-co")
+/// items.next(); // None
+/// ```
 #[derive(Debug, Drop)]
 pub struct ExtensionsIter<'a> {
     rest: ExtensionTexts<'a>,

@@ -11,6 +11,12 @@ use std::fmt::Debug;
 use thiserror::Error;
 
 /// The error for a byte, character or text that is not a singleton. It hands it back.
+///
+/// ```
+/// use langtag_extension::Singleton;
+///
+/// Singleton::new(b'x').err().map(|error| error.0); // Some(b'x')
+/// ```
 #[derive(Debug, Drop, Error)]
 #[error("invalid extension identifier")]
 #[error_bound(T: Debug + Drop)]
@@ -21,6 +27,13 @@ pub struct InvalidSingleton<T>(pub T);
 ///
 /// It keeps its exact byte, and is compared, ordered and hashed by it: `u` and `U` open the same extension, but are
 /// different singletons here.
+///
+/// ```
+/// use langtag_extension::Singleton;
+///
+/// Singleton::new(b'u')?.unwrap(); // b'u'
+/// Singleton::from_string("u")? == Singleton::new(b'U')?; // false
+/// ```
 #[derive(Clone, Copy, Debug, PartialEq, Eq, PartialOrd, Ord, Hash)]
 pub struct Singleton {
     byte: u8,
@@ -31,9 +44,8 @@ impl Singleton {
     ghost use Rattle.langtag_extension.specs.Compared.{SingletonsCompareByByte};
     ghost use Rattle.langtag_extension.specs.Text.{singleton_byte};
 
-    /// Returns the singleton of a byte: `Singleton::new(b'u')` is Ok. That a literal is one computes in a proof by its
-    /// number. The contract also says that singletons are compared, ordered and hashed by their exact bytes, and that a
-    /// clone is the value itself.
+    /// Returns the singleton of a byte: `Singleton::new(b'u')` is Ok. It is proved that singletons are compared,
+    /// ordered and hashed by their exact bytes, and that a clone is the value itself.
     ///
     /// # Errors
     ///

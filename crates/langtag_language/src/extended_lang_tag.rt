@@ -13,6 +13,13 @@ use std::fmt::Debug;
 use thiserror::Error;
 
 /// The error for a text that is not an extended language subtag. It hands the text back.
+///
+/// ```
+/// use langtag_language::ExtendedLangTag;
+///
+/// let error = ExtendedLangTag::new("yu").err();
+/// error.map(|error| error.0); // Some("yu")
+/// ```
 #[derive(Debug, Drop, Error)]
 #[error("invalid extended language subtag")]
 #[error_bound(T: Debug + Drop)]
@@ -21,6 +28,14 @@ pub struct InvalidExtendedLangTag<T>(pub T);
 /// An extended language subtag (RFC 5646 section 2.2.2): three letters, as `yue` in `zh-yue`.
 ///
 /// Two of them are equal where their texts differ at most in the case of ASCII letters: `yue` and `YUE` are.
+///
+/// ```
+/// use langtag_language::ExtendedLangTag;
+///
+/// let subtag = ExtendedLangTag::new("yue")?;
+/// subtag.as_str(); // "yue"
+/// subtag == ExtendedLangTag::new("YUE")?; // true
+/// ```
 #[derive(Clone, Copy, Debug, PartialEq, Eq, PartialOrd, Ord, Hash)]
 pub struct ExtendedLangTag<'a> {
     text: Caseless<&'a str>,
@@ -31,8 +46,7 @@ impl<'a> ExtendedLangTag<'a> {
     ghost use Rattle.langtag_language.specs.Compared.{ExtendedLangTagsCompareByCase};
     ghost use Rattle.langtag_language.specs.Text.{extended_lang_tag_text, extended_lang_tag_buf_text};
 
-    /// Parses a text as an extended language subtag: `ExtendedLangTag::new("yue")` is Ok. In a proof this computes for
-    /// a literal (`by_number`).
+    /// Parses a text as an extended language subtag: `ExtendedLangTag::new("yue")` is Ok.
     ///
     /// # Errors
     ///
@@ -78,8 +92,8 @@ impl<'a> ExtendedLangTag<'a> {
     }
 
     /// Returns whether another text, of any form, is equal but for the case of ASCII letters:
-    /// `ExtendedLangTag::new("yue")?.eq_str("YUE")` is true. The contract also says that extended subtags are compared,
-    /// ordered and hashed so, and that a clone is the value itself.
+    /// `ExtendedLangTag::new("yue")?.eq_str("YUE")` is true. It is proved that extended subtags are compared, ordered
+    /// and hashed so, and that a clone is the value itself.
     pub fn eq_str(&self, other: &str) -> bool
         ensures test { result ≡ are_alike (extended_lang_tag_text self.now) other.now }
 
@@ -117,6 +131,14 @@ impl fmt::Display for ExtendedLangTag<'_> {
 }
 
 /// An extended language subtag that owns its text.
+///
+/// ```
+/// use langtag_language::ExtendedLangTag;
+///
+/// let owned = ExtendedLangTag::new("yue")?.try_to_owned(alloc)?;
+/// owned.as_extended_lang_tag() == ExtendedLangTag::new("YUE")?; // true
+/// owned.into_string().as_str(); // "yue"
+/// ```
 #[derive(Debug, Drop, PartialEq, Eq, PartialOrd, Ord, Hash)]
 pub struct ExtendedLangTagBuf {
     text: Caseless<String>,
@@ -146,8 +168,8 @@ impl ExtendedLangTagBuf {
         })
     }
 
-    /// Borrows the subtag: `as_extended_lang_tag().as_str()` of the owned `YUE` is `"YUE"`. The contract also says that
-    /// owned extended subtags are compared, ordered and hashed without regard to case.
+    /// Borrows the subtag: `as_extended_lang_tag().as_str()` of the owned `YUE` is `"YUE"`. It is proved that owned
+    /// extended subtags are compared, ordered and hashed without regard to case.
     pub fn as_extended_lang_tag(&self) -> ExtendedLangTag<'_>
         ensures same_text { extended_lang_tag_text result ≡ extended_lang_tag_buf_text self.now }
 

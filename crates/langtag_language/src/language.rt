@@ -18,6 +18,13 @@ use std::fmt::Debug;
 use thiserror::Error;
 
 /// The error for a text that is not a language. It hands the text back.
+///
+/// ```
+/// use langtag_language::Language;
+///
+/// let error = Language::new("zh_yue").err();
+/// error.map(|error| error.0); // Some("zh_yue")
+/// ```
 #[derive(Debug, Drop, Error)]
 #[error("invalid language")]
 #[error_bound(T: Debug + Drop)]
@@ -27,6 +34,14 @@ pub struct InvalidLanguage<T>(pub T);
 /// subtags stand (section 2.2.2), as in `zh-min-nan`. They stand after two or three letters alone.
 ///
 /// Two languages are equal where their texts differ at most in the case of ASCII letters: `zh-yue` and `ZH-YUE` are.
+///
+/// ```
+/// use langtag_language::Language;
+///
+/// let language = Language::new("zh-yue")?;
+/// language.as_str(); // "zh-yue"
+/// language == Language::new("ZH-YUE")?; // true
+/// ```
 #[derive(Clone, Copy, Debug, PartialEq, Eq, PartialOrd, Ord, Hash)]
 pub struct Language<'a> {
     text: Caseless<&'a str>,
@@ -83,8 +98,8 @@ impl<'a> Language<'a> {
     }
 
     /// Returns whether another text, of any form, is equal but for the case of ASCII letters:
-    /// `Language::new("zh-yue")?.eq_str("ZH-YUE")` is true. The contract also says that languages are compared, ordered
-    /// and hashed so, and that a clone is the value itself.
+    /// `Language::new("zh-yue")?.eq_str("ZH-YUE")` is true. It is proved that languages are compared, ordered and
+    /// hashed so, and that a clone is the value itself.
     pub fn eq_str(&self, other: &str) -> bool
         ensures test { result ≡ are_alike (language_text self.now) other.now }
 
@@ -178,6 +193,14 @@ impl fmt::Display for Language<'_> {
 }
 
 /// A language that owns its text.
+///
+/// ```
+/// use langtag_language::Language;
+///
+/// let owned = Language::new("zh-yue")?.try_to_owned(alloc)?;
+/// owned.as_language() == Language::new("ZH-YUE")?; // true
+/// owned.into_string().as_str(); // "zh-yue"
+/// ```
 #[derive(Debug, Drop, PartialEq, Eq, PartialOrd, Ord, Hash)]
 pub struct LanguageBuf {
     text: Caseless<String>,
@@ -209,8 +232,8 @@ impl LanguageBuf {
         })
     }
 
-    /// Borrows the language: `as_language().as_str()` of the owned `ZH-YUE` is `"ZH-YUE"`. The contract also says that
-    /// owned languages are compared, ordered and hashed without regard to case.
+    /// Borrows the language: `as_language().as_str()` of the owned `ZH-YUE` is `"ZH-YUE"`. It is proved that owned
+    /// languages are compared, ordered and hashed without regard to case.
     pub fn as_language(&self) -> Language<'_>
         ensures same_text { language_text result ≡ language_buf_text self.now }
 

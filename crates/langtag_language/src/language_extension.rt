@@ -15,6 +15,13 @@ use std::fmt::Debug;
 use thiserror::Error;
 
 /// The error for a text that is not a language extension. It hands the text back.
+///
+/// ```
+/// use langtag_language::LanguageExtension;
+///
+/// let error = LanguageExtension::new("min-").err();
+/// error.map(|error| error.0); // Some("min-")
+/// ```
 #[derive(Debug, Drop, Error)]
 #[error("invalid language extension")]
 #[error_bound(T: Debug + Drop)]
@@ -23,6 +30,14 @@ pub struct InvalidLanguageExtension<T>(pub T);
 /// The extended subtags of a language (RFC 5646 section 2.2.2): one to three, joined by hyphens, as `min-nan`.
 ///
 /// Two of them are equal where their texts differ at most in the case of ASCII letters: `min-nan` and `MIN-NAN` are.
+///
+/// ```
+/// use langtag_language::LanguageExtension;
+///
+/// let extension = LanguageExtension::new("min-nan")?;
+/// extension.as_str(); // "min-nan"
+/// extension == LanguageExtension::new("MIN-NAN")?; // true
+/// ```
 #[derive(Clone, Copy, Debug, PartialEq, Eq, PartialOrd, Ord, Hash)]
 pub struct LanguageExtension<'a> {
     text: Caseless<&'a str>,
@@ -78,8 +93,8 @@ impl<'a> LanguageExtension<'a> {
     }
 
     /// Returns whether another text, of any form, is equal but for the case of ASCII letters:
-    /// `LanguageExtension::new("min-nan")?.eq_str("MIN-NAN")` is true. The contract also says that language extensions
-    /// are compared, ordered and hashed so, and that a clone is the value itself.
+    /// `LanguageExtension::new("min-nan")?.eq_str("MIN-NAN")` is true. It is proved that language extensions are
+    /// compared, ordered and hashed so, and that a clone is the value itself.
     pub fn eq_str(&self, other: &str) -> bool
         ensures test { result ≡ are_alike (language_extension_text self.now) other.now }
 
@@ -135,6 +150,14 @@ impl fmt::Display for LanguageExtension<'_> {
 }
 
 /// A language extension that owns its text.
+///
+/// ```
+/// use langtag_language::LanguageExtension;
+///
+/// let owned = LanguageExtension::new("min-nan")?.try_to_owned(alloc)?;
+/// owned.as_language_extension() == LanguageExtension::new("MIN-NAN")?; // true
+/// owned.into_string().as_str(); // "min-nan"
+/// ```
 #[derive(Debug, Drop, PartialEq, Eq, PartialOrd, Ord, Hash)]
 pub struct LanguageExtensionBuf {
     text: Caseless<String>,
@@ -166,8 +189,8 @@ impl LanguageExtensionBuf {
         })
     }
 
-    /// Borrows the language extension: `as_language_extension().as_str()` of the owned `MIN-NAN` is `"MIN-NAN"`. The
-    /// contract also says that owned language extensions are compared, ordered and hashed without regard to case.
+    /// Borrows the language extension: `as_language_extension().as_str()` of the owned `MIN-NAN` is `"MIN-NAN"`. It is
+    /// proved that owned language extensions are compared, ordered and hashed without regard to case.
     pub fn as_language_extension(&self) -> LanguageExtension<'_>
         ensures same_text { language_extension_text result ≡ language_extension_buf_text self.now }
 

@@ -9,6 +9,15 @@ use langtag_scan::Subtags;
 use std::alloc::AllocError;
 
 /// The extended subtags that are still to come (RFC 5646 section 2.2.2): `min` and `nan` of `min-nan`.
+///
+/// ```
+/// use langtag_language::LanguageExtension;
+///
+/// let mut items = LanguageExtension::new("min-nan")?.iter();
+/// items.next().map(|item| item.as_str()); // Some("min")
+/// items.next().map(|item| item.as_str()); // Some("nan")
+/// items.next(); // None
+/// ```
 #[derive(Debug, Drop)]
 pub struct LanguageExtensionIter<'a> {
     rest: Subtags<'a>,

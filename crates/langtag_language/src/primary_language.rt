@@ -14,6 +14,13 @@ use std::fmt::Debug;
 use thiserror::Error;
 
 /// The error for a text that is not a primary language subtag. It hands the text back.
+///
+/// ```
+/// use langtag_language::PrimaryLanguage;
+///
+/// let error = PrimaryLanguage::new("f").err();
+/// error.map(|error| error.0); // Some("f")
+/// ```
 #[derive(Debug, Drop, Error)]
 #[error("invalid primary language")]
 #[error_bound(T: Debug + Drop)]
@@ -22,6 +29,14 @@ pub struct InvalidPrimaryLanguage<T>(pub T);
 /// A primary language subtag (RFC 5646 section 2.2.1): two to eight letters, as `fr`.
 ///
 /// Two of them are equal where their texts differ at most in the case of ASCII letters: `fr` and `FR` are.
+///
+/// ```
+/// use langtag_language::PrimaryLanguage;
+///
+/// let language = PrimaryLanguage::new("fr")?;
+/// language.as_str(); // "fr"
+/// language == PrimaryLanguage::new("FR")?; // true
+/// ```
 #[derive(Clone, Copy, Debug, PartialEq, Eq, PartialOrd, Ord, Hash)]
 pub struct PrimaryLanguage<'a> {
     text: Caseless<&'a str>,
@@ -32,8 +47,7 @@ impl<'a> PrimaryLanguage<'a> {
     ghost use Rattle.langtag_language.specs.Compared.{PrimaryLanguagesCompareByCase};
     ghost use Rattle.langtag_language.specs.Text.{primary_language_text, primary_language_buf_text};
 
-    /// Parses a text as a primary language subtag: `PrimaryLanguage::new("fr")` is Ok. In a proof this computes for a
-    /// literal (`by_number`).
+    /// Parses a text as a primary language subtag: `PrimaryLanguage::new("fr")` is Ok.
     ///
     /// # Errors
     ///
@@ -79,8 +93,8 @@ impl<'a> PrimaryLanguage<'a> {
     }
 
     /// Returns whether another text, of any form, is equal but for the case of ASCII letters:
-    /// `PrimaryLanguage::new("fr")?.eq_str("FR")` is true. The contract also says that primary languages are compared,
-    /// ordered and hashed so, and that a clone is the value itself.
+    /// `PrimaryLanguage::new("fr")?.eq_str("FR")` is true. It is proved that primary languages are compared, ordered
+    /// and hashed so, and that a clone is the value itself.
     pub fn eq_str(&self, other: &str) -> bool
         ensures test { result ≡ are_alike (primary_language_text self.now) other.now }
 
@@ -117,6 +131,14 @@ impl fmt::Display for PrimaryLanguage<'_> {
 }
 
 /// A primary language subtag that owns its text.
+///
+/// ```
+/// use langtag_language::PrimaryLanguage;
+///
+/// let owned = PrimaryLanguage::new("fr")?.try_to_owned(alloc)?;
+/// owned.as_primary_language() == PrimaryLanguage::new("FR")?; // true
+/// owned.into_string().as_str(); // "fr"
+/// ```
 #[derive(Debug, Drop, PartialEq, Eq, PartialOrd, Ord, Hash)]
 pub struct PrimaryLanguageBuf {
     text: Caseless<String>,
@@ -146,8 +168,8 @@ impl PrimaryLanguageBuf {
         })
     }
 
-    /// Borrows the subtag: `as_primary_language().as_str()` of the owned `FR` is `"FR"`. The contract also says that
-    /// owned primary languages are compared, ordered and hashed without regard to case.
+    /// Borrows the subtag: `as_primary_language().as_str()` of the owned `FR` is `"FR"`. It is proved that owned
+    /// primary languages are compared, ordered and hashed without regard to case.
     pub fn as_primary_language(&self) -> PrimaryLanguage<'_>
         ensures same_text { primary_language_text result ≡ primary_language_buf_text self.now }
 

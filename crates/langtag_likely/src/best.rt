@@ -16,6 +16,14 @@ use langtag_match::{AcceptLanguage, LanguageRange};
 
 /// Returns the index of the tag that the reader wants who sent an Accept-Language header, if one of the tags is anything to
 /// them: 2 for `zh-TW,zh;q=0.9,en;q=0.8` and the tags `en`, `zh-Hans` and `zh-Hant`.
+///
+/// ```
+/// use langtag::LangTag;
+/// use langtag_likely::best_for_header;
+///
+/// let tags = [LangTag::new("en")?, LangTag::new("zh-Hans")?, LangTag::new("zh-Hant")?];
+/// best_for_header(b"zh-TW,zh;q=0.9,en;q=0.8", &tags); // Some(2)
+/// ```
 pub fn best_for_header(header: &[u8], tags: &[LangTag<'_>]) -> Option<usize>
     ensures chosen { result ≡ spec.best (wanted_elements header.now) (tag_texts tags.now) }
     ensures listed { laws.IsIndex (wanted_elements header.now) (tag_texts tags.now) result }

@@ -5,8 +5,8 @@
 //! use langtag::LangTag;
 //! use langtag_likely::{maximized, minimized};
 //!
-//! maximized(alloc, LangTag::new("zh-TW")?)?;      // zh-Hant-TW
-//! minimized(alloc, LangTag::new("zh-Hant-TW")?)?; // zh-TW
+//! maximized(alloc, LangTag::new("zh-TW")?)?.as_str();      // "zh-Hant-TW"
+//! minimized(alloc, LangTag::new("zh-Hant-TW")?)?.as_str(); // "zh-TW"
 //! ```
 #![tactic(auto)]
 

@@ -6,6 +6,12 @@ use std::alloc::AllocError;
 use thiserror::Error;
 
 /// Why there is no tag of a POSIX locale's name.
+///
+/// ```
+/// use langtag_likely::{PosixError, from_posix};
+///
+/// matches!(from_posix(alloc, "POSIX"), Err(PosixError::NoTag("POSIX"))); // true
+/// ```
 #[derive(Debug, Drop, Error)]
 pub enum PosixError<'a> {
     /// The name says no language, and comes back: `C`, `POSIX`, the empty text, and what is no tag, as `en_`.

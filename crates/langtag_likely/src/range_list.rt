@@ -9,6 +9,15 @@ use langtag_match::{LanguageRange, WantedRange, WeightedRange, split_wanted};
 
 /// Language ranges with their weights, in the order in which a reader names them: those of an Accept-Language header in a slice
 /// of bytes, and those in a slice of [`WeightedRange`] or of [`LanguageRange`]. A value is a walk over them, and takes no memory.
+///
+/// ```
+/// use langtag::LangTag;
+/// use langtag_likely::best_for_ranges;
+/// use langtag_match::LanguageRange;
+///
+/// let tags = [LangTag::new("en")?, LangTag::new("nb")?];
+/// best_for_ranges(&[LanguageRange::new("nn")?], &tags); // Some(1)
+/// ```
 pub trait RangeList<'a>: Copy {
     ghost elements: { Self → List Element };
 

@@ -7,6 +7,29 @@ ghost use Rattle.langtag_likely.specs.ListTexts.{tag_texts};
 use langtag::LangTag;
 
 /// A list of tags, each at an index. What stands at an index need not be a tag, and is then never chosen.
+///
+/// ```
+/// use langtag::LangTag;
+/// use langtag_likely::{TagList, best_among};
+///
+/// struct Texts(&'static [&'static str]);
+///
+/// impl TagList for Texts {
+///     fn count(&self) -> usize {
+///         self.0.len()
+///     }
+///
+///     fn tag_at(&self, index: usize) -> Option<LangTag<'_>> {
+///         LangTag::new(self.0[index]).ok()
+///     }
+///
+///     fn bytes_at(&self, index: usize) -> &[u8] {
+///         self.0[index].as_bytes()
+///     }
+/// }
+///
+/// best_among(&b"zh-TW"[..], &Texts(&["en", "zh-Hant"])); // Some(1)
+/// ```
 pub trait TagList {
     ghost texts: { Self → List (Option (List ℕ)) };
 

@@ -14,6 +14,14 @@ use std::cmp::Reverse;
 
 /// The ranges that a header accepts, those of the greatest weight first: of `fr;q=0.5, de, *;q=0` they are `de` with the
 /// weight 1000 and `fr` with 500.
+///
+/// ```
+/// use langtag_match::AcceptLanguage;
+///
+/// let accepted = AcceptLanguage::new(alloc, "fr;q=0.5, de, *;q=0")?;
+/// accepted.ranges().len(); // 2
+/// accepted.ranges()[0].range.as_str(); // "de"
+/// ```
 #[derive(Debug, Drop)]
 pub struct AcceptLanguage<'a> {
     ranges: Vec<WeightedRange<'a>>,
@@ -65,8 +73,8 @@ impl<'a> AcceptLanguage<'a> {
         Ok(AcceptLanguage { ranges })
     }
 
-    /// Returns the ranges, those of the greatest weight first: `ranges()[0].range.as_str()` is `"de"` for `fr;q=0.5, de`.
-    /// The contract also says when two of them are equal, and that a clone of one is the same.
+    /// Returns the ranges, those of the greatest weight first: `ranges()[0].range.as_str()` is `"de"` for `fr;q=0.5,
+    /// de`. It is proved which of them are equal, and that a clone of one is the same.
     pub fn ranges(&self) -> &[WeightedRange<'a>]
         ensures list { result.now ≡ accept_language_ranges self.now }
 

@@ -13,6 +13,13 @@ use crate::weighted_range::WeightedRange;
 use langtag_scan::len_before;
 
 /// An element of a header, and where its range stands.
+///
+/// ```
+/// use langtag_match::element_at;
+///
+/// let element = element_at(b" fr;q=0.5").ok();
+/// element.map(|element| (element.start, element.weighted.weight)); // Some((1, 500))
+/// ```
 #[derive(Debug, Drop)]
 pub struct Element<'a> {
     /// The number of bytes before the range: spaces and tabs.

@@ -14,6 +14,15 @@ use langtag::segment_start;
 ///
 /// A single letter or digit goes with the subtag after it, and so does `*`: `de-CH-x-a` is followed by `de-CH`, and
 /// `de-*-DE` by `de`.
+///
+/// ```
+/// use langtag_match::LanguageRange;
+///
+/// let range = LanguageRange::new("de-CH-x-a")?;
+/// let mut shorter = range.fallbacks();
+/// shorter.next().map(|range| range.as_str()); // Some("de-CH-x-a")
+/// shorter.next().map(|range| range.as_str()); // Some("de-CH")
+/// ```
 #[derive(Clone, Debug, Drop)]
 pub struct Fallbacks<'a> {
     rest: Option<LanguageRange<'a>>,

@@ -47,6 +47,14 @@ pub fn filter_extended<'a, 't>(
 }
 
 /// The tags that [`filter_basic`] or [`filter_extended`] finds and that are still to come. It takes no memory.
+///
+/// ```
+/// use langtag::LangTag;
+/// use langtag_match::{LanguageRange, filter_basic};
+///
+/// let tags = [LangTag::new("en")?, LangTag::new("de-AT")?];
+/// filter_basic(&[LanguageRange::new("de")?], &tags).count(); // 1
+/// ```
 #[derive(Clone, Debug, Drop)]
 pub struct Filtered<'a, 't> {
     rule: FilterRule,

@@ -20,6 +20,12 @@ use std::fmt::Debug;
 use thiserror::Error;
 
 /// The error for a text that is not a language range. It holds the text.
+///
+/// ```
+/// use langtag_match::LanguageRange;
+///
+/// LanguageRange::new("de_CH").err().map(|error| error.0); // Some("de_CH")
+/// ```
 #[derive(Debug, Drop, Error)]
 #[error("invalid language range")]
 #[error_bound(T: Debug + Drop)]
@@ -30,6 +36,15 @@ pub struct InvalidLanguageRange<T>(pub T);
 /// It is one or more subtags of up to eight letters or digits, the first of letters alone, and in the place of each may
 /// stand `*`. A range need not be a tag: `de-x` and `a-1` are ranges. Two ranges are equal where their texts differ at most
 /// in the case of ASCII letters.
+///
+/// ```
+/// use langtag::LangTag;
+/// use langtag_match::LanguageRange;
+///
+/// let range = LanguageRange::new("de-*-DE")?;
+/// range.matches_extended(&LangTag::new("de-Latn-DE-1996")?); // true
+/// range.matches_basic(&LangTag::new("de-Latn-DE-1996")?); // false
+/// ```
 #[derive(Clone, Copy, Debug, PartialEq, Eq, PartialOrd, Ord, Hash)]
 pub struct LanguageRange<'a> {
     text: Caseless<&'a str>,
@@ -75,8 +90,9 @@ impl<'a> LanguageRange<'a> {
         self.text.0
     }
 
-    /// Returns whether any text is equal but for the case of ASCII letters: `LanguageRange::new("de-CH")?.eq_str("DE-ch")`
-    /// is true. The contract also says that ranges compare and hash so, and that a clone is the range itself.
+    /// Returns whether any text is equal but for the case of ASCII letters:
+    /// `LanguageRange::new("de-CH")?.eq_str("DE-ch")` is true. It is proved that ranges compare and hash so, and that a
+    /// clone is the range itself.
     pub fn eq_str(&self, other: &str) -> bool
         ensures test { result ≡ are_alike (language_range_text self.now) other.now }
 
@@ -152,6 +168,13 @@ impl fmt::Display for LanguageRange<'_> {
 }
 
 /// A language range that owns its text.
+///
+/// ```
+/// use langtag_match::LanguageRange;
+///
+/// let owned = LanguageRange::new("de-*")?.try_to_owned(alloc)?;
+/// owned.as_language_range() == LanguageRange::new("DE-*")?; // true
+/// ```
 #[derive(Debug, Drop, PartialEq, Eq, PartialOrd, Ord, Hash)]
 pub struct LanguageRangeBuf {
     text: Caseless<String>,
@@ -181,8 +204,8 @@ impl LanguageRangeBuf {
         })
     }
 
-    /// Borrows the range: `as_language_range().is_basic()` of the owned `de` is true. The contract also says that owned
-    /// ranges compare and hash without regard to case.
+    /// Borrows the range: `as_language_range().is_basic()` of the owned `de` is true. It is proved that owned ranges
+    /// compare and hash without regard to case.
     pub fn as_language_range(&self) -> LanguageRange<'_>
         ensures same_text { language_range_text result ≡ language_range_buf_text self.now }
 

@@ -11,10 +11,10 @@
 //! LanguageRange::new("de-DE")?.matches_basic(&LangTag::new("de-de-1996")?); // true
 //!
 //! let (english, german) = (LangTag::new("en")?, LangTag::new("de")?);
-//! look_up(&[LanguageRange::new("de-CH")?], &[english, german], english); // de
+//! look_up(&[LanguageRange::new("de-CH")?], &[english, german], english).as_str(); // "de"
 //! let accepted = AcceptLanguage::new(alloc, "en;q=0.5, de-CH")?;
 //! accepted.ranges()[0].range.as_str();            // "de-CH"
-//! accepted.look_up(&[english, german], english);  // de
+//! accepted.look_up(&[english, german], english).as_str(); // "de"
 //! ```
 #![tactic(auto)]
 

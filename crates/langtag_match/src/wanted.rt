@@ -8,6 +8,13 @@ use crate::wanted_element::wanted_at;
 use langtag_scan::split_at_byte;
 
 /// A language range of a header, and its weight. `_` may stand in its bytes where a language range has a hyphen.
+///
+/// ```
+/// use langtag_match::wanted_ranges;
+///
+/// let mut wanted = wanted_ranges(b"de_CH;q=0.5");
+/// wanted.next().map(|range| (range.bytes, range.weight)); // Some((&b"de_CH"[..], 500))
+/// ```
 #[derive(Clone, Copy, Debug, Drop)]
 pub struct WantedRange<'a> {
     /// The text, in which `_` means `-`: `de_CH` is the range `de-CH`.
@@ -17,6 +24,12 @@ pub struct WantedRange<'a> {
 }
 
 /// The language ranges of a header that are still to come. It takes no memory.
+///
+/// ```
+/// use langtag_match::wanted_ranges;
+///
+/// wanted_ranges(b"de_CH, german language, en;q=0").count(); // 2
+/// ```
 #[derive(Debug, Drop)]
 pub struct WantedRanges<'a> {
     rest: &'a [u8],

@@ -3,6 +3,13 @@ use crate::language_range::LanguageRange;
 
 /// A language range and its weight: `fr;q=0.25` in a header is the range `fr` with the weight 250.
 /// Two of them are equal where the weights are, and the ranges are equal without regard to case.
+///
+/// ```
+/// use langtag_match::AcceptLanguage;
+///
+/// let accepted = AcceptLanguage::new(alloc, "fr;q=0.5")?;
+/// accepted.ranges()[0].weight; // 500
+/// ```
 #[derive(Clone, Copy, Debug, PartialEq, Eq)]
 pub struct WeightedRange<'a> {
     /// The range: one of [`AcceptLanguage::ranges`](crate::AcceptLanguage::ranges) is a basic one, with the case that it has

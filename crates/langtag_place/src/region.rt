@@ -13,6 +13,13 @@ use std::fmt::Debug;
 use thiserror::Error;
 
 /// The error for a text that is not a region. It hands the text back.
+///
+/// ```
+/// use langtag_place::Region;
+///
+/// let error = Region::new("fra").err();
+/// error.map(|error| error.0); // Some("fra")
+/// ```
 #[derive(Debug, Drop, Error)]
 #[error("invalid region")]
 #[error_bound(T: Debug + Drop)]
@@ -21,6 +28,14 @@ pub struct InvalidRegion<T>(pub T);
 /// A region subtag (RFC 5646 section 2.2.4): two letters, as `FR`, or three digits, as `419`.
 ///
 /// Two regions are equal where their texts differ at most in the case of ASCII letters: `fr` and `FR` are.
+///
+/// ```
+/// use langtag_place::Region;
+///
+/// let region = Region::new("fr")?;
+/// region.as_str(); // "fr"
+/// region == Region::new("FR")?; // true
+/// ```
 #[derive(Clone, Copy, Debug, PartialEq, Eq, PartialOrd, Ord, Hash)]
 pub struct Region<'a> {
     text: Caseless<&'a str>,
@@ -31,7 +46,7 @@ impl<'a> Region<'a> {
     ghost use Rattle.langtag_place.specs.Compared.{RegionsCompareByCase};
     ghost use Rattle.langtag_place.specs.Text.{region_text, region_buf_text};
 
-    /// Parses a text as a region: `Region::new("fr")` is Ok. In a proof this computes for a literal (`by_number`).
+    /// Parses a text as a region: `Region::new("fr")` is Ok.
     ///
     /// # Errors
     ///
@@ -79,8 +94,8 @@ impl<'a> Region<'a> {
     }
 
     /// Returns whether another text, of any form, is equal but for the case of ASCII letters:
-    /// `Region::new("fr")?.eq_str("FR")` is true. The contract also says that regions are compared, ordered and hashed
-    /// so, and that a clone is the value itself.
+    /// `Region::new("fr")?.eq_str("FR")` is true. It is proved that regions are compared, ordered and hashed so, and
+    /// that a clone is the value itself.
     pub fn eq_str(&self, other: &str) -> bool
         ensures test { result ≡ are_alike (region_text self.now) other.now }
 
@@ -117,6 +132,14 @@ impl fmt::Display for Region<'_> {
 }
 
 /// A region that owns its text.
+///
+/// ```
+/// use langtag_place::Region;
+///
+/// let owned = Region::new("fr")?.try_to_owned(alloc)?;
+/// owned.as_region() == Region::new("FR")?; // true
+/// owned.into_string().as_str(); // "fr"
+/// ```
 #[derive(Debug, Drop, PartialEq, Eq, PartialOrd, Ord, Hash)]
 pub struct RegionBuf {
     text: Caseless<String>,
@@ -146,8 +169,8 @@ impl RegionBuf {
         })
     }
 
-    /// Borrows the region: `as_region().as_str()` of the owned `FR` is `"FR"`. The contract also says that owned regions
-    /// are compared, ordered and hashed without regard to case.
+    /// Borrows the region: `as_region().as_str()` of the owned `FR` is `"FR"`. It is proved that owned regions are
+    /// compared, ordered and hashed without regard to case.
     pub fn as_region(&self) -> Region<'_>
         ensures same_text { region_text result ≡ region_buf_text self.now }
 

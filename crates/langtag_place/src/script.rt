@@ -13,6 +13,13 @@ use std::fmt::Debug;
 use thiserror::Error;
 
 /// The error for a text that is not a script. It hands the text back.
+///
+/// ```
+/// use langtag_place::Script;
+///
+/// let error = Script::new("Lat").err();
+/// error.map(|error| error.0); // Some("Lat")
+/// ```
 #[derive(Debug, Drop, Error)]
 #[error("invalid script")]
 #[error_bound(T: Debug + Drop)]
@@ -21,6 +28,14 @@ pub struct InvalidScript<T>(pub T);
 /// A script subtag (RFC 5646 section 2.2.3): four letters, as `Latn`.
 ///
 /// Two scripts are equal where their texts differ at most in the case of ASCII letters: `Latn` and `LATN` are.
+///
+/// ```
+/// use langtag_place::Script;
+///
+/// let script = Script::new("Latn")?;
+/// script.as_str(); // "Latn"
+/// script == Script::new("LATN")?; // true
+/// ```
 #[derive(Clone, Copy, Debug, PartialEq, Eq, PartialOrd, Ord, Hash)]
 pub struct Script<'a> {
     text: Caseless<&'a str>,
@@ -31,7 +46,7 @@ impl<'a> Script<'a> {
     ghost use Rattle.langtag_place.specs.Compared.{ScriptsCompareByCase};
     ghost use Rattle.langtag_place.specs.Text.{script_text, script_buf_text};
 
-    /// Parses a text as a script: `Script::new("Latn")` is Ok. In a proof this computes for a literal (`by_number`).
+    /// Parses a text as a script: `Script::new("Latn")` is Ok.
     ///
     /// # Errors
     ///
@@ -76,8 +91,8 @@ impl<'a> Script<'a> {
     }
 
     /// Returns whether another text, of any form, is equal but for the case of ASCII letters:
-    /// `Script::new("Latn")?.eq_str("LATN")` is true. The contract also says that scripts are compared, ordered and
-    /// hashed so, and that a clone is the value itself.
+    /// `Script::new("Latn")?.eq_str("LATN")` is true. It is proved that scripts are compared, ordered and hashed so,
+    /// and that a clone is the value itself.
     pub fn eq_str(&self, other: &str) -> bool
         ensures test { result ≡ are_alike (script_text self.now) other.now }
 
@@ -114,6 +129,14 @@ impl fmt::Display for Script<'_> {
 }
 
 /// A script that owns its text.
+///
+/// ```
+/// use langtag_place::Script;
+///
+/// let owned = Script::new("Latn")?.try_to_owned(alloc)?;
+/// owned.as_script() == Script::new("LATN")?; // true
+/// owned.into_string().as_str(); // "Latn"
+/// ```
 #[derive(Debug, Drop, PartialEq, Eq, PartialOrd, Ord, Hash)]
 pub struct ScriptBuf {
     text: Caseless<String>,
@@ -143,8 +166,8 @@ impl ScriptBuf {
         })
     }
 
-    /// Borrows the script: `as_script().as_str()` of the owned `LATN` is `"LATN"`. The contract also says that owned
-    /// scripts are compared, ordered and hashed without regard to case.
+    /// Borrows the script: `as_script().as_str()` of the owned `LATN` is `"LATN"`. It is proved that owned scripts are
+    /// compared, ordered and hashed without regard to case.
     pub fn as_script(&self) -> Script<'_>
         ensures same_text { script_text result ≡ script_buf_text self.now }
 

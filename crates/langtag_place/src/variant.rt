@@ -14,6 +14,13 @@ use std::fmt::Debug;
 use thiserror::Error;
 
 /// The error for a text that is not a variant. It hands the text back.
+///
+/// ```
+/// use langtag_place::Variant;
+///
+/// let error = Variant::new("roz").err();
+/// error.map(|error| error.0); // Some("roz")
+/// ```
 #[derive(Debug, Drop, Error)]
 #[error("invalid variant")]
 #[error_bound(T: Debug + Drop)]
@@ -23,6 +30,14 @@ pub struct InvalidVariant<T>(pub T);
 /// first is a digit, as `1996`.
 ///
 /// Two variants are equal where their texts differ at most in the case of ASCII letters: `rozaj` and `ROZAJ` are.
+///
+/// ```
+/// use langtag_place::Variant;
+///
+/// let variant = Variant::new("rozaj")?;
+/// variant.as_str(); // "rozaj"
+/// variant == Variant::new("ROZAJ")?; // true
+/// ```
 #[derive(Clone, Copy, Debug, PartialEq, Eq, PartialOrd, Ord, Hash)]
 pub struct Variant<'a> {
     text: Caseless<&'a str>,
@@ -33,7 +48,7 @@ impl<'a> Variant<'a> {
     ghost use Rattle.langtag_place.specs.Compared.{VariantsCompareByCase};
     ghost use Rattle.langtag_place.specs.Text.{variant_text, variant_buf_text};
 
-    /// Parses a text as a variant: `Variant::new("rozaj")` is Ok. In a proof this computes for a literal (`by_number`).
+    /// Parses a text as a variant: `Variant::new("rozaj")` is Ok.
     ///
     /// # Errors
     ///
@@ -82,8 +97,8 @@ impl<'a> Variant<'a> {
     }
 
     /// Returns whether another text, of any form, is equal but for the case of ASCII letters:
-    /// `Variant::new("rozaj")?.eq_str("ROZAJ")` is true. The contract also says that variants are compared, ordered and
-    /// hashed so, and that a clone is the value itself.
+    /// `Variant::new("rozaj")?.eq_str("ROZAJ")` is true. It is proved that variants are compared, ordered and hashed
+    /// so, and that a clone is the value itself.
     pub fn eq_str(&self, other: &str) -> bool
         ensures test { result ≡ are_alike (variant_text self.now) other.now }
 
@@ -120,6 +135,14 @@ impl fmt::Display for Variant<'_> {
 }
 
 /// A variant that owns its text.
+///
+/// ```
+/// use langtag_place::Variant;
+///
+/// let owned = Variant::new("rozaj")?.try_to_owned(alloc)?;
+/// owned.as_variant() == Variant::new("ROZAJ")?; // true
+/// owned.into_string().as_str(); // "rozaj"
+/// ```
 #[derive(Debug, Drop, PartialEq, Eq, PartialOrd, Ord, Hash)]
 pub struct VariantBuf {
     text: Caseless<String>,
@@ -150,8 +173,8 @@ impl VariantBuf {
         })
     }
 
-    /// Borrows the variant: `as_variant().as_str()` of the owned `ROZAJ` is `"ROZAJ"`. The contract also says that owned
-    /// variants are compared, ordered and hashed without regard to case.
+    /// Borrows the variant: `as_variant().as_str()` of the owned `ROZAJ` is `"ROZAJ"`. It is proved that owned variants
+    /// are compared, ordered and hashed without regard to case.
     pub fn as_variant(&self) -> Variant<'_>
         ensures same_text { variant_text result ≡ variant_buf_text self.now }
 

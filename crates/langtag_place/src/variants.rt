@@ -16,6 +16,13 @@ use std::fmt::Debug;
 use thiserror::Error;
 
 /// The error for a text that no list of variants spells. It hands the text back.
+///
+/// ```
+/// use langtag_place::Variants;
+///
+/// let error = Variants::new("rozaj-").err();
+/// error.map(|error| error.0); // Some("rozaj-")
+/// ```
 #[derive(Debug, Drop, Error)]
 #[error("invalid variants")]
 #[error_bound(T: Debug + Drop)]
@@ -25,6 +32,14 @@ pub struct InvalidVariants<T>(pub T);
 ///
 /// A variant may stand twice: that makes a tag invalid, and leaves it well formed (section 2.2.9).
 /// Two lists are equal where their texts differ at most in the case of ASCII letters: `rozaj` and `ROZAJ` are.
+///
+/// ```
+/// use langtag_place::Variants;
+///
+/// let variants = Variants::new("rozaj-1994")?;
+/// variants.as_str(); // "rozaj-1994"
+/// variants == Variants::new("ROZAJ-1994")?; // true
+/// ```
 #[derive(Clone, Copy, Debug, PartialEq, Eq, PartialOrd, Ord, Hash)]
 pub struct Variants<'a> {
     text: Caseless<&'a str>,
@@ -83,8 +98,8 @@ impl<'a> Variants<'a> {
     }
 
     /// Returns whether another text, of any form, is equal but for the case of ASCII letters:
-    /// `Variants::new("rozaj")?.eq_str("ROZAJ")` is true. The contract also says that lists of variants are compared,
-    /// ordered and hashed so, and that a clone is the value itself.
+    /// `Variants::new("rozaj")?.eq_str("ROZAJ")` is true. It is proved that lists of variants are compared, ordered and
+    /// hashed so, and that a clone is the value itself.
     pub fn eq_str(&self, other: &str) -> bool
         ensures test { result ≡ are_alike (variants_text self.now) other.now }
 
@@ -158,6 +173,14 @@ impl fmt::Display for Variants<'_> {
 }
 
 /// Variants that own their text.
+///
+/// ```
+/// use langtag_place::Variants;
+///
+/// let owned = Variants::new("rozaj-1994")?.try_to_owned(alloc)?;
+/// owned.as_variants() == Variants::new("ROZAJ-1994")?; // true
+/// owned.into_string().as_str(); // "rozaj-1994"
+/// ```
 #[derive(Debug, Drop, PartialEq, Eq, PartialOrd, Ord, Hash)]
 pub struct VariantsBuf {
     text: Caseless<String>,
@@ -189,8 +212,8 @@ impl VariantsBuf {
         })
     }
 
-    /// Borrows the variants: `as_variants().as_str()` of the owned `ROZAJ` is `"ROZAJ"`. The contract also says that
-    /// owned lists of variants are compared, ordered and hashed without regard to case.
+    /// Borrows the variants: `as_variants().as_str()` of the owned `ROZAJ` is `"ROZAJ"`. It is proved that owned lists
+    /// of variants are compared, ordered and hashed without regard to case.
     pub fn as_variants(&self) -> Variants<'_>
         ensures same_text { variants_text result ≡ variants_buf_text self.now }
 

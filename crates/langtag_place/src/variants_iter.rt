@@ -11,6 +11,15 @@ use std::alloc::AllocError;
 
 /// The variants of a tag that are still to come, in the order in which they are written (RFC 5646 section 2.2.5),
 /// from either end: `rozaj` and `1994` of `Variants::new("rozaj-1994")?.iter()`.
+///
+/// ```
+/// use langtag_place::Variants;
+///
+/// let mut items = Variants::new("rozaj-1994")?.iter();
+/// items.next().map(|item| item.as_str()); // Some("rozaj")
+/// items.next().map(|item| item.as_str()); // Some("1994")
+/// items.next(); // None
+/// ```
 #[derive(Debug, Drop)]
 pub struct VariantsIter<'a> {
     rest: Subtags<'a>,

@@ -14,6 +14,13 @@ use std::fmt::Debug;
 use thiserror::Error;
 
 /// The error for a text that is not a private use part. It hands the text back.
+///
+/// ```
+/// use langtag_private::PrivateUse;
+///
+/// let error = PrivateUse::new("x").err();
+/// error.map(|error| error.0); // Some("x")
+/// ```
 #[derive(Debug, Drop, Error)]
 #[error("invalid private use")]
 #[error_bound(T: Debug + Drop)]
@@ -23,6 +30,14 @@ pub struct InvalidPrivateUse<T>(pub T);
 /// by hyphens, as `x-twain`. It may stand at the end of a tag, and alone as a tag of its own.
 ///
 /// Two of them are equal where their texts differ at most in the case of ASCII letters: `x-twain` and `X-TWAIN` are.
+///
+/// ```
+/// use langtag_private::PrivateUse;
+///
+/// let part = PrivateUse::new("x-twain")?;
+/// part.as_str(); // "x-twain"
+/// part == PrivateUse::new("X-TWAIN")?; // true
+/// ```
 #[derive(Clone, Copy, Debug, PartialEq, Eq, PartialOrd, Ord, Hash)]
 pub struct PrivateUse<'a> {
     text: Caseless<&'a str>,
@@ -78,8 +93,8 @@ impl<'a> PrivateUse<'a> {
     }
 
     /// Returns whether another text, of any form, is equal but for the case of ASCII letters:
-    /// `PrivateUse::new("x-twain")?.eq_str("X-TWAIN")` is true. The contract also says that private use parts are
-    /// compared, ordered and hashed so, and that a clone is the value itself.
+    /// `PrivateUse::new("x-twain")?.eq_str("X-TWAIN")` is true. It is proved that private use parts are compared,
+    /// ordered and hashed so, and that a clone is the value itself.
     pub fn eq_str(&self, other: &str) -> bool
         ensures test { result ≡ are_alike (private_use_text self.now) other.now }
 
@@ -159,6 +174,14 @@ impl fmt::Display for PrivateUse<'_> {
 }
 
 /// A private use part that owns its text.
+///
+/// ```
+/// use langtag_private::PrivateUse;
+///
+/// let owned = PrivateUse::new("x-twain")?.try_to_owned(alloc)?;
+/// owned.as_private_use() == PrivateUse::new("X-TWAIN")?; // true
+/// owned.into_string().as_str(); // "x-twain"
+/// ```
 #[derive(Debug, Drop, PartialEq, Eq, PartialOrd, Ord, Hash)]
 pub struct PrivateUseBuf {
     text: Caseless<String>,
@@ -190,8 +213,8 @@ impl PrivateUseBuf {
         })
     }
 
-    /// Borrows the private use part: `as_private_use().as_str()` of the owned `X-TWAIN` is `"X-TWAIN"`. The contract also
-    /// says that owned private use parts are compared, ordered and hashed without regard to case.
+    /// Borrows the private use part: `as_private_use().as_str()` of the owned `X-TWAIN` is `"X-TWAIN"`. It is proved
+    /// that owned private use parts are compared, ordered and hashed without regard to case.
     pub fn as_private_use(&self) -> PrivateUse<'_>
         ensures same_text { private_use_text result ≡ private_use_buf_text self.now }
 

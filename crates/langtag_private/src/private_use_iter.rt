@@ -9,6 +9,15 @@ use langtag_scan::Subtags;
 use std::alloc::AllocError;
 
 /// The private use subtags that are still to come (RFC 5646 section 2.2.7): `a` and `b` of `x-a-b`.
+///
+/// ```
+/// use langtag_private::PrivateUse;
+///
+/// let mut items = PrivateUse::new("x-a-b")?.iter();
+/// items.next().map(|item| item.as_str()); // Some("a")
+/// items.next().map(|item| item.as_str()); // Some("b")
+/// items.next(); // None
+/// ```
 #[derive(Debug, Drop)]
 pub struct PrivateUseIter<'a> {
     rest: Subtags<'a>,

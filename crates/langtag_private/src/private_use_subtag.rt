@@ -14,6 +14,13 @@ use std::fmt::Debug;
 use thiserror::Error;
 
 /// The error for a text that is not a private use subtag. It hands the text back.
+///
+/// ```
+/// use langtag_private::PrivateUseSubtag;
+///
+/// let error = PrivateUseSubtag::new("").err();
+/// error.map(|error| error.0); // Some("")
+/// ```
 #[derive(Debug, Drop, Error)]
 #[error("invalid private use subtag")]
 #[error_bound(T: Debug + Drop)]
@@ -22,6 +29,14 @@ pub struct InvalidPrivateUseSubtag<T>(pub T);
 /// A private use subtag (RFC 5646 section 2.2.7): one to eight letters and digits, as `twain` in `en-x-twain`.
 ///
 /// Two of them are equal where their texts differ at most in the case of ASCII letters: `twain` and `TWAIN` are.
+///
+/// ```
+/// use langtag_private::PrivateUseSubtag;
+///
+/// let subtag = PrivateUseSubtag::new("twain")?;
+/// subtag.as_str(); // "twain"
+/// subtag == PrivateUseSubtag::new("TWAIN")?; // true
+/// ```
 #[derive(Clone, Copy, Debug, PartialEq, Eq, PartialOrd, Ord, Hash)]
 pub struct PrivateUseSubtag<'a> {
     text: Caseless<&'a str>,
@@ -32,8 +47,7 @@ impl<'a> PrivateUseSubtag<'a> {
     ghost use Rattle.langtag_private.specs.Compared.{PrivateUseSubtagsCompareByCase};
     ghost use Rattle.langtag_private.specs.Text.{private_use_subtag_text, private_use_subtag_buf_text};
 
-    /// Parses a text as a private use subtag: `PrivateUseSubtag::new("twain")` is Ok. In a proof this computes for a
-    /// literal (`by_number`).
+    /// Parses a text as a private use subtag: `PrivateUseSubtag::new("twain")` is Ok.
     ///
     /// # Errors
     ///
@@ -80,8 +94,8 @@ impl<'a> PrivateUseSubtag<'a> {
     }
 
     /// Returns whether another text, of any form, is equal but for the case of ASCII letters:
-    /// `PrivateUseSubtag::new("twain")?.eq_str("TWAIN")` is true. The contract also says that private use subtags are
-    /// compared, ordered and hashed so, and that a clone is the value itself.
+    /// `PrivateUseSubtag::new("twain")?.eq_str("TWAIN")` is true. It is proved that private use subtags are compared,
+    /// ordered and hashed so, and that a clone is the value itself.
     pub fn eq_str(&self, other: &str) -> bool
         ensures test { result ≡ are_alike (private_use_subtag_text self.now) other.now }
 
@@ -119,6 +133,14 @@ impl fmt::Display for PrivateUseSubtag<'_> {
 }
 
 /// A private use subtag that owns its text.
+///
+/// ```
+/// use langtag_private::PrivateUseSubtag;
+///
+/// let owned = PrivateUseSubtag::new("twain")?.try_to_owned(alloc)?;
+/// owned.as_private_use_subtag() == PrivateUseSubtag::new("TWAIN")?; // true
+/// owned.into_string().as_str(); // "twain"
+/// ```
 #[derive(Debug, Drop, PartialEq, Eq, PartialOrd, Ord, Hash)]
 pub struct PrivateUseSubtagBuf {
     text: Caseless<String>,
@@ -148,8 +170,8 @@ impl PrivateUseSubtagBuf {
         })
     }
 
-    /// Borrows the subtag: `as_private_use_subtag().as_str()` of the owned `TWAIN` is `"TWAIN"`. The contract also says
-    /// that owned private use subtags are compared, ordered and hashed without regard to case.
+    /// Borrows the subtag: `as_private_use_subtag().as_str()` of the owned `TWAIN` is `"TWAIN"`. It is proved that
+    /// owned private use subtags are compared, ordered and hashed without regard to case.
     pub fn as_private_use_subtag(&self) -> PrivateUseSubtag<'_>
         ensures same_text { private_use_subtag_text result ≡ private_use_subtag_buf_text self.now }
 

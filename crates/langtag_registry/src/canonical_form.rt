@@ -36,6 +36,14 @@ const LONGEST_PREFERRED: usize = 14;
 /// # Errors
 ///
 /// Out of memory.
+///
+/// ```
+/// use langtag::LangTag;
+/// use langtag_registry::canonical;
+///
+/// canonical(alloc, LangTag::new("iw-BU")?)?.as_str(); // "he-MM"
+/// canonical(alloc, LangTag::new("zh-yue")?)?.as_str(); // "yue"
+/// ```
 pub fn canonical(alloc: Global, tag: LangTag<'_>) -> Result<LangTagBuf, AllocError>
     ensures canonical { IfOk result (λ form. IsCanonicalForm (lang_tag_text tag.entry) (lang_tag_buf_text form)) }
 

@@ -9,6 +9,14 @@ use thiserror::Error;
 ///
 /// A subtag is a slice of the tag, with its case. Two values are equal where they are of one kind and their subtags
 /// are equal.
+///
+/// ```
+/// use langtag::LangTag;
+/// use langtag_registry::{InvalidSubtag, validate};
+///
+/// let fault = validate(LangTag::new("fr-FQ")?).err();
+/// matches!(fault, Some(InvalidSubtag::Region(region)) if region.as_str() == "FQ"); // true
+/// ```
 #[derive(Clone, Copy, Debug, PartialEq, Eq, Hash, Error)]
 pub enum InvalidSubtag<'a> {
     /// A language that is not registered: `qt` of `qt-FR`.

@@ -9,15 +9,15 @@
 //!     InvalidSubtag, canonical, is_registered_language, misplaced_variant, preferred_language, validate,
 //! };
 //!
-//! validate(LangTag::new("de-CH-1996")?)?; // valid
-//! match validate(LangTag::new("qt-FR")?) {
-//!     Err(InvalidSubtag::Language(language)) => language.as_str(), // "qt"
-//!     ..
-//! }
+//! validate(LangTag::new("de-CH-1996")?).is_ok();              // true
+//! let fault = validate(LangTag::new("qt-FR")?).err();
+//! matches!(fault, Some(InvalidSubtag::Language(language)) if language.as_str() == "qt"); // true
+//!
 //! is_registered_language(PrimaryLanguage::new("fr")?);        // true
-//! preferred_language(PrimaryLanguage::new("iw")?); // Some(he)
-//! canonical(alloc, LangTag::new("iw-BU")?)?;       // he-MM
-//! misplaced_variant(NormalLangTag::new("fr-nedis")?); // Some(nedis): it goes with `sl`
+//! preferred_language(PrimaryLanguage::new("iw")?).map(|language| language.as_str()); // Some("he")
+//! canonical(alloc, LangTag::new("iw-BU")?)?.as_str();         // "he-MM"
+//! let misplaced = misplaced_variant(NormalLangTag::new("fr-nedis")?);
+//! misplaced.map(|variant| variant.as_str());                  // Some("nedis"): it goes with `sl`
 //! ```
 #![tactic(auto)]
 

@@ -5,11 +5,11 @@
 //! use langtag_scan::{ByteSource, Metered, recognise, viable_len};
 //!
 //! let mut source = Metered::new("fr-abc-bz-x-a");
-//! let ends = recognise(&mut source)?.ends()?;
-//! (ends.language, ends.script, ends.region, ends.whole); // 6, 6, 9, 13: no script, and the region is `bz`
+//! let ends = recognise(&mut source).and_then(|found| found.ends()).ok_or("no normal tag")?;
+//! (ends.language, ends.script, ends.region, ends.whole); // (6, 6, 9, 13): no script, and the region is `bz`
 //!
 //! let mut source = Metered::new("i-notexist");
-//! recognise(&mut source);                                // None
+//! recognise(&mut source).is_none();                      // true
 //! source.reads();                                        // 4: no tag begins with `i-no`
 //!
 //! viable_len(b"zh_Hant");                                // 2: no tag begins with `zh_`

@@ -5,6 +5,14 @@ use crate::source::ByteSource;
 
 /// The bytes of a text, or any others, with a count of the reads, to show how much of them is read to recognise a tag (RFC
 /// 5646 section 2.1). There is no other way to them.
+///
+/// ```
+/// use langtag_scan::{ByteSource, Metered, recognise};
+///
+/// let mut source = Metered::new("i-notexist");
+/// recognise(&mut source).is_none(); // true
+/// source.reads(); // 4
+/// ```
 #[derive(Drop)]
 pub struct Metered<'a> {
     bytes: &'a [u8],

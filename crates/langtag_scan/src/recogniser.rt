@@ -15,9 +15,9 @@ use crate::source::ByteSource;
 /// Decides whether the bytes of a source are a tag (RFC 5646 section 2.1), and of which kind. None says that they
 /// are none.
 ///
-/// It asks for the bytes in order, each once, up to the first one after which no tag can follow, and takes no
-/// memory: `recognise(&mut Metered::new("i-notexist"))` is None after four reads. Its contract also has the laws that
-/// make its answer the only one, and says which texts begin a tag.
+/// It asks for the bytes in order, each once, up to the first one after which no tag can follow, and takes no memory:
+/// `recognise(&mut Metered::new("i-notexist"))` is None after four reads. It is proved that no other answer would be
+/// right.
 #[inline(always)]
 #[tactic(auto, using(crate::proofs::OneKind::normal_no_private, crate::proofs::OneKind::normal_no_irregular, crate::proofs::OneKind::private_no_irregular, crate::proofs::IrregularTexts::irregular_once, crate::proofs::FillLaw::viable_fill))]
 pub fn recognise<S: ByteSource>(source: &mut S) -> Option<Found>
@@ -94,8 +94,8 @@ fn read_irregular<S: ByteSource>(source: &mut S, first: u8) -> Option<Found>
     candidates.found()
 }
 
-/// Decides whether the bytes of a source are a normal tag (rule `langtag` of RFC 5646 section 2.1), as
-/// [`recognise`] does. Its contract also has the law that a normal tag has one record of its parts.
+/// Decides whether the bytes of a source are a normal tag (rule `langtag` of RFC 5646 section 2.1), as [`recognise`]
+/// does. It is proved that a normal tag can be divided into its parts in one way only.
 ///
 /// `recognise_normal(&mut Metered::new("zh-min"))` is Some, and that of `x-a` and of `i-lux` is None.
 #[tactic(auto, using(crate::proofs::FoundLaws::normal_found, crate::proofs::TagLaws::tag_normal))]

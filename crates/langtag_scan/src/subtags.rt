@@ -11,6 +11,14 @@ use std::marker::Model;
 ///
 /// Beside a hyphen at an end of the text, and between two hyphens in a row, stands an empty subtag, which is returned
 /// like any other: `a--b-` has the subtags `a`, the empty one, `b` and the empty one again.
+///
+/// ```
+/// use langtag::LangTag;
+///
+/// let mut subtags = LangTag::new("zh-Hant-TW")?.subtags();
+/// subtags.next(); // Some("zh")
+/// subtags.next_back(); // Some("TW")
+/// ```
 #[derive(Debug, Drop)]
 pub struct Subtags<'a> {
     rest: Option<&'a str>,

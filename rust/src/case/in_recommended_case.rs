@@ -12,13 +12,23 @@ use core::fmt::Write as _;
 ///
 /// It allocates no memory. A text that is in its recommended case already is written in one piece, and any other text one
 /// byte at a time.
+///
+/// ```
+/// # fn main() -> Result<(), Box<dyn std::error::Error>> {
+/// use langtag::LangTag;
+///
+/// let tag = LangTag::new("MN-cYRL-mn")?;
+/// assert_eq!(format!("{}", tag.in_recommended_case()), "mn-Cyrl-MN");
+/// # Ok(())
+/// # }
+/// ```
 #[derive(Clone, Copy, Debug)]
 pub struct InRecommendedCase<'a> {
     text: &'a str,
 }
 
 impl<'a> InRecommendedCase<'a> {
-    /// Displays an ASCII text in its recommended case. The contract also says that a clone succeeds and is the same value.
+    /// Displays an ASCII text in its recommended case. It is proved that a clone succeeds and is the same value.
     #[inline]
     pub(crate) fn from_checked(text: &'a str) -> Self {
         InRecommendedCase { text }

@@ -12,6 +12,13 @@ use alloc::string::String;
 use core::fmt;
 
 /// The error for a text that is not an extension. It hands the text back.
+///
+/// ```
+/// use langtag::Extension;
+///
+/// let error = Extension::new("u").err();
+/// assert_eq!(error.map(|error| error.0), Some("u"));
+/// ```
 #[derive(Debug)]
 pub struct InvalidExtension<T>(pub T);
 
@@ -28,6 +35,17 @@ impl<T: fmt::Debug> core::error::Error for InvalidExtension<T> {}
 /// `u-co-phonebk`.
 ///
 /// Two extensions are equal where their texts differ at most in the case of ASCII letters: `u-co` and `U-CO` are.
+///
+/// ```
+/// # fn main() -> Result<(), Box<dyn std::error::Error>> {
+/// use langtag::Extension;
+///
+/// let extension = Extension::new("u-co")?;
+/// assert_eq!(extension.as_str(), "u-co");
+/// assert!(extension == Extension::new("U-CO")?);
+/// # Ok(())
+/// # }
+/// ```
 #[derive(Clone, Copy, Debug, PartialEq, Eq, PartialOrd, Ord, Hash)]
 pub struct Extension<'a> {
     text: Caseless<&'a str>,
@@ -71,8 +89,8 @@ impl<'a> Extension<'a> {
     }
 
     /// Returns whether another text, of any form, is equal but for the case of ASCII letters:
-    /// `Extension::new("u-co")?.eq_str("U-CO")` is true. The contract also says that extensions are compared, ordered
-    /// and hashed so, and that a clone is the value itself.
+    /// `Extension::new("u-co")?.eq_str("U-CO")` is true. It is proved that extensions are compared, ordered and hashed
+    /// so, and that a clone is the value itself.
     #[inline]
     pub fn eq_str(&self, other: &str) -> bool {
         self.text == Caseless(other)
@@ -119,6 +137,17 @@ impl fmt::Display for Extension<'_> {
 }
 
 /// An extension that owns its text.
+///
+/// ```
+/// # fn main() -> Result<(), Box<dyn std::error::Error>> {
+/// use langtag::Extension;
+///
+/// let owned = Extension::new("u-co")?.try_to_owned()?;
+/// assert!(owned.as_extension() == Extension::new("U-CO")?);
+/// assert_eq!(owned.into_string().as_str(), "u-co");
+/// # Ok(())
+/// # }
+/// ```
 #[cfg(feature = "alloc")]
 #[derive(Debug, PartialEq, Eq, PartialOrd, Ord, Hash)]
 pub struct ExtensionBuf {
@@ -142,8 +171,8 @@ impl ExtensionBuf {
         })
     }
 
-    /// Borrows the extension: `as_extension().as_str()` of the owned `U-CO` is `"U-CO"`. The contract also says that
-    /// owned extensions are compared, ordered and hashed without regard to case.
+    /// Borrows the extension: `as_extension().as_str()` of the owned `U-CO` is `"U-CO"`. It is proved that owned
+    /// extensions are compared, ordered and hashed without regard to case.
     #[inline]
     pub fn as_extension(&self) -> Extension<'_> {
         Extension::from_checked(self.as_str())

@@ -7,6 +7,18 @@ use crate::scan::Subtags;
 
 /// The subtags of an extension that are still to come (RFC 5646 section 2.2.6), without the singleton: `co` and
 /// `phonebk` of `Extension::new("u-co-phonebk")?.iter()`.
+///
+/// ```
+/// # fn main() -> Result<(), Box<dyn std::error::Error>> {
+/// use langtag::Extension;
+///
+/// let mut items = Extension::new("u-co-eor")?.iter();
+/// assert_eq!(items.next().map(|item| item.as_str()), Some("co"));
+/// assert_eq!(items.next().map(|item| item.as_str()), Some("eor"));
+/// assert_eq!(items.next(), None);
+/// # Ok(())
+/// # }
+/// ```
 #[derive(Debug)]
 pub struct ExtensionIter<'a> {
     rest: Subtags<'a>,

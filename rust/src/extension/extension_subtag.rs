@@ -10,6 +10,13 @@ use alloc::string::String;
 use core::fmt;
 
 /// The error for a text that is not a subtag of an extension. It hands the text back.
+///
+/// ```
+/// use langtag::ExtensionSubtag;
+///
+/// let error = ExtensionSubtag::new("c").err();
+/// assert_eq!(error.map(|error| error.0), Some("c"));
+/// ```
 #[derive(Debug)]
 pub struct InvalidExtensionSubtag<T>(pub T);
 
@@ -26,14 +33,24 @@ impl<T: fmt::Debug> core::error::Error for InvalidExtensionSubtag<T> {}
 /// `u-co-phonebk`.
 ///
 /// Two subtags are equal where their texts differ at most in the case of ASCII letters: `co` and `CO` are.
+///
+/// ```
+/// # fn main() -> Result<(), Box<dyn std::error::Error>> {
+/// use langtag::ExtensionSubtag;
+///
+/// let subtag = ExtensionSubtag::new("co")?;
+/// assert_eq!(subtag.as_str(), "co");
+/// assert!(subtag == ExtensionSubtag::new("CO")?);
+/// # Ok(())
+/// # }
+/// ```
 #[derive(Clone, Copy, Debug, PartialEq, Eq, PartialOrd, Ord, Hash)]
 pub struct ExtensionSubtag<'a> {
     text: Caseless<&'a str>,
 }
 
 impl<'a> ExtensionSubtag<'a> {
-    /// Parses a text as a subtag: `ExtensionSubtag::new("co")` is Ok. In a proof this computes for a literal
-    /// (`by_number`).
+    /// Parses a text as a subtag: `ExtensionSubtag::new("co")` is Ok.
     ///
     /// # Errors
     ///
@@ -69,8 +86,8 @@ impl<'a> ExtensionSubtag<'a> {
     }
 
     /// Returns whether another text, of any form, is equal but for the case of ASCII letters:
-    /// `ExtensionSubtag::new("co")?.eq_str("CO")` is true. The contract also says that subtags are compared, ordered
-    /// and hashed so, and that a clone is the value itself.
+    /// `ExtensionSubtag::new("co")?.eq_str("CO")` is true. It is proved that subtags are compared, ordered and hashed
+    /// so, and that a clone is the value itself.
     #[inline]
     pub fn eq_str(&self, other: &str) -> bool {
         self.text == Caseless(other)
@@ -99,6 +116,17 @@ impl fmt::Display for ExtensionSubtag<'_> {
 }
 
 /// A subtag of an extension that owns its text.
+///
+/// ```
+/// # fn main() -> Result<(), Box<dyn std::error::Error>> {
+/// use langtag::ExtensionSubtag;
+///
+/// let owned = ExtensionSubtag::new("co")?.try_to_owned()?;
+/// assert!(owned.as_extension_subtag() == ExtensionSubtag::new("CO")?);
+/// assert_eq!(owned.into_string().as_str(), "co");
+/// # Ok(())
+/// # }
+/// ```
 #[cfg(feature = "alloc")]
 #[derive(Debug, PartialEq, Eq, PartialOrd, Ord, Hash)]
 pub struct ExtensionSubtagBuf {
@@ -122,8 +150,8 @@ impl ExtensionSubtagBuf {
         })
     }
 
-    /// Borrows the subtag: `as_extension_subtag().as_str()` of the owned `CO` is `"CO"`. The contract also says that
-    /// owned subtags are compared, ordered and hashed without regard to case.
+    /// Borrows the subtag: `as_extension_subtag().as_str()` of the owned `CO` is `"CO"`. It is proved that owned
+    /// subtags are compared, ordered and hashed without regard to case.
     #[inline]
     pub fn as_extension_subtag(&self) -> ExtensionSubtag<'_> {
         ExtensionSubtag::from_checked(self.as_str())

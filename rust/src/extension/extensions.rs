@@ -15,6 +15,13 @@ use alloc::string::String;
 use core::fmt;
 
 /// The error for a text that is not extensions. It hands the text back.
+///
+/// ```
+/// use langtag::Extensions;
+///
+/// let error = Extensions::new("a-bb-u").err();
+/// assert_eq!(error.map(|error| error.0), Some("a-bb-u"));
+/// ```
 #[derive(Debug)]
 pub struct InvalidExtensions<T>(pub T);
 
@@ -32,6 +39,17 @@ impl<T: fmt::Debug> core::error::Error for InvalidExtensions<T> {}
 ///
 /// A singleton may come twice: such a tag is well formed, though it is not valid (section 2.2.9). Two lists are equal
 /// where their texts differ at most in the case of ASCII letters: `u-co` and `U-CO` are.
+///
+/// ```
+/// # fn main() -> Result<(), Box<dyn std::error::Error>> {
+/// use langtag::Extensions;
+///
+/// let extensions = Extensions::new("a-bb-u-co")?;
+/// assert_eq!(extensions.as_str(), "a-bb-u-co");
+/// assert!(extensions == Extensions::new("A-BB-U-CO")?);
+/// # Ok(())
+/// # }
+/// ```
 #[derive(Clone, Copy, Debug, PartialEq, Eq, PartialOrd, Ord, Hash)]
 pub struct Extensions<'a> {
     text: Caseless<&'a str>,
@@ -77,8 +95,8 @@ impl<'a> Extensions<'a> {
     }
 
     /// Returns whether another text, of any form, is equal but for the case of ASCII letters:
-    /// `Extensions::new("u-co")?.eq_str("U-CO")` is true. The contract also says that lists of extensions are compared,
-    /// ordered and hashed so, and that a clone is the value itself.
+    /// `Extensions::new("u-co")?.eq_str("U-CO")` is true. It is proved that lists of extensions are compared, ordered
+    /// and hashed so, and that a clone is the value itself.
     #[inline]
     pub fn eq_str(&self, other: &str) -> bool {
         self.text == Caseless(other)
@@ -137,6 +155,17 @@ impl fmt::Display for Extensions<'_> {
 }
 
 /// The extensions of a tag, or none, that own their text.
+///
+/// ```
+/// # fn main() -> Result<(), Box<dyn std::error::Error>> {
+/// use langtag::Extensions;
+///
+/// let owned = Extensions::new("a-bb-u-co")?.try_to_owned()?;
+/// assert!(owned.as_extensions() == Extensions::new("A-BB-U-CO")?);
+/// assert_eq!(owned.into_string().as_str(), "a-bb-u-co");
+/// # Ok(())
+/// # }
+/// ```
 #[cfg(feature = "alloc")]
 #[derive(Debug, PartialEq, Eq, PartialOrd, Ord, Hash)]
 pub struct ExtensionsBuf {
@@ -160,8 +189,8 @@ impl ExtensionsBuf {
         })
     }
 
-    /// Borrows the extensions: `as_extensions().as_str()` of the owned `U-CO` is `"U-CO"`. The contract also says that
-    /// owned lists of extensions are compared, ordered and hashed without regard to case.
+    /// Borrows the extensions: `as_extensions().as_str()` of the owned `U-CO` is `"U-CO"`. It is proved that owned
+    /// lists of extensions are compared, ordered and hashed without regard to case.
     #[inline]
     pub fn as_extensions(&self) -> Extensions<'_> {
         Extensions::from_checked(self.as_str())

@@ -7,6 +7,18 @@ use crate::extension::extension_texts::ExtensionTexts;
 
 /// The extensions that are still to come (RFC 5646 section 2.2.6), in the order in which they are written: `a-ext1`
 /// and `u-co` of `Extensions::new("a-ext1-u-co")?.iter()`.
+///
+/// ```
+/// # fn main() -> Result<(), Box<dyn std::error::Error>> {
+/// use langtag::Extensions;
+///
+/// let mut items = Extensions::new("a-bb-u-co")?.iter();
+/// assert_eq!(items.next().map(|item| item.as_str()), Some("a-bb"));
+/// assert_eq!(items.next().map(|item| item.as_str()), Some("u-co"));
+/// assert_eq!(items.next(), None);
+/// # Ok(())
+/// # }
+/// ```
 #[derive(Debug)]
 pub struct ExtensionsIter<'a> {
     rest: ExtensionTexts<'a>,

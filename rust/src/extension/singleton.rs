@@ -7,6 +7,12 @@ use core::fmt;
 use core::fmt::Write as _;
 
 /// The error for a byte, character or text that is not a singleton. It hands it back.
+///
+/// ```
+/// use langtag::Singleton;
+///
+/// assert_eq!(Singleton::new(b'x').err().map(|error| error.0), Some(b'x'));
+/// ```
 #[derive(Debug)]
 pub struct InvalidSingleton<T>(pub T);
 
@@ -24,15 +30,24 @@ impl<T: fmt::Debug> core::error::Error for InvalidSingleton<T> {}
 ///
 /// It keeps its exact byte, and is compared, ordered and hashed by it: `u` and `U` open the same extension, but are
 /// different singletons here.
+///
+/// ```
+/// # fn main() -> Result<(), Box<dyn std::error::Error>> {
+/// use langtag::Singleton;
+///
+/// assert_eq!(Singleton::new(b'u')?.unwrap(), b'u');
+/// assert!(!(Singleton::from_string("u")? == Singleton::new(b'U')?));
+/// # Ok(())
+/// # }
+/// ```
 #[derive(Clone, Copy, Debug, PartialEq, Eq, PartialOrd, Ord, Hash)]
 pub struct Singleton {
     byte: u8,
 }
 
 impl Singleton {
-    /// Returns the singleton of a byte: `Singleton::new(b'u')` is Ok. That a literal is one computes in a proof by its
-    /// number. The contract also says that singletons are compared, ordered and hashed by their exact bytes, and that a
-    /// clone is the value itself.
+    /// Returns the singleton of a byte: `Singleton::new(b'u')` is Ok. It is proved that singletons are compared,
+    /// ordered and hashed by their exact bytes, and that a clone is the value itself.
     ///
     /// # Errors
     ///

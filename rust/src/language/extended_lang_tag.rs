@@ -10,6 +10,13 @@ use alloc::string::String;
 use core::fmt;
 
 /// The error for a text that is not an extended language subtag. It hands the text back.
+///
+/// ```
+/// use langtag::ExtendedLangTag;
+///
+/// let error = ExtendedLangTag::new("yu").err();
+/// assert_eq!(error.map(|error| error.0), Some("yu"));
+/// ```
 #[derive(Debug)]
 pub struct InvalidExtendedLangTag<T>(pub T);
 
@@ -25,14 +32,24 @@ impl<T: fmt::Debug> core::error::Error for InvalidExtendedLangTag<T> {}
 /// An extended language subtag (RFC 5646 section 2.2.2): three letters, as `yue` in `zh-yue`.
 ///
 /// Two of them are equal where their texts differ at most in the case of ASCII letters: `yue` and `YUE` are.
+///
+/// ```
+/// # fn main() -> Result<(), Box<dyn std::error::Error>> {
+/// use langtag::ExtendedLangTag;
+///
+/// let subtag = ExtendedLangTag::new("yue")?;
+/// assert_eq!(subtag.as_str(), "yue");
+/// assert!(subtag == ExtendedLangTag::new("YUE")?);
+/// # Ok(())
+/// # }
+/// ```
 #[derive(Clone, Copy, Debug, PartialEq, Eq, PartialOrd, Ord, Hash)]
 pub struct ExtendedLangTag<'a> {
     text: Caseless<&'a str>,
 }
 
 impl<'a> ExtendedLangTag<'a> {
-    /// Parses a text as an extended language subtag: `ExtendedLangTag::new("yue")` is Ok. In a proof this computes for
-    /// a literal (`by_number`).
+    /// Parses a text as an extended language subtag: `ExtendedLangTag::new("yue")` is Ok.
     ///
     /// # Errors
     ///
@@ -68,8 +85,8 @@ impl<'a> ExtendedLangTag<'a> {
     }
 
     /// Returns whether another text, of any form, is equal but for the case of ASCII letters:
-    /// `ExtendedLangTag::new("yue")?.eq_str("YUE")` is true. The contract also says that extended subtags are compared,
-    /// ordered and hashed so, and that a clone is the value itself.
+    /// `ExtendedLangTag::new("yue")?.eq_str("YUE")` is true. It is proved that extended subtags are compared, ordered
+    /// and hashed so, and that a clone is the value itself.
     #[inline]
     pub fn eq_str(&self, other: &str) -> bool {
         self.text == Caseless(other)
@@ -99,6 +116,17 @@ impl fmt::Display for ExtendedLangTag<'_> {
 }
 
 /// An extended language subtag that owns its text.
+///
+/// ```
+/// # fn main() -> Result<(), Box<dyn std::error::Error>> {
+/// use langtag::ExtendedLangTag;
+///
+/// let owned = ExtendedLangTag::new("yue")?.try_to_owned()?;
+/// assert!(owned.as_extended_lang_tag() == ExtendedLangTag::new("YUE")?);
+/// assert_eq!(owned.into_string().as_str(), "yue");
+/// # Ok(())
+/// # }
+/// ```
 #[cfg(feature = "alloc")]
 #[derive(Debug, PartialEq, Eq, PartialOrd, Ord, Hash)]
 pub struct ExtendedLangTagBuf {
@@ -122,8 +150,8 @@ impl ExtendedLangTagBuf {
         })
     }
 
-    /// Borrows the subtag: `as_extended_lang_tag().as_str()` of the owned `YUE` is `"YUE"`. The contract also says that
-    /// owned extended subtags are compared, ordered and hashed without regard to case.
+    /// Borrows the subtag: `as_extended_lang_tag().as_str()` of the owned `YUE` is `"YUE"`. It is proved that owned
+    /// extended subtags are compared, ordered and hashed without regard to case.
     #[inline]
     pub fn as_extended_lang_tag(&self) -> ExtendedLangTag<'_> {
         ExtendedLangTag::from_checked(self.as_str())

@@ -12,6 +12,13 @@ use alloc::string::String;
 use core::fmt;
 
 /// The error for a text that is not a language extension. It hands the text back.
+///
+/// ```
+/// use langtag::LanguageExtension;
+///
+/// let error = LanguageExtension::new("min-").err();
+/// assert_eq!(error.map(|error| error.0), Some("min-"));
+/// ```
 #[derive(Debug)]
 pub struct InvalidLanguageExtension<T>(pub T);
 
@@ -27,6 +34,17 @@ impl<T: fmt::Debug> core::error::Error for InvalidLanguageExtension<T> {}
 /// The extended subtags of a language (RFC 5646 section 2.2.2): one to three, joined by hyphens, as `min-nan`.
 ///
 /// Two of them are equal where their texts differ at most in the case of ASCII letters: `min-nan` and `MIN-NAN` are.
+///
+/// ```
+/// # fn main() -> Result<(), Box<dyn std::error::Error>> {
+/// use langtag::LanguageExtension;
+///
+/// let extension = LanguageExtension::new("min-nan")?;
+/// assert_eq!(extension.as_str(), "min-nan");
+/// assert!(extension == LanguageExtension::new("MIN-NAN")?);
+/// # Ok(())
+/// # }
+/// ```
 #[derive(Clone, Copy, Debug, PartialEq, Eq, PartialOrd, Ord, Hash)]
 pub struct LanguageExtension<'a> {
     text: Caseless<&'a str>,
@@ -69,8 +87,8 @@ impl<'a> LanguageExtension<'a> {
     }
 
     /// Returns whether another text, of any form, is equal but for the case of ASCII letters:
-    /// `LanguageExtension::new("min-nan")?.eq_str("MIN-NAN")` is true. The contract also says that language extensions
-    /// are compared, ordered and hashed so, and that a clone is the value itself.
+    /// `LanguageExtension::new("min-nan")?.eq_str("MIN-NAN")` is true. It is proved that language extensions are
+    /// compared, ordered and hashed so, and that a clone is the value itself.
     #[inline]
     pub fn eq_str(&self, other: &str) -> bool {
         self.text == Caseless(other)
@@ -112,6 +130,17 @@ impl fmt::Display for LanguageExtension<'_> {
 }
 
 /// A language extension that owns its text.
+///
+/// ```
+/// # fn main() -> Result<(), Box<dyn std::error::Error>> {
+/// use langtag::LanguageExtension;
+///
+/// let owned = LanguageExtension::new("min-nan")?.try_to_owned()?;
+/// assert!(owned.as_language_extension() == LanguageExtension::new("MIN-NAN")?);
+/// assert_eq!(owned.into_string().as_str(), "min-nan");
+/// # Ok(())
+/// # }
+/// ```
 #[cfg(feature = "alloc")]
 #[derive(Debug, PartialEq, Eq, PartialOrd, Ord, Hash)]
 pub struct LanguageExtensionBuf {
@@ -136,8 +165,8 @@ impl LanguageExtensionBuf {
         })
     }
 
-    /// Borrows the language extension: `as_language_extension().as_str()` of the owned `MIN-NAN` is `"MIN-NAN"`. The
-    /// contract also says that owned language extensions are compared, ordered and hashed without regard to case.
+    /// Borrows the language extension: `as_language_extension().as_str()` of the owned `MIN-NAN` is `"MIN-NAN"`. It is
+    /// proved that owned language extensions are compared, ordered and hashed without regard to case.
     #[inline]
     pub fn as_language_extension(&self) -> LanguageExtension<'_> {
         LanguageExtension::from_checked(self.as_str())

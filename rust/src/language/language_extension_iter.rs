@@ -6,6 +6,18 @@ use crate::language::extended_lang_tag::ExtendedLangTag;
 use crate::scan::Subtags;
 
 /// The extended subtags that are still to come (RFC 5646 section 2.2.2): `min` and `nan` of `min-nan`.
+///
+/// ```
+/// # fn main() -> Result<(), Box<dyn std::error::Error>> {
+/// use langtag::LanguageExtension;
+///
+/// let mut items = LanguageExtension::new("min-nan")?.iter();
+/// assert_eq!(items.next().map(|item| item.as_str()), Some("min"));
+/// assert_eq!(items.next().map(|item| item.as_str()), Some("nan"));
+/// assert_eq!(items.next(), None);
+/// # Ok(())
+/// # }
+/// ```
 #[derive(Debug)]
 pub struct LanguageExtensionIter<'a> {
     rest: Subtags<'a>,

@@ -10,6 +10,13 @@ use alloc::string::String;
 use core::fmt;
 
 /// The error for a text that is not a primary language subtag. It hands the text back.
+///
+/// ```
+/// use langtag::PrimaryLanguage;
+///
+/// let error = PrimaryLanguage::new("f").err();
+/// assert_eq!(error.map(|error| error.0), Some("f"));
+/// ```
 #[derive(Debug)]
 pub struct InvalidPrimaryLanguage<T>(pub T);
 
@@ -25,14 +32,24 @@ impl<T: fmt::Debug> core::error::Error for InvalidPrimaryLanguage<T> {}
 /// A primary language subtag (RFC 5646 section 2.2.1): two to eight letters, as `fr`.
 ///
 /// Two of them are equal where their texts differ at most in the case of ASCII letters: `fr` and `FR` are.
+///
+/// ```
+/// # fn main() -> Result<(), Box<dyn std::error::Error>> {
+/// use langtag::PrimaryLanguage;
+///
+/// let language = PrimaryLanguage::new("fr")?;
+/// assert_eq!(language.as_str(), "fr");
+/// assert!(language == PrimaryLanguage::new("FR")?);
+/// # Ok(())
+/// # }
+/// ```
 #[derive(Clone, Copy, Debug, PartialEq, Eq, PartialOrd, Ord, Hash)]
 pub struct PrimaryLanguage<'a> {
     text: Caseless<&'a str>,
 }
 
 impl<'a> PrimaryLanguage<'a> {
-    /// Parses a text as a primary language subtag: `PrimaryLanguage::new("fr")` is Ok. In a proof this computes for a
-    /// literal (`by_number`).
+    /// Parses a text as a primary language subtag: `PrimaryLanguage::new("fr")` is Ok.
     ///
     /// # Errors
     ///
@@ -68,8 +85,8 @@ impl<'a> PrimaryLanguage<'a> {
     }
 
     /// Returns whether another text, of any form, is equal but for the case of ASCII letters:
-    /// `PrimaryLanguage::new("fr")?.eq_str("FR")` is true. The contract also says that primary languages are compared,
-    /// ordered and hashed so, and that a clone is the value itself.
+    /// `PrimaryLanguage::new("fr")?.eq_str("FR")` is true. It is proved that primary languages are compared, ordered
+    /// and hashed so, and that a clone is the value itself.
     #[inline]
     pub fn eq_str(&self, other: &str) -> bool {
         self.text == Caseless(other)
@@ -98,6 +115,17 @@ impl fmt::Display for PrimaryLanguage<'_> {
 }
 
 /// A primary language subtag that owns its text.
+///
+/// ```
+/// # fn main() -> Result<(), Box<dyn std::error::Error>> {
+/// use langtag::PrimaryLanguage;
+///
+/// let owned = PrimaryLanguage::new("fr")?.try_to_owned()?;
+/// assert!(owned.as_primary_language() == PrimaryLanguage::new("FR")?);
+/// assert_eq!(owned.into_string().as_str(), "fr");
+/// # Ok(())
+/// # }
+/// ```
 #[cfg(feature = "alloc")]
 #[derive(Debug, PartialEq, Eq, PartialOrd, Ord, Hash)]
 pub struct PrimaryLanguageBuf {
@@ -121,8 +149,8 @@ impl PrimaryLanguageBuf {
         })
     }
 
-    /// Borrows the subtag: `as_primary_language().as_str()` of the owned `FR` is `"FR"`. The contract also says that
-    /// owned primary languages are compared, ordered and hashed without regard to case.
+    /// Borrows the subtag: `as_primary_language().as_str()` of the owned `FR` is `"FR"`. It is proved that owned
+    /// primary languages are compared, ordered and hashed without regard to case.
     #[inline]
     pub fn as_primary_language(&self) -> PrimaryLanguage<'_> {
         PrimaryLanguage::from_checked(self.as_str())

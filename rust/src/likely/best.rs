@@ -13,6 +13,17 @@ use crate::tag::LangTag;
 
 /// Returns the index of the tag that the reader wants who sent an Accept-Language header, if one of the tags is anything to
 /// them: 2 for `zh-TW,zh;q=0.9,en;q=0.8` and the tags `en`, `zh-Hans` and `zh-Hant`.
+///
+/// ```
+/// # fn main() -> Result<(), Box<dyn std::error::Error>> {
+/// use langtag::LangTag;
+/// use langtag::likely::best_for_header;
+///
+/// let tags = [LangTag::new("en")?, LangTag::new("zh-Hans")?, LangTag::new("zh-Hant")?];
+/// assert_eq!(best_for_header(b"zh-TW,zh;q=0.9,en;q=0.8", &tags), Some(2));
+/// # Ok(())
+/// # }
+/// ```
 #[inline]
 pub fn best_for_header(header: &[u8], tags: &[LangTag<'_>]) -> Option<usize> {
     best_among(header, &Tags(tags))

@@ -8,8 +8,8 @@
 //! use langtag::LangTag;
 //! use langtag::likely::{maximized, minimized};
 //!
-//! maximized(LangTag::new("zh-TW")?)?;      // zh-Hant-TW
-//! minimized(LangTag::new("zh-Hant-TW")?)?; // zh-TW
+//! assert_eq!(maximized(LangTag::new("zh-TW")?)?.as_str(), "zh-Hant-TW");
+//! assert_eq!(minimized(LangTag::new("zh-Hant-TW")?)?.as_str(), "zh-TW");
 //! # Ok(())
 //! # }
 //! ```

@@ -7,6 +7,12 @@ use crate::shim::AllocError;
 use core::fmt;
 
 /// Why there is no tag of a POSIX locale's name.
+///
+/// ```
+/// use langtag::likely::{PosixError, from_posix};
+///
+/// assert!(matches!(from_posix("POSIX"), Err(PosixError::NoTag("POSIX"))));
+/// ```
 #[cfg(feature = "alloc")]
 #[derive(Debug)]
 pub enum PosixError<'a> {

@@ -6,6 +6,18 @@ use crate::matching::{split_wanted, LanguageRange, WantedRange, WeightedRange};
 
 /// Language ranges with their weights, in the order in which a reader names them: those of an Accept-Language header in a slice
 /// of bytes, and those in a slice of [`WeightedRange`] or of [`LanguageRange`]. A value is a walk over them, and takes no memory.
+///
+/// ```
+/// # fn main() -> Result<(), Box<dyn std::error::Error>> {
+/// use langtag::LangTag;
+/// use langtag::likely::best_for_ranges;
+/// use langtag::matching::LanguageRange;
+///
+/// let tags = [LangTag::new("en")?, LangTag::new("nb")?];
+/// assert_eq!(best_for_ranges(&[LanguageRange::new("nn")?], &tags), Some(1));
+/// # Ok(())
+/// # }
+/// ```
 pub trait RangeList<'a>: Copy {
     /// Returns the first range and those that follow it, None where there is none left.
     fn split_range(self) -> Option<(WantedRange<'a>, Self)>;

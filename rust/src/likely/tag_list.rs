@@ -5,6 +5,29 @@
 use crate::tag::LangTag;
 
 /// A list of tags, each at an index. What stands at an index need not be a tag, and is then never chosen.
+///
+/// ```
+/// use langtag::LangTag;
+/// use langtag::likely::{TagList, best_among};
+///
+/// struct Texts(&'static [&'static str]);
+///
+/// impl TagList for Texts {
+///     fn count(&self) -> usize {
+///         self.0.len()
+///     }
+///
+///     fn tag_at(&self, index: usize) -> Option<LangTag<'_>> {
+///         LangTag::new(self.0[index]).ok()
+///     }
+///
+///     fn bytes_at(&self, index: usize) -> &[u8] {
+///         self.0[index].as_bytes()
+///     }
+/// }
+///
+/// assert_eq!(best_among(&b"zh-TW"[..], &Texts(&["en", "zh-Hant"])), Some(1));
+/// ```
 pub trait TagList {
     /// Returns how many there are.
     fn count(&self) -> usize;

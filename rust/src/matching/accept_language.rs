@@ -16,6 +16,17 @@ use core::cmp::Reverse;
 
 /// The ranges that a header accepts, those of the greatest weight first: of `fr;q=0.5, de, *;q=0` they are `de` with the
 /// weight 1000 and `fr` with 500.
+///
+/// ```
+/// # fn main() -> Result<(), Box<dyn std::error::Error>> {
+/// use langtag::matching::AcceptLanguage;
+///
+/// let accepted = AcceptLanguage::new("fr;q=0.5, de, *;q=0")?;
+/// assert_eq!(accepted.ranges().len(), 2);
+/// assert_eq!(accepted.ranges()[0].range.as_str(), "de");
+/// # Ok(())
+/// # }
+/// ```
 #[cfg(feature = "alloc")]
 #[derive(Debug)]
 pub struct AcceptLanguage<'a> {
@@ -56,8 +67,8 @@ impl<'a> AcceptLanguage<'a> {
         Ok(AcceptLanguage { ranges })
     }
 
-    /// Returns the ranges, those of the greatest weight first: `ranges()[0].range.as_str()` is `"de"` for `fr;q=0.5, de`.
-    /// The contract also says when two of them are equal, and that a clone of one is the same.
+    /// Returns the ranges, those of the greatest weight first: `ranges()[0].range.as_str()` is `"de"` for `fr;q=0.5,
+    /// de`. It is proved which of them are equal, and that a clone of one is the same.
     #[inline]
     pub fn ranges(&self) -> &[WeightedRange<'a>] {
         self.ranges.as_slice()

@@ -7,6 +7,12 @@ use crate::shim::AllocError;
 use core::fmt;
 
 /// The part of an element that is bad: of `de-` its language range, of `de;q=2` its weight. Where both are, it is the range.
+///
+/// ```
+/// use langtag::matching::ElementPart;
+///
+/// assert_eq!(format!("{}", ElementPart::Range), "language range");
+/// ```
 #[derive(Debug)]
 pub enum ElementPart {
     /// What stands before the `;`, or the whole element without one, is not a basic language range.
@@ -26,15 +32,25 @@ impl fmt::Display for ElementPart {
 }
 
 /// Why a header was refused: `de, *-CH` is a `BadElement` with the index 1, the offset 3 and [`ElementPart::Range`].
+///
+/// ```
+/// use langtag::matching::{AcceptLanguage, AcceptLanguageError};
+///
+/// let error = AcceptLanguage::new("de, *-CH").err();
+/// assert!(matches!(error, Some(AcceptLanguageError::BadElement { index: 1, offset: 3, .. })));
+/// ```
 #[cfg(feature = "alloc")]
 #[derive(Debug)]
 pub enum AcceptLanguageError<'a> {
-    /// The header; of its first bad element the index, which counts the commas before it, the offset in bytes just after
-    /// the last of these, and the part that is bad.
+    /// The first element that is bad.
     BadElement {
+        /// The header.
         header: &'a str,
+        /// The index of the element: how many commas stand before it.
         index: usize,
+        /// The offset in bytes just after the last of these commas.
         offset: usize,
+        /// The part that is bad.
         part: ElementPart,
     },
     /// Out of memory for the list. The caller has the header still.

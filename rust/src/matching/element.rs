@@ -10,6 +10,13 @@ use crate::matching::weighted_range::WeightedRange;
 use crate::scan::len_before;
 
 /// An element of a header, and where its range stands.
+///
+/// ```
+/// use langtag::matching::element_at;
+///
+/// let element = element_at(b" fr;q=0.5").ok();
+/// assert_eq!(element.map(|element| (element.start, element.weighted.weight)), Some((1, 500)));
+/// ```
 #[derive(Debug)]
 pub struct Element<'a> {
     /// The number of bytes before the range: spaces and tabs.

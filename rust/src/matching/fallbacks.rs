@@ -10,6 +10,18 @@ use crate::tag::segment_start;
 ///
 /// A single letter or digit goes with the subtag after it, and so does `*`: `de-CH-x-a` is followed by `de-CH`, and
 /// `de-*-DE` by `de`.
+///
+/// ```
+/// # fn main() -> Result<(), Box<dyn std::error::Error>> {
+/// use langtag::matching::LanguageRange;
+///
+/// let range = LanguageRange::new("de-CH-x-a")?;
+/// let mut shorter = range.fallbacks();
+/// assert_eq!(shorter.next().map(|range| range.as_str()), Some("de-CH-x-a"));
+/// assert_eq!(shorter.next().map(|range| range.as_str()), Some("de-CH"));
+/// # Ok(())
+/// # }
+/// ```
 #[derive(Clone, Debug)]
 pub struct Fallbacks<'a> {
     rest: Option<LanguageRange<'a>>,

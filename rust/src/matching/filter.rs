@@ -33,6 +33,17 @@ pub fn filter_extended<'a, 't>(
 }
 
 /// The tags that [`filter_basic`] or [`filter_extended`] finds and that are still to come. It takes no memory.
+///
+/// ```
+/// # fn main() -> Result<(), Box<dyn std::error::Error>> {
+/// use langtag::LangTag;
+/// use langtag::matching::{LanguageRange, filter_basic};
+///
+/// let tags = [LangTag::new("en")?, LangTag::new("de-AT")?];
+/// assert_eq!(filter_basic(&[LanguageRange::new("de")?], &tags).count(), 1);
+/// # Ok(())
+/// # }
+/// ```
 #[derive(Clone, Debug)]
 pub struct Filtered<'a, 't> {
     rule: FilterRule,

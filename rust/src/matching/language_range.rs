@@ -15,6 +15,12 @@ use alloc::string::String;
 use core::fmt;
 
 /// The error for a text that is not a language range. It holds the text.
+///
+/// ```
+/// use langtag::matching::LanguageRange;
+///
+/// assert_eq!(LanguageRange::new("de_CH").err().map(|error| error.0), Some("de_CH"));
+/// ```
 #[derive(Debug)]
 pub struct InvalidLanguageRange<T>(pub T);
 
@@ -32,6 +38,18 @@ impl<T: fmt::Debug> core::error::Error for InvalidLanguageRange<T> {}
 /// It is one or more subtags of up to eight letters or digits, the first of letters alone, and in the place of each may
 /// stand `*`. A range need not be a tag: `de-x` and `a-1` are ranges. Two ranges are equal where their texts differ at most
 /// in the case of ASCII letters.
+///
+/// ```
+/// # fn main() -> Result<(), Box<dyn std::error::Error>> {
+/// use langtag::LangTag;
+/// use langtag::matching::LanguageRange;
+///
+/// let range = LanguageRange::new("de-*-DE")?;
+/// assert!(range.matches_extended(&LangTag::new("de-Latn-DE-1996")?));
+/// assert!(!range.matches_basic(&LangTag::new("de-Latn-DE-1996")?));
+/// # Ok(())
+/// # }
+/// ```
 #[derive(Clone, Copy, Debug, PartialEq, Eq, PartialOrd, Ord, Hash)]
 pub struct LanguageRange<'a> {
     text: Caseless<&'a str>,
@@ -66,8 +84,9 @@ impl<'a> LanguageRange<'a> {
         self.text.0
     }
 
-    /// Returns whether any text is equal but for the case of ASCII letters: `LanguageRange::new("de-CH")?.eq_str("DE-ch")`
-    /// is true. The contract also says that ranges compare and hash so, and that a clone is the range itself.
+    /// Returns whether any text is equal but for the case of ASCII letters:
+    /// `LanguageRange::new("de-CH")?.eq_str("DE-ch")` is true. It is proved that ranges compare and hash so, and that a
+    /// clone is the range itself.
     #[inline]
     pub fn eq_str(&self, other: &str) -> bool {
         self.text == Caseless(other)
@@ -125,6 +144,16 @@ impl fmt::Display for LanguageRange<'_> {
 }
 
 /// A language range that owns its text.
+///
+/// ```
+/// # fn main() -> Result<(), Box<dyn std::error::Error>> {
+/// use langtag::matching::LanguageRange;
+///
+/// let owned = LanguageRange::new("de-*")?.try_to_owned()?;
+/// assert!(owned.as_language_range() == LanguageRange::new("DE-*")?);
+/// # Ok(())
+/// # }
+/// ```
 #[cfg(feature = "alloc")]
 #[derive(Debug, PartialEq, Eq, PartialOrd, Ord, Hash)]
 pub struct LanguageRangeBuf {
@@ -148,8 +177,8 @@ impl LanguageRangeBuf {
         })
     }
 
-    /// Borrows the range: `as_language_range().is_basic()` of the owned `de` is true. The contract also says that owned
-    /// ranges compare and hash without regard to case.
+    /// Borrows the range: `as_language_range().is_basic()` of the owned `de` is true. It is proved that owned ranges
+    /// compare and hash without regard to case.
     #[inline]
     pub fn as_language_range(&self) -> LanguageRange<'_> {
         LanguageRange::from_checked(self.as_str())

@@ -14,10 +14,10 @@
 //! assert!(LanguageRange::new("de-DE")?.matches_basic(&LangTag::new("de-de-1996")?));
 //!
 //! let (english, german) = (LangTag::new("en")?, LangTag::new("de")?);
-//! look_up(&[LanguageRange::new("de-CH")?], &[english, german], english); // de
+//! assert_eq!(look_up(&[LanguageRange::new("de-CH")?], &[english, german], english).as_str(), "de");
 //! let accepted = AcceptLanguage::new("en;q=0.5, de-CH")?;
 //! assert_eq!(accepted.ranges()[0].range.as_str(), "de-CH");
-//! accepted.look_up(&[english, german], english);  // de
+//! assert_eq!(accepted.look_up(&[english, german], english).as_str(), "de");
 //! # Ok(())
 //! # }
 //! ```

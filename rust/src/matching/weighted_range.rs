@@ -5,6 +5,16 @@ use crate::matching::language_range::LanguageRange;
 
 /// A language range and its weight: `fr;q=0.25` in a header is the range `fr` with the weight 250.
 /// Two of them are equal where the weights are, and the ranges are equal without regard to case.
+///
+/// ```
+/// # fn main() -> Result<(), Box<dyn std::error::Error>> {
+/// use langtag::matching::AcceptLanguage;
+///
+/// let accepted = AcceptLanguage::new("fr;q=0.5")?;
+/// assert_eq!(accepted.ranges()[0].weight, 500);
+/// # Ok(())
+/// # }
+/// ```
 #[derive(Clone, Copy, Debug, PartialEq, Eq)]
 pub struct WeightedRange<'a> {
     /// The range: one of [`AcceptLanguage::ranges`](crate::matching::AcceptLanguage::ranges) is a basic one, with the case that it has

@@ -10,6 +10,13 @@ use alloc::string::String;
 use core::fmt;
 
 /// The error for a text that is not a region. It hands the text back.
+///
+/// ```
+/// use langtag::Region;
+///
+/// let error = Region::new("fra").err();
+/// assert_eq!(error.map(|error| error.0), Some("fra"));
+/// ```
 #[derive(Debug)]
 pub struct InvalidRegion<T>(pub T);
 
@@ -25,13 +32,24 @@ impl<T: fmt::Debug> core::error::Error for InvalidRegion<T> {}
 /// A region subtag (RFC 5646 section 2.2.4): two letters, as `FR`, or three digits, as `419`.
 ///
 /// Two regions are equal where their texts differ at most in the case of ASCII letters: `fr` and `FR` are.
+///
+/// ```
+/// # fn main() -> Result<(), Box<dyn std::error::Error>> {
+/// use langtag::Region;
+///
+/// let region = Region::new("fr")?;
+/// assert_eq!(region.as_str(), "fr");
+/// assert!(region == Region::new("FR")?);
+/// # Ok(())
+/// # }
+/// ```
 #[derive(Clone, Copy, Debug, PartialEq, Eq, PartialOrd, Ord, Hash)]
 pub struct Region<'a> {
     text: Caseless<&'a str>,
 }
 
 impl<'a> Region<'a> {
-    /// Parses a text as a region: `Region::new("fr")` is Ok. In a proof this computes for a literal (`by_number`).
+    /// Parses a text as a region: `Region::new("fr")` is Ok.
     ///
     /// # Errors
     ///
@@ -67,8 +85,8 @@ impl<'a> Region<'a> {
     }
 
     /// Returns whether another text, of any form, is equal but for the case of ASCII letters:
-    /// `Region::new("fr")?.eq_str("FR")` is true. The contract also says that regions are compared, ordered and hashed
-    /// so, and that a clone is the value itself.
+    /// `Region::new("fr")?.eq_str("FR")` is true. It is proved that regions are compared, ordered and hashed so, and
+    /// that a clone is the value itself.
     #[inline]
     pub fn eq_str(&self, other: &str) -> bool {
         self.text == Caseless(other)
@@ -97,6 +115,17 @@ impl fmt::Display for Region<'_> {
 }
 
 /// A region that owns its text.
+///
+/// ```
+/// # fn main() -> Result<(), Box<dyn std::error::Error>> {
+/// use langtag::Region;
+///
+/// let owned = Region::new("fr")?.try_to_owned()?;
+/// assert!(owned.as_region() == Region::new("FR")?);
+/// assert_eq!(owned.into_string().as_str(), "fr");
+/// # Ok(())
+/// # }
+/// ```
 #[cfg(feature = "alloc")]
 #[derive(Debug, PartialEq, Eq, PartialOrd, Ord, Hash)]
 pub struct RegionBuf {
@@ -120,8 +149,8 @@ impl RegionBuf {
         })
     }
 
-    /// Borrows the region: `as_region().as_str()` of the owned `FR` is `"FR"`. The contract also says that owned regions
-    /// are compared, ordered and hashed without regard to case.
+    /// Borrows the region: `as_region().as_str()` of the owned `FR` is `"FR"`. It is proved that owned regions are
+    /// compared, ordered and hashed without regard to case.
     #[inline]
     pub fn as_region(&self) -> Region<'_> {
         Region::from_checked(self.as_str())

@@ -10,6 +10,13 @@ use alloc::string::String;
 use core::fmt;
 
 /// The error for a text that is not a variant. It hands the text back.
+///
+/// ```
+/// use langtag::Variant;
+///
+/// let error = Variant::new("roz").err();
+/// assert_eq!(error.map(|error| error.0), Some("roz"));
+/// ```
 #[derive(Debug)]
 pub struct InvalidVariant<T>(pub T);
 
@@ -26,13 +33,24 @@ impl<T: fmt::Debug> core::error::Error for InvalidVariant<T> {}
 /// first is a digit, as `1996`.
 ///
 /// Two variants are equal where their texts differ at most in the case of ASCII letters: `rozaj` and `ROZAJ` are.
+///
+/// ```
+/// # fn main() -> Result<(), Box<dyn std::error::Error>> {
+/// use langtag::Variant;
+///
+/// let variant = Variant::new("rozaj")?;
+/// assert_eq!(variant.as_str(), "rozaj");
+/// assert!(variant == Variant::new("ROZAJ")?);
+/// # Ok(())
+/// # }
+/// ```
 #[derive(Clone, Copy, Debug, PartialEq, Eq, PartialOrd, Ord, Hash)]
 pub struct Variant<'a> {
     text: Caseless<&'a str>,
 }
 
 impl<'a> Variant<'a> {
-    /// Parses a text as a variant: `Variant::new("rozaj")` is Ok. In a proof this computes for a literal (`by_number`).
+    /// Parses a text as a variant: `Variant::new("rozaj")` is Ok.
     ///
     /// # Errors
     ///
@@ -68,8 +86,8 @@ impl<'a> Variant<'a> {
     }
 
     /// Returns whether another text, of any form, is equal but for the case of ASCII letters:
-    /// `Variant::new("rozaj")?.eq_str("ROZAJ")` is true. The contract also says that variants are compared, ordered and
-    /// hashed so, and that a clone is the value itself.
+    /// `Variant::new("rozaj")?.eq_str("ROZAJ")` is true. It is proved that variants are compared, ordered and hashed
+    /// so, and that a clone is the value itself.
     #[inline]
     pub fn eq_str(&self, other: &str) -> bool {
         self.text == Caseless(other)
@@ -98,6 +116,17 @@ impl fmt::Display for Variant<'_> {
 }
 
 /// A variant that owns its text.
+///
+/// ```
+/// # fn main() -> Result<(), Box<dyn std::error::Error>> {
+/// use langtag::Variant;
+///
+/// let owned = Variant::new("rozaj")?.try_to_owned()?;
+/// assert!(owned.as_variant() == Variant::new("ROZAJ")?);
+/// assert_eq!(owned.into_string().as_str(), "rozaj");
+/// # Ok(())
+/// # }
+/// ```
 #[cfg(feature = "alloc")]
 #[derive(Debug, PartialEq, Eq, PartialOrd, Ord, Hash)]
 pub struct VariantBuf {
@@ -122,8 +151,8 @@ impl VariantBuf {
         })
     }
 
-    /// Borrows the variant: `as_variant().as_str()` of the owned `ROZAJ` is `"ROZAJ"`. The contract also says that owned
-    /// variants are compared, ordered and hashed without regard to case.
+    /// Borrows the variant: `as_variant().as_str()` of the owned `ROZAJ` is `"ROZAJ"`. It is proved that owned variants
+    /// are compared, ordered and hashed without regard to case.
     #[inline]
     pub fn as_variant(&self) -> Variant<'_> {
         Variant::from_checked(self.as_str())

@@ -12,6 +12,13 @@ use alloc::string::String;
 use core::fmt;
 
 /// The error for a text that no list of variants spells. It hands the text back.
+///
+/// ```
+/// use langtag::Variants;
+///
+/// let error = Variants::new("rozaj-").err();
+/// assert_eq!(error.map(|error| error.0), Some("rozaj-"));
+/// ```
 #[derive(Debug)]
 pub struct InvalidVariants<T>(pub T);
 
@@ -28,6 +35,17 @@ impl<T: fmt::Debug> core::error::Error for InvalidVariants<T> {}
 ///
 /// A variant may stand twice: that makes a tag invalid, and leaves it well formed (section 2.2.9).
 /// Two lists are equal where their texts differ at most in the case of ASCII letters: `rozaj` and `ROZAJ` are.
+///
+/// ```
+/// # fn main() -> Result<(), Box<dyn std::error::Error>> {
+/// use langtag::Variants;
+///
+/// let variants = Variants::new("rozaj-1994")?;
+/// assert_eq!(variants.as_str(), "rozaj-1994");
+/// assert!(variants == Variants::new("ROZAJ-1994")?);
+/// # Ok(())
+/// # }
+/// ```
 #[derive(Clone, Copy, Debug, PartialEq, Eq, PartialOrd, Ord, Hash)]
 pub struct Variants<'a> {
     text: Caseless<&'a str>,
@@ -73,8 +91,8 @@ impl<'a> Variants<'a> {
     }
 
     /// Returns whether another text, of any form, is equal but for the case of ASCII letters:
-    /// `Variants::new("rozaj")?.eq_str("ROZAJ")` is true. The contract also says that lists of variants are compared,
-    /// ordered and hashed so, and that a clone is the value itself.
+    /// `Variants::new("rozaj")?.eq_str("ROZAJ")` is true. It is proved that lists of variants are compared, ordered and
+    /// hashed so, and that a clone is the value itself.
     #[inline]
     pub fn eq_str(&self, other: &str) -> bool {
         self.text == Caseless(other)
@@ -128,6 +146,17 @@ impl fmt::Display for Variants<'_> {
 }
 
 /// Variants that own their text.
+///
+/// ```
+/// # fn main() -> Result<(), Box<dyn std::error::Error>> {
+/// use langtag::Variants;
+///
+/// let owned = Variants::new("rozaj-1994")?.try_to_owned()?;
+/// assert!(owned.as_variants() == Variants::new("ROZAJ-1994")?);
+/// assert_eq!(owned.into_string().as_str(), "rozaj-1994");
+/// # Ok(())
+/// # }
+/// ```
 #[cfg(feature = "alloc")]
 #[derive(Debug, PartialEq, Eq, PartialOrd, Ord, Hash)]
 pub struct VariantsBuf {
@@ -152,8 +181,8 @@ impl VariantsBuf {
         })
     }
 
-    /// Borrows the variants: `as_variants().as_str()` of the owned `ROZAJ` is `"ROZAJ"`. The contract also says that
-    /// owned lists of variants are compared, ordered and hashed without regard to case.
+    /// Borrows the variants: `as_variants().as_str()` of the owned `ROZAJ` is `"ROZAJ"`. It is proved that owned lists
+    /// of variants are compared, ordered and hashed without regard to case.
     #[inline]
     pub fn as_variants(&self) -> Variants<'_> {
         Variants::from_checked(self.as_str())

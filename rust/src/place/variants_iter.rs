@@ -8,6 +8,18 @@ use crate::scan::Subtags;
 
 /// The variants of a tag that are still to come, in the order in which they are written (RFC 5646 section 2.2.5),
 /// from either end: `rozaj` and `1994` of `Variants::new("rozaj-1994")?.iter()`.
+///
+/// ```
+/// # fn main() -> Result<(), Box<dyn std::error::Error>> {
+/// use langtag::Variants;
+///
+/// let mut items = Variants::new("rozaj-1994")?.iter();
+/// assert_eq!(items.next().map(|item| item.as_str()), Some("rozaj"));
+/// assert_eq!(items.next().map(|item| item.as_str()), Some("1994"));
+/// assert_eq!(items.next(), None);
+/// # Ok(())
+/// # }
+/// ```
 #[derive(Debug)]
 pub struct VariantsIter<'a> {
     rest: Subtags<'a>,

@@ -11,6 +11,13 @@ use alloc::string::String;
 use core::fmt;
 
 /// The error for a text that is not a private use part. It hands the text back.
+///
+/// ```
+/// use langtag::PrivateUse;
+///
+/// let error = PrivateUse::new("x").err();
+/// assert_eq!(error.map(|error| error.0), Some("x"));
+/// ```
 #[derive(Debug)]
 pub struct InvalidPrivateUse<T>(pub T);
 
@@ -27,6 +34,17 @@ impl<T: fmt::Debug> core::error::Error for InvalidPrivateUse<T> {}
 /// by hyphens, as `x-twain`. It may stand at the end of a tag, and alone as a tag of its own.
 ///
 /// Two of them are equal where their texts differ at most in the case of ASCII letters: `x-twain` and `X-TWAIN` are.
+///
+/// ```
+/// # fn main() -> Result<(), Box<dyn std::error::Error>> {
+/// use langtag::PrivateUse;
+///
+/// let part = PrivateUse::new("x-twain")?;
+/// assert_eq!(part.as_str(), "x-twain");
+/// assert!(part == PrivateUse::new("X-TWAIN")?);
+/// # Ok(())
+/// # }
+/// ```
 #[derive(Clone, Copy, Debug, PartialEq, Eq, PartialOrd, Ord, Hash)]
 pub struct PrivateUse<'a> {
     text: Caseless<&'a str>,
@@ -69,8 +87,8 @@ impl<'a> PrivateUse<'a> {
     }
 
     /// Returns whether another text, of any form, is equal but for the case of ASCII letters:
-    /// `PrivateUse::new("x-twain")?.eq_str("X-TWAIN")` is true. The contract also says that private use parts are
-    /// compared, ordered and hashed so, and that a clone is the value itself.
+    /// `PrivateUse::new("x-twain")?.eq_str("X-TWAIN")` is true. It is proved that private use parts are compared,
+    /// ordered and hashed so, and that a clone is the value itself.
     #[inline]
     pub fn eq_str(&self, other: &str) -> bool {
         self.text == Caseless(other)
@@ -133,6 +151,17 @@ impl fmt::Display for PrivateUse<'_> {
 }
 
 /// A private use part that owns its text.
+///
+/// ```
+/// # fn main() -> Result<(), Box<dyn std::error::Error>> {
+/// use langtag::PrivateUse;
+///
+/// let owned = PrivateUse::new("x-twain")?.try_to_owned()?;
+/// assert!(owned.as_private_use() == PrivateUse::new("X-TWAIN")?);
+/// assert_eq!(owned.into_string().as_str(), "x-twain");
+/// # Ok(())
+/// # }
+/// ```
 #[cfg(feature = "alloc")]
 #[derive(Debug, PartialEq, Eq, PartialOrd, Ord, Hash)]
 pub struct PrivateUseBuf {
@@ -157,8 +186,8 @@ impl PrivateUseBuf {
         })
     }
 
-    /// Borrows the private use part: `as_private_use().as_str()` of the owned `X-TWAIN` is `"X-TWAIN"`. The contract also
-    /// says that owned private use parts are compared, ordered and hashed without regard to case.
+    /// Borrows the private use part: `as_private_use().as_str()` of the owned `X-TWAIN` is `"X-TWAIN"`. It is proved
+    /// that owned private use parts are compared, ordered and hashed without regard to case.
     #[inline]
     pub fn as_private_use(&self) -> PrivateUse<'_> {
         PrivateUse::from_checked(self.as_str())

@@ -6,6 +6,18 @@ use crate::private::private_use_subtag::PrivateUseSubtag;
 use crate::scan::Subtags;
 
 /// The private use subtags that are still to come (RFC 5646 section 2.2.7): `a` and `b` of `x-a-b`.
+///
+/// ```
+/// # fn main() -> Result<(), Box<dyn std::error::Error>> {
+/// use langtag::PrivateUse;
+///
+/// let mut items = PrivateUse::new("x-a-b")?.iter();
+/// assert_eq!(items.next().map(|item| item.as_str()), Some("a"));
+/// assert_eq!(items.next().map(|item| item.as_str()), Some("b"));
+/// assert_eq!(items.next(), None);
+/// # Ok(())
+/// # }
+/// ```
 #[derive(Debug)]
 pub struct PrivateUseIter<'a> {
     rest: Subtags<'a>,

@@ -10,6 +10,13 @@ use alloc::string::String;
 use core::fmt;
 
 /// The error for a text that is not a private use subtag. It hands the text back.
+///
+/// ```
+/// use langtag::PrivateUseSubtag;
+///
+/// let error = PrivateUseSubtag::new("").err();
+/// assert_eq!(error.map(|error| error.0), Some(""));
+/// ```
 #[derive(Debug)]
 pub struct InvalidPrivateUseSubtag<T>(pub T);
 
@@ -25,14 +32,24 @@ impl<T: fmt::Debug> core::error::Error for InvalidPrivateUseSubtag<T> {}
 /// A private use subtag (RFC 5646 section 2.2.7): one to eight letters and digits, as `twain` in `en-x-twain`.
 ///
 /// Two of them are equal where their texts differ at most in the case of ASCII letters: `twain` and `TWAIN` are.
+///
+/// ```
+/// # fn main() -> Result<(), Box<dyn std::error::Error>> {
+/// use langtag::PrivateUseSubtag;
+///
+/// let subtag = PrivateUseSubtag::new("twain")?;
+/// assert_eq!(subtag.as_str(), "twain");
+/// assert!(subtag == PrivateUseSubtag::new("TWAIN")?);
+/// # Ok(())
+/// # }
+/// ```
 #[derive(Clone, Copy, Debug, PartialEq, Eq, PartialOrd, Ord, Hash)]
 pub struct PrivateUseSubtag<'a> {
     text: Caseless<&'a str>,
 }
 
 impl<'a> PrivateUseSubtag<'a> {
-    /// Parses a text as a private use subtag: `PrivateUseSubtag::new("twain")` is Ok. In a proof this computes for a
-    /// literal (`by_number`).
+    /// Parses a text as a private use subtag: `PrivateUseSubtag::new("twain")` is Ok.
     ///
     /// # Errors
     ///
@@ -68,8 +85,8 @@ impl<'a> PrivateUseSubtag<'a> {
     }
 
     /// Returns whether another text, of any form, is equal but for the case of ASCII letters:
-    /// `PrivateUseSubtag::new("twain")?.eq_str("TWAIN")` is true. The contract also says that private use subtags are
-    /// compared, ordered and hashed so, and that a clone is the value itself.
+    /// `PrivateUseSubtag::new("twain")?.eq_str("TWAIN")` is true. It is proved that private use subtags are compared,
+    /// ordered and hashed so, and that a clone is the value itself.
     #[inline]
     pub fn eq_str(&self, other: &str) -> bool {
         self.text == Caseless(other)
@@ -99,6 +116,17 @@ impl fmt::Display for PrivateUseSubtag<'_> {
 }
 
 /// A private use subtag that owns its text.
+///
+/// ```
+/// # fn main() -> Result<(), Box<dyn std::error::Error>> {
+/// use langtag::PrivateUseSubtag;
+///
+/// let owned = PrivateUseSubtag::new("twain")?.try_to_owned()?;
+/// assert!(owned.as_private_use_subtag() == PrivateUseSubtag::new("TWAIN")?);
+/// assert_eq!(owned.into_string().as_str(), "twain");
+/// # Ok(())
+/// # }
+/// ```
 #[cfg(feature = "alloc")]
 #[derive(Debug, PartialEq, Eq, PartialOrd, Ord, Hash)]
 pub struct PrivateUseSubtagBuf {
@@ -122,8 +150,8 @@ impl PrivateUseSubtagBuf {
         })
     }
 
-    /// Borrows the subtag: `as_private_use_subtag().as_str()` of the owned `TWAIN` is `"TWAIN"`. The contract also says
-    /// that owned private use subtags are compared, ordered and hashed without regard to case.
+    /// Borrows the subtag: `as_private_use_subtag().as_str()` of the owned `TWAIN` is `"TWAIN"`. It is proved that
+    /// owned private use subtags are compared, ordered and hashed without regard to case.
     #[inline]
     pub fn as_private_use_subtag(&self) -> PrivateUseSubtag<'_> {
         PrivateUseSubtag::from_checked(self.as_str())

@@ -36,6 +36,17 @@ const LONGEST_PREFERRED: usize = 14;
 /// # Errors
 ///
 /// Out of memory.
+///
+/// ```
+/// # fn main() -> Result<(), Box<dyn std::error::Error>> {
+/// use langtag::LangTag;
+/// use langtag::registry::canonical;
+///
+/// assert_eq!(canonical(LangTag::new("iw-BU")?)?.as_str(), "he-MM");
+/// assert_eq!(canonical(LangTag::new("zh-yue")?)?.as_str(), "yue");
+/// # Ok(())
+/// # }
+/// ```
 #[cfg(feature = "alloc")]
 pub fn canonical(tag: LangTag<'_>) -> Result<LangTagBuf, AllocError> {
     let Ok(text) = String::from_utf8(canonical_bytes(tag)?) else {

@@ -12,6 +12,17 @@ use core::fmt;
 ///
 /// A subtag is a slice of the tag, with its case. Two values are equal where they are of one kind and their subtags
 /// are equal.
+///
+/// ```
+/// # fn main() -> Result<(), Box<dyn std::error::Error>> {
+/// use langtag::LangTag;
+/// use langtag::registry::{InvalidSubtag, validate};
+///
+/// let fault = validate(LangTag::new("fr-FQ")?).err();
+/// assert!(matches!(fault, Some(InvalidSubtag::Region(region)) if region.as_str() == "FQ"));
+/// # Ok(())
+/// # }
+/// ```
 #[derive(Clone, Copy, Debug, PartialEq, Eq, Hash)]
 pub enum InvalidSubtag<'a> {
     /// A language that is not registered: `qt` of `qt-FR`.

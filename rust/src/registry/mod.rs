@@ -12,15 +12,15 @@
 //!     InvalidSubtag, canonical, is_registered_language, misplaced_variant, preferred_language, validate,
 //! };
 //!
-//! validate(LangTag::new("de-CH-1996")?)?; // valid
-//! match validate(LangTag::new("qt-FR")?) {
-//!     Err(InvalidSubtag::Language(language)) => language.as_str(), // "qt"
-//!     ..
-//! }
+//! assert!(validate(LangTag::new("de-CH-1996")?).is_ok());
+//! let fault = validate(LangTag::new("qt-FR")?).err();
+//! assert!(matches!(fault, Some(InvalidSubtag::Language(language)) if language.as_str() == "qt"));
+//!
 //! assert!(is_registered_language(PrimaryLanguage::new("fr")?));
-//! assert_eq!(preferred_language(PrimaryLanguage::new("iw")?), Some(he));
-//! canonical(LangTag::new("iw-BU")?)?;       // he-MM
-//! assert_eq!(misplaced_variant(NormalLangTag::new("fr-nedis")?), Some(nedis)); // it goes with `sl`
+//! assert_eq!(preferred_language(PrimaryLanguage::new("iw")?).map(|language| language.as_str()), Some("he"));
+//! assert_eq!(canonical(LangTag::new("iw-BU")?)?.as_str(), "he-MM");
+//! let misplaced = misplaced_variant(NormalLangTag::new("fr-nedis")?);
+//! assert_eq!(misplaced.map(|variant| variant.as_str()), Some("nedis")); // it goes with `sl`
 //! # Ok(())
 //! # }
 //! ```
@@ -57,7 +57,8 @@ pub use deprecated::{
 pub use extlang_forms::extlang_form;
 pub use invalid_subtag::InvalidSubtag;
 pub use language_fields::{macrolanguage, preferred_language, suppress_script};
-pub use languages::{is_registered_language, letter_number};
+pub use languages::is_registered_language;
+pub(crate) use languages::letter_number;
 pub use misplaced::{misplaced_extlang, misplaced_variant};
 pub use preferred::{preferred_region, preferred_tag, preferred_variant};
 pub use prefixes::extlang_prefix;

@@ -11,14 +11,25 @@ use crate::registry::subtags::{
 };
 use crate::tag::{is_among_first, LangTag, NormalLangTag};
 
-/// Returns whether a tag is valid by the registry (RFC 5646 section 2.2.9): well-formed, and either grandfathered, or with
-/// a registered language, script, region and variants, at most one extended language, which is registered too, and no
-/// variant or singleton twice. `fr-FR`, the grandfathered `zh-min` and `x-qt` are Ok. Whether a variant stands after one of
-/// its prefixes is not asked. The contract also says when two faults are equal, and that a clone of one is the same.
+/// Returns whether a tag is valid by the registry (RFC 5646 section 2.2.9): well-formed, and either grandfathered, or
+/// with a registered language, script, region and variants, at most one extended language, which is registered too, and
+/// no variant or singleton twice. `fr-FR`, the grandfathered `zh-min` and `x-qt` are Ok. Whether a variant stands after
+/// one of its prefixes is not asked. It is proved which faults are equal, and that a clone of one is the same.
 ///
 /// # Errors
 ///
 /// The first invalid subtag by its place in the tag: the language `qt` of `qt-FQ`.
+///
+/// ```
+/// # fn main() -> Result<(), Box<dyn std::error::Error>> {
+/// use langtag::LangTag;
+/// use langtag::registry::validate;
+///
+/// assert!(validate(LangTag::new("de-CH-1996")?).is_ok());
+/// assert!(validate(LangTag::new("qt-FQ")?).is_err());
+/// # Ok(())
+/// # }
+/// ```
 #[inline]
 pub fn validate<'a>(tag: LangTag<'a>) -> Result<(), InvalidSubtag<'a>> {
     match fault_at(tag) {

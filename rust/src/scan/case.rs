@@ -49,8 +49,8 @@ pub fn case_insensitive_hash<H: Hasher>(bytes: &[u8], hasher: &mut H) {
 /// Returns the folded bytes (RFC 5646 section 2.1.1) of a text of at most eight as the digits of one number, in base 256:
 /// `folded_number(b"FR")` is 26,226, which is 256 times `b'f'` and `b'r'`.
 ///
-/// The contract also says that of two texts of letters and digits, as subtags are, the numbers are equal where the texts are
-/// but for the case of letters.
+/// It is proved that of two texts of letters and digits, as subtags are, the numbers are equal where the texts are but
+/// for the case of letters.
 #[inline]
 pub fn folded_number(bytes: &[u8]) -> u64 {
     let mut number = 0;

@@ -16,7 +16,7 @@ use core::hash::{Hash, Hasher};
 pub struct Caseless<T>(pub T);
 
 impl<T: AsStr> Caseless<T> {
-    /// The bytes of the text. The contract also says that a clone of a lent text is the text itself.
+    /// The bytes of the text. It is proved that a clone of a lent text is the text itself.
     #[inline]
     fn as_bytes(&self) -> &[u8] {
         self.0.as_str().as_bytes()

@@ -9,6 +9,13 @@ use crate::scan::stage::Stage;
 ///
 /// The language begins at 0. Any other part that is there begins one past the end of the part before, after a
 /// hyphen. In `en-Latn-x-a` the ends are 2, 7, 7, 7, 7 and 11, in the order of the fields.
+///
+/// ```
+/// use langtag::{Metered, recognise};
+///
+/// let ends = recognise(&mut Metered::new("fr-abc-bz-x-a")).and_then(|found| found.ends());
+/// assert_eq!(ends.map(|ends| (ends.language, ends.region, ends.whole)), Some((6, 9, 13)));
+/// ```
 #[derive(Clone, Copy, Debug, PartialEq, Eq)]
 pub struct Ends {
     /// The end of the primary language subtag and its extended subtags: 6 in `zh-min-Latn`.

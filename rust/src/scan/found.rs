@@ -10,6 +10,13 @@ use crate::scan::finding::Finding;
 ///
 /// `recognise(&mut Metered::new("x-a"))` is Some of one whose `is_private_use()` is true. It holds no text: a type that keeps
 /// both, as the tag types do, has to know that they belong together.
+///
+/// ```
+/// use langtag::{Metered, recognise};
+///
+/// let found = recognise(&mut Metered::new("x-a"));
+/// assert!(found.is_some_and(|found| found.is_private_use()));
+/// ```
 #[derive(Clone, Copy)]
 pub struct Found {
     pub(crate) finding: Finding,
@@ -41,8 +48,7 @@ impl Found {
     }
 
     /// Returns the ends of the parts of a normal tag (section 2.1): of `fr-FR`, language 2 and all others 5. It is None
-    /// of `x-a`. The contract also says that there always is a clone of ends, and of a `Found`, that it is the value
-    /// itself, and what `==` of ends is.
+    /// of `x-a`. It is proved that a clone of ends, and of a `Found`, is the value itself.
     #[inline]
     pub fn ends(&self) -> Option<Ends> {
         match self.finding {

@@ -6,6 +6,14 @@ use crate::scan::source::ByteSource;
 
 /// The bytes of a text, or any others, with a count of the reads, to show how much of them is read to recognise a tag (RFC
 /// 5646 section 2.1). There is no other way to them.
+///
+/// ```
+/// use langtag::{ByteSource, Metered, recognise};
+///
+/// let mut source = Metered::new("i-notexist");
+/// assert!(recognise(&mut source).is_none());
+/// assert_eq!(source.reads(), 4);
+/// ```
 pub struct Metered<'a> {
     bytes: &'a [u8],
     /// What is read after the bytes: two more at most.

@@ -10,10 +10,12 @@ use crate::scan::source::ByteSource;
 /// Decides whether the bytes of a source are a tag (RFC 5646 section 2.1), and of which kind. None says that they
 /// are none.
 ///
-/// It asks for the bytes in order, each once, up to the first one after which no tag can follow, and takes no
-/// memory: `recognise(&mut Metered::new("i-notexist"))` is None after four reads. Its contract also has the laws that
-/// make its answer the only one, and says which texts begin a tag.
+/// It asks for the bytes in order, each once, up to the first one after which no tag can follow, and takes no memory:
+/// `recognise(&mut Metered::new("i-notexist"))` is None after four reads. It is proved that no other answer would be
+/// right.
 #[inline(always)]
+///
+/// A source that counts wrongly or that changes its bytes gets a wrong answer or a panic, and nothing worse.
 pub fn recognise<S: ByteSource>(source: &mut S) -> Option<Found> {
     read_tag(source)
 }
@@ -60,10 +62,12 @@ fn read_irregular<S: ByteSource>(source: &mut S, first: u8) -> Option<Found> {
     candidates.found()
 }
 
-/// Decides whether the bytes of a source are a normal tag (rule `langtag` of RFC 5646 section 2.1), as
-/// [`recognise`] does. Its contract also has the law that a normal tag has one record of its parts.
+/// Decides whether the bytes of a source are a normal tag (rule `langtag` of RFC 5646 section 2.1), as [`recognise`]
+/// does. It is proved that a normal tag can be divided into its parts in one way only.
 ///
 /// `recognise_normal(&mut Metered::new("zh-min"))` is Some, and that of `x-a` and of `i-lux` is None.
+///
+/// A source that counts wrongly or that changes its bytes gets a wrong answer or a panic, and nothing worse.
 #[inline]
 pub fn recognise_normal<S: ByteSource>(source: &mut S) -> Option<Found> {
     recognise(source).filter(|found| found.is_normal())

@@ -2,10 +2,18 @@
 
 //! Where a recogniser reads its bytes from, one by one, with a count of the reads.
 
-/// A list of bytes that are read one at a time, by index. It counts the reads and how far they reached, so that a
-/// contract can say that no byte too many was read.
+/// A list of bytes that are read one at a time, by index. It counts the reads and how far they reached, so that one can
+/// prove that no byte too many was read.
 ///
 /// Indices are counted in bytes from 0. A source may hold its bytes, or compute them.
+///
+/// ```
+/// use langtag::{ByteSource, Metered};
+///
+/// let mut source = Metered::new("fr-FR");
+/// assert_eq!(source.byte(1), b'r');
+/// assert_eq!((source.len(), source.reads(), source.reach()), (5, 1, 2));
+/// ```
 pub trait ByteSource {
     /// How many bytes there are: 5 of `Metered::new("fr-FR")`.
     fn len(&self) -> usize;
@@ -17,5 +25,7 @@ pub trait ByteSource {
     fn reach(&self) -> usize;
 
     /// Reads the byte at an index: `b'r'` at 1 in `fr-FR`.
+    ///
+    /// Panics if `index` is not less than `len()`.
     fn byte(&mut self, index: usize) -> u8;
 }

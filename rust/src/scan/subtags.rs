@@ -8,6 +8,17 @@ use crate::scan::segment::{segment_end, segment_start};
 ///
 /// Beside a hyphen at an end of the text, and between two hyphens in a row, stands an empty subtag, which is returned
 /// like any other: `a--b-` has the subtags `a`, the empty one, `b` and the empty one again.
+///
+/// ```
+/// # fn main() -> Result<(), Box<dyn std::error::Error>> {
+/// use langtag::LangTag;
+///
+/// let mut subtags = LangTag::new("zh-Hant-TW")?.subtags();
+/// assert_eq!(subtags.next(), Some("zh"));
+/// assert_eq!(subtags.next_back(), Some("TW"));
+/// # Ok(())
+/// # }
+/// ```
 #[derive(Debug)]
 pub struct Subtags<'a> {
     rest: Option<&'a str>,

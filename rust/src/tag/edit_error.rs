@@ -7,6 +7,16 @@ use crate::shim::AllocError;
 use core::fmt;
 
 /// Why a part was not put into a tag, or taken out of it. The tag is as it was.
+///
+/// ```
+/// # fn main() -> Result<(), Box<dyn std::error::Error>> {
+/// use langtag::{EditError, LangTag};
+///
+/// let mut tag = LangTag::new("x-a")?.try_to_owned()?;
+/// assert_eq!(tag.set_script(None), Err(EditError::NotNormal));
+/// # Ok(())
+/// # }
+/// ```
 #[cfg(feature = "alloc")]
 #[derive(Clone, Copy, Debug, PartialEq, Eq)]
 pub enum EditError {

@@ -26,6 +26,17 @@ use alloc::string::String;
 use core::fmt;
 
 /// A tag that owns its text. It keeps what was found of it, as [`LangTag`] does, and lends both.
+///
+/// ```
+/// # fn main() -> Result<(), Box<dyn std::error::Error>> {
+/// use langtag::LangTag;
+///
+/// let owned = LangTag::new("ZH-hant")?.try_to_owned()?;
+/// assert!(owned.as_lang_tag() == LangTag::new("zh-Hant")?);
+/// assert_eq!(owned.into_string().as_str(), "ZH-hant");
+/// # Ok(())
+/// # }
+/// ```
 #[cfg(feature = "alloc")]
 pub struct LangTagBuf {
     text: Caseless<String>,
@@ -62,7 +73,7 @@ impl LangTagBuf {
     /// Borrows the tag, with what was found of it, so that nothing is looked at again:
     /// `owned.as_lang_tag().kind()` is `Kind::PrivateUse` of `x-a`.
     ///
-    /// The contract also says that owned tags are compared, ordered and hashed without regard to case.
+    /// It is proved that owned tags are compared, ordered and hashed without regard to case.
     #[inline]
     pub fn as_lang_tag(&self) -> LangTag<'_> {
         LangTag::with_found(self.as_str(), self.found)
@@ -113,6 +124,17 @@ impl LangTagBuf {
     /// # Errors
     ///
     /// The tag is not a normal one, as `x-a`, or memory was refused. The tag is as it was.
+    ///
+    /// ```
+    /// # fn main() -> Result<(), Box<dyn std::error::Error>> {
+    /// use langtag::{LangTag, Language};
+    ///
+    /// let mut tag = LangTag::new("sl-IT")?.try_to_owned()?;
+    /// tag.set_language(Language::new("zh-yue")?)?;
+    /// assert_eq!(tag.as_str(), "zh-yue-IT");
+    /// # Ok(())
+    /// # }
+    /// ```
     #[inline]
     pub fn set_language(&mut self, language: Language<'_>) -> Result<(), EditError> {
         self.put(Part::Language(language))
@@ -124,6 +146,17 @@ impl LangTagBuf {
     /// # Errors
     ///
     /// The tag is not a normal one, as `x-a`, or memory was refused. The tag is as it was.
+    ///
+    /// ```
+    /// # fn main() -> Result<(), Box<dyn std::error::Error>> {
+    /// use langtag::{LangTag, Script};
+    ///
+    /// let mut tag = LangTag::new("sl-IT")?.try_to_owned()?;
+    /// tag.set_script(Some(Script::new("Latn")?))?;
+    /// assert_eq!(tag.as_str(), "sl-Latn-IT");
+    /// # Ok(())
+    /// # }
+    /// ```
     #[inline]
     pub fn set_script(&mut self, script: Option<Script<'_>>) -> Result<(), EditError> {
         self.put(Part::Script(script))
@@ -135,6 +168,17 @@ impl LangTagBuf {
     /// # Errors
     ///
     /// The tag is not a normal one, as `x-a`, or memory was refused. The tag is as it was.
+    ///
+    /// ```
+    /// # fn main() -> Result<(), Box<dyn std::error::Error>> {
+    /// use langtag::{LangTag, Region};
+    ///
+    /// let mut tag = LangTag::new("de-DE-1996")?.try_to_owned()?;
+    /// tag.set_region(Some(Region::new("AT")?))?;
+    /// assert_eq!(tag.as_str(), "de-AT-1996");
+    /// # Ok(())
+    /// # }
+    /// ```
     #[inline]
     pub fn set_region(&mut self, region: Option<Region<'_>>) -> Result<(), EditError> {
         self.put(Part::Region(region))
@@ -146,6 +190,17 @@ impl LangTagBuf {
     /// # Errors
     ///
     /// The tag is not a normal one, as `x-a`, or memory was refused. The tag is as it was.
+    ///
+    /// ```
+    /// # fn main() -> Result<(), Box<dyn std::error::Error>> {
+    /// use langtag::{LangTag, Variants};
+    ///
+    /// let mut tag = LangTag::new("de-AT-1901")?.try_to_owned()?;
+    /// tag.set_variants(Variants::new("1996")?)?;
+    /// assert_eq!(tag.as_str(), "de-AT-1996");
+    /// # Ok(())
+    /// # }
+    /// ```
     #[inline]
     pub fn set_variants(&mut self, variants: Variants<'_>) -> Result<(), EditError> {
         self.put(Part::Variants(variants))
@@ -157,6 +212,17 @@ impl LangTagBuf {
     /// # Errors
     ///
     /// The tag is not a normal one, as `x-a`, or memory was refused. The tag is as it was.
+    ///
+    /// ```
+    /// # fn main() -> Result<(), Box<dyn std::error::Error>> {
+    /// use langtag::{Extensions, LangTag};
+    ///
+    /// let mut tag = LangTag::new("de-x-mine")?.try_to_owned()?;
+    /// tag.set_extensions(Extensions::new("u-co-phonebk")?)?;
+    /// assert_eq!(tag.as_str(), "de-u-co-phonebk-x-mine");
+    /// # Ok(())
+    /// # }
+    /// ```
     #[inline]
     pub fn set_extensions(&mut self, extensions: Extensions<'_>) -> Result<(), EditError> {
         self.put(Part::Extensions(extensions))
@@ -168,6 +234,17 @@ impl LangTagBuf {
     /// # Errors
     ///
     /// The tag is not a normal one, as `x-a`, or memory was refused. The tag is as it was.
+    ///
+    /// ```
+    /// # fn main() -> Result<(), Box<dyn std::error::Error>> {
+    /// use langtag::{LangTag, PrivateUse};
+    ///
+    /// let mut tag = LangTag::new("de-x-a")?.try_to_owned()?;
+    /// tag.set_private_use(Some(PrivateUse::new("x-mine")?))?;
+    /// assert_eq!(tag.as_str(), "de-x-mine");
+    /// # Ok(())
+    /// # }
+    /// ```
     #[inline]
     pub fn set_private_use(
         &mut self,

@@ -19,6 +19,13 @@ use crate::tag::repeats::{first_repeated_singleton, first_repeated_variant};
 use core::fmt;
 
 /// The error for a text that is not a normal tag. It hands the text back.
+///
+/// ```
+/// use langtag::NormalLangTag;
+///
+/// let error = NormalLangTag::new("x-a").err();
+/// assert_eq!(error.map(|error| error.0), Some("x-a"));
+/// ```
 #[derive(Debug)]
 pub struct InvalidNormalLangTag<T>(pub T);
 
@@ -36,6 +43,18 @@ impl<T: fmt::Debug> core::error::Error for InvalidNormalLangTag<T> {}
 ///
 /// It keeps where its parts end, so that each is cut from the text. Two tags are equal where their texts differ at most
 /// in the case of ASCII letters.
+///
+/// ```
+/// # fn main() -> Result<(), Box<dyn std::error::Error>> {
+/// use langtag::NormalLangTag;
+///
+/// let tag = NormalLangTag::new("sl-Latn-IT-rozaj-u-co-phonebk-x-mine")?;
+/// assert_eq!(tag.language().as_str(), "sl");
+/// assert_eq!(tag.extensions().as_str(), "u-co-phonebk");
+/// assert_eq!(tag.private_use().map(|part| part.as_str()), Some("x-mine"));
+/// # Ok(())
+/// # }
+/// ```
 #[derive(Clone, Copy)]
 pub struct NormalLangTag<'a> {
     text: Caseless<&'a str>,
@@ -47,12 +66,19 @@ by_text!(NormalLangTag<'_>);
 impl<'a> NormalLangTag<'a> {
     /// Parses a text as a normal tag: `NormalLangTag::new("sl-IT-rozaj")` is Ok.
     ///
-    /// Its contract also has laws: a normal tag has one record of its parts; the parts that are there, joined by hyphens, are
-    /// the whole text; and each stands between the end of the part before and its own.
+    /// It is proved that a normal tag can be divided into its parts in one way only, and that the parts that are there,
+    /// joined by hyphens, are the whole text.
     ///
     /// # Errors
     ///
     /// A text that is not a normal tag comes back: `sl_IT`, and also `x-a`, which is a tag of another kind.
+    ///
+    /// ```
+    /// use langtag::NormalLangTag;
+    ///
+    /// assert!(NormalLangTag::new("sl-IT-rozaj").is_ok());
+    /// assert_eq!(NormalLangTag::new("x-a").err().map(|error| error.0), Some("x-a"));
+    /// ```
     #[inline]
     pub fn new(text: &'a str) -> Result<NormalLangTag<'a>, InvalidNormalLangTag<&'a str>> {
         let Some(ends) = normal_ends(text) else {
@@ -81,18 +107,48 @@ impl<'a> NormalLangTag<'a> {
     }
 
     /// Returns the text, with its case: `SL-it` of `SL-it`.
+    ///
+    /// ```
+    /// # fn main() -> Result<(), Box<dyn std::error::Error>> {
+    /// use langtag::NormalLangTag;
+    ///
+    /// assert_eq!(NormalLangTag::new("SL-it")?.as_str(), "SL-it");
+    /// # Ok(())
+    /// # }
+    /// ```
     #[inline]
     pub fn as_str(&self) -> &'a str {
         self.text.0
     }
 
     /// Returns the bytes of the text: `b"sl-IT"` of `sl-IT`.
+    ///
+    /// ```
+    /// # fn main() -> Result<(), Box<dyn std::error::Error>> {
+    /// use langtag::NormalLangTag;
+    ///
+    /// assert_eq!(NormalLangTag::new("sl-IT")?.as_bytes(), b"sl-IT");
+    /// # Ok(())
+    /// # }
+    /// ```
     #[inline]
     pub fn as_bytes(&self) -> &'a [u8] {
         self.as_str().as_bytes()
     }
 
     /// Returns all subtags of the tag, in order and from both ends: `sl`, `Latn` and `IT` of `sl-Latn-IT`.
+    ///
+    /// ```
+    /// # fn main() -> Result<(), Box<dyn std::error::Error>> {
+    /// use langtag::NormalLangTag;
+    ///
+    /// let tag = NormalLangTag::new("sl-Latn-IT")?;
+    /// let mut subtags = tag.subtags();
+    /// assert_eq!(subtags.next(), Some("sl"));
+    /// assert_eq!(subtags.next_back(), Some("IT"));
+    /// # Ok(())
+    /// # }
+    /// ```
     #[inline]
     pub fn subtags(&self) -> Subtags<'a> {
         Subtags::new(self.as_str())
@@ -101,8 +157,17 @@ impl<'a> NormalLangTag<'a> {
     /// Returns whether another text, of any form, is equal but for the case of ASCII letters: true of `sl-IT` and
     /// `SL-it`. Then it is a normal tag too, with alike parts at the same offsets.
     ///
-    /// The contract also says that normal tags are compared, ordered and hashed without regard to case, that a clone is the tag
+    /// It is proved that normal tags are compared, ordered and hashed without regard to case, that a clone is the tag
     /// itself, and that a tag that begins another is the greater of the two: `sl` comes after `sl-IT`.
+    ///
+    /// ```
+    /// # fn main() -> Result<(), Box<dyn std::error::Error>> {
+    /// use langtag::NormalLangTag;
+    ///
+    /// assert!(NormalLangTag::new("sl-IT")?.eq_str("SL-it"));
+    /// # Ok(())
+    /// # }
+    /// ```
     #[inline]
     pub fn eq_str(&self, other: &str) -> bool {
         self.text == Caseless(other)
@@ -110,6 +175,15 @@ impl<'a> NormalLangTag<'a> {
 
     /// Returns the same tag as one of any kind, with the ends that are kept: `tag.as_lang_tag().kind()` is
     /// `Kind::Normal`.
+    ///
+    /// ```
+    /// # fn main() -> Result<(), Box<dyn std::error::Error>> {
+    /// use langtag::{Kind, NormalLangTag};
+    ///
+    /// assert_eq!(NormalLangTag::new("sl-IT")?.as_lang_tag().kind(), Kind::Normal);
+    /// # Ok(())
+    /// # }
+    /// ```
     #[inline]
     pub fn as_lang_tag(&self) -> LangTag<'a> {
         LangTag::with_found(self.as_str(), Recognised::Normal(self.ends))
@@ -117,18 +191,48 @@ impl<'a> NormalLangTag<'a> {
 
     /// Returns where the parts end, in bytes from the start of the text: of `sl-IT` the language at 2, and all others
     /// at 5.
+    ///
+    /// ```
+    /// # fn main() -> Result<(), Box<dyn std::error::Error>> {
+    /// use langtag::NormalLangTag;
+    ///
+    /// let ends = NormalLangTag::new("sl-IT")?.ends();
+    /// assert_eq!((ends.language, ends.script, ends.region, ends.whole), (2, 2, 5, 5));
+    /// # Ok(())
+    /// # }
+    /// ```
     #[inline]
     pub fn ends(&self) -> Ends {
         self.ends
     }
 
     /// Returns the language: `zh-min` of `zh-min-Latn-TW`.
+    ///
+    /// ```
+    /// # fn main() -> Result<(), Box<dyn std::error::Error>> {
+    /// use langtag::NormalLangTag;
+    ///
+    /// assert_eq!(NormalLangTag::new("zh-min-Latn-TW")?.language().as_str(), "zh-min");
+    /// # Ok(())
+    /// # }
+    /// ```
     #[inline]
     pub fn language(&self) -> Language<'a> {
         Language::from_checked(self.language_str())
     }
 
     /// Returns the script: `Latn` of `zh-min-Latn-TW`, None of `zh-TW`.
+    ///
+    /// ```
+    /// # fn main() -> Result<(), Box<dyn std::error::Error>> {
+    /// use langtag::NormalLangTag;
+    ///
+    /// let tag = NormalLangTag::new("zh-min-Latn-TW")?;
+    /// assert_eq!(tag.script().map(|script| script.as_str()), Some("Latn"));
+    /// assert_eq!(NormalLangTag::new("zh-TW")?.script(), None);
+    /// # Ok(())
+    /// # }
+    /// ```
     #[inline]
     pub fn script(&self) -> Option<Script<'a>> {
         let script = self.part(self.ends.language, self.ends.script)?;
@@ -136,6 +240,17 @@ impl<'a> NormalLangTag<'a> {
     }
 
     /// Returns the region: `TW` of `zh-min-Latn-TW`, None of `zh-Latn`.
+    ///
+    /// ```
+    /// # fn main() -> Result<(), Box<dyn std::error::Error>> {
+    /// use langtag::NormalLangTag;
+    ///
+    /// let tag = NormalLangTag::new("zh-min-Latn-TW")?;
+    /// assert_eq!(tag.region().map(|region| region.as_str()), Some("TW"));
+    /// assert_eq!(NormalLangTag::new("zh-Latn")?.region(), None);
+    /// # Ok(())
+    /// # }
+    /// ```
     #[inline]
     pub fn region(&self) -> Option<Region<'a>> {
         let region = self.part(self.ends.script, self.ends.region)?;
@@ -143,18 +258,49 @@ impl<'a> NormalLangTag<'a> {
     }
 
     /// Returns the variants: `rozaj-1994` of `sl-rozaj-1994`, the empty text of `sl`.
+    ///
+    /// ```
+    /// # fn main() -> Result<(), Box<dyn std::error::Error>> {
+    /// use langtag::NormalLangTag;
+    ///
+    /// assert_eq!(NormalLangTag::new("sl-rozaj-1994")?.variants().as_str(), "rozaj-1994");
+    /// assert_eq!(NormalLangTag::new("sl")?.variants().as_str(), "");
+    /// # Ok(())
+    /// # }
+    /// ```
     #[inline]
     pub fn variants(&self) -> Variants<'a> {
         Variants::from_checked(self.part_or_empty(self.ends.region, self.ends.variants))
     }
 
     /// Returns the extensions: `a-bb-u-co` of `en-a-bb-u-co-x-y`, the empty text of `en-x-y`.
+    ///
+    /// ```
+    /// # fn main() -> Result<(), Box<dyn std::error::Error>> {
+    /// use langtag::NormalLangTag;
+    ///
+    /// assert_eq!(NormalLangTag::new("en-a-bb-u-co-x-y")?.extensions().as_str(), "a-bb-u-co");
+    /// assert_eq!(NormalLangTag::new("en-x-y")?.extensions().as_str(), "");
+    /// # Ok(())
+    /// # }
+    /// ```
     #[inline]
     pub fn extensions(&self) -> Extensions<'a> {
         Extensions::from_checked(self.part_or_empty(self.ends.variants, self.ends.extensions))
     }
 
     /// Returns the private use part: `x-y` of `en-a-bb-u-co-x-y`, None of `en-a-bb`.
+    ///
+    /// ```
+    /// # fn main() -> Result<(), Box<dyn std::error::Error>> {
+    /// use langtag::NormalLangTag;
+    ///
+    /// let tag = NormalLangTag::new("en-a-bb-u-co-x-y")?;
+    /// assert_eq!(tag.private_use().map(|part| part.as_str()), Some("x-y"));
+    /// assert_eq!(NormalLangTag::new("en-a-bb")?.private_use(), None);
+    /// # Ok(())
+    /// # }
+    /// ```
     #[inline]
     pub fn private_use(&self) -> Option<PrivateUse<'a>> {
         let private_use = self.part(self.ends.extensions, self.ends.whole)?;
@@ -162,6 +308,17 @@ impl<'a> NormalLangTag<'a> {
     }
 
     /// Returns the subtags of the private use part: `x` and `y` of `en-x-x-y`, none where there is no such part.
+    ///
+    /// ```
+    /// # fn main() -> Result<(), Box<dyn std::error::Error>> {
+    /// use langtag::NormalLangTag;
+    ///
+    /// let tag = NormalLangTag::new("en-x-x-y")?;
+    /// assert_eq!(tag.private_use_subtags().count(), 2);
+    /// assert_eq!(NormalLangTag::new("en")?.private_use_subtags().count(), 0);
+    /// # Ok(())
+    /// # }
+    /// ```
     #[inline]
     pub fn private_use_subtags(&self) -> PrivateUseIter<'a> {
         match self.private_use() {
@@ -174,6 +331,17 @@ impl<'a> NormalLangTag<'a> {
     ///
     /// Such a tag is well formed, and is not valid (RFC 5646 section 2.2.5). No memory is taken, and less than 92 kB of the
     /// stack. Up to 8,192 variants the time grows hardly faster than their number; past them, with its square divided by that.
+    ///
+    /// ```
+    /// # fn main() -> Result<(), Box<dyn std::error::Error>> {
+    /// use langtag::NormalLangTag;
+    ///
+    /// let tag = NormalLangTag::new("de-1996-1996")?;
+    /// assert_eq!(tag.repeated_variant().map(|variant| variant.as_str()), Some("1996"));
+    /// assert_eq!(NormalLangTag::new("de-1996")?.repeated_variant(), None);
+    /// # Ok(())
+    /// # }
+    /// ```
     #[inline]
     pub fn repeated_variant(&self) -> Option<Variant<'a>> {
         let index = self.repeated_variant_index()?;
@@ -182,6 +350,15 @@ impl<'a> NormalLangTag<'a> {
 
     /// Returns which of the variants [`repeated_variant`](NormalLangTag::repeated_variant) returns, counted from 0:
     /// Some(1) of `de-1996-1996`.
+    ///
+    /// ```
+    /// # fn main() -> Result<(), Box<dyn std::error::Error>> {
+    /// use langtag::NormalLangTag;
+    ///
+    /// assert_eq!(NormalLangTag::new("de-1996-1996")?.repeated_variant_index(), Some(1));
+    /// # Ok(())
+    /// # }
+    /// ```
     #[inline]
     pub fn repeated_variant_index(&self) -> Option<usize> {
         first_repeated_variant(self.variants())
@@ -191,6 +368,16 @@ impl<'a> NormalLangTag<'a> {
     /// `fr-a-bb-A-cc`.
     ///
     /// Such a tag is well formed, and is not valid (RFC 5646 section 2.2.6). No memory is taken.
+    ///
+    /// ```
+    /// # fn main() -> Result<(), Box<dyn std::error::Error>> {
+    /// use langtag::NormalLangTag;
+    ///
+    /// let tag = NormalLangTag::new("fr-a-bb-A-cc")?;
+    /// assert_eq!(tag.repeated_singleton().map(|singleton| singleton.unwrap()), Some(b'A'));
+    /// # Ok(())
+    /// # }
+    /// ```
     #[inline]
     pub fn repeated_singleton(&self) -> Option<Singleton> {
         let index = self.repeated_singleton_index()?;
@@ -199,6 +386,15 @@ impl<'a> NormalLangTag<'a> {
 
     /// Returns which of the extensions has the singleton that [`repeated_singleton`](NormalLangTag::repeated_singleton)
     /// returns, counted from 0: Some(1) of `fr-a-bb-A-cc`.
+    ///
+    /// ```
+    /// # fn main() -> Result<(), Box<dyn std::error::Error>> {
+    /// use langtag::NormalLangTag;
+    ///
+    /// assert_eq!(NormalLangTag::new("fr-a-bb-A-cc")?.repeated_singleton_index(), Some(1));
+    /// # Ok(())
+    /// # }
+    /// ```
     #[inline]
     pub fn repeated_singleton_index(&self) -> Option<usize> {
         first_repeated_singleton(self.extensions())
@@ -209,6 +405,16 @@ impl<'a> NormalLangTag<'a> {
     /// # Errors
     ///
     /// Out of memory.
+    ///
+    /// ```
+    /// # fn main() -> Result<(), Box<dyn std::error::Error>> {
+    /// use langtag::NormalLangTag;
+    ///
+    /// let owned = NormalLangTag::new("sl-IT")?.try_to_owned()?;
+    /// assert_eq!(owned.as_str(), "sl-IT");
+    /// # Ok(())
+    /// # }
+    /// ```
     #[cfg(feature = "alloc")]
     #[inline]
     pub fn try_to_owned(&self) -> Result<NormalLangTagBuf, AllocError> {
@@ -218,6 +424,16 @@ impl<'a> NormalLangTag<'a> {
 
     /// Returns the tag as it reads in the case that RFC 5646 section 2.1.1 recommends, to be displayed: `{}` of
     /// `tag.in_recommended_case()` prints `mn-Cyrl-MN` of `MN-cYRL-mn`. No memory is taken.
+    ///
+    /// ```
+    /// # fn main() -> Result<(), Box<dyn std::error::Error>> {
+    /// use langtag::NormalLangTag;
+    ///
+    /// let tag = NormalLangTag::new("MN-cYRL-mn")?;
+    /// assert_eq!(format!("{}", tag.in_recommended_case()), "mn-Cyrl-MN");
+    /// # Ok(())
+    /// # }
+    /// ```
     #[inline]
     pub fn in_recommended_case(&self) -> InRecommendedCase<'a> {
         InRecommendedCase::from_checked(self.as_str())
@@ -225,6 +441,16 @@ impl<'a> NormalLangTag<'a> {
 
     /// Returns whether the tag is in the case that RFC 5646 section 2.1.1 recommends: true of `mn-Cyrl-MN`, false of
     /// `mn-cyrl-MN`.
+    ///
+    /// ```
+    /// # fn main() -> Result<(), Box<dyn std::error::Error>> {
+    /// use langtag::NormalLangTag;
+    ///
+    /// assert!(NormalLangTag::new("mn-Cyrl-MN")?.is_in_recommended_case());
+    /// assert!(!NormalLangTag::new("mn-cyrl-MN")?.is_in_recommended_case());
+    /// # Ok(())
+    /// # }
+    /// ```
     #[inline]
     pub fn is_in_recommended_case(&self) -> bool {
         is_in_recommended_case(self.as_bytes())
@@ -236,6 +462,16 @@ impl<'a> NormalLangTag<'a> {
     /// # Errors
     ///
     /// Out of memory.
+    ///
+    /// ```
+    /// # fn main() -> Result<(), Box<dyn std::error::Error>> {
+    /// use langtag::NormalLangTag;
+    ///
+    /// let owned = NormalLangTag::new("MN-cYRL-mn")?.try_to_recommended_case()?;
+    /// assert_eq!(owned.as_str(), "mn-Cyrl-MN");
+    /// # Ok(())
+    /// # }
+    /// ```
     #[cfg(feature = "alloc")]
     #[inline]
     pub fn try_to_recommended_case(&self) -> Result<NormalLangTagBuf, AllocError> {

@@ -27,6 +27,17 @@ use alloc::string::String;
 use core::fmt;
 
 /// A normal tag that owns its text. It keeps where its parts end, as [`NormalLangTag`] does, and lends them with it.
+///
+/// ```
+/// # fn main() -> Result<(), Box<dyn std::error::Error>> {
+/// use langtag::NormalLangTag;
+///
+/// let owned = NormalLangTag::new("sl-IT")?.try_to_owned()?;
+/// assert_eq!(owned.as_normal_lang_tag().language().as_str(), "sl");
+/// assert_eq!(owned.into_string().as_str(), "sl-IT");
+/// # Ok(())
+/// # }
+/// ```
 #[cfg(feature = "alloc")]
 pub struct NormalLangTagBuf {
     text: Caseless<String>,
@@ -57,6 +68,17 @@ impl NormalLangTagBuf {
     /// # Errors
     ///
     /// Out of memory.
+    ///
+    /// ```
+    /// # fn main() -> Result<(), Box<dyn std::error::Error>> {
+    /// use langtag::{Language, NormalLangTagBuf, Script};
+    ///
+    /// let script = Script::new("Hant")?;
+    /// let tag = NormalLangTagBuf::from_parts(Language::new("zh")?, Some(script), None)?;
+    /// assert_eq!(tag.as_str(), "zh-Hant");
+    /// # Ok(())
+    /// # }
+    /// ```
     pub fn from_parts(
         language: Language<'_>,
         script: Option<Script<'_>>,
@@ -90,7 +112,7 @@ impl NormalLangTagBuf {
     /// Borrows the tag, with the ends that are kept, so that nothing is looked at again:
     /// `owned.as_normal_lang_tag().region()` is `IT` of `sl-IT`.
     ///
-    /// The contract also says that owned normal tags are compared, ordered and hashed without regard to case.
+    /// It is proved that owned normal tags are compared, ordered and hashed without regard to case.
     #[inline]
     pub fn as_normal_lang_tag(&self) -> NormalLangTag<'_> {
         NormalLangTag::with_ends(self.as_str(), self.ends)
@@ -130,6 +152,17 @@ impl NormalLangTagBuf {
     /// # Errors
     ///
     /// Out of memory. The tag is as it was.
+    ///
+    /// ```
+    /// # fn main() -> Result<(), Box<dyn std::error::Error>> {
+    /// use langtag::{Language, NormalLangTag};
+    ///
+    /// let mut tag = NormalLangTag::new("sl-IT")?.try_to_owned()?;
+    /// tag.set_language(Language::new("zh-yue")?)?;
+    /// assert_eq!(tag.as_str(), "zh-yue-IT");
+    /// # Ok(())
+    /// # }
+    /// ```
     #[inline]
     pub fn set_language(&mut self, language: Language<'_>) -> Result<(), AllocError> {
         self.put(Part::Language(language))
@@ -144,6 +177,17 @@ impl NormalLangTagBuf {
     /// # Errors
     ///
     /// Out of memory. The tag is as it was.
+    ///
+    /// ```
+    /// # fn main() -> Result<(), Box<dyn std::error::Error>> {
+    /// use langtag::{NormalLangTag, Script};
+    ///
+    /// let mut tag = NormalLangTag::new("sl-IT")?.try_to_owned()?;
+    /// tag.set_script(Some(Script::new("Latn")?))?;
+    /// assert_eq!(tag.as_str(), "sl-Latn-IT");
+    /// # Ok(())
+    /// # }
+    /// ```
     #[inline]
     pub fn set_script(&mut self, script: Option<Script<'_>>) -> Result<(), AllocError> {
         self.put(Part::Script(script))
@@ -157,6 +201,17 @@ impl NormalLangTagBuf {
     /// # Errors
     ///
     /// Out of memory. The tag is as it was.
+    ///
+    /// ```
+    /// # fn main() -> Result<(), Box<dyn std::error::Error>> {
+    /// use langtag::{NormalLangTag, Region};
+    ///
+    /// let mut tag = NormalLangTag::new("de-DE-1996")?.try_to_owned()?;
+    /// tag.set_region(Some(Region::new("AT")?))?;
+    /// assert_eq!(tag.as_str(), "de-AT-1996");
+    /// # Ok(())
+    /// # }
+    /// ```
     #[inline]
     pub fn set_region(&mut self, region: Option<Region<'_>>) -> Result<(), AllocError> {
         self.put(Part::Region(region))
@@ -170,6 +225,17 @@ impl NormalLangTagBuf {
     /// # Errors
     ///
     /// Out of memory. The tag is as it was.
+    ///
+    /// ```
+    /// # fn main() -> Result<(), Box<dyn std::error::Error>> {
+    /// use langtag::{NormalLangTag, Variants};
+    ///
+    /// let mut tag = NormalLangTag::new("de-AT-1901")?.try_to_owned()?;
+    /// tag.set_variants(Variants::new("1996")?)?;
+    /// assert_eq!(tag.as_str(), "de-AT-1996");
+    /// # Ok(())
+    /// # }
+    /// ```
     #[inline]
     pub fn set_variants(&mut self, variants: Variants<'_>) -> Result<(), AllocError> {
         self.put(Part::Variants(variants))
@@ -183,6 +249,17 @@ impl NormalLangTagBuf {
     /// # Errors
     ///
     /// Out of memory. The tag is as it was.
+    ///
+    /// ```
+    /// # fn main() -> Result<(), Box<dyn std::error::Error>> {
+    /// use langtag::{Extensions, NormalLangTag};
+    ///
+    /// let mut tag = NormalLangTag::new("de-x-mine")?.try_to_owned()?;
+    /// tag.set_extensions(Extensions::new("u-co-phonebk")?)?;
+    /// assert_eq!(tag.as_str(), "de-u-co-phonebk-x-mine");
+    /// # Ok(())
+    /// # }
+    /// ```
     #[inline]
     pub fn set_extensions(&mut self, extensions: Extensions<'_>) -> Result<(), AllocError> {
         self.put(Part::Extensions(extensions))
@@ -196,6 +273,17 @@ impl NormalLangTagBuf {
     /// # Errors
     ///
     /// Out of memory. The tag is as it was.
+    ///
+    /// ```
+    /// # fn main() -> Result<(), Box<dyn std::error::Error>> {
+    /// use langtag::{NormalLangTag, PrivateUse};
+    ///
+    /// let mut tag = NormalLangTag::new("de-x-a")?.try_to_owned()?;
+    /// tag.set_private_use(Some(PrivateUse::new("x-mine")?))?;
+    /// assert_eq!(tag.as_str(), "de-x-mine");
+    /// # Ok(())
+    /// # }
+    /// ```
     #[inline]
     pub fn set_private_use(
         &mut self,

@@ -13,6 +13,16 @@ use crate::tag::normal_lang_tag::NormalLangTag;
 ///
 /// None and the empty text, as [`Variants::EMPTY`], stand for a part that is absent, and take the old one out. There is no tag
 /// without a language.
+///
+/// ```
+/// # fn main() -> Result<(), Box<dyn std::error::Error>> {
+/// use langtag::{Part, Script};
+///
+/// assert_eq!(Part::Script(Some(Script::new("Latn")?)).as_str(), "Latn");
+/// assert_eq!(Part::Script(None).as_str(), "");
+/// # Ok(())
+/// # }
+/// ```
 #[derive(Clone, Copy, Debug)]
 pub enum Part<'a> {
     /// The language, with its extended subtags (section 2.2.1): `zh-yue`.
@@ -30,6 +40,16 @@ pub enum Part<'a> {
 }
 
 /// What stands in place of some bytes of a tag's text once a part is put into it: offsets in bytes, a hyphen and the part.
+///
+/// ```
+/// # fn main() -> Result<(), Box<dyn std::error::Error>> {
+/// use langtag::{NormalLangTag, Part, put_part};
+///
+/// let new = put_part(NormalLangTag::new("de-DE-1996")?, Part::Region(None));
+/// assert_eq!((new.start, new.end, new.hyphen, new.part), (2, 5, "", ""));
+/// # Ok(())
+/// # }
+/// ```
 #[derive(Debug)]
 pub struct Replacement<'a> {
     /// Where the bytes begin that go: 2 in `de-x-a`, for a private use part.
@@ -46,8 +66,8 @@ pub struct Replacement<'a> {
 /// stand (RFC 5646 sections 2.2.1 to 2.2.7). It takes no memory: the caller joins the bytes before, the hyphen, the part and
 /// the bytes after.
 ///
-/// Of `de-DE-1996` and `Part::Region(Region::new("AT").ok())` the bytes from 2 to 5 go, and a hyphen and `AT` come. The
-/// contract also says that a clone of a part is the part itself.
+/// Of `de-DE-1996` and `Part::Region(Region::new("AT").ok())` the bytes from 2 to 5 go, and a hyphen and `AT` come. It
+/// is proved that a clone of a part is the part itself.
 #[inline]
 pub fn put_part<'a>(tag: NormalLangTag<'_>, part: Part<'a>) -> Replacement<'a> {
     part.replacement(&tag.ends())

@@ -6,8 +6,27 @@ use crate::private::PrivateUse;
 use crate::private::PrivateUseBuf;
 
 /// A tag for private use as a whole, as `x-fr-CH`: the same text as a private use part.
+///
+/// ```
+/// # fn main() -> Result<(), Box<dyn std::error::Error>> {
+/// use langtag::PrivateUseLangTag;
+///
+/// assert_eq!(PrivateUseLangTag::new("x-fr-CH")?.iter().count(), 2);
+/// # Ok(())
+/// # }
+/// ```
 pub type PrivateUseLangTag<'a> = PrivateUse<'a>;
 
 /// A tag for private use as a whole that owns its text.
+///
+/// ```
+/// # fn main() -> Result<(), Box<dyn std::error::Error>> {
+/// use langtag::{PrivateUseLangTag, PrivateUseLangTagBuf};
+///
+/// let owned: PrivateUseLangTagBuf = PrivateUseLangTag::new("x-fr-CH")?.try_to_owned()?;
+/// assert_eq!(owned.as_str(), "x-fr-CH");
+/// # Ok(())
+/// # }
+/// ```
 #[cfg(feature = "alloc")]
 pub type PrivateUseLangTagBuf = PrivateUseBuf;

@@ -10,6 +10,18 @@ use crate::tag::private_use_lang_tag::PrivateUseLangTag;
 
 /// A language tag as a value of the type of its kind (RFC 5646 section 2.1), as
 /// [`LangTag::as_typed`](crate::LangTag::as_typed) returns it. Each call looks at the variant alone, and at no text.
+///
+/// ```
+/// # fn main() -> Result<(), Box<dyn std::error::Error>> {
+/// use langtag::{LangTag, TypedLangTag};
+///
+/// match LangTag::new("x-a")?.as_typed() {
+///     TypedLangTag::PrivateUse(tag) => assert_eq!(tag.as_str(), "x-a"),
+///     TypedLangTag::Normal(_) | TypedLangTag::Grandfathered(_) => unreachable!(),
+/// }
+/// # Ok(())
+/// # }
+/// ```
 #[derive(Clone, Copy, Debug, PartialEq, Eq)]
 pub enum TypedLangTag<'a> {
     /// A normal tag. The regular grandfathered tags are normal.
@@ -31,8 +43,8 @@ impl<'a> TypedLangTag<'a> {
         }
     }
 
-    /// Returns the kind of the tag: `Kind::PrivateUse` of `x-a`. The contract also says that typed tags are equal where
-    /// they are of one kind and their texts are alike, and that a clone is the value itself.
+    /// Returns the kind of the tag: `Kind::PrivateUse` of `x-a`. It is proved that typed tags are equal where they are
+    /// of one kind and their texts are alike, and that a clone is the value itself.
     pub fn kind(&self) -> Kind {
         match self {
             TypedLangTag::Normal(_) => Kind::Normal,

@@ -1,0 +1,106 @@
+-- Where the first subtag ends that is refused, by how much of a text and a hyphen is viable.
+use Rattle.std.proofs.Common.{◌≡◌, ◌↔◌, ℕ, ◌+◌, ◌<◌, ◌≤◌, ◌⊎◌, List, [], ◌∷◌, ◌++◌, length, take, slice_index, inl, inr, sym, ap, subst, ◌∙◌, arith, append-nil}
+use Rattle.std.proofs.Math.Seq.{take-length}
+use Rattle.std.proofs.lemmas.Bool.{cases_lt}
+use Rattle.std.proofs.lemmas.List.{take-append-le, take_all, take_more, length_push}
+use Rattle.langtag_scan.specs.Subtags.{NoHyphenWithin}
+use Rattle.langtag_scan.specs.Tag.{IsTag}
+use Rattle.langtag_scan.specs.Viable.{IsViable, IsViableLength, IsIrregularPrefix}
+use Rattle.langtag_scan.proofs.TagLaws.{prefixes_viable, viable_from_tag}
+use Rattle.langtag.specs.Refusal.{MayStand, IsRefusedEnd, EndsTooSoon, IsOpen}
+
+-- the text up to the end of a subtag, and a hyphen
+hyphened : (t : List ℕ) (k : ℕ) → k ≤ length t → (k < length t → slice_index t k ≡ 45) → take (k + 1) (t ++ 45 ∷ []) ≡ take k t ++ 45 ∷ []
+hyphened t k within hyphen = elim (cases_lt k (length t)) [
+  | inl below ↦ take-append-le (k + 1) t (45 ∷ []) (omega (arith, below)) ∙ take_more t k 0 below ∙ ap (λ b. take k t ++ b ∷ []) (hyphen below)
+  | inr past ↦
+      take_all (k + 1) (t ++ 45 ∷ []) (omega (arith, past, length_push t 45)) ∙ ap (λ p. p ++ 45 ∷ []) (sym (take_all k t (omega (arith, past))))
+]
+
+module _ (t : List ℕ) (m : ℕ) (v : IsViableLength (t ++ 45 ∷ []) m) where
+  -- within what is viable a hyphen may follow
+  pub hyphen_viable : (k : ℕ) → k ≤ length t → (k < length t → slice_index t k ≡ 45) → k + 1 ≤ m → IsViable (take k t ++ 45 ∷ [])
+  hyphen_viable k within hyphen le = subst IsViable (hyphened t k within hyphen) (v.viable (k + 1) le)
+
+  -- and past it none may
+  pub hyphen_dead : (k : ℕ) → k ≤ length t → (k < length t → slice_index t k ≡ 45) → m ≤ k → IsViable (take k t ++ 45 ∷ []) → ⊥
+  hyphen_dead k within hyphen le viable =
+      v.longest (k + 1) (omega (arith, le)) (omega (arith, within, length_push t 45)) (subst IsViable (sym (hyphened t k within hyphen)) viable)
+
+  -- the first end at or past it
+  pub first_end :
+      (e : ℕ) → m ≤ e → e ≤ length t → NoHyphenWithin t m e → (e < length t → slice_index t e ≡ 45) → (IsTag (take e t) → ⊥) → IsRefusedEnd t e
+  first_end e from within none hyphen no_tag = record {
+    within = within;
+    hyphen = hyphen;
+    refused = by_case;
+    before = λ k below at. inr (hyphen_viable k (omega (arith, below, within)) (λ some. at) (viable_there k below at (cases_lt k m)));
+  }
+    where
+      by_case : MayStand (take e t) → ⊥
+      by_case (inl tag) = no_tag tag
+      by_case (inr viable) = hyphen_dead e within hyphen from viable
+
+      viable_there : (k : ℕ) → k < e → slice_index t k ≡ 45 → (k < m) ⊎ (m ≤ k) → k + 1 ≤ m
+      viable_there k below at (inl less) = omega (arith, less)
+      viable_there k below at (inr more) = absurd (let no = none k 0 more below in let is = at in cc)
+
+  -- the end after that of a tag with which none goes on
+  pub second_end :
+      (e f : ℕ) → m ≤ e → e < length t → NoHyphenWithin t m e → slice_index t e ≡ 45 → IsTag (take e t) →
+      e + 1 ≤ f → f ≤ length t → NoHyphenWithin t (e + 1) f → (f < length t → slice_index t f ≡ 45) → IsRefusedEnd t f
+  second_end e f from below none hyphen tag after within none_after hyphen_after = record {
+    within = within;
+    hyphen = hyphen_after;
+    refused = by_case;
+    before = λ k less at. stands k less at (cases_lt k m) (cases_lt k e) (cases_lt e k);
+  }
+    where
+      by_case : MayStand (take f t) → ⊥
+      by_case (inl whole) =
+          let longer : IsViable (take f t) = viable_from_tag (take f t) [] (subst IsTag (sym (append-nil (take f t))) whole) in
+          let prefix : IsViable (take (e + 1) t) = prefixes_viable t f (e + 1) longer after in
+          hyphen_dead e (omega (arith, below)) (λ some. hyphen) from
+          (subst IsViable (sym (take-append-le (e + 1) t (45 ∷ []) (omega (arith, below))) ∙ hyphened t e (omega (arith, below)) (λ some. hyphen)) prefix)
+      by_case (inr viable) = hyphen_dead f within hyphen_after (omega (arith, from, after)) viable
+
+      stands : (k : ℕ) → k < f → slice_index t k ≡ 45 → (k < m) ⊎ (m ≤ k) → (k < e) ⊎ (e ≤ k) → (e < k) ⊎ (k ≤ e) → MayStand (take k t)
+      stands k less at (inl viable) first second = inr (hyphen_viable k (omega (arith, less, within)) (λ some. at) (omega (arith, viable)))
+      stands k less at (inr dead) (inl first) second = absurd (let no = none k 0 dead first in cc)
+      stands k less at (inr dead) (inr past) (inl more) = absurd (let no = none_after k 0 (omega (arith, more)) less in cc)
+      stands k less at (inr dead) (inr past) (inr same) = let here : e ≡ k = omega (arith, past, same) in inl (subst (λ n. IsTag (take n t)) here tag)
+
+  -- ---- texts that end too soon
+
+  whole_hyphened : take (length t + 1) (t ++ 45 ∷ []) ≡ t ++ 45 ∷ []
+  whole_hyphened = take_all (length t + 1) (t ++ 45 ∷ []) (omega (arith, length_push t 45))
+
+  whole_text : take (length t) (t ++ 45 ∷ []) ≡ t
+  whole_text = take-append-le (length t) t (45 ∷ []) (omega arith) ∙ take-length t
+
+  pub viable_whole : length t ≤ m → IsViable t
+  viable_whole le = subst IsViable whole_text (v.viable (length t) le)
+
+  pub goes_on_by_hyphen : (IsTag t → ⊥) → length t < m → EndsTooSoon t
+  goes_on_by_hyphen no_tag less = record {
+    no_tag = no_tag;
+    viable = viable_whole (omega (arith, less));
+    goes_on = inl (subst IsViable whole_hyphened (v.viable (length t + 1) (omega (arith, less))));
+  }
+
+  pub hyphen_past : m ≤ length t → IsViable (t ++ 45 ∷ []) → ⊥
+  hyphen_past le viable =
+      v.longest (length t + 1) (omega (arith, le)) (omega (arith, length_push t 45)) (subst IsViable (sym whole_hyphened) viable)
+
+  -- a text with which no hyphen goes on, and whose last subtag has a byte
+  pub irregular_left : (IsTag t → ⊥) → length t ≡ m → (IsOpen t → ⊥) → IsIrregularPrefix t ↔ EndsTooSoon t
+  irregular_left no_tag all closed =
+      (λ is. record { no_tag = no_tag; viable = viable_whole (omega (arith, all)); goes_on = inr (inr is) }, λ ends. by_case ends.goes_on)
+    where
+      by_case : IsViable (t ++ 45 ∷ []) ⊎ IsOpen t ⊎ IsIrregularPrefix t → IsIrregularPrefix t
+      by_case (inl viable) = absurd (hyphen_past (omega (arith, all)) viable)
+      by_case (inr (inl ended)) = absurd (closed ended)
+      by_case (inr (inr is)) = is
+
+  pub open_end : (IsTag t → ⊥) → length t ≡ m → IsOpen t → EndsTooSoon t
+  open_end no_tag all ended = record { no_tag = no_tag; viable = viable_whole (omega (arith, all)); goes_on = inr (inl ended) }

@@ -1,0 +1,189 @@
+//! Where a text that is not a tag goes wrong (RFC 5646 section 2.1).
+ghost use Rattle.std.specs.Prelude.{◌≡◌, ◌↔◌, ◌≤◌, ◌<◌, ◌++◌, ◌∷◌, [], IsTrue, IsNone, IfSome, false, length, take, slice_index};
+ghost use Rattle.std.specs.List.{list_any};
+ghost use Rattle.langtag_scan.specs.Case.{are_alike};
+ghost use Rattle.langtag_scan.specs.Class as class;
+ghost use Rattle.langtag_scan.specs.Tag.{IsTag};
+ghost use Rattle.langtag_scan.specs.Viable.{IsViableLength, IsIrregularPrefix};
+ghost use Rattle.langtag.specs.Refusal.{AlphanumericWithin, EndsTooSoon, IsFirstOther, IsOpen, IsRefusedEnd, IsRefusedSubtag};
+ghost use Rattle.langtag.specs.Registered.{text_of};
+ghost use Rattle.langtag.specs.declared.refusal.Refusal.{Refusal};
+ghost use Rattle.langtag.specs.declared.refusal.RefusalKind.{RefusalKind};
+ghost use Rattle.langtag.specs.declared.refusal.RefusalKind.TheVariants as kind;
+
+use crate::grandfathered::{GRANDFATHERED, GrandfatheredLangTag};
+use crate::lang_tag::LangTag;
+use langtag_scan::{case_insensitive_eq, segment_end, segment_start, viable_len_with_hyphen};
+
+/// Why bytes are not a tag (RFC 5646 section 2.1).
+#[derive(Clone, Copy, Debug, PartialEq, Eq)]
+pub enum RefusalKind {
+    /// A subtag does not fit where it stands, or is empty: `DE` of `de-419-DE`.
+    Subtag,
+    /// A subtag has a byte that is no letter and no digit: `_` of `zh_Hant`.
+    Byte,
+    /// The bytes end too soon: `en-` and `en-a` may become tags.
+    End,
+}
+
+/// Where bytes that are not a tag go wrong. The numbers are offsets in bytes.
+#[derive(Clone, Copy, Debug, PartialEq, Eq)]
+pub struct Refusal {
+    /// Why they are refused.
+    pub kind: RefusalKind,
+    /// Where the first subtag begins with which they cannot begin a tag: 7 in `de-419-DE`. It is the number of bytes where
+    /// they end too soon.
+    pub start: usize,
+    /// Where that subtag ends: 9 in `de-419-DE`.
+    pub end: usize,
+    /// The offset to point at: `start`, or that of the first byte of the subtag that is no letter and no digit.
+    pub offset: usize,
+}
+
+impl Refusal {
+    /// Returns where bytes go wrong that are not a tag, None of a tag. They need not be UTF-8.
+    ///
+    /// Of `de-419-DE` it is the subtag from 7 to 9, which does not fit there: the tag has a region.
+    ///
+    /// ```
+    /// use langtag::{Refusal, RefusalKind};
+    ///
+    /// Refusal::of(b"de-419-DE").map(|it| (it.kind, it.start, it.end)); // Some((RefusalKind::Subtag, 7, 9))
+    /// Refusal::of(b"zh_Hant").map(|it| (it.kind, it.offset));          // Some((RefusalKind::Byte, 2))
+    /// Refusal::of(b"zh-").map(|it| (it.kind, it.offset));              // Some((RefusalKind::End, 3))
+    /// Refusal::of(b"zh-Hant");                                         // None
+    /// ```
+    pub fn of(bytes: &[u8]) -> Option<Refusal>
+        ensures none { IsNone result ↔ IsTag bytes.now }
+        ensures end { IfSome result (λ it. (it.kind ≡ kind.End) ↔ EndsTooSoon bytes.now) }
+        ensures subtag { IfSome result (λ it. (it.kind ≡ kind.End → ⊥) → IsRefusedSubtag bytes.now it.start it.end) }
+        ensures whole { IfSome result (λ it. it.kind ≡ kind.Subtag → AlphanumericWithin bytes.now it.start it.end × (it.offset ≡ it.start)) }
+        ensures byte { IfSome result (λ it. it.kind ≡ kind.Byte → IsFirstOther bytes.now it.start it.end it.offset) }
+        ensures nothing { IfSome result (λ it. it.kind ≡ kind.End → (it.start ≡ length bytes.now) × (it.end ≡ length bytes.now) × (it.offset ≡ length bytes.now)) }
+
+        ensures compared { (a b : Refusal) → IsTrue (⟦<Refusal as PartialEq>⟧.eq a b) ↔ (a ≡ b) }
+        ensures kinds_compared { (a b : RefusalKind) → IsTrue (⟦<RefusalKind as PartialEq>⟧.eq a b) ↔ (a ≡ b) }
+        ensures cloned { (refusal copy : Refusal) → ⟦<Refusal as Clone>⟧.is_clone refusal copy → copy ≡ refusal }
+        ensures kind_cloned { (kind copy : RefusalKind) → ⟦<RefusalKind as Clone>⟧.is_clone kind copy → copy ≡ kind }
+        ensures clone_succeeds { (refusal : Refusal) → ⟦<Refusal as Clone>⟧.is_infallible refusal }
+        ensures clone_succeeds_of_kind { (kind : RefusalKind) → ⟦<RefusalKind as Clone>⟧.is_infallible kind }
+    {
+        if is_tag(bytes) {
+            return None;
+        }
+        let viable = viable_len_with_hyphen(bytes);
+        if ends_too_soon(bytes, viable) {
+            let end = bytes.len();
+            return Some(Refusal {
+                kind: RefusalKind::End,
+                start: end,
+                end,
+                offset: end,
+            });
+        }
+        let end = refused_end(bytes, viable);
+        let start = segment_start(bytes, end);
+        let other = first_other(bytes, start, end);
+        if other == end {
+            return Some(Refusal {
+                kind: RefusalKind::Subtag,
+                start,
+                end,
+                offset: start,
+            });
+        }
+        Some(Refusal {
+            kind: RefusalKind::Byte,
+            start,
+            end,
+            offset: other,
+        })
+    }
+}
+
+/// Whether the bytes are a tag.
+fn is_tag(bytes: &[u8]) -> bool
+    ensures { IsTrue result ↔ IsTag bytes.now }
+{
+    LangTag::from_bytes(bytes).is_ok()
+}
+
+/// Whether bytes that are no tag end too soon, by how much of them and a hyphen is viable.
+#[tactic(auto, using(crate::proofs::RefusalLaws::irregular_left, crate::proofs::RefusalLaws::open_end))]
+fn ends_too_soon(bytes: &[u8], viable: usize) -> bool
+    requires no_tag { IsTag bytes.now → ⊥ }
+    requires viable { IsViableLength (bytes.now ++ 45 ∷ []) viable }
+    ensures soon { IsTrue result ↔ EndsTooSoon bytes.now }
+    ensures within { result ≡ false → viable ≤ length bytes.now }
+{
+    viable > bytes.len() || (viable == bytes.len() && (is_open(bytes) || begins_irregular(bytes)))
+}
+
+/// Whether the last subtag has no byte.
+fn is_open(bytes: &[u8]) -> bool
+    ensures { IsTrue result ↔ IsOpen bytes.now }
+{
+    bytes.is_empty() || bytes[bytes.len() - 1] == b'-'
+}
+
+/// Where the first subtag ends that is refused, of bytes that are no tag.
+fn refused_end(bytes: &[u8], viable: usize) -> usize
+    requires no_tag { IsTag bytes.now → ⊥ }
+    requires viable { IsViableLength (bytes.now ++ 45 ∷ []) viable }
+    requires within { viable ≤ length bytes.now }
+    ensures { IsRefusedEnd bytes.now result }
+{
+    let end = segment_end(bytes, viable);
+    // A tag ends there, with which none goes on: the next subtag is one too many.
+    if end < bytes.len() && is_tag(&bytes[..end]) {
+        return segment_end(bytes, end + 1);
+    }
+    end
+}
+
+/// Where the first byte from one index up to another stands that is no letter and no digit, or the other index.
+fn first_other(bytes: &[u8], start: usize, end: usize) -> usize
+    requires ordered { start ≤ end }
+    requires within { end ≤ length bytes.now }
+    ensures from { start ≤ result }
+    ensures to { result ≤ end }
+    ensures before { AlphanumericWithin bytes.now start result }
+    ensures other { result < end → class.is_alphanumeric (slice_index bytes.now result) ≡ false }
+{
+    let mut index = start;
+    while index < end && is_alphanumeric(bytes[index]) {
+        index += 1;
+    }
+    index
+}
+
+#[tactic(auto, unfolding(langtag_scan::specs::Class::is_letter, langtag_scan::specs::Class::is_digit))]
+fn is_alphanumeric(byte: u8) -> bool
+    ensures { result ≡ class.is_alphanumeric byte }
+{
+    byte.is_ascii_alphanumeric()
+}
+
+/// How many of the grandfathered tags are irregular: they come first.
+const IRREGULAR: usize = 17;
+
+/// Whether the bytes begin an irregular tag (section 2.2.8).
+fn begins_irregular(bytes: &[u8]) -> bool
+    ensures { IsTrue result ↔ IsIrregularPrefix bytes.now }
+{
+    begin_any(bytes, &GRANDFATHERED[..IRREGULAR])
+}
+
+/// Whether the bytes begin any of some tags.
+fn begin_any(bytes: &[u8], tags: &[GrandfatheredLangTag]) -> bool
+    ensures { result ≡ list_any (λ tag. are_alike bytes.now (take (length bytes.now) (text_of tag))) tags.now }
+{
+    tags.iter().any(|tag| begins(bytes, tag.as_bytes()))
+}
+
+/// Whether the bytes are the beginning of a text, but for the case of letters.
+fn begins(bytes: &[u8], text: &[u8]) -> bool
+    ensures { result ≡ are_alike bytes.now (take (length bytes.now) text.now) }
+{
+    case_insensitive_eq(bytes, &text[..bytes.len().min(text.len())])
+}

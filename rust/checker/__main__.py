@@ -1,0 +1,101 @@
+"""Compares the Rust modules below rust/src with the Rattle sources that they are made from.
+
+    python3 rust/checker           fails at each difference that is no kind of kinds.txt, or of which counts.txt has another count
+    python3 rust/checker --count   writes counts.txt anew, to be read before it is committed
+
+It shares no code with rust/erase. It takes what is ghost out of a source by the grammar alone, and compares what is left with
+the Rust file as it is compiled, word by word. Comments and layout are not compared.
+"""
+import collections
+import pathlib
+import sys
+
+from compare import Difference, compare
+from forms import CRATES, with_errors, with_nested_chains, with_paths
+from ghosts import without_ghosts
+from kinds import HERE, LIMIT, read_kinds
+from marks import without_imports, without_marks
+from words import without_layout, words_of
+
+RUST = HERE.parent
+SOURCES = RUST.parent / "crates"
+
+
+class Checker:
+    def __init__(self, sources=SOURCES, modules=RUST / "src"):
+        self.sources, self.modules = sources, modules
+        self.kinds, self.names = read_kinds()
+        self.ghosts, self.counts, self.faults = collections.Counter(), {}, []
+
+    def pairs(self):
+        """Yields each source with the file that is made from it, and finds files that have no partner."""
+        for crate, module in CRATES.items():
+            names = {"mod" if path.stem == "lib" else path.stem for path in (self.sources / crate / "src").iterdir()}
+            for path in (self.modules / module).iterdir():
+                if path.suffix != ".rs" or path.stem not in names:
+                    self.faults.append(f"{path.relative_to(self.modules)}: no source has this file")
+            for name in sorted(names):
+                source = self.sources / crate / "src" / ("lib.rt" if name == "mod" else name + ".rt")
+                yield crate, source, self.modules / module / (name + ".rs")
+
+    def check(self, crate, source, path):
+        file = str(path.relative_to(self.modules))
+        counts = self.counts[file] = collections.Counter()
+        try:
+            if not path.read_text(encoding="utf-8").startswith(f"// Made by rust/erase from crates/{crate}/src/{source.name}."):
+                raise Difference("its first line does not name its source")
+            self.compare(crate, source, path, counts)
+        except (Difference, ValueError, IndexError, OSError) as fault:
+            self.faults.append(f"{file}: {fault}")
+
+    def compare(self, crate, source, path, counts):
+        old = without_ghosts(words_of(source.read_text(encoding="utf-8")), self.ghosts)
+        old = with_nested_chains(with_errors(with_paths(old, crate, counts), counts), counts)
+        new = without_marks(words_of(path.read_text(encoding="utf-8")), counts)
+        old, imported = without_imports(old)
+        new, imports = without_imports(new)
+        kept_inside = {name for name in imported - imports if "pub(crate) " + name.removeprefix("pub ") in imports}
+        counts["export"] += len(kept_inside)
+        counts.update(f"without {gone}" for gone in imported - imports - kept_inside)
+        counts.update(f"with {added}" for added in imports - imported - {"pub(crate) " + it.removeprefix("pub ") for it in kept_inside})
+        for name in set(counts) - set(self.names):
+            raise Difference(f"`{name}` is no kind of kinds.txt")
+        compare(without_layout(old), without_layout(new), self.kinds, counts)
+
+    def run(self, only=None):
+        """Checks all files, or one."""
+        for crate, source, path in self.pairs():
+            if only in (None, path):
+                self.check(crate, source, path)
+        return self
+
+    def told(self):
+        return "".join(f"{file}: {line_of(counts)}\n" for file, counts in sorted(self.counts.items()))
+
+
+def line_of(counts):
+    return ", ".join(f"{name} {count}" for name, count in sorted(counts.items()) if count) or "nothing"
+
+
+def stale_counts(told, listed):
+    for line in sorted(set(told.splitlines()) ^ set(listed.splitlines())):
+        yield f"counts.txt: {'not' if line in told.splitlines() else 'no more'} as listed: {line}"
+
+
+def main(arguments):
+    checker, listed = Checker().run(), HERE / "counts.txt"
+    if arguments == ["--count"]:
+        listed.write_text(checker.told(), encoding="utf-8")
+    faults = checker.faults + list(stale_counts(checker.told(), listed.read_text(encoding="utf-8")))
+    used = {name for counts in checker.counts.values() for name in counts if counts[name]}
+    faults += [f"kinds.txt: no file has a {name}" for name in checker.names if name not in used]
+    for fault in faults:
+        print(f"rust/checker: {fault}")
+    total = sum(sum(counts.values()) for counts in checker.counts.values())
+    print(f"rust/checker: {len(checker.counts)} files, {total} differences of {len(used)} kinds (at most {LIMIT}), {len(faults)} faults")
+    print(f"rust/checker: taken out as ghost: {line_of(checker.ghosts)}")
+    return bool(faults)
+
+
+if __name__ == "__main__":
+    sys.exit(main(sys.argv[1:]))

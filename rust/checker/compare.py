@@ -1,0 +1,59 @@
+"""Compares two lists of words, which may differ by the kinds on the list alone."""
+from words import skip_to
+
+
+class Difference(Exception):
+    pass
+
+
+def compare(old, new, kinds, counts):
+    """Goes through both lists, and raises a Difference where they go on in a way that is on no list."""
+    at, to = 0, 0
+    while at < len(old) or to < len(new):
+        if at < len(old) and to < len(new) and old[at] == new[to]:
+            at, to = at + 1, to + 1
+            continue
+        for kind in kinds:
+            ends = step(kind, old, at, new, to, kinds, counts)
+            if ends:
+                at, to = ends
+                break
+        else:
+            raise Difference(f"{place(old, at)} `{' '.join(old[at:at + 8])}` is `{' '.join(new[to:to + 8])}` {place(new, to)}")
+
+
+def place(words, at):
+    return f"line {getattr(words[at], 'line', '?')}" if at < len(words) else "the end"
+
+
+def step(kind, old, at, new, to, kinds, counts):
+    """Returns where both lists go on behind a difference of one kind that begins here, or None."""
+    taken, given = match(kind.old, old, at - kind.alike), match(kind.new, new, to - kind.alike)
+    if not taken or not given:
+        return None
+    for name, words in taken[1].items():
+        if name in given[1]:
+            compare(words, given[1][name], kinds, counts)
+    counts[kind.name] += 1
+    return taken[0], given[0]
+
+
+def match(form, words, at):
+    """Returns where a form ends that begins here, with the words that its variables stand for."""
+    found, place_in_form = {}, 0
+    if at < 0:
+        return None
+    while place_in_form < len(form):
+        if form[place_in_form] == "$":
+            try:
+                end = skip_to(words, at, (form[place_in_form + 2],))
+            except (IndexError, ValueError):
+                return None
+            if found.setdefault(str(form[place_in_form + 1]), words[at:end]) != words[at:end]:
+                return None
+            at, place_in_form = end, place_in_form + 2
+        elif at < len(words) and words[at] == form[place_in_form]:
+            at, place_in_form = at + 1, place_in_form + 1
+        else:
+            return None
+    return at, found

@@ -1,0 +1,128 @@
+"""Forms of Rattle that the erased sources have in another form, too long for the list of kinds: what has to stand for them."""
+import re
+
+from words import group_end, skip_to, starts, words_of
+
+CRATES = {
+    "langtag_scan": "scan",
+    "langtag_case": "case",
+    "langtag_language": "language",
+    "langtag_place": "place",
+    "langtag_extension": "extension",
+    "langtag_private": "private",
+    "langtag": "tag",
+    "langtag_match": "matching",
+    "langtag_registry": "registry",
+    "langtag_likely": "likely",
+}
+IMPLS = """impl{generics} fmt::Display for {type} {{ fn fmt(&self, f: &mut fmt::Formatter<'_>) -> fmt::Result {{ {body} }} }}
+impl{bound} core::error::Error for {type} {{}}"""
+
+
+def with_paths(words, crate, counts):
+    """Names each path as the one crate has it."""
+    out = []
+    for at, word in enumerate(words):
+        is_first = starts(words, at + 1, ":", ":") and words[at - 1] != ":"
+        other = crate if word == "crate" else word
+        if is_first and other in CRATES:
+            out += words_of(f"crate::{CRATES[other]}")
+        else:
+            out.append("core" if is_first and word == "std" else word)
+        counts["path"] += out[-1] != word
+    return out
+
+
+def with_errors(words, counts):
+    """Writes out what thiserror derives: the message of each error, and that it is one."""
+    out, at = [], 0
+    while at < len(words):
+        if not starts(words, at, "#", "[", "derive") or "Error" not in words[at : group_end(words, at + 1)]:
+            out.append(words[at])
+            at += 1
+            continue
+        end = item_end(words, at)
+        out += with_impls(words[at:end])
+        counts["error"] += 1
+        at = end
+    return out
+
+
+def item_end(words, at):
+    while words[at] not in ("struct", "enum"):
+        at = group_end(words, at + 1) if words[at] == "#" else group_end(words, at) if words[at] == "(" else at + 1
+    end = group_end(words, skip_to(words, at, ("{", "(")))
+    return end + 1 if words[end : end + 1] == [";"] else end
+
+
+def with_impls(item):
+    """Returns an error type without its attributes, and its impls."""
+    plain, messages = without_messages(without_error(item))
+    name = plain[next(at for at, word in enumerate(plain) if word in ("struct", "enum")) + 1]
+    parameter = next((plain[at + 2] for at, word in enumerate(plain) if word == name and plain[at + 1] == "<"), "")
+    if not messages[0][0]:
+        body = f"f.write_str({messages[0][2]})"
+    else:
+        body = "match self {" + ",".join(arm(name, *message) for message in messages) + "}"
+    lifetime = parameter.startswith("'")
+    type_ = f"{name}<'_>" if lifetime else f"{name}<{parameter}>" if parameter else name
+    generics, bound = ("", "") if lifetime or not parameter else (f"<{parameter}>", f"<{parameter}: fmt::Debug>")
+    return plain + words_of(IMPLS.format(generics=generics, bound=bound, type=type_, body=body))
+
+
+def without_error(item):
+    """Takes the trait `Error` from the derive that opens an item."""
+    end = group_end(item, 1)
+    names = [word for word in item[4 : end - 2] if word not in (",", "Error")]
+    return item[:4] + [word for name in names for word in (name, ",")][:-1] + item[end - 2 :]
+
+
+def without_messages(item):
+    """Returns an item without `#[error(..)]`, and for each the variant that follows, what opens its fields, and the message."""
+    plain, messages, at = [], [], 0
+    while at < len(item):
+        if starts(item, at, "#", "[", "error", "("):
+            message, at = item[at + 4], group_end(item, at + 1)
+            is_variant = item[at] not in ("pub", "struct", "enum", "#")
+            messages.append((item[at], item[at + 1], message) if is_variant else ("", "", message))
+        else:
+            plain.append(item[at])
+            at += 1
+    return plain, messages
+
+
+def arm(name, variant, opens, message):
+    """Returns how a variant writes its message: `{0}` is its field, which is named in the pattern."""
+    fields = re.findall(r"\{(\w+)\}", message)
+    if opens == "(":
+        pattern = "(value)" if fields else "(_)"
+    else:
+        pattern = f"{{ {', '.join(fields)}, .. }}" if opens == "{" else ""
+    text = message.replace("{0}", "{value}")
+    return f"{name}::{variant}{pattern} => " + (f"write!(f, {text})" if fields else f"f.write_str({text})")
+
+
+def with_nested_chains(words, counts):
+    """Writes `if a && let b = c {..}` as one `if` in another."""
+    for at in range(len(words) - 1, -1, -1):
+        if words[at] == "if":
+            body, joints = condition(words, at + 1)
+            lets = [joint for joint in (at - 1, *joints) if words[joint + 2] == "let"]
+            if joints and words[body] == "{" and lets:
+                counts["let chain"] += 1
+                end = group_end(words, body)
+                words = words[:end] + ["}"] * len(joints) + words[end:]
+                for joint in reversed(joints):
+                    words = words[:joint] + ["{", "if"] + words[joint + 2 :]
+    return words
+
+
+def condition(words, at):
+    """Returns where a condition ends, and where it has `&&` outside of all groups."""
+    joints = []
+    while words[at] != "{" and not starts(words, at, "=", ">"):
+        if starts(words, at, "&", "&"):
+            joints.append(at)
+            at += 1
+        at = group_end(words, at) if words[at] in ("(", "[", "{") else at + 1
+    return at, joints

@@ -1,0 +1,91 @@
+"""Rust and Rattle source as a list of words, without comments and layout."""
+import re
+
+WORD = re.compile(
+    r"""//[^\n]*|/\*.*?\*/|b?r(\#*)".*?"\1|b?"(?:\\.|[^"\\])*"|b?'(?:\\x..|\\u\{\w+\}|\\.|[^\\'\n])'|'\w+|\w+|\S""",
+    re.DOTALL | re.VERBOSE,
+)
+OPENED_BY = {")": "(", "]": "[", "}": "{"}
+
+
+class Word(str):
+    """A word, and the line that it stands in."""
+
+    line = 0
+
+
+def words_of(text):
+    words, line, at = [], 1, 0
+    for found in WORD.finditer(text):
+        line, at = line + text.count("\n", at, found.start()), found.start()
+        if not found[0].startswith(("//", "/*")):
+            words.append(Word(found[0]))
+            words[-1].line = line
+    return words
+
+
+def group_end(words, at):
+    """Returns the place behind the group that opens here."""
+    opened = []
+    for place in range(at, len(words)):
+        if words[place] in OPENED_BY.values():
+            opened.append(words[place])
+        elif words[place] in OPENED_BY and opened.pop() != OPENED_BY[words[place]]:
+            break
+        if not opened:
+            return place + 1
+    raise ValueError(f"line {words[at].line}: a group that does not end")
+
+
+def skip_to(words, at, wanted):
+    """Returns the first place from here on, outside of all groups, that has one of these words."""
+    while words[at] not in wanted:
+        at = group_end(words, at) if words[at] in OPENED_BY.values() else at + 1
+    return at
+
+
+def starts(words, at, *wanted):
+    return tuple(words[at : at + len(wanted)]) == wanted
+
+
+def without_last_commas(words):
+    """Leaves out the comma before a closing bracket, which is layout, unless it makes a tuple of one."""
+    kept, opened = [], []
+    for place, word in enumerate(words):
+        if word in OPENED_BY.values():
+            is_call = kept and (kept[-1] in (")", "]", ">", "!") or re.match(r"\w", kept[-1]))
+            opened.append([word == "(" and not is_call, 0])
+        elif word == "," and opened:
+            opened[-1][1] += 1
+        elif word in OPENED_BY:
+            may_be_tuple, commas = opened.pop()
+            if kept[-1] == "," and not (may_be_tuple and commas == 1):
+                kept.pop()
+        kept.append(word)
+    return kept
+
+
+def without_arm_braces(words):
+    """Leaves out the braces around the one expression of an arm, `=> { a }`, which are layout."""
+    for at in range(len(words) - 3, -1, -1):
+        if starts(words, at, "=", ">", "{"):
+            end = group_end(words, at + 2)
+            inner = words[at + 3 : end - 1]
+            if inner and not has_statement(inner):
+                comma = [] if words[end : end + 1] == [","] else [","]
+                words = words[: at + 2] + inner + comma + words[end:]
+    return words
+
+
+def has_statement(words):
+    """Returns whether there is a `;` outside of all groups."""
+    at = 0
+    while at < len(words):
+        if words[at] == ";":
+            return True
+        at = group_end(words, at) if words[at] in OPENED_BY.values() else at + 1
+    return False
+
+
+def without_layout(words):
+    return without_last_commas(without_arm_braces(words))

@@ -1,0 +1,284 @@
+//! What each command answers.
+use langtag::likely::{best_for_header, distance, maximized, minimized};
+use langtag::matching::LanguageRange;
+use langtag::registry::{canonical, validate, InvalidSubtag};
+use langtag::{LangTag, LangTagBuf, NormalLangTag, TypedLangTag};
+
+use crate::input::Failure;
+use crate::options::{Command, Options};
+use crate::pointer;
+
+/// The answer to a text.
+pub struct Answer {
+    /// What is printed; nothing for a tag that a range does not match.
+    pub line: Option<Vec<u8>>,
+    /// Whether the text was neither refused nor found wanting.
+    pub good: bool,
+    /// Why it was.
+    pub reason: Option<String>,
+}
+
+impl Answer {
+    /// The answer of some columns, before which the text stands if there are tabs.
+    fn of(text: &[u8], columns: &[&str], options: &Options, between: &str) -> Answer {
+        let mut line = Vec::new();
+        if options.tsv {
+            line.extend_from_slice(&without_tabs(text));
+            line.push(b'\t');
+        }
+        let between = if options.tsv { "\t" } else { between };
+        line.extend_from_slice(columns.join(between).as_bytes());
+        Answer {
+            line: Some(line),
+            good: true,
+            reason: None,
+        }
+    }
+
+    fn because(mut self, reason: String) -> Answer {
+        self.good = false;
+        self.reason = Some(reason);
+        self
+    }
+}
+
+/// The text as a column: a tab in it would be read as the end of the column.
+fn without_tabs(text: &[u8]) -> Vec<u8> {
+    let mut column = Vec::new();
+    for byte in text {
+        match byte {
+            b'\t' => column.extend_from_slice(b"\\t"),
+            other => column.push(*other),
+        }
+    }
+    column
+}
+
+/// A command that answers each text by itself.
+pub struct Asked<'a> {
+    command: Command,
+    options: &'a Options,
+    range: Option<LanguageRange<'a>>,
+}
+
+impl<'a> Asked<'a> {
+    pub fn new(command: Command, options: &'a Options) -> Result<Asked<'a>, Failure> {
+        let range = match command {
+            Command::Match => Some(range_of(options)?),
+            _ => None,
+        };
+        Ok(Asked {
+            command,
+            options,
+            range,
+        })
+    }
+
+    pub fn answer(&self, text: &[u8]) -> Result<Answer, Failure> {
+        let Ok(tag) = LangTag::from_bytes(text) else {
+            return Ok(self.refused(text));
+        };
+        match self.command {
+            Command::Show => Ok(show(tag, self.options)),
+            Command::Check => check(tag, self.options),
+            Command::Maximize => Ok(self.form(tag, maximized(tag)?)),
+            Command::Minimize => Ok(self.form(tag, minimized(tag)?)),
+            Command::Match => Ok(self.matched(tag)),
+            _ => Ok(self.form(tag, canonical(tag)?)),
+        }
+    }
+
+    fn form(&self, tag: LangTag<'_>, form: LangTagBuf) -> Answer {
+        Answer::of(tag.as_bytes(), &[form.as_str()], self.options, "")
+    }
+
+    fn refused(&self, text: &[u8]) -> Answer {
+        let columns: &[&str] = match self.command {
+            Command::Show if self.options.tsv => &["refused", "", "", "", "", "", "", ""],
+            Command::Check if self.options.tsv => &["refused", "", "", ""],
+            Command::Show | Command::Check => &["refused"],
+            _ => &["-"],
+        };
+        let mut answer = Answer::of(text, columns, self.options, "");
+        if self.command == Command::Match && !self.options.tsv {
+            answer.line = None;
+        }
+        answer.because(pointer::refused(text))
+    }
+
+    fn matched(&self, tag: LangTag<'_>) -> Answer {
+        let is_matched = self.range.is_some_and(|range| match self.options.basic {
+            true => range.matches_basic(&tag),
+            false => range.matches_extended(&tag),
+        });
+        let columns = if is_matched { "yes" } else { "no" };
+        let line = match (self.options.tsv, is_matched) {
+            (true, _) => Answer::of(tag.as_bytes(), &[columns], self.options, "").line,
+            (false, true) => Some(tag.as_bytes().to_vec()),
+            (false, false) => None,
+        };
+        Answer {
+            line,
+            good: is_matched,
+            reason: None,
+        }
+    }
+}
+
+/// The range of `match`. What is no range ends the run as wrong arguments do.
+fn range_of(options: &Options) -> Result<LanguageRange<'_>, Failure> {
+    let range = core::str::from_utf8(&options.first).ok();
+    range
+        .and_then(|text| LanguageRange::new(text).ok())
+        .ok_or(Failure::Range)
+}
+
+/// The line of `show`, which is the proved program's.
+fn show(tag: LangTag<'_>, options: &Options) -> Answer {
+    let text = tag.as_bytes();
+    match tag.as_typed() {
+        TypedLangTag::Normal(tag) => {
+            let parts = parts_of(&tag);
+            if options.tsv {
+                let mut columns = vec!["normal"];
+                columns.extend(parts.map(|(_, part)| part));
+                return Answer::of(text, &columns, options, "");
+            }
+            let named = parts.map(|(name, part)| format!(" {name}={part}"));
+            Answer::of(text, &[&format!("normal{}", named.concat())], options, "")
+        }
+        TypedLangTag::PrivateUse(tag) => whole("private", text, tag.as_str(), options),
+        TypedLangTag::Grandfathered(tag) => whole("irregular", text, tag.as_str(), options),
+    }
+}
+
+/// The answer to a tag that is not made of parts.
+fn whole(kind: &str, text: &[u8], tag: &str, options: &Options) -> Answer {
+    match options.tsv {
+        true if kind == "private" => {
+            Answer::of(text, &[kind, "", "", "", "", "", tag, ""], options, "")
+        }
+        true => Answer::of(text, &[kind, "", "", "", "", "", "", ""], options, ""),
+        false => Answer::of(text, &[kind, tag], options, " "),
+    }
+}
+
+/// The parts of a normal tag by the names that they have in the answer.
+fn parts_of<'a>(tag: &NormalLangTag<'a>) -> [(&'static str, &'a str); 7] {
+    let is_repeated = tag.repeated_variant().is_some() || tag.repeated_singleton().is_some();
+    [
+        ("language", tag.language().as_str()),
+        ("script", tag.script().map_or("", |script| script.as_str())),
+        ("region", tag.region().map_or("", |region| region.as_str())),
+        ("variants", tag.variants().as_str()),
+        ("extensions", tag.extensions().as_str()),
+        (
+            "private",
+            tag.private_use().map_or("", |part| part.as_str()),
+        ),
+        ("repeats", if is_repeated { "yes" } else { "no" }),
+    ]
+}
+
+/// The line of `check`, which is the proved program's.
+fn check(tag: LangTag<'_>, options: &Options) -> Result<Answer, Failure> {
+    let form = canonical(tag)?;
+    let Err(invalid) = validate(tag) else {
+        let columns: &[&str] = if options.tsv {
+            &["valid", "", "", &form]
+        } else {
+            &["valid", &format!("canonical={form}")]
+        };
+        return Ok(Answer::of(tag.as_bytes(), columns, options, " "));
+    };
+    let (what, subtag) = fault_of(&invalid);
+    let answer = match options.tsv {
+        true => Answer::of(
+            tag.as_bytes(),
+            &["invalid", what, &subtag, &form],
+            options,
+            "",
+        ),
+        false => Answer::of(
+            tag.as_bytes(),
+            &[
+                "invalid",
+                &format!("{what}={subtag}"),
+                &format!("canonical={form}"),
+            ],
+            options,
+            " ",
+        ),
+    };
+    Ok(answer.because(pointer::invalid(tag, &invalid)))
+}
+
+/// What is wrong, and the subtag.
+fn fault_of(invalid: &InvalidSubtag<'_>) -> (&'static str, String) {
+    match invalid {
+        InvalidSubtag::Language(subtag) => ("language", subtag.to_string()),
+        InvalidSubtag::Extlang(subtag) => ("extlang", subtag.to_string()),
+        InvalidSubtag::SecondExtlang(subtag) => ("second-extlang", subtag.to_string()),
+        InvalidSubtag::Script(subtag) => ("script", subtag.to_string()),
+        InvalidSubtag::Region(subtag) => ("region", subtag.to_string()),
+        InvalidSubtag::Variant(subtag) => ("variant", subtag.to_string()),
+        InvalidSubtag::RepeatedVariant(subtag) => ("repeated-variant", subtag.to_string()),
+        InvalidSubtag::RepeatedSingleton(singleton) => {
+            ("repeated-singleton", singleton.to_string())
+        }
+    }
+}
+
+/// The answer of `best`: the tag that a reader wants who sends the header.
+pub fn best(options: &Options, texts: &[Vec<u8>]) -> Result<Answer, Failure> {
+    let mut tags = Vec::new();
+    for text in texts {
+        match LangTag::from_bytes(text) {
+            Ok(tag) => tags.push(tag),
+            Err(_) => {
+                return Ok(
+                    Answer::of(&options.first, &["-"], options, "").because(pointer::refused(text))
+                )
+            }
+        }
+    }
+    let best = best_for_header(&options.first, &tags).map(|index| tags[index]);
+    let mut answer = Answer::of(
+        &options.first,
+        &[best.map_or("-", |tag| tag.as_str())],
+        options,
+        "",
+    );
+    answer.good = best.is_some();
+    Ok(answer)
+}
+
+/// The answer of `distance` to a line of two tags.
+pub fn distance_in(line: &[u8], options: &Options) -> Answer {
+    let mut words = line
+        .split(|byte| byte.is_ascii_whitespace())
+        .filter(|word| !word.is_empty());
+    match (words.next(), words.next(), words.next()) {
+        (Some(desired), Some(supported), None) => distance_of(desired, supported, options),
+        _ => between(line, b"", "-", options).because("two tags are wanted in a line: A B".into()),
+    }
+}
+
+pub fn distance_of(desired: &[u8], supported: &[u8], options: &Options) -> Answer {
+    match (LangTag::from_bytes(desired), LangTag::from_bytes(supported)) {
+        (Ok(from), Ok(to)) => between(desired, supported, &distance(from, to).to_string(), options),
+        (Err(error), _) | (_, Err(error)) => {
+            between(desired, supported, "-", options).because(pointer::refused(error.0))
+        }
+    }
+}
+
+fn between(desired: &[u8], supported: &[u8], distance: &str, options: &Options) -> Answer {
+    let supported = String::from_utf8_lossy(supported);
+    let columns: &[&str] = if options.tsv {
+        &[&supported, distance]
+    } else {
+        &[distance]
+    };
+    Answer::of(desired, columns, options, "")
+}

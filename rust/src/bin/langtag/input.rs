@@ -1,0 +1,70 @@
+//! The texts: arguments, or the lines of standard input.
+use std::io::{self, BufRead, BufReader, Write};
+
+use langtag::AllocError;
+
+/// What ends a run early.
+#[derive(Clone, Copy, Debug, PartialEq, Eq)]
+pub enum Failure {
+    Memory,
+    Read,
+    Write,
+    /// The first argument of `match` is no range.
+    Range,
+    /// Nobody reads the answers any more, as behind `head`.
+    Closed,
+}
+
+impl Failure {
+    pub fn words(self) -> Option<&'static str> {
+        match self {
+            Failure::Memory => Some("out of memory"),
+            Failure::Read => Some("read failed"),
+            Failure::Write => Some("write failed"),
+            Failure::Range => Some("the first argument of `match` is not a language range"),
+            Failure::Closed => None,
+        }
+    }
+
+    pub fn status(self) -> u8 {
+        match self {
+            Failure::Range => 2,
+            Failure::Memory => 3,
+            Failure::Read => 4,
+            Failure::Write | Failure::Closed => 5,
+        }
+    }
+}
+
+impl From<AllocError> for Failure {
+    fn from(_: AllocError) -> Self {
+        Failure::Memory
+    }
+}
+
+/// Hands each of the given texts to `answer`, or, if there are none, each line of standard input. A line ends at LF alone, and a last
+/// line without LF counts unless it is empty. Before a read that may wait, what was answered is written.
+pub fn texts<W: Write>(
+    given: &[Vec<u8>],
+    output: &mut W,
+    mut answer: impl FnMut(&[u8], &mut W) -> Result<(), Failure>,
+) -> Result<(), Failure> {
+    if !given.is_empty() {
+        return given.iter().try_for_each(|text| answer(text, output));
+    }
+    let mut input = BufReader::new(io::stdin().lock());
+    let mut line = Vec::new();
+    loop {
+        if input.buffer().is_empty() {
+            output.flush().map_err(Failure::write)?;
+        }
+        line.clear();
+        let count = input
+            .read_until(b'\n', &mut line)
+            .map_err(|_| Failure::Read)?;
+        if count == 0 {
+            return Ok(());
+        }
+        answer(line.strip_suffix(b"\n").unwrap_or(&line), output)?;
+    }
+}

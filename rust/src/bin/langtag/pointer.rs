@@ -1,0 +1,77 @@
+//! Why a text is refused, with the subtag underlined.
+use langtag::registry::InvalidSubtag;
+use langtag::{InvalidLangTag, LangTag, Refusal, RefusalKind};
+
+/// Longer texts are not repeated.
+const LONGEST: usize = 120;
+
+/// Says why a text is not a tag.
+pub fn refused(text: &[u8]) -> String {
+    let shown = shown(text);
+    let readable = String::from_utf8_lossy(text);
+    let reason = InvalidLangTag(&readable).reason().to_string();
+    let marked = match Refusal::of(text) {
+        Some(refusal) if refusal.kind == RefusalKind::Byte => refusal.offset..refusal.offset + 1,
+        Some(refusal) => refusal.start..refusal.end,
+        None => 0..text.len(),
+    };
+    format!(
+        "`{shown}` is not a language tag: {}{}",
+        self::shown(reason.as_bytes()),
+        underlined(text, marked)
+    )
+}
+
+/// Says why a tag is not valid.
+pub fn invalid(tag: LangTag<'_>, invalid: &InvalidSubtag<'_>) -> String {
+    let text = tag.as_str();
+    let subtag = match invalid {
+        InvalidSubtag::Language(subtag) => subtag.as_str(),
+        InvalidSubtag::Extlang(subtag) | InvalidSubtag::SecondExtlang(subtag) => subtag.as_str(),
+        InvalidSubtag::Script(subtag) => subtag.as_str(),
+        InvalidSubtag::Region(subtag) => subtag.as_str(),
+        InvalidSubtag::Variant(subtag) | InvalidSubtag::RepeatedVariant(subtag) => subtag.as_str(),
+        InvalidSubtag::RepeatedSingleton(_) => repeated_singleton(tag),
+    };
+    let start = subtag.as_ptr() as usize - text.as_ptr() as usize;
+    let shown = shown(tag.as_bytes());
+    format!(
+        "`{shown}` is not valid: {invalid}{}",
+        underlined(tag.as_bytes(), start..start + subtag.len())
+    )
+}
+
+/// The singleton of the first extension that repeats an earlier one, as a slice of the tag.
+fn repeated_singleton<'a>(tag: LangTag<'a>) -> &'a str {
+    let index = tag
+        .as_normal()
+        .and_then(|tag| tag.repeated_singleton_index());
+    let extension = index.and_then(|index| tag.extensions().iter().nth(index));
+    extension.map_or(tag.as_str(), |extension| &extension.as_str()[..1])
+}
+
+/// A text as a terminal may show it.
+fn shown(text: &[u8]) -> String {
+    let text = String::from_utf8_lossy(text);
+    let mut shown: String = text
+        .chars()
+        .take(LONGEST)
+        .map(|c| if c.is_control() { '\u{fffd}' } else { c })
+        .collect();
+    if text.chars().nth(LONGEST).is_some() {
+        shown.push_str("..");
+    }
+    shown
+}
+
+/// The text, and on the next line marks below some of its bytes; nothing for a long text.
+fn underlined(text: &[u8], marked: core::ops::Range<usize>) -> String {
+    if text.len() > LONGEST {
+        return String::new();
+    }
+    let before = String::from_utf8_lossy(&text[..marked.start])
+        .chars()
+        .count();
+    let marks = "^".repeat(marked.len().max(1));
+    format!("\n    {}\n    {}{marks}", shown(text), " ".repeat(before))
+}

@@ -1,0 +1,97 @@
+//! How a map by tags is asked by a text.
+use core::borrow::Borrow;
+use core::cmp::Ordering;
+use core::fmt;
+use core::hash::{Hash, Hasher};
+
+use crate::matching::LanguageRange;
+#[cfg(feature = "alloc")]
+use crate::matching::LanguageRangeBuf;
+use crate::*;
+
+/// A text, seen without the case of its ASCII letters: what a map by tags, by parts or by ranges is asked by, without memory.
+///
+/// Each text, borrowed or owned, and each tag is one. A map whose keys are [`LangTagBuf`](crate::LangTagBuf) can't be asked by
+/// `&LangTag`, since no key holds a `LangTag` to lend, nor by `&str`, which is hashed with its case.
+///
+/// ```
+/// # #[cfg(feature = "alloc")] {
+/// use langtag::{CaselessText, LangTag, LangTagBuf};
+/// use std::collections::HashMap;
+///
+/// let words = HashMap::from([("de-CH".parse::<LangTagBuf>()?, "Velo")]);
+/// assert_eq!(words.get("DE-ch".caseless()), Some(&"Velo"));
+/// assert_eq!(words.get(LangTag::new("de-ch")?.caseless()), Some(&"Velo"));
+/// assert_eq!(words.get("de".caseless()), None);
+/// # }
+/// # Ok::<(), Box<dyn std::error::Error>>(())
+/// ```
+pub trait CaselessText {
+    /// Returns the text, with its case.
+    fn text(&self) -> &str;
+
+    /// Returns the same text, to ask a map by.
+    fn caseless(&self) -> &dyn CaselessText
+    where
+        Self: Sized,
+    {
+        self
+    }
+}
+
+impl<T: AsRef<str>> CaselessText for T {
+    fn text(&self) -> &str {
+        self.as_ref()
+    }
+}
+
+impl PartialEq for dyn CaselessText + '_ {
+    fn eq(&self, other: &Self) -> bool {
+        case_insensitive_eq(self.text().as_bytes(), other.text().as_bytes())
+    }
+}
+
+impl Eq for dyn CaselessText + '_ {}
+
+impl PartialOrd for dyn CaselessText + '_ {
+    fn partial_cmp(&self, other: &Self) -> Option<Ordering> {
+        Some(self.cmp(other))
+    }
+}
+
+impl Ord for dyn CaselessText + '_ {
+    fn cmp(&self, other: &Self) -> Ordering {
+        case_insensitive_cmp(self.text().as_bytes(), other.text().as_bytes())
+    }
+}
+
+impl Hash for dyn CaselessText + '_ {
+    fn hash<H: Hasher>(&self, state: &mut H) {
+        case_insensitive_hash(self.text().as_bytes(), state);
+    }
+}
+
+impl fmt::Debug for dyn CaselessText + '_ {
+    fn fmt(&self, f: &mut fmt::Formatter<'_>) -> fmt::Result {
+        self.text().fmt(f)
+    }
+}
+
+macro_rules! asked {
+    ($($name:ident, $owned:ident, $error:ident, $lend:ident, $what:literal;)+) => {$(
+        impl<'k, 'a: 'k> Borrow<dyn CaselessText + 'k> for $name<'a> {
+            fn borrow(&self) -> &(dyn CaselessText + 'k) {
+                self
+            }
+        }
+
+        #[cfg(feature = "alloc")]
+        impl<'k> Borrow<dyn CaselessText + 'k> for $owned {
+            fn borrow(&self) -> &(dyn CaselessText + 'k) {
+                self
+            }
+        }
+    )+};
+}
+
+for_text_types!(asked);

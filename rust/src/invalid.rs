@@ -1,0 +1,88 @@
+//! The errors for texts that are refused: compared, kept longer than the text, and explained.
+use core::fmt;
+
+use crate::matching::InvalidLanguageRange;
+use crate::*;
+
+macro_rules! errors {
+    ($($name:ident, $owned:ident, $error:ident, $lend:ident, $what:literal;)+) => {$(
+        impl<T: Clone> Clone for $error<T> {
+            fn clone(&self) -> Self {
+                $error(self.0.clone())
+            }
+        }
+
+        impl<T: Copy> Copy for $error<T> {}
+
+        impl<T: PartialEq> PartialEq for $error<T> {
+            fn eq(&self, other: &Self) -> bool {
+                self.0 == other.0
+            }
+        }
+
+        impl<T: Eq> Eq for $error<T> {}
+
+        #[cfg(feature = "alloc")]
+        impl $error<&str> {
+            /// Returns the same error with a copy of the text, which outlives what was read.
+            pub fn into_owned(self) -> $error<alloc::string::String> {
+                $error(self.0.into())
+            }
+        }
+
+        #[cfg(feature = "alloc")]
+        impl From<$error<&str>> for $error<alloc::string::String> {
+            fn from(error: $error<&str>) -> Self {
+                error.into_owned()
+            }
+        }
+    )+};
+}
+
+for_text_types!(errors);
+
+impl<T: AsRef<str>> InvalidLangTag<T> {
+    /// Returns where the text goes wrong. `None` only of an error that was made of a tag.
+    ///
+    /// ```
+    /// use langtag::{LangTag, RefusalKind};
+    ///
+    /// let error = LangTag::new("de-419-DE").unwrap_err();
+    /// let refusal = error.refusal().unwrap();
+    /// assert_eq!(refusal.kind, RefusalKind::Subtag);
+    /// assert_eq!(&error.0[refusal.start..refusal.end], "DE");
+    /// ```
+    pub fn refusal(&self) -> Option<Refusal> {
+        Refusal::of(self.0.as_ref().as_bytes())
+    }
+
+    /// Returns why the text is refused, in words, to be displayed.
+    ///
+    /// ```
+    /// use langtag::LangTag;
+    ///
+    /// let error = LangTag::new("de-419-DE").unwrap_err();
+    /// assert_eq!(error.reason().to_string(), "`DE` does not fit there");
+    /// ```
+    pub fn reason(&self) -> impl fmt::Display + '_ {
+        Reason(self.0.as_ref())
+    }
+}
+
+/// Why a text is not a tag.
+struct Reason<'a>(&'a str);
+
+impl fmt::Display for Reason<'_> {
+    fn fmt(&self, f: &mut fmt::Formatter<'_>) -> fmt::Result {
+        let Some(refusal) = Refusal::of(self.0.as_bytes()) else {
+            return f.write_str("it is a tag");
+        };
+        let subtag = &self.0[refusal.start..refusal.end];
+        match refusal.kind {
+            RefusalKind::Subtag if subtag.is_empty() => f.write_str("a subtag is empty"),
+            RefusalKind::Subtag => write!(f, "`{subtag}` does not fit there"),
+            RefusalKind::Byte => write!(f, "`{subtag}` has a byte that is no letter and no digit"),
+            RefusalKind::End => f.write_str("it ends too soon"),
+        }
+    }
+}

@@ -1,0 +1,86 @@
+//! The calls of a borrowed type on its owned form: `owned.script()` is `owned.as_lang_tag().script()`.
+#[allow(unused_imports)] // LanguageRange is named in links alone
+use crate::matching::{Fallbacks, LanguageRange, LanguageRangeBuf};
+use crate::*;
+
+macro_rules! lent {
+    ($($owned:ident: $name:ident by $lend:ident { $($call:ident($($argument:ident: $type:ty)?) -> $result:ty;)+ })+) => {$(
+        impl $owned {$(
+            #[doc = concat!("Returns what [`", stringify!($name), "::", stringify!($call), "`] returns.")]
+            #[inline]
+            pub fn $call(&self, $($argument: $type)?) -> $result {
+                self.$lend().$call($($argument)?)
+            }
+        )+}
+    )+};
+}
+
+lent! {
+    LanguageBuf: Language by as_language {
+        primary() -> PrimaryLanguage<'_>;
+        extension() -> Option<LanguageExtension<'_>>;
+        extension_subtags() -> LanguageExtensionIter<'_>;
+    }
+    LanguageExtensionBuf: LanguageExtension by as_language_extension {
+        iter() -> LanguageExtensionIter<'_>;
+    }
+    VariantsBuf: Variants by as_variants {
+        iter() -> VariantsIter<'_>;
+        first() -> Option<Variant<'_>>;
+        last() -> Option<Variant<'_>>;
+    }
+    ExtensionBuf: Extension by as_extension {
+        singleton() -> Singleton;
+        iter() -> ExtensionIter<'_>;
+    }
+    ExtensionsBuf: Extensions by as_extensions {
+        iter() -> ExtensionsIter<'_>;
+        get(singleton: Singleton) -> Option<Extension<'_>>;
+        iter_extension(singleton: Singleton) -> ExtensionIter<'_>;
+    }
+    PrivateUseBuf: PrivateUse by as_private_use {
+        iter() -> PrivateUseIter<'_>;
+    }
+    NormalLangTagBuf: NormalLangTag by as_normal_lang_tag {
+        as_lang_tag() -> LangTag<'_>;
+        ends() -> Ends;
+        language() -> Language<'_>;
+        script() -> Option<Script<'_>>;
+        region() -> Option<Region<'_>>;
+        variants() -> Variants<'_>;
+        extensions() -> Extensions<'_>;
+        private_use() -> Option<PrivateUse<'_>>;
+        private_use_subtags() -> PrivateUseIter<'_>;
+        subtags() -> Subtags<'_>;
+        repeated_variant() -> Option<Variant<'_>>;
+        repeated_singleton() -> Option<Singleton>;
+        in_recommended_case() -> InRecommendedCase<'_>;
+        is_in_recommended_case() -> bool;
+    }
+    LangTagBuf: LangTag by as_lang_tag {
+        kind() -> Kind;
+        as_typed() -> TypedLangTag<'_>;
+        is_normal() -> bool;
+        is_private_use() -> bool;
+        is_grandfathered() -> bool;
+        as_normal() -> Option<NormalLangTag<'_>>;
+        as_private_use() -> Option<PrivateUseLangTag<'_>>;
+        as_grandfathered() -> Option<GrandfatheredLangTag>;
+        language() -> Option<Language<'_>>;
+        script() -> Option<Script<'_>>;
+        region() -> Option<Region<'_>>;
+        variants() -> Variants<'_>;
+        extensions() -> Extensions<'_>;
+        private_use() -> Option<PrivateUse<'_>>;
+        private_use_subtags() -> PrivateUseIter<'_>;
+        subtags() -> Subtags<'_>;
+        in_recommended_case() -> InRecommendedCase<'_>;
+        is_in_recommended_case() -> bool;
+    }
+    LanguageRangeBuf: LanguageRange by as_language_range {
+        is_basic() -> bool;
+        matches_basic(tag: &LangTag<'_>) -> bool;
+        matches_extended(tag: &LangTag<'_>) -> bool;
+        fallbacks() -> Fallbacks<'_>;
+    }
+}

@@ -1,0 +1,98 @@
+//! Tags, their parts and ranges as strings of serde: `Serialize` and `Deserialize`, in lists, options and as keys of maps. The
+//! borrowed types are read of a string that the input lends.
+//!
+//! This stands behind `cfg(feature = "serde")`. The manifest of a release declares that feature with its dependency.
+use alloc::string::String;
+use core::fmt;
+
+use ::serde::de::{Deserialize, Deserializer, Error, Unexpected, Visitor};
+use ::serde::ser::{Serialize, Serializer};
+
+use crate::matching::{LanguageRange, LanguageRangeBuf};
+use crate::*;
+
+macro_rules! strings {
+    ($($name:ident, $owned:ident, $error:ident, $lend:ident, $what:literal;)+) => {$(
+        const _: () = {
+            impl Serialize for $name<'_> {
+                fn serialize<S: Serializer>(&self, serializer: S) -> Result<S::Ok, S::Error> {
+                    serializer.serialize_str(self.as_str())
+                }
+            }
+
+            impl Serialize for $owned {
+                fn serialize<S: Serializer>(&self, serializer: S) -> Result<S::Ok, S::Error> {
+                    serializer.serialize_str(self.as_str())
+                }
+            }
+
+            struct Borrowed;
+
+            impl<'de> Visitor<'de> for Borrowed {
+                type Value = $name<'de>;
+
+                fn expecting(&self, f: &mut fmt::Formatter<'_>) -> fmt::Result {
+                    f.write_str(concat!($what, ", borrowed from the input"))
+                }
+
+                fn visit_borrowed_str<E: Error>(self, text: &'de str) -> Result<Self::Value, E> {
+                    $name::new(text).map_err(|_| E::invalid_value(Unexpected::Str(text), &self))
+                }
+            }
+
+            impl<'de: 'a, 'a> Deserialize<'de> for $name<'a> {
+                fn deserialize<D: Deserializer<'de>>(deserializer: D) -> Result<Self, D::Error> {
+                    deserializer.deserialize_str(Borrowed)
+                }
+            }
+
+            struct Owned;
+
+            impl Visitor<'_> for Owned {
+                type Value = $owned;
+
+                fn expecting(&self, f: &mut fmt::Formatter<'_>) -> fmt::Result {
+                    f.write_str($what)
+                }
+
+                fn visit_str<E: Error>(self, text: &str) -> Result<$owned, E> {
+                    text.parse().map_err(|_| E::invalid_value(Unexpected::Str(text), &self))
+                }
+
+                fn visit_string<E: Error>(self, text: String) -> Result<$owned, E> {
+                    $owned::new(text).map_err(|error| E::invalid_value(Unexpected::Str(&error.0), &self))
+                }
+            }
+
+            impl<'de> Deserialize<'de> for $owned {
+                fn deserialize<D: Deserializer<'de>>(deserializer: D) -> Result<Self, D::Error> {
+                    deserializer.deserialize_string(Owned)
+                }
+            }
+        };
+    )+};
+}
+
+for_text_types!(strings);
+
+#[cfg(feature = "oxilangtag")]
+mod oxilangtag {
+    use core::ops::Deref;
+
+    use ::serde::de::{Deserialize, Deserializer, Error};
+    use ::serde::ser::{Serialize, Serializer};
+
+    use crate::oxilangtag::LanguageTag;
+
+    impl<T: Deref<Target = str>> Serialize for LanguageTag<T> {
+        fn serialize<S: Serializer>(&self, serializer: S) -> Result<S::Ok, S::Error> {
+            serializer.serialize_str(self.as_str())
+        }
+    }
+
+    impl<'de, T: Deref<Target = str> + Deserialize<'de>> Deserialize<'de> for LanguageTag<T> {
+        fn deserialize<D: Deserializer<'de>>(deserializer: D) -> Result<Self, D::Error> {
+            LanguageTag::parse(T::deserialize(deserializer)?).map_err(D::Error::custom)
+        }
+    }
+}

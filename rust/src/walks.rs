@@ -1,0 +1,43 @@
+//! What Rust programs expect of lists and of walks over them: `for` over a list, and that a walk which ended stays at its end.
+use core::iter::FusedIterator;
+
+use crate::matching::{Fallbacks, Filtered};
+use crate::*;
+
+macro_rules! listed {
+    ($($list:ident: $walk:ident of $item:ident;)+) => {$(
+        impl<'a> IntoIterator for $list<'a> {
+            type Item = $item<'a>;
+            type IntoIter = $walk<'a>;
+
+            #[inline]
+            fn into_iter(self) -> $walk<'a> {
+                self.iter()
+            }
+        }
+
+        impl<'a> IntoIterator for &$list<'a> {
+            type Item = $item<'a>;
+            type IntoIter = $walk<'a>;
+
+            #[inline]
+            fn into_iter(self) -> $walk<'a> {
+                self.iter()
+            }
+        }
+
+        impl FusedIterator for $walk<'_> {}
+    )+};
+}
+
+listed! {
+    LanguageExtension: LanguageExtensionIter of ExtendedLangTag;
+    Variants: VariantsIter of Variant;
+    Extension: ExtensionIter of ExtensionSubtag;
+    Extensions: ExtensionsIter of Extension;
+    PrivateUse: PrivateUseIter of PrivateUseSubtag;
+}
+
+impl FusedIterator for Subtags<'_> {}
+impl FusedIterator for Fallbacks<'_> {}
+impl FusedIterator for Filtered<'_, '_> {}

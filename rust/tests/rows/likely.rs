@@ -1,0 +1,103 @@
+//! Calls of likely subtags, distances and choices.
+use langtag::likely::*;
+use langtag::matching::AcceptLanguage;
+use langtag::*;
+
+use crate::matching::{ranges_of, tags_of};
+
+/// A form of a tag, which is also written into a buffer of the right length, and into no shorter one.
+fn form(
+    text: Option<&str>,
+    made: fn(LangTag<'_>) -> Result<LangTagBuf, AllocError>,
+    write: fn(LangTag<'_>, &mut [u8]) -> usize,
+) -> String {
+    let Some(Ok(tag)) = text.map(LangTag::new) else {
+        return "-".into();
+    };
+    let form = made(tag).unwrap();
+    check_buffer(form.as_str(), |buffer| write(tag, buffer));
+    form.into_string()
+}
+
+fn check_buffer(form: &str, write: impl Fn(&mut [u8]) -> usize) {
+    let mut buffer = vec![b'~'; form.len()];
+    assert_eq!(
+        (
+            write(&mut buffer[1..]),
+            buffer[1..].iter().all(|byte| *byte == b'~')
+        ),
+        (form.len(), true)
+    );
+    assert_eq!(
+        (write(&mut buffer), &buffer[..]),
+        (form.len(), form.as_bytes())
+    );
+}
+
+pub fn maximal(text: Option<&str>) -> String {
+    form(text, maximized, write_maximized)
+}
+
+pub fn minimal(text: Option<&str>) -> String {
+    form(text, minimized, write_minimized)
+}
+
+pub fn far(desired: Option<&str>, supported: Option<&str>) -> String {
+    match (desired.map(LangTag::new), supported.map(LangTag::new)) {
+        (Some(Ok(desired)), Some(Ok(supported))) => distance(desired, supported).to_string(),
+        _ => "-".into(),
+    }
+}
+
+pub fn direction(text: Option<&str>) -> String {
+    let direction = match text.map(LangTag::new) {
+        Some(Ok(tag)) if is_right_to_left(tag) => "yes",
+        Some(Ok(_)) => "no",
+        _ => "-",
+    };
+    direction.into()
+}
+
+pub fn posix(name: Option<&str>) -> String {
+    let Some(name) = name else {
+        return "-".into();
+    };
+    match from_posix(name) {
+        Ok(tag) => {
+            check_buffer(tag.as_str(), |buffer| {
+                write_from_posix(name.as_bytes(), buffer).unwrap()
+            });
+            tag.into_string()
+        }
+        Err(PosixError::NoTag(text)) => {
+            assert_eq!(
+                (text, write_from_posix(name.as_bytes(), &mut [])),
+                (name, None)
+            );
+            "-".into()
+        }
+        Err(error) => panic!("{error}"),
+    }
+}
+
+fn shown(best: Option<usize>, tags: &[LangTag<'_>]) -> String {
+    best.map_or("-".into(), |index| tags[index].to_string())
+}
+
+pub fn best(header: &[u8], tags: &str) -> String {
+    let tags = tags_of(tags);
+    shown(best_for_header(header, &tags), &tags)
+}
+
+pub fn best_accepted(header: &str, tags: &str) -> String {
+    let tags = tags_of(tags);
+    shown(
+        best_for_accept_language(&AcceptLanguage::lenient(header).unwrap(), &tags),
+        &tags,
+    )
+}
+
+pub fn best_ranges(ranges: &str, tags: &str) -> String {
+    let tags = tags_of(tags);
+    shown(best_for_ranges(&ranges_of(ranges), &tags), &tags)
+}

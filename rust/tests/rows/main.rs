@@ -1,0 +1,108 @@
+//! Each row, asked of this crate. Where `LANGTAG_ANSWERS` names a file, the answers of the proved C library to other calls, too.
+#![cfg(feature = "alloc")]
+mod edits;
+mod likely;
+mod matching;
+mod reader;
+mod registry;
+mod tags;
+mod types;
+mod walks;
+
+use reader::{ask, Row};
+
+/// The calls that the C library answers.
+const OF_C: [&str; 14] = [
+    "tag",
+    "grandfathered",
+    "viable",
+    "validity",
+    "canonical",
+    "range",
+    "match",
+    "order",
+    "refused",
+    "maximized",
+    "minimized",
+    "distance",
+    "right-to-left",
+    "posix",
+];
+
+fn answer(row: &Row) -> String {
+    match row.call.as_str() {
+        "tag" => tags::tag(&row.arguments[0]),
+        "grandfathered" => tags::grandfathered(&row.arguments[0]),
+        "viable" => tags::viable(&row.arguments[0]),
+        "scan" => tags::scan(&row.arguments[0]),
+        "recommended" => tags::recommended(&row.arguments[0]),
+        "refused" => tags::refused(&row.arguments[0]),
+        "order" => tags::order(row.str(0), row.str(1)),
+        "class" => types::class(&row.arguments[0]),
+        "types" => types::types(row.str(0)),
+        "new" => types::new(row.str(0), row.str(1)),
+        "fronts" => types::fronts(row.str(0), row.str(1)),
+        "spelling" => types::spelling(row.str(0)),
+        "extension" => types::extension(row.str(0), row.str(1)),
+        "walk" => walks::walk(row.str(0), row.str(1), row.str(2)),
+        "edit" => edits::edit(row.str(0), row.str(1), row.str(2)),
+        "validity" => row.text(0).map_or("none".into(), registry::validity),
+        "canonical" => row.text(0).map_or("-".into(), registry::canonical_form),
+        "extlang-form" => registry::extlang(row.str(0)),
+        "fault" => registry::fault(row.str(0)),
+        "misplaced" => registry::misplaced(row.str(0)),
+        "subtag" => registry::subtag(row.str(0)),
+        "registered" => registry::registered(row.str(0)),
+        "range" => matching::range(row.text(0)),
+        "match" => matching::matches(row.text(0), row.text(1)),
+        "header" => matching::header(row.str(0), row.str(1)),
+        "ranges" => matching::ranges(row.str(0), row.str(1)),
+        "elements" => matching::elements(row.str(0)),
+        "fallbacks" => matching::fallbacks(row.str(0)),
+        "filter" => matching::filter(row.str(0), row.str(1), row.str(2)),
+        "maximized" => likely::maximal(row.text(0)),
+        "minimized" => likely::minimal(row.text(0)),
+        "distance" => likely::far(row.text(0), row.text(1)),
+        "right-to-left" => likely::direction(row.text(0)),
+        "posix" => likely::posix(row.text(0)),
+        "best" => likely::best(&row.arguments[0], row.str(1)),
+        "best-accepted" => likely::best_accepted(row.str(0), row.str(1)),
+        "best-ranges" => likely::best_ranges(row.str(0), row.str(1)),
+        call => panic!("no call: {call}"),
+    }
+}
+
+/// Writes a test for each file: its calls, and how many rows there are at least.
+macro_rules! files {
+    ($($test:ident: $file:literal, $floor:literal, [$($call:literal),+];)+) => {$(
+        #[test]
+        fn $test() {
+            ask($file, &[$($call),+], $floor, answer);
+        }
+    )+};
+}
+
+files! {
+    table: "table.txt", 360, ["tag", "grandfathered", "viable", "validity", "canonical", "range", "match", "order"];
+    texts: "texts.txt", 1700, ["scan", "recommended", "class", "types", "new", "spelling"];
+    prefixes: "prefixes.txt", 26, ["fronts"];
+    lists: "walks.txt", 150, ["walk", "extension"];
+    parts: "edits.txt", 125, ["edit"];
+    subtags: "registry.txt", 220, ["extlang-form", "fault", "misplaced", "subtag", "registered"];
+    headers: "negotiation.txt", 102, ["header", "ranges"];
+    ranges: "ranges.txt", 60, ["elements", "fallbacks", "filter"];
+    refusals: "refused.txt", 60, ["refused"];
+    forms: "likely.txt", 250, ["maximized", "minimized"];
+    distances: "distance.txt", 140, ["distance"];
+    directions: "direction.txt", 325, ["right-to-left"];
+    names: "posix.txt", 80, ["posix"];
+    choices: "choices.txt", 260, ["best"];
+    preferences: "lists.txt", 15, ["best-accepted", "best-ranges"];
+}
+
+#[test]
+fn as_c_answers() {
+    if let Ok(path) = std::env::var("LANGTAG_ANSWERS") {
+        ask(&path, &OF_C, 1000, answer);
+    }
+}

@@ -1,0 +1,127 @@
+//! Calls of ranges and headers.
+use langtag::matching::*;
+use langtag::*;
+
+use crate::reader::list;
+
+pub fn tags_of(text: &str) -> Vec<LangTag<'_>> {
+    text.split_whitespace()
+        .map(|word| LangTag::new(word).unwrap())
+        .collect()
+}
+
+pub fn ranges_of(text: &str) -> Vec<LanguageRange<'_>> {
+    text.split_whitespace()
+        .map(|word| LanguageRange::new(word).unwrap())
+        .collect()
+}
+
+/// A default that is none of the tags.
+fn default() -> LangTag<'static> {
+    GrandfatheredLangTag::IDefault.into()
+}
+
+fn shown(tag: LangTag<'_>) -> String {
+    if tag == default() {
+        "-".into()
+    } else {
+        tag.to_string()
+    }
+}
+
+pub fn range(text: Option<&str>) -> String {
+    let kind = match text.map(LanguageRange::new) {
+        Some(Ok(range)) if range.is_basic() => "basic",
+        Some(Ok(_)) => "extended",
+        _ => "none",
+    };
+    kind.into()
+}
+
+pub fn matches(range: Option<&str>, tag: Option<&str>) -> String {
+    let (Some(Ok(range)), Some(Ok(tag))) = (range.map(LanguageRange::new), tag.map(LangTag::new))
+    else {
+        return "neither".into();
+    };
+    let (matches, owned) = (
+        (range.matches_basic(&tag), range.matches_extended(&tag)),
+        range.to_owned(),
+    );
+    assert_eq!(
+        (owned.matches_basic(&tag), owned.matches_extended(&tag)),
+        matches
+    );
+    let matches = match matches {
+        (true, true) => "both",
+        (true, false) => "basic",
+        (false, true) => "extended",
+        (false, false) => "neither",
+    };
+    matches.into()
+}
+
+/// The tag for a header, strictly and leniently.
+pub fn header(header: &str, tags: &str) -> String {
+    let tags = tags_of(tags);
+    let lenient = shown(
+        AcceptLanguage::lenient(header)
+            .unwrap()
+            .look_up(&tags, default()),
+    );
+    match tag_for_header(header, &tags, default()) {
+        Ok(tag) => format!("{} | {lenient}", shown(tag)),
+        Err(AcceptLanguageError::BadElement {
+            header: kept,
+            index,
+            offset,
+            part,
+        }) => {
+            assert_eq!(kept, header);
+            let part = match part {
+                ElementPart::Range => "range",
+                ElementPart::Weight => "weight",
+            };
+            format!("bad {index} {offset} {part} | {lenient}")
+        }
+        Err(error) => panic!("{error}"),
+    }
+}
+
+/// The ranges of a header with their weights, or what a refusal says.
+pub fn elements(header: &str) -> String {
+    match AcceptLanguage::new(header) {
+        Ok(accepted) => weighted(accepted.ranges()),
+        Err(error) => format!(
+            "{error} | {}",
+            weighted(AcceptLanguage::lenient(header).unwrap().ranges())
+        ),
+    }
+}
+
+fn weighted(ranges: &[WeightedRange<'_>]) -> String {
+    let ranges: Vec<String> = ranges
+        .iter()
+        .map(|it| format!("{} {}", it.range, it.weight))
+        .collect();
+    list(ranges.iter().map(String::as_str))
+}
+
+pub fn ranges(ranges: &str, tags: &str) -> String {
+    shown(look_up(&ranges_of(ranges), &tags_of(tags), default()))
+}
+
+pub fn fallbacks(range: &str) -> String {
+    LanguageRange::new(range).map_or("refused".into(), |range| {
+        list(range.fallbacks().map(Into::into))
+    })
+}
+
+pub fn filter(rule: &str, ranges: &str, tags: &str) -> String {
+    let (ranges, tags) = (ranges_of(ranges), tags_of(tags));
+    let found = if rule == "basic" {
+        filter_basic(&ranges, &tags)
+    } else {
+        filter_extended(&ranges, &tags)
+    };
+    list(found.map(Into::into))
+}

@@ -1,0 +1,168 @@
+//! The rows that the tests of all languages read: a call, its arguments and its answer. Their README says their form.
+use std::panic::{catch_unwind, AssertUnwindSafe};
+use std::path::PathBuf;
+
+/// A row. Without an answer it is a question.
+pub struct Row {
+    /// The file and the line.
+    pub place: String,
+    /// The text, with each `{N:piece}` written out.
+    pub text: String,
+    pub call: String,
+    pub arguments: Vec<Vec<u8>>,
+    /// The answer, with the lines that belong to the row, each behind a line feed.
+    pub wanted: String,
+    /// What separates the words.
+    by: &'static str,
+}
+
+impl Row {
+    /// An argument, where it is UTF-8.
+    pub fn text(&self, index: usize) -> Option<&str> {
+        std::str::from_utf8(&self.arguments[index]).ok()
+    }
+
+    /// An argument that is UTF-8 in each row of its call.
+    pub fn str(&self, index: usize) -> &str {
+        self.text(index).expect("the argument is UTF-8")
+    }
+}
+
+/// Where the rows stand: in the repository, or beside the crate where it is packed.
+fn folder() -> PathBuf {
+    let here = PathBuf::from(env!("CARGO_MANIFEST_DIR"));
+    ["../rows", "../crates/langtag_rows/data", "rows"]
+        .map(|folder| here.join(folder))
+        .into_iter()
+        .find(|folder| folder.join("table.txt").is_file())
+        .expect("the rows are there")
+}
+
+/// Asks each row of a file whose call is among these, of which there have to be as many as the floor, and writes the answers to
+/// questions. Panics where rows differ, with the first three.
+pub fn ask(file: &str, calls: &[&str], floor: usize, answer: impl Fn(&Row) -> String) {
+    let path = if file.contains('/') {
+        PathBuf::from(file)
+    } else {
+        folder().join(file)
+    };
+    let (mut asked, mut differing) = (Vec::new(), Vec::new());
+    for row in read(&path) {
+        if !calls.contains(&row.call.as_str()) {
+            continue;
+        }
+        let found = catch_unwind(AssertUnwindSafe(|| answer(&row)));
+        let found = found.unwrap_or_else(|_| "a panic, see above".into());
+        if row.wanted.is_empty() {
+            println!("{}{}{found}", row.text, row.by);
+        } else if found != row.wanted {
+            let (place, text, wanted) = (&row.place, &row.text, &row.wanted);
+            differing.push(format!(
+                "{place}: {text:.300}\n  wanted {wanted:.300}\n  found  {found:.300}\n"
+            ));
+        }
+        asked.push(row.call);
+    }
+    println!("{file}: {} rows", asked.len());
+    let told = differing[..differing.len().min(3)].concat();
+    assert!(differing.is_empty(), "{told}{} differ", differing.len());
+    assert!(asked.len() >= floor, "{file}: only {} rows", asked.len());
+    for call in calls {
+        assert!(asked.iter().any(|it| it == call), "no row asks {call}");
+    }
+}
+
+fn read(path: &PathBuf) -> Vec<Row> {
+    let name = path.file_name().unwrap().to_string_lossy();
+    let text = std::fs::read_to_string(path).unwrap();
+    let mut rows: Vec<Row> = Vec::new();
+    for (index, line) in text.lines().enumerate() {
+        if line.is_empty() || line.starts_with('#') {
+            continue;
+        }
+        let line = expand(line);
+        if line.starts_with(' ') {
+            let row = rows.last_mut().expect("a row stands before its lines");
+            row.wanted = format!("{}\n{line}", row.wanted);
+        } else {
+            rows.push(row(format!("{name}:{}", index + 1), line));
+        }
+    }
+    rows
+}
+
+fn row(place: String, text: String) -> Row {
+    let by = if text.contains(" | ") { " | " } else { " " };
+    let mut words: Vec<&str> = text.split(by).collect();
+    let count = match argument_count(words[0]) {
+        0 if by == " | " => {
+            words.insert(0, "edit"); // such a row begins with the tag
+            3
+        }
+        count => count.max(1),
+    };
+    let arguments = words[1..=count].iter().map(|word| unescape(word)).collect();
+    let (call, wanted) = (words[0].to_owned(), words[count + 1..].join(by));
+    Row {
+        place,
+        call,
+        arguments,
+        wanted,
+        by,
+        text,
+    }
+}
+
+/// How many arguments a call has that is asked with bars or with more than one; 0 for another one.
+fn argument_count(call: &str) -> usize {
+    match call {
+        "filter" | "walk" => 3,
+        "match" | "order" | "header" | "ranges" | "best" | "best-accepted" | "best-ranges"
+        | "distance" | "new" | "fronts" | "extension" => 2,
+        "elements" | "fallbacks" => 1,
+        _ => 0,
+    }
+}
+
+/// Repeats each `{N:piece}`.
+fn expand(line: &str) -> String {
+    let mut pieces = line.split(['{', '}']);
+    let mut out = String::from(pieces.next().unwrap());
+    while let Some(repeated) = pieces.next() {
+        let (times, piece) = repeated.split_once(':').unwrap();
+        out += &piece.repeat(times.parse().unwrap());
+        out += pieces.next().unwrap();
+    }
+    out
+}
+
+/// The bytes of a word: `''` is empty, and `\xNN` a byte.
+fn unescape(word: &str) -> Vec<u8> {
+    let mut pieces = word.split("\\x");
+    let mut out = pieces.next().unwrap().replace("''", "").into_bytes();
+    for piece in pieces {
+        out.push(u8::from_str_radix(&piece[..2], 16).unwrap());
+        out.extend(&piece.as_bytes()[2..]);
+    }
+    out
+}
+
+/// Words as rows write them: `''` is an empty one, and `-` stands for none.
+pub fn words<'a>(words: impl IntoIterator<Item = Option<&'a str>>) -> String {
+    let words = words.into_iter().map(|word| match word {
+        Some("") => "''",
+        Some(word) => word,
+        None => "-",
+    });
+    words.collect::<Vec<_>>().join(" ")
+}
+
+/// The texts of a list, or `-` for an empty one.
+pub fn list<'a>(texts: impl Iterator<Item = &'a str>) -> String {
+    let list = words(texts.map(Some));
+    if list.is_empty() {
+        "-".into()
+    } else {
+        list
+    }
+}

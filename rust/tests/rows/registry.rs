@@ -1,0 +1,93 @@
+//! Calls of the registry.
+use langtag::registry::*;
+use langtag::*;
+
+use crate::reader::words;
+
+/// What is wrong with a tag first, and where that subtag stands.
+pub fn validity(text: &str) -> String {
+    let Ok(tag) = LangTag::new(text) else {
+        return "none".into();
+    };
+    let Some((invalid, index)) = fault_at(tag) else {
+        assert_eq!(validate(tag), Ok(()));
+        return "valid".into();
+    };
+    assert_eq!(validate(tag), Err(invalid));
+    let (fault, subtag) = match invalid {
+        InvalidSubtag::Language(subtag) => ("language", subtag.as_str()),
+        InvalidSubtag::Extlang(subtag) => ("extlang", subtag.as_str()),
+        InvalidSubtag::SecondExtlang(subtag) => ("second-extlang", subtag.as_str()),
+        InvalidSubtag::Script(subtag) => ("script", subtag.as_str()),
+        InvalidSubtag::Region(subtag) => ("region", subtag.as_str()),
+        InvalidSubtag::Variant(subtag) => ("variant", subtag.as_str()),
+        InvalidSubtag::RepeatedVariant(subtag) => ("repeated-variant", subtag.as_str()),
+        InvalidSubtag::RepeatedSingleton(_) => (
+            "repeated-singleton",
+            &tag.extensions().iter().nth(index).unwrap().as_str()[..1],
+        ),
+    };
+    format!(
+        "{fault} {} {subtag}",
+        subtag.as_ptr() as usize - text.as_ptr() as usize
+    )
+}
+
+/// The canonical form, which a buffer is given too, and which is its own.
+pub fn canonical_form(text: &str) -> String {
+    let Ok(tag) = LangTag::new(text) else {
+        return "-".into();
+    };
+    let form = canonical(tag).unwrap();
+    assert_eq!(
+        (is_canonical(tag), is_canonical(form.as_lang_tag())),
+        (tag == form, true)
+    );
+    let (len, mut buffer) = (form.len(), vec![b'~'; form.len() + 1]);
+    assert!(len <= canonical_bound(text.len()));
+    assert_eq!(write_canonical(tag, &mut buffer), len);
+    assert_eq!((&buffer[..len], buffer[len]), (form.as_bytes(), b'~'));
+    buffer.fill(b'~');
+    assert_eq!(write_canonical(tag, &mut buffer[..len - 1]), len);
+    assert!(buffer.iter().all(|byte| *byte == b'~'));
+    form.into_string()
+}
+
+pub fn extlang(text: &str) -> String {
+    LangTag::new(text).map_or("-".into(), |tag| extlang_form(tag).unwrap().into_string())
+}
+
+pub fn fault(text: &str) -> String {
+    match LangTag::new(text).map(validate) {
+        Ok(Ok(())) => "valid".into(),
+        Ok(Err(fault)) => fault.to_string(),
+        Err(_) => "-".into(),
+    }
+}
+
+pub fn misplaced(text: &str) -> String {
+    NormalLangTag::new(text).map_or(String::new(), |tag| {
+        words([misplaced_variant(tag).map(Into::into)])
+    })
+}
+
+pub fn subtag(text: &str) -> String {
+    let mut found: Vec<Option<&str>> = Vec::new();
+    if let Ok(language) = PrimaryLanguage::new(text) {
+        found.push(preferred_language(language).map(Into::into));
+        found.push(macrolanguage(language).map(Into::into));
+        found.push(suppress_script(language).map(Into::into));
+    }
+    if let Ok(extlang) = ExtendedLangTag::new(text) {
+        found.push(extlang_prefix(extlang).map(Into::into));
+    }
+    words(found)
+}
+
+pub fn registered(text: &str) -> String {
+    let Ok(tag) = LangTag::new(text) else {
+        return "-".into();
+    };
+    canonical_form(text);
+    words([preferred_tag(tag).map(Into::into)])
+}

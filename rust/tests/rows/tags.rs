@@ -1,0 +1,250 @@
+//! Calls of tags as a whole.
+use std::cmp::Ordering;
+use std::hash::{Hash, Hasher};
+
+use langtag::*;
+
+use crate::reader::list;
+
+/// FNV-1a of 64 bits, over whatever is fed.
+struct Fnv(u64);
+
+impl Hasher for Fnv {
+    fn write(&mut self, bytes: &[u8]) {
+        for byte in bytes {
+            self.0 = (self.0 ^ u64::from(*byte)).wrapping_mul(0x0000_0100_0000_01b3);
+        }
+    }
+
+    fn finish(&self) -> u64 {
+        self.0
+    }
+}
+
+fn hash(value: &(impl Hash + ?Sized)) -> u64 {
+    let mut hasher = Fnv(0xcbf2_9ce4_8422_2325);
+    value.hash(&mut hasher);
+    hasher.finish()
+}
+
+pub fn kind_of(bytes: &[u8]) -> &'static str {
+    match LangTag::from_bytes(bytes).map(|tag| tag.kind()) {
+        Ok(Kind::Normal) => "normal",
+        Ok(Kind::PrivateUse) => "private",
+        Ok(Kind::Grandfathered) => "irregular",
+        Err(_) => "none",
+    }
+}
+
+/// The kind of a tag, its parts in the lines below, and what the types say twice.
+pub fn tag(bytes: &[u8]) -> String {
+    let Ok(tag) = LangTag::from_bytes(bytes) else {
+        return kind_of(bytes).into();
+    };
+    check_twice(tag);
+    let mut lines = vec![String::from(kind_of(bytes))];
+    let mut line = |name: &str, words: &str| lines.push(format!("  {name} {words}"));
+    if let Some(language) = tag.language() {
+        let primary = language.primary();
+        let subtags =
+            std::iter::once(primary.as_str()).chain(language.extension_subtags().map(Into::into));
+        line("language", &list(subtags));
+    }
+    if let Some(script) = tag.script() {
+        line("script", &script);
+    }
+    if let Some(region) = tag.region() {
+        line("region", &region);
+    }
+    if !tag.variants().is_empty() {
+        line("variants", &list(tag.variants().iter().map(Into::into)));
+    }
+    if !tag.extensions().is_empty() {
+        line("extensions", &list(tag.extensions().iter().map(Into::into)));
+    }
+    // The library for C has the mark and the subtags of a tag for private use too.
+    if let Some(part) = tag.private_use().or(tag.as_private_use()) {
+        let mark = std::iter::once(&part.as_str()[..1]);
+        line(
+            "private_use",
+            &list(mark.chain(part.iter().map(Into::into))),
+        );
+    }
+    if let Some(normal) = tag.as_normal() {
+        repeats(&normal, &mut line);
+    }
+    line("recommended", &tag.in_recommended_case().to_string());
+    line("folded", &tag.to_ascii_lowercase());
+    line("hash", &format!("{:016x}", hash(&tag)));
+    lines.join("\n")
+}
+
+/// Which subtags stand twice, and where.
+fn repeats(tag: &NormalLangTag<'_>, line: &mut impl FnMut(&str, &str)) {
+    let offset_of =
+        |part: &str| (part.as_ptr() as usize - tag.as_str().as_ptr() as usize).to_string();
+    if let Some(variant) = tag.repeated_variant() {
+        let index = tag.repeated_variant_index().unwrap();
+        assert_eq!(tag.variants().iter().nth(index), Some(variant));
+        line("repeated_variant", &variant);
+        line("at_variant", &offset_of(variant.as_str()));
+    }
+    if let Some(singleton) = tag.repeated_singleton() {
+        let index = tag.repeated_singleton_index().unwrap();
+        let extension = tag.extensions().iter().nth(index).unwrap();
+        assert_eq!(extension.singleton(), singleton);
+        line("repeated_singleton", &singleton.to_string());
+        line("at_singleton", &offset_of(extension.as_str()));
+    }
+}
+
+/// What a tag says by more than one call.
+fn check_twice(tag: LangTag<'_>) {
+    let (text, owned) = (tag.as_str(), tag.to_owned());
+    let subtags: Vec<&str> = text.split('-').collect();
+    assert!(tag.subtags().eq(subtags.iter().copied()));
+    assert!(owned.subtags().rev().eq(subtags.iter().rev().copied()));
+    assert_eq!(
+        (owned.kind(), owned.language(), owned.script()),
+        (tag.kind(), tag.language(), tag.script())
+    );
+    assert_eq!(
+        (owned.region(), owned.variants()),
+        (tag.region(), tag.variants())
+    );
+    assert_eq!(
+        (owned.extensions(), owned.private_use()),
+        (tag.extensions(), tag.private_use())
+    );
+    assert_eq!(
+        (tag.is_normal(), tag.as_normal().is_some()),
+        (tag.kind().is_normal(), tag.is_normal())
+    );
+    assert_eq!(
+        tag.as_normal().map(|tag| tag.as_lang_tag()),
+        tag.is_normal().then_some(tag)
+    );
+    assert_eq!(hash(&tag), hash(&owned));
+    assert_eq!(hash(&tag), hash(text.caseless()));
+    assert!(Refusal::of(text.as_bytes()).is_none());
+}
+
+pub fn grandfathered(text: &[u8]) -> String {
+    let found = LangTag::from_bytes(text)
+        .ok()
+        .and_then(|tag| tag.as_grandfathered());
+    let index = GRANDFATHERED.iter().position(|it| found == Some(*it));
+    assert_eq!(found, GrandfatheredLangTag::new(text).ok());
+    format!("{} {}", index.unwrap_or(26), kind_of(text))
+}
+
+/// How many bytes are read before it is known whether they are a tag.
+fn reads(bytes: &[u8]) -> usize {
+    let mut source = Metered::of_bytes(bytes);
+    recognise(&mut source);
+    assert_eq!(source.reads(), source.reach() as u128);
+    source.reach()
+}
+
+pub fn viable(bytes: &[u8]) -> String {
+    format!("{} {}", viable_len(bytes), reads(bytes))
+}
+
+/// How many bytes decide the text, how many of its fronts are tags, and what it is, with the ends of its parts.
+pub fn scan(bytes: &[u8]) -> String {
+    let fronts = (0..=bytes.len()).filter(|end| LangTag::from_bytes(&bytes[..*end]).is_ok());
+    let head = format!("{} {} {}", reads(bytes), fronts.count(), kind_of(bytes));
+    let found = recognise(&mut Metered::of_bytes(bytes));
+    let normal = recognise_normal(&mut Metered::of_bytes(bytes));
+    assert_eq!(
+        normal.and_then(|found| found.ends()),
+        found.and_then(|found| found.ends())
+    );
+    match found {
+        Some(found) if found.irregular().is_some() => {
+            format!("{head} {}", found.irregular().unwrap())
+        }
+        Some(found) => match found.ends() {
+            Some(Ends {
+                language,
+                script,
+                region,
+                variants,
+                extensions,
+                whole,
+            }) => {
+                format!("{head} {language} {script} {region} {variants} {extensions} {whole}")
+            }
+            None => head,
+        },
+        None => head,
+    }
+}
+
+/// Bytes in their recommended case; of a tag each call says the same.
+pub fn recommended(bytes: &[u8]) -> String {
+    let mut form = bytes.to_vec();
+    make_recommended_case(&mut form);
+    assert_eq!(is_in_recommended_case(bytes), form == bytes);
+    assert!(is_in_recommended_case(&form));
+    if let Ok(tag) = LangTag::from_bytes(bytes) {
+        let mut owned = tag.to_owned();
+        owned.make_recommended_case();
+        assert_eq!((owned.as_bytes(), &owned), (&form[..], &tag.to_owned()));
+        assert_eq!(tag.try_to_recommended_case().unwrap().into_bytes(), form);
+        assert_eq!(tag.in_recommended_case().to_string().into_bytes(), form);
+        assert_eq!(tag.is_in_recommended_case(), form == bytes);
+    }
+    escaped(&form)
+}
+
+/// Bytes as rows write them.
+fn escaped(bytes: &[u8]) -> String {
+    if bytes.is_empty() {
+        return "''".into();
+    }
+    let bytes = bytes.iter().map(|byte| match byte {
+        byte if byte.is_ascii_graphic() => char::from(*byte).to_string(),
+        byte => format!("\\x{byte:02x}"),
+    });
+    bytes.collect()
+}
+
+/// Where a text goes wrong: the subtag, and the offset to point at.
+pub fn refused(bytes: &[u8]) -> String {
+    let Some(refusal) = Refusal::of(bytes) else {
+        let len = bytes.len();
+        return format!("none {len} 0 {len}");
+    };
+    let kind = match refusal.kind {
+        RefusalKind::Subtag => "subtag",
+        RefusalKind::Byte => "byte",
+        RefusalKind::End => "end",
+    };
+    format!(
+        "{kind} {} {} {}",
+        refusal.start,
+        refusal.end - refusal.start,
+        refusal.offset
+    )
+}
+
+pub fn order(a: &str, b: &str) -> String {
+    let order = a.caseless().cmp(b.caseless());
+    assert_eq!(order, case_insensitive_cmp(a.as_bytes(), b.as_bytes()));
+    assert_eq!(order.is_eq(), a.caseless() == b.caseless());
+    if let (Ok(tag), Ok(other)) = (LangTag::new(a), LangTag::new(b)) {
+        assert_eq!(
+            (tag.cmp(&other), tag == other, tag == b),
+            (order, order.is_eq(), order.is_eq())
+        );
+        assert_eq!(tag.to_owned().cmp(&other.to_owned()), order);
+        assert_eq!(tag.to_owned().partial_cmp(&other), Some(order));
+    }
+    let order = match order {
+        Ordering::Less => "before",
+        Ordering::Equal => "equal",
+        Ordering::Greater => "after",
+    };
+    order.into()
+}

@@ -1,0 +1,212 @@
+//! Calls of the text types.
+use std::fmt::{self, Write};
+
+use langtag::matching::{LanguageRange, LanguageRangeBuf};
+use langtag::*;
+
+use crate::reader::{list, words};
+
+/// Counts the pieces that are written to it.
+struct Pieces(usize);
+
+impl Write for Pieces {
+    fn write_str(&mut self, _: &str) -> fmt::Result {
+        self.0 += 1;
+        Ok(())
+    }
+}
+
+/// How many pieces Display writes a value in.
+fn pieces_of(value: &impl fmt::Display) -> usize {
+    let mut pieces = Pieces(0);
+    write!(pieces, "{value}").unwrap();
+    pieces.0
+}
+
+/// What both forms of a type say of a text, by each way to make them.
+macro_rules! seen {
+    ($name:ident, $owned:ident, $lend:ident, $text:ident) => {{
+        let text: &str = $text;
+        let owned = $owned::new(text.to_owned());
+        assert_eq!($name::try_from(text), $name::new(text));
+        assert_eq!($name::try_from(text.as_bytes()).is_ok(), owned.is_ok());
+        assert_eq!(text.parse::<$owned>(), owned);
+        assert_eq!($owned::try_from(text), owned);
+        assert_eq!($owned::try_from(text.to_owned()), owned);
+        match ($name::new(text), owned) {
+            (Ok(lent), Ok(owned)) => {
+                assert_eq!((lent.as_str(), owned.as_str()), (text, text));
+                assert_eq!((pieces_of(&lent), pieces_of(&owned)), (1, 1));
+                assert_eq!((lent.to_string(), owned.to_string()), (text.into(), text.into()));
+                let debug = format!(" {{ text: Caseless({text:?})");
+                assert!(format!("{lent:?}").starts_with(&(stringify!($name).to_owned() + &debug)));
+                assert!(format!("{owned:?}").starts_with(&(stringify!($owned).to_owned() + &debug)));
+                for other in [lent.to_owned(), lent.try_to_owned().unwrap(), owned.clone(), lent.into()] {
+                    assert_eq!((&other, other.$lend()), (&owned, lent));
+                    assert_eq!(other.into_string().capacity(), text.len());
+                }
+                let upper = text.to_ascii_uppercase();
+                assert!(lent == upper.as_str() && upper == owned && owned == lent && lent == $name::from(&owned));
+                assert!(lent.eq_str(&upper) && lent == *upper && *upper == owned);
+                assert_eq!((&*lent, AsRef::<[u8]>::as_ref(&owned)), (text, text.as_bytes()));
+                assert_eq!(owned.into_bytes(), text.as_bytes());
+                "accepted".to_owned()
+            }
+            (Err(lent), Err(owned)) => {
+                assert_eq!((lent.0, &*owned.0, lent.into_owned()), (text, text, owned.clone()));
+                assert_eq!((lent.to_string(), pieces_of(&lent)), (owned.to_string(), 1));
+                assert_eq!(format!("{lent:?}"), format!("Invalid{}({text:?})", stringify!($name)));
+                lent.to_string()
+            }
+            (lent, owned) => format!("{lent:?}, and {owned:?}"),
+        }
+    }};
+}
+
+/// The text types but that of ranges, which accepts many a text that is no part of a tag.
+const TYPES: [&str; 15] = [
+    "PrimaryLanguage",
+    "ExtendedLangTag",
+    "LanguageExtension",
+    "Language",
+    "Script",
+    "Region",
+    "Variant",
+    "Variants",
+    "ExtensionSubtag",
+    "Extension",
+    "Extensions",
+    "PrivateUseSubtag",
+    "PrivateUse",
+    "NormalLangTag",
+    "LangTag",
+];
+
+/// Whether a type accepts a text, or the message of its refusal.
+pub fn new(name: &str, text: &str) -> String {
+    match name {
+        "PrimaryLanguage" => seen!(
+            PrimaryLanguage,
+            PrimaryLanguageBuf,
+            as_primary_language,
+            text
+        ),
+        "ExtendedLangTag" => seen!(
+            ExtendedLangTag,
+            ExtendedLangTagBuf,
+            as_extended_lang_tag,
+            text
+        ),
+        "LanguageExtension" => seen!(
+            LanguageExtension,
+            LanguageExtensionBuf,
+            as_language_extension,
+            text
+        ),
+        "Language" => seen!(Language, LanguageBuf, as_language, text),
+        "Script" => seen!(Script, ScriptBuf, as_script, text),
+        "Region" => seen!(Region, RegionBuf, as_region, text),
+        "Variant" => seen!(Variant, VariantBuf, as_variant, text),
+        "Variants" => seen!(Variants, VariantsBuf, as_variants, text),
+        "ExtensionSubtag" => seen!(
+            ExtensionSubtag,
+            ExtensionSubtagBuf,
+            as_extension_subtag,
+            text
+        ),
+        "Extension" => seen!(Extension, ExtensionBuf, as_extension, text),
+        "Extensions" => seen!(Extensions, ExtensionsBuf, as_extensions, text),
+        "PrivateUseSubtag" => seen!(
+            PrivateUseSubtag,
+            PrivateUseSubtagBuf,
+            as_private_use_subtag,
+            text
+        ),
+        "PrivateUse" => seen!(PrivateUse, PrivateUseBuf, as_private_use, text),
+        "NormalLangTag" => seen!(NormalLangTag, NormalLangTagBuf, as_normal_lang_tag, text),
+        "LangTag" => seen!(LangTag, LangTagBuf, as_lang_tag, text),
+        "LanguageRange" => seen!(LanguageRange, LanguageRangeBuf, as_language_range, text),
+        "Singleton" => singleton(text),
+        _ => panic!("no type: {name}"),
+    }
+}
+
+/// How a singleton is shown, or the message of its refusal.
+fn singleton(text: &str) -> String {
+    match Singleton::from_string(text) {
+        Ok(singleton) => {
+            assert_eq!(pieces_of(&singleton), 1);
+            assert!(singleton == text.as_bytes()[0] && char::from(singleton) == singleton);
+            format!("{singleton} {singleton:?}")
+                .replace('{', "\\x7b")
+                .replace('}', "\\x7d")
+        }
+        Err(refusal) => {
+            assert_eq!(refusal.0, text);
+            refusal.to_string()
+        }
+    }
+}
+
+pub fn types(text: &str) -> String {
+    let accepted = TYPES
+        .iter()
+        .copied()
+        .filter(|name| new(name, text) == "accepted");
+    let grandfathered = GrandfatheredLangTag::new(text.as_bytes()).is_ok();
+    list(accepted.chain(grandfathered.then_some("GrandfatheredLangTag")))
+}
+
+pub fn fronts(name: &str, text: &str) -> String {
+    let accepted =
+        (0..=text.len()).filter(|len| new(name, text.get(..*len).unwrap_or("")) == "accepted");
+    accepted.count().to_string()
+}
+
+/// The name of a grandfathered tag, its registered spelling, and its language.
+pub fn spelling(text: &str) -> String {
+    let tag = match GrandfatheredLangTag::try_from(text.as_bytes()) {
+        Ok(tag) => tag,
+        Err(refusal) => {
+            assert_eq!(refusal.0, text.as_bytes());
+            return refusal.to_string();
+        }
+    };
+    assert_eq!(LangTag::new(text).unwrap().as_grandfathered(), Some(tag));
+    assert_eq!(
+        (pieces_of(&tag), LangTag::from(tag)),
+        (1, LangTag::new(text).unwrap())
+    );
+    format!("{tag:?} {tag} {}", words([tag.language().map(Into::into)]))
+}
+
+pub fn extension(singleton: &str, text: &str) -> String {
+    let (Ok(singleton), Ok(extensions)) =
+        (Singleton::from_string(singleton), Extensions::new(text))
+    else {
+        return "refused".into();
+    };
+    let found = extensions.get(singleton).map(Into::into);
+    words(
+        std::iter::once(found).chain(
+            extensions
+                .iter_extension(singleton)
+                .map(|subtag| Some(subtag.into())),
+        ),
+    )
+}
+
+pub fn class(bytes: &[u8]) -> String {
+    let classes = [
+        (is_primary(bytes), "primary"),
+        (is_extended(bytes), "extended"),
+        (is_script(bytes), "script"),
+        (is_region(bytes), "region"),
+        (is_variant(bytes), "variant"),
+        (is_extension_subtag(bytes), "extension"),
+        (is_private_subtag(bytes), "private"),
+        (matches!(bytes, [byte] if is_singleton(*byte)), "singleton"),
+        (matches!(bytes, [byte] if is_mark(*byte)), "mark"),
+    ];
+    list(classes.into_iter().filter(|it| it.0).map(|it| it.1))
+}

@@ -1,0 +1,70 @@
+//! Walks over lists, also from both ends.
+use langtag::*;
+
+use crate::reader::words;
+
+/// A walk by a pattern, of which each letter is a step: `F` the next from the front, `B` from the back, `C` goes on with a clone, and
+/// `D` is how the walk is shown.
+macro_rules! walked {
+    ($list:expr, $pattern:ident, $back:ident) => {{
+        let Some(mut walk) = $list else {
+            return "refused".into();
+        };
+        let mut out = Vec::new();
+        for step in $pattern.bytes() {
+            match step {
+                b'F' => out.push(words([walk.next().map(Into::into)])),
+                b'B' => out.push(words([walk.$back().map(Into::into)])),
+                b'C' => walk = walk.clone(),
+                _ => out.push(
+                    format!("{walk:?}")
+                        .replace('{', "\\x7b")
+                        .replace('}', "\\x7d"),
+                ),
+            }
+        }
+        out.join(" ")
+    }};
+}
+
+pub fn walk(list: &str, pattern: &str, text: &str) -> String {
+    match list {
+        "Subtags" => walked!(Some(Subtags::new(text)), pattern, next_back),
+        "LangTag" => walked!(
+            LangTag::new(text).ok().map(|tag| tag.subtags()),
+            pattern,
+            next_back
+        ),
+        "NormalLangTag" => walked!(
+            NormalLangTag::new(text).ok().map(|tag| tag.subtags()),
+            pattern,
+            next_back
+        ),
+        "Variants" => walked!(
+            Variants::new(text).ok().map(|list| list.iter()),
+            pattern,
+            next_back
+        ),
+        "LanguageExtension" => walked!(
+            LanguageExtension::new(text).ok().map(|list| list.iter()),
+            pattern,
+            next
+        ),
+        "Extensions" => walked!(
+            Extensions::new(text).ok().map(|list| list.into_iter()),
+            pattern,
+            next
+        ),
+        "Extension" => walked!(
+            Extension::new(text).ok().map(|list| list.into_iter()),
+            pattern,
+            next
+        ),
+        "PrivateUse" => walked!(
+            PrivateUse::new(text).ok().map(|list| list.into_iter()),
+            pattern,
+            next
+        ),
+        _ => panic!("no list: {list}"),
+    }
+}

@@ -1,0 +1,109 @@
+//! Tags, parts and ranges as strings of serde: in structs, lists, options and as keys of maps, without a word of the user's.
+#![cfg(feature = "serde")]
+use std::collections::{BTreeMap, HashMap};
+
+use langtag::matching::{LanguageRange, LanguageRangeBuf};
+use langtag::oxilangtag::LanguageTag;
+use langtag::*;
+use serde::{Deserialize, Serialize};
+
+#[derive(Debug, PartialEq, Serialize, Deserialize)]
+struct Text {
+    language: LangTagBuf,
+    original: Option<LangTagBuf>,
+    translations: Vec<LangTagBuf>,
+    titles: HashMap<LangTagBuf, String>,
+    script: ScriptBuf,
+    wanted: LanguageRangeBuf,
+}
+
+#[derive(Debug, PartialEq, Serialize, Deserialize)]
+struct Lent<'a> {
+    #[serde(borrow)]
+    language: LangTag<'a>,
+    #[serde(borrow)]
+    regions: Vec<Region<'a>>,
+    #[serde(borrow)]
+    wanted: Option<LanguageRange<'a>>,
+    #[serde(borrow)]
+    counts: BTreeMap<Script<'a>, u32>,
+}
+
+#[test]
+fn owned() {
+    let json = r#"{"language":"de-CH","original":null,"translations":["fr","ZH-hant"],"titles":{"en":"Bike"},"script":"Latn","wanted":"de-*"}"#;
+    let text: Text = serde_json::from_str(json).unwrap();
+    assert_eq!(
+        (text.language.region().unwrap(), &text.original),
+        (Region::new("CH").unwrap(), &None)
+    );
+    assert_eq!(
+        (
+            text.translations[1].as_str(),
+            text.titles.get("EN".caseless()).unwrap().as_str()
+        ),
+        ("ZH-hant", "Bike")
+    );
+    assert_eq!(serde_json::to_string(&text).unwrap(), json);
+    assert_eq!(
+        serde_json::from_reader::<_, Text>(json.as_bytes()).unwrap(),
+        text
+    );
+}
+
+#[test]
+fn lent() {
+    let json = r#"{"language":"de-CH","regions":["CH","419"],"wanted":"*-CH","counts":{"Latn":2}}"#;
+    let text: Lent = serde_json::from_str(json).unwrap();
+    assert_eq!(
+        (text.language, text.regions.len(), text.counts.len()),
+        (LangTag::new("de-ch").unwrap(), 2, 1)
+    );
+    assert_eq!(serde_json::to_string(&text).unwrap(), json);
+}
+
+fn refused<'a, T: Deserialize<'a>>(json: &'a str) -> String {
+    let words = serde_json::from_str::<T>(json).err().unwrap().to_string();
+    words.split(" at line").next().unwrap().to_owned()
+}
+
+#[test]
+fn refusals() {
+    assert_eq!(
+        refused::<LangTagBuf>(r#""en_US""#),
+        r#"invalid value: string "en_US", expected a language tag"#
+    );
+    assert_eq!(
+        refused::<ScriptBuf>(r#""Latin""#),
+        r#"invalid value: string "Latin", expected a script"#
+    );
+    assert_eq!(
+        refused::<LanguageRangeBuf>(r#""de_""#),
+        r#"invalid value: string "de_", expected a language range"#
+    );
+    assert_eq!(
+        refused::<LangTagBuf>("1"),
+        "invalid type: integer `1`, expected a language tag"
+    );
+    assert_eq!(
+        refused::<LangTag>(r#""en_US""#),
+        r#"invalid value: string "en_US", expected a language tag, borrowed from the input"#
+    );
+    // A text with an escape can't be borrowed.
+    assert_eq!(
+        refused::<LangTag>(r#""e\u006e""#),
+        r#"invalid type: string "en", expected a language tag, borrowed from the input"#
+    );
+    assert_eq!(
+        serde_json::from_str::<LangTagBuf>(r#""e\u006e""#).unwrap(),
+        "en"
+    );
+}
+
+#[test]
+fn oxilangtag() {
+    let tag: LanguageTag<String> = serde_json::from_str(r#""EN-us""#).unwrap();
+    assert_eq!(tag, "EN-us");
+    assert_eq!(serde_json::to_string(&tag).unwrap(), r#""EN-us""#);
+    assert!(serde_json::from_str::<LanguageTag<String>>(r#""en_US""#).is_err());
+}
