@@ -62,7 +62,7 @@ impl Candidates {
     }
 
     /// Keeps the texts that have this byte at this index, in either case. Once none is left, none comes back.
-    #[inline]
+    #[inline(always)]
     pub(crate) fn keep(&mut self, index: usize, byte: u8)
         ensures len { self.new.len ≡ self.old.len }
         ensures follows { (p : List ℕ) → length p ≡ index → Follows p self.old → Follows (p ++ byte ∷ []) self.new }
