@@ -26,9 +26,9 @@ CRATES = RUST.parent / "crates"
 
 
 def erase(source, module):
-    """Returns the code of a source without its contracts."""
+    """Returns the code of a source without its contracts, and the names of its free functions with a condition."""
     code = Code(source.read_text(encoding="utf-8"))
-    erase_ghosts(code)
+    conditional = erase_ghosts(code)
     erase_derives(code)
     erase_allocators(code)
     erase_forms(code)
@@ -37,7 +37,7 @@ def erase(source, module):
     erase_imports(code)
     add_imports(code)
     erase_docs(code, module)
-    return code
+    return code, conditional
 
 
 def head(source):
@@ -46,24 +46,30 @@ def head(source):
 
 def write(out):
     """Writes all modules below a folder."""
-    files = {}
+    files, conditional = {}, set()
     for module in MODULES:
         for source in sorted((CRATES / module.crate / "src").glob("*.rt")):
             name = "mod.rs" if source.stem == "lib" else source.stem + ".rs"
-            files[source, out / module.folder / name] = erase(source, module)
-    conditional = set().union(*(code.conditional for code in files.values()))
-    for code in files.values():
-        keep_inside(code, conditional)
-    owning = owning_items(code for (_, path), code in files.items() if path.is_relative_to(out / "src"))
+            code, names = erase(source, module)
+            if module.crate == "langtag_c":
+                code.rewrite("mod $name;", "pub(crate) mod $name;")  # its exports stand beside it
+            files[source, out / module.folder / name] = code
+            conditional |= names
+    finish([code for (_, path), code in files.items() if path.is_relative_to(out / "src")], conditional)
     for (source, path), code in files.items():
-        if path.is_relative_to(out / "src"):
-            mark_owning(code, owning)
-        else:
-            code.rewrite("mod $name;", "pub(crate) mod $name;")  # the C library owns nothing, and its exports stand outside
         path.parent.mkdir(parents=True, exist_ok=True)
         path.write_text(head(source) + str(code), encoding="utf-8")
     roots = [out / module.folder / "mod.rs" for module in MODULES]
     subprocess.run(["rustfmt", "--edition", "2021", *roots], check=True)
+
+
+def finish(files, conditional):
+    """Does what takes a look at all files: what is for the crate alone, and what is left out without `alloc`."""
+    for code in files:
+        keep_inside(code, conditional)
+    owning = owning_items(files)
+    for code in files:
+        mark_owning(code, owning)
 
 
 def differences(new, old):

@@ -10,12 +10,15 @@ BROKEN = {
 
 
 def erase_ghosts(code):
+    """Returns the names of the free functions that others can name and that have a condition."""
     drop_ghost_items(code)
-    for word in ("requires", "ensures"):
-        drop_clauses(code, word)
+    drop_clauses(code, "ensures", lambda place: None)
+    conditional = set()
+    drop_clauses(code, "requires", lambda place: conditional.update(restrict(code, place)))
     drop_attributes(code)
     drop_models(code)
     code.rewrite("prove!(", "assert!(")
+    return conditional
 
 
 def drop_ghost_items(code):
@@ -26,16 +29,15 @@ def drop_ghost_items(code):
         code.drop(start, end if code[end] == "}" else end + 1)
 
 
-def drop_clauses(code, word):
+def drop_clauses(code, word, then):
     while (place := code.find(word)) >= 0:
         body = code.next_of(("{",), place)
         code.drop(place, code.after(body))
-        if word == "requires":
-            restrict(code, place)
+        then(place)
 
 
 def restrict(code, place):
-    """Keeps a function with a condition for the crate: its callers were proved to meet it."""
+    """Keeps a method with a condition for the crate, whose callers were proved to meet it. Yields the name of a free function."""
     while code[place] != "fn":
         place -= 1
     name, is_public = code[place + 1], code[place - 1] == "pub"
@@ -44,7 +46,7 @@ def restrict(code, place):
     elif is_public and is_method(code, place):
         code.replace(place - 1, place, "pub(crate)")
     elif is_public:
-        code.conditional.add(name)
+        yield name
 
 
 def add_doc(token, sentence):
@@ -62,7 +64,7 @@ def drop_attributes(code):
     place = 0
     while (place := code.find("#", place)) >= 0:
         opening = place + 2 if code[place + 1] == "!" else place + 1
-        if code[opening + 1] in ("tactic", "error_bound", "unsafe"):
+        if code[opening + 1] in ("tactic", "error_bound"):
             code.replace(place, code.after(opening), "")
         elif code[opening + 1] == "rattlefmt":
             place = code.replace(opening + 1, opening + 2, "rustfmt")

@@ -53,7 +53,7 @@ impl Candidates {
     }
 
     /// Keeps the texts that have this byte at this index, in either case. Once none is left, none comes back.
-    #[inline]
+    #[inline(always)]
     pub(crate) fn keep(&mut self, index: usize, byte: u8) {
         let small = into_smallcase(byte);
         if index == 0 {
