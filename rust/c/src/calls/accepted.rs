@@ -10,7 +10,6 @@ use crate::scan::len_before;
 /// with its weight in thousandths, 2 for an element with a bad language range, 3 for one with a bad weight. Of a bad element the
 /// range is all of it, and the weight 0. 0 where no element is left, or where the span does not lie within the bytes;
 /// then all stays as it was.
-#[unsafe(no_mangle)]
 pub fn langtag_next_accepted(
     bytes: &[u8],
     rest: &mut Span,

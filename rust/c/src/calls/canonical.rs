@@ -10,7 +10,7 @@ use crate::registry::{is_canonical, write_canonical};
 /// much room there has to be: never more than twice as many bytes as the tag has, and 14.
 ///
 /// 0 where the bytes are not a tag; the buffer then stays, too.
-#[unsafe(no_mangle)]
+#[inline]
 pub fn langtag_canonical(bytes: &[u8], buffer: &mut [u8]) -> usize {
     match tag_of(bytes) {
         Some(tag) => write_canonical(tag, buffer),
@@ -20,7 +20,7 @@ pub fn langtag_canonical(bytes: &[u8], buffer: &mut [u8]) -> usize {
 
 /// Returns whether the bytes are a tag that is its own canonical form, whatever the case of its letters: true of `he` and
 /// `HE`, false of `iw`, and of what is not a tag.
-#[unsafe(no_mangle)]
+#[inline]
 pub fn langtag_is_canonical(bytes: &[u8]) -> bool {
     match tag_of(bytes) {
         Some(tag) => is_canonical(tag),

@@ -13,7 +13,6 @@ const NO_DISTANCE: u32 = u32::MAX;
 /// Returns the distance from a tag that a reader desires to one that there is (UTS #35, Language Matching): 0 from `zh-TW` to
 /// `zh-Hant`, 4 from `de-AT` to `de`, at most 134, and 255 from a tag without a matching form, or to one, that is not equal but
 /// for case. [`NO_DISTANCE`] where one of the texts is not a tag.
-#[unsafe(no_mangle)]
 pub fn langtag_distance(desired: &[u8], supported: &[u8]) -> u32 {
     match (tag_of(desired), tag_of(supported)) {
         (Some(desired), Some(supported)) => u32::from(distance(desired, supported)),
@@ -24,7 +23,7 @@ pub fn langtag_distance(desired: &[u8], supported: &[u8]) -> u32 {
 /// Returns the index of the tag that the reader wants who sent an Accept-Language header, among tags that spans of a text are:
 /// 2 for `zh-TW,zh;q=0.9,en;q=0.8` and `en`, `zh-Hans` and `zh-Hant`. Their number where the reader wants none of them. A span
 /// that is no tag, or reaches out of the text, is passed over.
-#[unsafe(no_mangle)]
+#[inline]
 pub fn langtag_best_for_header(header: &[u8], bytes: &[u8], tags: &[Span]) -> usize {
     let spanned = SpannedTags {
         text: bytes,

@@ -6,14 +6,14 @@ use crate::scan::{case_insensitive_cmp, case_insensitive_eq, into_smallcase};
 use core::cmp::Ordering;
 
 /// Returns whether two texts are equal but for the case of ASCII letters.
-#[unsafe(no_mangle)]
+#[inline]
 pub fn langtag_eq(a: &[u8], b: &[u8]) -> bool {
     case_insensitive_eq(a, b)
 }
 
 /// Returns the order of two texts by their folded bytes: -1, 0 or 1. Of two texts of which one begins the other the
 /// shorter is the greater.
-#[unsafe(no_mangle)]
+#[inline]
 pub fn langtag_cmp(a: &[u8], b: &[u8]) -> i32 {
     match case_insensitive_cmp(a, b) {
         Ordering::Less => -1,
@@ -23,7 +23,7 @@ pub fn langtag_cmp(a: &[u8], b: &[u8]) -> i32 {
 }
 
 /// Returns the FNV-1a hash, of 64 bits, of the folded bytes, from a state on.
-#[unsafe(no_mangle)]
+#[inline]
 pub fn langtag_hash(state: u64, bytes: &[u8]) -> u64 {
     let mut hash = state;
     for byte in bytes {
@@ -33,7 +33,7 @@ pub fn langtag_hash(state: u64, bytes: &[u8]) -> u64 {
 }
 
 /// Makes each capital ASCII letter small, in place: what a text is to be hashed by in another way.
-#[unsafe(no_mangle)]
+#[inline]
 pub fn langtag_fold(bytes: &mut [u8]) {
     bytes.make_ascii_lowercase();
 }

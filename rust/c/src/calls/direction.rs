@@ -7,7 +7,7 @@ use crate::likely::is_right_to_left;
 
 /// Returns whether the bytes are a tag that is written from right to left: true of `he`, `pa-PK` and `az-Arab`, false of
 /// `ar-Latn`, and of what is not a tag.
-#[unsafe(no_mangle)]
+#[inline]
 pub fn langtag_is_right_to_left(bytes: &[u8]) -> bool {
     match tag_of(bytes) {
         Some(tag) => is_right_to_left(tag),

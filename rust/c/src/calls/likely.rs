@@ -10,7 +10,7 @@ use crate::likely::{write_maximized, write_minimized, CLDR_VERSION};
 /// `zh-TW`. Where the buffer is too short it stays as it was, and the length says how much room there has to be.
 ///
 /// 0 where the bytes are not a tag; the buffer then stays, too.
-#[unsafe(no_mangle)]
+#[inline]
 pub fn langtag_maximize(bytes: &[u8], buffer: &mut [u8]) -> usize {
     match tag_of(bytes) {
         Some(tag) => write_maximized(tag, buffer),
@@ -23,7 +23,7 @@ pub fn langtag_maximize(bytes: &[u8], buffer: &mut [u8]) -> usize {
 /// be.
 ///
 /// 0 where the bytes are not a tag; the buffer then stays, too.
-#[unsafe(no_mangle)]
+#[inline]
 pub fn langtag_minimize(bytes: &[u8], buffer: &mut [u8]) -> usize {
     match tag_of(bytes) {
         Some(tag) => write_minimized(tag, buffer),
@@ -32,7 +32,7 @@ pub fn langtag_minimize(bytes: &[u8], buffer: &mut [u8]) -> usize {
 }
 
 /// Returns the version of Unicode's CLDR whose likely subtags these are.
-#[unsafe(no_mangle)]
+#[inline]
 pub fn langtag_cldr_version() -> u32 {
     number_of(CLDR_VERSION.as_bytes())
 }

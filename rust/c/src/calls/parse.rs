@@ -60,7 +60,6 @@ fn found_of(bytes: &[u8]) -> Option<Found> {
 
 /// Returns the kind of the tag that the bytes are: 1 for a normal one, 2 for private use, 3 for an irregular one, and 0
 /// where they are not a tag.
-#[unsafe(no_mangle)]
 pub fn langtag_kind(bytes: &[u8]) -> u32 {
     let Some(found) = found_of(bytes) else {
         return 0;
@@ -76,7 +75,6 @@ pub fn langtag_kind(bytes: &[u8]) -> u32 {
 
 /// Returns the kind, as [`langtag_kind`] returns it, and where the parts stand. A tag for private use is its own
 /// private use part; an irregular one has no parts. All of `parts` is written, also where the answer is 0.
-#[unsafe(no_mangle)]
 pub fn langtag_parse(bytes: &[u8], parts: &mut Parts) -> u32 {
     let Some(found) = found_of(bytes) else {
         *parts = Parts::none();

@@ -9,7 +9,7 @@ use crate::likely::write_from_posix;
 /// room there has to be.
 ///
 /// 0 where the name says no tag, as `C` and `POSIX`; the buffer then stays, too.
-#[unsafe(no_mangle)]
+#[inline]
 pub fn langtag_from_posix(name: &[u8], buffer: &mut [u8]) -> usize {
     match write_from_posix(name, buffer) {
         Some(len) => len,

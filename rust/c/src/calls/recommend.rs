@@ -7,7 +7,7 @@ use crate::case::make_recommended_case;
 /// Puts the letters into their recommended case, in place: `MN-cYRL-mn-X-LATN` becomes `mn-Cyrl-MN-x-latn`. Texts that are equal
 /// but for case come out the same. What is not an ASCII letter stays, so any bytes will do. A tag stays of its kind, with its
 /// parts at the same offsets.
-#[unsafe(no_mangle)]
+#[inline]
 pub fn langtag_recommend(bytes: &mut [u8]) {
     make_recommended_case(bytes);
 }

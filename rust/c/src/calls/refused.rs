@@ -10,7 +10,6 @@ use crate::tag::{Refusal, RefusalKind};
 /// `en-` and `en-a`. `subtag` is the first subtag up to whose end the bytes are neither a tag nor, followed by a hyphen,
 /// the beginning of one, and `offset` its first byte, or the one that is no letter and no digit. Where the answer is 0 or 3,
 /// both are at the end of the bytes.
-#[unsafe(no_mangle)]
 pub fn langtag_refused(bytes: &[u8], subtag: &mut Span, offset: &mut usize) -> u32 {
     let Some(refusal) = Refusal::of(bytes) else {
         *subtag = Span {

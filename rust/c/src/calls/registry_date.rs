@@ -6,7 +6,7 @@ use crate::registry::FILE_DATE;
 
 /// Returns the File-Date of the registry by which tags are valid and canonical, its year, month and day as the digits of one
 /// number: 20051016 of 2005-10-16.
-#[unsafe(no_mangle)]
+#[inline]
 pub fn langtag_registry_date() -> u32 {
     number_of(FILE_DATE.as_bytes())
 }

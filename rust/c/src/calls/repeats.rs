@@ -18,7 +18,6 @@ pub struct Repeated {
 /// Returns 1 where a variant of a normal tag is equal, but for case, to an earlier one, and 2 more where a singleton is; and
 /// where the first of each stands, as the second `1996` of `de-1996-1996`. Such a tag is well formed, and is not valid.
 /// 0 for what is not a normal tag. All of `repeated` is written.
-#[unsafe(no_mangle)]
 pub fn langtag_repeats(bytes: &[u8], repeated: &mut Repeated) -> u32 {
     let none = Span { start: 0, len: 0 };
     let Some(tag) = normal_tag_of(bytes) else {

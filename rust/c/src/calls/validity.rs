@@ -12,7 +12,6 @@ use crate::tag::NormalLangTag;
 /// language and an extended language that is not registered, 4 for a second extended one, 5, 6 and 7 for a script, a
 /// region and a variant that is not registered, 8 and 9 for a repeated variant and singleton. `invalid` is where that
 /// subtag stands; it has no byte where the answer is 0 or 1.
-#[unsafe(no_mangle)]
 pub fn langtag_validity(bytes: &[u8], invalid: &mut Span) -> u32 {
     *invalid = Span { start: 0, len: 0 };
     let Some(tag) = tag_of(bytes) else {

@@ -8,7 +8,7 @@ use crate::scan::segment_end;
 
 /// Takes the first subtag off a span, and the hyphen after it. False where nothing is left, or where the span does not lie
 /// within the bytes; then both stay as they were.
-#[unsafe(no_mangle)]
+#[inline]
 pub fn langtag_next_subtag(bytes: &[u8], rest: &mut Span, subtag: &mut Span) -> bool {
     let Some(part) = rest.of(bytes) else {
         return false;
@@ -19,7 +19,7 @@ pub fn langtag_next_subtag(bytes: &[u8], rest: &mut Span, subtag: &mut Span) -> 
 
 /// Takes the first extension off a span (RFC 5646 section 2.2.6), its singleton and the subtags after it, and the hyphen after
 /// them. False as [`langtag_next_subtag`] returns it.
-#[unsafe(no_mangle)]
+#[inline]
 pub fn langtag_next_extension(bytes: &[u8], rest: &mut Span, extension: &mut Span) -> bool {
     let Some(part) = rest.of(bytes) else {
         return false;

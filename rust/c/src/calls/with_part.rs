@@ -13,7 +13,6 @@ use crate::tag::{put_part, Replacement};
 ///
 /// 0 where the tag is not a normal one, or the text not one of that part, which for a language the empty one is not either;
 /// the buffer then stays, too.
-#[unsafe(no_mangle)]
 pub fn langtag_with_part(tag: &[u8], part: u32, text: &[u8], buffer: &mut [u8]) -> usize {
     let Some(part) = part_of(part, text) else {
         return 0;
