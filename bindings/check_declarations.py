@@ -99,6 +99,18 @@ def of_rust(root: pathlib.Path) -> Interface:
     return Interface(functions, rust_structs(source))
 
 
+def of_exports(root: pathlib.Path) -> Interface:
+    """Reads what the C library by cargo exports, and the structs of the erased crate behind it."""
+    source = without_comments((root / "rust/c/src/exports.rs").read_text())
+    types = INTEGERS | {"*const u8": "const char *", "*mut u8": "char *", "*const Span": "const langtag_span *"}
+    types |= {f"*mut {name}": f"{in_c} *" for name, in_c in (STRUCTS | {"u32": "uint32_t", "usize": "size_t"}).items()}
+    functions = {}
+    for name, parameters, result in re.findall(r'#\[no_mangle\]\npub (?:unsafe )?extern "C" fn (\w+)\(([^)]*)\)(?: -> (\w+))?', source):
+        functions[name] = Function(types[result], [(types[kind], parameter) for parameter, kind in pairs(parameters)])
+    calls = sorted((root / "rust/c/src/calls").glob("*.rs"))
+    return Interface(functions, rust_structs(without_comments("\n".join(path.read_text() for path in calls))))
+
+
 def of_python(root: pathlib.Path) -> Interface:
     """Reads the table _FUNCTIONS, of results and parameters, and the classes of structs."""
     types = {f"c_{name.removesuffix('_t')}": name for name in ("size_t", "uint64_t", "uint32_t", "int32_t", "bool")}
@@ -204,11 +216,11 @@ def main(root: pathlib.Path) -> int:
     if not crate.functions or not crate.structs:
         print("no functions, or no structs, were found in the crate")
         return 1
-    others = (("the header", of_header), ("ffi.rs", of_rust), ("langtag", of_python))
+    others = (("the header", of_header), ("exports.rs", of_exports), ("ffi.rs", of_rust), ("langtag", of_python))
     found = [line for where, read in others for line in differences(where, crate, read(root))]
     found += wrongly_pure(crate.functions, header(root)) + wrong_numbers(root) + copied_dates(root)
     count = f"{len(crate.functions)} functions and {len(crate.structs)} structs"
-    print("\n".join(found) or f"{count}: crate, header, ffi.rs and langtag agree")
+    print("\n".join(found) or f"{count}: crate, header, exports.rs, ffi.rs and langtag agree")
     return 1 if found else 0
 
 

@@ -4,14 +4,15 @@
 //! and written if it is not const; a struct to write to is there; what is written is no part of another argument. Of what the header
 //! calls "out" nothing is read. An empty text may have any pointer, NULL too.
 #![allow(unsafe_code, unsafe_op_in_unsafe_fn)]
+#![warn(clippy::all)]
 #![allow(clippy::missing_safety_doc)]
 
 use crate::calls::parse::Parts;
 use crate::calls::repeats::Repeated;
 use crate::calls::span::Span;
 use crate::calls::{
-    accepted, canonical, choice, compare, direction, fallback, grandfathered, likely, parse, posix, range as ranges, recommend, refused,
-    registry_date, repeats, validity, viable, walk, with_part,
+    accepted, canonical, choice, compare, direction, fallback, grandfathered, likely, parse, posix,
+    range as ranges, recommend, refused, registry_date, repeats, validity, viable, walk, with_part,
 };
 use core::slice;
 
@@ -57,7 +58,12 @@ pub unsafe extern "C" fn langtag_stop(bytes: *const u8, len: usize) -> usize {
 }
 
 #[no_mangle]
-pub unsafe extern "C" fn langtag_refused(bytes: *const u8, len: usize, subtag: *mut Span, offset: *mut usize) -> u32 {
+pub unsafe extern "C" fn langtag_refused(
+    bytes: *const u8,
+    len: usize,
+    subtag: *mut Span,
+    offset: *mut usize,
+) -> u32 {
     let (mut refused, mut at) = (NO_SPAN, 0);
     let answer = refused::langtag_refused(lent(bytes, len), &mut refused, &mut at);
     subtag.write(refused);
@@ -66,12 +72,22 @@ pub unsafe extern "C" fn langtag_refused(bytes: *const u8, len: usize, subtag: *
 }
 
 #[no_mangle]
-pub unsafe extern "C" fn langtag_eq(a: *const u8, a_len: usize, b: *const u8, b_len: usize) -> bool {
+pub unsafe extern "C" fn langtag_eq(
+    a: *const u8,
+    a_len: usize,
+    b: *const u8,
+    b_len: usize,
+) -> bool {
     compare::langtag_eq(lent(a, a_len), lent(b, b_len))
 }
 
 #[no_mangle]
-pub unsafe extern "C" fn langtag_cmp(a: *const u8, a_len: usize, b: *const u8, b_len: usize) -> i32 {
+pub unsafe extern "C" fn langtag_cmp(
+    a: *const u8,
+    a_len: usize,
+    b: *const u8,
+    b_len: usize,
+) -> i32 {
     compare::langtag_cmp(lent(a, a_len), lent(b, b_len))
 }
 
@@ -91,7 +107,12 @@ pub unsafe extern "C" fn langtag_recommend(bytes: *mut u8, len: usize) {
 }
 
 #[no_mangle]
-pub unsafe extern "C" fn langtag_next_subtag(bytes: *const u8, len: usize, rest: *mut Span, subtag: *mut Span) -> bool {
+pub unsafe extern "C" fn langtag_next_subtag(
+    bytes: *const u8,
+    len: usize,
+    rest: *mut Span,
+    subtag: *mut Span,
+) -> bool {
     let mut taken = NO_SPAN;
     let is_one = walk::langtag_next_subtag(lent(bytes, len), &mut *rest, &mut taken);
     if is_one {
@@ -101,7 +122,12 @@ pub unsafe extern "C" fn langtag_next_subtag(bytes: *const u8, len: usize, rest:
 }
 
 #[no_mangle]
-pub unsafe extern "C" fn langtag_next_extension(bytes: *const u8, len: usize, rest: *mut Span, extension: *mut Span) -> bool {
+pub unsafe extern "C" fn langtag_next_extension(
+    bytes: *const u8,
+    len: usize,
+    rest: *mut Span,
+    extension: *mut Span,
+) -> bool {
     let mut taken = NO_SPAN;
     let is_one = walk::langtag_next_extension(lent(bytes, len), &mut *rest, &mut taken);
     if is_one {
@@ -120,12 +146,24 @@ pub unsafe extern "C" fn langtag_with_part(
     buffer: *mut u8,
     buffer_len: usize,
 ) -> usize {
-    with_part::langtag_with_part(lent(tag, tag_len), part, lent(text, text_len), taken(buffer, buffer_len))
+    with_part::langtag_with_part(
+        lent(tag, tag_len),
+        part,
+        lent(text, text_len),
+        taken(buffer, buffer_len),
+    )
 }
 
 #[no_mangle]
-pub unsafe extern "C" fn langtag_repeats(bytes: *const u8, len: usize, repeated: *mut Repeated) -> u32 {
-    let mut found = Repeated { variant: NO_SPAN, singleton: NO_SPAN };
+pub unsafe extern "C" fn langtag_repeats(
+    bytes: *const u8,
+    len: usize,
+    repeated: *mut Repeated,
+) -> u32 {
+    let mut found = Repeated {
+        variant: NO_SPAN,
+        singleton: NO_SPAN,
+    };
     let answer = repeats::langtag_repeats(lent(bytes, len), &mut found);
     repeated.write(found);
     answer
@@ -140,7 +178,12 @@ pub unsafe extern "C" fn langtag_validity(bytes: *const u8, len: usize, invalid:
 }
 
 #[no_mangle]
-pub unsafe extern "C" fn langtag_canonical(bytes: *const u8, len: usize, buffer: *mut u8, buffer_len: usize) -> usize {
+pub unsafe extern "C" fn langtag_canonical(
+    bytes: *const u8,
+    len: usize,
+    buffer: *mut u8,
+    buffer_len: usize,
+) -> usize {
     canonical::langtag_canonical(lent(bytes, len), taken(buffer, buffer_len))
 }
 
@@ -155,12 +198,22 @@ pub extern "C" fn langtag_registry_date() -> u32 {
 }
 
 #[no_mangle]
-pub unsafe extern "C" fn langtag_maximize(bytes: *const u8, len: usize, buffer: *mut u8, buffer_len: usize) -> usize {
+pub unsafe extern "C" fn langtag_maximize(
+    bytes: *const u8,
+    len: usize,
+    buffer: *mut u8,
+    buffer_len: usize,
+) -> usize {
     likely::langtag_maximize(lent(bytes, len), taken(buffer, buffer_len))
 }
 
 #[no_mangle]
-pub unsafe extern "C" fn langtag_minimize(bytes: *const u8, len: usize, buffer: *mut u8, buffer_len: usize) -> usize {
+pub unsafe extern "C" fn langtag_minimize(
+    bytes: *const u8,
+    len: usize,
+    buffer: *mut u8,
+    buffer_len: usize,
+) -> usize {
     likely::langtag_minimize(lent(bytes, len), taken(buffer, buffer_len))
 }
 
@@ -170,7 +223,12 @@ pub unsafe extern "C" fn langtag_is_right_to_left(bytes: *const u8, len: usize) 
 }
 
 #[no_mangle]
-pub unsafe extern "C" fn langtag_distance(desired: *const u8, desired_len: usize, supported: *const u8, supported_len: usize) -> u32 {
+pub unsafe extern "C" fn langtag_distance(
+    desired: *const u8,
+    desired_len: usize,
+    supported: *const u8,
+    supported_len: usize,
+) -> u32 {
     choice::langtag_distance(lent(desired, desired_len), lent(supported, supported_len))
 }
 
@@ -183,11 +241,20 @@ pub unsafe extern "C" fn langtag_best_for_header(
     tags: *const Span,
     tags_len: usize,
 ) -> usize {
-    choice::langtag_best_for_header(lent(header, header_len), lent(bytes, len), lent(tags, tags_len))
+    choice::langtag_best_for_header(
+        lent(header, header_len),
+        lent(bytes, len),
+        lent(tags, tags_len),
+    )
 }
 
 #[no_mangle]
-pub unsafe extern "C" fn langtag_from_posix(name: *const u8, name_len: usize, buffer: *mut u8, buffer_len: usize) -> usize {
+pub unsafe extern "C" fn langtag_from_posix(
+    name: *const u8,
+    name_len: usize,
+    buffer: *mut u8,
+    buffer_len: usize,
+) -> usize {
     posix::langtag_from_posix(lent(name, name_len), taken(buffer, buffer_len))
 }
 
@@ -207,17 +274,31 @@ pub unsafe extern "C" fn langtag_range_kind(bytes: *const u8, len: usize) -> u32
 }
 
 #[no_mangle]
-pub unsafe extern "C" fn langtag_matches_basic(range: *const u8, range_len: usize, tag: *const u8, tag_len: usize) -> bool {
+pub unsafe extern "C" fn langtag_matches_basic(
+    range: *const u8,
+    range_len: usize,
+    tag: *const u8,
+    tag_len: usize,
+) -> bool {
     ranges::langtag_matches_basic(lent(range, range_len), lent(tag, tag_len))
 }
 
 #[no_mangle]
-pub unsafe extern "C" fn langtag_matches_extended(range: *const u8, range_len: usize, tag: *const u8, tag_len: usize) -> bool {
+pub unsafe extern "C" fn langtag_matches_extended(
+    range: *const u8,
+    range_len: usize,
+    tag: *const u8,
+    tag_len: usize,
+) -> bool {
     ranges::langtag_matches_extended(lent(range, range_len), lent(tag, tag_len))
 }
 
 #[no_mangle]
-pub unsafe extern "C" fn langtag_next_fallback(bytes: *const u8, len: usize, rest: *mut Span) -> bool {
+pub unsafe extern "C" fn langtag_next_fallback(
+    bytes: *const u8,
+    len: usize,
+    rest: *mut Span,
+) -> bool {
     fallback::langtag_next_fallback(lent(bytes, len), &mut *rest)
 }
 
@@ -230,7 +311,8 @@ pub unsafe extern "C" fn langtag_next_accepted(
     weight: *mut u32,
 ) -> u32 {
     let (mut found, mut thousandths) = (NO_SPAN, 0);
-    let answer = accepted::langtag_next_accepted(lent(bytes, len), &mut *rest, &mut found, &mut thousandths);
+    let answer =
+        accepted::langtag_next_accepted(lent(bytes, len), &mut *rest, &mut found, &mut thousandths);
     if answer > 0 {
         range.write(found);
         weight.write(thousandths);

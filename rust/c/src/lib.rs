@@ -8,7 +8,7 @@
 //! which C alone has: `rust/erase` wrote them from the proved sources. `exports` is written by hand.
 #![no_std]
 #![deny(unsafe_code)]
-#![allow(dead_code, unused_imports, unused_macros)] // The Rust crate has more callers.
+#![allow(dead_code, unused_imports, unused_macros, clippy::all)] // The Rust crate has more callers, and lints of its own.
 
 #[cfg(feature = "std")]
 extern crate std;
