@@ -93,37 +93,73 @@ fn copies() {
 
 #[test]
 fn tags_in_another_form() {
-    for text in ["iw-BU", "zh-yue-hk", "sl-rozaj-1994-u-co-phonebk-x-mine", "x-a", "i-klingon", "yue", "zh"] {
+    for text in [
+        "iw-BU",
+        "zh-yue-hk",
+        "sl-rozaj-1994-u-co-phonebk-x-mine",
+        "x-a",
+        "i-klingon",
+        "yue",
+        "zh",
+    ] {
         let tag = LangTag::new(text).unwrap();
         refuse_each("canonical", || is_memory(canonical(tag)));
         refuse_each("extlang_form", || is_memory(extlang_form(tag)));
         refuse_each("maximized", || is_memory(maximized(tag)));
         refuse_each("minimized", || is_memory(minimized(tag)));
-        refuse_each("recommended case", || is_memory(tag.try_to_recommended_case()));
+        refuse_each("recommended case", || {
+            is_memory(tag.try_to_recommended_case())
+        });
         if let Some(normal) = tag.as_normal() {
-            refuse_each("recommended case", || is_memory(normal.try_to_recommended_case()));
+            refuse_each("recommended case", || {
+                is_memory(normal.try_to_recommended_case())
+            });
         }
     }
 }
 
 #[test]
 fn tags_from_parts_and_names() {
-    let (language, script, region) = (Language::new("zh").unwrap(), Script::new("Hant").ok(), Region::new("TW").ok());
-    refuse_each("from_parts", || is_memory(NormalLangTagBuf::from_parts(language, script, region)));
-    refuse_each("from_posix", || matches!(from_posix("de_CH.UTF-8@euro"), Err(PosixError::Memory(_))));
+    let (language, script, region) = (
+        Language::new("zh").unwrap(),
+        Script::new("Hant").ok(),
+        Region::new("TW").ok(),
+    );
+    refuse_each("from_parts", || {
+        is_memory(NormalLangTagBuf::from_parts(language, script, region))
+    });
+    refuse_each("from_posix", || {
+        matches!(from_posix("de_CH.UTF-8@euro"), Err(PosixError::Memory(_)))
+    });
 }
 
 #[test]
 fn headers() {
     let header = "de;q=0.5, fr, en;q=0.9, it, *;q=0.1, zh-TW;q=0.3";
     let tag = LangTag::new("en").unwrap();
-    refuse_each("AcceptLanguage::new", || matches!(AcceptLanguage::new(header), Err(AcceptLanguageError::Memory(_))));
-    refuse_each("AcceptLanguage::lenient", || is_memory(AcceptLanguage::lenient(header)));
-    refuse_each("tag_for_header", || matches!(tag_for_header(header, &[tag], tag), Err(AcceptLanguageError::Memory(_))));
+    refuse_each("AcceptLanguage::new", || {
+        matches!(
+            AcceptLanguage::new(header),
+            Err(AcceptLanguageError::Memory(_))
+        )
+    });
+    refuse_each("AcceptLanguage::lenient", || {
+        is_memory(AcceptLanguage::lenient(header))
+    });
+    refuse_each("tag_for_header", || {
+        matches!(
+            tag_for_header(header, &[tag], tag),
+            Err(AcceptLanguageError::Memory(_))
+        )
+    });
 }
 
 /// Calls a setter on a copy of a tag, and returns whether memory was refused. The copy then is as it was.
-fn set<E: PartialEq + core::fmt::Debug>(text: &str, refused: E, setter: impl Fn(&mut Held) -> Result<(), E>) -> bool {
+fn set<E: PartialEq + core::fmt::Debug>(
+    text: &str,
+    refused: E,
+    setter: impl Fn(&mut Held) -> Result<(), E>,
+) -> bool {
     let granted = GRANTED.take();
     let mut held = Held::of(text);
     GRANTED.set(granted);
@@ -146,7 +182,10 @@ struct Held {
 impl Held {
     fn of(text: &str) -> Held {
         let tag = NormalLangTag::new(text).unwrap();
-        Held { normal: tag.try_to_owned().unwrap(), any: tag.as_lang_tag().try_to_owned().unwrap() }
+        Held {
+            normal: tag.try_to_owned().unwrap(),
+            any: tag.as_lang_tag().try_to_owned().unwrap(),
+        }
     }
 }
 

@@ -85,6 +85,11 @@ fn are_found_by_what_owns_nothing() {
 
 #[test]
 fn are_compared_with_lent_ones() {
+    let (small, large) = (owned("de-at"), LangTag::new("DE-AT").unwrap());
+    assert!(small == large && large == small && small < LangTag::new("DE-CH").unwrap());
+    assert!(LangTag::new("de-at").unwrap() < owned("DE-CH"));
+    assert_eq!(owned("DE-at").into_bytes(), b"DE-at");
+    assert_ne!(InvalidLangTag("a b"), InvalidLangTag("a c"));
     let (owned, lent) = (owned("de-CH"), LangTag::new("de-AT").unwrap());
     assert_eq!(
         (lent < owned, owned < lent, LangTag::from(&owned) == owned),

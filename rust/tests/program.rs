@@ -232,15 +232,18 @@ fn answers_do_not_wait() {
         .stdout(Stdio::piped())
         .spawn()
         .unwrap();
-    let (mut stdin, mut stdout) = (
-        child.stdin.take().unwrap(),
-        BufReader::new(child.stdout.take().unwrap()),
-    );
-    for (text, wanted) in [("iw\n", "he\n"), ("zh-yue\n", "yue\n")] {
+    let mut stdin = child.stdin.take().unwrap();
+    let stdout = BufReader::new(child.stdout.take().unwrap());
+    let (answers, answered) = std::sync::mpsc::channel();
+    std::thread::spawn(move || {
+        stdout
+            .lines()
+            .try_for_each(|line| answers.send(line.unwrap()))
+    });
+    for (text, wanted) in [("iw\n", "he"), ("zh-yue\n", "yue")] {
         stdin.write_all(text.as_bytes()).unwrap();
-        let mut line = String::new();
-        stdout.read_line(&mut line).unwrap();
-        assert_eq!(line, wanted);
+        let answer = answered.recv_timeout(std::time::Duration::from_secs(20));
+        assert_eq!(answer.as_deref(), Ok(wanted));
     }
     drop(stdin);
     assert!(child.wait().unwrap().success());
