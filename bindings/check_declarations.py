@@ -41,7 +41,7 @@ def without_comments(text: str) -> str:
 
 
 def pairs(text: str) -> list[tuple[str, str]]:
-    """`name: type` of a list of parameters or fields in Rattle."""
+    """`name: type` of a list of parameters or fields in Rattle and Rust."""
     return [(name, kind.strip()) for name, kind in re.findall(r"(?:pub )?(\w+)\s*:\s*([^,]+)", text)]
 
 
@@ -98,7 +98,7 @@ def of_exports(root: pathlib.Path) -> Interface:
     for name, parameters, result in re.findall(r'#\[no_mangle\]\npub (?:unsafe )?extern "C" fn (\w+)\(([^)]*)\)(?: -> (\w+))?', source):
         functions[name] = Function(types[result], [(types[kind], parameter) for parameter, kind in pairs(parameters)])
     calls = sorted((root / "rust/c/src/calls").glob("*.rs"))
-    return Interface(functions, rust_structs(without_comments("\n".join(path.read_text() for path in calls))))
+    return Interface(functions, structs_of(without_comments("\n".join(path.read_text() for path in calls))))
 
 
 def of_python(root: pathlib.Path) -> Interface:
