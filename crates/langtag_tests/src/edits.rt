@@ -1,7 +1,8 @@
 //! Parts put into a tag, or taken out of it.
+use crate::support::{are_answered, cut};
 use langtag::{
-    EditError, Extensions, LangTag, LangTagBuf, Language, NormalLangTagBuf, PrivateUse, Region,
-    Script, Variants,
+    EditError, Extensions, LangTagBuf, Language, NormalLangTag, NormalLangTagBuf, PrivateUse,
+    Region, Script, Variants,
 };
 use std::alloc::{AllocError, Global};
 
@@ -44,18 +45,6 @@ impl<'a> Part<'a> {
         }
     }
 
-    /// Returns the same part of a tag.
-    fn of_tag(self, tag: &LangTag<'a>) -> Option<Part<'a>> {
-        Some(match self {
-            Part::Language(_) => Part::Language(tag.language()?),
-            Part::Script(_) => Part::Script(tag.script()),
-            Part::Region(_) => Part::Region(tag.region()),
-            Part::Variants(_) => Part::Variants(tag.variants()),
-            Part::Extensions(_) => Part::Extensions(tag.extensions()),
-            Part::PrivateUse(_) => Part::PrivateUse(tag.private_use()),
-        })
-    }
-
     /// Sets it of a tag of any kind.
     fn set(self, alloc: Global, tag: &mut LangTagBuf) -> Result<(), EditError> {
         match self {
@@ -81,49 +70,60 @@ impl<'a> Part<'a> {
     }
 }
 
-/// The tag after a part was set. A normal tag answers the same, without room to spare if it grew, and has its old text again
-/// where the old part is set.
-pub(crate) fn edit(
-    alloc: Global,
-    text: &str,
-    name: &str,
-    given: &str,
-) -> Result<String, AllocError> {
-    let Ok(tag) = LangTag::new(text) else {
-        return String::from_str(alloc, "none");
+/// The tag after a part was set: `TAG|PART|TEXT`. A normal tag answers the same, without room to spare if it grew. Where memory
+/// was refused, the tag is as it was.
+fn edited(alloc: Global, question: &str) -> Result<String, AllocError> {
+    let (text, part) = cut(question);
+    let (name, given) = cut(part);
+    let (Ok(tag), Some(part)) = (NormalLangTag::new(text), Part::of(name, given)) else {
+        return String::from_str(alloc, "not a normal tag and a part");
     };
-    let Some(part) = Part::of(name, given) else {
-        let answer = if tag.is_normal() {
-            "refused"
-        } else {
-            "no parts"
-        };
-        return String::from_str(alloc, answer);
-    };
-    let mut owned = tag.try_to_owned(alloc)?;
-    match part.set(alloc, &mut owned) {
-        Err(EditError::NotNormal) => return String::from_str(alloc, "no parts"),
-        Err(EditError::Memory(error)) => return Err(error),
-        Ok(()) => {}
+    let mut owned = tag.as_lang_tag().try_to_owned(alloc)?;
+    if part.set(alloc, &mut owned).is_err() {
+        return unchanged(alloc, owned.as_str(), text);
     }
-    if let Some(normal) = tag.as_normal() {
-        let mut other = normal.try_to_owned(alloc)?;
-        part.set_normal(alloc, &mut other)?;
-        if other.as_str() != owned.as_str() {
-            return String::from_str(alloc, "another answer of a normal tag");
-        }
-        if other.into_string().capacity() != owned.as_str().len()
-            && owned.as_str().len() > text.len()
-        {
-            return String::from_str(alloc, "room to spare");
-        }
+    let mut normal = tag.try_to_owned(alloc)?;
+    if part.set_normal(alloc, &mut normal).is_err() {
+        return unchanged(alloc, normal.as_str(), text);
     }
-    let edited = owned.as_lang_tag().try_to_owned(alloc)?;
-    if let Some(old) = part.of_tag(&tag) {
-        old.set(alloc, &mut owned).ok();
+    let len = normal.as_str().len();
+    if normal.as_str() != owned.as_str() {
+        return String::from_str(alloc, "another answer of a normal tag");
     }
-    if owned.as_str() != text {
-        return String::from_str(alloc, "not the old text again");
+    let edited = normal.into_string();
+    if len > text.len() && edited.capacity() != len {
+        return String::from_str(alloc, "room to spare");
     }
-    Ok(edited.into_string())
+    Ok(edited)
+}
+
+/// Says that memory was refused if a tag is as it was.
+fn unchanged(alloc: Global, text: &str, was: &str) -> Result<String, AllocError> {
+    if text == was {
+        return Err(AllocError);
+    }
+    String::from_str(alloc, "changed, though memory was refused")
+}
+
+/// Edits of each part that is given and that is taken out, and the tag afterwards.
+const EDITS: &[(&str, &str)] = &[
+    ("fr-Latn-FR|language|zh-min-nan", "zh-min-nan-Latn-FR"),
+    ("zh-min-nan-Hant|language|de", "de-Hant"),
+    ("fr|script|Latn", "fr-Latn"),
+    ("sr-Cyrl-RS|script|Latn", "sr-Latn-RS"),
+    ("sr-Cyrl-RS|script|none", "sr-RS"),
+    ("fr-Latn|region|FR", "fr-Latn-FR"),
+    ("es-ES-1996|region|419", "es-419-1996"),
+    ("es-419-a-bb|region|none", "es-a-bb"),
+    ("sl|variants|rozaj-biske-1994", "sl-rozaj-biske-1994"),
+    ("sl-rozaj-x-a|variants|none", "sl-x-a"),
+    ("de|extensions|a-bb-U-co", "de-a-bb-U-co"),
+    ("de-a-bb-x-c|extensions|none", "de-x-c"),
+    ("de-1996|private_use|x-12345678-y", "de-1996-x-12345678-y"),
+    ("de-x-y|private_use|none", "de"),
+];
+
+#[test]
+fn each_setter_has_memory(rt: HostRuntime) {
+    are_answered(&rt, rt.alloc(), EDITS, edited);
 }
