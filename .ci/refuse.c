@@ -1,6 +1,6 @@
 /*
- * Refuses one allocation of the program PROGRAM: the one with the number REFUSED, counted from 1. It then makes the file MET. The
- * runner of the tests, which is given this library too, has all of its memory.
+ * Refuses allocations of the program PROGRAM: the one with the number REFUSED, counted from 1, after which it makes the file MET; or
+ * each block of more than LARGEST bytes. The runner of the tests, which is given this library too, has all of its memory.
  */
 #define _GNU_SOURCE
 #include <errno.h>
@@ -12,15 +12,22 @@
 extern void *__libc_malloc(size_t size);
 extern void *__libc_realloc(void *block, size_t size);
 
-static int is_refused(void) {
+/* A number of the environment, or the greatest one. */
+static unsigned long number(const char *name) {
+    const char *word = getenv(name);
+    return word ? strtoul(word, NULL, 10) : -1ul;
+}
+
+static int is_refused(size_t size) {
     static unsigned long allocations;
-    const char *program = getenv("PROGRAM"), *number = getenv("REFUSED"), *met = getenv("MET");
-    if (!program || !number || !met || strcmp(program, program_invocation_short_name) != 0) return 0;
-    if (++allocations != strtoul(number, NULL, 10)) return 0;
-    close(open(met, O_CREAT | O_WRONLY, 0666));
+    const char *program = getenv("PROGRAM"), *met = getenv("MET");
+    if (!program || strcmp(program, program_invocation_short_name) != 0) return 0;
+    if (size > number("LARGEST")) return 1;
+    if (++allocations != number("REFUSED")) return 0;
+    if (met) close(open(met, O_CREAT | O_WRONLY, 0666));
     return 1;
 }
 
-void *malloc(size_t size) { return is_refused() ? NULL : __libc_malloc(size); }
+void *malloc(size_t size) { return is_refused(size) ? NULL : __libc_malloc(size); }
 
-void *realloc(void *block, size_t size) { return is_refused() ? NULL : __libc_realloc(block, size); }
+void *realloc(void *block, size_t size) { return is_refused(size) ? NULL : __libc_realloc(block, size); }

@@ -83,11 +83,27 @@ fn run_once(rt: &impl Abort, alloc: Global, given: Given<'_>) -> (Ended, bool) {
 const REPORTS: &[(&[u8], &[u8])] = &[
     (b"", b""),
     (b"\n", b"refused\n"),
+    (b"\n\n", b"refused\nrefused\n"),
     (b"fr\r\n", b"refused\n"),
     (b"\xff\n", b"refused\n"),
-    (b"fr\0\nx-A", b"refused\nprivate x-A\n"),
     (
-        b"fr-FR\n\nx-a\ni-AMI\nde-CH-1996-1996",
+        b"fr\0\nfr",
+        b"refused\nnormal language=fr script= region= variants= extensions= private= repeats=no\n",
+    ),
+    (
+        b"fr-FR\nde-CH-1996\n",
+        b"normal language=fr script= region=FR variants= extensions= private= repeats=no\nnormal language=de script= region=CH variants=1996 extensions= private= repeats=no\n",
+    ),
+    (
+        b"fr-FR\n\nde-CH-1996",
+        b"normal language=fr script= region=FR variants= extensions= private= repeats=no\nrefused\nnormal language=de script= region=CH variants=1996 extensions= private= repeats=no\n",
+    ),
+    (
+        b"fr\n\xff\nx-A\ni-AMI",
+        b"normal language=fr script= region= variants= extensions= private= repeats=no\nrefused\nprivate x-A\nirregular i-ami\n",
+    ),
+    (
+        b"fr-FR\n\nx-a\ni-ami\nde-CH-1996-1996",
         b"normal language=fr script= region=FR variants= extensions= private= repeats=no\nrefused\nprivate x-a\nirregular i-ami\nnormal language=de script= region=CH variants=1996-1996 extensions= private= repeats=yes\n",
     ),
     (
@@ -112,14 +128,17 @@ const FR: &[u8] = b"normal language=fr script= region= variants= extensions= pri
 const FR_AND_PRIVATE: &[u8] =
     b"normal language=fr script= region= variants= extensions= private= repeats=no\nprivate x-a\n";
 
+const THREE: &[u8] =
+    b"normal language=fr script= region= variants= extensions= private= repeats=no\nprivate x-a\nnormal language=en script= region= variants= extensions= private= repeats=no\n";
+
 /// The text, the bytes of a read, the read that fails, and what stands then.
 const FAILING_READS: &[(&[u8], usize, u64, &[u8])] = &[
     (b"fr\nx-", 8, 2, FR),
     (b"fr\n", 3, 1, b""),
     (b"fr\n", 3, 2, FR),
-    (b"fr\nx-a\nen", 9, 2, FR_AND_PRIVATE),
-    (b"fr\nx-a\nen-x", 7, 2, FR_AND_PRIVATE),
+    (b"x-a\nen", 6, 2, b"private x-a\n"),
     (b"x-a\nen\n", 4, 2, b"private x-a\n"),
+    (b"fr\nx-a\nfr\nx-a\nen-x", 7, 2, FR_AND_PRIVATE),
 ];
 
 #[test]
@@ -230,10 +249,10 @@ fn writes_of(rt: &impl Abort, alloc: Global, text: &[u8], step: usize, answers: 
 const WRITES: &[(&[u8], usize, &[u8], u64)] = &[
     (b"", 100, b"", 0),
     (b"fr", 1, FR, 1),
-    (b"fr\nx-a\n", 100, FR_AND_PRIVATE, 1),
-    (b"fr\nx-a", 100, FR_AND_PRIVATE, 2),
-    (b"fr\nx-a\n", 4, FR_AND_PRIVATE, 2),
-    (b"fr\nx-a\n", 1, FR_AND_PRIVATE, 2),
+    (b"fr\nx-a\nen\n", 100, THREE, 1),
+    (b"fr\nx-a\nen", 100, THREE, 2),
+    (b"fr\nx-a\nen\n", 7, THREE, 2),
+    (b"fr\nx-a\nen\n", 1, THREE, 3),
     (&[b'-'; 20_000], 16_384, b"refused\n", 1),
 ];
 
