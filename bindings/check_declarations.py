@@ -162,7 +162,7 @@ NUMBERS = [
 
 # Where the registry's date stands, and the files that take it from the library and have no copy of it.
 DATED = "crates/langtag_registry/src/tables.rt"
-UNDATED = ["crates/langtag_c/src", "crates/langtag_rows/data", "bindings/include", "bindings/rust/src", "bindings/python/langtag", "bindings/python/native"]
+UNDATED = ["crates/langtag_c/src", "rows", "bindings/include", "bindings/rust/src", "bindings/python/langtag", "bindings/python/native"]
 
 
 def registry_date(root: pathlib.Path) -> str:
@@ -185,7 +185,7 @@ def wrong_numbers(root: pathlib.Path) -> list[str]:
     source = (root / "bindings/include/langtag.h").read_text()
     comment = re.search(r"in RFC 5646 section 2\.1, or(.*?)\*/", source, flags=re.S)
     said = sorted((int(number), tag) for number, tag in re.findall(r" (\d+) ([a-z]+-[\w-]+)", comment[1] if comment else ""))
-    table = (root / "crates/langtag_rows/data/table.txt").read_text()
+    table = (root / "rows/table.txt").read_text()
     wanted = [(int(number), tag) for tag, number in re.findall(r"^grandfathered (\S+) (\d+)", table, flags=re.M)][:26]
     found = [] if said == wanted else [f"grandfathered tags: the header has {sorted(set(said) ^ set(wanted))}"]
     if "#define LANGTAG_PURE __attribute__((pure, warn_unused_result))\n" not in source:

@@ -19,7 +19,7 @@ MODULE = "bindings/python/langtag/__init__.py"
 CRATE = "crates/langtag_c/src"
 NUMBERED = check_declarations.VERSIONS + check_declarations.NUMBERS
 DATE = check_declarations.registry_date(ROOT)
-FILES = {HEADER, RUST, PYTHON, MODULE, check_declarations.DATED, "crates/langtag_rows/data/table.txt", *(name for name, _ in NUMBERED)}
+FILES = {HEADER, RUST, PYTHON, MODULE, check_declarations.DATED, "rows/table.txt", *(name for name, _ in NUMBERED)}
 
 # A file, a text that stands in it, what is put in its place, and what the message has to name.
 PLANTED = [

@@ -19,7 +19,7 @@ import tempfile
 from typing import NamedTuple
 
 HERE = pathlib.Path(__file__).resolve().parent
-ROWS = HERE.parent / "crates/langtag_rows/data"
+ROWS = HERE.parent / "rows"
 H, HPP, SQL, PY = "include/langtag.h", "include/langtag.hpp", "examples/sqlite_langtag.c", "python/langtag/__init__.py"
 CT, NATIVE = "python/langtag/_ctypes.py", "python/native/"
 JS, CALLS = "js/index.js", "js/calls.js"
@@ -260,8 +260,7 @@ def asked(libraries: pathlib.Path, language: str, fault: Fault | None, test: str
         folder = pathlib.Path(name)
         copy = folder / "bindings"
         shutil.copytree(HERE, copy, ignore=shutil.ignore_patterns("target", "dist", "__pycache__", "build"))
-        (folder / "crates/langtag_rows").mkdir(parents=True)
-        (folder / "crates/langtag_rows/data").symlink_to(ROWS)
+        (folder / "rows").symlink_to(ROWS)
         if fault:
             text = (copy / fault.file).read_text()
             if fault.old not in text:

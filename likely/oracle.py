@@ -4,7 +4,7 @@ request and the names of POSIX locales.
 
 usage: oracle.py forms < TAGS                          prints for each tag its maximal and its minimal form, tab separated
        oracle.py distance < PAIRS                      prints for each desired and supported tag, space separated, their distance
-       oracle.py rows < ROWS                           prints each row with its answer, in the form of crates/langtag_rows/data: of
+       oracle.py rows < ROWS                           prints each row with its answer, in the form of those in rows/: of
                                                        maximized, minimized, right-to-left, distance, best, posix
        oracle.py COLUMN --compare ANSWERS < LINES      counts the lines whose answer differs from that of a program
 

@@ -1,7 +1,7 @@
 #!/usr/bin/env python3
 """Lines to ask of oracle.py and of a program.
 
-usage: questions.py tags|pairs|rows COUNT SEED    prints that many tags, pairs of tags, or rows of crates/langtag_rows/data
+usage: questions.py tags|pairs|rows COUNT SEED    prints that many tags, pairs of tags, or rows as in rows/
        questions.py each                          prints rows for what the data speak of: each side of a row, and each rule
 """
 import functools

@@ -4,7 +4,7 @@
  * that is expected here. By its contract a call could refuse whatever text it likes, and Display could fail on it: that neither
  * does is seen here alone.
  *
- *     sweep crates/langtag_rows/data/texts.txt
+ *     sweep rows/texts.txt
  */
 #include "memory.h"
 #include <stdio.h>

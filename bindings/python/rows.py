@@ -1,5 +1,5 @@
-"""The rows that the tests of all languages read: a call, its arguments and its answer. crates/langtag_rows/data has them, and
-says their form."""
+"""The rows that the tests of all languages read: a call, its arguments and its answer. They stand in rows/,
+whose README says their form."""
 from __future__ import annotations
 
 import collections
@@ -8,7 +8,7 @@ import re
 import traceback
 from typing import Callable, Iterator, Mapping, NamedTuple
 
-FOLDER = pathlib.Path(__file__).resolve().parent.parent.parent / "crates/langtag_rows/data"
+FOLDER = pathlib.Path(__file__).resolve().parent.parent.parent / "rows"
 
 #: How many arguments each call has that is asked of the bindings.
 CALLS = {

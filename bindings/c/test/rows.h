@@ -1,5 +1,5 @@
-/* The rows that the tests of all languages read, a call with its arguments and its answer: crates/langtag_rows/data has
- * them, and says their form. */
+/* The rows that the tests of all languages read, a call with its arguments and its answer. They stand in rows/,
+ * whose README says their form. */
 #ifndef ROWS_H
 #define ROWS_H
 

@@ -24,7 +24,7 @@ const PAGES = {
 function fileOf(path) {
     if (path.startsWith("/package/test/")) return new URL(`bindings/js/test/${path.slice(14)}`, ROOT);
     if (path.startsWith("/package/")) return new URL(path.slice(9), PACKAGE);
-    return new URL(`crates/langtag_rows/data/${path.slice(6)}`, ROOT);
+    return new URL(`rows/${path.slice(6)}`, ROOT);
 }
 
 const server = createServer((request, response) => {

@@ -1,6 +1,6 @@
 /*
- * The rows that the tests of all languages read: a call, its arguments and its answer. crates/langtag_rows/data has them, and says
- * their form.
+ * The rows that the tests of all languages read: a call, its arguments and its answer. They stand in rows/,
+ * whose README says their form.
  */
 
 /** How many arguments each call has that is asked. */

@@ -5,7 +5,7 @@ import test from "node:test";
 import { adapted, answers, FLOORS } from "./answers.js";
 import { ask } from "./rows.js";
 
-const FOLDER = new URL("../../../crates/langtag_rows/data/", import.meta.url);
+const FOLDER = new URL("../../../rows/", import.meta.url);
 const asked = {};
 
 function askFile(name, content, floor) {

@@ -1,5 +1,5 @@
-//! The rows that the tests of all languages read: a call, its arguments and its answer. `langtag_rows/data` has them, and says
-//! their form.
+//! The rows that the tests of all languages read: a call, its arguments and its answer. They stand in `rows/`, whose README
+//! says their form.
 #![allow(dead_code)] // each test uses some of it
 
 use std::panic::{catch_unwind, AssertUnwindSafe};
@@ -37,7 +37,7 @@ impl Row {
 
 /// Where a file stands: in the repository, or beside the crate where it is packed.
 pub fn path(name: &str) -> String {
-    ["/../../crates/langtag_rows/data/", "/rows/", "/../rows/"]
+    ["/../../rows/", "/rows/", "/../rows/"]
         .map(|folder| env!("CARGO_MANIFEST_DIR").to_owned() + folder + name)
         .into_iter()
         .find(|path| std::path::Path::new(path).is_file())
