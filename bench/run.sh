@@ -1,20 +1,23 @@
 #!/usr/bin/env bash
 # Times recognise on a file of tags, one a line, beside plain loops; with no file, on three lists of 100,000 tags: one of
 # shapes of 18 bytes, one of seven bytes, and one of plain tags, and then repeated_variant by number of variants. With
-# valgrind it also counts instructions. It needs rt, rustc and a linker. OXILANGTAG may name the folder of that crate's
-# source, and LTO=1 asks for link-time optimisation.
+# valgrind it also counts instructions. The Rust crate is timed beside the archive, and both are asked about 1,000,000 random
+# texts. It needs rt, rustc and a linker. OXILANGTAG may name the folder of that crate's source, and LTO=1 asks for link-time
+# optimisation.
 set -euo pipefail
 here=$(cd "$(dirname "$0")" && pwd)
 target=$here/target
 mkdir -p "$target"
 
 (cd "$here/../crates/langtag_bench" && rt lib >&2)
-entries="recognise recognise_text lang_tag is_utf8 fold_and_sum copy"
-others=()
+entries="recognise recognise_text lang_tag is_utf8 rust fold_and_sum copy"
+rustc --edition 2021 -C opt-level=3 --crate-type rlib --crate-name langtag --cfg 'feature="alloc"' --cap-lints allow \
+    "$here/../rust/src/lib.rs" -o "$target/liblangtag.rlib"
+others=(--extern "langtag=$target/liblangtag.rlib")
 if [ -n "${OXILANGTAG:-}" ]; then
     rustc --edition 2021 -C opt-level=3 --cap-lints allow --crate-type rlib --crate-name oxilangtag \
         "$OXILANGTAG/src/lib.rs" -o "$target/liboxilangtag.rlib"
-    others=(--cfg oxilangtag --extern "oxilangtag=$target/liboxilangtag.rlib")
+    others+=(--cfg oxilangtag --extern "oxilangtag=$target/liboxilangtag.rlib")
     entries="$entries oxilangtag"
 else
     echo "no comparison to oxilangtag: OXILANGTAG names no folder with its source" >&2
@@ -63,6 +66,7 @@ grow() {
 if [ $# -gt 0 ]; then
     measure "$1"
 else
+    "$target/bench" differ 1000000
     for list in shapes middle plain; do
         "$target/bench" "$list" 100000 >"$target/$list.txt"
         echo "== $list"

@@ -15,6 +15,9 @@
 /** A text, or what has one: a tag, a range, also of another copy of this module, or one that `structuredClone` made. */
 export type Text = string | { readonly text: string };
 
+/** The value of an Accept-Language header. A request without one has undefined in Node and null in fetch, and asks for nothing. */
+export type Header = string | null | undefined;
+
 /** The 26 grandfathered tags as they are registered (RFC 5646 section 2.1): first the seventeen irregular ones. */
 export const GRANDFATHERED: readonly string[];
 
@@ -157,9 +160,9 @@ export interface WeightedRange {
 export class AcceptLanguage {
     private constructor();
     /** Reads a header; throws AcceptLanguageError where an element is bad, as de_CH or de;q=2. */
-    static parse(header: string): AcceptLanguage;
+    static parse(header: Header): AcceptLanguage;
     /** Reads a header, and passes bad elements over, as one wants it of browsers' requests. */
-    static lenient(header: string): AcceptLanguage;
+    static lenient(header: Header): AcceptLanguage;
     /** The ranges of the greatest weight first, without those of the weight 0. */
     readonly ranges: readonly WeightedRange[];
     /** Returns the tag that the ranges find, those of the greatest weight first. */
@@ -178,12 +181,12 @@ export function lookUp<Tag extends Text, Otherwise = undefined>(
 
 /** Returns the tag for a header, by AcceptLanguage and its lookUp; throws its AcceptLanguageError. */
 export function tagForHeader<Tag extends Text, Otherwise = undefined>(
-    header: string, tags: Iterable<Tag>, otherwise?: Otherwise,
+    header: Header, tags: Iterable<Tag>, otherwise?: Otherwise,
 ): Tag | Otherwise;
 
 /** Returns the tag for a header, in which bad elements are passed over. */
 export function tagForHeaderLenient<Tag extends Text, Otherwise = undefined>(
-    header: string, tags: Iterable<Tag>, otherwise?: Otherwise,
+    header: Header, tags: Iterable<Tag>, otherwise?: Otherwise,
 ): Tag | Otherwise;
 
 /**
@@ -197,7 +200,7 @@ export function distance(desired: Text, supported: Text): number;
  * made out counts, de_CH as de-CH. The time grows with the length of the header times that of the tags.
  */
 export function bestForHeader<Tag extends Text, Otherwise = undefined>(
-    header: string, tags: Iterable<Tag>, otherwise?: Otherwise,
+    header: Header, tags: Iterable<Tag>, otherwise?: Otherwise,
 ): Tag | Otherwise;
 
 /**

@@ -32,6 +32,9 @@ function textOf(value) {
     throw new TypeError(`a text or a tag is wanted, and this is ${value === null ? "null" : `of type ${typeof value}`}`);
 }
 
+/** Returns the text of a header. A request without one asks for nothing: Node has undefined for it, and fetch has null. */
+const headerText = (header) => textOf(header ?? "");
+
 /** An error that tells the text that is refused. */
 class Refusal extends RangeError {
     constructor(message, more) {
@@ -85,17 +88,22 @@ class InvalidSubtag {
     }
 }
 
-/** What a part is set to, as a text: null is none, and so is an empty list. */
+/**
+ * Returns what a part is set to, as a text. null takes a part out, and so does an empty list. One empty subtag makes "-", which no
+ * part is, so that it is refused.
+ */
 function partText(value) {
     if (value === null) return "";
     if (typeof value === "string") return value;
     if (typeof value !== "object") throw new TypeError(`a part is a text or has several, and this is of type ${typeof value}`);
-    const members = typeof value === "object" && !(Symbol.iterator in value) ? Object.entries(value) : [...value];
-    return members.map((member) => {
+    const members = Symbol.iterator in value ? [...value] : Object.entries(value);
+    if (members.length === 0) return "";
+    const texts = members.map((member) => {
         if (typeof member === "string") return member;
         const [singleton, subtags] = member;
         return [singleton, ...(typeof subtags === "string" ? [subtags] : subtags)].join("-");
-    }).join("-");
+    });
+    return texts.join("-") || "-";
 }
 
 export class LanguageTag {
@@ -359,7 +367,7 @@ export class AcceptLanguage {
     #header;
 
     constructor(header, isLenient = false) {
-        const text = textOf(header);
+        const text = headerText(header);
         this.#header = text;
         const ranges = [];
         for (const [answer, offset, length, weight] of calls.accepted(text)) {
@@ -403,7 +411,7 @@ export function distance(desired, supported) {
 
 export function bestForHeader(header, tags, otherwise) {
     const list = [...tags];
-    const index = calls.bestForHeader(textOf(header), list.map((tag) => tagOf(tag).text));
+    const index = calls.bestForHeader(headerText(header), list.map((tag) => tagOf(tag).text));
     return index < list.length ? list[index] : otherwise;
 }
 

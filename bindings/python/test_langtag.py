@@ -174,10 +174,19 @@ class Ranges(unittest.TestCase):
 
 class Negotiation(unittest.TestCase):
     def test_no_header(self):
-        for call in (tag_for_header, tag_for_header_lenient):
-            self.assertEqual(call(None, [Tag("de")], 5), 5)
+        calls = (langtag.best_for_header, tag_for_header, tag_for_header_lenient,
+                 lambda header, tags, default: AcceptLanguage(header).best(tags, default),
+                 lambda header, tags, default: AcceptLanguage(header).look_up(tags, default),
+                 lambda header, tags, default: AcceptLanguage.lenient(header).best(tags, default),
+                 lambda header, tags, default: AcceptLanguage.lenient(header).look_up(tags, default))
+        for call in calls:
+            for header in (None, "", b""):
+                self.assertEqual(call(header, [Tag("de")], 5), 5)
+                with self.assertRaises(TypeError):
+                    call(header, [5], None)
             with self.assertRaises(TypeError):
                 call(5, [Tag("de")], None)
+        self.assertEqual([AcceptLanguage(None).ranges, AcceptLanguage.lenient(None).ranges], [(), ()])
 
     def test_ranges(self):
         accepted = AcceptLanguage.lenient("FR;q=0.5, d!, de, *;q=0, nl;q=0.25")
@@ -186,7 +195,7 @@ class Negotiation(unittest.TestCase):
         self.assertEqual(repr(accepted), "AcceptLanguage('de;q=1.0, FR;q=0.5, nl;q=0.25')")
         self.assertIsNone(accepted.look_up([], None))
         self.assertEqual([str(range) for range in Range("de-AT-*-x-*").fallbacks()], ["de-AT-*-x-*", "de-AT", "de"])
-        for value in (None, 5, ["de"]):
+        for value in (5, ["de"]):
             with self.assertRaises(TypeError):
                 AcceptLanguage.lenient(value)
         for ranges, tags in (([Range("de")], ["de"]), (["de"], [Tag("de")]), ([Tag("de")], [Tag("de")])):
@@ -243,7 +252,12 @@ class Edits(unittest.TestCase):
         self.assertEqual(str(tag.replace(extensions={"u": ["co", "eor"]}, variants=[])), "zh-yue-Hant-HK-u-co-eor-x-mine")
         with self.assertRaises(EditError):
             Tag("de-x-a").replace(language=None)
-        for wrong in ({"variants": [""]}, {"variants": ["1994", ""]}, {"extensions": {"u": []}}, {"extensions": {"": ["a"]}}):
+        for nothing in ([], (), {}, set(), "", None):
+            self.assertEqual(str(Tag("de-1996-u-co-pinyin").replace(variants=nothing, extensions=nothing)), "de")
+        wrongs = [{part: wrong} for part in ("variants", "extensions") for wrong in (
+            [""], ["", ""], {""}, ["1994", ""], {"": []}, {"": ""}, {"": ["a"]}, {"u": []}, {"u": ""}, {"u": [""]})]
+        wrongs += [{part: wrong} for part in ("language", "script", "region", "private_use") for wrong in ([], [""], {})]
+        for wrong in wrongs:
             with self.assertRaises(EditError):
                 tag.replace(**wrong)
         for wrong in ({"script": b"Latn"}, {"region": 419}, {"variants": [1994]}):

@@ -54,10 +54,10 @@ class Checker:
         new = without_marks(words_of(path.read_text(encoding="utf-8")), counts)
         old, imported = without_imports(old)
         new, imports = without_imports(new)
-        for gone in imported - imports:
-            counts[f"without {gone}"] += 1
-        for added in imports - imported:
-            counts[f"with {added}"] += 1
+        kept_inside = {name for name in imported - imports if "pub(crate) " + name.removeprefix("pub ") in imports}
+        counts["export"] += len(kept_inside)
+        counts.update(f"without {gone}" for gone in imported - imports - kept_inside)
+        counts.update(f"with {added}" for added in imports - imported - {"pub(crate) " + it.removeprefix("pub ") for it in kept_inside})
         for name in set(counts) - set(self.names):
             raise Difference(f"`{name}` is no kind of kinds.txt")
         compare(without_layout(old), without_layout(new), self.kinds, counts)

@@ -13,6 +13,7 @@ import tempfile
 from crates import MODULES
 from docs import erase_docs
 from errors import erase_derives
+from exports import keep_inside
 from features import mark_owning, owning_items
 from ghosts import erase_ghosts
 from memory import erase_allocators
@@ -25,9 +26,9 @@ CRATES = RUST.parent / "crates"
 
 
 def erase(source, module):
-    """Returns the code of a source without its contracts."""
+    """Returns the code of a source without its contracts, and the names of its free functions with a condition."""
     code = Code(source.read_text(encoding="utf-8"))
-    erase_ghosts(code)
+    conditional = erase_ghosts(code)
     erase_derives(code)
     erase_allocators(code)
     erase_forms(code)
@@ -36,7 +37,7 @@ def erase(source, module):
     erase_imports(code)
     add_imports(code)
     erase_docs(code, module)
-    return code
+    return code, conditional
 
 
 def head(source):
@@ -45,18 +46,28 @@ def head(source):
 
 def write(out):
     """Writes all modules below a folder."""
-    files = {}
+    files, conditional = {}, set()
     for module in MODULES:
         for source in sorted((CRATES / module.crate / "src").glob("*.rt")):
             name = "mod.rs" if source.stem == "lib" else source.stem + ".rs"
-            files[source, out / module.folder / name] = erase(source, module)
-    owning = owning_items(files.values())
+            code, names = erase(source, module)
+            files[source, out / module.folder / name] = code
+            conditional |= names
+    finish(files.values(), conditional)
     for (source, path), code in files.items():
-        mark_owning(code, owning)
         path.parent.mkdir(parents=True, exist_ok=True)
         path.write_text(head(source) + str(code), encoding="utf-8")
     roots = [out / module.folder / "mod.rs" for module in MODULES]
     subprocess.run(["rustfmt", "--edition", "2021", *roots], check=True)
+
+
+def finish(files, conditional):
+    """Does what takes a look at all files: what is for the crate alone, and what is left out without `alloc`."""
+    for code in files:
+        keep_inside(code, conditional)
+    owning = owning_items(files)
+    for code in files:
+        mark_owning(code, owning)
 
 
 def differences(new, old):

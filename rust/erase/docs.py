@@ -3,9 +3,10 @@ import re
 
 from crates import MODULES, public_path_of
 
+TEXT = r"""b?"(?:[^"\\]|\\.)*"|b?'(?:[^'\\]|\\.)+'"""
 IN_PARENTHESES = r"\((?:[^()]|\((?:[^()]|\([^()]*\))*\))*\)"
-VALUE = rf"""(?:b?"(?:[^"\\]|\\.)*"|b?'(?:[^'\\]|\\.)+'|\d+|true|false|None|(?:Some|Ok|Err|){IN_PARENTHESES}|[A-Z]\w*::\w+)"""
-ASSERTED = re.compile(rf"(?P<code>(?!let ).*\S);\s+// (?P<value>{VALUE})(?P<rest>[:,.;].*)?$")
+VALUE = rf"(?:{TEXT}|\d+|true|false|None|(?:Some|Ok|Err|){IN_PARENTHESES}|[A-Z]\w*::\w+)"
+ASSERTED = re.compile(rf"(?P<code>(?!let ).*\S);\s+// (?P<value>{VALUE})(?:[:,.;] ?(?P<rest>.*))?$")
 
 
 def erase_docs(code, module):
@@ -30,12 +31,15 @@ def with_examples(before):
     out, block = [], None
     for line in before.split("\n"):
         mark, text = re.match(r"(\s*//[/!] ?|)(.*)", line).groups()
-        if not text.startswith("```") or not mark:
-            out, block = (out, block + [line]) if block is not None else (out + [line], None)
-        elif block is None:
-            out, block = out + [line], []
-        else:
-            out, block = out + doc_test(block, mark.rstrip() + " ") + [line], None
+        is_fence = mark and text.startswith("```")
+        if is_fence and block is not None:
+            out += doc_test(block, mark.rstrip() + " ")
+            block = None
+        elif is_fence:
+            block = []
+            out.append(line)
+            continue
+        (out if block is None else block).append(line)
     return "\n".join(out)
 
 
@@ -49,16 +53,23 @@ def doc_test(lines, mark):
 
 
 def can_fail(line):
-    code = re.sub(r"^\s*//[/!]|\"(?:[^\"\\\\]|\\\\.)*\"|b?'.'", "", line)
+    code = re.sub(rf"^\s*//[/!]|{TEXT}", "", line)
     return "?" in code.partition("//")[0]
 
 
 def asserted(line):
+    """`a; // value: why` becomes `assert_eq!(a, value); // why`."""
     mark, code = re.match(r"(\s*//[/!] ?)(.*)", line).groups()
     found = ASSERTED.match(code)
     if not found:
         return line
-    rest = f" // {found['rest'].lstrip(':,.; ')}" if found["rest"] else ""
-    value = found["value"]
-    test = {"true": f"assert!({found['code']});", "false": f"assert!(!({found['code']}));" if " == " in found["code"] else f"assert!(!{found['code']});"}
-    return mark + test.get(value, f"assert_eq!({found['code']}, {value});") + rest
+    rest = f" // {found['rest']}" if found["rest"] else ""
+    return mark + assertion(found["code"], found["value"]) + rest
+
+
+def assertion(code, value):
+    if value == "true":
+        return f"assert!({code});"
+    if value == "false":
+        return f"assert!(!({code}));" if " == " in code else f"assert!(!{code});"
+    return f"assert_eq!({code}, {value});"

@@ -19,14 +19,13 @@ class Item:
     """A struct or an enum: its name, its parameter and where it begins and ends."""
 
     def __init__(self, code, place):
-        self.code = code
         while code[place] not in ("struct", "enum"):
             place = code.after(place)
         self.kind, self.name, self.start = code[place], code[place + 1], place
-        self.parameter = code[place + 3] if code[place + 2] == "<" and code[place + 3] != "'" else ""
-        lifetime = code.tokens[place + 3].kind == "lifetime"
-        self.parameter = "" if lifetime or code[place + 2] != "<" else code[place + 3]
-        self.type = self.name + (f"<{self.parameter}>" if self.parameter else "<'_>" if lifetime else "")
+        generic = code.tokens[place + 3] if code[place + 2] == "<" else None
+        has_lifetime = generic and generic.kind == "lifetime"
+        self.parameter = generic.text if generic and not has_lifetime else ""
+        self.type = self.name + (f"<{self.parameter}>" if self.parameter else "<'_>" if has_lifetime else "")
         self.body = code.next_of(("{", "("), place)
         self.end = code.after(self.body) - 1
         if code[self.end + 1] == ";":

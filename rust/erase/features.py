@@ -5,8 +5,6 @@ that stays, methods are.
 """
 import re
 
-from tokens import Code
-
 LEFT_OUT = '#[cfg(feature = "alloc")]\n'
 OWNING = {"String", "Vec", "AllocError", "TryText", "TryItems", "try_string", "try_vec", "try_string_with_capacity"}
 METHODS = {"try_to_owned", "make_recommended_case", "into_string", "try_to_recommended_case"}
@@ -76,9 +74,9 @@ def mark_owning(code, owning):
 
 def split_import(code, item, owning):
     """Imports what is always there and what is left out in two lines."""
-    text = str(Code("")) + "".join(token.before * (at > item.start) + token.text for at, token in enumerate(code.tokens) if item.start <= at <= item.end)
+    text = code.text_of(item.start, item.end)
     root, brace, listed = text.partition("{")
-    listed = [name.strip() for name in listed.rstrip("}; \n").split(",") if name.strip()]
+    listed = re.findall(r"\w+(?: as \w+)?", listed)
     stays = [name for name in listed if name not in owning]
     if not brace or not stays:
         code.replace(item.start, item.start, LEFT_OUT)

@@ -1,19 +1,24 @@
 """Takes out what is there for the proof alone: ghost items, clauses, tactics, models."""
 
-# Free functions that require something and that users can reach (src/lib.rs has them), and the methods that each source has:
-# what becomes of a call that breaks the condition. All other methods that require something are for the crate alone.
-PANICS = {
-    "byte": "If `index` is not less than `len()`.",
+# What becomes of a call that breaks the condition of a function, for those that users can reach. A method of another name is
+# for the crate alone, and so is a free function (exports.py).
+BROKEN = {
+    "byte": "Panics if `index` is not less than `len()`.",
+    "recognise": "A source that counts wrongly or that changes its bytes gets a wrong answer or a panic, and nothing worse.",
+    "recognise_normal": "A source that counts wrongly or that changes its bytes gets a wrong answer or a panic, and nothing worse.",
 }
 
 
 def erase_ghosts(code):
+    """Returns the names of the free functions that others can name and that have a condition."""
     drop_ghost_items(code)
-    for word in ("requires", "ensures"):
-        drop_clauses(code, word)
+    drop_clauses(code, "ensures", lambda place: None)
+    conditional = set()
+    drop_clauses(code, "requires", lambda place: conditional.update(restrict(code, place)))
     drop_attributes(code)
     drop_models(code)
     code.rewrite("prove!(", "assert!(")
+    return conditional
 
 
 def drop_ghost_items(code):
@@ -24,20 +29,31 @@ def drop_ghost_items(code):
         code.drop(start, end if code[end] == "}" else end + 1)
 
 
-def drop_clauses(code, word):
+def drop_clauses(code, word, then):
     while (place := code.find(word)) >= 0:
         body = code.next_of(("{",), place)
         code.drop(place, code.after(body))
-        if word == "requires":
-            restrict(code, place)
+        then(place)
 
 
 def restrict(code, place):
-    """Keeps a method with a condition for the crate: its callers were proved to meet it. A free function is in a private module."""
+    """Keeps a method with a condition for the crate, whose callers were proved to meet it. Yields the name of a free function."""
     while code[place] != "fn":
         place -= 1
-    if code[place - 1] == "pub" and is_method(code, place):
+    name, is_public = code[place + 1], code[place - 1] == "pub"
+    if name in BROKEN:
+        add_doc(code.tokens[place - is_public], BROKEN[name])
+    elif is_public and is_method(code, place):
         code.replace(place - 1, place, "pub(crate)")
+    elif is_public:
+        yield name
+
+
+def add_doc(token, sentence):
+    """Adds a paragraph to the doc comment of an item, unless it has it."""
+    comment, _, indent = token.before.rpartition("\n")
+    if sentence not in comment:
+        token.before = f"{comment}\n{indent}///\n{indent}/// {sentence}\n{indent}"
 
 
 def is_method(code, place):
@@ -48,7 +64,7 @@ def drop_attributes(code):
     place = 0
     while (place := code.find("#", place)) >= 0:
         opening = place + 2 if code[place + 1] == "!" else place + 1
-        if code[opening + 1] in ("tactic", "error_bound", "unsafe"):
+        if code[opening + 1] in ("tactic", "error_bound"):
             code.replace(place, code.after(opening), "")
         elif code[opening + 1] == "rattlefmt":
             place = code.replace(opening + 1, opening + 2, "rustfmt")

@@ -60,6 +60,11 @@ class Code:
         """Returns the text of a token, and an empty one outside the file."""
         return self.tokens[place].text if 0 <= place < len(self.tokens) else ""
 
+    def text_of(self, start, end):
+        """Returns some code as it stands, but for what stands before it."""
+        first, *others = self.tokens[start:end]
+        return first.text + "".join(token.before + token.text for token in others)
+
     def at(self, place, *texts):
         """Returns whether the code goes on with these tokens."""
         return all(self[place + offset] == text for offset, text in enumerate(texts))
@@ -118,24 +123,22 @@ class Code:
         self.tokens[place + 1 : place + 1] = lex(code)[:-1]
 
     def rewrite(self, old, new, start=0):
-        """Puts one form in place of another everywhere, and returns how often. `$a` stands for any tokens in balance."""
-        count, place, pattern = 0, start, words_of(old)
+        """Puts one form in place of another everywhere. `$a` stands for any tokens in balance."""
+        place, pattern = start, words_of(old)
         while (place := self.find(pattern[0], place)) >= 0:
             found = self.match(pattern, place)
             if not found:
                 place += 1
                 continue
             behind, taken = found
-            place = self.replace(place, behind, re.sub(r"\$(\w+)", lambda it: taken[it[1]], new))
-            count += 1
-        return count
+            place = self.replace(place, behind, filled(new, taken))
 
     def rewrite_once(self, old, new, start):
         """Does so at the first such form from a place on."""
         pattern = words_of(old)
         place = next(at for at in range(start, len(self)) if self.match(pattern, at))
         behind, taken = self.match(pattern, place)
-        self.replace(place, behind, re.sub(r"\$(\w+)", lambda it: taken[it[1]], new))
+        self.replace(place, behind, filled(new, taken))
 
     def match(self, pattern, place):
         """Returns where a form that begins here ends, with what its variables stand for."""
@@ -150,6 +153,10 @@ class Code:
             else:
                 return None
         return place, taken
+
+
+def filled(form, taken):
+    return re.sub(r"\$(\w+)", lambda it: taken[it[1]], form)
 
 
 def joined(first, second):

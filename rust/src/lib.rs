@@ -1,6 +1,87 @@
-//! Language tags (BCP 47): parsed, taken apart, compared, edited, matched, validated and chosen.
+//! Language tags (BCP 47): parse, compare, edit, match, validate and choose.
+//!
+//! ```
+//! use langtag::likely::best_for_header;
+//! use langtag::registry::{canonical, validate};
+//! use langtag::LangTag;
+//!
+//! let tag = LangTag::new("zh-hant-TW-x-mine")?;
+//! assert_eq!(tag.script().unwrap().as_str(), "hant");
+//! assert_eq!(tag.in_recommended_case().to_string(), "zh-Hant-TW-x-mine");
+//! assert!(validate(tag).is_ok());
+//! # #[cfg(feature = "alloc")]
+//! assert_eq!(canonical(LangTag::new("iw-BU")?)?.as_str(), "he-MM");
+//!
+//! let tags = [LangTag::new("en")?, LangTag::new("zh-Hans")?, LangTag::new("zh-Hant")?];
+//! assert_eq!(best_for_header(b"zh-TW,zh;q=0.9,en;q=0.8", &tags), Some(2));
+//! # Ok::<(), Box<dyn std::error::Error>>(())
+//! ```
+//!
+//! [`LangTag`] is a tag of any kind, and [`NormalLangTag`] a tag that is made of parts. Each part has a type of its own, such as
+//! [`Script`]. These are `Copy` values over a `&str`. Each has an owned form, such as `LangTagBuf`. `==`, order and hash ignore
+//! the case of ASCII letters. The modules:
+//!
+//! - [`matching`]: language ranges, filters and look-up (RFC 4647), and Accept-Language headers (RFC 9110)
+//! - [`registry`]: the IANA Language Subtag Registry: which tags are valid, and their canonical forms (RFC 5646)
+//! - [`likely`]: likely subtags (UTS #35), and the tag that suits a reader best
+//!
+//! # What is proved
+//!
+//! This crate is the proved source with its contracts taken out, compiled by your rustc. The source is written in Rattle, which
+//! is Rust with contracts, and each contract is proved there. The crate itself is not proved. Between the proofs and your program
+//! stand:
+//!
+//! - rustc and `core`, in place of the compiler and the std of Rattle.
+//! - The differences between the two sources that are not contracts. There are some fifty kinds, and `checker/kinds.txt` gives
+//!   a reason for each. A checker that shares no code with the eraser refuses all others.
+//! - The files directly below `src`, which are written by hand. `shim.rs` has the allocation that returns an error, and the
+//!   comparison of tags by their text. The others add what Rust programs expect, such as `FromStr` and `AsRef<str>`.
+//! - The width of `usize`. It is proved for 64 bits that nothing overflows. 32 bits are tested, not proved.
+//! - Your own implementations of [`ByteSource`], [`likely::TagList`] and [`likely::RangeList`]. A fault there can give a
+//!   wrong answer or a panic, and nothing else: the crate has no unsafe code.
+//!
+//! No public call makes a value without a test, so there is no `Script` that is not a script.
+//!
+//! # Features
+//!
+//! - `alloc` (default): the owned forms, the setters, and what makes new texts. Without it, the crate needs no allocator. It
+//!   never needs std.
+//! - `oxilangtag`: the module of that name has the names of the crate oxilangtag.
+//! - `serde`, in releases: tags, parts and ranges are strings. The manifest in the repository names no other crate, so that
+//!   cargo works there without a network.
+//!
+//! Calls whose names begin with `try_` return an error if memory is refused, and leave the tag as it was, as the setters do.
+//! Their short forms, such as `to_owned` and `clone`, end the program then, as is usual in Rust.
+//!
+//! # Where the items of langtag 0.4.0 are
+//!
+//! | langtag 0.4.0 | here |
+//! |---|---|
+//! | `&LangTag`, `&Script` .., unsized types behind references | `LangTag<'a>`, `Script<'a>` .., `Copy` values |
+//! | `LangTagBuf`, `ScriptBuf` .. | the same names |
+//! | `X::new`, of anything that has text | `X::new(&str)`, `XBuf::new(String)`; `TryFrom`, `FromStr`; [`LangTag::from_bytes`] |
+//! | `X::new_unchecked`, `XBuf::new_unchecked` | none: each value was tested |
+//! | `InvalidX` | the same names; [`InvalidLangTag::refusal`] says where a text goes wrong |
+//! | `as_str`, `as_bytes`, `as_x`, `into_string`, `Display`, `Debug` | the same names |
+//! | `into_bytes`, `validate` | `into_string().into_bytes()`, `X::new(text).is_ok()` |
+//! | `Deref<Target = str>`, `AsRef<str>`, `AsRef<[u8]>` | the same |
+//! | `Borrow` | [`CaselessText`], by which a map is asked with a text in any case |
+//! | `PartialEq` with `str`, `&str`, `String` | the same, both ways; case is ignored; also `eq_str` |
+//! | `PartialEq` with `[u8]` | [`case_insensitive_eq`] |
+//! | `ToOwned`, `Clone` of owned forms | `to_owned`, `Clone`; `try_to_owned` returns an error |
+//! | `language`, `script`, `region`, `variants`, `extensions`, `private_use`, `private_use_subtags` | the same names |
+//! | `kind`, `is_normal`, `is_private_use`, `is_grandfathered`, `as_normal`, `as_private_use`, `as_grandfathered` | the same names |
+//! | `Kind`, `TypedLangTag`, `PrivateUseLangTag`, `PrivateUseLangTagBuf` | the same names |
+//! | `GrandfatheredLangTag`, the static `GRANDFATHERED` | the same names, a constant |
+//! | `Singleton`, its `FromStr` | the same; `Singleton::from_string` hands the text back |
+//! | `Extensions::get`, `iter`, `iter_extension` | the same names; case is ignored |
+//! | `PrimaryLanguage`, of three letters or of `abc-def` | of 2 to 8 letters (RFC 5646 section 2.1) |
+//! | `LanguageExtensionIter`, `VariantsIter`, `ExtensionIter`, `ExtensionsIter`, `PrivateUseIter` | the same names |
+//! | mutators such as `language_mut`, `insert`, `push` | `set_language`, `set_script` .. of `LangTagBuf` and `NormalLangTagBuf` |
+//! | feature `serde` | the same, in releases |
 #![no_std]
 #![forbid(unsafe_code)]
+#![warn(missing_docs, missing_debug_implementations)]
 #![cfg_attr(not(feature = "alloc"), allow(dead_code, unused_imports))]
 
 #[cfg(feature = "alloc")]
@@ -11,6 +92,7 @@ mod shim;
 #[macro_use]
 mod text_types;
 
+// The modules that rust/erase makes: each is a folder.
 mod case;
 #[allow(dead_code, unused_imports)] // The C library calls first_extension_end.
 mod extension;
@@ -20,8 +102,9 @@ pub mod matching;
 mod place;
 mod private;
 pub mod registry;
+#[allow(dead_code, unused_imports)] // The C library calls viable_len_with_hyphen.
 mod scan;
-#[allow(dead_code)] // Callers in Rattle have NormalLangTag::from_checked.
+#[allow(dead_code, unused_imports)] // NormalLangTag::from_checked and segment_end are for crates of Rattle.
 mod tag;
 
 // Habits of Rust, by hand over these.
@@ -33,6 +116,7 @@ mod lent;
 pub mod oxilangtag;
 #[cfg(feature = "serde")]
 mod serde;
+mod shown;
 mod text;
 mod walks;
 

@@ -1,5 +1,5 @@
 //! The names of the crate oxilangtag 0.1, for programs that are written for it: `use langtag::oxilangtag::LanguageTag`
-//! in place of `use oxilangtag::LanguageTag`. It accepts what [`LangTag`](crate::LangTag) accepts.
+//! in place of `use oxilangtag::LanguageTag`. It accepts what [`LangTag`] accepts.
 //!
 //! As there, and unlike the other types of this crate, a tag is compared, ordered and hashed as its text, with its case, so
 //! that a map by tags can be asked by a `str`; none of the 26 grandfathered tags has parts; and

@@ -1,11 +1,10 @@
-//! What works on bytes (RFC 5646 section 2.1): recognisers over sources that were read before or compute their bytes, case, and
-//! where subtags begin and end.
+//! What works on bytes (RFC 5646 section 2.1): recognisers over sources that were read before or compute their bytes, and case.
 use std::cmp::Ordering;
 use std::hash::Hasher;
 
 use langtag::{
     case_insensitive_cmp, case_insensitive_hash, into_smallcase, recognise, recognise_normal,
-    segment_end, segment_start, ByteSource, Ends, Metered,
+    ByteSource, Ends, Metered,
 };
 
 /// `en-x` followed by so many times `-a`, of which no byte is stored.
@@ -129,33 +128,6 @@ fn ends_differ_where_one_of_them_does() {
         assert_eq!(other, ends);
         change(&mut other);
         assert_ne!(other, ends);
-    }
-}
-
-#[test]
-fn subtags_end() {
-    for (text, start, end) in [
-        (&b"fr-FR"[..], 0, 2),
-        (b"fr-FR", 2, 2),
-        (b"fr-FR", 3, 5),
-        (b"fr-FR", 5, 5),
-        (b"fr_FR", 0, 5),
-        (b"", 0, 0),
-    ] {
-        assert_eq!(segment_end(text, start), end);
-    }
-}
-
-#[test]
-fn subtags_start() {
-    for (text, end, start) in [
-        (&b"fr-FR"[..], 5, 3),
-        (b"fr-FR", 3, 3),
-        (b"fr-FR", 2, 0),
-        (b"fr-", 3, 3),
-        (b"", 0, 0),
-    ] {
-        assert_eq!(segment_start(text, end), start);
     }
 }
 

@@ -94,7 +94,8 @@ fn refused_edits_are_shown_and_compared() {
         assert_eq!(format!("{error:?}"), *debug);
         for (other_at, (other, ..)) in errors.iter().enumerate() {
             assert_eq!(error == other, at == other_at);
-            assert_eq!(error.clone() == *other, at == other_at);
+            let copy = *error;
+            assert_eq!(copy == *other, at == other_at);
         }
     }
 }

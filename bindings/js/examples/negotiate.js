@@ -9,7 +9,7 @@ import { bestForHeader } from "langtag-verified";
 const GREETINGS = new Map([["en", "Hello"], ["de", "Guten Tag"], ["de-CH", "Grüezi"], ["fr", "Bonjour"], ["zh-Hant", "你好"]]);
 
 const server = createServer((request, response) => {
-    const tag = bestForHeader(request.headers["accept-language"] ?? "", GREETINGS.keys(), "en");
+    const tag = bestForHeader(request.headers["accept-language"], GREETINGS.keys(), "en");
     response.writeHead(200, { "Content-Type": "text/plain; charset=utf-8", "Content-Language": tag, Vary: "Accept-Language" });
     response.end(`${GREETINGS.get(tag)}\n`);
 });

@@ -2,6 +2,7 @@
 import assert from "node:assert/strict";
 import { spawn } from "node:child_process";
 import { once } from "node:events";
+import { get } from "node:http";
 import test from "node:test";
 import { fileURLToPath } from "node:url";
 
@@ -19,6 +20,9 @@ test("the server answers in the language that is asked for", async () => {
             assert.equal(response.headers.get("Content-Language"), wanted);
             assert.equal(await response.text(), { en: "Hello\n", de: "Guten Tag\n", "de-CH": "Grüezi\n", "zh-Hant": "你好\n" }[wanted]);
         }
+        const [bare] = await once(get(line.trim()), "response"); // without the header, which fetch always sends
+        bare.resume();
+        assert.equal(bare.headers["content-language"], "en");
     } finally {
         server.kill();
     }

@@ -127,12 +127,33 @@ test("likely subtags, distances and the best tag", () => {
     assert.ok(CLDR_VERSION >= 41);
 });
 
+const HEADER_CALLS = [
+    bestForHeader, tagForHeader, tagForHeaderLenient,
+    (header, tags, otherwise) => AcceptLanguage.parse(header).best(tags, otherwise),
+    (header, tags, otherwise) => AcceptLanguage.parse(header).lookUp(tags, otherwise),
+    (header, tags, otherwise) => AcceptLanguage.lenient(header).best(tags, otherwise),
+    (header, tags, otherwise) => AcceptLanguage.lenient(header).lookUp(tags, otherwise),
+];
+
+test("a request without a header asks for nothing", () => {
+    for (const header of [undefined, null, ""]) {
+        for (const call of HEADER_CALLS) {
+            assert.equal(call(header, ["de", "en"], "en"), "en");
+            assert.equal(call(header, ["de", "en"]), undefined);
+            assert.throws(() => call(header, ["de_CH"], "en"), InvalidTag);
+        }
+        assert.deepEqual([AcceptLanguage.parse(header).ranges, AcceptLanguage.lenient(header).ranges], [[], []]);
+    }
+});
+
 test("what is no text is a TypeError", () => {
     for (const value of [undefined, null, 5, ["en"], {}, Symbol("en"), 5n, { text: 5 }]) {
         assert.throws(() => LanguageTag.parse(value), TypeError);
         assert.throws(() => LanguageRange.parse(value), TypeError);
-        assert.throws(() => tagForHeader(value, ["en"]), TypeError);
         assert.throws(() => LanguageTag.parse("en").equals(value), TypeError);
+        assert.throws(() => bestForRanges([value], ["en"]), TypeError);
+        if (value === undefined || value === null) continue; // no header
+        for (const call of HEADER_CALLS) assert.throws(() => call(value, ["en"]), TypeError);
     }
     assert.throws(() => LanguageTag.parse("en").with({ scripts: "Latn" }), TypeError);
     assert.throws(() => LanguageTag.parse("en").with({ variants: 5 }), TypeError);
@@ -177,6 +198,15 @@ test("edits", () => {
     assert.throws(() => tag.with({ region: "Switzerland" }), (error) => error instanceof EditError && error instanceof RangeError &&
         error.message === `"Switzerland" can't be the region of a tag` && error.part === "region" && error.text === "Switzerland");
     assert.throws(() => LanguageTag.parse("x-a").with({ region: "CH" }), { name: "EditError", message: "not a normal language tag" });
+    for (const list of [[], new Set(), {}, new Map(), "", null]) {
+        assert.equal(String(LanguageTag.parse("de-1996-u-co-pinyin").with({ variants: list, extensions: list })), "de");
+    }
+    for (const list of [[""], ["", ""], new Set([""]), ["1996", ""], { "": [] }, { "": "" }, new Map([["", []]]), { u: [] }, { u: "" }, { u: [""] }]) {
+        for (const part of ["variants", "extensions"]) assert.throws(() => LanguageTag.parse("de-1996-u-co-pinyin").with({ [part]: list }), EditError);
+    }
+    for (const list of [[], [""], {}]) {
+        for (const part of ["language", "script", "region", "privateUse"]) assert.throws(() => LanguageTag.parse("de-Latn-x-a").with({ [part]: list }), EditError);
+    }
     for (const parts of [{ language: null }, { script: "" }, { region: "\u212aE" }, { script: "La\ud800n" }]) {
         assert.throws(() => tag.with(parts), EditError);
     }

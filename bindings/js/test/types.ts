@@ -1,5 +1,5 @@
 // What tsc has to take, and what it has to refuse.
-import { AcceptLanguage, bestForRanges, EditError, InvalidTag, LanguageRange, LanguageTag, lookUp, REGISTRY_DATE, tagForHeader, type Fault } from "langtag-verified";
+import { AcceptLanguage, bestForHeader, bestForRanges, EditError, InvalidTag, LanguageRange, LanguageTag, lookUp, REGISTRY_DATE, tagForHeader, tagForHeaderLenient, type Fault } from "langtag-verified";
 
 const tag: LanguageTag = LanguageTag.parse("zh-Hant");
 const script: string | undefined = tag.script;
@@ -10,6 +10,12 @@ const again = LanguageTag.from({ language: "de", extensions: other.extensions })
 const found: "de" | "fr" = tagForHeader("fr", ["de", "fr"] as const, "de");
 const none: LanguageTag | undefined = lookUp(["fr", LanguageRange.parse("*")], [tag, again]);
 const best: "de" | "fr" | undefined = bestForRanges([...(["fr"] as readonly string[]), LanguageRange.parse("de")], ["de", "fr"] as const);
+const request: { headers: { "accept-language"?: string } } = { headers: {} }; // as node:http has it
+const absent = [
+    bestForHeader(request.headers["accept-language"], ["de"], "en"), bestForHeader(new Headers().get("accept-language"), ["de"], "en"),
+    tagForHeader(undefined, ["de"], "en"), tagForHeaderLenient(null, ["de"], "en"), AcceptLanguage.parse(undefined).best(["de"], "en"),
+    AcceptLanguage.lenient(null).lookUp(["de"], "en"),
+];
 const weights: number[] = AcceptLanguage.lenient("fr").ranges.map(({ weight }) => weight);
 const sorted: string[] = ["zh", "de"].sort(LanguageTag.compare);
 const kinds: "normal" | "private-use" | "irregular" = tag.kind;
@@ -19,10 +25,12 @@ try {
     if (error instanceof InvalidTag) console.log(error.text, error.offset, error.viable, error.message);
     if (error instanceof EditError) console.log(error.part === "script");
 }
-console.log(script, subtags, fault, found, none, best, weights, sorted, kinds, REGISTRY_DATE.length, tag.fnv1a() > 0n, tag.equals("ZH"));
+console.log(script, subtags, fault, found, none, best, absent, weights, sorted, kinds, REGISTRY_DATE.length, tag.fnv1a() > 0n, tag.equals("ZH"));
 
 // @ts-expect-error a number is not a text
 LanguageTag.parse(5);
+// @ts-expect-error a number is not a header
+bestForHeader(5, ["de"]);
 // @ts-expect-error the language can't be taken out
 tag.with({ language: null });
 // @ts-expect-error there is no such part

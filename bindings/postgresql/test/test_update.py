@@ -16,11 +16,36 @@ CREATE MATERIALIZED VIEW through AS SELECT count(*) AS n FROM v; CREATE DOMAIN v
 CREATE FUNCTION form_of(tag langtag) RETURNS langtag IMMUTABLE BEGIN ATOMIC SELECT canonical(tag); END; CREATE INDEX t_by_function ON t (form_of(tag));
 CREATE TABLE parted (tag langtag) PARTITION BY HASH (canonical(tag));
 """
+# The same through a user's operators, and through operator classes of them.
+OPERATORS = """
+CREATE OPERATOR @@@ (RIGHTARG = langtag, FUNCTION = canonical);
+CREATE FUNCTION same_form(langtag, langtag) RETURNS boolean IMMUTABLE STRICT BEGIN ATOMIC SELECT canonical($1) = canonical($2); END;
+CREATE OPERATOR === (LEFTARG = langtag, RIGHTARG = langtag, FUNCTION = same_form);
+CREATE TABLE o (tag langtag CHECK (tag === tag), form langtag GENERATED ALWAYS AS (@@@ tag) STORED);
+INSERT INTO o VALUES ('de'), ('iw');
+CREATE INDEX o_form ON o ((@@@ tag)); CREATE INDEX o_same ON o (tag) WHERE tag === 'xx'; CREATE DOMAIN same AS langtag CHECK (VALUE === VALUE);
+CREATE MATERIALIZED VIEW o_forms AS SELECT @@@ tag AS form FROM o;
+CREATE VIEW o_view AS SELECT tag FROM o WHERE tag === 'xx'; CREATE MATERIALIZED VIEW o_through AS SELECT count(*) FROM o_view;
+CREATE TABLE o_parted (tag langtag) PARTITION BY LIST ((@@@ tag));
+CREATE FUNCTION form_hash(langtag) RETURNS integer IMMUTABLE STRICT BEGIN ATOMIC SELECT langtag_hash(canonical($1)); END;
+CREATE OPERATOR CLASS by_form FOR TYPE langtag USING hash AS OPERATOR 1 ===, FUNCTION 1 form_hash(langtag);
+CREATE INDEX o_class ON o USING hash (tag by_form); CREATE TABLE o_spread (tag langtag) PARTITION BY HASH (tag by_form);
+CREATE FUNCTION form_cmp(langtag, langtag) RETURNS integer IMMUTABLE STRICT BEGIN ATOMIC SELECT langtag_cmp(canonical($1), canonical($2)); END;
+CREATE OPERATOR FAMILY in_order USING btree; CREATE OPERATOR CLASS in_order FOR TYPE langtag USING btree FAMILY in_order AS
+    OPERATOR 3 =, FUNCTION 1 form_cmp(langtag, langtag);
+CREATE INDEX o_order ON o (tag in_order);
+"""
 WARNINGS = [
     "check anew: constraint t_tag_check on table t", "check anew: constraint valid_check of the domain valid",
     "move rows between the partitions of parted", "REFRESH MATERIALIZED VIEW m", "REFRESH MATERIALIZED VIEW through",
     "REINDEX INDEX t_by_function", "REINDEX INDEX t_canonical", "REINDEX INDEX t_valid", "UPDATE t SET tag = tag, for form",
+    "check anew: constraint o_tag_check on table o", "check anew: constraint same_check of the domain same",
+    "move rows between the partitions of o_parted", "move rows between the partitions of o_spread", "REFRESH MATERIALIZED VIEW o_forms",
+    "REFRESH MATERIALIZED VIEW o_through", "REINDEX INDEX o_class", "REINDEX INDEX o_form", "REINDEX INDEX o_order", "REINDEX INDEX o_same",
+    "UPDATE o SET tag = tag, for form",
 ]
+# What a scan finds, and an old index does not.
+LOST = ["@@@ tag = 'xx'", "tag === 'xx'"]
 BY_INDEX = "SET enable_seqscan = off; SET enable_bitmapscan = off; "
 BY_SCAN = "SET enable_indexscan = off; SET enable_indexonlyscan = off; SET enable_bitmapscan = off; "
 
@@ -31,7 +56,7 @@ class Update(unittest.TestCase):
 
     def test_update(self):
         server.fresh("updated")
-        server.lines(TABLES, "updated")
+        server.lines(TABLES + OPERATORS, "updated")
         self.says("SELECT canonical('de'), langtag_registry_date() > '2025'", "de|t")
         # In one session, where the old module was loaded before.
         said, complaint = server.run("SELECT canonical('de'); ALTER EXTENSION langtag UPDATE TO '0.2.0'; SELECT "
@@ -52,6 +77,16 @@ class Update(unittest.TestCase):
                   "WHERE form <> canonical(tag); "
                   "SELECT form FROM m WHERE form <@ 'xx' ORDER BY 1", "", "", "0", "xx", "xx-CH")
         self.says(BY_INDEX + "SELECT tag FROM t WHERE canonical(tag) = 'xx'", "de")
+
+        for where in LOST:
+            self.says(f"{BY_INDEX}SELECT tag FROM o WHERE {where}")
+            self.says(f"{BY_SCAN}SELECT tag FROM o WHERE {where}", "de")
+        for what in WARNINGS:
+            if what.startswith("RE"):
+                server.lines(what, "updated")
+        for where in LOST:
+            self.says(f"{BY_INDEX}SELECT tag FROM o WHERE {where}", "de")
+        self.says("SELECT form FROM o_forms ORDER BY 1; SELECT * FROM o_through", "he", "xx", "1")
 
     def test_a_new_database_has_the_first(self):
         server.fresh("first")

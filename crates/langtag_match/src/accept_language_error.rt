@@ -40,13 +40,16 @@ impl fmt::Display for ElementPart {
 /// ```
 #[derive(Debug, Drop, Error)]
 pub enum AcceptLanguageError<'a> {
-    /// The header; of its first bad element the index, which counts the commas before it, the offset in bytes just after
-    /// the last of these, and the part that is bad.
+    /// The first element that is bad.
     #[error("element {index} has a bad {part}")]
     BadElement {
+        /// The header.
         header: &'a str,
+        /// The index of the element: how many commas stand before it.
         index: usize,
+        /// The offset in bytes just after the last of these commas.
         offset: usize,
+        /// The part that is bad.
         part: ElementPart,
     },
     /// Out of memory for the list. The caller has the header still.

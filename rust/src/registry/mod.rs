@@ -57,7 +57,8 @@ pub use deprecated::{
 pub use extlang_forms::extlang_form;
 pub use invalid_subtag::InvalidSubtag;
 pub use language_fields::{macrolanguage, preferred_language, suppress_script};
-pub use languages::{is_registered_language, letter_number};
+pub use languages::is_registered_language;
+pub(crate) use languages::letter_number;
 pub use misplaced::{misplaced_extlang, misplaced_variant};
 pub use preferred::{preferred_region, preferred_tag, preferred_variant};
 pub use prefixes::extlang_prefix;

@@ -40,9 +40,8 @@ mod stage;
 mod subtags;
 mod viable;
 
-pub use case::{
-    case_insensitive_cmp, case_insensitive_eq, case_insensitive_hash, folded_number, into_smallcase,
-};
+pub(crate) use case::folded_number;
+pub use case::{case_insensitive_cmp, case_insensitive_eq, case_insensitive_hash, into_smallcase};
 pub use caseless::Caseless;
 pub use class::{
     are_letters, is_extended, is_extension_subtag, is_mark, is_primary, is_private_subtag,
@@ -52,7 +51,7 @@ pub use ends::Ends;
 pub use found::Found;
 pub use metered::Metered;
 pub use recogniser::{recognise, recognise_normal};
-pub use segment::{segment_end, segment_start};
+pub(crate) use segment::{segment_end, segment_start};
 pub use source::ByteSource;
 pub use split::{first_place, len_before, split_at_byte, split_at_either};
 pub use subtags::Subtags;

@@ -14,6 +14,8 @@ use crate::scan::source::ByteSource;
 /// `recognise(&mut Metered::new("i-notexist"))` is None after four reads. It is proved that no other answer would be
 /// right.
 #[inline(always)]
+///
+/// A source that counts wrongly or that changes its bytes gets a wrong answer or a panic, and nothing worse.
 pub fn recognise<S: ByteSource>(source: &mut S) -> Option<Found> {
     read_tag(source)
 }
@@ -64,6 +66,8 @@ fn read_irregular<S: ByteSource>(source: &mut S, first: u8) -> Option<Found> {
 /// does. It is proved that a normal tag can be divided into its parts in one way only.
 ///
 /// `recognise_normal(&mut Metered::new("zh-min"))` is Some, and that of `x-a` and of `i-lux` is None.
+///
+/// A source that counts wrongly or that changes its bytes gets a wrong answer or a panic, and nothing worse.
 #[inline]
 pub fn recognise_normal<S: ByteSource>(source: &mut S) -> Option<Found> {
     recognise(source).filter(|found| found.is_normal())

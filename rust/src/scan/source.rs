@@ -25,5 +25,7 @@ pub trait ByteSource {
     fn reach(&self) -> usize;
 
     /// Reads the byte at an index: `b'r'` at 1 in `fr-FR`.
+    ///
+    /// Panics if `index` is not less than `len()`.
     fn byte(&mut self, index: usize) -> u8;
 }

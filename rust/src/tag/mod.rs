@@ -90,9 +90,10 @@ pub use crate::private::{PrivateUseBuf, PrivateUseSubtagBuf};
 pub use crate::scan::{
     case_insensitive_cmp, case_insensitive_eq, case_insensitive_hash, into_smallcase, is_extended,
     is_extension_subtag, is_mark, is_primary, is_private_subtag, is_region, is_script,
-    is_singleton, is_variant, recognise, recognise_normal, segment_end, segment_start, viable_len,
-    ByteSource, Ends, Found, Metered, Subtags,
+    is_singleton, is_variant, recognise, recognise_normal, viable_len, ByteSource, Ends, Found,
+    Metered, Subtags,
 };
+pub(crate) use crate::scan::{segment_end, segment_start};
 #[cfg(feature = "alloc")]
 pub use edit_error::EditError;
 pub use grandfathered::{GrandfatheredLangTag, InvalidGrandfatheredTag, GRANDFATHERED};

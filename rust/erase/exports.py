@@ -1,0 +1,20 @@
+"""Functions with a condition are for the crate alone: `pub use` of one becomes `pub(crate) use`."""
+
+
+def keep_inside(code, names):
+    place = 0
+    while (place := code.find("pub use", place)) >= 0:
+        end = code.next_of((";",), place)
+        if names & code.words(place, end):
+            place = split(code, place, end, names)
+        else:
+            place = end
+
+
+def split(code, place, end, names):
+    text = "".join(token.text for token in code.tokens[place + 2 : end])
+    root, _, listed = text.rpartition("::")
+    listed = listed.strip("{}").split(",")
+    uses = [("pub", [name for name in listed if name not in names]), ("pub(crate)", [name for name in listed if name in names])]
+    lines = [f"{visibility} use {root}::{{{', '.join(kept)}}};" for visibility, kept in uses if kept]
+    return code.replace(place, end + 1, "\n".join(lines))

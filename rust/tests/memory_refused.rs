@@ -1,0 +1,226 @@
+//! Each call that allocates is made again and again: its first request for memory is refused, then its second, and so on until it
+//! makes no more. Each refusal is an error that says so, and changes nothing.
+#![cfg(feature = "alloc")]
+use std::alloc::{GlobalAlloc, Layout, System};
+use std::cell::Cell;
+
+use langtag::likely::{from_posix, maximized, minimized, PosixError};
+use langtag::matching::{tag_for_header, AcceptLanguage, AcceptLanguageError, LanguageRange};
+use langtag::registry::{canonical, extlang_form};
+use langtag::*;
+
+thread_local! {
+    /// How many requests are granted before one is refused; None grants all.
+    static GRANTED: Cell<Option<usize>> = const { Cell::new(None) };
+    static REFUSED: Cell<usize> = const { Cell::new(0) };
+}
+
+struct Refusing;
+
+impl Refusing {
+    fn refuses() -> bool {
+        match GRANTED.get() {
+            Some(0) => {
+                REFUSED.set(REFUSED.get() + 1);
+                true
+            }
+            Some(left) => {
+                GRANTED.set(Some(left - 1));
+                false
+            }
+            None => false,
+        }
+    }
+}
+
+// SAFETY: each request is refused, or handed to the system's allocator.
+unsafe impl GlobalAlloc for Refusing {
+    unsafe fn alloc(&self, layout: Layout) -> *mut u8 {
+        if Refusing::refuses() {
+            return std::ptr::null_mut();
+        }
+        System.alloc(layout)
+    }
+
+    unsafe fn dealloc(&self, at: *mut u8, layout: Layout) {
+        System.dealloc(at, layout)
+    }
+
+    unsafe fn realloc(&self, at: *mut u8, layout: Layout, size: usize) -> *mut u8 {
+        if Refusing::refuses() {
+            return std::ptr::null_mut();
+        }
+        System.realloc(at, layout, size)
+    }
+}
+
+#[global_allocator]
+static ALLOCATOR: Refusing = Refusing;
+
+/// Makes a call with ever more requests granted, until it makes no more. `call` returns whether memory was refused.
+fn refuse_each(name: &str, call: impl Fn() -> bool) {
+    for granted in 0.. {
+        GRANTED.set(Some(granted));
+        REFUSED.set(0);
+        let told = call();
+        GRANTED.set(None);
+        assert_eq!(told, REFUSED.get() > 0, "{name}, after {granted} requests");
+        if !told {
+            assert!(granted > 0, "{name} makes no request");
+            return;
+        }
+    }
+}
+
+fn is_memory<T>(result: Result<T, AllocError>) -> bool {
+    result.is_err()
+}
+
+#[test]
+fn copies() {
+    macro_rules! copied {
+        ($($name:ident $text:literal)+) => {$(
+            let value = $name::new($text).unwrap();
+            refuse_each(stringify!($name), || is_memory(value.try_to_owned()));
+        )+};
+    }
+    copied! {
+        PrimaryLanguage "fr" ExtendedLangTag "yue" LanguageExtension "min-nan" Language "zh-yue" Script "Latn" Region "FR"
+        Variant "rozaj" Variants "rozaj-1994" ExtensionSubtag "co" Extension "u-co" Extensions "a-bb-u-co"
+        PrivateUseSubtag "a" PrivateUse "x-a" NormalLangTag "zh-TW" LangTag "zh-TW" LanguageRange "zh-*"
+    }
+}
+
+#[test]
+fn tags_in_another_form() {
+    for text in [
+        "iw-BU",
+        "zh-yue-hk",
+        "sl-rozaj-1994-u-co-phonebk-x-mine",
+        "x-a",
+        "i-klingon",
+        "yue",
+        "zh",
+    ] {
+        let tag = LangTag::new(text).unwrap();
+        refuse_each("canonical", || is_memory(canonical(tag)));
+        refuse_each("extlang_form", || is_memory(extlang_form(tag)));
+        refuse_each("maximized", || is_memory(maximized(tag)));
+        refuse_each("minimized", || is_memory(minimized(tag)));
+        refuse_each("recommended case", || {
+            is_memory(tag.try_to_recommended_case())
+        });
+        if let Some(normal) = tag.as_normal() {
+            refuse_each("recommended case", || {
+                is_memory(normal.try_to_recommended_case())
+            });
+        }
+    }
+}
+
+#[test]
+fn tags_from_parts_and_names() {
+    let (language, script, region) = (
+        Language::new("zh").unwrap(),
+        Script::new("Hant").ok(),
+        Region::new("TW").ok(),
+    );
+    refuse_each("from_parts", || {
+        is_memory(NormalLangTagBuf::from_parts(language, script, region))
+    });
+    refuse_each("from_posix", || {
+        matches!(from_posix("de_CH.UTF-8@euro"), Err(PosixError::Memory(_)))
+    });
+}
+
+#[test]
+fn headers() {
+    let header = "de;q=0.5, fr, en;q=0.9, it, *;q=0.1, zh-TW;q=0.3";
+    let tag = LangTag::new("en").unwrap();
+    refuse_each("AcceptLanguage::new", || {
+        matches!(
+            AcceptLanguage::new(header),
+            Err(AcceptLanguageError::Memory(_))
+        )
+    });
+    refuse_each("AcceptLanguage::lenient", || {
+        is_memory(AcceptLanguage::lenient(header))
+    });
+    refuse_each("tag_for_header", || {
+        matches!(
+            tag_for_header(header, &[tag], tag),
+            Err(AcceptLanguageError::Memory(_))
+        )
+    });
+}
+
+/// Calls a setter on a copy of a tag, and returns whether memory was refused. The copy then is as it was.
+fn set<E: PartialEq + core::fmt::Debug>(
+    text: &str,
+    refused: E,
+    setter: impl Fn(&mut Held) -> Result<(), E>,
+) -> bool {
+    let granted = GRANTED.take();
+    let mut held = Held::of(text);
+    GRANTED.set(granted);
+    let result = setter(&mut held);
+    GRANTED.set(None);
+    if let Err(error) = result {
+        assert_eq!(error, refused);
+        assert_eq!(held.normal.as_str(), text);
+        assert_eq!(held.any.as_str(), text);
+        return true;
+    }
+    false
+}
+
+struct Held {
+    normal: NormalLangTagBuf,
+    any: LangTagBuf,
+}
+
+impl Held {
+    fn of(text: &str) -> Held {
+        let tag = NormalLangTag::new(text).unwrap();
+        Held {
+            normal: tag.try_to_owned().unwrap(),
+            any: tag.as_lang_tag().try_to_owned().unwrap(),
+        }
+    }
+}
+
+#[test]
+fn setters() {
+    let text = "sl-IT-rozaj-a-bb-x-mine";
+    macro_rules! set_each {
+        ($($setter:ident $part:expr;)+) => {$(
+            let part = $part;
+            refuse_each(stringify!($setter), || set(text, AllocError, |held| held.normal.$setter(part)));
+            refuse_each(stringify!($setter), || set(text, EditError::Memory(AllocError), |held| held.any.$setter(part)));
+        )+};
+    }
+    set_each! {
+        set_language Language::new("zh-yue").unwrap();
+        set_script Script::new("Latn").ok();
+        set_region Region::new("419").ok();
+        set_variants Variants::new("rozaj-1994-biske").unwrap();
+        set_extensions Extensions::new("u-co-phonebk").unwrap();
+        set_private_use PrivateUse::new("x-longer-than-it-was").ok();
+    }
+}
+
+#[test]
+fn taking_a_part_out_needs_no_memory() {
+    let mut held = Held::of("sl-Latn-IT-rozaj-a-bb-x-mine");
+    GRANTED.set(Some(0));
+    let results = [
+        held.normal.set_script(None),
+        held.normal.set_region(None),
+        held.normal.set_variants(Variants::EMPTY),
+        held.normal.set_extensions(Extensions::EMPTY),
+        held.normal.set_private_use(None),
+    ];
+    GRANTED.set(None);
+    assert_eq!(results, [Ok(()); 5]);
+    assert_eq!(held.normal.as_str(), "sl");
+}
