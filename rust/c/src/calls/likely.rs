@@ -31,7 +31,7 @@ pub fn langtag_minimize(bytes: &[u8], buffer: &mut [u8]) -> usize {
     }
 }
 
-/// Returns the version of Unicode's CLDR whose likely subtags these are.
+/// Returns the major version of the Unicode CLDR whose likely subtags these are, such as 48 for CLDR 48.2.
 #[inline]
 pub fn langtag_cldr_version() -> u32 {
     number_of(CLDR_VERSION.as_bytes())
