@@ -58,3 +58,10 @@ program() {
     cargo run -q zh-Hant-TW | diff - <(wanted)
 }
 check "Rust: a program of a user" program
+
+# The program, and python -m langtag.
+programs() {
+    (cd "$rust_crate" && cargo build -q --bin langtag) || return 1
+    cd python && LANGTAG_PROGRAM=$CARGO_TARGET_DIR/debug/langtag python3 -m unittest test_program
+}
+check "Rust: the program langtag, and python -m langtag, answer alike" programs

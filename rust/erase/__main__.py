@@ -51,9 +51,11 @@ def write(out):
         for source in sorted((CRATES / module.crate / "src").glob("*.rt")):
             name = "mod.rs" if source.stem == "lib" else source.stem + ".rs"
             code, names = erase(source, module)
+            if module.crate == "langtag_c":
+                code.rewrite("mod $name;", "pub(crate) mod $name;")  # its exports stand beside it
             files[source, out / module.folder / name] = code
             conditional |= names
-    finish(files.values(), conditional)
+    finish([code for (_, path), code in files.items() if path.is_relative_to(out / "src")], conditional)
     for (source, path), code in files.items():
         path.parent.mkdir(parents=True, exist_ok=True)
         path.write_text(head(source) + str(code), encoding="utf-8")
