@@ -1,7 +1,7 @@
 #!/usr/bin/env bash
-# Times recognise on a file of tags, one a line, beside plain loops; with no file, on three lists of 100,000 tags: one of
-# shapes of 18 bytes, one of seven bytes, and one of plain tags, and then repeated_variant by number of variants. The Rust
-# crate runs beside the archive. With valgrind it also counts instructions.
+# Times recognise on a file of tags, one a line, beside plain loops. With no file it takes five lists of 100,000 lines: shapes of
+# 18 bytes, tags of seven bytes, plain tags, tags of nine bytes, and unusual texts (irregular or refused). Then it times
+# repeated_variant by number of variants. The Rust crate runs beside the archive. With valgrind it also counts instructions.
 #
 # It needs rt, rustc and a linker. OXILANGTAG may name the folder of that crate's source, and LTO=1 asks for link-time
 # optimisation.
@@ -12,7 +12,7 @@ mkdir -p "$target"
 
 (cd "$here/../crates/langtag_bench" && rt lib >&2)
 entries="recognise recognise_text lang_tag is_utf8 rust fold_and_sum copy"
-rustc --edition 2021 -C opt-level=3 --cap-lints allow --crate-type rlib --crate-name langtag --cfg 'feature="alloc"' \
+rustc --edition 2021 -C opt-level=3 --crate-type rlib --crate-name langtag --cfg 'feature="alloc"' --cap-lints allow \
     "$here/../rust/src/lib.rs" -o "$target/liblangtag.rlib"
 others=(--cfg rust_crate --extern "langtag=$target/liblangtag.rlib")
 if [ -n "${OXILANGTAG:-}" ]; then
@@ -67,7 +67,7 @@ grow() {
 if [ $# -gt 0 ]; then
     measure "$1"
 else
-    for list in shapes middle plain; do
+    for list in shapes middle plain nine unusual; do
         "$target/bench" "$list" 100000 >"$target/$list.txt"
         echo "== $list"
         measure "$target/$list.txt"
