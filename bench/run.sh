@@ -1,8 +1,12 @@
 #!/usr/bin/env bash
 # Times recognise on a file of tags, one a line, beside plain loops. With no file it takes five lists of 100,000 lines: shapes of
 # 18 bytes, tags of seven bytes, plain tags, tags of nine bytes, and unusual texts (irregular or refused). Then it times
+<<<<<<< HEAD
 # repeated_variant by number of variants. The Rust crate runs beside the archive. With valgrind it also counts instructions.
 #
+=======
+# repeated_variant by number of variants. With valgrind it also counts instructions. The Rust crate is timed beside the archive.
+>>>>>>> origin/main
 # It needs rt, rustc and a linker. OXILANGTAG may name the folder of that crate's source, and LTO=1 asks for link-time
 # optimisation.
 set -euo pipefail
@@ -14,7 +18,7 @@ mkdir -p "$target"
 entries="recognise recognise_text lang_tag is_utf8 rust fold_and_sum copy"
 rustc --edition 2021 -C opt-level=3 --crate-type rlib --crate-name langtag --cfg 'feature="alloc"' --cap-lints allow \
     "$here/../rust/src/lib.rs" -o "$target/liblangtag.rlib"
-others=(--cfg rust_crate --extern "langtag=$target/liblangtag.rlib")
+others=(--extern "langtag=$target/liblangtag.rlib")
 if [ -n "${OXILANGTAG:-}" ]; then
     rustc --edition 2021 -C opt-level=3 --cap-lints allow --crate-type rlib --crate-name oxilangtag \
         "$OXILANGTAG/src/lib.rs" -o "$target/liboxilangtag.rlib"
@@ -23,7 +27,7 @@ if [ -n "${OXILANGTAG:-}" ]; then
 else
     echo "no comparison to oxilangtag: OXILANGTAG names no folder with its source" >&2
 fi
-rustc --edition 2024 -C opt-level=3 ${LTO:+-C lto=fat} --check-cfg 'cfg(oxilangtag, rust_crate)' "${others[@]}" \
+rustc --edition 2024 -C opt-level=3 ${LTO:+-C lto=fat} --check-cfg 'cfg(oxilangtag)' "${others[@]}" \
     "$here/src/main.rs" -o "$target/bench" -L "native=$here/../crates/langtag_bench/out" -l static=langtag_bench
 
 # Prints how many instructions an entry takes on a file of tags, with how many tags and bytes it has before them.

@@ -48,7 +48,6 @@ unsafe extern "C" {
 ///
 /// # Safety
 /// The pointer and the length are those of a live `str`.
-#[cfg(rust_crate)]
 #[inline(never)]
 #[unsafe(no_mangle)]
 unsafe extern "C" fn langtag_bench_rust(text: *const u8, len: usize, lengths: &mut PartLengths) -> bool {
@@ -95,7 +94,6 @@ enum Entry {
     RecogniseText,
     LangTag,
     IsUtf8,
-    #[cfg(rust_crate)]
     Rust,
     #[cfg(oxilangtag)]
     Oxilangtag,
@@ -111,7 +109,6 @@ const ENTRIES: &[Entry] = &[
     Entry::RecogniseText,
     Entry::LangTag,
     Entry::IsUtf8,
-    #[cfg(rust_crate)]
     Entry::Rust,
     #[cfg(oxilangtag)]
     Entry::Oxilangtag,
@@ -127,7 +124,6 @@ impl Entry {
             Entry::RecogniseText => "recognise_text",
             Entry::LangTag => "lang_tag",
             Entry::IsUtf8 => "is_utf8",
-            #[cfg(rust_crate)]
             Entry::Rust => "rust",
             #[cfg(oxilangtag)]
             Entry::Oxilangtag => "oxilangtag",
@@ -158,7 +154,6 @@ impl Entry {
                     u64::from(found) + lengths.language as u64
                 }
                 Entry::IsUtf8 => langtag_bench_is_utf8(tag.as_ptr(), tag.len()).into(),
-                #[cfg(rust_crate)]
                 Entry::Rust => {
                     let mut lengths = PartLengths::default();
                     let found = tag.is_ascii() && langtag_bench_rust(tag.as_ptr(), tag.len(), &mut lengths);
