@@ -1,12 +1,7 @@
 #!/usr/bin/env bash
 # Times recognise on a file of tags, one a line, beside plain loops. With no file it takes five lists of 100,000 lines: shapes of
 # 18 bytes, tags of seven bytes, plain tags, tags of nine bytes, and unusual texts (irregular or refused). Then it times
-<<<<<<< HEAD
-# repeated_variant by number of variants. The Rust crate runs beside the archive. With valgrind it also counts instructions.
-#
-=======
 # repeated_variant by number of variants. With valgrind it also counts instructions. The Rust crate is timed beside the archive.
->>>>>>> origin/main
 # It needs rt, rustc and a linker. OXILANGTAG may name the folder of that crate's source, and LTO=1 asks for link-time
 # optimisation.
 set -euo pipefail
