@@ -193,7 +193,7 @@ def distance_in(line: bytes, options: Options) -> Answer:
     """The answer of `distance` to a line of two tags."""
     words = line.replace(b"\v", b"\x00").split()
     if len(words) == 2:
-        return distance_of(*words, options)
+        return distance_of(words[0], words[1], options)
     return Answer(between(line, b"", "-", options).line, False, "two tags are wanted in a line: A B")
 
 
@@ -292,7 +292,7 @@ class Run:
         if options.command == "best":
             self.put(best(options, list(self.texts())))
         elif options.command == "distance" and options.texts:
-            self.put(distance_of(*options.texts, options))
+            self.put(distance_of(options.texts[0], options.texts[1], options))
         else:
             ask = (lambda line: distance_in(line, options)) if options.command == "distance" else Asked(options).answer
             for text in self.texts():
