@@ -41,7 +41,7 @@ def without_comments(text: str) -> str:
 
 
 def pairs(text: str) -> list[tuple[str, str]]:
-    """`name: type` of a list of parameters or fields in Rattle."""
+    """`name: type` of a list of parameters or fields in Rattle and Rust."""
     return [(name, kind.strip()) for name, kind in re.findall(r"(?:pub )?(\w+)\s*:\s*([^,]+)", text)]
 
 
@@ -87,6 +87,18 @@ def of_header(root: pathlib.Path) -> Interface:
     for body, name in re.findall(r"typedef struct \w+ \{(.*?)\} (\w+);", source, flags=re.S):
         structs[name] = re.findall(r"(\w+) (\w+);", body)
     return Interface(functions, structs)
+
+
+def of_exports(root: pathlib.Path) -> Interface:
+    """Reads what the C library by cargo exports, and the structs of the erased crate behind it."""
+    source = without_comments((root / "rust/c/src/exports.rs").read_text())
+    types = INTEGERS | {"*const u8": "const char *", "*mut u8": "char *", "*const Span": "const langtag_span *"}
+    types |= {f"*mut {name}": f"{in_c} *" for name, in_c in (STRUCTS | {"u32": "uint32_t", "usize": "size_t"}).items()}
+    functions = {}
+    for name, parameters, result in re.findall(r'#\[no_mangle\]\npub (?:unsafe )?extern "C" fn (\w+)\(([^)]*)\)(?: -> (\w+))?', source):
+        functions[name] = Function(types[result], [(types[kind], parameter) for parameter, kind in pairs(parameters)])
+    calls = sorted((root / "rust/c/src/calls").glob("*.rs"))
+    return Interface(functions, structs_of(without_comments("\n".join(path.read_text() for path in calls))))
 
 
 def of_python(root: pathlib.Path) -> Interface:
@@ -194,11 +206,11 @@ def main(root: pathlib.Path) -> int:
     if not crate.functions or not crate.structs:
         print("no functions, or no structs, were found in the crate")
         return 1
-    others = (("the header", of_header), ("langtag", of_python))
+    others = (("the header", of_header), ("exports.rs", of_exports), ("langtag", of_python))
     found = [line for where, read in others for line in differences(where, crate, read(root))]
     found += wrongly_pure(crate.functions, header(root)) + wrong_numbers(root) + copied_dates(root)
     count = f"{len(crate.functions)} functions and {len(crate.structs)} structs"
-    print("\n".join(found) or f"{count}: crate, header and langtag agree")
+    print("\n".join(found) or f"{count}: crate, header, exports.rs and langtag agree")
     return 1 if found else 0
 
 

@@ -17,9 +17,10 @@ ROOT = pathlib.Path(sys.argv[1] if sys.argv[1:] else pathlib.Path(__file__).pare
 HEADER, PYTHON = "bindings/include/langtag.h", "bindings/python/langtag/_ctypes.py"
 MODULE = "bindings/python/langtag/__init__.py"
 CRATE = "crates/langtag_c/src"
+EXPORTS, CALLS = "rust/c/src/exports.rs", "rust/c/src/calls"
 NUMBERED = check_declarations.VERSIONS + check_declarations.NUMBERS
 DATE = check_declarations.registry_date(ROOT)
-FILES = {HEADER, PYTHON, MODULE, check_declarations.DATED, "rows/table.txt", *(name for name, _ in NUMBERED)}
+FILES = {HEADER, EXPORTS, PYTHON, MODULE, check_declarations.DATED, "rows/table.txt", *(name for name, _ in NUMBERED)}
 
 # A file, a text that stands in it, what is put in its place, and what the message has to name.
 PLANTED = [
@@ -32,6 +33,11 @@ PLANTED = [
     (HEADER, "\nuint32_t langtag_parse(", "\nLANGTAG_PURE uint32_t langtag_parse(", "langtag_parse"),
     (HEADER, "\nvoid langtag_recommend(", "\nLANGTAG_PURE void langtag_recommend(", "langtag_recommend"),
     (HEADER, "\nLANGTAG_PURE bool langtag_eq(", "\nbool langtag_eq(", "langtag_eq"),
+    (EXPORTS, "langtag_hash(state: u64", "langtag_hash(state: u32", "langtag_hash"),
+    (EXPORTS, "extension: *mut Span", "extension: *mut Parts", "langtag_next_extension"),
+    (EXPORTS, "langtag_kind(bytes: *const u8, len: usize)", "langtag_kind(len: usize, bytes: *const u8)", "langtag_kind"),
+    (EXPORTS, '#[no_mangle]\npub extern "C" fn langtag_cldr_version', 'pub extern "C" fn langtag_cldr_version', "langtag_cldr_version"),
+    (CALLS, "pub variant: Span", "pub variants: Span", "langtag_repeated"),
     (PYTHON, '"langtag_cmp": (c_int32,', '"langtag_cmp": (c_uint32,', "langtag_cmp"),
     (PYTHON, "c_size_t, POINTER(_Repeated))", "c_size_t)", "langtag_repeats"),
     (PYTHON, '"langtag_canonical": (c_size_t, c_char_p, c_size_t, POINTER(c_char),',
@@ -55,7 +61,7 @@ PLANTED = [
 
 
 def plant(path: pathlib.Path, old: str, new: str) -> None:
-    files = sorted(path.rglob("*.rt")) if path.is_dir() else [path]
+    files = sorted(path.rglob("*.r[st]")) if path.is_dir() else [path]
     holders = [file for file in files if old in file.read_text()]
     if len(holders) != 1:
         raise ValueError(f"{old!r} stands in {len(holders)} files of {path}")
@@ -76,7 +82,8 @@ class Planted(unittest.TestCase):
                 for name in FILES:
                     (copy / name).parent.mkdir(parents=True, exist_ok=True)
                     shutil.copy(ROOT / name, copy / name)
-                shutil.copytree(ROOT / CRATE, copy / CRATE)
+                for name in (CRATE, CALLS):
+                    shutil.copytree(ROOT / name, copy / name)
                 plant(copy / where, old, new)
                 status, said = outcome(copy)
                 self.assertEqual(status, 1)

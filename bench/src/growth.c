@@ -21,8 +21,6 @@ size_t langtag_bench_repeated_variant(const char *bytes, size_t len);
 size_t langtag_bench_repeated_singleton(const char *bytes, size_t len);
 uint8_t langtag_bench_copy(const char *bytes, size_t len, char *into, size_t into_len);
 uint8_t langtag_bench_fold_and_sum(const char *bytes, size_t len);
-bool langtag_bench_eq_str(const char *bytes, size_t len, const char *others, size_t others_len);
-bool langtag_bench_cmp(const char *bytes, size_t len, const char *others, size_t others_len);
 uint64_t langtag_bench_hash(const char *bytes, size_t len);
 size_t langtag_bench_subtags(const char *bytes, size_t len);
 size_t langtag_bench_walk(const char *bytes, size_t len);
@@ -36,8 +34,6 @@ bool langtag_bench_filter_extended(const char *ranges, size_t len);
 bool langtag_bench_look_up(const char *ranges, size_t len);
 size_t langtag_bench_tags(void);
 bool langtag_bench_tag_for_header(const char *header, size_t len);
-size_t langtag_bench_write_canonical(const char *bytes, size_t len, char *into, size_t into_len);
-bool langtag_bench_is_canonical(const char *bytes, size_t len);
 bool langtag_bench_is_valid(const char *bytes, size_t len);
 size_t langtag_bench_misplaced_variant(const char *bytes, size_t len);
 size_t langtag_bench_misplaced_extlang(const char *bytes, size_t len);
@@ -56,8 +52,6 @@ FUNCTION(repeated_variant, result = langtag_bench_repeated_variant(text, len))
 FUNCTION(repeated_singleton, result = langtag_bench_repeated_singleton(text, len))
 FUNCTION(copy, result = langtag_bench_copy(text, len, other, len))
 FUNCTION(fold_and_sum, result = langtag_bench_fold_and_sum(text, len))
-FUNCTION(eq_str, result = langtag_bench_eq_str(text, len, other, len))
-FUNCTION(cmp, result = langtag_bench_cmp(text, len, other, len))
 FUNCTION(hash, result = langtag_bench_hash(text, len))
 FUNCTION(subtags, result = langtag_bench_subtags(text, len))
 FUNCTION(walk, result = langtag_bench_walk(text, len))
@@ -90,8 +84,6 @@ FUNCTION(extlang_form, result = langtag_bench_extlang_form(text, len, into, size
 FUNCTION(maximized, result = langtag_bench_maximized(text, len, into, sizeof into, &refused))
 FUNCTION(minimized, result = langtag_bench_minimized(text, len, into, sizeof into, &refused))
 FUNCTION(from_posix, result = langtag_bench_from_posix(text, len, into, sizeof into, &refused))
-FUNCTION(write_canonical, result = langtag_bench_write_canonical(text, len, into, sizeof into))
-FUNCTION(is_canonical, result = langtag_bench_is_canonical(text, len))
 FUNCTION(is_valid, result = langtag_bench_is_valid(text, len))
 FUNCTION(misplaced_variant, result = langtag_bench_misplaced_variant(text, len))
 FUNCTION(misplaced_extlang, result = langtag_bench_misplaced_extlang(text, len))
@@ -109,8 +101,6 @@ static const struct function functions[] = {
     ENTRY(repeated_singleton),
     ENTRY(copy),
     ENTRY(fold_and_sum),
-    ENTRY(eq_str),
-    ENTRY(cmp),
     ENTRY(hash),
     ENTRY(subtags),
     ENTRY(walk),
@@ -139,8 +129,6 @@ static const struct function functions[] = {
     ENTRY(maximized),
     ENTRY(minimized),
     ENTRY(from_posix),
-    ENTRY(write_canonical),
-    ENTRY(is_canonical),
     ENTRY(is_valid),
     ENTRY(misplaced_variant),
     ENTRY(misplaced_extlang),

@@ -1,7 +1,7 @@
 //! Times `recognise` on a file of tags beside plain loops over the same bytes, in one run.
 //!
-//! `bench FILE` times, `bench shapes COUNT`, `bench middle COUNT` and `bench plain COUNT` write lists of tags, and `bench once ENTRY FILE` calls one
-//! entry once for each tag, for a tool that counts instructions. `bench variants COUNT ORDER` writes one tag of so many
+//! `bench FILE` times. `bench LIST COUNT` writes a list of tags: `shapes`, `middle`, `plain`, `nine` or `unusual`. `bench once ENTRY FILE`
+//! calls one entry once for each tag, for a tool that counts instructions. `bench variants COUNT ORDER` writes one tag of so many
 //! variants, and `bench growth FILE` times `repeated_variant` on the one tag of a file. `bench differ COUNT` asks the archive and
 //! the Rust crate about so many texts that look random, and stops at the first that they answer differently.
 
@@ -304,6 +304,18 @@ const MIDDLE: [&str; 14] = [
     "en-GB", "uz-Latn-UZ", "ja", "de-CH-1901",
 ];
 
+/// Tags of nine bytes. Three irregular tags have as many, and matter at this length alone.
+const NINE: [&str; 14] = [
+    "zh-yue-HK", "zh-gan-CN", "zh-hak-TW", "zh-cmn-SG", "ar-arb-EG", "en-fonipa", "en-scouse", "zh-pinyin", "ja-heploc",
+    "sl-dajnko", "be-tarask", "pt-ao1990", "en-x-test", "sr-x-test",
+];
+
+/// Irregular tags, and texts that are refused.
+const UNUSUAL: [&str; 16] = [
+    "en-GB-oed", "i-klingon", "i-enochian", "sgn-BE-FR", "sgn-CH-DE", "i-default", "i-lux", "i-notexist", "de_CH", "pt_BR.UTF-8", "en-",
+    "en--US", "de-419-DE", "zh-Hant-Hans", "x", "german-language",
+];
+
 /// Numbers that look random, the same in every run.
 struct Numbers(u64);
 
@@ -428,6 +440,8 @@ fn main() -> std::io::Result<()> {
         ["shapes", count] => write_shapes(count.parse().expect("COUNT is a number")),
         ["middle", count] => write_some(&MIDDLE, count.parse().expect("COUNT is a number")),
         ["plain", count] => write_some(&PLAIN, count.parse().expect("COUNT is a number")),
+        ["nine", count] => write_some(&NINE, count.parse().expect("COUNT is a number")),
+        ["unusual", count] => write_some(&UNUSUAL, count.parse().expect("COUNT is a number")),
         ["variants", count, order] => write_variants(count.parse().expect("COUNT is a number"), order),
         ["once", entry, path] => once(entry, path),
         ["growth", path] => growth(path),
@@ -438,7 +452,7 @@ fn main() -> std::io::Result<()> {
         [path] => time(path),
         _ => {
             eprintln!(
-                "usage: bench FILE | bench shapes|middle|plain COUNT | bench variants COUNT ORDER | \
+                "usage: bench FILE | bench shapes|middle|plain|nine|unusual COUNT | bench variants COUNT ORDER | \
                  bench growth FILE | bench once ENTRY FILE | bench differ COUNT"
             );
             std::process::exit(2)

@@ -336,7 +336,7 @@ LANGTAG_PURE size_t langtag_best_for_header(const char *header, size_t header_le
  */
 size_t langtag_from_posix(const char *name, size_t name_len, char *buffer, size_t buffer_len);
 
-/* The version of Unicode's CLDR whose likely subtags and distances these are: 41. */
+/* Returns the major version of the Unicode CLDR whose likely subtags and distances these are, such as 48 for CLDR 48.2. */
 LANGTAG_PURE uint32_t langtag_cldr_version(void);
 
 /*

@@ -1,8 +1,6 @@
 //! Calls of langtag and langtag_match over one text; `bench/growth.sh` counts how their work grows with it.
-ghost use Rattle.std.specs.Prelude.{◌≡◌, ◌↔◌, length, IsTrue};
+ghost use Rattle.std.specs.Prelude.{◌≡◌, length, IsTrue};
 ghost use Rattle.std.specs.Str.{IsUtf8};
-ghost use Rattle.std.specs.declared.cmp.Ordering.TheVariants.{Less};
-ghost use Rattle.langtag_scan.specs.Case.{Alike, case_cmp};
 ghost use Rattle.langtag_scan.specs.Subtags.{subtags};
 ghost use Rattle.langtag_scan.specs.Tag.{IsTag};
 ghost use Rattle.langtag_match.specs.Fallback.{fallbacks};
@@ -18,30 +16,7 @@ use langtag::{
 };
 use langtag_match::{LanguageRange, filter_basic, filter_extended, look_up};
 use std::alloc::{AllocError, Global};
-use std::cmp::Ordering;
 use std::hash::{DefaultHasher, Hash, Hasher};
-
-/// Returns whether the bytes are a tag, and others a text that is equal to it but for case.
-#[unsafe(no_mangle)]
-pub extern "C" fn langtag_bench_eq_str(bytes: &[u8], others: &[u8]) -> bool
-    ensures { IsTrue result → IsTag bytes.now × Alike bytes.now others.now }
-{
-    match (tag_of(bytes), str::from_utf8(others)) {
-        (Some(tag), Ok(other)) => tag.eq_str(other),
-        _ => false,
-    }
-}
-
-/// Returns whether the bytes, and others, are tags and the first is less.
-#[unsafe(no_mangle)]
-pub extern "C" fn langtag_bench_cmp(bytes: &[u8], others: &[u8]) -> bool
-    ensures { IsTrue result ↔ (IsTag bytes.now × IsTag others.now × (case_cmp bytes.now others.now ≡ Less)) }
-{
-    match (tag_of(bytes), tag_of(others)) {
-        (Some(tag), Some(other)) => tag.cmp(&other) == Ordering::Less,
-        _ => false,
-    }
-}
 
 /// Returns what a hasher answers that a tag was fed to, and 0 for another text.
 #[unsafe(no_mangle)]

@@ -1,7 +1,6 @@
 //! Calls of langtag_registry over one tag.
 ghost use Rattle.std.specs.Prelude.{◌≡◌, ◌↔◌, IsTrue};
 ghost use Rattle.langtag_scan.specs.Tag.{IsTag, IsNormal};
-ghost use Rattle.langtag_registry.specs.Canonical.{IsCanonicalForm};
 ghost use Rattle.langtag_registry.specs.Valid.{IsValid};
 
 use crate::matching::tag_of;
@@ -9,11 +8,11 @@ use crate::memory::normal_of;
 use crate::written::{count, write_text};
 use langtag::{ExtendedLangTag, LangTag, NormalLangTag, PrimaryLanguage, Region, Script, Variant};
 use langtag_registry::{
-    canonical, extlang_form, extlang_prefix, is_canonical, is_deprecated_extlang,
-    is_deprecated_language, is_deprecated_region, is_deprecated_tag, is_deprecated_variant,
-    is_registered_extlang, is_registered_language, is_registered_region, is_registered_script,
-    is_registered_variant, macrolanguage, misplaced_extlang, misplaced_variant, preferred_language,
-    preferred_region, preferred_tag, preferred_variant, suppress_script, validate, write_canonical,
+    canonical, extlang_form, extlang_prefix, is_deprecated_extlang, is_deprecated_language,
+    is_deprecated_region, is_deprecated_tag, is_deprecated_variant, is_registered_extlang,
+    is_registered_language, is_registered_region, is_registered_script, is_registered_variant,
+    macrolanguage, misplaced_extlang, misplaced_variant, preferred_language, preferred_region,
+    preferred_tag, preferred_variant, suppress_script, validate,
 };
 use std::alloc::Global;
 
@@ -53,28 +52,6 @@ pub extern "C" fn langtag_bench_extlang_form(
     match extlang_form(alloc, tag) {
         Ok(form) => write_text(form.as_str(), into),
         Err(_) => count(refused),
-    }
-}
-
-/// Writes the canonical form without memory.
-#[unsafe(no_mangle)]
-pub extern "C" fn langtag_bench_write_canonical(bytes: &[u8], into: &mut [u8]) -> usize
-    ensures { (IsTag bytes.now → ⊥) → result ≡ 0 }
-{
-    match tag_of(bytes) {
-        Some(tag) => write_canonical(tag, into),
-        None => 0,
-    }
-}
-
-/// Returns whether the bytes are a tag, and its canonical form.
-#[unsafe(no_mangle)]
-pub extern "C" fn langtag_bench_is_canonical(bytes: &[u8]) -> bool
-    ensures { IsTrue result ↔ (IsTag bytes.now × IsCanonicalForm bytes.now bytes.now) }
-{
-    match tag_of(bytes) {
-        Some(tag) => is_canonical(tag),
-        None => false,
     }
 }
 

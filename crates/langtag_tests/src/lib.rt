@@ -1,8 +1,26 @@
-//! Tests of langtag, by its public names alone: what no contract says, and no row of `langtag_rows`. Tests of the crates below it
-//! are in `langtag_part_tests`.
+//! Tests of what no clause says of the code that Rattle's compilers build: that a call has memory when there is some, what
+//! values are shown as, and how a run of the program ends. Everything else that tests show, `rust/tests` shows of the Rust crate.
+//!
+//! `.ci/refused` runs them with each of their allocations refused in turn. A call that says so is made again.
 #![tactic(auto)]
 
 #[cfg(test)]
+mod edits;
+#[cfg(test)]
+mod examples;
+#[cfg(test)]
+mod feed;
+#[cfg(test)]
+mod forms;
+#[cfg(test)]
+mod hash;
+#[cfg(test)]
+mod program;
+#[cfg(test)]
+mod seen;
+#[cfg(test)]
+mod sheet;
+#[cfg(test)]
 mod support;
 #[cfg(test)]
-mod tags;
+mod types;

@@ -31,7 +31,7 @@ impl Row {
 /// Where the rows stand: in the repository, or beside the crate where it is packed.
 fn folder() -> PathBuf {
     let here = PathBuf::from(env!("CARGO_MANIFEST_DIR"));
-    ["../rows", "../crates/langtag_rows/data", "rows"]
+    ["../rows", "rows"]
         .map(|folder| here.join(folder))
         .into_iter()
         .find(|folder| folder.join("table.txt").is_file())

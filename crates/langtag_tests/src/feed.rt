@@ -1,0 +1,100 @@
+//! A reader of the tests, which takes no memory.
+use std::cell::Cell;
+use std::io;
+use std::io::{ErrorKind, Read};
+
+/// A text, then another one as often as is stated, and then a last one.
+#[derive(Clone, Copy)]
+pub(crate) struct Text<'a> {
+    rest: &'a [u8],
+    again: &'a [u8],
+    rounds: u64,
+    last: &'a [u8],
+}
+
+impl<'a> Text<'a> {
+    pub(crate) fn new(rest: &'a [u8], again: &'a [u8], rounds: u64, last: &'a [u8]) -> Text<'a> {
+        Text {
+            rest,
+            again,
+            rounds,
+            last,
+        }
+    }
+
+    /// The next bytes, at most so many: none at the end alone.
+    pub(crate) fn next_bytes(&mut self, most: usize) -> &'a [u8] {
+        if self.rest.is_empty() {
+            if self.rounds > 0 {
+                self.rounds -= 1;
+                self.rest = self.again;
+            } else {
+                self.rest = self.last;
+                self.last = b"";
+            }
+        }
+        let n = most.min(self.rest.len());
+        let (bytes, rest) = self.rest.split_at(n);
+        self.rest = rest;
+        bytes
+    }
+}
+
+/// Gives a text, at most `step` bytes a read, and fails at one read where that is stated. It notes how many lines were given and
+/// not answered: none may be at a read.
+#[derive(Clone, Copy)]
+pub(crate) struct Feed<'a> {
+    text: Text<'a>,
+    step: usize,
+    fails_at: Option<(u64, ErrorKind)>,
+    owed: &'a Cell<u64>,
+    pub(crate) reads: u64,
+    /// How many reads answered 0.
+    pub(crate) ends: u64,
+    /// Whether an answer was owed at a read.
+    pub(crate) is_late: bool,
+}
+
+impl<'a> Feed<'a> {
+    pub(crate) fn new(
+        text: Text<'a>,
+        step: usize,
+        fails_at: Option<(u64, ErrorKind)>,
+        owed: &'a Cell<u64>,
+    ) -> Feed<'a> {
+        Feed {
+            text,
+            step,
+            fails_at,
+            owed,
+            reads: 0,
+            ends: 0,
+            is_late: false,
+        }
+    }
+}
+
+impl Read for Feed<'_> {
+    fn read(&mut self, buf: &mut [u8]) -> io::Result<usize> {
+        self.reads = self.reads.saturating_add(1);
+        self.is_late |= self.owed.get() > 0;
+        if let Some((read, kind)) = self.fails_at
+            && self.reads == read
+        {
+            return Err(io::Error::from(kind));
+        }
+        let bytes = self.text.next_bytes(buf.len().min(self.step));
+        let n = bytes.len();
+        if n == 0 {
+            self.ends = self.ends.saturating_add(1);
+        } else if n <= buf.len() {
+            buf[..n].copy_from_slice(bytes);
+        }
+        self.owed.set(line_feeds(bytes));
+        Ok(n)
+    }
+}
+
+pub(crate) fn line_feeds(text: &[u8]) -> u64 {
+    text.iter().filter(|byte| **byte == b'\n').count() as u64
+}

@@ -1,0 +1,43 @@
+//! What a hasher is fed (RFC 5646 section 2.1.1).
+ghost use Rattle.std.specs.Prelude.{◌≡◌, ◌+◌, ◌*◌, ◌%◌, ◌^◌, length, fold};
+
+use crate::support::expect_same;
+use langtag_scan::case_insensitive_hash;
+use std::hash::Hasher;
+
+/// Tells each call that fed it: its length, one hexadecimal digit, and then its bytes, two for each of them.
+#[derive(Drop)]
+struct Calls(u128);
+
+impl Hasher for Calls {
+    ghost write = { λ calls bytes. record {
+      0 = fold (λ kept b. ((kept * 256) % 2 ^ 128 + b) % 2 ^ 128)
+          (((calls.0 * 16) % 2 ^ 128 + length bytes) % 2 ^ 128) bytes;
+    } };
+
+    ghost finish = { λ calls. calls.0 % 2 ^ 64 };
+
+    fn finish(&self) -> u64 {
+        (self.0 % (1 << 64)) as u64
+    }
+
+    fn write(&mut self, bytes: &[u8]) {
+        self.0 = self.0.wrapping_mul(16).wrapping_add(bytes.len() as u128);
+        for byte in bytes {
+            self.0 = self.0.wrapping_mul(256).wrapping_add(u128::from(*byte));
+        }
+    }
+}
+
+#[test]
+fn feeds_a_folded_byte_a_call(rt: HostRuntime) {
+    for (text, fed) in [
+        ("", 0),
+        ("Fr", 0x166_172),
+        ("dE-AraB-lY", 0x164_165_12d_161_172_161_162_12d_16c_179),
+    ] {
+        let mut calls = Calls(0);
+        case_insensitive_hash(text.as_bytes(), &mut calls);
+        expect_same(&rt, calls.0, fed, text);
+    }
+}

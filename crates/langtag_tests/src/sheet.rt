@@ -1,0 +1,80 @@
+//! A writer of the tests, which takes no memory.
+use crate::feed::{Text, line_feeds};
+use std::cell::Cell;
+use std::io;
+use std::io::{ErrorKind, Write};
+
+/// What a writer does once.
+#[derive(Clone, Copy)]
+pub(crate) enum Fault {
+    None,
+    /// It fails at a write.
+    Write(u64, ErrorKind),
+    /// It fails at the flush.
+    Flush,
+}
+
+/// Takes the answers that are wanted, and nothing else: any other byte is a failed write, and one past the end a write that takes
+/// nothing.
+#[derive(Clone, Copy)]
+pub(crate) struct Sheet<'a> {
+    wanted: Text<'a>,
+    fault: Fault,
+    owed: &'a Cell<u64>,
+    last: u8,
+    pub(crate) writes: u64,
+    pub(crate) flushes: u64,
+}
+
+impl<'a> Sheet<'a> {
+    pub(crate) fn new(wanted: Text<'a>, fault: Fault, owed: &'a Cell<u64>) -> Sheet<'a> {
+        Sheet {
+            wanted,
+            fault,
+            owed,
+            last: b'\n',
+            writes: 0,
+            flushes: 0,
+        }
+    }
+
+    /// Whether it has taken all that is wanted.
+    pub(crate) fn has_all(mut self) -> bool {
+        self.wanted.next_bytes(1).is_empty()
+    }
+
+    /// Whether it has taken whole answers, and was not flushed.
+    pub(crate) fn has_whole_answers(&self) -> bool {
+        self.last == b'\n' && self.flushes == 0
+    }
+}
+
+impl Write for Sheet<'_> {
+    fn write(&mut self, buf: &[u8]) -> io::Result<usize> {
+        self.writes = self.writes.saturating_add(1);
+        if let Fault::Write(write, kind) = self.fault
+            && self.writes == write
+        {
+            return Err(io::Error::from(kind));
+        }
+        let wanted = self.wanted.next_bytes(buf.len());
+        let n = wanted.len();
+        if n > buf.len() || &buf[..n] != wanted {
+            return Err(io::Error::from(ErrorKind::InvalidData));
+        }
+        if let Some(last) = wanted.last() {
+            self.last = *last;
+        }
+        self.owed
+            .set(self.owed.get().saturating_sub(line_feeds(wanted)));
+        Ok(n)
+    }
+
+    fn flush(&mut self) -> io::Result<()> {
+        self.flushes = self.flushes.saturating_add(1);
+        if let Fault::Flush = self.fault {
+            return Err(io::Error::from(ErrorKind::Other));
+        }
+        Ok(())
+    }
+}

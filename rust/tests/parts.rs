@@ -1,0 +1,144 @@
+//! The types of a tag's parts (RFC 5646 sections 2.2.1 to 2.2.7): empty lists, the parts that a list names, and singletons.
+use langtag::{
+    ExtensionIter, Extensions, InvalidVariants, Language, LanguageExtensionIter, PrivateUseIter,
+    Singleton, Subtags, Variant, Variants, VariantsIter,
+};
+
+#[test]
+fn empty_walks_give_nothing() {
+    let (mut subtags, mut variants) = (Subtags::empty(), VariantsIter::empty());
+    assert_eq!((subtags.next(), subtags.next_back()), (None, None));
+    assert_eq!((variants.next(), variants.next_back()), (None, None));
+    assert_eq!(LanguageExtensionIter::empty().next(), None);
+    assert_eq!(ExtensionIter::empty().next(), None);
+    assert_eq!(PrivateUseIter::empty().next(), None);
+    assert_eq!(VariantsIter::default().next(), None);
+    assert_eq!(LanguageExtensionIter::default().next(), None);
+    assert_eq!(ExtensionIter::default().next(), None);
+    assert_eq!(PrivateUseIter::default().next(), None);
+}
+
+#[test]
+fn empty_lists_are_those_of_the_empty_text() {
+    assert_eq!(Variants::new(""), Ok(Variants::EMPTY));
+    assert_eq!(Variants::EMPTY.as_str(), "");
+    assert_eq!(
+        (Variants::EMPTY.first(), Variants::EMPTY.last()),
+        (None, None)
+    );
+    assert_eq!(Variants::EMPTY.iter().next(), None);
+    assert_eq!(Extensions::new(""), Ok(Extensions::EMPTY));
+    assert_eq!(Extensions::EMPTY.as_str(), "");
+    assert_eq!(Extensions::EMPTY.iter().next(), None);
+    assert_eq!(Extensions::EMPTY.get(Singleton::new(b'A').unwrap()), None);
+}
+
+#[test]
+fn the_first_and_the_last_variant() {
+    for (text, first, last) in [
+        ("1996", "1996", "1996"),
+        ("12345678", "12345678", "12345678"),
+        ("rozaj-1994", "rozaj", "1994"),
+        ("azert-0foo-barbz-4242", "azert", "4242"),
+        (
+            "A1B2C3D4-12345678-abcdefgh-1996-ROZAJ-1996",
+            "A1B2C3D4",
+            "1996",
+        ),
+    ] {
+        let variants = Variants::new(text).unwrap();
+        let text_of = |variant: Option<Variant<'static>>| variant.unwrap().as_str();
+        assert_eq!(text_of(variants.first()), first, "{text}");
+        assert_eq!(text_of(variants.last()), last, "{text}");
+    }
+}
+
+/// Languages of each shape.
+const LANGUAGES: [&str; 15] = [
+    "fr",
+    "FRA",
+    "abcd",
+    "abcde",
+    "abcdef",
+    "abcdefg",
+    "AaBbCcDd",
+    "zh-min",
+    "fr-abc",
+    "fra-ABC",
+    "zh-min-nan",
+    "fr-abc-DEF",
+    "fra-abc-def",
+    "fr-abc-def-ghi",
+    "FRA-abc-def-GHI",
+];
+
+#[test]
+fn a_language_is_cut_at_its_first_hyphen() {
+    for text in LANGUAGES {
+        let language = Language::new(text).unwrap();
+        let (primary, extension) = text.split_once('-').unwrap_or((text, ""));
+        assert_eq!(language.primary().as_str(), primary);
+        assert_eq!(language.extension().map_or("", |it| it.as_str()), extension);
+        let subtags: Vec<&str> = language.extension_subtags().map(|it| it.as_str()).collect();
+        assert_eq!(
+            subtags,
+            extension
+                .split('-')
+                .filter(|it| !it.is_empty())
+                .collect::<Vec<_>>()
+        );
+    }
+}
+
+#[test]
+fn refusals_are_handed_on() {
+    fn variants_of(text: &str) -> Result<Variants<'_>, InvalidVariants<&str>> {
+        let variants = Variants::new(text)?;
+        Ok(variants)
+    }
+    assert_eq!(variants_of("rozaj-1994").unwrap().as_str(), "rozaj-1994");
+    assert_eq!(variants_of("1994-").unwrap_err().0, "1994-");
+}
+
+#[cfg(feature = "alloc")]
+#[test]
+fn owned_refusals_are_handed_on() {
+    use langtag::{InvalidPrivateUse, PrivateUseBuf};
+    fn owned_private(text: String) -> Result<PrivateUseBuf, InvalidPrivateUse<String>> {
+        let part = PrivateUseBuf::new(text)?;
+        Ok(part)
+    }
+    assert_eq!(owned_private("x-".into()).unwrap_err().0, "x-");
+}
+
+#[test]
+fn letters_and_digits_but_x_are_singletons() {
+    for byte in 0..=u8::MAX {
+        let is_singleton = byte.is_ascii_alphanumeric() && !byte.eq_ignore_ascii_case(&b'x');
+        match Singleton::new(byte) {
+            Ok(singleton) => assert!(is_singleton && singleton.unwrap() == byte, "{byte}"),
+            Err(refusal) => assert!(!is_singleton && refusal.0 == byte, "{byte}"),
+        }
+    }
+}
+
+#[test]
+fn a_refused_byte_is_shown() {
+    let refused = Singleton::new(b'x').unwrap_err();
+    assert_eq!(refused.to_string(), "invalid extension identifier");
+    assert_eq!(format!("{refused:?}"), "InvalidSingleton(120)");
+}
+
+#[test]
+fn characters_convert() {
+    assert_eq!(Singleton::try_from('U').unwrap().unwrap(), b'U');
+    // The last eight bits of U+0161 are those of `a`.
+    for c in ['\u{161}', 'x', 'X', '-', 'é', '\0', '\u{ff}', '\u{10ffff}'] {
+        assert_eq!(Singleton::try_from(c).unwrap_err().0, c);
+    }
+}
+
+#[test]
+fn literals_are_singletons() {
+    assert_eq!(Singleton::new(b'u').unwrap().unwrap(), b'u');
+}

@@ -1,0 +1,136 @@
+//! Variants and singletons that stand in a tag twice (RFC 5646 sections 2.2.5, 2.2.6 and 2.2.9).
+use langtag::NormalLangTag;
+
+fn normal(text: &str) -> NormalLangTag<'_> {
+    NormalLangTag::new(text).unwrap()
+}
+
+/// The variant that stands in a tag twice, in the letters of the later one; empty where none does.
+fn repeated_variant<'a>(tag: &NormalLangTag<'a>) -> &'a str {
+    tag.repeated_variant()
+        .map_or("", |variant| variant.as_str())
+}
+
+/// The byte of the singleton that stands in a tag twice.
+fn repeated_singleton(tag: &NormalLangTag<'_>) -> Option<u8> {
+    Some(tag.repeated_singleton()?.unwrap())
+}
+
+/// Tags, and the variant and the singleton that stand in each twice, in the letters of the later one; empty where none does.
+const TWICE: [(&str, &str, &str); 14] = [
+    (
+        "Ri-063-c-u6v-ZfhkToTB-C-IFfmv-XT-j-rdyYFMhK-h-pY-D5-Oh6FqBhL-hcXt-v-WdpNx71-K-c74m4-eBTT7-JdH7Q1Z",
+        "",
+        "C",
+    ),
+    (
+        "PTow-w-cAQ51-8Xd6E-cumicgt-WpkZv3NY-q-ORYPRy-v-A4jL4A-iNEqQZZ-sjKn-W-N1F-pzyc-xP5eWz-LmsCiCcZ",
+        "",
+        "W",
+    ),
+    (
+        "tfOxdau-yjge-489-a-oB-I8Csb-1ESaK1v-VFNz-N-FT-ZQyn-On2-I-hu-vaW3-jIQb-vg0U-hUl-h-dO6KuJqB-U-tde2L-P3gHUY-vnl5c-RyO-H-gK1-zDPu-VF1oeh8W-kGzzvBbW-yuAJZ",
+        "",
+        "H",
+    ),
+    ("fr-a-bb-A-cc", "", "A"),
+    ("fr-1-aa-1-aa", "", "1"),
+    ("de-1996-1996", "1996", ""),
+    ("sl-rozaj-ROZAJ-rozaj", "ROZAJ", ""),
+    ("sl-rozaj-1994-1994-rozaj", "1994", ""),
+    ("sl-rozaj-1994-biske-1994", "1994", ""),
+    ("fr-a-bb-b-cc-B-dd-A-ee", "", "B"),
+    ("de-1996-Z-aa-0-bb-z-cc", "", "z"),
+    ("fr-a-bb-bb", "", ""),
+    ("ab-aaa-aaa", "", ""),
+    ("en-x-a-a", "", ""),
+];
+
+#[test]
+fn the_later_one_of_two_is_told() {
+    for (text, variant, singleton) in TWICE {
+        let tag = normal(text);
+        assert_eq!(repeated_variant(&tag), variant, "{text}");
+        assert_eq!(repeated_singleton(&tag), singleton.bytes().next(), "{text}");
+    }
+}
+
+/// How many variants a tag has, which of them are others, and the one that stands twice.
+type Variants = (u16, &'static [(u16, &'static str)], &'static str);
+
+/// To 143 bytes of variants, and past them.
+const FEW: [Variants; 10] = [
+    (1, &[], ""),
+    (24, &[], ""),
+    (24, &[(23, "A0000")], "A0000"),
+    (25, &[], ""),
+    (25, &[(24, "A0000")], "A0000"),
+    (25, &[(24, "A0023")], "A0023"),
+    (26, &[(25, "A0024")], "A0024"),
+    (40, &[(39, "a0020")], "a0020"),
+    (40, &[(38, "A0037"), (39, "A0020")], "A0037"),
+    (40, &[(39, "b0020")], ""),
+];
+
+/// To one block of 8,192, and past it.
+const MANY: [Variants; 12] = [
+    (8_192, &[], ""),
+    (8_192, &[(8_191, "A0000")], "A0000"),
+    (8_193, &[(8_192, "A0000")], "A0000"),
+    (8_194, &[(8_193, "A8192")], "A8192"),
+    (8_300, &[], ""),
+    (8_300, &[(4_000, "A0005")], "A0005"),
+    (8_300, &[(5_000, "A0005")], "A0005"),
+    (8_300, &[(8_299, "a4500")], "a4500"),
+    (8_300, &[(8_299, "A8298")], "A8298"),
+    (8_300, &[(8_000, "A5000"), (8_250, "A0010")], "A5000"),
+    (8_300, &[(8_000, "A0010"), (8_250, "A5000")], "A0010"),
+    (
+        8_300,
+        &[(7_000, "B6999"), (8_000, "A5000"), (8_250, "A0010")],
+        "A5000",
+    ),
+];
+
+/// A tag of so many variants, `a0000`, `a0001` .., with others at some indices.
+fn with_variants(count: u16, others: &[(u16, &str)]) -> String {
+    let mut text = String::from("en");
+    for index in 0..count {
+        text.push('-');
+        match others.iter().find(|other| other.0 == index) {
+            Some((_, variant)) => text.push_str(variant),
+            None => text.push_str(&format!("a{index:04}")),
+        }
+    }
+    text
+}
+
+fn are_repeated(cases: &[Variants]) {
+    for (count, others, repeated) in cases {
+        let text = with_variants(*count, others);
+        let tag = normal(&text);
+        assert_eq!(tag.variants().iter().count(), usize::from(*count));
+        assert_eq!(repeated_variant(&tag), *repeated, "{count}");
+    }
+}
+
+#[test]
+fn a_repeat_among_few_variants() {
+    are_repeated(&FEW);
+}
+
+#[test]
+fn a_repeat_among_many_variants() {
+    are_repeated(&MANY);
+}
+
+#[test]
+fn a_repeat_after_all_singletons() {
+    let mut text = String::from("en");
+    for letter in "0123456789abcdefghijklmnopqrstuvwyz".chars() {
+        text.push_str(&format!("-{letter}-aa"));
+    }
+    assert_eq!(repeated_singleton(&normal(&text)), None);
+    text.push_str("-Z-aa");
+    assert_eq!(repeated_singleton(&normal(&text)), Some(b'Z'));
+}

@@ -1,0 +1,180 @@
+//! What works on bytes (RFC 5646 section 2.1): recognisers over sources that were read before or compute their bytes, and case.
+use std::cmp::Ordering;
+use std::hash::Hasher;
+
+use langtag::{
+    case_insensitive_cmp, case_insensitive_hash, into_smallcase, recognise, recognise_normal,
+    ByteSource, Ends, Metered,
+};
+
+/// `en-x` followed by so many times `-a`, of which no byte is stored.
+struct PrivateSubtags {
+    len: usize,
+    reads: u128,
+    reach: usize,
+}
+
+impl PrivateSubtags {
+    fn new(count: usize) -> Self {
+        PrivateSubtags {
+            len: 4 + 2 * count,
+            reads: 0,
+            reach: 0,
+        }
+    }
+}
+
+impl ByteSource for PrivateSubtags {
+    fn len(&self) -> usize {
+        self.len
+    }
+
+    fn reads(&self) -> u128 {
+        self.reads
+    }
+
+    fn reach(&self) -> usize {
+        self.reach
+    }
+
+    fn byte(&mut self, index: usize) -> u8 {
+        self.reads += 1;
+        self.reach = self.reach.max(index + 1);
+        match index {
+            0..=3 => b"en-x"[index],
+            _ if index % 2 == 0 => b'-',
+            _ => b'a',
+        }
+    }
+}
+
+#[test]
+fn ten_thousand_private_subtags() {
+    let wanted = Ends {
+        language: 2,
+        script: 2,
+        region: 2,
+        variants: 2,
+        extensions: 2,
+        whole: 20_004,
+    };
+    let mut source = PrivateSubtags::new(10_000);
+    let ends = recognise(&mut source).and_then(|found| found.ends());
+    assert_eq!(ends, Some(wanted));
+    assert_eq!((source.reads(), source.reach()), (20_004, 20_004));
+    let mut source = PrivateSubtags::new(10_000);
+    let ends = recognise_normal(&mut source).and_then(|found| found.ends());
+    assert_eq!(ends, Some(wanted));
+    assert!(source.reads() <= 20_004);
+}
+
+#[test]
+fn a_source_that_was_read_before() {
+    for (text, last, reads, reach) in [
+        ("fr-FR", 3, 10, 5),
+        ("i-notexist", 8, 9, 9),
+        ("i-klingon-x", 10, 15, 11),
+    ] {
+        let mut source = Metered::new(text);
+        for _ in 0..5 {
+            source.byte(last);
+        }
+        assert_eq!(source.reads(), 5, "{text}");
+        assert_eq!(recognise(&mut source).is_some(), text == "fr-FR", "{text}");
+        assert_eq!((source.reads(), source.reach()), (reads, reach), "{text}");
+    }
+}
+
+#[test]
+fn metered_counts_each_read() {
+    let mut source = Metered::new("fr-é");
+    assert_eq!((source.len(), source.reads(), source.reach()), (5, 0, 0));
+    assert_eq!(source.byte(2), b'-');
+    assert_eq!((source.reads(), source.reach()), (1, 3));
+    assert_eq!(source.byte(0), b'f');
+    assert_eq!((source.reads(), source.reach()), (2, 3));
+    assert_eq!(source.byte(4), 0xa9);
+    assert_eq!((source.len(), source.reads(), source.reach()), (5, 3, 5));
+}
+
+#[test]
+fn ends_are_shown() {
+    let found = recognise(&mut Metered::new("fr-abc-nice-bz-e-foo")).unwrap();
+    let wanted =
+        "Ends { language: 6, script: 11, region: 14, variants: 14, extensions: 20, whole: 20 }";
+    assert_eq!(format!("{:?}", found.ends().unwrap()), wanted);
+}
+
+#[test]
+fn ends_differ_where_one_of_them_does() {
+    let ends = Ends {
+        language: 2,
+        script: 7,
+        region: 10,
+        variants: 16,
+        extensions: 21,
+        whole: 25,
+    };
+    let others: [fn(&mut Ends); 6] = [
+        |ends| ends.language = 3,
+        |ends| ends.script = 6,
+        |ends| ends.region = 7,
+        |ends| ends.variants = 10,
+        |ends| ends.extensions = 16,
+        |ends| ends.whole = 21,
+    ];
+    for change in others {
+        let mut other = ends;
+        assert_eq!(other, ends);
+        change(&mut other);
+        assert_ne!(other, ends);
+    }
+}
+
+#[test]
+fn letters_alone_are_folded() {
+    for (byte, folded) in [
+        (b'A', b'a'),
+        (b'Z', b'z'),
+        (b'a', b'a'),
+        (b'@', b'@'),
+        (b'[', b'['),
+        (b'{', b'{'),
+        (b'-', b'-'),
+        (b'0', b'0'),
+        (0, 0),
+        (0xc0, 0xc0),
+        (0xff, 0xff),
+    ] {
+        assert_eq!(into_smallcase(byte), folded);
+    }
+}
+
+#[test]
+fn bytes_that_are_no_text_have_an_order() {
+    assert_eq!(case_insensitive_cmp(b"\xff", b""), Ordering::Less);
+}
+
+/// Keeps the bytes of each call that fed it.
+#[derive(Default)]
+struct Calls(Vec<Vec<u8>>);
+
+impl Hasher for Calls {
+    fn write(&mut self, bytes: &[u8]) {
+        self.0.push(bytes.to_vec());
+    }
+
+    fn finish(&self) -> u64 {
+        0
+    }
+}
+
+#[test]
+fn a_hasher_is_fed_a_folded_byte_a_call() {
+    for (text, folded) in [("Fr", "fr"), ("dE-AraB-lY", "de-arab-ly"), ("", "")] {
+        let mut calls = Calls::default();
+        case_insensitive_hash(text.as_bytes(), &mut calls);
+        let wanted: Vec<Vec<u8>> = folded.bytes().map(|byte| vec![byte]).collect();
+        assert_eq!(calls.0, wanted);
+    }
+}
