@@ -154,6 +154,7 @@ def wrongly_pure(functions: dict[str, Function], source: str) -> list[str]:
 # Where the version and the number of the ABI stand: a file, and what stands around them.
 VERSIONS = [
     ("rust/Cargo.toml", r'^version = "([0-9.]+)"'),
+    ("rust/c/Cargo.toml", r'^version = "([0-9.]+)"'),
     ("bindings/python/pyproject.toml", r'^version = "([0-9.]+)"'),
     ("bindings/python/langtag/__init__.py", r'^__version__ = "([0-9.]+)"'),
 ]

@@ -49,6 +49,7 @@ PLANTED = [
     (HEADER, "LANGTAG_ABI_VERSION 1", "LANGTAG_ABI_VERSION 2", "LANGTAG_ABI_VERSION"),
     ("bindings/c/Makefile", "soname,$(NAME).so.1", "soname,$(NAME).so.2", "Makefile"),
     ("rust/Cargo.toml", 'version = "0.1.0"', 'version = "0.1.1"', "Cargo.toml"),
+    ("rust/c/Cargo.toml", 'version = "0.1.0"', 'version = "0.1.1"', "rust/c/Cargo.toml"),
     (MODULE, '__version__ = "0.1.0"', '__version__ = "0.2.0"', "LANGTAG_VERSION"),
     (HEADER, "uint32_t langtag_registry_date(void);", "uint64_t langtag_registry_date(void);", "langtag_registry_date"),
     (HEADER, "uint32_t langtag_registry_date(void);", "uint32_t langtag_registry_date(uint32_t kind);", "langtag_registry_date"),

@@ -42,7 +42,7 @@ aarch64_tags() {
 aarch64_likely() { on_aarch64 "$work/built/test-aarch64" --answer <"$work/asked" | cmp - "$work/told_of_likely"; }
 check "aarch64: answers to random calls as on x86-64, under qemu" aarch64_random
 check "aarch64: validity and canonical form of 50,000 tags as on x86-64, under qemu" aarch64_tags
-check "aarch64: 60,000 rows of likely subtags and choices as on x86-64, under qemu" aarch64_likely
+check "aarch64: 100,000 rows of likely subtags and choices as on x86-64, under qemu" aarch64_likely
 
 # Symbols of archive and library, and the stack. How the work of a call grows is counted on x86-64 alone.
 aarch64_symbols() {
