@@ -90,13 +90,23 @@ class Options:
 
     @staticmethod
     def say(text: str) -> NoReturn:
-        sys.stdout.write(text)
-        sys.exit(0)
+        write(text.encode())
+        raise Stopped("", 0)
 
     def answer(self, text: bytes, columns: List[str], between: str = "") -> Answer:
         """The answer of some columns, before which the text stands if there are tabs."""
         column = text.replace(b"\t", b"\\t") + b"\t" if self.tsv else b""
         return Answer(column + ("\t" if self.tsv else between).join(columns).encode("utf-8", "surrogateescape"))
+
+
+def write(data: bytes) -> None:
+    try:
+        while data:
+            data = data[os.write(1, data) :]
+    except BrokenPipeError:
+        raise Stopped("", 5) from None
+    except OSError:
+        raise Stopped("write failed", 5) from None
 
 
 def wrong(words: str) -> NoReturn:
@@ -272,13 +282,7 @@ class Run:
     def write(self) -> None:
         """Writes what was answered."""
         data, self.waiting = b"".join(self.waiting), []
-        try:
-            while data:
-                data = data[os.write(1, data) :]
-        except BrokenPipeError:
-            raise Stopped("", 5) from None
-        except OSError:
-            raise Stopped("write failed", 5) from None
+        write(data)
 
     def texts(self) -> Iterator[bytes]:
         for text in self.options.texts or lines():
@@ -301,7 +305,6 @@ class Run:
 
 
 def main(arguments: List[str]) -> int:
-    run = None
     try:
         run = Run(Options(arguments))
         try:
