@@ -31,7 +31,27 @@ static void edges(void) {
     CHECK(langtag_kind(langtag_bytes(NULL), 0) == LANGTAG_NONE);
 }
 
+/* What a call writes whatever it answers. */
+static void written_always(void) {
+    static const char *const texts[] = {"", "en_US", "de", "i-klingon", "de-1996-u-co-phonebk", "de-1996-1996"};
+    for (size_t k = 0; k < sizeof texts / sizeof *texts; k++) {
+        langtag_repeated repeated;
+        memset(&repeated, 0xaa, sizeof repeated);
+        bool is_repeated = langtag_repeats(texts[k], strlen(texts[k]), &repeated) == LANGTAG_REPEATED_VARIANT;
+        CHECK(is_repeated == (k == 5) && repeated.variant.len == (is_repeated ? 4 : 0) && repeated.singleton.len == 0);
+    }
+}
+
+/* Numbers that are no answer to a text. */
+static void versions(void) {
+    uint32_t date = langtag_registry_date();
+    CHECK(date / 10000 > 2000 && date / 100 % 100 - 1 < 12 && date % 100 - 1 < 31);
+    CHECK(langtag_cldr_version() > 40 && langtag_cldr_version() < 1000);
+}
+
 void test_parse(void) {
     absent_parts();
     edges();
+    written_always();
+    versions();
 }
