@@ -6,7 +6,8 @@ usage: from_cldr.py COMMON VERSION SOURCE   COMMON is CLDR's folder `common`, wh
        from_cldr.py --test QUESTIONS        asks oracle.py CLDR's own questions: QUESTIONS is the file
                                             common/testData/localeIdentifiers/likelySubtags.txt
 
-Nothing in the XML is skipped in silence: a row of a form that is not known here is refused, and nothing is written.
+A row of a form that is not known here is refused, and nothing is written. Left out are aliases of whole tags and of regions of three
+letters, deprecated groups of regions, and the likely subtags of languages that are aliases.
 """
 from __future__ import annotations
 

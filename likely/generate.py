@@ -1,6 +1,6 @@
 #!/usr/bin/env python3
-"""Writes the tables and the lists of the crate langtag_likely from Unicode's CLDR, whose likely subtags and
-whose data of language matching are in data/ (from_cldr.py writes them).
+"""Writes the tables and the lists of the crate langtag_likely from Unicode's CLDR, whose likely subtags and whose data of language
+matching are in data/ (from_cldr.py writes them).
 
 usage: generate.py                        writes them from the data whose checksums stand in data.sha256
        generate.py --accept [LANGUAGE..]  writes them from newer data, and their checksums; these languages may lose their rows
@@ -30,13 +30,15 @@ MODULE = HERE.parent / "bindings" / "postgresql" / "cldr_version.mk"
 # The variants of Arab and Syrc that have codes of their own (ISO 15924). The data do not name them.
 SCRIPT_VARIANTS = ["Aran", "Syre", "Syrj", "Syrn"]
 
-# What a byte tells apart; a key of other_rows has room for so many scripts, and one more for each that is not known.
+# A column of a table names 256 things by a byte. A key of other_rows has a byte for the script, too, in which 0 says that there is
+# none, and the place after the last script that the script is not among them.
 MOST_NAMES, MOST_SCRIPTS = 256, 254
 
 # The number of `aa`, at the first bit, and how many words the bits up to that of `zzz` fill.
 FIRST_LANGUAGE, WORDS = 27, 286
 
 EMPTY = "-"
+
 
 def read(name):
     """The rows of the data, in words."""
@@ -101,7 +103,7 @@ class Likely:
         each("a right side without a language is its own", lambda row: row[3] or row[3:] == row[:3] or not {("", row[4], row[5]), ("", row[4], "")} & (keys - {row[:3]})
              or row[3:] in [other[3:] for other in rows if other[:3] == ("", row[4], row[5])])
         for what, names, most, remedy in (
-            ("scripts", self.scripts, MOST_SCRIPTS, "give key_number more than nine bits for the region and the script's place"),
+            ("scripts", self.scripts, MOST_SCRIPTS, "give the script more than a byte in key_number, and OTHER_KEYS more than 32 bits"),
             ("regions", self.regions, MOST_NAMES, "make LANGUAGE_REGIONS, OTHER_REGIONS and name_in's column u16"),
             ("languages of right sides", self.languages, MOST_NAMES, "make OTHER_LANGUAGES, and a twin of name_in for it, u16"),
         ):

@@ -138,7 +138,7 @@ class Generating(unittest.TestCase):
                 (generate.DATA / name).write_bytes(standing)
 
     def test_room(self):
-        for name, told in (("MOST_SCRIPTS", "scripts, and the tables have room for 3: give"), ("MOST_NAMES", "regions, and the tables have room for 3: make")):
+        for name, told in (("MOST_SCRIPTS", "scripts, and the tables have room for 3: give the script"), ("MOST_NAMES", "regions, and the tables have room for 3: make")):
             with self.subTest(name=name), mock.patch.object(generate, name, 3):
                 self.assert_refused(told)
 
