@@ -118,6 +118,8 @@ mod caseless_text;
 mod invalid;
 #[cfg(feature = "alloc")]
 mod lent;
+#[cfg(feature = "alloc")]
+mod owned_errors;
 #[cfg(feature = "oxilangtag")]
 pub mod oxilangtag;
 #[cfg(feature = "serde")]
@@ -127,6 +129,8 @@ mod text;
 mod walks;
 
 pub use caseless_text::CaselessText;
+#[cfg(feature = "alloc")]
+pub use owned_errors::{AcceptLanguageErrorBuf, InvalidSubtagBuf, PosixErrorBuf};
 #[cfg(feature = "alloc")]
 pub use shim::AllocError;
 pub use tag::*;

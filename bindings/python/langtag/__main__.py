@@ -90,13 +90,23 @@ class Options:
 
     @staticmethod
     def say(text: str) -> NoReturn:
-        sys.stdout.write(text)
-        sys.exit(0)
+        write(text.encode())
+        raise Stopped("", 0)
 
     def answer(self, text: bytes, columns: List[str], between: str = "") -> Answer:
         """The answer of some columns, before which the text stands if there are tabs."""
         column = text.replace(b"\t", b"\\t") + b"\t" if self.tsv else b""
         return Answer(column + ("\t" if self.tsv else between).join(columns).encode("utf-8", "surrogateescape"))
+
+
+def write(data: bytes) -> None:
+    try:
+        while data:
+            data = data[os.write(1, data) :]
+    except BrokenPipeError:
+        raise Stopped("", 5) from None
+    except OSError:
+        raise Stopped("write failed", 5) from None
 
 
 def wrong(words: str) -> NoReturn:
@@ -193,7 +203,7 @@ def distance_in(line: bytes, options: Options) -> Answer:
     """The answer of `distance` to a line of two tags."""
     words = line.replace(b"\v", b"\x00").split()
     if len(words) == 2:
-        return distance_of(*words, options)
+        return distance_of(words[0], words[1], options)
     return Answer(between(line, b"", "-", options).line, False, "two tags are wanted in a line: A B")
 
 
@@ -272,13 +282,7 @@ class Run:
     def write(self) -> None:
         """Writes what was answered."""
         data, self.waiting = b"".join(self.waiting), []
-        try:
-            while data:
-                data = data[os.write(1, data) :]
-        except BrokenPipeError:
-            raise Stopped("", 5) from None
-        except OSError:
-            raise Stopped("write failed", 5) from None
+        write(data)
 
     def texts(self) -> Iterator[bytes]:
         for text in self.options.texts or lines():
@@ -292,7 +296,7 @@ class Run:
         if options.command == "best":
             self.put(best(options, list(self.texts())))
         elif options.command == "distance" and options.texts:
-            self.put(distance_of(*options.texts, options))
+            self.put(distance_of(options.texts[0], options.texts[1], options))
         else:
             ask = (lambda line: distance_in(line, options)) if options.command == "distance" else Asked(options).answer
             for text in self.texts():
@@ -301,7 +305,6 @@ class Run:
 
 
 def main(arguments: List[str]) -> int:
-    run = None
     try:
         run = Run(Options(arguments))
         try:
