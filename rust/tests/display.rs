@@ -1,0 +1,14 @@
+//! Tags and parts are displayed as their text is, with a width too.
+use langtag::{LangTag, Script};
+
+#[test]
+fn with_a_width() {
+    let tag = LangTag::new("zh-TW").unwrap();
+    assert_eq!(format!("{tag}"), "zh-TW");
+    assert_eq!(format!("[{tag:>8}]"), "[   zh-TW]");
+    assert_eq!(format!("[{tag:-<8}]"), "[zh-TW---]");
+    assert_eq!(
+        format!("[{:8}]", Script::new("Hant").unwrap()),
+        "[Hant    ]"
+    );
+}
