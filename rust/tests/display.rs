@@ -12,3 +12,13 @@ fn with_a_width() {
         "[Hant    ]"
     );
 }
+
+#[test]
+fn for_programmers() {
+    let tag = LangTag::new("zh-TW").unwrap();
+    assert_eq!(format!("{tag:?}"), r#"LangTag { text: "zh-TW", .. }"#);
+    assert_eq!(
+        format!("{:?}", tag.region()),
+        r#"Some(Region { text: "TW" })"#
+    );
+}
