@@ -3,7 +3,7 @@ import re
 
 from tokens import words_of
 
-# The types whose `Debug` src/shown.rs has.
+# The types whose `Debug` src/shim.rs has.
 SHOWN = {"Caseless"}
 
 DISPLAY = """

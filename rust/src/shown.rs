@@ -1,14 +1,7 @@
-//! `Debug` of what a recogniser reads and of what it finds, and of the text of a tag or a part.
+//! `Debug` of what a recogniser reads and of what it finds.
 use core::fmt;
 
-use crate::scan::Caseless;
 use crate::{ByteSource, Found, Metered};
-
-impl<T: fmt::Debug> fmt::Debug for Caseless<T> {
-    fn fmt(&self, f: &mut fmt::Formatter<'_>) -> fmt::Result {
-        self.0.fmt(f)
-    }
-}
 
 impl fmt::Debug for Found {
     fn fmt(&self, f: &mut fmt::Formatter<'_>) -> fmt::Result {
