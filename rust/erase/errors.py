@@ -3,6 +3,9 @@ import re
 
 from tokens import words_of
 
+# The types whose `Debug` src/shim.rs has.
+SHOWN = {"Caseless"}
+
 DISPLAY = """
 
 impl{bound} fmt::Display for {type} {{
@@ -36,8 +39,9 @@ def erase_derives(code):
     place = 0
     while (place := code.find("#[derive", place)) >= 0:
         traits = [token.text for token in code.tokens[place + 4 : code.after(place + 1) - 2] if token.text != ","]
-        kept = [trait for trait in traits if trait not in ("Drop", "Error")]
         end = code.after(place + 1)
+        gone = {"Drop", "Error"} | ({"Debug"} if Item(code, end).name in SHOWN else set())
+        kept = [trait for trait in traits if trait not in gone]
         if "Error" in traits:
             write_error_impls(code, end)
         if kept != traits:

@@ -8,6 +8,7 @@ FORMS = [
     ('#[unsafe(no_mangle)] pub extern "C" fn', "pub fn"),
     ("fn fmt<W: fmt::Write>", "fn fmt"),
     ("fmt::Formatter<W>", "fmt::Formatter<'_>"),
+    ("f.write_str(self.as_str())", "f.pad(self.as_str())"),
     (
         "let ascii = unsafe { str::from_utf8_unchecked(bytes) };",
         "let Ok(ascii) = core::str::from_utf8(bytes) else { return Err(InvalidLangTag(bytes)); };",

@@ -24,6 +24,13 @@ impl AsStr for alloc::string::String {
     }
 }
 
+/// The text of a tag or a part is shown as any other.
+impl<T: core::fmt::Debug> core::fmt::Debug for crate::scan::Caseless<T> {
+    fn fmt(&self, f: &mut core::fmt::Formatter<'_>) -> core::fmt::Result {
+        self.0.fmt(f)
+    }
+}
+
 /// Compares, orders, hashes and shows a type by its field `text` alone.
 macro_rules! by_text {
     ($tag:ty) => {

@@ -126,7 +126,7 @@ fn texts() {
     let tag = LangTag::try_from("ZH-Hant").unwrap();
     assert_eq!(
         format!("{tag}|{tag:?}"),
-        "ZH-Hant|LangTag { text: Caseless(\"ZH-Hant\"), .. }"
+        "ZH-Hant|LangTag { text: \"ZH-Hant\", .. }"
     );
     assert_eq!(
         (tag.as_str(), &*tag, tag.as_bytes()),

@@ -66,8 +66,8 @@ fn kinds_are_shown_and_ordered() {
 #[test]
 fn typed_tags_are_shown() {
     for (text, shown) in [
-        ("fr", "Normal(NormalLangTag { text: Caseless(\"fr\")"),
-        ("X-a", "PrivateUse(PrivateUse { text: Caseless(\"X-a\")"),
+        ("fr", "Normal(NormalLangTag { text: \"fr\""),
+        ("X-a", "PrivateUse(PrivateUse { text: \"X-a\""),
         ("I-ami", "Grandfathered(IAmi)"),
     ] {
         let debug = format!("{:?}", tag(text).as_typed());

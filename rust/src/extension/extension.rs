@@ -132,7 +132,7 @@ impl<'a> Extension<'a> {
 impl fmt::Display for Extension<'_> {
     #[inline]
     fn fmt(&self, f: &mut fmt::Formatter<'_>) -> fmt::Result {
-        f.write_str(self.as_str())
+        f.pad(self.as_str())
     }
 }
 
@@ -195,7 +195,7 @@ impl ExtensionBuf {
 impl fmt::Display for ExtensionBuf {
     #[inline]
     fn fmt(&self, f: &mut fmt::Formatter<'_>) -> fmt::Result {
-        f.write_str(self.as_str())
+        f.pad(self.as_str())
     }
 }
 

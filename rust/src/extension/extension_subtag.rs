@@ -111,7 +111,7 @@ impl<'a> ExtensionSubtag<'a> {
 impl fmt::Display for ExtensionSubtag<'_> {
     #[inline]
     fn fmt(&self, f: &mut fmt::Formatter<'_>) -> fmt::Result {
-        f.write_str(self.as_str())
+        f.pad(self.as_str())
     }
 }
 
@@ -174,6 +174,6 @@ impl ExtensionSubtagBuf {
 impl fmt::Display for ExtensionSubtagBuf {
     #[inline]
     fn fmt(&self, f: &mut fmt::Formatter<'_>) -> fmt::Result {
-        f.write_str(self.as_str())
+        f.pad(self.as_str())
     }
 }

@@ -150,7 +150,7 @@ impl Default for Extensions<'_> {
 impl fmt::Display for Extensions<'_> {
     #[inline]
     fn fmt(&self, f: &mut fmt::Formatter<'_>) -> fmt::Result {
-        f.write_str(self.as_str())
+        f.pad(self.as_str())
     }
 }
 
@@ -213,7 +213,7 @@ impl ExtensionsBuf {
 impl fmt::Display for ExtensionsBuf {
     #[inline]
     fn fmt(&self, f: &mut fmt::Formatter<'_>) -> fmt::Result {
-        f.write_str(self.as_str())
+        f.pad(self.as_str())
     }
 }
 

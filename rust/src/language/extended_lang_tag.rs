@@ -111,7 +111,7 @@ impl<'a> ExtendedLangTag<'a> {
 impl fmt::Display for ExtendedLangTag<'_> {
     #[inline]
     fn fmt(&self, f: &mut fmt::Formatter<'_>) -> fmt::Result {
-        f.write_str(self.as_str())
+        f.pad(self.as_str())
     }
 }
 
@@ -174,6 +174,6 @@ impl ExtendedLangTagBuf {
 impl fmt::Display for ExtendedLangTagBuf {
     #[inline]
     fn fmt(&self, f: &mut fmt::Formatter<'_>) -> fmt::Result {
-        f.write_str(self.as_str())
+        f.pad(self.as_str())
     }
 }

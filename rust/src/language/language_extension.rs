@@ -125,7 +125,7 @@ fn is_language_extension(text: &str) -> bool {
 impl fmt::Display for LanguageExtension<'_> {
     #[inline]
     fn fmt(&self, f: &mut fmt::Formatter<'_>) -> fmt::Result {
-        f.write_str(self.as_str())
+        f.pad(self.as_str())
     }
 }
 
@@ -189,6 +189,6 @@ impl LanguageExtensionBuf {
 impl fmt::Display for LanguageExtensionBuf {
     #[inline]
     fn fmt(&self, f: &mut fmt::Formatter<'_>) -> fmt::Result {
-        f.write_str(self.as_str())
+        f.pad(self.as_str())
     }
 }

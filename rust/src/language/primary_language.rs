@@ -110,7 +110,7 @@ impl<'a> PrimaryLanguage<'a> {
 impl fmt::Display for PrimaryLanguage<'_> {
     #[inline]
     fn fmt(&self, f: &mut fmt::Formatter<'_>) -> fmt::Result {
-        f.write_str(self.as_str())
+        f.pad(self.as_str())
     }
 }
 
@@ -173,6 +173,6 @@ impl PrimaryLanguageBuf {
 impl fmt::Display for PrimaryLanguageBuf {
     #[inline]
     fn fmt(&self, f: &mut fmt::Formatter<'_>) -> fmt::Result {
-        f.write_str(self.as_str())
+        f.pad(self.as_str())
     }
 }

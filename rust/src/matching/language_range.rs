@@ -139,7 +139,7 @@ impl<'a> LanguageRange<'a> {
 impl fmt::Display for LanguageRange<'_> {
     #[inline]
     fn fmt(&self, f: &mut fmt::Formatter<'_>) -> fmt::Result {
-        f.write_str(self.as_str())
+        f.pad(self.as_str())
     }
 }
 
@@ -201,6 +201,6 @@ impl LanguageRangeBuf {
 impl fmt::Display for LanguageRangeBuf {
     #[inline]
     fn fmt(&self, f: &mut fmt::Formatter<'_>) -> fmt::Result {
-        f.write_str(self.as_str())
+        f.pad(self.as_str())
     }
 }

@@ -111,7 +111,7 @@ impl<'a> Variant<'a> {
 impl fmt::Display for Variant<'_> {
     #[inline]
     fn fmt(&self, f: &mut fmt::Formatter<'_>) -> fmt::Result {
-        f.write_str(self.as_str())
+        f.pad(self.as_str())
     }
 }
 
@@ -175,6 +175,6 @@ impl VariantBuf {
 impl fmt::Display for VariantBuf {
     #[inline]
     fn fmt(&self, f: &mut fmt::Formatter<'_>) -> fmt::Result {
-        f.write_str(self.as_str())
+        f.pad(self.as_str())
     }
 }

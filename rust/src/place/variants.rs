@@ -141,7 +141,7 @@ impl Default for Variants<'_> {
 impl fmt::Display for Variants<'_> {
     #[inline]
     fn fmt(&self, f: &mut fmt::Formatter<'_>) -> fmt::Result {
-        f.write_str(self.as_str())
+        f.pad(self.as_str())
     }
 }
 
@@ -205,7 +205,7 @@ impl VariantsBuf {
 impl fmt::Display for VariantsBuf {
     #[inline]
     fn fmt(&self, f: &mut fmt::Formatter<'_>) -> fmt::Result {
-        f.write_str(self.as_str())
+        f.pad(self.as_str())
     }
 }
 

@@ -146,7 +146,7 @@ fn are_private(mut subtags: Subtags<'_>) -> bool {
 impl fmt::Display for PrivateUse<'_> {
     #[inline]
     fn fmt(&self, f: &mut fmt::Formatter<'_>) -> fmt::Result {
-        f.write_str(self.as_str())
+        f.pad(self.as_str())
     }
 }
 
@@ -210,6 +210,6 @@ impl PrivateUseBuf {
 impl fmt::Display for PrivateUseBuf {
     #[inline]
     fn fmt(&self, f: &mut fmt::Formatter<'_>) -> fmt::Result {
-        f.write_str(self.as_str())
+        f.pad(self.as_str())
     }
 }

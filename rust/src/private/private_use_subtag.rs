@@ -111,7 +111,7 @@ impl<'a> PrivateUseSubtag<'a> {
 impl fmt::Display for PrivateUseSubtag<'_> {
     #[inline]
     fn fmt(&self, f: &mut fmt::Formatter<'_>) -> fmt::Result {
-        f.write_str(self.as_str())
+        f.pad(self.as_str())
     }
 }
 
@@ -174,6 +174,6 @@ impl PrivateUseSubtagBuf {
 impl fmt::Display for PrivateUseSubtagBuf {
     #[inline]
     fn fmt(&self, f: &mut fmt::Formatter<'_>) -> fmt::Result {
-        f.write_str(self.as_str())
+        f.pad(self.as_str())
     }
 }

@@ -12,7 +12,7 @@ use core::hash::{Hash, Hasher};
 ///
 /// The text keeps its case. A type that holds one derives `PartialEq`, `Eq`, `PartialOrd`, `Ord` and `Hash` over it, as
 /// each text type of the crates above does.
-#[derive(Clone, Copy, Debug)]
+#[derive(Clone, Copy)]
 pub struct Caseless<T>(pub T);
 
 impl<T: AsStr> Caseless<T> {

@@ -230,6 +230,6 @@ impl<'a> TryFrom<&'a [u8]> for GrandfatheredLangTag {
 impl fmt::Display for GrandfatheredLangTag {
     #[inline]
     fn fmt(&self, f: &mut fmt::Formatter<'_>) -> fmt::Result {
-        f.write_str(self.as_str())
+        f.pad(self.as_str())
     }
 }

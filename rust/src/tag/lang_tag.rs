@@ -591,6 +591,6 @@ impl<'a> From<PrivateUse<'a>> for LangTag<'a> {
 impl fmt::Display for LangTag<'_> {
     #[inline]
     fn fmt(&self, f: &mut fmt::Formatter<'_>) -> fmt::Result {
-        f.write_str(self.as_str())
+        f.pad(self.as_str())
     }
 }

@@ -287,6 +287,6 @@ impl From<PrivateUseBuf> for LangTagBuf {
 impl fmt::Display for LangTagBuf {
     #[inline]
     fn fmt(&self, f: &mut fmt::Formatter<'_>) -> fmt::Result {
-        f.write_str(self.as_str())
+        f.pad(self.as_str())
     }
 }

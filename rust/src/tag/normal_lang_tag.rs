@@ -505,6 +505,6 @@ impl<'a> NormalLangTag<'a> {
 impl fmt::Display for NormalLangTag<'_> {
     #[inline]
     fn fmt(&self, f: &mut fmt::Formatter<'_>) -> fmt::Result {
-        f.write_str(self.as_str())
+        f.pad(self.as_str())
     }
 }

@@ -307,6 +307,6 @@ impl NormalLangTagBuf {
 impl fmt::Display for NormalLangTagBuf {
     #[inline]
     fn fmt(&self, f: &mut fmt::Formatter<'_>) -> fmt::Result {
-        f.write_str(self.as_str())
+        f.pad(self.as_str())
     }
 }

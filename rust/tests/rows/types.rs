@@ -38,7 +38,7 @@ macro_rules! seen {
                 assert_eq!((lent.as_str(), owned.as_str()), (text, text));
                 assert_eq!((pieces_of(&lent), pieces_of(&owned)), (1, 1));
                 assert_eq!((lent.to_string(), owned.to_string()), (text.into(), text.into()));
-                let debug = format!(" {{ text: Caseless({text:?})");
+                let debug = format!(" {{ text: {text:?}");
                 assert!(format!("{lent:?}").starts_with(&(stringify!($name).to_owned() + &debug)));
                 assert!(format!("{owned:?}").starts_with(&(stringify!($owned).to_owned() + &debug)));
                 for other in [lent.to_owned(), lent.try_to_owned().unwrap(), owned.clone(), lent.into()] {
