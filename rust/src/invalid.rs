@@ -4,8 +4,9 @@ use core::fmt;
 use crate::matching::InvalidLanguageRange;
 use crate::*;
 
-macro_rules! errors {
-    ($($name:ident, $owned:ident, $error:ident, $lend:ident, $what:literal;)+) => {$(
+/// Writes the traits of errors that are what was refused.
+macro_rules! compared {
+    ($($error:ident),+) => {$(
         impl<T: Clone> Clone for $error<T> {
             fn clone(&self) -> Self {
                 $error(self.0.clone())
@@ -21,6 +22,12 @@ macro_rules! errors {
         }
 
         impl<T: Eq> Eq for $error<T> {}
+    )+};
+}
+
+macro_rules! errors {
+    ($($name:ident, $owned:ident, $error:ident, $lend:ident, $what:literal;)+) => {$(
+        compared!($error);
 
         #[cfg(feature = "alloc")]
         impl $error<&str> {
@@ -39,6 +46,7 @@ macro_rules! errors {
     )+};
 }
 
+compared!(InvalidSingleton, InvalidGrandfatheredTag);
 for_text_types!(errors);
 
 impl<T: AsRef<str>> InvalidLangTag<T> {

@@ -62,7 +62,7 @@
 //! | `LangTagBuf`, `ScriptBuf` .. | the same names |
 //! | `X::new`, of anything that has text | `X::new(&str)`, `XBuf::new(String)`; `TryFrom`; `FromStr` of `XBuf`; [`LangTag::from_bytes`] |
 //! | `X::new_unchecked`, `XBuf::new_unchecked` | none: each value was tested |
-//! | `InvalidX` | the same names; [`InvalidLangTag::refusal`] says where a text goes wrong |
+//! | `InvalidX` | the same names; [`InvalidLangTag::refusal`] says where a text goes wrong, [`InvalidLangTag::reason`] why |
 //! | `as_str`, `as_bytes`, `as_x`, `into_string`, `Display`, `Debug` | the same names |
 //! | `into_bytes` | the same name |
 //! | `validate` | `X::new(text).is_ok()` |

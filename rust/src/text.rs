@@ -296,6 +296,14 @@ mod owned {
 
     for_text_types!(owned);
 
+    impl FromStr for Singleton {
+        type Err = InvalidSingleton<String>;
+
+        fn from_str(text: &str) -> Result<Self, Self::Err> {
+            Singleton::from_string(text).map_err(|error| InvalidSingleton(error.0.into()))
+        }
+    }
+
     impl Default for VariantsBuf {
         fn default() -> Self {
             Variants::EMPTY.to_owned()

@@ -299,6 +299,22 @@ fn errors_with_more_than_a_text() {
     );
 }
 
+#[test]
+fn singletons_and_grandfathered_tags() {
+    assert_eq!("u".parse::<Singleton>(), Ok(Singleton::new(b'u').unwrap()));
+    assert_eq!("x".parse::<Singleton>(), Err(InvalidSingleton("x".into())));
+    assert_eq!(Singleton::try_from('é'), Err(InvalidSingleton('é')));
+    let tag = GrandfatheredLangTag::try_from(&b"I-Klingon"[..]).unwrap();
+    assert_eq!(
+        (tag.as_ref(), LangTag::from(tag).as_str()),
+        ("i-klingon", "i-klingon")
+    );
+    assert_eq!(
+        GrandfatheredLangTag::try_from(&b"fr"[..]),
+        Err(InvalidGrandfatheredTag(&b"fr"[..]))
+    );
+}
+
 /// `?` on options, closures, and a struct that derives.
 #[test]
 fn callers() {
