@@ -13,9 +13,9 @@ mod feed;
 #[cfg(test)]
 mod forms;
 #[cfg(test)]
-mod hash;
-#[cfg(test)]
 mod program;
+#[cfg(test)]
+mod scan;
 #[cfg(test)]
 mod seen;
 #[cfg(test)]
