@@ -1,8 +1,8 @@
 #!/usr/bin/env bash
-# Times recognise on a file of tags, one a line, beside plain loops; with no file, on three lists of 100,000 tags: one of
-# shapes of 18 bytes, one of seven bytes, and one of plain tags, and then repeated_variant by number of variants. With
-# valgrind it also counts instructions. The Rust crate is timed beside the archive, and both are asked about 1,000,000 random
-# texts. It needs rt, rustc and a linker. OXILANGTAG may name the folder of that crate's source, and LTO=1 asks for link-time
+# Times recognise on a file of tags, one a line, beside plain loops. With no file it takes five lists of 100,000 lines: shapes of
+# 18 bytes, tags of seven bytes, plain tags, tags of nine bytes, and unusual texts (irregular or refused). Then it times
+# repeated_variant by number of variants. With valgrind it also counts instructions. The Rust crate is timed beside the archive.
+# It needs rt, rustc and a linker. OXILANGTAG may name the folder of that crate's source, and LTO=1 asks for link-time
 # optimisation.
 set -euo pipefail
 here=$(cd "$(dirname "$0")" && pwd)
@@ -66,8 +66,7 @@ grow() {
 if [ $# -gt 0 ]; then
     measure "$1"
 else
-    "$target/bench" differ 1000000
-    for list in shapes middle plain; do
+    for list in shapes middle plain nine unusual; do
         "$target/bench" "$list" 100000 >"$target/$list.txt"
         echo "== $list"
         measure "$target/$list.txt"

@@ -1,6 +1,6 @@
 #!/usr/bin/env python3
-"""Whether all who declare the C interface declare the same: crates/langtag_c, which defines it, the header, and the Rust
-and Python bindings. It compares names, types and order of parameters, and the members of the structs; and it asks that
+"""Whether all who declare the C interface declare the same: crates/langtag_c, which defines it, the header, and the
+Python binding. It compares names, types and order of parameters, and the members of the structs; and it asks that
 the header says LANGTAG_PURE of each function that writes nothing and answers something, and of no other. What the
 numbers mean is not compared: the tests of each language hold its constants against the library.
 
@@ -41,7 +41,7 @@ def without_comments(text: str) -> str:
 
 
 def pairs(text: str) -> list[tuple[str, str]]:
-    """`name: type` of a list of parameters or fields in Rust and Rattle."""
+    """`name: type` of a list of parameters or fields in Rattle and Rust."""
     return [(name, kind.strip()) for name, kind in re.findall(r"(?:pub )?(\w+)\s*:\s*([^,]+)", text)]
 
 
@@ -63,10 +63,10 @@ def of_crate(root: pathlib.Path) -> Interface:
             else:
                 found.append((INTEGERS[kind], parameter))
         functions[name] = Function(INTEGERS[result], found)
-    return Interface(functions, rust_structs(source))
+    return Interface(functions, structs_of(source))
 
 
-def rust_structs(source: str) -> dict[str, list[Member]]:
+def structs_of(source: str) -> dict[str, list[Member]]:
     types = INTEGERS | STRUCTS
     found = re.findall(r"#\[repr\(C\)\][^{]*struct (\w+) \{(.*?)\}", source, flags=re.S)
     return {STRUCTS[name]: [(types[kind], field) for field, kind in pairs(body)] for name, body in found}
@@ -89,14 +89,16 @@ def of_header(root: pathlib.Path) -> Interface:
     return Interface(functions, structs)
 
 
-def of_rust(root: pathlib.Path) -> Interface:
-    source = without_comments((root / "bindings/rust/src/ffi.rs").read_text())
+def of_exports(root: pathlib.Path) -> Interface:
+    """Reads what the C library by cargo exports, and the structs of the erased crate behind it."""
+    source = without_comments((root / "rust/c/src/exports.rs").read_text())
     types = INTEGERS | {"*const u8": "const char *", "*mut u8": "char *", "*const Span": "const langtag_span *"}
     types |= {f"*mut {name}": f"{in_c} *" for name, in_c in (STRUCTS | {"u32": "uint32_t", "usize": "size_t"}).items()}
     functions = {}
-    for name, parameters, result in re.findall(r"fn (langtag_\w+)\(([^)]*)\)(?: -> (\w+))?;", source):
+    for name, parameters, result in re.findall(r'#\[no_mangle\]\npub (?:unsafe )?extern "C" fn (\w+)\(([^)]*)\)(?: -> (\w+))?', source):
         functions[name] = Function(types[result], [(types[kind], parameter) for parameter, kind in pairs(parameters)])
-    return Interface(functions, rust_structs(source))
+    calls = sorted((root / "rust/c/src/calls").glob("*.rs"))
+    return Interface(functions, structs_of(without_comments("\n".join(path.read_text() for path in calls))))
 
 
 def of_python(root: pathlib.Path) -> Interface:
@@ -151,7 +153,8 @@ def wrongly_pure(functions: dict[str, Function], source: str) -> list[str]:
 
 # Where the version and the number of the ABI stand: a file, and what stands around them.
 VERSIONS = [
-    ("bindings/rust/Cargo.toml", r'^version = "([0-9.]+)"'), ("bindings/rust/serde/Cargo.toml", r'^version = "([0-9.]+)"'),
+    ("rust/Cargo.toml", r'^version = "([0-9.]+)"'),
+    ("rust/c/Cargo.toml", r'^version = "([0-9.]+)"'),
     ("bindings/python/pyproject.toml", r'^version = "([0-9.]+)"'),
     ("bindings/python/langtag/__init__.py", r'^__version__ = "([0-9.]+)"'),
 ]
@@ -162,7 +165,7 @@ NUMBERS = [
 
 # Where the registry's date stands, and the files that take it from the library and have no copy of it.
 DATED = "crates/langtag_registry/src/tables.rt"
-UNDATED = ["crates/langtag_c/src", "rows", "bindings/include", "bindings/rust/src", "bindings/python/langtag", "bindings/python/native"]
+UNDATED = ["crates/langtag_c/src", "rows", "bindings/include", "bindings/python/langtag", "bindings/python/native"]
 
 
 def registry_date(root: pathlib.Path) -> str:
@@ -204,11 +207,11 @@ def main(root: pathlib.Path) -> int:
     if not crate.functions or not crate.structs:
         print("no functions, or no structs, were found in the crate")
         return 1
-    others = (("the header", of_header), ("ffi.rs", of_rust), ("langtag", of_python))
+    others = (("the header", of_header), ("exports.rs", of_exports), ("langtag", of_python))
     found = [line for where, read in others for line in differences(where, crate, read(root))]
     found += wrongly_pure(crate.functions, header(root)) + wrong_numbers(root) + copied_dates(root)
     count = f"{len(crate.functions)} functions and {len(crate.structs)} structs"
-    print("\n".join(found) or f"{count}: crate, header, ffi.rs and langtag agree")
+    print("\n".join(found) or f"{count}: crate, header, exports.rs and langtag agree")
     return 1 if found else 0
 
 

@@ -1,5 +1,5 @@
 """The README of each package: sections of docs/BINDINGS.md that its users need, below a head and above the licences. Run by
-itself it prints one: python3 readmes.py rust"""
+itself it prints one: python3 readmes.py c"""
 from __future__ import annotations
 
 import pathlib
@@ -14,14 +14,13 @@ HEADER, ORDER, KEPT = "Which language a request gets", "Order", "What the caller
 PACKAGES = {
     "c": ("langtag for C and C++", ["C and C++", HEADER, ORDER, KEPT]),
     "python": ("langtag for Python", ["Python", HEADER, ORDER]),
-    "rust": ("langtag for Rust", ["Rust", HEADER, ORDER, KEPT, "The Rust crate, and langtag 0.4.0"]),
     "js": ("langtag for JavaScript", ["JavaScript", HEADER, "The JavaScript package, and Intl.Locale"]),
     "postgresql": ("langtag for PostgreSQL", ["PostgreSQL", HEADER]),
 }
 LICENCES = """## Licence
 
-Apache License 2.0 or MIT license, at your option; the likely subtags are Unicode's. PROVED.txt names the proved archive in this
-package, and what proved it."""
+Apache License 2.0 or MIT license, at your option; the likely subtags are Unicode's. PROVED.txt says what is proved of this package,
+and what proved it."""
 
 
 def description() -> str:

@@ -14,12 +14,13 @@ import unittest
 import check_declarations
 
 ROOT = pathlib.Path(sys.argv[1] if sys.argv[1:] else pathlib.Path(__file__).parent.parent).resolve()
-HEADER, RUST, PYTHON = "bindings/include/langtag.h", "bindings/rust/src/ffi.rs", "bindings/python/langtag/_ctypes.py"
+HEADER, PYTHON = "bindings/include/langtag.h", "bindings/python/langtag/_ctypes.py"
 MODULE = "bindings/python/langtag/__init__.py"
 CRATE = "crates/langtag_c/src"
+EXPORTS, CALLS = "rust/c/src/exports.rs", "rust/c/src/calls"
 NUMBERED = check_declarations.VERSIONS + check_declarations.NUMBERS
 DATE = check_declarations.registry_date(ROOT)
-FILES = {HEADER, RUST, PYTHON, MODULE, check_declarations.DATED, "rows/table.txt", *(name for name, _ in NUMBERED)}
+FILES = {HEADER, EXPORTS, PYTHON, MODULE, check_declarations.DATED, "rows/table.txt", *(name for name, _ in NUMBERED)}
 
 # A file, a text that stands in it, what is put in its place, and what the message has to name.
 PLANTED = [
@@ -32,30 +33,28 @@ PLANTED = [
     (HEADER, "\nuint32_t langtag_parse(", "\nLANGTAG_PURE uint32_t langtag_parse(", "langtag_parse"),
     (HEADER, "\nvoid langtag_recommend(", "\nLANGTAG_PURE void langtag_recommend(", "langtag_recommend"),
     (HEADER, "\nLANGTAG_PURE bool langtag_eq(", "\nbool langtag_eq(", "langtag_eq"),
-    (RUST, "langtag_hash(state: u64", "langtag_hash(state: u32", "langtag_hash"),
-    (RUST, "extension: *mut Span", "extension: *mut Parts", "langtag_next_extension"),
-    (RUST, "    extensions: Span,\n    private_use: Span,", "    private_use: Span,\n    extensions: Span,", "langtag_parts"),
-    (RUST, "pub fn langtag_stop(bytes: *const u8, len: usize) -> usize;", "", "langtag_stop"),
-    (RUST, "    variant: Span,\n", "", "langtag_repeated"),
+    (EXPORTS, "langtag_hash(state: u64", "langtag_hash(state: u32", "langtag_hash"),
+    (EXPORTS, "extension: *mut Span", "extension: *mut Parts", "langtag_next_extension"),
+    (EXPORTS, "langtag_kind(bytes: *const u8, len: usize)", "langtag_kind(len: usize, bytes: *const u8)", "langtag_kind"),
+    (EXPORTS, '#[no_mangle]\npub extern "C" fn langtag_cldr_version', 'pub extern "C" fn langtag_cldr_version', "langtag_cldr_version"),
+    (CALLS, "pub variant: Span", "pub variants: Span", "langtag_repeated"),
     (PYTHON, '"langtag_cmp": (c_int32,', '"langtag_cmp": (c_uint32,', "langtag_cmp"),
     (PYTHON, "c_size_t, POINTER(_Repeated))", "c_size_t)", "langtag_repeats"),
     (PYTHON, '"langtag_canonical": (c_size_t, c_char_p, c_size_t, POINTER(c_char),',
      '"langtag_canonical": (c_size_t, c_char_p, c_size_t, c_char_p,', "langtag_canonical"),
-    (RUST, "langtag_canonical(\n            bytes: *const u8,\n            len: usize,",
-     "langtag_canonical(\n            len: usize,\n            bytes: *const u8,", "langtag_canonical"),
     (PYTHON, '[("start", c_size_t), ("len", c_size_t)]', '[("start", c_size_t), ("len", c_uint32)]', "langtag_span"),
     (PYTHON, '    "langtag_fold": (None,', '    "langtag_folds": (None,', "langtag_folds"),
     (HEADER, "__attribute__((pure,", "__attribute__((const,", "LANGTAG_PURE"),
     (HEADER, "0 en-GB-oed    1 i-ami ", "1 en-GB-oed    0 i-ami ", "grandfathered"),
     (HEADER, "LANGTAG_ABI_VERSION 1", "LANGTAG_ABI_VERSION 2", "LANGTAG_ABI_VERSION"),
     ("bindings/c/Makefile", "soname,$(NAME).so.1", "soname,$(NAME).so.2", "Makefile"),
-    ("bindings/rust/Cargo.toml", 'version = "0.1.0"', 'version = "0.1.1"', "Cargo.toml"),
+    ("rust/Cargo.toml", 'version = "0.1.0"', 'version = "0.1.1"', "Cargo.toml"),
+    ("rust/c/Cargo.toml", 'version = "0.1.0"', 'version = "0.1.1"', "rust/c/Cargo.toml"),
     (MODULE, '__version__ = "0.1.0"', '__version__ = "0.2.0"', "LANGTAG_VERSION"),
     (HEADER, "uint32_t langtag_registry_date(void);", "uint64_t langtag_registry_date(void);", "langtag_registry_date"),
     (HEADER, "uint32_t langtag_registry_date(void);", "uint32_t langtag_registry_date(uint32_t kind);", "langtag_registry_date"),
     (HEADER, "year,\n * month and day", f"{DATE}, year,\n * month and day", DATE),
     (MODULE, "REGISTRY_DATE = _registry_date()", f'REGISTRY_DATE = "{DATE}"', DATE),
-    (RUST, "pub fn langtag_registry_date() -> u32;", f"pub fn langtag_registry_date() -> u32; // {DATE.replace('-', '')}", DATE),
     (check_declarations.DATED, "pub const FILE_DATE", "pub const DATE", "the registry's date"),
     (CRATE, "fn langtag_eq(a: &[u8], b: &[u8])", "fn langtag_eq(b: &[u8], a: &[u8])", "langtag_eq"),
     (CRATE, "pub singleton: Span", "pub singletons: Span", "langtag_repeated"),
@@ -63,7 +62,7 @@ PLANTED = [
 
 
 def plant(path: pathlib.Path, old: str, new: str) -> None:
-    files = sorted(path.rglob("*.rt")) if path.is_dir() else [path]
+    files = sorted(path.rglob("*.r[st]")) if path.is_dir() else [path]
     holders = [file for file in files if old in file.read_text()]
     if len(holders) != 1:
         raise ValueError(f"{old!r} stands in {len(holders)} files of {path}")
@@ -84,7 +83,8 @@ class Planted(unittest.TestCase):
                 for name in FILES:
                     (copy / name).parent.mkdir(parents=True, exist_ok=True)
                     shutil.copy(ROOT / name, copy / name)
-                shutil.copytree(ROOT / CRATE, copy / CRATE)
+                for name in (CRATE, CALLS):
+                    shutil.copytree(ROOT / name, copy / name)
                 plant(copy / where, old, new)
                 status, said = outcome(copy)
                 self.assertEqual(status, 1)

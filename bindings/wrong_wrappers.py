@@ -1,6 +1,6 @@
 #!/usr/bin/env python3
-"""Whether wrong wrappers are refused: plants one fault after the other into the C header, langtag.hpp, the Rust crate, the
-Python module, the JavaScript package and the extension of SQLite, builds what comes of it, and lets the tests of that language ask the rows.
+"""Whether wrong wrappers are refused: plants one fault after the other into the C header, langtag.hpp, what the Rust crate
+has by hand, the Python module, the JavaScript package and the extension of SQLite, builds what comes of it, and lets the tests of that language ask the rows.
 
     wrong_wrappers.py LIBRARIES [LANGUAGE..]    LIBRARIES has liblangtag_verified.a and liblangtag_verified.so.1
 
@@ -12,6 +12,7 @@ from __future__ import annotations
 import concurrent.futures
 import os
 import pathlib
+import queue
 import shutil
 import subprocess
 import sys
@@ -20,6 +21,7 @@ from typing import NamedTuple
 
 HERE = pathlib.Path(__file__).resolve().parent
 ROWS = HERE.parent / "rows"
+RUST = HERE.parent / "rust"
 H, HPP, SQL, PY = "include/langtag.h", "include/langtag.hpp", "examples/sqlite_langtag.c", "python/langtag/__init__.py"
 CT, NATIVE = "python/langtag/_ctypes.py", "python/native/"
 JS, CALLS = "js/index.js", "js/calls.js"
@@ -44,8 +46,9 @@ def swapped(file: str, one: str, other: str, test: str | None = None) -> Fault:
     return Fault(file, one + between + other, other + between + one, test=test)
 
 
-def rust(file: str, old: str, new: str, test: str = "table") -> Fault:
-    return Fault(f"rust/src/{file}.rs", old, new, test=test)
+def rust(file: str, old: str, new: str, test: str = "owned") -> Fault:
+    """One in a file that is written by hand: rust/checker compares the others with their sources."""
+    return Fault(f"../rust/src/{file}.rs", old, new, "FAILED", test)
 
 
 def js(file: str, old: str, new: str, says: str) -> Fault:
@@ -97,33 +100,33 @@ FAULTS = {
         Fault(HPP, "best_for_header(header_, ", "best_for_header(header_.substr(0, header_.find(',')), "),
     ],
     "Rust": [
-        rust("invalid_subtag", "offset: self.offset,", "offset: 0,"),
-        rust("invalid_subtag", "fault: self.fault,", "fault: SubtagFault::Language,"),
-        rust("invalid_subtag", "5 => SubtagFault::Script,\n            6 => SubtagFault::Region",
-             "6 => SubtagFault::Script,\n            5 => SubtagFault::Region"),
-        rust("invalid_subtag", '("variant", "is repeated")', '("variant", "is not registered")'),
-        rust("lang_tag", "InvalidSubtag::of(self.as_str()).map_or(Ok(()), Err)", "Ok(())"),
-        rust("lang_tag_buf", "self.as_lang_tag().$name(", "LangTag::new(\"de\").unwrap().$name("),
-        rust("ffi", "before + usize::from(before < end)", "before"),
-        rust("ffi", "    Script,\n    Region,\n", "    Region,\n    Script,\n", "edits"),
-        rust("language_range", "filter::matches_extended(self.text, tag", "filter::matches_basic(self.text, tag"),
-        rust("filter", "tag.len() == 1 || ", ""),
-        rust("filter", "[] | [b'-', ..]", "[..]"),
-        rust("language_range_buf", "self.as_language_range().matches_basic(", "self.as_language_range().matches_extended("),
-        rust("canonical", "&mut form);\n", "&mut form);\n        form.truncate(514);\n"),
-        rust("caseless", "        ffi::fold(folded);\n", ""),
-        rust("error", "index: self.index,\n            offset: self.offset,",
-             "index: self.offset,\n            offset: self.index,", "negotiation"),
-        rust("error", "EditError::InvalidPart(text) => EditError::InvalidPart(text.into()),",
-             "EditError::InvalidPart(_) => EditError::NotNormal,", "edits"),
-        rust("error", '"element {} has a bad {}", self.index', '"element {} has a bad {}", self.offset', "negotiation"),
-        swapped("rust/src/error.rs", '"language range"', '"weight"', test="negotiation"),
-        rust("edit", 'text == Some("") && self.kind() == Kind::Normal', "false", "edits"),
-        rust("accept_language", "Element::Range(text, weight) if weight > 0", "Element::Range(text, weight)", "negotiation"),
-        rust("look_up", 'filter(|subtag| *subtag != "*")', "filter(|subtag| !subtag.is_empty())", "negotiation"),
-        Fault("rust/src/likely.rs", 'range.replace("-*", "").into()', "range.into()", "left", "likely"),
-        Fault("rust/src/likely.rs", "contains([',', ';'])", "contains(',')", "left", "likely"),
-        rust("likely", 'elements.join(",")', 'elements.join(" ")', "likely"),
+        rust("text", "case_insensitive_eq(self.as_str().as_bytes(), other.as_bytes())", "self.as_str().as_bytes() == other.as_bytes()"),
+        rust("text", "$name::new(text).map_err(|_| $error(bytes))", "$name::new(text.trim()).map_err(|_| $error(bytes))", "habits"),
+        rust("text", "core::str::from_utf8(bytes).map_err(|_| $error(bytes))?", 'core::str::from_utf8(bytes).unwrap_or("und")', "habits"),
+        rust("text", "Ok(lent) => Ok(lent.to_owned()),", "Ok(lent) => Ok($owned::new(lent.to_ascii_lowercase()).unwrap()),"),
+        rust("text", "self.$lend() == *other", "self.as_str() == other.as_str()"),
+        rust("text", "*self == other.$lend()", "self.as_str() == other.as_str()"),
+        rust("text", "self.$lend().partial_cmp(other)", "self.as_str().partial_cmp(other.as_str())"),
+        rust("text", "self.partial_cmp(&other.$lend())", "self.as_str().partial_cmp(other.as_str())"),
+        rust("text", "self.unwrap() == *other", "self.unwrap() != *other"),
+        rust("text", "self.into_string().into_bytes()", "self.to_ascii_lowercase().into_bytes()"),
+        rust("lent", "self.$lend().$call($($argument)?)", '$name::try_from("zh").unwrap().$call($($argument)?)'),
+        rust("caseless_text", "case_insensitive_eq(self.text().as_bytes(), other.text().as_bytes())", "self.text() == other.text()", "habits"),
+        rust("caseless_text", "case_insensitive_cmp(self.text().as_bytes(), other.text().as_bytes())", "self.text().cmp(other.text())", "habits"),
+        rust("caseless_text", "case_insensitive_hash(self.text().as_bytes(), state)", "self.text().hash(state)", "habits"),
+        rust("invalid", "self.0 == other.0", "true"),
+        rust("invalid", "$error(self.0.into())", "$error(Default::default())"),
+        rust("invalid", "RefusalKind::Subtag if subtag.is_empty()", "RefusalKind::End if subtag.is_empty()", "habits"),
+        rust("walks", "self.iter()", "{ let mut walk = self.iter(); walk.next(); walk }", "habits"),
+        rust("oxilangtag", "Some(normal) if !read.is_grandfathered() =>", "Some(normal) =>", "oxilangtag"),
+        rust("oxilangtag", "Some(&*self.tag).filter(|tag| begins_private_use(tag))", "None", "oxilangtag"),
+        rust("oxilangtag", "tag.make_recommended_case();", "", "oxilangtag"),
+        rust("bin/langtag/answers", "true => range.matches_basic(&tag)", "true => range.matches_extended(&tag)", "program"),
+        rust("bin/langtag/answers", "answer.good = best.is_some();", "answer.good = true;", "program"),
+        rust("bin/langtag/answers", '("repeated-variant", subtag', '("variant", subtag', "program"),
+        rust("bin/langtag/pointer", "refusal.offset..refusal.offset + 1", "refusal.start..refusal.end", "program"),
+        rust("bin/langtag/input", 'line.strip_suffix(b"\\n").unwrap_or(&line)', "line.trim_ascii_end()", "program"),
+        rust("bin/langtag/input", "if input.buffer().is_empty() {", "if false {", "program"),
     ],
     "Python": [
         Fault(PY, '"second-extlang", "script", "region"', '"second-extlang", "region", "script"'),
@@ -229,12 +232,9 @@ FAULTS = {
 
 # How the tests of a language are built and run, in a copy of bindings/.
 ASKED = '$(make -s -C c ROWS="$ROWS" asked)'
-RUSTC = "rustc --edition 2021 -A warnings --cfg 'feature=\"alloc\"' -L native=$LIBRARIES"
 BUILD = {
     "C": "cc -w -std=c11 -Iinclude c/test/*.c examples/accept_language.c $LIBRARIES/liblangtag_verified.a -o test",
     "C++": "c++ -w -std=c++17 -Iinclude c/test/rows.cc $LIBRARIES/liblangtag_verified.a -o test",
-    "Rust": f"{RUSTC} --crate-name langtag_verified --crate-type rlib -l static=langtag_verified rust/src/lib.rs"
-            f" -o liblangtag.rlib && {RUSTC} --extern langtag_verified=liblangtag.rlib --test rust/tests/$TEST.rs -o test",
     "Python": "true",
     "Python's C": "python/native/compile $LIBRARIES/liblangtag_verified.a python/langtag/_native.abi3.so $PYTHON",
     "JavaScript": "true",
@@ -244,13 +244,12 @@ BUILD = {
 RUN = {
     "C": f"./test {ASKED}",
     "C++": f"./test {ASKED}",
-    "Rust": "./test answers",
     "Python": "cd python && python3 -m unittest $TEST",
     "Python's C": "cd python && env -u LANGTAG_LIBRARY python3 -m unittest $TEST",
     "JavaScript": "node --test js/test/$TEST.test.js",
     "SQLite": "PYTHONPATH=python python3 examples/test_sqlite.py ./sqlite_langtag.so",
 }
-TESTS = {"Rust": ["table", "edits", "negotiation", "likely"], "Python": ["test_rows", "test_langtag.Memory", "test_langtag.Negotiation"], "JavaScript": ["rows", "langtag"],
+TESTS = {"Python": ["test_rows", "test_langtag.Memory", "test_langtag.Negotiation"], "JavaScript": ["rows", "langtag"],
          "Python's C": ["test_rows", "test_langtag.Memory", "test_langtag.Negotiation"]}
 
 
@@ -267,7 +266,7 @@ def asked(libraries: pathlib.Path, language: str, fault: Fault | None, test: str
                 return "the text is not there"
             (copy / fault.file).write_text(text.replace(fault.old, fault.new, 1))
         environment = {**os.environ, "LIBRARIES": str(libraries), "PYTHON": os.environ.get("PYTHON", ""), "ROWS": str(ROWS), "TEST": test,
-                       "PYTHONDONTWRITEBYTECODE": "1", "CARGO_MANIFEST_DIR": str(copy / "rust"),
+                       "PYTHONDONTWRITEBYTECODE": "1",
                        "LANGTAG_LIBRARY": str(libraries / "liblangtag_verified.so.1")}
         environment.pop("LANGTAG_ANSWERS", None)
 
@@ -286,15 +285,75 @@ def asked(libraries: pathlib.Path, language: str, fault: Fault | None, test: str
         return None if fault.says in run.stdout else f"is refused, and not by {fault.says!r}: {run.stdout[-2000:]}"
 
 
+class RustCopies:
+    """Copies of the Rust crate, each with what it was built to: a fault has cargo build little anew."""
+
+    def __init__(self, count: int):
+        self.free: queue.Queue[pathlib.Path] = queue.Queue()
+        for _ in range(count):
+            folder = pathlib.Path(tempfile.mkdtemp())
+            shutil.copytree(RUST, folder / "rust", ignore=shutil.ignore_patterns("target", "erase", "checker", "peers"))
+            (folder / "rows").symlink_to(ROWS)
+            self.free.put(folder)
+
+    def cargo(self, folder: pathlib.Path, test: str, *more: str) -> subprocess.CompletedProcess[str]:
+        environment = {**os.environ, "CARGO_TARGET_DIR": str(folder / "target"), "RUSTFLAGS": "-Awarnings -Cdebuginfo=0"}
+        environment.pop("LANGTAG_ANSWERS", None)
+        return subprocess.run(["cargo", "test", "-q", "--offline", "--features", "oxilangtag", "--test", test, *more], text=True,
+                              cwd=folder / "rust", env=environment, stdout=subprocess.PIPE, stderr=subprocess.STDOUT)
+
+    def asked(self, fault: Fault | None, test: str) -> str | None:
+        """What goes against the expectation, if anything does."""
+        folder = self.free.get()
+        path = folder / "rust" / fault.file.removeprefix("../rust/") if fault else folder
+        text = path.read_text() if fault else ""
+        try:
+            if fault and fault.old not in text:
+                return "the text is not there"
+            if fault:
+                path.write_text(text.replace(fault.old, fault.new, 1))
+            built = self.cargo(folder, test, "--no-run")
+            if built.returncode != 0:
+                return f"does not build: {built.stdout[-2000:]}"
+            run = self.cargo(folder, test)
+            if not fault:
+                return None if run.returncode == 0 else f"is refused without a fault: {run.stdout[-2000:]}"
+            return "PASSES" if run.returncode == 0 else None if fault.says in run.stdout else f"is refused otherwise: {run.stdout[-2000:]}"
+        finally:
+            if fault:
+                path.write_text(text)
+            self.free.put(folder)
+
+    def remove(self) -> None:
+        while not self.free.empty():
+            shutil.rmtree(self.free.get())
+
+
+def rust_asked() -> list[tuple[Fault | None, str | None]]:
+    """Each fault of the Rust crate, with what goes against the expectation."""
+    copies = RustCopies(min(3, os.cpu_count() or 1))
+    try:
+        faults = FAULTS["Rust"]
+        wanted = [(None, test) for test in sorted({fault.test or "" for fault in faults})] + [(fault, fault.test or "") for fault in faults]
+        with concurrent.futures.ThreadPoolExecutor(copies.free.qsize()) as pool:
+            return list(zip([fault for fault, _ in wanted], pool.map(lambda it: copies.asked(*it), wanted)))
+    finally:
+        copies.remove()
+
+
 def main(libraries: pathlib.Path, languages: list[str]) -> int:
     wanted: list[tuple[str, Fault | None, str]] = []
     for language in languages or FAULTS:
+        if language == "Rust":
+            continue
         tests = TESTS.get(language, [""])
         wanted += [(language, None, test) for test in tests]
         wanted += [(language, fault, fault.test or tests[0]) for fault in FAULTS[language]]
     with concurrent.futures.ThreadPoolExecutor(os.cpu_count()) as pool:
         found = list(pool.map(lambda it: asked(libraries, *it), wanted))
     bad = [(it, what) for it, what in zip(wanted, found) if what]
+    if "Rust" in (languages or FAULTS):
+        bad += [(("Rust", fault, ""), what) for fault, what in rust_asked() if what]
     for (language, fault, _), what in bad:
         print(f"{language}: {fault.file if fault else 'no fault'}: {fault.new if fault else ''!r}\n  {what}")
     counts = ", ".join(f"{language} {len(FAULTS[language])}" for language in languages or FAULTS)

@@ -1,27 +1,40 @@
 #!/usr/bin/env python3
-"""Writes the tables and the lists of the crate langtag_likely from Unicode's CLDR, whose likely subtags and whose data of language
-matching are in data/.
+"""Writes the tables and the lists of the crate langtag_likely from Unicode's CLDR, whose likely subtags and
+whose data of language matching are in data/ (from_cldr.py writes them).
 
-usage: generate.py [--check]
+usage: generate.py                        writes them from the data whose checksums stand in data.sha256
+       generate.py --accept [LANGUAGE..]  writes them from newer data, and their checksums; these languages may lose their rows
+       generate.py --check                writes nothing, and names what is not as it should be: data by their checksums, a file
+                                          that would be written otherwise, a list that oracle.py's reading has otherwise
 
-With --check nothing is written: each file that differs from what the data give is named, and each list of specs/ that a second
-reading of the data has otherwise (lists.py), and the status is then 1. Either way each premise on which a proof rests is tested
-first, and a row that breaks one is named. The data of another version have another checksum, which is to be put in here with its
-version.
+Data that break what the crate rests on are refused: the row that does is named, nothing is written, and the status is 1. So are
+newer data in which a language has lost its row, unless it is one of LANGUAGE or an alias that is followed (`matching.ALIASES`).
 """
+from __future__ import annotations
+
 import hashlib
+import itertools
 import pathlib
+import re
 import sys
 
 import lists as second_reading
-from matching import Matching, folded_number, letter_number
+from matching import ALIASES, Matching, folded_number, letter_number
 
 HERE = pathlib.Path(__file__).resolve().parent
 DATA = HERE / "data"
+CHECKSUMS = HERE / "data.sha256"
 CRATE = HERE.parent / "crates" / "langtag_likely"
+MODULE = HERE.parent / "bindings" / "postgresql" / "cldr_version.mk"
 
-CLDR_VERSION = "41"
-CHECKSUM = "c42a653b54ded36f191e59849ad29c0ca643cbb8a77b09f80b3d1c4b134060c0"
+# The variants of Arab and Syrc that have codes of their own (ISO 15924). The data do not name them.
+SCRIPT_VARIANTS = ["Aran", "Syre", "Syrj", "Syrn"]
+
+# What a byte tells apart; a key of other_rows has room for so many scripts, and one more for each that is not known.
+MOST_NAMES, MOST_SCRIPTS = 256, 254
+
+# The number of `aa`, at the first bit, and how many words the bits up to that of `zzz` fill.
+FIRST_LANGUAGE, WORDS = 27, 286
 
 EMPTY = "-"
 
@@ -30,11 +43,18 @@ def read(name):
     return [line.split() for line in (DATA / name).read_text(encoding="utf-8").splitlines() if not line.startswith("#")]
 
 
-def checksum():
-    sums = hashlib.sha256()
-    for path in sorted(DATA.glob("*.txt")):
-        sums.update(path.read_bytes())
-    return sums.hexdigest()
+def version():
+    """The version of CLDR that the head of each file of the data names."""
+    found = {path.name: re.search(r"^# From Unicode CLDR ([0-9.]+) ", path.read_text(encoding="utf-8"), re.M) for path in DATA.glob("*.txt")}
+    versions = {name: said[1] if said else "none" for name, said in found.items()}
+    if len(set(versions.values())) != 1 or "none" in versions.values():
+        sys.exit(f"the heads of the data do not name one version of CLDR: {versions}")
+    return next(iter(versions.values()))
+
+
+def checksums():
+    """The lines of sha256sum, by which `sha256sum -c` in data/ tests the files, too."""
+    return "".join(f"{hashlib.sha256(path.read_bytes()).hexdigest()}  {path.name}\n" for path in sorted(DATA.glob("*.txt")))
 
 
 def given(text):
@@ -72,19 +92,21 @@ class Likely:
         each("a script has four letters", lambda row: all(not text or len(text) == 4 and text.isalpha() for text in (row[1], row[4])))
         each("a region has two letters or three digits", lambda row: all(not text or len(text) == 2 and text.isalpha() or len(text) == 3 and text.isdigit() for text in (row[2], row[5])))
         each("the right side has a script other than Zzzz", lambda row: row[4] not in ("", "Zzzz"))
-        each("the right side has a region", lambda row: row[5] != "")
+        each("the right side has a region other than ZZ", lambda row: row[5] not in ("", "ZZ"))
         each("the left side has no Zzzz and no ZZ", lambda row: row[1] != "Zzzz" and row[2] != "ZZ")
         each("the right side keeps the language", lambda row: row[0] in ("", row[3]))
         alone = {row[0] for row in self.of_languages}
-        special = {row[0] for row in self.others} - {""}
         each("the language of a right side is a left side", lambda row: not row[3] or row[3] in alone)
-        each("ZZ is the region of a language alone", lambda row: row[5] != "ZZ", self.others)
-        each("a language of ZZ has no other row", lambda row: row[5] != "ZZ" or row[0] not in special, self.of_languages)
         keys = {row[:3] for row in rows}
         each("a right side without a language is its own", lambda row: row[3] or row[3:] == row[:3] or not {("", row[4], row[5]), ("", row[4], "")} & (keys - {row[:3]})
              or row[3:] in [other[3:] for other in rows if other[:3] == ("", row[4], row[5])])
-        if max(len(self.scripts), len(self.regions), len(self.languages)) > 256:
-            sys.exit("more names than a byte tells")
+        for what, names, most, remedy in (
+            ("scripts", self.scripts, MOST_SCRIPTS, "give key_number more than nine bits for the region and the script's place"),
+            ("regions", self.regions, MOST_NAMES, "make LANGUAGE_REGIONS, OTHER_REGIONS and name_in's column u16"),
+            ("languages of right sides", self.languages, MOST_NAMES, "make OTHER_LANGUAGES, and a twin of name_in for it, u16"),
+        ):
+            if len(names) > most:
+                sys.exit(f"likely.txt: {len(names)} {what}, and the tables have room for {most}: {remedy}")
 
 
 def in_lines(items, width=116):
@@ -110,31 +132,47 @@ def names(name, doc, texts):
     return table(name, doc, "[u8; 4]", ['*b"' + text + "\\0" * (4 - len(text)) + '"' for text in texts])
 
 
+def bits(numbers):
+    """A bit for each number from FIRST_LANGUAGE on, in words, from the lowest bit of the first word on."""
+    words = [0] * WORDS
+    for number in numbers:
+        words[(number - FIRST_LANGUAGE) // 64] |= 1 << (number - FIRST_LANGUAGE) % 64
+    return words
+
+
+def right_to_left_scripts():
+    return [row[0] for row in read("right-to-left.txt")] + SCRIPT_VARIANTS
+
+
 def tables(likely):
+    language_bits = bits(letter_number(row[0]) for row in likely.of_languages)
     script = lambda row: likely.scripts.index(row[4])
     region = lambda row: likely.regions.index(row[5])
     return "\n".join([
-        f"//! Unicode's CLDR {CLDR_VERSION} in tables (the notice: likely/LICENSE-UNICODE). Written by likely/generate.py. Do not edit.\n",
-        "/// The version of Unicode's CLDR that this crate has.\n" f'pub const CLDR_VERSION: &str = "{CLDR_VERSION}";\n',
+        f"//! Unicode's CLDR {version()} in tables (the notice: likely/LICENSE-UNICODE). Written by likely/generate.py. Do not edit.\n",
+        f"/// The major version of the Unicode CLDR that this crate has, which is {version()}.\n" f'pub const CLDR_VERSION: &str = "{major_version()}";\n',
         numbers("SCRIPT_KEYS", "The scripts: their lowercase bytes as the digits of a number, in rising order.", 32, map(folded_number, likely.scripts)),
         names("SCRIPT_NAMES", "The same scripts.", likely.scripts),
         numbers("REGION_KEYS", "The regions: their lowercase bytes as the digits of a number, in rising order.", 32, map(folded_number, likely.regions)),
         names("REGION_NAMES", "The same regions.", likely.regions),
         names("LANGUAGE_NAMES", "No language, and then those that are likely where none is known.", likely.languages),
-        numbers("LANGUAGE_KEYS", "The languages with likely subtags: their letters as the digits of a number, in rising order.", 16,
-                [letter_number(row[0]) for row in likely.of_languages]),
-        numbers("LANGUAGE_SCRIPTS", "Where the script of each of them stands.", 8, map(script, likely.of_languages)),
+        numbers("LANGUAGE_BITS", "The languages with likely subtags: a bit for each text of two letters and then of three, in the order of the alphabet,\n"
+                "/// from the lowest bit of the first word on.", 64, language_bits),
+        numbers("LANGUAGE_ENDS", "How many bits are set up to the end of each word.", 16,
+                itertools.accumulate(word.bit_count() for word in language_bits)),
+        numbers("LANGUAGE_SCRIPTS", "Where the script of each of these languages stands.", 8, map(script, likely.of_languages)),
         numbers("LANGUAGE_REGIONS", "Where the region of each of them stands.", 8, map(region, likely.of_languages)),
         numbers("OTHER_KEYS", "The other left sides, in rising order: language, script and region as one number.", 32, map(likely.key, likely.others)),
         numbers("OTHER_LANGUAGES", "Where the language of the right side of each of them stands.", 8, [likely.languages.index(row[3]) for row in likely.others]),
         numbers("OTHER_SCRIPTS", "Where the script of each of them stands.", 8, map(script, likely.others)),
         numbers("OTHER_REGIONS", "Where the region of each of them stands.", 8, map(region, likely.others)),
+        names("RIGHT_TO_LEFT_SCRIPTS", "The scripts that are written from right to left, and the variants of two of them (ISO 15924).", right_to_left_scripts()),
     ])
 
 
 def matching_tables(matching):
     return "\n".join([
-        f"//! What Unicode's CLDR {CLDR_VERSION} says of language matching, in tables (the notice: likely/LICENSE-UNICODE). Written by likely/generate.py. Do not edit.\n",
+        f"//! What Unicode's CLDR {version()} says of language matching, in tables (the notice: likely/LICENSE-UNICODE). Written by likely/generate.py. Do not edit.\n",
         numbers("ALIAS_KEYS", "The languages that are replaced: their letters as the digits of a number, in rising order.", 16, [letter_number(row[0]) for row in matching.aliases]),
         names("ALIAS_LANGUAGES", "What each of them becomes.", [row[1] for row in matching.aliases]),
         names("ALIAS_SCRIPTS", "The script that this brings.", [row[2] for row in matching.aliases]),
@@ -168,7 +206,7 @@ def matching_lists(matching):
     def fields(*texts):
         return " ".join(text or EMPTY for text in texts)
     return "\n".join([
-        f"-- What Unicode's CLDR {CLDR_VERSION} says of language matching (the notice: likely/LICENSE-UNICODE). Written by likely/generate.py. Do not edit.\n"
+        f"-- What Unicode's CLDR {version()} says of language matching (the notice: likely/LICENSE-UNICODE). Written by likely/generate.py. Do not edit.\n"
         "use Rattle.std.specs.Prelude.{ℕ, [], ◌∷◌, List, codes}\nuse Rattle.std.specs.List.{flat_map}\n"
         "use Rattle.langtag_registry.specs.Subtags.{words}\n"
         "use Rattle.langtag_likely.specs.Likely.{Likely, likely_of_fields}\n"
@@ -203,7 +241,7 @@ def likely_list(name, doc, reader, rows):
 
 def likely_lists(likely):
     return "\n".join([
-        f"-- The likely subtags of Unicode's CLDR {CLDR_VERSION} (the notice: likely/LICENSE-UNICODE). Written by likely/generate.py. Do not edit.\n"
+        f"-- The likely subtags of Unicode's CLDR {version()} (the notice: likely/LICENSE-UNICODE). Written by likely/generate.py. Do not edit.\n"
         "use Rattle.std.specs.Prelude.{[], ◌∷◌, ◌++◌, List, codes}\nuse Rattle.std.specs.List.{flat_map}\n"
         "use Rattle.langtag_registry.specs.Subtags.{words}\n"
         "use Rattle.langtag_likely.specs.Likely.{Likely, likely_of_languages, likely_of_fields}\n",
@@ -214,23 +252,72 @@ def likely_lists(likely):
     ])
 
 
+def script_list():
+    return "\n".join([
+        f"-- The scripts of Unicode's CLDR {version()} that are written from right to left (the notice: likely/LICENSE-UNICODE). Written by likely/generate.py. Do not edit.\n"
+        "use Rattle.std.specs.Prelude.{ℕ, List, codes}\nuse Rattle.langtag_registry.specs.Subtags.{words}\n",
+        "-- scriptMetadata, 'RTL?'; and variants of two of them that have codes of their own (ISO 15924: Aran of Arab, Syre, Syrj and Syrn of Syrc)\n"
+        f"unfoldable pub right_to_left_scripts : List (List ℕ)\nright_to_left_scripts = words (codes \"{' '.join(right_to_left_scripts())}\")\n",
+    ])
+
+
+def major_version():
+    return version().partition(".")[0]
+
+
+def module_version():
+    """The version in the name of PostgreSQL's module, for its Makefile."""
+    return f"# The version of CLDR in the library. Written by likely/generate.py. Do not edit.\nCLDR_VERSION = {major_version()}\n"
+
+
+def written(crate, likely, matching):
+    """The files that are made of the data: of each its path and its text."""
+    return {crate / "src/tables.rt": tables(likely), crate / "src/matching_tables.rt": matching_tables(matching),
+            crate / "specs/LikelySubtags.antt": likely_lists(likely), crate / "specs/MatchingData.antt": matching_lists(matching),
+            crate / "specs/RightToLeft.antt": script_list(), MODULE: module_version()}
+
+
+def lost(crate, likely, matching, named):
+    """The languages that had a row and have none now, or that had a rule and have neither: their tags get other answers, or none."""
+    standing = second_reading.standing(crate / "specs")
+    rows = {row[0] for row in likely.of_languages}
+    rules = {text for row in matching.languages for text in row[:2]}
+    had_row = {row[0] for row in standing.get("language_rows", [])}
+    had_rule = {text for row in standing.get("language_rules", []) for text in row[:2]}
+    aliases = {row[0]: row[1] for row in read("language-alias.txt")}
+    for language in sorted((had_row - rows | had_rule - rows - rules) - set(ALIASES) - set(named)):
+        had = "row" if language in had_row else "rule"
+        yield f"{language}: it had a {had}, and has none now" + (f"; it is an alias of {aliases[language]}" if language in aliases else "")
+
+
+def refuse_unaccepted(crate, likely, matching, accept, named):
+    """Refuses other data than those that stand, but for newer ones that are to be accepted."""
+    if checksums() == (CHECKSUMS.read_text(encoding="utf-8") if CHECKSUMS.is_file() else ""):
+        return
+    if not accept:
+        sys.exit(f"the data are not those of {CHECKSUMS.name}; --accept takes newer ones")
+    if found := list(lost(crate, likely, matching, named)):
+        sys.exit("\n".join(found))
+
+
 def main(words, crate):
-    check = "--check" in words
-    if [word for word in words if word != "--check"]:
+    check, accept = words == ["--check"], words[:1] == ["--accept"]
+    if words and not check and not accept:
         sys.exit(__doc__)
-    if checksum() != CHECKSUM:
-        sys.exit(f"the data are not those of CLDR {CLDR_VERSION}: {checksum()}")
     likely = Likely(read("likely.txt"), {row[i] for row in read("script-distance.txt") for i in (1, 3)})
     matching = Matching(read, likely)
+    if not check:
+        refuse_unaccepted(crate, likely, matching, accept, words[1:])
     told = []
-    written = {"src/tables.rt": tables(likely), "specs/LikelySubtags.antt": likely_lists(likely),
-               "src/matching_tables.rt": matching_tables(matching), "specs/MatchingData.antt": matching_lists(matching)}
-    for name, text in written.items():
-        path = crate / name
+    if check and checksums() != CHECKSUMS.read_text(encoding="utf-8"):
+        told.append(f"the data are not those of {CHECKSUMS.name}")
+    for path, text in written(crate, likely, matching).items():
         if not check:
             path.write_text(text, encoding="utf-8")
         elif not path.is_file() or path.read_text(encoding="utf-8") != text:
-            told.append(f"differs: crates/{crate.name}/{name}")
+            told.append(f"differs: {path.relative_to(crate.parent) if crate in path.parents else path.name}")
+    if accept:
+        CHECKSUMS.write_text(checksums(), encoding="utf-8")
     if check:
         told += second_reading.differences(crate / "specs")
     for line in told:

@@ -7,16 +7,13 @@ from pathlib import Path
 
 import oracle
 
-PAGES = ["LikelySubtags", "MatchingData", "Direction", "Nearness"]
+PAGES = ["LikelySubtags", "MatchingData", "RightToLeft", "Nearness"]
 
 # How many words a row of a list has; one, where it is not named.
 WIDTH = {"language_rows": 3, "other_rows": 6, "language_aliases": 6, "region_aliases": 6, "language_rules": 3, "script_rules": 5, "is_paradigm": 2}
 
 # The lists of regions by the names that the data have for their sets.
 SETS = {"maghreb": "$maghreb", "en_us": "$enUS", "americas": "$americas", "cnsar": "$cnsar"}
-
-# What stands beside the data: the variants of Arab and Syrc that have codes of their own (ISO 15924).
-SCRIPT_VARIANTS = ["Aran", "Syre", "Syrj", "Syrn"]
 
 
 def written(page: str) -> dict[str, list[tuple]]:
@@ -27,6 +24,14 @@ def written(page: str) -> dict[str, list[tuple]]:
             words = " ".join(re.findall(r'codes "([^"]*)"', body)).lower().split()
             width = WIDTH.get(name, 1)
             lists[name] = [tuple(words[at:at + width]) for at in range(0, len(words), width)]
+    return lists
+
+
+def standing(specs: Path) -> dict[str, list[tuple]]:
+    """The rows of each list of the pages that are there."""
+    lists = {}
+    for page in (specs / f"{page}.antt" for page in PAGES):
+        lists.update(written(page.read_text(encoding="utf-8")) if page.is_file() else {})
     return lists
 
 
@@ -59,7 +64,7 @@ def wanted() -> dict[str, list[tuple]]:
         "region_aliases": [("", "", name, "", "", to) for name, to in oracle.REGION_ALIASES.items()],
         "language_rules": both_ways(oracle.LANGUAGE_RULES, lambda language: [language]),
         "script_rules": both_ways(oracle.SCRIPT_RULES, lambda text: text.split("-")),
-        "right_to_left_scripts": [(row[0],) for row in oracle.rows("right-to-left.txt")] + [(name,) for name in SCRIPT_VARIANTS],
+        "right_to_left_scripts": [(name,) for name in oracle.RIGHT_TO_LEFT],
         "is_paradigm": [(language, region) for language, _, region in paradigms if region and oracle.unlikely(f"{language}-{region}") > 0],
         **dict(regions_of_sets()),
     }
@@ -67,9 +72,7 @@ def wanted() -> dict[str, list[tuple]]:
 
 def differences(specs: Path) -> Iterator[str]:
     """A line for each list that the pages have otherwise, lack or add."""
-    ours, theirs = {}, wanted()
-    for page in PAGES:
-        ours.update(written((specs / f"{page}.antt").read_text(encoding="utf-8")))
+    ours, theirs = standing(specs), wanted()
     for name in sorted(ours.keys() ^ theirs.keys()):
         yield f"{name}: {'not read a second time' if name in ours else 'not on its page'}"
     for name in sorted(ours.keys() & theirs.keys()):

@@ -2,7 +2,7 @@
 import sys
 
 # the languages of language-alias.txt that the matching form replaces
-ALIASES = "arb cmn in iw ji jw mo sh tl".split()
+ALIASES = "ajp arb cmn gom in iw ji jw mo sh tl".split()
 
 # the rules of region-distance.txt, as specs/Distance.antt has them: language, script, the set, and what stands between its two sides
 SIDES = [("ar", "*", "maghreb"), ("en", "*", "enUS"), ("es", "*", "americas"), ("pt", "*", "americas"), ("zh", "Hant", "cnsar")]

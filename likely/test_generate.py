@@ -1,5 +1,6 @@
 #!/usr/bin/env python3
-"""Tests of generate.py: other data are refused, and --check sees what a file, a list or the generator itself loses."""
+"""Tests of generate.py and from_cldr.py: other data are refused, newer ones taken, and --check sees what a file, a list or the
+generator itself loses."""
 import contextlib
 import io
 import pathlib
@@ -8,19 +9,27 @@ import tempfile
 import unittest
 from unittest import mock
 
+import from_cldr
 import generate
 import lists
 import matching
 
-WRITTEN = ["src/tables.rt", "src/matching_tables.rt", "specs/LikelySubtags.antt", "specs/MatchingData.antt"]
-BY_HAND = ["specs/Direction.antt", "specs/Nearness.antt"]
+WRITTEN = ["src/tables.rt", "src/matching_tables.rt", "specs/LikelySubtags.antt", "specs/MatchingData.antt", "specs/RightToLeft.antt"]
+BY_HAND = ["specs/Nearness.antt"]
 
 
 class Generating(unittest.TestCase):
     def setUp(self):
         folder = tempfile.TemporaryDirectory()
         self.addCleanup(folder.cleanup)
-        self.crate = pathlib.Path(folder.name) / generate.CRATE.name
+        self.folder = pathlib.Path(folder.name)
+        self.crate = self.folder / generate.CRATE.name
+        for name in ("DATA", "CHECKSUMS", "MODULE"):
+            path = getattr(generate, name)
+            (shutil.copytree if path.is_dir() else shutil.copy)(path, self.folder / path.name)
+            patch = mock.patch.object(generate, name, self.folder / path.name)
+            self.addCleanup(patch.stop)
+            patch.start()
         for name in WRITTEN + BY_HAND:
             (self.crate / name).parent.mkdir(parents=True, exist_ok=True)
             shutil.copy(generate.CRATE / name, self.crate / name)
@@ -50,25 +59,98 @@ class Generating(unittest.TestCase):
         self.assertEqual(self.run_with(), (False, []))
         self.assert_told()
 
+    def edit(self, name, old, new):
+        """Data in which something stands otherwise."""
+        path = generate.DATA / name
+        text = path.read_text(encoding="utf-8")
+        self.assertIn(old, text)
+        path.write_text(text.replace(old, new, 1), encoding="utf-8")
+
+    def assert_refused(self, told, *words):
+        before = {path: path.read_bytes() for path in [*self.crate.rglob("*.*"), generate.CHECKSUMS, generate.MODULE]}
+        with self.assertRaisesRegex(SystemExit, told):
+            self.run_with(*words)
+        self.assertEqual({path: path.read_bytes() for path in before}, before)
+
     def test_other_data(self):
         for data in sorted(generate.DATA.glob("*.txt")):
-            with self.subTest(data=data.name), tempfile.TemporaryDirectory() as folder:
-                shutil.copytree(generate.DATA, folder, dirs_exist_ok=True)
+            with self.subTest(data=data.name):
                 text = data.read_text(encoding="utf-8")
-                (pathlib.Path(folder) / data.name).write_text(text[:text.rindex("\n", 0, -1) + 1], encoding="utf-8")
-                with mock.patch.object(generate, "DATA", pathlib.Path(folder)), self.assertRaisesRegex(SystemExit, "the data are not those"):
-                    self.run_with("--check")
+                data.write_text(text.replace("\n", "\n# one more line of the head\n", 1), encoding="utf-8")
+                self.assert_refused("the data are not those of data.sha256; --accept takes newer ones")
+                self.assert_told("the data are not those of data.sha256")
+                data.write_text(text, encoding="utf-8")
+
+    def test_newer_data(self):
+        version = generate.version()
+        for data in generate.DATA.glob("*.txt"):
+            self.edit(data.name, f"Unicode CLDR {version} (", "Unicode CLDR 99.1 (")
+        self.edit("likely.txt", "\naa - - aa Latn ET\n", "\naa - - aa Latn DJ\n")
+        self.edit("right-to-left.txt", "\nHebr\n", "\nHebr\nZxyz\n")
+        self.assert_refused("--accept takes newer ones")
+        self.assertEqual(self.run_with("--accept"), (False, []))
+        self.assertIn('CLDR_VERSION: &str = "99"', (self.crate / "src/tables.rt").read_text(encoding="utf-8"))
+        self.assertIn("CLDR 99.1", (self.crate / "specs/LikelySubtags.antt").read_text(encoding="utf-8"))
+        self.assertIn("CLDR_VERSION = 99\n", generate.MODULE.read_text(encoding="utf-8"))
+        self.assertEqual(self.run_with(), (False, []))
+        # lists.py reads the data that stand, and these alone are other
+        self.assert_told("language_rows: differs", "right_to_left_scripts: differs")
+
+    def test_heads_of_two_versions(self):
+        self.edit("paradigms.txt", f"Unicode CLDR {generate.version()} (", "Unicode CLDR 99.1 (")
+        self.assert_refused("do not name one version", "--accept")
+
+    def test_a_language_loses_its_row(self):
+        self.edit("likely.txt", "\naaa - - aaa Latn NG\n", "\n")
+        self.assert_refused("^aaa: it had a row, and has none now$", "--accept")
+        self.assert_refused("^aaa: it had a row", "--accept", "aab")
+        with mock.patch.object(generate, "ALIASES", [*matching.ALIASES, "aaa"]):
+            self.assertEqual(self.run_with("--accept"), (False, []))
+
+    def test_a_language_is_let_go(self):
+        self.edit("likely.txt", "\naaa - - aaa Latn NG\n", "\n")
+        self.assertEqual(self.run_with("--accept", "aaa"), (False, []))
+
+    def test_an_alias_loses_its_rule(self):
+        """As gom did, of which data of old had a rule, and newer ones an alias alone."""
+        with mock.patch.object(generate, "ALIASES", [name for name in matching.ALIASES if name != "gom"]):
+            self.put("specs/MatchingData.antt", "gsw de 4 ", "gsw de 4 gom kok 10 ")
+            self.edit("language-alias.txt", "gom kok", "gom  kok")
+            self.assert_refused("^gom: it had a rule, and has none now; it is an alias of kok$", "--accept")
+
+    def test_premises(self):
+        for name, old, new, told in (
+            ("likely.txt", "\naa - - aa Latn ET\n", "\naa - - aa Latn ET\naa - - aa Latn DJ\n", "a left side once"),
+            ("likely.txt", "\naa - - aa Latn ET\n", "\naa - - aa Latn ZZ\n", "a region other than ZZ"),
+            ("likely.txt", "\naa - - aa Latn ET\n", "\naa - - aa Zzzz ET\n", "a script other than Zzzz"),
+            ("likely.txt", "\naa - - aa Latn ET\n", "\naa - - ab Latn ET\n", "the right side keeps the language"),
+            ("likely.txt", "\naa - - aa Latn ET\n", "\nabcd - - abcd Latn ET\n", "at most three letters"),
+            ("likely.txt", "\n- - AD ca Latn AD\n", "\n- - AD qqq Latn AD\n", "the language of a right side is a left side"),
+            ("language-alias.txt", "\ntl fil - -\n", "\ntl iw - -\n", "no target is an alias"),
+            ("language-alias.txt", "\ntl fil - -\n", "\n", "each is there"),
+            ("language-distance.txt", "\nda no 8 0\n", "\nda no 81 0\n", "a distance from 1 to 80"),
+            ("region-distance.txt", "\nen * $enUS $enUS 4\n", "\nen * $enUS $enUS 2\n", "other rules than those"),
+        ):
+            with self.subTest(told=told):
+                standing = (generate.DATA / name).read_bytes()
+                self.edit(name, old, new)
+                self.assert_refused(told, "--accept")
+                (generate.DATA / name).write_bytes(standing)
+
+    def test_room(self):
+        for name, told in (("MOST_SCRIPTS", "scripts, and the tables have room for 3: give"), ("MOST_NAMES", "regions, and the tables have room for 3: make")):
+            with self.subTest(name=name), mock.patch.object(generate, name, 3):
+                self.assert_refused(told)
 
     def test_what_a_file_loses(self):
         for name, old, new, told in (
-            ("src/tables.rt", "0x", "0X", ["differs: crates/langtag_likely/src/tables.rt"]),
-            ("src/matching_tables.rt", "0x", "0X", ["differs: crates/langtag_likely/src/matching_tables.rt"]),
-            ("specs/LikelySubtags.antt", "ab Cyrl GE ", "", ["differs: crates/langtag_likely/specs/Likely", "language_rows: differs"]),
-            ("specs/LikelySubtags.antt", "- - AD ca Latn AD", "- - AD es Latn AD", ["differs: crates/langtag_likely/specs/Likely", "other_rows: differs"]),
-            ("specs/MatchingData.antt", "da nb 8 ", "", ["differs: crates/langtag_likely/specs/MatchingData", "language_rules: differs"]),
-            ("specs/Direction.antt", "Hebr ", "", ["right_to_left_scripts: differs"]),
-            ("specs/Direction.antt", "Hebr", "Latn", ["right_to_left_scripts: differs"]),
-            ("specs/Direction.antt", "right_to_left_scripts =", "scripts =", ["right_to_left_scripts: not on", "scripts: not read"]),
+            ("src/tables.rt", "0x", "0X", ["differs: langtag_likely/src/tables.rt"]),
+            ("src/matching_tables.rt", "0x", "0X", ["differs: langtag_likely/src/matching_tables.rt"]),
+            ("specs/LikelySubtags.antt", "ab Cyrl GE ", "", ["differs: langtag_likely/specs/Likely", "language_rows: differs"]),
+            ("specs/LikelySubtags.antt", "- - AD ca Latn AD", "- - AD es Latn AD", ["differs: langtag_likely/specs/Likely", "other_rows: differs"]),
+            ("specs/MatchingData.antt", "da nb 8 ", "", ["differs: langtag_likely/specs/MatchingData", "language_rules: differs"]),
+            ("specs/RightToLeft.antt", "Hebr ", "", ["differs: langtag_likely/specs/Right", "right_to_left_scripts: differs"]),
+            ("specs/RightToLeft.antt", "right_to_left_scripts =", "scripts =", ["differs: langtag_likely/specs/Right", "right_to_left_scripts: not on", "scripts: not read"]),
             ("specs/Nearness.antt", "\"419\"", "\"MX\"", ["is_paradigm: differs"]),
         ):
             with self.subTest(name=name, new=new):
@@ -94,7 +176,7 @@ class Generating(unittest.TestCase):
 
         init = generate.Likely.__init__
         for owner, name, worse, told in (
-            (matching, "ALIASES", "arb cmn in iw ji jw mo sh".split(), ["language_aliases: differs"]),
+            (matching, "ALIASES", [name for name in matching.ALIASES if name != "tl"], ["language_aliases: differs"]),
             (matching.Matching, "both_ways", staticmethod(one_way), ["language_rules: differs", "script_rules: differs"]),
             (matching.Matching, "both_ways", staticmethod(without_last), ["language_rules: differs", "script_rules: differs"]),
             (matching.Matching, "region_sets", staticmethod(without_groups), [f"{name}_partly: differs" for name in sorted(lists.SETS)]),
@@ -103,6 +185,79 @@ class Generating(unittest.TestCase):
             with self.subTest(name=name, worse=worse), mock.patch.object(owner, name, worse):
                 self.assertEqual(self.run_with(), (False, []))
                 self.assert_told(*told)
+
+
+# A small release of CLDR.
+COMMON = {
+    "supplemental/supplementalMetadata.xml": """<supplementalData><metadata><alias>
+        <languageAlias type="iw" replacement="he"/><languageAlias type="sh" replacement="sr_Latn"/><languageAlias type="zh-min" replacement="nan"/>
+        <territoryAlias type="SU" replacement="RU AM"/><territoryAlias type="172" replacement="RU"/><territoryAlias type="AAA" replacement="AA"/>
+        </alias></metadata></supplementalData>""",
+    "supplemental/likelySubtags.xml": """<!-- Copyright © 1991-2099 Unicode, Inc.
+        SPDX-License-Identifier: Unicode-3.0 --><supplementalData><likelySubtags><likelySubtag from="und_TW" to="zh_Hant_TW"/>
+        <likelySubtag from="he" to="he_Hebr_IL"/><likelySubtag from="iw" to="iw_Hebr_IL"/></likelySubtags></supplementalData>""",
+    "supplemental/supplementalData.xml": """<supplementalData><territoryContainment><group type="001" contains="019 150"/>
+        <group type="019" contains="US MX"/><group type="150" contains="FR"/><group type="019" contains="XX" status="deprecated"/>
+        </territoryContainment></supplementalData>""",
+    "supplemental/languageInfo.xml": """<supplementalData><languageMatching><languageMatches type="written_new">
+        <paradigmLocales locales="en en_GB"/><matchVariable id="$americas" value="019"/>
+        <languageMatch desired="no" supported="nb" distance="1"/><languageMatch desired="gsw" supported="de" distance="4" oneway="true"/>
+        <languageMatch desired="*" supported="*" distance="80"/><languageMatch desired="zh_Hani" supported="zh_Hans" distance="20" oneway="true"/>
+        <languageMatch desired="*_*" supported="*_*" distance="50"/><languageMatch desired="es_*_$americas" supported="es_*_$americas" distance="4"/>
+        <languageMatch desired="*_*_*" supported="*_*_*" distance="4"/></languageMatches></languageMatching></supplementalData>""",
+    "properties/scriptMetadata.txt": "# a head\nHebr; 1; 05D0; IL; 1; RECOMMENDED; YES; NO\nLatn; 1; 004C; IT; 1; RECOMMENDED; NO; NO\n",
+}
+FROM_COMMON = {
+    "likely.txt": ["- - TW zh Hant TW", "he - - he Hebr IL"], "language-distance.txt": ["gsw de 4 1", "no nb 1 0"],
+    "script-distance.txt": ["zh Hani zh Hans 20 1"], "region-distance.txt": ["es * $americas $americas 4", "* * * * 4"],
+    "region-sets.txt": ["$americas 019 MX US"], "region-groups.txt": ["001 FR MX US", "019 MX US", "150 FR"], "paradigms.txt": ["en", "en-GB"],
+    "language-alias.txt": ["iw he - -", "sh sr Latn -"], "region-alias.txt": ["172 RU", "SU RU"], "right-to-left.txt": ["Hebr"],
+}
+
+
+class FromCldr(unittest.TestCase):
+    def setUp(self):
+        folder = tempfile.TemporaryDirectory()
+        self.addCleanup(folder.cleanup)
+        self.folder = pathlib.Path(folder.name)
+        for name, text in COMMON.items():
+            (self.folder / name).parent.mkdir(exist_ok=True)
+            (self.folder / name).write_text(text, encoding="utf-8")
+
+    def write(self):
+        with contextlib.redirect_stdout(io.StringIO()):
+            from_cldr.write(self.folder, "99.1", "made up", self.folder)
+
+    def test_files(self):
+        self.write()
+        self.assertEqual({path.name for path in generate.DATA.glob("*.txt")}, set(FROM_COMMON))
+        for name, lines in FROM_COMMON.items():
+            with self.subTest(name=name):
+                head, rows = [], (self.folder / name).read_text(encoding="utf-8").splitlines()
+                while rows[0].startswith("#"):
+                    head.append(rows.pop(0))
+                self.assertEqual(rows, lines)
+                self.assertIn("From Unicode CLDR 99.1 (common/", head[1])
+                self.assertIn("Copyright (c) 1991-2099 Unicode", head[2])
+                self.assertIn("Unicode-3.0", head[3])
+
+    def test_what_is_not_known(self):
+        for name, old, new, told in (
+            ("supplemental/likelySubtags.xml", "und_TW", "und_TW_x", "not a locale of language, script and region: und_TW_x"),
+            ("supplemental/languageInfo.xml", 'supported="*" distance="80"', 'supported="*" distance="81"', "the distances of all other pairs"),
+            ("supplemental/languageInfo.xml", "<paradigmLocales", "<other/><paradigmLocales", "languageMatches has {'other'}"),
+        ):
+            with self.subTest(told=told):
+                text = (self.folder / name).read_text(encoding="utf-8")
+                (self.folder / name).write_text(text.replace(old, new, 1), encoding="utf-8")
+                with self.assertRaisesRegex(from_cldr.Refused, told.replace("{", "\\{")):
+                    self.write()
+                self.assertEqual(list(self.folder.glob("*.txt")), [])
+                (self.folder / name).write_text(text, encoding="utf-8")
+
+    def test_questions(self):
+        asked = list(from_cldr.questions("# a head\nzh_TW; zh_Hant_TW; zh_Hant; zh_TW\nen; en_Latn_US; en\nqqq; FAIL # none\n".replace("_", "-")))
+        self.assertEqual(asked, [("zh-TW", "zh-Hant-TW\tzh-TW"), ("en", "en-Latn-US\ten"), ("qqq", "qqq\tqqq")])
 
 
 if __name__ == "__main__":

@@ -28,6 +28,7 @@ CHECKSUM = "registry/language-subtag-registry.sha256"
 TABLES = "crates/langtag_registry/src/tables.rt"
 LISTS = "crates/langtag_registry/specs/Subtags.antt"
 PROOFS = "crates/langtag_registry/proofs"
+MODULE = "bindings/postgresql/registry_date.mk"
 
 # The lists: the Types of their records.
 SUBTAGS = ["language", "extlang", "script", "region", "variant"]
@@ -165,9 +166,14 @@ def lists(registry):
     return "\n".join(out)
 
 
+def module_date(registry):
+    """The date in the name of PostgreSQL's module, for its Makefile."""
+    return f"# The date of the registry in the library. Written by registry/generate.py. Do not edit.\nREGISTRY_DATE = {registry.date}\n"
+
+
 def written(registry):
     """The files that are made of a registry: of each its path and its text."""
-    return {TABLES: tables(registry), LISTS: lists(registry)} | {f"{PROOFS}/{name}.antt": page() for name, page in PAGES.items()}
+    return {TABLES: tables(registry), LISTS: lists(registry), MODULE: module_date(registry)} | {f"{PROOFS}/{name}.antt": page() for name, page in PAGES.items()}
 
 
 def checksum(source):

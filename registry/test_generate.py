@@ -15,7 +15,7 @@ import premises
 import records
 
 PAGES = [f"{generate.PROOFS}/{name}.antt" for name in generate.PAGES]
-FILES = [generate.REGISTRY, generate.CHECKSUM, generate.TABLES, generate.LISTS, *PAGES]
+FILES = [generate.REGISTRY, generate.CHECKSUM, generate.TABLES, generate.LISTS, generate.MODULE, *PAGES]
 STANDING = (generate.ROOT / generate.REGISTRY).read_text(encoding="utf-8")
 DATE = STANDING.splitlines()[0].removeprefix("File-Date: ")
 NEWER = STANDING.replace(f"File-Date: {DATE}", "File-Date: 2099-12-31", 1)
@@ -228,6 +228,7 @@ class Generating(unittest.TestCase):
         self.assertEqual(self.run_with("--check")[0], 0)
         written = self.written()
         self.assertIn(b'FILE_DATE: &str = "2099-12-31"', written[generate.TABLES])
+        self.assertIn(b"REGISTRY_DATE = 2099-12-31", written[generate.MODULE])
         for text in (b"qzz qzy", b"qzz zh", b"qzy Latn", b"abc2099 de abc2099 qzy-Latn", b"zh-qzy qzy", b" QL ", b" Zzzy "):
             self.assertIn(text, written[generate.LISTS])
         self.assertEqual(self.run_with(), (0, ""))

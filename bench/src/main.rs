@@ -1,9 +1,8 @@
 //! Times `recognise` on a file of tags beside plain loops over the same bytes, in one run.
 //!
-//! `bench FILE` times, `bench shapes COUNT`, `bench middle COUNT` and `bench plain COUNT` write lists of tags, and `bench once ENTRY FILE` calls one
-//! entry once for each tag, for a tool that counts instructions. `bench variants COUNT ORDER` writes one tag of so many
-//! variants, and `bench growth FILE` times `repeated_variant` on the one tag of a file. `bench differ COUNT` asks the archive and
-//! the Rust crate about so many texts that look random, and stops at the first that they answer differently.
+//! `bench FILE` times. `bench LIST COUNT` writes a list of tags: `shapes`, `middle`, `plain`, `nine` or `unusual`. `bench once ENTRY FILE`
+//! calls one entry once for each tag, for a tool that counts instructions. `bench variants COUNT ORDER` writes one tag of so many
+//! variants, and `bench growth FILE` times `repeated_variant` on the one tag of a file.
 
 use std::hint::black_box;
 use std::io::Write;
@@ -11,7 +10,7 @@ use std::time::Instant;
 
 /// The ends that `langtag_bench_recognise` leaves of a normal tag.
 #[repr(C)]
-#[derive(Default, PartialEq, Debug)]
+#[derive(Default)]
 struct PartEnds {
     language: usize,
     script: usize,
@@ -23,7 +22,7 @@ struct PartEnds {
 
 /// The lengths that `langtag_bench_lang_tag` leaves of the parts of a tag.
 #[repr(C)]
-#[derive(Default, PartialEq, Debug)]
+#[derive(Default)]
 struct PartLengths {
     language: usize,
     script: usize,
@@ -304,6 +303,18 @@ const MIDDLE: [&str; 14] = [
     "en-GB", "uz-Latn-UZ", "ja", "de-CH-1901",
 ];
 
+/// Tags of nine bytes. Three irregular tags have as many, and matter at this length alone.
+const NINE: [&str; 14] = [
+    "zh-yue-HK", "zh-gan-CN", "zh-hak-TW", "zh-cmn-SG", "ar-arb-EG", "en-fonipa", "en-scouse", "zh-pinyin", "ja-heploc",
+    "sl-dajnko", "be-tarask", "pt-ao1990", "en-x-test", "sr-x-test",
+];
+
+/// Irregular tags, and texts that are refused.
+const UNUSUAL: [&str; 16] = [
+    "en-GB-oed", "i-klingon", "i-enochian", "sgn-BE-FR", "sgn-CH-DE", "i-default", "i-lux", "i-notexist", "de_CH", "pt_BR.UTF-8", "en-",
+    "en--US", "de-419-DE", "zh-Hant-Hans", "x", "german-language",
+];
+
 /// Numbers that look random, the same in every run.
 struct Numbers(u64);
 
@@ -312,61 +323,6 @@ impl Numbers {
         self.0 = self.0.wrapping_mul(6364136223846793005).wrapping_add(1442695040888963407);
         (self.0 >> 33) as usize % below
     }
-}
-
-/// Pieces of texts of which many are tags or nearly so.
-const PIECES: [&str; 30] = [
-    "en", "zh", "yue", "abcd", "x", "X", "i", "a", "u", "1", "Hant", "1994", "419", "US", "rozaj", "12345678", "abcdefghi", "klingon",
-    "min-nan", "art-lojban", "sgn-BE-FR", "en-GB-oed", "-", "_", "", "\u{e9}", "9", "B", "co", "default",
-];
-
-/// Returns a text of up to seven pieces, in every third of which a character is put somewhere.
-fn random_text(numbers: &mut Numbers) -> String {
-    let pieces: Vec<&str> = (0..1 + numbers.next(7)).map(|_| PIECES[numbers.next(PIECES.len())]).collect();
-    let mut text = pieces.join("-");
-    if numbers.next(3) == 0 {
-        let at = numbers.next(text.len() + 1);
-        if text.is_char_boundary(at) {
-            text.insert(at, ['-', 'a', 'Z', '0', ' ', 'x'][numbers.next(6)]);
-        }
-    }
-    text
-}
-
-/// Asks the archive and the Rust crate about so many texts: whether each is a tag, how long its parts are, and where they end.
-fn differ(count: usize) {
-    let (mut numbers, mut tags) = (Numbers(7), 0);
-    for _ in 0..count {
-        let text = random_text(&mut numbers);
-        let (mut ours, mut theirs, mut ends) = (PartLengths::default(), PartLengths::default(), PartEnds::default());
-        // SAFETY: each pointer and length is a live slice's.
-        let (is_ours, is_theirs, is_found) = unsafe {
-            (
-                langtag_bench_rust(text.as_ptr(), text.len(), &mut ours),
-                langtag_bench_lang_tag(text.as_ptr(), text.len(), &mut theirs),
-                langtag_bench_recognise(text.as_ptr(), text.len(), &mut ends),
-            )
-        };
-        assert_eq!((is_ours, &ours), (is_theirs, &theirs), "{text:?}");
-        let (is_tag, found) = recognised(&text);
-        assert_eq!((is_tag, &found), (is_found, &ends), "{text:?}");
-        tags += usize::from(is_ours);
-    }
-    println!("{count} texts, {tags} of them tags: alike");
-}
-
-/// Returns what the recogniser of the Rust crate finds, as `langtag_bench_recognise` does.
-fn recognised(text: &str) -> (bool, PartEnds) {
-    let found = langtag::recognise(&mut langtag::Metered::new(text));
-    let ends = found.and_then(|found| found.ends()).map(|ends| PartEnds {
-        language: ends.language,
-        script: ends.script,
-        region: ends.region,
-        variants: ends.variants,
-        extensions: ends.extensions,
-        whole: ends.whole,
-    });
-    (found.is_some(), ends.unwrap_or_default())
 }
 
 /// Writes so many tags, each made from one of the shapes.
@@ -428,18 +384,16 @@ fn main() -> std::io::Result<()> {
         ["shapes", count] => write_shapes(count.parse().expect("COUNT is a number")),
         ["middle", count] => write_some(&MIDDLE, count.parse().expect("COUNT is a number")),
         ["plain", count] => write_some(&PLAIN, count.parse().expect("COUNT is a number")),
+        ["nine", count] => write_some(&NINE, count.parse().expect("COUNT is a number")),
+        ["unusual", count] => write_some(&UNUSUAL, count.parse().expect("COUNT is a number")),
         ["variants", count, order] => write_variants(count.parse().expect("COUNT is a number"), order),
         ["once", entry, path] => once(entry, path),
         ["growth", path] => growth(path),
-        ["differ", count] => {
-            differ(count.parse().expect("COUNT is a number"));
-            Ok(())
-        }
         [path] => time(path),
         _ => {
             eprintln!(
-                "usage: bench FILE | bench shapes|middle|plain COUNT | bench variants COUNT ORDER | \
-                 bench growth FILE | bench once ENTRY FILE | bench differ COUNT"
+                "usage: bench FILE | bench shapes|middle|plain|nine|unusual COUNT | bench variants COUNT ORDER | \
+                 bench growth FILE | bench once ENTRY FILE"
             );
             std::process::exit(2)
         }

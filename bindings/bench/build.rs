@@ -1,5 +1,10 @@
-//! Links what calls ICU, where `run` built it in the folder that ICU_ENTRY names.
+//! Links the C library, in the folder that LANGTAG_LIB_DIR names, and what calls ICU, where `run` built it in the one that ICU_ENTRY
+//! names.
 fn main() {
+    println!("cargo:rerun-if-env-changed=LANGTAG_LIB_DIR");
+    let folder = std::env::var("LANGTAG_LIB_DIR").expect("LANGTAG_LIB_DIR names the folder of liblangtag_c.a");
+    println!("cargo:rustc-link-search=native={folder}");
+    println!("cargo:rustc-link-lib=static=langtag_c");
     println!("cargo:rerun-if-env-changed=ICU_ENTRY");
     println!("cargo:rustc-check-cfg=cfg(icu)");
     if let Ok(folder) = std::env::var("ICU_ENTRY") {

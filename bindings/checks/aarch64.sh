@@ -15,13 +15,6 @@ if [ -z "$aarch64_archive" ]; then
     return 0
 fi
 
-# The same list of targets in the script of the Rust crate.
-targets_agree() {
-    diff <(sed -n 's/^    ("\(.*\)", "\(.*\)"),$/\1 \2/p' rust/build.rs) \
-        <(python3 -c 'import targets; [print(it.processor, it.name) for it in targets.TARGETS.values() if it.platform]')
-}
-check "the Rust crate and the releases have one list of targets" targets_agree
-
 missing=$(aarch64_missing | head -1)
 if [ -n "$missing" ]; then
     not_run "aarch64: the tests under qemu" "$missing"
@@ -49,7 +42,7 @@ aarch64_tags() {
 aarch64_likely() { on_aarch64 "$work/built/test-aarch64" --answer <"$work/asked" | cmp - "$work/told_of_likely"; }
 check "aarch64: answers to random calls as on x86-64, under qemu" aarch64_random
 check "aarch64: validity and canonical form of 50,000 tags as on x86-64, under qemu" aarch64_tags
-check "aarch64: 60,000 rows of likely subtags and choices as on x86-64, under qemu" aarch64_likely
+check "aarch64: 100,000 rows of likely subtags and choices as on x86-64, under qemu" aarch64_likely
 
 # Symbols of archive and library, and the stack. How the work of a call grows is counted on x86-64 alone.
 aarch64_symbols() {
@@ -67,26 +60,15 @@ if [ -x "$root/.ci/stack" ]; then
 fi
 check "aarch64: no symbol of a C library after 2.17, as the wheel says" aarch64_libraries
 
-# The Rust crate takes this archive, and a program runs where there is a standard library of Rust for this processor.
-aarch64_packed() { unset LANGTAG_LIB_DIR && mkdir -p rust/lib/aarch64 && cp "$aarch64_archive" rust/lib/aarch64/liblangtag_c.a; }
-aarch64_script() {
-    aarch64_packed || return 1
-    (rust build -q --target aarch64-unknown-linux-gnu || true)
-    find "$CARGO_TARGET_DIR" -path '*/build/langtag-verified-*/output' -exec grep -hx 'cargo:rustc-link-search=native=.*/lib/aarch64' {} +
-}
+# The Rust crate needs no archive. Its tests run where there is a standard library of Rust for this processor.
 rust_on_aarch64() {
-    aarch64_packed && cd rust && CARGO_TARGET_AARCH64_UNKNOWN_LINUX_GNU_LINKER=$cross-gcc \
-        CARGO_TARGET_AARCH64_UNKNOWN_LINUX_GNU_RUNNER=$under_qemu cargo "$1" -q --target aarch64-unknown-linux-gnu "${@:2}"
+    cd "$rust_crate" && CARGO_TARGET_AARCH64_UNKNOWN_LINUX_GNU_LINKER=$cross-gcc \
+        CARGO_TARGET_AARCH64_UNKNOWN_LINUX_GNU_RUNNER=$under_qemu cargo test -q --release --target aarch64-unknown-linux-gnu --test rows --test habits
 }
-aarch64_program() { rust_on_aarch64 run --example parts zh-Hant-TW | diff - <(wanted); }
-aarch64_rust_tests() { rust_on_aarch64 test --release --tests -- --skip long_headers; }
 if ! has cargo; then
     not_run "aarch64: the Rust crate" "there is no cargo"
 elif [ -d "$(rustc --print sysroot)/lib/rustlib/aarch64-unknown-linux-gnu" ]; then
-    check "aarch64: a program of the Rust crate, under qemu" aarch64_program
-    check "aarch64: the tests of the Rust crate, under qemu" aarch64_rust_tests
+    check "aarch64: the tests of the Rust crate, under qemu" rust_on_aarch64
 else
-    check "aarch64: the Rust crate takes this archive" aarch64_script
-    not_run "aarch64: a program and the tests of the Rust crate" "there is no standard library of Rust for it (rustup target add aarch64-unknown-linux-gnu; in Debian 12 rustc-web, libstd-rust-web-dev:arm64)"
+    not_run "aarch64: the tests of the Rust crate" "there is no standard library of Rust for it (rustup target add aarch64-unknown-linux-gnu; in Debian 12 rustc-web, libstd-rust-web-dev:arm64)"
 fi
-rm -rf rust/lib

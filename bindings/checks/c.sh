@@ -56,4 +56,4 @@ as_the_likely_oracle() {
     "$work/c/test" --answer <"$work/asked" >"$work/told_of_likely" || return 1
     "$likely/oracle.py" rows --compare "$work/told_of_likely" <"$work/asked"
 }
-check "C: 60,000 rows of likely subtags and choices, by a plain reading of the data" as_the_likely_oracle
+check "C: 100,000 rows of likely subtags and choices, by a plain reading of the data" as_the_likely_oracle

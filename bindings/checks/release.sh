@@ -4,13 +4,14 @@ if ! has rt && [ -z "${RT_VERSION:-}" ]; then RT_VERSION="not known: there was n
 
 releases() {
     (cd "$root" && cp --parents $(sed -n '/^LICENCES = /s/[^"]*"\([^"]*\)"[^"]*/\1 /gp' "$here/release") "$work") || return 1
-    mkdir -p "$work/docs" && cp "$root/docs/BINDINGS.md" "$work/docs" || return 1
+    mkdir -p "$work/docs" && cp "$root/docs/BINDINGS.md" "$work/docs" && (cd "$root" && cp -r --parents crates/*/src "$work") || return 1
+    export COMMIT=$(git -C "$root" rev-parse HEAD 2>/dev/null || echo "not known")
     local targets=()
     if [ -n "${aarch64_archive:-}" ]; then targets+=(--target "aarch64-unknown-linux-gnu=$aarch64_archive"); fi
     if [ -n "${wasm_archive:-}" ]; then targets+=(--target "wasm64-unknown-unknown=$wasm_archive"); fi
     ./release "$archive" "${targets[@]}" >"$work/sums" && mv dist "$work/dist" || return 1
     ./release "$archive" "${targets[@]}" | diff "$work/sums" - || return 1
-    proves langtag-verified-*-x86_64-elf.tar.gz "$archive" x86_64-unknown-linux-gnu && proves langtag-verified-*.crate "$archive" x86_64-unknown-linux-gnu
+    proves langtag-verified-*-x86_64-elf.tar.gz "$archive" x86_64-unknown-linux-gnu && (cd "$work/dist" && tar -xzOf langtag-verified-*.crate --wildcards '*/PROVED.txt') | grep -x 'commit .*' && ! tar -tzf "$work"/dist/*.crate | grep -E '\.(a|so)$|build\.rs'
 }
 # proves FILE ARCHIVE TARGET: PROVED.txt of a release names the sum of the archive, and its target.
 proves() {
@@ -30,7 +31,7 @@ check "release: each tarball for C unpacks to a folder of its own name" own_fold
 # Each package has the README of its language, and so has what pip shows of the wheel; its Python is asked.
 readmes() {
     local pair
-    for pair in c:langtag-verified-*-x86_64-elf.tar.gz rust:langtag-verified-*.crate python:langtag_verified-*.tar.gz \
+    for pair in c:langtag-verified-*-x86_64-elf.tar.gz python:langtag_verified-*.tar.gz \
         postgresql:langtag-postgresql-*.tar.gz js:langtag-verified-*.tgz; do
         python3 readmes.py ${pair%%:*} >"$work/readme.md" || return 1
         (cd "$work/dist" && if ls ${pair#*:}; then tar -xzOf ${pair#*:} --wildcards --no-wildcards-match-slash '*/README.md' | cmp - "$work/readme.md"; fi) || return 1
@@ -56,10 +57,10 @@ by_itself() {
 hide=
 if unshare -rm true 2>/dev/null; then hide="unshare -rm"; else not_run "release: hiding the repository" "unshare is refused"; fi
 away() {
-    folder=$(mktemp -d -p "$work") && cp examples/parts.* rust/examples/parts.rs "$folder" || return 1
+    folder=$(mktemp -d -p "$work") && cp examples/parts.* "$root/rust/examples/parts.rs" "$folder" || return 1
     $hide bash -c 'set -e; cd "$1"; hide=$2 root=$3 copy=$4; shift 4
         if [ -n "$hide" ]; then mount -t tmpfs none "$root"; mount -t tmpfs none "$copy"; fi
-        unset LANGTAG_LIBRARY LANGTAG_LIB_DIR LANGTAG_ANSWERS PKG_CONFIG_PATH; eval "$1"' away \
+        unset LANGTAG_LIBRARY LANGTAG_ANSWERS PKG_CONFIG_PATH; eval "$1"' away \
         "$folder" "$hide" "$root" "$work/bindings" "$1" | diff - <(wanted)
 }
 by_pkg_config() {
@@ -81,25 +82,18 @@ check "release: C by the tarball's own archive and examples" by_itself
 if has pkg-config; then check "release: C by pkg-config" by_pkg_config; else not_run "release: C by pkg-config" "it is not there"; fi
 if has cmake; then check "release: C by find_package" by_cmake; else not_run "release: C by find_package" "there is no cmake"; fi
 
-# The crate is built with no registry; and where there are sources of serde, beside the crate for it.
+# The crate names serde, which cargo looks up even where it is off.
 crate() {
     away 'tar -xzf ../dist/*.crate; cargo new -q --vcs none first; cp parts.rs first/src/main.rs; cd first
-        export CARGO_TARGET_DIR=$PWD/target CARGO_HOME=$PWD/cargo-home
-        cargo add -q --offline --path ../langtag-verified-*/; cargo run -q --offline zh-Hant-TW'
+        cp -r ../../with-serde/.cargo .cargo; export CARGO_TARGET_DIR=$PWD/target CARGO_HOME=$PWD/cargo-home
+        cargo add -q --offline --path ../langtag-verified-*/ '"$1"'; cargo run -q --offline zh-Hant-TW'
 }
-crate_with_serde() {
-    away 'tar -xzf ../dist/*.crate; cargo new -q --vcs none first; cp parts.rs first/src/main.rs
-        printf "%s\n" "[workspace]" "members = [\"first\", \"langtag-verified-*\", \"langtag-verified-*/serde\"]" "resolver = \"2\"" >Cargo.toml; cd first
-        cp -r ../../cargo-of-serde .cargo; export CARGO_TARGET_DIR=$PWD/target CARGO_HOME=$PWD/cargo-home
-        for crate in ../langtag-verified-*/ ../langtag-verified-*/serde; do cargo add -q --offline --path $crate; done
-        cargo run -q --offline zh-Hant-TW'
-}
-if has cargo; then
-    check "release: the Rust crate, with no registry" crate
+if [ -d "$work/with-serde" ]; then
+    check "release: the Rust crate" crate ""
+    check "release: the Rust crate with serde" crate "--features serde"
 else
-    not_run "release: the Rust crate" "there is no cargo"
+    not_run "release: the Rust crate" "there is no cargo, or no serde in $registry"
 fi
-if [ -d "$work/cargo-of-serde" ]; then check "release: the Rust crate with serde, in a workspace" crate_with_serde; fi
 
 # python_package PYTHON FILE..
 python_package() {

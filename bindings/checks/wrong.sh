@@ -1,7 +1,7 @@
 # Faults that are planted in the wrappers, and have to be refused by the rows.
 languages=(C C++ Python)
 if [ -n "$header" ]; then languages+=("Python's C"); else not_run "wrong wrappers in Python's C module" "there is no Python.h"; fi
-if has rustc; then languages+=(Rust); else not_run "wrong wrappers in Rust" "there is no rustc"; fi
+if has cargo; then languages+=(Rust); else not_run "wrong wrappers in Rust" "there is no cargo"; fi
 if [ -e "$work/built/sqlite_langtag.so" ]; then languages+=(SQLite); fi
 if [ -e js/module.js ] && node_is_new; then languages+=(JavaScript); else not_run "wrong wrappers in JavaScript" "its tests were not run"; fi
 check "wrong wrappers in ${languages[*]} are refused by the rows" env CFLAGS=-w PYTHON="$header" python3 wrong_wrappers.py "$work/usr/lib" "${languages[@]}"

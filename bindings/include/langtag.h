@@ -18,8 +18,8 @@
  *   4. What one argument lets a call write (an out struct, `rest`, a buffer, the bytes of langtag_fold and
  *      langtag_recommend), no other argument of the call leads to. Where two texts are only read, they may be the same,
  *      or share bytes.
- *   5. The processor has SSE4.2 (x86-64-v2), and calls follow the System V convention. 4 KiB of the stack is free for
- *      each call, and 96 KiB for langtag_repeats.
+ *   5. An x86-64 processor has SSE4.2 (x86-64-v2); on aarch64 nothing is asked of it. Calls follow the C calling convention
+ *      of the platform. 4 KiB of the stack is free for each call, and 96 KiB for langtag_repeats.
  *
  * Offsets and lengths are numbers of bytes, offsets from the start of the text. Case is that of ASCII letters alone.
  */
@@ -211,8 +211,9 @@ enum langtag_repeats_answer { LANGTAG_REPEATED_VARIANT = 1, LANGTAG_REPEATED_SIN
  * section 2.2.9). Answers the bits of enum langtag_repeats_answer, 0 for what is not a normal tag, and writes where the
  * repeats stand (out), whatever the answer.
  *
- * The time of all other calls grows with the length, and of this one with its square where there are more than 8192
- * variants (about 0.15 s for a text of 1 MB, and 11 s for one of 10 MB): limit the length of texts from strangers.
+ * The time of this call grows with the square of the length where there are more than 8192 variants (about 0.15 s for a
+ * text of 1 MB, and 11 s for one of 10 MB): limit the length of texts from strangers. That of langtag_best_for_header grows
+ * with the length of the header times the number of tags, and that of all other calls with the length of their texts.
  */
 uint32_t langtag_repeats(const char *bytes, size_t len, langtag_repeated *repeated);
 
@@ -335,7 +336,7 @@ LANGTAG_PURE size_t langtag_best_for_header(const char *header, size_t header_le
  */
 size_t langtag_from_posix(const char *name, size_t name_len, char *buffer, size_t buffer_len);
 
-/* The version of Unicode's CLDR whose likely subtags and distances these are: 41. */
+/* Returns the major version of the Unicode CLDR whose likely subtags and distances these are, such as 48 for CLDR 48.2. */
 LANGTAG_PURE uint32_t langtag_cldr_version(void);
 
 /*

@@ -611,7 +611,7 @@ inline std::optional<std::string> from_posix(std::string_view name) {
     return made;
 }
 
-/* The version of Unicode's CLDR whose likely subtags and distances these are. */
+/* Returns the major version of the Unicode CLDR whose likely subtags and distances these are, such as 48 for CLDR 48.2. */
 inline std::uint32_t cldr_version() noexcept { return langtag_cldr_version(); }
 
 /* Writes the text of a tag. */

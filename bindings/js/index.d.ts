@@ -24,7 +24,7 @@ export const GRANDFATHERED: readonly string[];
 /** The date of IANA's registry by which tags are valid and canonical here, as "2005-10-16". */
 export const REGISTRY_DATE: string;
 
-/** The version of Unicode's CLDR by whose data subtags are likely here, as 41. */
+/** The major version of the Unicode CLDR whose likely subtags and distances these are, such as 48 for CLDR 48.2. */
 export const CLDR_VERSION: number;
 
 /** What a tag is (RFC 5646 section 2.1). The regular grandfathered tags, as zh-min-nan, are normal. */

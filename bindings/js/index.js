@@ -13,7 +13,7 @@ export const GRANDFATHERED = Object.freeze([
 
 export const REGISTRY_DATE = String(calls.registryDate()).replace(/(....)(..)(..)/, "$1-$2-$3");
 
-/** The version of Unicode's CLDR by whose data likely subtags are put in, as 41. */
+/** The major version of the Unicode CLDR whose likely subtags and distances these are, such as 48 for CLDR 48.2. */
 export const CLDR_VERSION = calls.cldrVersion();
 
 const KINDS = [undefined, "normal", "private-use", "irregular"];

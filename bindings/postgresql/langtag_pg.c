@@ -1,6 +1,6 @@
 /*
  * PostgreSQL's types langtag (a language tag, RFC 5646), langtag_range (a language range, RFC 4647) and langtag_part (some
- * subtags of a tag), over the proved C library. What a function answers is said in langtag--0.1.0.sql.
+ * subtags of a tag), over the proved C library. What a function answers is said in langtag.sql.in.
  *
  * A value is a varlena of its bytes and nothing else, as text is, so that the casts to text cost nothing. Those of langtag
  * are in the case that RFC 5646 recommends: equal tags have equal bytes. The C names begin with pg_langtag_, as the

@@ -11,7 +11,7 @@ import pathlib
 import sys
 
 from compare import Difference, compare
-from forms import CRATES, with_errors, with_nested_chains, with_paths
+from forms import CRATES, ELSEWHERE, with_errors, with_nested_chains, with_paths
 from ghosts import without_ghosts
 from kinds import HERE, LIMIT, read_kinds
 from marks import without_imports, without_marks
@@ -31,12 +31,13 @@ class Checker:
         """Yields each source with the file that is made from it, and finds files that have no partner."""
         for crate, module in CRATES.items():
             names = {"mod" if path.stem == "lib" else path.stem for path in (self.sources / crate / "src").iterdir()}
-            for path in (self.modules / module).iterdir():
+            folder = self.modules / ELSEWHERE.get(crate, "") / module
+            for path in folder.iterdir():
                 if path.suffix != ".rs" or path.stem not in names:
                     self.faults.append(f"{path.relative_to(self.modules)}: no source has this file")
             for name in sorted(names):
                 source = self.sources / crate / "src" / ("lib.rt" if name == "mod" else name + ".rt")
-                yield crate, source, self.modules / module / (name + ".rs")
+                yield crate, source, folder / (name + ".rs")
 
     def check(self, crate, source, path):
         file = str(path.relative_to(self.modules))

@@ -14,7 +14,10 @@ CRATES = {
     "langtag_match": "matching",
     "langtag_registry": "registry",
     "langtag_likely": "likely",
+    "langtag_c": "calls",
 }
+# The crates whose modules stand elsewhere than below src: the C library has those modules, too.
+ELSEWHERE = {"langtag_c": "../c/src"}
 IMPLS = """impl{generics} fmt::Display for {type} {{ fn fmt(&self, f: &mut fmt::Formatter<'_>) -> fmt::Result {{ {body} }} }}
 impl{bound} core::error::Error for {type} {{}}"""
 

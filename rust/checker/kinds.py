@@ -20,15 +20,15 @@ def read_kinds():
     """Returns the kinds that are forms, the longest first, and the names of all."""
     kinds, names = [], []
     for block in re.split(r"\n\s*\n", (HERE / "kinds.txt").read_text(encoding="utf-8")):
-        lines = [line for line in block.splitlines() if line and not line.startswith("#")]
-        if not lines:
+        name, *lines = [line for line in block.splitlines() if line and not line.startswith("#")] or [""]
+        if not name:
             continue
-        name, *rest = lines
-        names.append(name)
-        if len(rest) < 1 or any(not line.startswith("    ") for line in rest):
+        form = lines.pop(0) if lines and "=>" in lines[0] else ""
+        if not lines or any(not line.startswith("    ") for line in lines):
             raise SystemExit(f"kinds.txt: {name} has no reason")
-        old, arrow, new = rest[0].partition("=>")
-        if arrow:
+        names.append(name)
+        if form:
+            old, _, new = form.partition("=>")
             kinds.append(kind_of(name, words_of(old), words_of(new)))
     if len(names) > LIMIT or len(set(names)) < len(names):
         raise SystemExit(f"kinds.txt: {len(names)} kinds, {len(set(names))} names, of at most {LIMIT}")

@@ -35,6 +35,7 @@ WRONG = {
     "a feature stands before a statement": ("place/script.rs", "        if !is_script", '        #[cfg(feature = "alloc")]\n        if !is_script'),
     "an item is added": ("tag/kind.rs", "impl Kind {", "impl Drop for Held {\n    fn drop(&mut self) {}\n}\n\nimpl Kind {"),
     "a file has another source": ("place/script.rs", "langtag_place/src/script.rt", "langtag_place/src/region.rt"),
+    "a call for C answers otherwise": ("../c/src/calls/compare.rs", "Ordering::Less => -1", "Ordering::Less => 1"),
     "bytes that are no tag are empty": ("tag/lang_tag.rs", "return Err(InvalidLangTag(bytes));\n        };\n        Ok", "return Ok(LangTag::EMPTY);\n        };\n        Ok"),
 }
 
@@ -62,7 +63,8 @@ def main():
     checker, passed = checker_module(), []
     with tempfile.TemporaryDirectory() as name:
         folder = pathlib.Path(name) / "src"
-        shutil.copytree(checker.RUST / "src", folder)
+        for part in ("src", "c/src"):
+            shutil.copytree(checker.RUST / part, pathlib.Path(name) / part)
         for wrong, (file, old, new) in WRONG.items():
             if not is_refused(checker, folder, file, old, new):
                 passed.append(wrong)

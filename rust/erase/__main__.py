@@ -51,9 +51,11 @@ def write(out):
         for source in sorted((CRATES / module.crate / "src").glob("*.rt")):
             name = "mod.rs" if source.stem == "lib" else source.stem + ".rs"
             code, names = erase(source, module)
+            if module.crate == "langtag_c":
+                code.rewrite("mod $name;", "pub(crate) mod $name;")  # its exports stand beside it
             files[source, out / module.folder / name] = code
             conditional |= names
-    finish(files.values(), conditional)
+    finish([code for (_, path), code in files.items() if path.is_relative_to(out / "src")], conditional)
     for (source, path), code in files.items():
         path.parent.mkdir(parents=True, exist_ok=True)
         path.write_text(head(source) + str(code), encoding="utf-8")
@@ -83,18 +85,26 @@ def differences(new, old):
 
 
 def main(arguments):
+    if not shutil.which("rustfmt"):
+        sys.exit("rust/erase: there is no rustfmt")
+    folders = [module.folder for module in MODULES]
     with tempfile.TemporaryDirectory() as folder:
         out = pathlib.Path(folder)
         write(out)
-        folders = [module.folder for module in MODULES]
         if arguments == ["--check"]:
-            stale = [path for name in folders for path in differences(out / name, RUST / name)]
-            for path in stale:
-                print(f"rust/erase: {path.relative_to(RUST.parent)} is not what the eraser writes: run python3 rust/erase")
-            return bool(stale)
+            return check(out, folders)
         for name in folders:
             shutil.rmtree(RUST / name, ignore_errors=True)
             shutil.move(out / name, RUST / name)
+
+
+def check(out, folders):
+    stale = [path for name in folders for path in differences(out / name, RUST / name)]
+    for path in stale:
+        print(f"rust/erase: {path.relative_to(RUST.parent)} is not what the eraser writes: run python3 rust/erase")
+    if stale:
+        subprocess.run(["rustfmt", "--version"], check=True)
+    return bool(stale)
 
 
 if __name__ == "__main__":

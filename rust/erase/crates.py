@@ -20,6 +20,8 @@ MODULES = [
     Module("langtag_match", "src/matching", "crate::matching"),
     Module("langtag_registry", "src/registry", "crate::registry"),
     Module("langtag_likely", "src/likely", "crate::likely"),
+    # The C library is a crate of its own, rust/c, which has the modules above, too.
+    Module("langtag_c", "c/src/calls", "crate::calls"),
 ]
 
 # The modules that users name. What the others have they find at the root, as far as src/lib.rs has it.

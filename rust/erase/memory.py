@@ -1,4 +1,4 @@
-"""Allocation: Rattle's std takes an allocator and returns a Result; in Rust the functions of src/shim.rs do."""
+"""Allocation: Rattle's std takes an allocator and returns a Result; in Rust the functions of src/memory.rs do."""
 
 FORMS = [
     ("alloc: Global,", ""),

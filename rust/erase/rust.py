@@ -4,6 +4,8 @@ import re
 INLINED = 40  # A function of so few tokens is inlined across crates.
 
 FORMS = [
+    # The C library has its exports in a file of its own, rust/c/src/exports.rs.
+    ('#[unsafe(no_mangle)] pub extern "C" fn', "pub fn"),
     ("fn fmt<W: fmt::Write>", "fn fmt"),
     ("fmt::Formatter<W>", "fmt::Formatter<'_>"),
     (

@@ -34,8 +34,9 @@
 //! - rustc and `core`, in place of the compiler and the std of Rattle.
 //! - The differences between the two sources that are not contracts. There are some fifty kinds, and `checker/kinds.txt` gives
 //!   a reason for each. A checker that shares no code with the eraser refuses all others.
-//! - The files directly below `src`, which are written by hand. `shim.rs` has the allocation that returns an error, and the
-//!   comparison of tags by their text. The others add what Rust programs expect, such as `FromStr` and `AsRef<str>`.
+//! - The files directly below `src`, which are written by hand. Erased modules use two of them: `memory.rs` allocates and
+//!   returns an error if memory is refused, and `shim.rs` compares tags by their text. The others add what Rust programs
+//!   expect, such as `FromStr` and `AsRef<str>`.
 //! - The width of `usize`. It is proved for 64 bits that nothing overflows. 32 bits are tested, not proved.
 //! - Your own implementations of [`ByteSource`], [`likely::TagList`] and [`likely::RangeList`]. A fault there can give a
 //!   wrong answer or a panic, and nothing else: the crate has no unsafe code.
@@ -59,16 +60,18 @@
 //! |---|---|
 //! | `&LangTag`, `&Script` .., unsized types behind references | `LangTag<'a>`, `Script<'a>` .., `Copy` values |
 //! | `LangTagBuf`, `ScriptBuf` .. | the same names |
-//! | `X::new`, of anything that has text | `X::new(&str)`, `XBuf::new(String)`; `TryFrom`, `FromStr`; [`LangTag::from_bytes`] |
+//! | `X::new`, of anything that has text | `X::new(&str)`, `XBuf::new(String)`; `TryFrom`; `FromStr` of `XBuf`; [`LangTag::from_bytes`] |
 //! | `X::new_unchecked`, `XBuf::new_unchecked` | none: each value was tested |
 //! | `InvalidX` | the same names; [`InvalidLangTag::refusal`] says where a text goes wrong |
 //! | `as_str`, `as_bytes`, `as_x`, `into_string`, `Display`, `Debug` | the same names |
-//! | `into_bytes`, `validate` | `into_string().into_bytes()`, `X::new(text).is_ok()` |
-//! | `Deref<Target = str>`, `AsRef<str>`, `AsRef<[u8]>` | the same |
+//! | `into_bytes` | the same name |
+//! | `validate` | `X::new(text).is_ok()` |
+//! | `len`, `is_empty` | those of `str`, by `Deref` |
+//! | `Deref<Target = str>`, `AsRef<str>`, `AsRef<[u8]>` | the same, of owned forms too |
 //! | `Borrow` | [`CaselessText`], by which a map is asked with a text in any case |
 //! | `PartialEq` with `str`, `&str`, `String` | the same, both ways; case is ignored; also `eq_str` |
 //! | `PartialEq` with `[u8]` | [`case_insensitive_eq`] |
-//! | `ToOwned`, `Clone` of owned forms | `to_owned`, `Clone`; `try_to_owned` returns an error |
+//! | `ToOwned`, `Clone` of owned forms | the methods `to_owned` and `clone`; `try_to_owned` returns an error if memory is refused |
 //! | `language`, `script`, `region`, `variants`, `extensions`, `private_use`, `private_use_subtags` | the same names |
 //! | `kind`, `is_normal`, `is_private_use`, `is_grandfathered`, `as_normal`, `as_private_use`, `as_grandfathered` | the same names |
 //! | `Kind`, `TypedLangTag`, `PrivateUseLangTag`, `PrivateUseLangTagBuf` | the same names |
@@ -87,6 +90,8 @@
 #[cfg(feature = "alloc")]
 extern crate alloc;
 
+#[cfg(feature = "alloc")]
+mod memory;
 #[macro_use]
 mod shim;
 #[macro_use]
@@ -94,7 +99,8 @@ mod text_types;
 
 // The modules that rust/erase makes: each is a folder.
 mod case;
-#[allow(dead_code, unused_imports)] // The C library calls first_extension_end.
+// For the C library: first_extension_end.
+#[allow(dead_code, unused_imports)]
 mod extension;
 mod language;
 pub mod likely;
@@ -102,9 +108,9 @@ pub mod matching;
 mod place;
 mod private;
 pub mod registry;
-#[allow(dead_code, unused_imports)] // The C library calls viable_len_with_hyphen.
 mod scan;
-#[allow(dead_code, unused_imports)] // NormalLangTag::from_checked and segment_end are for crates of Rattle.
+// For crates of Rattle: NormalLangTag::from_checked, segment_end.
+#[allow(dead_code, unused_imports)]
 mod tag;
 
 // Habits of Rust, by hand over these.
@@ -112,6 +118,8 @@ mod caseless_text;
 mod invalid;
 #[cfg(feature = "alloc")]
 mod lent;
+#[cfg(feature = "alloc")]
+mod owned_errors;
 #[cfg(feature = "oxilangtag")]
 pub mod oxilangtag;
 #[cfg(feature = "serde")]
@@ -122,5 +130,12 @@ mod walks;
 
 pub use caseless_text::CaselessText;
 #[cfg(feature = "alloc")]
+pub use owned_errors::{AcceptLanguageErrorBuf, InvalidSubtagBuf, PosixErrorBuf};
+#[cfg(feature = "alloc")]
 pub use shim::AllocError;
 pub use tag::*;
+
+/// The examples of README.md.
+#[cfg(all(doctest, feature = "alloc"))]
+#[doc = include_str!("../README.md")]
+pub struct Readme;

@@ -33,6 +33,9 @@ fn texts_that_are_no_tags() {
         assert!(LangTag::try_from(text).is_err() && LangTag::try_from(text.as_bytes()).is_err());
         assert!(LangTag::new(text).unwrap_err().refusal().is_some());
     }
+    let bytes = &b"\xff"[..];
+    assert_eq!(LangTag::try_from(bytes), Err(InvalidLangTag(bytes)));
+    assert!(LangTag::try_from(&b" de"[..]).is_err());
     assert_eq!(
         LangTag::from_bytes(b"\xff"),
         Err(InvalidLangTag(&b"\xff"[..]))

@@ -85,6 +85,13 @@ fn are_found_by_what_owns_nothing() {
 
 #[test]
 fn are_compared_with_lent_ones() {
+    let (small, large) = (owned("de-at"), LangTag::new("DE-AT").unwrap());
+    assert_eq!(small, large);
+    assert_eq!(large, small);
+    assert!(small < LangTag::new("DE-CH").unwrap());
+    assert!(LangTag::new("de-at").unwrap() < owned("DE-CH"));
+    assert_eq!(owned("DE-at").into_bytes(), b"DE-at");
+    assert_ne!(InvalidLangTag("a b"), InvalidLangTag("a c"));
     let (owned, lent) = (owned("de-CH"), LangTag::new("de-AT").unwrap());
     assert_eq!(
         (lent < owned, owned < lent, LangTag::from(&owned) == owned),
@@ -234,6 +241,62 @@ fn errors_outlive_their_text() {
     assert_eq!(error("qt", "*"), "language qt is not registered");
     assert_eq!(read_range("d*"), Err(InvalidLanguageRange("d*".into())));
     assert!(read("de", "*").is_ok());
+}
+
+/// Those that have more than a text own it too, and say the same.
+#[test]
+fn errors_with_more_than_a_text() {
+    use langtag::likely::from_posix;
+    use langtag::registry::InvalidSubtag;
+
+    for text in [
+        "qt",
+        "zh-fra",
+        "zh-cmn-yue",
+        "fr-Abcd",
+        "fr-FQ",
+        "de-1997",
+        "de-1996-1996",
+        "fr-a-bb-A-cc",
+    ] {
+        let invalid = validate(LangTag::new(text).unwrap()).unwrap_err();
+        let owned = InvalidSubtagBuf::from(invalid);
+        assert_eq!(
+            (owned.as_invalid_subtag(), owned.to_string()),
+            (invalid, invalid.to_string())
+        );
+    }
+    fn read(header: &str, name: &str, tag: &str) -> Result<(), Box<dyn Error>> {
+        AcceptLanguage::new(header).map_err(AcceptLanguageError::into_owned)?;
+        from_posix(name).map_err(likely::PosixError::into_owned)?;
+        validate(LangTag::new(tag).map_err(InvalidLangTag::into_owned)?)
+            .map_err(InvalidSubtag::into_owned)?;
+        Ok(())
+    }
+    let said = |header, name, tag| read(header, name, tag).unwrap_err().to_string();
+    assert_eq!(
+        said("fr, de_CH", "de", "de"),
+        "element 1 has a bad language range"
+    );
+    assert_eq!(
+        said("fr", "C", "de"),
+        from_posix("C").unwrap_err().to_string()
+    );
+    assert_eq!(said("fr", "de", "qt"), "language qt is not registered");
+    let Err(AcceptLanguageErrorBuf::BadElement {
+        header,
+        index,
+        offset,
+        ..
+    }) = AcceptLanguage::new("fr,de;q=2").map_err(Into::into)
+    else {
+        panic!("it has a bad element");
+    };
+    assert_eq!((header.as_str(), index, offset), ("fr,de;q=2", 1, 3));
+    assert_eq!(
+        PosixErrorBuf::from(from_posix("C").unwrap_err()),
+        PosixErrorBuf::NoTag("C".into())
+    );
 }
 
 /// `?` on options, closures, and a struct that derives.

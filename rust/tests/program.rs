@@ -232,16 +232,65 @@ fn answers_do_not_wait() {
         .stdout(Stdio::piped())
         .spawn()
         .unwrap();
-    let (mut stdin, mut stdout) = (
-        child.stdin.take().unwrap(),
-        BufReader::new(child.stdout.take().unwrap()),
-    );
-    for (text, wanted) in [("iw\n", "he\n"), ("zh-yue\n", "yue\n")] {
+    let mut stdin = child.stdin.take().unwrap();
+    let stdout = BufReader::new(child.stdout.take().unwrap());
+    let (answers, answered) = std::sync::mpsc::channel();
+    std::thread::spawn(move || {
+        stdout
+            .lines()
+            .try_for_each(|line| answers.send(line.unwrap()))
+    });
+    for (text, wanted) in [("iw\n", "he"), ("zh-yue\n", "yue")] {
         stdin.write_all(text.as_bytes()).unwrap();
-        let mut line = String::new();
-        stdout.read_line(&mut line).unwrap();
-        assert_eq!(line, wanted);
+        let answer = answered.recv_timeout(std::time::Duration::from_secs(20));
+        assert_eq!(answer.as_deref(), Ok(wanted));
     }
     drop(stdin);
     assert!(child.wait().unwrap().success());
+}
+
+/// A directory can't be read, and nothing can be written to a device that is full.
+#[cfg(target_os = "linux")]
+#[test]
+fn failures() {
+    use std::fs::{File, OpenOptions};
+    let program = || {
+        let mut command = Command::new(env!("CARGO_BIN_EXE_langtag"));
+        command
+            .stdin(Stdio::null())
+            .stdout(Stdio::piped())
+            .stderr(Stdio::piped());
+        command
+    };
+    let full = || OpenOptions::new().write(true).open("/dev/full").unwrap();
+    for (output, said, status) in [
+        (
+            program()
+                .arg("show")
+                .stdin(File::open("/").unwrap())
+                .spawn()
+                .unwrap(),
+            "langtag: read failed\n",
+            4,
+        ),
+        (
+            program()
+                .args(["show", "de"])
+                .stdout(full())
+                .spawn()
+                .unwrap(),
+            "langtag: write failed\n",
+            5,
+        ),
+        (
+            program().arg("--help").stdout(full()).spawn().unwrap(),
+            "langtag: write failed\n",
+            5,
+        ),
+    ]
+    .map(|(child, said, status)| (child.wait_with_output().unwrap(), said, status))
+    {
+        let found = String::from_utf8(output.stderr).unwrap();
+        assert_eq!((output.status.code(), found.as_str()), (Some(status), said));
+    }
 }

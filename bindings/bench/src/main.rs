@@ -39,7 +39,7 @@ fn entry_langtag_parse(text: &str) -> usize {
 #[no_mangle]
 #[inline(never)]
 fn entry_langtag_verified(text: &str) -> usize {
-    let Ok(tag) = langtag_verified::LangTag::new(text) else {
+    let Ok(tag) = langtag::LangTag::new(text) else {
         return 0;
     };
     black_box((
@@ -114,16 +114,16 @@ fn entry_langtag_distance(text: &str) -> usize {
 #[no_mangle]
 #[inline(never)]
 fn entry_to_canonical(text: &str) -> usize {
-    let tag = langtag_verified::LangTag::new(text);
-    tag.map_or(0, |tag| black_box(tag.to_canonical()).as_str().len())
+    let tag = langtag::LangTag::new(text);
+    tag.map_or(0, |tag| black_box(langtag::registry::canonical(tag)).map_or(0, |form| form.len()))
 }
 
 /// Whether a tag is its canonical form, with the parse before it.
 #[no_mangle]
 #[inline(never)]
 fn entry_is_canonical(text: &str) -> usize {
-    let tag = langtag_verified::LangTag::new(text);
-    usize::from(tag.is_ok_and(|tag| tag.is_canonical()))
+    let tag = langtag::LangTag::new(text);
+    usize::from(tag.is_ok_and(langtag::registry::is_canonical))
 }
 
 /// The same as `entry_oxilangtag` by ICU's class `Locale`, in C++.

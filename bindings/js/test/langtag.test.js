@@ -124,7 +124,7 @@ test("likely subtags, distances and the best tag", () => {
     assert.deepEqual(["ar", "az-Arab", "he", "de", "ar-Latn"].map((text) => LanguageTag.parse(text).isRightToLeft), [true, true, true, false, false]);
     assert.equal(LanguageTag.fromPosix("pt_BR.UTF-8")?.text, "pt-BR");
     assert.equal(LanguageTag.fromPosix(""), undefined);
-    assert.ok(CLDR_VERSION >= 41);
+    assert.ok(CLDR_VERSION >= 48);
 });
 
 const HEADER_CALLS = [

@@ -1,10 +1,12 @@
-/* For a test of updates: the library as if a later registry preferred xx for de. langtag_pg.c is built beside it with
- * -Dlangtag_canonical=later_canonical -Dlangtag_registry_date=later_registry_date. */
+/* For a test of updates: the library as if a later registry preferred xx for de, and a later CLDR had fr in Belgium. langtag_pg.c
+ * is built beside it with -Dlangtag_canonical=later_canonical and so on (cluster.sh). */
 #include <langtag.h>
 #include <string.h>
 
 size_t later_canonical(const char *bytes, size_t len, char *buffer, size_t buffer_len);
 uint32_t later_registry_date(void);
+size_t later_maximize(const char *bytes, size_t len, char *buffer, size_t buffer_len);
+uint32_t later_cldr_version(void);
 
 size_t later_canonical(const char *bytes, size_t len, char *buffer, size_t buffer_len) {
     size_t form_len = langtag_canonical(bytes, len, buffer, buffer_len);
@@ -13,3 +15,11 @@ size_t later_canonical(const char *bytes, size_t len, char *buffer, size_t buffe
 }
 
 uint32_t later_registry_date(void) { return 20310101; }
+
+size_t later_maximize(const char *bytes, size_t len, char *buffer, size_t buffer_len) {
+    size_t form_len = langtag_maximize(bytes, len, buffer, buffer_len);
+    if (form_len == 10 && form_len <= buffer_len && memcmp(buffer, "fr-Latn-FR", 10) == 0) memcpy(buffer + 8, "BE", 2);
+    return form_len;
+}
+
+uint32_t later_cldr_version(void) { return 99; }

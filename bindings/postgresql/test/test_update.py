@@ -1,6 +1,7 @@
 #!/usr/bin/env python3
-"""The update to a release with another registry, which `later` of cluster.sh installed: what it warns of, what is old
+"""The update to a release with another registry and another CLDR, which `later` of cluster.sh installed: what it warns of, what is old
 afterwards, and what renews it."""
+import re
 import unittest
 
 import server
@@ -10,9 +11,10 @@ CREATE EXTENSION amcheck;
 CREATE TABLE t (id serial, tag langtag CHECK (is_valid(tag)), form langtag GENERATED ALWAYS AS (canonical(tag)) STORED, other langtag DEFAULT canonical('iw'));
 INSERT INTO t (tag) VALUES ('de'), ('de-CH'), ('iw'), ('fr');
 CREATE UNIQUE INDEX t_canonical ON t (canonical(tag)); CREATE INDEX t_form ON t (form); CREATE INDEX t_tag ON t (tag);
-CREATE INDEX t_valid ON t (tag) WHERE is_valid(tag);
+CREATE INDEX t_valid ON t (tag) WHERE is_valid(tag); CREATE INDEX t_maximal ON t (maximized(tag));
 CREATE MATERIALIZED VIEW m AS SELECT canonical(tag) AS form FROM t; CREATE VIEW v AS SELECT canonical(tag) AS form FROM t;
-CREATE MATERIALIZED VIEW through AS SELECT count(*) AS n FROM v; CREATE DOMAIN valid AS langtag CHECK (is_valid(VALUE));
+CREATE MATERIALIZED VIEW through AS SELECT count(*) AS n FROM v; CREATE VIEW v_of_m AS SELECT form FROM m;
+CREATE MATERIALIZED VIEW above AS SELECT count(*) AS n FROM v_of_m; CREATE INDEX m_form ON m (form); CREATE DOMAIN valid AS langtag CHECK (is_valid(VALUE));
 CREATE FUNCTION form_of(tag langtag) RETURNS langtag IMMUTABLE BEGIN ATOMIC SELECT canonical(tag); END; CREATE INDEX t_by_function ON t (form_of(tag));
 CREATE TABLE parted (tag langtag) PARTITION BY HASH (canonical(tag));
 """
@@ -32,20 +34,22 @@ CREATE OPERATOR CLASS by_form FOR TYPE langtag USING hash AS OPERATOR 1 ===, FUN
 CREATE INDEX o_class ON o USING hash (tag by_form); CREATE TABLE o_spread (tag langtag) PARTITION BY HASH (tag by_form);
 CREATE FUNCTION form_cmp(langtag, langtag) RETURNS integer IMMUTABLE STRICT BEGIN ATOMIC SELECT langtag_cmp(canonical($1), canonical($2)); END;
 CREATE OPERATOR FAMILY in_order USING btree; CREATE OPERATOR CLASS in_order FOR TYPE langtag USING btree FAMILY in_order AS
-    OPERATOR 3 =, FUNCTION 1 form_cmp(langtag, langtag);
-CREATE INDEX o_order ON o (tag in_order);
+    OPERATOR 3 ===, FUNCTION 1 form_cmp(langtag, langtag);
+CREATE UNIQUE INDEX o_order ON o (tag in_order); CREATE TABLE o_key (tag langtag REFERENCES o (tag));
 """
 WARNINGS = [
     "check anew: constraint t_tag_check on table t", "check anew: constraint valid_check of the domain valid",
-    "move rows between the partitions of parted", "REFRESH MATERIALIZED VIEW m", "REFRESH MATERIALIZED VIEW through",
-    "REINDEX INDEX t_by_function", "REINDEX INDEX t_canonical", "REINDEX INDEX t_valid", "UPDATE t SET tag = tag, for form",
+    "move rows between the partitions of parted", "REFRESH MATERIALIZED VIEW m", "REFRESH MATERIALIZED VIEW through", "REFRESH MATERIALIZED VIEW above",
+    "REINDEX INDEX t_by_function", "REINDEX INDEX t_canonical", "REINDEX INDEX t_maximal", "REINDEX INDEX t_valid", "UPDATE t SET tag = tag, for form",
     "check anew: constraint o_tag_check on table o", "check anew: constraint same_check of the domain same",
+    "check anew: constraint o_key_tag_fkey on table o_key",
     "move rows between the partitions of o_parted", "move rows between the partitions of o_spread", "REFRESH MATERIALIZED VIEW o_forms",
     "REFRESH MATERIALIZED VIEW o_through", "REINDEX INDEX o_class", "REINDEX INDEX o_form", "REINDEX INDEX o_order", "REINDEX INDEX o_same",
     "UPDATE o SET tag = tag, for form",
 ]
 # What a scan finds, and an old index does not.
 LOST = ["@@@ tag = 'xx'", "tag === 'xx'"]
+LOST_BY_CLDR = "SELECT tag FROM t WHERE maximized(tag) = 'fr-Latn-BE'"
 BY_INDEX = "SET enable_seqscan = off; SET enable_bitmapscan = off; "
 BY_SCAN = "SET enable_indexscan = off; SET enable_indexonlyscan = off; SET enable_bitmapscan = off; "
 
@@ -60,10 +64,12 @@ class Update(unittest.TestCase):
         self.says("SELECT canonical('de'), langtag_registry_date() > '2025'", "de|t")
         # In one session, where the old module was loaded before.
         said, complaint = server.run("SELECT canonical('de'); ALTER EXTENSION langtag UPDATE TO '0.2.0'; SELECT "
-                                     "canonical('de'), langtag_registry_date(), is_valid('de'), 'DE'::langtag", "updated")
-        self.assertEqual(said, ["de", "xx|2031-01-01|t|de"])
+                                     "canonical('de'), langtag_registry_date(), langtag_cldr_version(), maximized('fr'), is_valid('de'), 'DE'::langtag", "updated")
+        self.assertEqual(said, ["de", "xx|2031-01-01|99|fr-Latn-BE|t|de"])
         warned = sorted(line.split("WARNING:  ")[1] for line in complaint.splitlines() if "WARNING:" in line)
-        self.assertEqual(warned, sorted(f"values by the older registry: {what}" for what in WARNINGS))
+        self.assertEqual(warned, sorted(f"values by the older data: {what}" for what in WARNINGS))
+        views = re.findall("MATERIALIZED VIEW (.*)", complaint)
+        self.assertLess(views.index("m"), views.index("above"))
         # The index is old, the generated column too, but it is what it says.
         self.says(BY_INDEX + "SELECT tag FROM t WHERE canonical(tag) = 'xx'")
         self.says(BY_SCAN + "SELECT tag FROM t WHERE canonical(tag) = 'xx'", "de")
@@ -78,12 +84,15 @@ class Update(unittest.TestCase):
                   "SELECT form FROM m WHERE form <@ 'xx' ORDER BY 1", "", "", "0", "xx", "xx-CH")
         self.says(BY_INDEX + "SELECT tag FROM t WHERE canonical(tag) = 'xx'", "de")
 
+        self.says(BY_INDEX + LOST_BY_CLDR)
+        self.says(BY_SCAN + LOST_BY_CLDR, "fr")
         for where in LOST:
             self.says(f"{BY_INDEX}SELECT tag FROM o WHERE {where}")
             self.says(f"{BY_SCAN}SELECT tag FROM o WHERE {where}", "de")
         for what in WARNINGS:
             if what.startswith("RE"):
                 server.lines(what, "updated")
+        self.says(BY_INDEX + LOST_BY_CLDR, "fr")
         for where in LOST:
             self.says(f"{BY_INDEX}SELECT tag FROM o WHERE {where}", "de")
         self.says("SELECT form FROM o_forms ORDER BY 1; SELECT * FROM o_through", "he", "xx", "1")

@@ -7,7 +7,7 @@ import subprocess
 import sys
 
 HERE = pathlib.Path(__file__).resolve().parent.parent
-C, SQL = "langtag_pg.c", "langtag--0.1.0.sql"
+C, SQL = "langtag_pg.c", "langtag.sql.in"
 
 # A fault: the file, what stands there (the first time), and what is put in its place.
 FAULTS = [
@@ -45,7 +45,7 @@ FAULTS = [
     (C, "return DatumBigEndianToNative(number);", "return number;"),
     (C, "BYTES(b), LEN(b)) >= 0 ? a : b", "BYTES(b), LEN(b)) <= 0 ? a : b"),
     (C, "[LANGTAG_PRIVATE_USE] = \"private use\"", "[LANGTAG_PRIVATE_USE] = \"irregular\""),
-    (SQL, "'$libdir/langtag-2025-05-15-cldr41', 'pg_langtag_canonical'", "'MODULE_PATHNAME', 'pg_langtag_canonical'"),
+    (SQL, "'$libdir/@MODULE@', 'pg_langtag_canonical'", "'MODULE_PATHNAME', 'pg_langtag_canonical'"),
     (SQL, ", FUNCTION 4 btequalimage(oid)", ""),
     (SQL, "WITHOUT FUNCTION AS ASSIGNMENT", "WITHOUT FUNCTION AS IMPLICIT"),
     (SQL, "'pg_langtag_matches_extended'", "'pg_langtag_matches_basic'"),

@@ -16,6 +16,12 @@ use crate::lang_tag::LangTag;
 use langtag_scan::{case_insensitive_eq, segment_end, segment_start, viable_len_with_hyphen};
 
 /// Why bytes are not a tag (RFC 5646 section 2.1).
+///
+/// ```
+/// use langtag::{Refusal, RefusalKind};
+///
+/// Refusal::of(b"zh_Hant").map(|it| it.kind); // Some(RefusalKind::Byte)
+/// ```
 #[derive(Clone, Copy, Debug, PartialEq, Eq)]
 pub enum RefusalKind {
     /// A subtag does not fit where it stands, or is empty: `DE` of `de-419-DE`.
@@ -27,6 +33,13 @@ pub enum RefusalKind {
 }
 
 /// Where bytes that are not a tag go wrong. The numbers are offsets in bytes.
+///
+/// ```
+/// use langtag::Refusal;
+///
+/// let refusal = Refusal::of(b"de-419-DE");
+/// refusal.map(|it| (it.start, it.end, it.offset)); // Some((7, 9, 7))
+/// ```
 #[derive(Clone, Copy, Debug, PartialEq, Eq)]
 pub struct Refusal {
     /// Why they are refused.

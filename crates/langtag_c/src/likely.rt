@@ -45,7 +45,7 @@ pub extern "C" fn langtag_minimize(bytes: &[u8], buffer: &mut [u8]) -> usize
     }
 }
 
-/// Returns the version of Unicode's CLDR whose likely subtags these are.
+/// Returns the major version of the Unicode CLDR whose likely subtags these are, such as 48 for CLDR 48.2.
 #[tactic(auto, using(crate::proofs::DateLaws::version_fits))]
 #[unsafe(no_mangle)]
 pub extern "C" fn langtag_cldr_version() -> u32

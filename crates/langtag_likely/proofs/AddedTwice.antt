@@ -6,9 +6,9 @@ use Rattle.std.specs.Option.{option_map_or}
 use Rattle.std.proofs.lemmas.Bool.{and_parts}
 use Rattle.langtag_scan.specs.Case.{Alike, are_alike, fold_text}
 use Rattle.langtag_likely.specs.Likely.{Fields, Likely, are_alike_fields, likely_for, looked_up, or_else, or_other, filled, known, known_fields, add_likely, language_alone, without_script, without_region}
-use Rattle.langtag_likely.specs.LikelySubtags.{likely_subtags}
+use Rattle.langtag_likely.specs.LikelySubtags.{other_rows, likely_subtags}
 use Rattle.langtag_likely.proofs.AlikeFields.{AlikeFields, alike_is, alike_fields, likely_for-alike, looked_up-alike, alone_alike}
-use Rattle.langtag_likely.proofs.SettledRows.{is_there, is_language_row, is_kept, is_whole, stays_unknown, is_other_row, is_settled, rows_settled}
+use Rattle.langtag_likely.proofs.SettledRows.{is_there, is_language_row, is_kept, is_whole, has_bit, stays_unknown, is_other_row, is_settled, rows_settled, row_by_bit, looked_up_other}
 
 -- ---- texts that are there
 
@@ -50,10 +50,6 @@ or_other_absent (x ∷ a) b h = absurd cc
 there_other : (a b : List ℕ) → is_there b ≡ true → is_there (or_other a b) ≡ true
 there_other [] b h = h
 there_other (x ∷ a) b h = refl
-
-there_first : (a b : List ℕ) → is_there a ≡ true → is_there (or_other a b) ≡ true
-there_first [] b h = absurd cc
-there_first (x ∷ a) b h = refl
 
 other_test : (unknown a b : List ℕ) → are_alike unknown a ≡ false → are_alike unknown b ≡ false → are_alike unknown (or_other a b) ≡ false
 other_test unknown [] b ha hb = hb
@@ -137,6 +133,7 @@ record IsWhole (row : Likely) : Type 0 where
   script : is_there row.to.script ≡ true
   script_known : are_alike (codes "Zzzz") row.to.script ≡ false
   region : is_there row.to.region ≡ true
+  region_known : are_alike (codes "ZZ") row.to.region ≡ false
   language_known : are_alike (codes "und") row.to.language ≡ false
   kept : is_kept row.from.language row.to.language ≡ true
 
@@ -145,19 +142,21 @@ whole_of row h =
     let a = and_parts _ _ h in
     let b = and_parts _ _ a.0 in
     let c = and_parts _ _ a.1 in
+    let r = and_parts _ _ c.0 in
     let d = and_parts _ _ c.1 in
-    record { script = b.0; script_known = from_not _ b.1; region = c.0; language_known = from_not _ d.0; kept = d.1 }
+    record { script = b.0; script_known = from_not _ b.1; region = r.0; region_known = from_not _ r.1; language_known = from_not _ d.0; kept = d.1 }
 
-record IsOther (row : Likely) : Type 0 where
-  region : are_alike (codes "ZZ") row.to.region ≡ false
-  language : cond (is_there row.to.language) (is_some (likely_for likely_subtags (language_alone row.to))) (stays_unknown row) ≡ true
-  from_language : (not (is_there row.from.language) || option_map_or (λ v. not (are_alike (codes "ZZ") v.region)) (likely_for likely_subtags (language_alone row.from)) true) ≡ true
-
-other_of : (row : Likely) → is_other_row row ≡ true → IsOther row
-other_of row h =
-    let a = and_parts _ _ h in
-    let b = and_parts _ _ a.1 in
-    record { region = from_not _ a.0; language = b.0; from_language = b.1 }
+-- of another row: its language, if it has one, has a row of its own
+other_of :
+    (row : Likely) → is_other_row row ≡ true →
+    cond (is_there row.to.language) (is_some (likely_for likely_subtags (language_alone row.to))) (stays_unknown row) ≡ true
+other_of row h = either_way (is_there row.to.language)
+    (λ there.
+    let known = sym (ap (λ b. cond b (has_bit row.to.language) (stays_unknown row)) there) ∙ h in
+    ap (λ b. cond b (is_some (likely_for likely_subtags (language_alone row.to))) (stays_unknown row)) there ∙ row_by_bit row.to.language known)
+    (λ none.
+    let known = sym (ap (λ b. cond b (has_bit row.to.language) (stays_unknown row)) none) ∙ h in
+    ap (λ b. cond b (is_some (likely_for likely_subtags (language_alone row.to))) (stays_unknown row)) none ∙ known)
 
 record IsOfLanguage (row : Likely) : Type 0 where
   language : is_there row.from.language ≡ true
@@ -175,7 +174,7 @@ record StaysUnknown (row : Likely) : Type 0 where
   some : (is_there row.from.script || is_there row.from.region) ≡ true
   script : is_kept row.from.script row.to.script ≡ true
   region : is_kept row.from.region row.to.region ≡ true
-  settles : option_map_or (λ v. not (is_there v.language)) (looked_up likely_subtags row.to) false ≡ true
+  settles : option_map_or (λ v. not (is_there v.language)) (looked_up other_rows row.to) false ≡ true
 
 unknown_of : (row : Likely) → stays_unknown row ≡ true → StaysUnknown row
 unknown_of row h =
@@ -229,10 +228,10 @@ module _ (f : Fields) (row : Likely) (key : Fields) (is_key : IsKey f key) (from
       (record { language = sym from_is.language ∙ same; script = sym from_is.script ∙ ap fold_text is.script; region = sym from_is.region ∙ ap fold_text is.region }))
       ∙ found
 
-  alone_other : IsOther row → is_there row.to.language ≡ true → Alike row.to.language most.language → is_some (likely_for likely_subtags (language_alone most)) ≡ true
+  alone_other : is_other_row row ≡ true → is_there row.to.language ≡ true → Alike row.to.language most.language → is_some (likely_for likely_subtags (language_alone most)) ≡ true
   alone_other other there same =
       ap is_some (sym (likely_for-alike likely_subtags (language_alone row.to) (language_alone most) (alone_alike row.to most same)))
-      ∙ sym (ap (λ b. cond b (is_some (likely_for likely_subtags (language_alone row.to))) (stays_unknown row)) there) ∙ other.language
+      ∙ sym (ap (λ b. cond b (is_some (likely_for likely_subtags (language_alone row.to))) (stays_unknown row)) there) ∙ other_of row other
 
   kept_language : is_there row.from.language ≡ true → Alike row.from.language row.to.language
   kept_language there = alike_is _ _ (sym (ap (λ b. not b || are_alike row.from.language row.to.language) there) ∙ whole.kept)
@@ -247,7 +246,7 @@ module _ (f : Fields) (row : Likely) (key : Fields) (is_key : IsKey f key) (from
           let from_same : Alike row.from.language most.language = language_same ∙ ap fold_text (sym same) in
           by_or (is_language_row row) (is_other_row row)
           (λ is. ap is_some (alone_by most.language from_same (language_of row is)))
-          (λ is. alone_other (other_of row is) (sym (there_alike _ _ (kept_language from_there)) ∙ from_there) (sym (kept_language from_there) ∙ from_same))
+          (λ is. alone_other is (sym (there_alike _ _ (kept_language from_there)) ∙ from_there) (sym (kept_language from_there) ∙ from_same))
           kind
 
       unwritten : is_there f.language ≡ false → is_some (likely_for likely_subtags (language_alone most)) ≡ true
@@ -255,7 +254,7 @@ module _ (f : Fields) (row : Likely) (key : Fields) (is_key : IsKey f key) (from
           let same : most.language ≡ row.to.language = or_other_absent f.language row.to.language it in
           by_or (is_language_row row) (is_other_row row)
           (λ is. clash _ (language_of row is).language (there_alike _ _ language_same ∙ it))
-          (λ is. alone_other (other_of row is) (sym (ap is_there same) ∙ there) (ap fold_text (sym same)))
+          (λ is. alone_other is (sym (ap is_there same) ∙ there) (ap fold_text (sym same)))
           kind
 
   script_there : is_there most.script ≡ true
@@ -282,7 +281,7 @@ module _ (f : Fields) (row : Likely) (key : Fields) (is_key : IsKey f key) (from
       unknown =
           by_or (is_language_row row) (is_other_row row)
           (λ is. clash _ (language_of row is).language (there_alike _ _ language_same ∙ f_none))
-          (λ is. unknown_of row (sym (ap (λ b. cond b (is_some (likely_for likely_subtags (language_alone row.to))) (stays_unknown row)) to_none) ∙ (other_of row is).language))
+          (λ is. unknown_of row (sym (ap (λ b. cond b (is_some (likely_for likely_subtags (language_alone row.to))) (stays_unknown row)) to_none) ∙ other_of row is))
           kind
 
       no_language : most.language ≡ []
@@ -303,12 +302,14 @@ module _ (f : Fields) (row : Likely) (key : Fields) (is_key : IsKey f key) (from
           let region_from : is_there f.region ≡ true → is_there row.from.region ≡ true =
           λ there. by_or (is_there row.from.script) (is_there row.from.region)
           (λ h. clash _ h (absent_key f.script row.from.script key.script is_key.script from_is.script (and_false-turned (is_there f.script) (is_there f.region) one there))) (λ h. h) unknown.some in
+          let settles =
+          ap (λ o. option_map_or (λ v. not (is_there v.language)) o false) (sym (looked_up_other row.to (absent row.to.language to_none))) ∙ unknown.settles in
           let same : AlikeFields most row.to = record {
             language = ap fold_text (or_other_absent f.language row.to.language f_none);
             script = field_alike f.script row.to.script row.from.script key.script is_key.script from_is.script unknown.script script_from;
             region = field_alike f.region row.to.region row.from.region key.region is_key.region from_is.region unknown.region region_from;
           } in
-          ap (option_map (filled most)) (looked_up-alike most row.to same) ∙ by_row (looked_up likely_subtags row.to) unknown.settles
+          ap (option_map (filled most)) (looked_up-alike most row.to same) ∙ by_row (looked_up likely_subtags row.to) settles
         where
           by_row : (o : Option Fields) → option_map_or (λ v. not (is_there v.language)) o false ≡ true → option_map (filled most) o ≡ Some most
           by_row None h = absurd cc
@@ -318,69 +319,14 @@ module _ (f : Fields) (row : Likely) (key : Fields) (is_key : IsKey f key) (from
               let same : filled most v ≡ most = rw (no_other, or_other_there most.script v.script script_there, or_other_there most.region v.region region_there) refl in
               ap Some same
 
-  -- ---- the region of a right side is unknown
-
-  zz_again : are_alike (codes "ZZ") most.region ≡ true → add_likely likely_subtags (known_fields most) ≡ Some most
-  zz_again zz =
-      ap (add_likely likely_subtags) same
-      ∙ ap (λ o. option_map (filled k) (or_else o (or_else o (or_else (likely_for likely_subtags (without_script k)) (likely_for likely_subtags (language_alone k)))))) (none (likely_for likely_subtags k) refl)
-      ∙ ap (λ o. option_map (filled k) (or_else o (likely_for likely_subtags (language_alone k)))) (alone_by most.language to_most of_language)
-      ∙ ap Some whole_most
-    where
-      f_none : is_there f.region ≡ false
-      f_none = either_way (is_there f.region) (λ there. clash _ (sym (ap (are_alike (codes "ZZ")) (or_other_there f.region row.to.region there)) ∙ zz) region_known) (λ h. h)
-
-      to_zz : are_alike (codes "ZZ") row.to.region ≡ true
-      to_zz = sym (ap (are_alike (codes "ZZ")) (or_other_absent f.region row.to.region f_none)) ∙ zz
-
-      of_language : IsOfLanguage row
-      of_language = by_or (is_language_row row) (is_other_row row) (language_of row) (λ is. clash _ to_zz (other_of row is).region) kind
-
-      f_there : is_there f.language ≡ true
-      f_there = sym (there_alike _ _ language_same) ∙ of_language.language
-
-      to_most : Alike row.from.language most.language
-      to_most = language_same ∙ ap fold_text (sym (or_other_there f.language row.to.language f_there))
-
-      most_there : is_there most.language ≡ true
-      most_there = there_first f.language row.to.language f_there
-
-      k : Fields
-      k = record { language = most.language; script = most.script; region = [] }
-
-      same : known_fields most ≡ k
-      same = rw (known_stays (codes "Zzzz") most.script script_not, known_goes (codes "ZZ") most.region zz) refl
-
-      no_row : (w : Fields) → likely_for likely_subtags k ≡ Some w → ⊥
-      no_row w is =
-          let r = row_of likely_subtags k w rows_settled is in
-          by_or (is_language_row r.row) (is_other_row r.row)
-          (λ h. clash _ (there_alike _ _ r.from_is.script ∙ script_there) (ap is_there (language_of r.row h).script))
-          (λ h.
-          let there : is_there r.row.from.language ≡ true = there_alike _ _ r.from_is.language ∙ most_there in
-          let alone = alone_by r.row.from.language (to_most ∙ sym r.from_is.language) of_language in
-          let known_region =
-          sym (ap (λ b. not b || option_map_or (λ v. not (are_alike (codes "ZZ") v.region)) (likely_for likely_subtags (language_alone r.row.from)) true) there
-          ∙ ap (λ o. option_map_or (λ v. not (are_alike (codes "ZZ") v.region)) o true) alone)
-          ∙ (other_of r.row h).from_language in
-          clash _ to_zz (from_not (are_alike (codes "ZZ") row.to.region) known_region))
-          (and_parts (is_whole r.row) (is_language_row r.row || is_other_row r.row) r.settled).1
-
-      none : (o : Option Fields) → likely_for likely_subtags k ≡ o → likely_for likely_subtags k ≡ None
-      none None is = is
-      none (Some w) is = absurd (no_row w is)
-
-      whole_most : filled k row.to ≡ most
-      whole_most = rw (or_other_there most.language row.to.language most_there, or_other_there most.script row.to.script script_there, or_other_absent f.region row.to.region f_none) refl
+  region_not : are_alike (codes "ZZ") most.region ≡ false
+  region_not = other_test (codes "ZZ") f.region row.to.region region_known whole.region_known
 
   added_again : add_likely likely_subtags (known_fields most) ≡ Some most
-  added_again = either_way (are_alike (codes "ZZ") most.region) zz_again known_region
-    where
-      known_region : are_alike (codes "ZZ") most.region ≡ false → add_likely likely_subtags (known_fields most) ≡ Some most
-      known_region h =
-          let same : known_fields most ≡ most = rw (known_stays (codes "Zzzz") most.script script_not, known_stays (codes "ZZ") most.region h) refl in
-          ap (add_likely likely_subtags) same
-          ∙ either_way (is_there most.language) (λ there. whole_again most there script_there region_there (alone_found there)) unknown_again
+  added_again =
+      let same : known_fields most ≡ most = rw (known_stays (codes "Zzzz") most.script script_not, known_stays (codes "ZZ") most.region region_not) refl in
+      ap (add_likely likely_subtags) same
+      ∙ either_way (is_there most.language) (λ there. whole_again most there script_there region_there (alone_found there)) unknown_again
 
 -- ---- whatever is added to fields that are known
 

@@ -1,8 +1,8 @@
 -- The numbers of fields tell them apart but for case.
-use Rattle.std.proofs.Common.{◌≡◌, ℕ, suc, ◌+◌, ◌*◌, ◌<◌, ◌≤◌, true, ◌==◌, Bool, ltb, List, [], ◌∷◌, length, get_or, Option, None, Some, inl, inr, refl, sym, ap, ◌∙◌, arith}
+use Rattle.std.proofs.Common.{◌≡◌, ℕ, suc, ◌+◌, ◌*◌, ◌<◌, ◌≤◌, true, ◌==◌, Bool, leb, List, [], ◌∷◌, length, get_or, Option, None, Some, inl, inr, refl, sym, ap, ◌∙◌, arith}
 use Rattle.std.specs.Option.{option_map_or}
 use Rattle.std.specs.Prelude.{◌&&◌}
-use Rattle.std.proofs.lemmas.Bool.{and_parts, ltb-true, eq-eqb, ne_eqb}
+use Rattle.std.proofs.lemmas.Bool.{and_parts, leb-true, eq-eqb, ne_eqb}
 use Rattle.std.proofs.lemmas.Bool.Decides.{eqb_tells}
 use Rattle.langtag_scan.specs.Case.{are_alike}
 use Rattle.langtag_scan.specs.Class.{are_letters, are_alphanumeric}
@@ -95,36 +95,42 @@ add_one-tells a b = elim (eqb_tells a b) [
 abbrev pub are_plain : Fields → Bool
 are_plain f = are_letters f.language && (are_alphanumeric f.script && are_alphanumeric f.region)
 
+-- a text is not there, or among the texts whose numbers are these
+abbrev pub is_placed : List ℕ → List ℕ → Bool
+is_placed keys text = leb (place keys text) (length keys)
+
 -- a row whose left side has a script and a region of the tables
 abbrev pub is_numbered : Likely → Bool
-is_numbered row = are_plain row.from && (ltb (place SCRIPT_KEYS row.from.script) 167 && ltb (place REGION_KEYS row.from.region) 257)
+is_numbered row = are_plain row.from && (is_placed SCRIPT_KEYS row.from.script && is_placed REGION_KEYS row.from.region)
 
-script_count : length SCRIPT_KEYS ≡ 166
-script_count = refl
+few_scripts : leb (length SCRIPT_KEYS) 254 ≡ true
+few_scripts = refl
 
-region_count : length REGION_KEYS ≡ 256
-region_count = refl
+few_regions : leb (length REGION_KEYS) 256 ≡ true
+few_regions = refl
 
 pub key_number-tells : (key : Fields) (row : Likely) → are_plain key ≡ true → is_numbered row ≡ true → (key_number key == key_number row.from) ≡ are_alike_fields row.from key
 unfolding key_number
 key_number-tells key row plain numbered =
-    let k = and_parts (are_plain row.from) (ltb (place SCRIPT_KEYS row.from.script) 167 && ltb (place REGION_KEYS row.from.region) 257) numbered in
+    let k = and_parts (are_plain row.from) (is_placed SCRIPT_KEYS row.from.script && is_placed REGION_KEYS row.from.region) numbered in
     let kl = and_parts (are_letters row.from.language) (are_alphanumeric row.from.script && are_alphanumeric row.from.region) k.0 in
     let ks = and_parts (are_alphanumeric row.from.script) (are_alphanumeric row.from.region) kl.1 in
-    let within = and_parts (ltb (place SCRIPT_KEYS row.from.script) 167) (ltb (place REGION_KEYS row.from.region) 257) k.1 in
-    let script = ltb-true (place SCRIPT_KEYS row.from.script) 167 within.0 in
-    let region = ltb-true (place REGION_KEYS row.from.region) 257 within.1 in
+    let within = and_parts (is_placed SCRIPT_KEYS row.from.script) (is_placed REGION_KEYS row.from.region) k.1 in
+    let script = leb-true (place SCRIPT_KEYS row.from.script) (length SCRIPT_KEYS) within.0 in
+    let region = leb-true (place REGION_KEYS row.from.region) (length REGION_KEYS) within.1 in
+    let scripts = leb-true (length SCRIPT_KEYS) 254 few_scripts in
+    let regions = leb-true (length REGION_KEYS) 256 few_regions in
     let l = and_parts (are_letters key.language) (are_alphanumeric key.script && are_alphanumeric key.region) plain in
     let ls = and_parts (are_alphanumeric key.script) (are_alphanumeric key.region) l.1 in
     let bs = place-bound SCRIPT_KEYS key.script in
     let br = place-bound REGION_KEYS key.region in
     three-tell (letter_number key.language) (place SCRIPT_KEYS key.script) (place REGION_KEYS key.region + 1) (letter_number row.from.language) (place SCRIPT_KEYS row.from.script) (place REGION_KEYS row.from.region + 1)
-    (omega (arith, bs, script_count)) (omega (arith, br, region_count)) (omega (arith, script)) (omega (arith, region))
+    (omega (arith, bs, scripts)) (omega (arith, br, regions)) (omega (arith, script, scripts)) (omega (arith, region, regions))
     ∙ ap (λ b. (letter_number key.language == letter_number row.from.language) && ((place SCRIPT_KEYS key.script == place SCRIPT_KEYS row.from.script) && b))
     (add_one-tells (place REGION_KEYS key.region) (place REGION_KEYS row.from.region))
     ∙ ap (λ b. b && ((place SCRIPT_KEYS key.script == place SCRIPT_KEYS row.from.script) && (place REGION_KEYS key.region == place REGION_KEYS row.from.region)))
     (letter_number-tells row.from.language key.language kl.0 l.0)
     ∙ ap (λ b. are_alike row.from.language key.language && (b && (place REGION_KEYS key.region == place REGION_KEYS row.from.region)))
-    (place-tells SCRIPT_KEYS row.from.script key.script ks.0 ls.0 (omega (arith, script, script_count)))
+    (place-tells SCRIPT_KEYS row.from.script key.script ks.0 ls.0 script)
     ∙ ap (λ b. are_alike row.from.language key.language && (are_alike row.from.script key.script && b))
-    (place-tells REGION_KEYS row.from.region key.region ks.1 ls.1 (omega (arith, region, region_count)))
+    (place-tells REGION_KEYS row.from.region key.region ks.1 ls.1 region)

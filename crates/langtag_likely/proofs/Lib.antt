@@ -16,6 +16,7 @@ pub mod FormLaws
 pub mod FormsTwice
 pub mod GoodForms
 pub mod KeyNumbers
+pub mod LanguageBits
 pub mod LeastTwice
 pub mod LoneLanguages
 pub mod LookUpAnswers

@@ -43,7 +43,7 @@ pub aliases_short : list_all is_short_row list.language_aliases ≡ true
 unfolding list.language_aliases fold_byte
 aliases_short = refl
 
-pub alias_count : length list.language_aliases ≡ 9
+pub alias_count : length list.language_aliases ≡ length table.ALIAS_LANGUAGES
 unfolding list.language_aliases fold_byte
 alias_count = refl
 
@@ -80,7 +80,7 @@ pub region_aliases_alone : list_all is_region_alone list.region_aliases ≡ true
 unfolding list.region_aliases is_letter is_digit fold_byte
 region_aliases_alone = refl
 
-pub region_alias_count : length list.region_aliases ≡ 27
+pub region_alias_count : length list.region_aliases ≡ length table.REGION_ALIAS_NAMES
 unfolding list.region_aliases fold_byte
 region_alias_count = refl
 
@@ -106,7 +106,7 @@ pub language_rules_short : list_all is_short list.language_rules ≡ true
 unfolding list.language_rules fold_byte
 language_rules_short = refl
 
-pub language_rule_count : length list.language_rules ≡ 317
+pub language_rule_count : length list.language_rules ≡ length table.LANGUAGE_RULE_DISTANCES
 unfolding list.language_rules fold_byte
 language_rule_count = refl
 
@@ -132,7 +132,7 @@ pub script_rules_short : list_all is_short list.script_rules ≡ true
 unfolding list.script_rules fold_byte
 script_rules_short = refl
 
-pub script_rule_count : length list.script_rules ≡ 50
+pub script_rule_count : length list.script_rules ≡ length table.SCRIPT_RULE_DISTANCES
 unfolding list.script_rules fold_byte
 script_rule_count = refl
 

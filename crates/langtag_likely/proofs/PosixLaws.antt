@@ -1,5 +1,5 @@
 -- The tag of a POSIX locale's name: its parts, and its length.
-use Rattle.std.proofs.Common.{ℕ, true, false, Bool, cond, List, [], ◌∷◌, length, Option, None, Some, IsTrue, refl}
+use Rattle.std.proofs.Common.{ℕ, true, false, Bool, cond, List, [], ◌∷◌, Option, None, Some, IsTrue, refl}
 use Rattle.std.specs.Prelude.{codes, MatchOption}
 use Rattle.langtag_scan.specs.Case.{are_alike}
 use Rattle.langtag_scan.specs.Class.{is_letter, is_digit, is_script, is_variant}

@@ -39,10 +39,10 @@ language-tells l letters row good =
 -- ---- what is found by a number
 
 pub language_found :
-    (l : List ℕ) (keys : List ℕ) (number : ℕ) (o : Option ℕ) → are_letters l ≡ true → keys ≡ map (λ row. letter_number row.from.language) language_rows → number ≡ letter_number l → o ≡ first_index keys number →
+    (l : List ℕ) (number : ℕ) (o : Option ℕ) → are_letters l ≡ true → number ≡ letter_number l → o ≡ first_index (map (λ row. letter_number row.from.language) language_rows) number →
     option_map (λ i. (get_or language_rows i no_row).to) o ≡ likely_for language_rows (of_language l)
-language_found l keys number o letters keys_are number_is is =
-    ap (option_map (λ i. (get_or language_rows i no_row).to)) (is ∙ ap (λ list. first_index list number) keys_are ∙ ap (first_index (map (λ row. letter_number row.from.language) language_rows)) number_is)
+language_found l number o letters number_is is =
+    ap (option_map (λ i. (get_or language_rows i no_row).to)) (is ∙ ap (first_index (map (λ row. letter_number row.from.language) language_rows)) number_is)
     ∙ found_by_number language_number is_language (of_language l) (language-tells l letters) language_rows languages_alone
 
 pub other_found :
@@ -74,7 +74,7 @@ other_at i language script region inside language_is script_is region_is =
 
 -- ---- all rows
 
-either : (key : Fields) → likely_for likely_subtags key ≡ or_else (likely_for language_rows key) (likely_for other_rows key)
+pub either : (key : Fields) → likely_for likely_subtags key ≡ or_else (likely_for language_rows key) (likely_for other_rows key)
 unfolding likely_subtags
 either key = likely_for-append language_rows other_rows key
 

@@ -1,11 +1,17 @@
--- What the rows of likely subtags have in common, by computation.
+-- What the rows of likely subtags have in common: by computation, row by row.
 use Rattle.std.specs.Prelude.{◌&&◌, ◌||◌, codes}
 use Rattle.std.specs.List.{list_all}
 use Rattle.std.specs.Option.{option_map_or}
-use Rattle.std.proofs.Common.{◌≡◌, true, false, Bool, cond, not, List, [], ◌∷◌, ℕ, is_some, refl}
+use Rattle.std.proofs.Common.{◌≡◌, ◌==◌, ◌%◌, true, false, Bool, cond, leb, not, List, [], ◌∷◌, ℕ, Option, None, Some, is_some, length, refl, sym, ap, ◌∙◌, arith}
+use Rattle.std.proofs.lemmas.Bool.{and_parts, leb-true, eqb-true}
 use Rattle.langtag_scan.specs.Case.{fold_byte, are_alike}
-use Rattle.langtag_likely.specs.Likely.{Likely, language_alone, likely_for, looked_up}
+use Rattle.langtag_scan.specs.Class.{is_letter, are_letters}
+use Rattle.langtag_registry.specs.Numbers.{letter_number}
+use Rattle.langtag_likely.specs.Likely.{Fields, Likely, language_alone, without_region, without_script, likely_for, looked_up, or_else}
 use Rattle.langtag_likely.specs.LikelySubtags.{language_rows, other_rows, likely_subtags}
+use Rattle.langtag_likely.specs.Rows.{of_language}
+use Rattle.langtag_likely.proofs.LanguageBits.{from_bit, row_at}
+use Rattle.langtag_likely.proofs.RowLaws.{all_other, either, language_found}
 
 -- a text that is there
 abbrev pub is_there : List ℕ → Bool
@@ -20,11 +26,15 @@ is_language_row row = is_there row.from.language && (not (is_there row.from.scri
 abbrev pub is_kept : List ℕ → List ℕ → Bool
 is_kept from to = not (is_there from) || are_alike from to
 
+-- a text is there, and does not say that it is unknown
+abbrev pub is_known : List ℕ → List ℕ → Bool
+is_known unknown text = is_there text && not (are_alike unknown text)
+
 -- the right side has a script and a region, keeps the language, and its language is not `und`
 abbrev pub is_whole : Likely → Bool
 is_whole row =
-    (is_there row.to.script && not (are_alike (codes "Zzzz") row.to.script))
-    && (is_there row.to.region && (not (are_alike (codes "und") row.to.language)
+    is_known (codes "Zzzz") row.to.script
+    && (is_known (codes "ZZ") row.to.region && (not (are_alike (codes "und") row.to.language)
     && is_kept row.from.language row.to.language))
 
 -- a right side without a language keeps the left side, which has a script or a region, and leads to no language
@@ -32,19 +42,48 @@ abbrev pub stays_unknown : Likely → Bool
 stays_unknown row =
     (not (is_there row.from.language) && (is_there row.from.script || is_there row.from.region))
     && ((is_kept row.from.script row.to.script && is_kept row.from.region row.to.region)
-    && option_map_or (λ v. not (is_there v.language)) (looked_up likely_subtags row.to) false)
+    && option_map_or (λ v. not (is_there v.language)) (looked_up other_rows row.to) false)
 
--- of another row: its region is known, its language has a row of its own, and that of the left side has a known region there
+-- the bit of a language is set in the table of those that have a row
+unfoldable pub has_bit : List ℕ → Bool
+has_bit language =
+    are_letters language
+    && (leb 27 (letter_number language) && (leb (letter_number language) 18278 && (from_bit (letter_number language) % 2 == 1)))
+
+-- of another row: its language has a row of its own
 abbrev pub is_other_row : Likely → Bool
-is_other_row row =
-    not (are_alike (codes "ZZ") row.to.region)
-    && ((cond (is_there row.to.language) (is_some (likely_for likely_subtags (language_alone row.to))) (stays_unknown row))
-    && (not (is_there row.from.language)
-    || option_map_or (λ v. not (are_alike (codes "ZZ") v.region)) (likely_for likely_subtags (language_alone row.from)) true))
+is_other_row row = cond (is_there row.to.language) (has_bit row.to.language) (stays_unknown row)
 
 abbrev pub is_settled : Likely → Bool
 is_settled row = is_whole row && (is_language_row row || is_other_row row)
 
 pub rows_settled : list_all is_settled likely_subtags ≡ true
-unfolding likely_subtags language_rows other_rows fold_byte
+unfolding likely_subtags language_rows other_rows has_bit letter_number is_letter fold_byte
 rows_settled = refl
+
+-- ---- a language whose bit is set has a row
+
+some_first : (a b : Option Fields) → is_some a ≡ true → is_some (or_else a b) ≡ true
+some_first None b h = absurd cc
+some_first (Some v) b h = refl
+
+pub row_by_bit : (language : List ℕ) → has_bit language ≡ true → is_some (likely_for likely_subtags (of_language language)) ≡ true
+unfolding has_bit
+row_by_bit language h =
+    let a = and_parts (are_letters language) (leb 27 (letter_number language) && (leb (letter_number language) 18278 && (from_bit (letter_number language) % 2 == 1))) h in
+    let b = and_parts (leb 27 (letter_number language)) (leb (letter_number language) 18278 && (from_bit (letter_number language) % 2 == 1)) a.1 in
+    let c = and_parts (leb (letter_number language) 18278) (from_bit (letter_number language) % 2 == 1) b.1 in
+    let found =
+    row_at (letter_number language) (leb-true 27 (letter_number language) b.0) (leb-true (letter_number language) 18278 c.0) (eqb-true (from_bit (letter_number language) % 2) 1 c.1) in
+    ap is_some (either (of_language language))
+    ∙ some_first (likely_for language_rows (of_language language)) (likely_for other_rows (of_language language))
+    (ap is_some (sym (language_found language (letter_number language) _ a.0 refl (sym found))))
+
+-- ---- a look-up without a language
+
+pub looked_up_other : (f : Fields) → f.language ≡ [] → looked_up other_rows f ≡ looked_up likely_subtags f
+looked_up_other f none =
+    rw (here f none, here (without_region f) none, here (without_script f) none, here (language_alone f) none) refl
+  where
+    here : (key : Fields) → key.language ≡ [] → likely_for other_rows key ≡ likely_for likely_subtags key
+    here key empty = all_other key (λ some nothing. let e = ap length empty in omega (arith, e, some))

@@ -15,10 +15,6 @@ use Rattle.langtag_likely.proofs.RowsFound.{is_short, is_alone, is_other}
 
 -- ---- the rows of a language alone
 
-pub language_numbers : table.LANGUAGE_KEYS ≡ map (λ row. letter_number row.from.language) language_rows
-unfolding language_rows letter_number fold_byte
-language_numbers = refl
-
 pub language_scripts : map (name_at table.SCRIPT_NAMES) table.LANGUAGE_SCRIPTS ≡ map (λ row. row.to.script) language_rows
 unfolding language_rows fold_byte
 language_scripts = refl
@@ -36,7 +32,7 @@ pub languages_only : list_all is_alone language_rows ≡ true
 unfolding language_rows fold_byte
 languages_only = refl
 
-pub language_count : length language_rows ≡ 1327
+pub language_count : length language_rows ≡ length table.LANGUAGE_SCRIPTS
 unfolding language_rows fold_byte
 language_count = refl
 
@@ -70,7 +66,7 @@ pub others_other : list_all is_other other_rows ≡ true
 unfolding other_rows fold_byte
 others_other = refl
 
-pub other_count : length other_rows ≡ 524
+pub other_count : length other_rows ≡ length table.OTHER_SCRIPTS
 unfolding other_rows fold_byte
 other_count = refl
 

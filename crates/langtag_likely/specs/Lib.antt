@@ -15,6 +15,7 @@ pub mod MaximalLaws
 pub mod Nearness
 pub mod Numbers
 pub mod Posix
+pub mod RightToLeft
 pub mod Rows
 pub mod Rules
 pub mod Sets

@@ -7,6 +7,7 @@ ghost use Rattle.langtag_likely.specs.Likely.{likely_for, language_alone};
 ghost use Rattle.langtag_likely.specs.Matching as spec;
 ghost use Rattle.langtag_likely.specs.MatchingData.{language_aliases, region_aliases};
 ghost use Rattle.langtag_likely.specs.Texts.{field_texts};
+ghost use Rattle.langtag_likely.specs.declared.matching_tables.TheConstants.{ALIAS_LANGUAGES, REGION_ALIAS_NAMES};
 
 use crate::fields::or_other;
 use crate::keys::index_of;
@@ -70,7 +71,7 @@ fn region_alias(fields: TagFields<'_>) -> Option<TagFields<'static>>
 fn alias_keys() -> &'static [u16]
     ensures numbers { result.now ≡ map (λ row. letter_number row.from.language) language_aliases }
     ensures climbs { IsTrue (climbs_from 0 result.now) }
-    ensures count { length result.now ≡ 9 }
+    ensures count { length result.now ≡ length ALIAS_LANGUAGES }
 {
     &tables::ALIAS_KEYS
 }
@@ -79,7 +80,7 @@ fn alias_keys() -> &'static [u16]
 fn region_alias_keys() -> &'static [u32]
     ensures numbers { result.now ≡ map (λ row. folded_number row.from.region) region_aliases }
     ensures climbs { IsTrue (climbs_from 0 result.now) }
-    ensures count { length result.now ≡ 27 }
+    ensures count { length result.now ≡ length REGION_ALIAS_NAMES }
 {
     &tables::REGION_ALIAS_KEYS
 }

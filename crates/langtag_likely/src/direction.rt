@@ -2,19 +2,11 @@
 ghost use Rattle.std.specs.Prelude.{◌≡◌};
 ghost use Rattle.langtag.specs.Text.{lang_tag_text};
 ghost use Rattle.langtag_likely.specs.Direction as spec;
+ghost use Rattle.langtag_likely.specs.RightToLeft.{right_to_left_scripts};
 
 use crate::matching::matching_form;
+use crate::tables;
 use langtag::{LangTag, case_insensitive_eq};
-
-/// The scripts that are written from right to left (Unicode's CLDR 41), and the variants of two of them
-/// (ISO 15924).
-#[rattlefmt::skip]
-static RIGHT_TO_LEFT_SCRIPTS: [[u8; 4]; 39] = [
-    *b"Adlm", *b"Arab", *b"Armi", *b"Avst", *b"Chrs", *b"Cprt", *b"Elym", *b"Hatr", *b"Hebr", *b"Hung", *b"Khar", *b"Lydi",
-    *b"Mand", *b"Mani", *b"Mend", *b"Merc", *b"Mero", *b"Narb", *b"Nbat", *b"Nkoo", *b"Orkh", *b"Ougr", *b"Palm", *b"Phli",
-    *b"Phlp", *b"Phnx", *b"Prti", *b"Rohg", *b"Samr", *b"Sarb", *b"Sogd", *b"Sogo", *b"Syrc", *b"Thaa", *b"Yezi",
-    *b"Aran", *b"Syre", *b"Syrj", *b"Syrn",
-];
 
 /// Returns whether a tag is written from right to left: true of `he`, `pa-PK`, `az-Arab` and `und-Thaa`, false of `ar-Latn`.
 ///
@@ -37,7 +29,7 @@ fn is_right_to_left_script(script: &[u8]) -> bool
 }
 
 fn scripts() -> &'static [[u8; 4]]
-    ensures { result.now ≡ spec.right_to_left_scripts }
+    ensures { result.now ≡ right_to_left_scripts }
 {
-    &RIGHT_TO_LEFT_SCRIPTS
+    &tables::RIGHT_TO_LEFT_SCRIPTS
 }

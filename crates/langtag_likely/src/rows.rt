@@ -6,7 +6,7 @@ ghost use Rattle.langtag_registry.specs.Numbers.{climbs_from, letter_number};
 ghost use Rattle.langtag_likely.specs.Good.{is_language_field};
 ghost use Rattle.langtag_likely.specs.Likely.{filled, likely_for};
 ghost use Rattle.langtag_likely.specs.LikelySubtags.{likely_subtags, language_rows, other_rows};
-ghost use Rattle.langtag_likely.specs.Numbers.{key_number};
+ghost use Rattle.langtag_likely.specs.Numbers.{first_index, key_number};
 ghost use Rattle.langtag_likely.specs.Rows.{no_row, places_for, places_of};
 ghost use Rattle.langtag_likely.specs.Texts.{field_texts};
 ghost use Rattle.langtag_likely.specs.declared.tables.TheConstants.{SCRIPT_KEYS, REGION_KEYS};
@@ -38,9 +38,24 @@ fn language_row(language: &[u8]) -> Option<TagFields<'static>>
     requires short { length language.now ≤ 3 }
     ensures { option_map field_texts result ≡ places_for language.now }
 {
-    let number = letter_number(language) as u16;
-    let index = language_keys().binary_search(&number).ok()?;
+    let index = language_index(letter_number(language))?;
     Some(language_places(index))
+}
+
+/// Returns where the language with a number stands among those with a row: how many bits are set before its own, if that is set.
+#[tactic(auto, using(crate::proofs::LanguageBits::no_row, crate::proofs::LanguageBits::enough_ends, crate::proofs::LanguageBits::row_at))]
+fn language_index(number: usize) -> Option<usize>
+    requires from_aa { 27 ≤ number }
+    requires to_zzz { number ≤ 18278 }
+    ensures { result ≡ first_index (map (λ row. letter_number row.from.language) language_rows) number }
+{
+    let place = number - 27;
+    let bits = tables::LANGUAGE_BITS[place / 64] >> (place % 64);
+    if bits % 2 == 0 {
+        return None;
+    }
+    let end = usize::from(tables::LANGUAGE_ENDS[place / 64]);
+    Some(end - bits.count_ones() as usize)
 }
 
 /// Returns the right side of a row whose left side is no language alone.
@@ -90,15 +105,6 @@ fn region_keys() -> &'static [u32]
     ensures few { length result.now ≤ 256 }
 {
     &tables::REGION_KEYS
-}
-
-#[tactic(auto, using(crate::proofs::TableRows::language_numbers))]
-fn language_keys() -> &'static [u16]
-    ensures numbers { result.now ≡ map (λ row. letter_number row.from.language) language_rows }
-    ensures climbs { IsTrue (climbs_from 0 result.now) }
-    ensures count { length result.now ≡ length language_rows }
-{
-    &tables::LANGUAGE_KEYS
 }
 
 #[tactic(auto, using(crate::proofs::TableRows::other_numbers))]

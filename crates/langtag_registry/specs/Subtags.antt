@@ -1,4 +1,4 @@
--- The registry (RFC 5646 section 3.1). Written by registry/generate.py from the registry of 2025-05-15. Do not edit.
+-- The registry (RFC 5646 section 3.1). Written by registry/generate.py from the registry of 2025-08-25. Do not edit.
 use Rattle.std.specs.Prelude.{ℕ, ◌==◌, List, [], ◌∷◌, codes}
 use Rattle.std.specs.List.{slice_split, flat_map}
 use Rattle.langtag_registry.specs.Entry.{Entry, entries}
@@ -54,7 +54,7 @@ region_subtags = words (codes "AA AC AD AE AF AG AI AL AM AN AO AQ AR AS AT AU A
 
 -- the Subtag fields of the records of Type variant, ranges written out
 unfoldable pub variant_subtags : List (List ℕ)
-variant_subtags = words (codes "1901 1994 1996 aluku barla bciav biske blasl boont cornu fodom gallo gherd hanoi huett jauer kkcor kscor lipaw nedis njiva nulik osojs peano puter rigik rozaj rumgr solba sotav tailo uccor anpezo ao1990 aranes asante auvern bcizbl cisaup creiss dajnko ekavsk fascia fonipa fonupa gascon grital heploc ndyuka nicard pamaka pinyin saigon scouse simple tarask ucrcor ulster unifon abl1943 akuapem alalc97 arevela arevmda arkaika balanka bauddha bohoric emodeng fonnapa grclass grmistr hepburn itihasa laukika lemosin ltg1929 ltg2007 mdcegyp metelko monoton pahawh2 pahawh3 pahawh4 pehoeji polyton provenc sursilv sutsilv vaidika 1606nict 1694acad 1959acad baku1926 basiceng biscayan bornholm colb1945 fonkirsh fonxsamp hognorsk hsistemo ijekavsk ivanchov jyutping kleinsch kociewie leidentr lengadoc luna1918 mdctrans newfound oxendict petr1708 scotland spanglis surmiran synnejyl tongyong tunumiit valbadia valencia vallader vecdruka vivaraup wadegile xsistemo")
+variant_subtags = words (codes "1901 1994 1996 aluku barla bciav biske blasl boont cornu fodom gallo gherd hanoi huett jauer kkcor kscor lipaw nedis njiva nulik osojs peano puter rigik rozaj rumgr solba sotav tailo uccor anpezo ao1990 aranes asante auvern bcizbl cisaup creiss dajnko ekavsk fascia fonipa fonupa gascon grital heploc ndyuka nicard pamaka pinyin saigon scouse simple tarask ucrcor ulster unifon abl1943 akuapem alalc97 arevela arevmda arkaika balanka bauddha bohoric emodeng fonnapa grclass grmistr hepburn itihasa laukika lemosin ltg1929 ltg2007 lycopol mdcegyp mesokem metelko monoton pahawh2 pahawh3 pahawh4 pehoeji polyton provenc sahidic sursilv sutsilv vaidika 1606nict 1694acad 1959acad akhmimic baku1926 basiceng biscayan bohairic bornholm colb1945 fayyumic fonkirsh fonxsamp hognorsk hsistemo ijekavsk ivanchov jyutping kleinsch kociewie leidentr lengadoc luna1918 mdctrans newfound oxendict petr1708 scotland spanglis surmiran synnejyl tongyong tunumiit valbadia valencia vallader vecdruka viennese vivaraup wadegile xsistemo")
 
 -- those of the records of Type language with a Deprecated field
 unfoldable pub deprecated_languages : List (List ℕ)
@@ -106,4 +106,4 @@ tag_preferred = entries (words (codes "i-ami ami i-bnn bnn i-hak hak i-lux lb i-
 
 -- the records of Type variant with Prefix fields: each Subtag before each of its values
 unfoldable pub variant_prefixes : List Entry
-variant_prefixes = entries (words (codes "1901 de 1994 sl-rozaj 1994 sl-rozaj-biske 1994 sl-rozaj-njiva 1994 sl-rozaj-osojs 1994 sl-rozaj-solba 1996 de aluku djk barla kea bciav zbl biske sl-rozaj blasl ase blasl sgn-ase boont en cornu en fodom lld gallo fr gherd lld hanoi vi huett vi jauer rm kkcor kw kscor kw lipaw sl-rozaj nedis sl njiva sl-rozaj nulik vo osojs sl-rozaj peano la puter rm rigik vo rozaj sl rumgr rm solba sl-rozaj sotav kea tailo nan-Latn uccor kw anpezo lld ao1990 pt ao1990 gl aranes oc asante tw auvern oc bcizbl zbl cisaup oc creiss oc dajnko sl ekavsk sr ekavsk sr-Latn ekavsk sr-Cyrl fascia lld gascon oc grital oc grital oc-cisaup grital oc-nicard grital oc-provenc heploc ja-Latn-hepburn ndyuka djk nicard oc pamaka djk pinyin zh-Latn pinyin bo-Latn saigon vi scouse en tarask be ucrcor kw ulster sco unifon en unifon hup unifon kyh unifon tol unifon yur abl1943 pt-BR akuapem tw arevela hy arevmda hy arkaika eo balanka blo bauddha sa bohoric sl emodeng en grclass oc grclass oc-aranes grclass oc-auvern grclass oc-cisaup grclass oc-creiss grclass oc-gascon grclass oc-lemosin grclass oc-lengadoc grclass oc-nicard grclass oc-provenc grclass oc-vivaraup grmistr oc grmistr oc-aranes grmistr oc-auvern grmistr oc-cisaup grmistr oc-creiss grmistr oc-gascon grmistr oc-lemosin grmistr oc-lengadoc grmistr oc-nicard grmistr oc-provenc grmistr oc-vivaraup hepburn ja-Latn itihasa sa laukika sa lemosin oc ltg1929 ltg ltg2007 ltg mdcegyp egy metelko sl monoton el pahawh2 mww pahawh2 hnj pahawh3 mww pahawh3 hnj pahawh4 mww pahawh4 hnj pehoeji nan-Latn polyton el provenc oc sursilv rm sutsilv rm vaidika sa 1606nict frm 1694acad fr 1959acad be baku1926 az baku1926 ba baku1926 crh baku1926 kk baku1926 krc baku1926 ky baku1926 sah baku1926 tk baku1926 tt baku1926 uz basiceng en biscayan eu bornholm da colb1945 pt hognorsk nn hsistemo eo ijekavsk sr ijekavsk sr-Latn ijekavsk sr-Cyrl ivanchov bg jyutping yue kleinsch kl kleinsch kl-tunumiit kociewie pl leidentr egy lengadoc oc luna1918 ru mdctrans egy newfound en-CA oxendict en petr1708 ru scotland en spanglis en spanglis es surmiran rm synnejyl da tongyong zh-Latn tunumiit kl valbadia lld valencia ca vallader rm vecdruka lv vivaraup oc wadegile zh-Latn xsistemo eo"))
+variant_prefixes = entries (words (codes "1901 de 1994 sl-rozaj 1994 sl-rozaj-biske 1994 sl-rozaj-njiva 1994 sl-rozaj-osojs 1994 sl-rozaj-solba 1996 de aluku djk barla kea bciav zbl biske sl-rozaj blasl ase blasl sgn-ase boont en cornu en fodom lld gallo fr gherd lld hanoi vi huett vi jauer rm kkcor kw kscor kw lipaw sl-rozaj nedis sl njiva sl-rozaj nulik vo osojs sl-rozaj peano la puter rm rigik vo rozaj sl rumgr rm solba sl-rozaj sotav kea tailo nan-Latn uccor kw anpezo lld ao1990 pt ao1990 gl aranes oc asante tw auvern oc bcizbl zbl cisaup oc creiss oc dajnko sl ekavsk sr ekavsk sr-Latn ekavsk sr-Cyrl fascia lld gascon oc grital oc grital oc-cisaup grital oc-nicard grital oc-provenc heploc ja-Latn-hepburn ndyuka djk nicard oc pamaka djk pinyin zh-Latn pinyin bo-Latn saigon vi scouse en tarask be ucrcor kw ulster sco unifon en unifon hup unifon kyh unifon tol unifon yur abl1943 pt-BR akuapem tw arevela hy arevmda hy arkaika eo balanka blo bauddha sa bohoric sl emodeng en grclass oc grclass oc-aranes grclass oc-auvern grclass oc-cisaup grclass oc-creiss grclass oc-gascon grclass oc-lemosin grclass oc-lengadoc grclass oc-nicard grclass oc-provenc grclass oc-vivaraup grmistr oc grmistr oc-aranes grmistr oc-auvern grmistr oc-cisaup grmistr oc-creiss grmistr oc-gascon grmistr oc-lemosin grmistr oc-lengadoc grmistr oc-nicard grmistr oc-provenc grmistr oc-vivaraup hepburn ja-Latn itihasa sa laukika sa lemosin oc ltg1929 ltg ltg2007 ltg lycopol cop mdcegyp egy mesokem cop metelko sl monoton el pahawh2 mww pahawh2 hnj pahawh3 mww pahawh3 hnj pahawh4 mww pahawh4 hnj pehoeji nan-Latn polyton el provenc oc sahidic cop sursilv rm sutsilv rm vaidika sa 1606nict frm 1694acad fr 1959acad be akhmimic cop baku1926 az baku1926 ba baku1926 crh baku1926 kk baku1926 krc baku1926 ky baku1926 sah baku1926 tk baku1926 tt baku1926 uz basiceng en biscayan eu bohairic cop bornholm da colb1945 pt fayyumic cop hognorsk nn hsistemo eo ijekavsk sr ijekavsk sr-Latn ijekavsk sr-Cyrl ivanchov bg jyutping yue kleinsch kl kleinsch kl-tunumiit kociewie pl leidentr egy lengadoc oc luna1918 ru mdctrans egy newfound en-CA oxendict en petr1708 ru scotland en spanglis en spanglis es surmiran rm synnejyl da tongyong zh-Latn tunumiit kl valbadia lld valencia ca vallader rm vecdruka lv viennese de vivaraup oc wadegile zh-Latn xsistemo eo"))

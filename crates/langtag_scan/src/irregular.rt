@@ -61,7 +61,8 @@ impl Candidates {
         Candidates { low, high, len }
     }
 
-    /// Keeps the texts that have this byte at this index, in either case.
+    /// Keeps the texts that have this byte at this index, in either case. Once none is left, none comes back.
+    #[inline(always)]
     pub(crate) fn keep(&mut self, index: usize, byte: u8)
         ensures len { self.new.len ≡ self.old.len }
         ensures follows { (p : List ℕ) → length p ≡ index → Follows p self.old → Follows (p ++ byte ∷ []) self.new }
@@ -69,7 +70,7 @@ impl Candidates {
         let small = into_smallcase(byte);
         if index == 0 {
             *self = begun_by(small, self.len);
-        } else {
+        } else if !self.is_empty() {
             self.low = first_with(self.low, self.high, index, small);
             self.high = end_with(self.low, self.high, index, small);
         }

@@ -3,17 +3,8 @@
 //! Whether a tag is written from right to left.
 
 use crate::likely::matching::matching_form;
+use crate::likely::tables;
 use crate::tag::{case_insensitive_eq, LangTag};
-
-/// The scripts that are written from right to left (Unicode's CLDR 41), and the variants of two of them
-/// (ISO 15924).
-#[rustfmt::skip]
-static RIGHT_TO_LEFT_SCRIPTS: [[u8; 4]; 39] = [
-    *b"Adlm", *b"Arab", *b"Armi", *b"Avst", *b"Chrs", *b"Cprt", *b"Elym", *b"Hatr", *b"Hebr", *b"Hung", *b"Khar", *b"Lydi",
-    *b"Mand", *b"Mani", *b"Mend", *b"Merc", *b"Mero", *b"Narb", *b"Nbat", *b"Nkoo", *b"Orkh", *b"Ougr", *b"Palm", *b"Phli",
-    *b"Phlp", *b"Phnx", *b"Prti", *b"Rohg", *b"Samr", *b"Sarb", *b"Sogd", *b"Sogo", *b"Syrc", *b"Thaa", *b"Yezi",
-    *b"Aran", *b"Syre", *b"Syrj", *b"Syrn",
-];
 
 /// Returns whether a tag is written from right to left: true of `he`, `pa-PK`, `az-Arab` and `und-Thaa`, false of `ar-Latn`.
 ///
@@ -34,5 +25,5 @@ fn is_right_to_left_script(script: &[u8]) -> bool {
 }
 
 fn scripts() -> &'static [[u8; 4]] {
-    &RIGHT_TO_LEFT_SCRIPTS
+    &tables::RIGHT_TO_LEFT_SCRIPTS
 }

@@ -22,9 +22,19 @@ pub(crate) fn likely_for(key: TagFields<'_>) -> Option<TagFields<'static>> {
 /// Returns the script and the region of a language alone.
 #[inline]
 fn language_row(language: &[u8]) -> Option<TagFields<'static>> {
-    let number = letter_number(language) as u16;
-    let index = language_keys().binary_search(&number).ok()?;
+    let index = language_index(letter_number(language))?;
     Some(language_places(index))
+}
+
+/// Returns where the language with a number stands among those with a row: how many bits are set before its own, if that is set.
+fn language_index(number: usize) -> Option<usize> {
+    let place = number - 27;
+    let bits = tables::LANGUAGE_BITS[place / 64] >> (place % 64);
+    if bits % 2 == 0 {
+        return None;
+    }
+    let end = usize::from(tables::LANGUAGE_ENDS[place / 64]);
+    Some(end - bits.count_ones() as usize)
 }
 
 /// Returns the right side of a row whose left side is no language alone.
@@ -57,11 +67,6 @@ fn script_keys() -> &'static [u32] {
 #[inline]
 fn region_keys() -> &'static [u32] {
     &tables::REGION_KEYS
-}
-
-#[inline]
-fn language_keys() -> &'static [u16] {
-    &tables::LANGUAGE_KEYS
 }
 
 #[inline]

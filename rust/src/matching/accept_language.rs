@@ -67,8 +67,8 @@ impl<'a> AcceptLanguage<'a> {
         Ok(AcceptLanguage { ranges })
     }
 
-    /// Returns the ranges, those of the greatest weight first: `ranges()[0].range.as_str()` is `"de"` for `fr;q=0.5,
-    /// de`. It is proved which of them are equal, and that a clone of one is the same.
+    /// Returns the ranges, those of the greatest weight first: `ranges()[0].range.as_str()` is `"de"` for
+    /// `fr;q=0.5, de`. It is proved which of them are equal, and that a clone of one is the same.
     #[inline]
     pub fn ranges(&self) -> &[WeightedRange<'a>] {
         self.ranges.as_slice()

@@ -7,6 +7,12 @@ use crate::tag::grandfathered::{GrandfatheredLangTag, GRANDFATHERED};
 use crate::tag::lang_tag::LangTag;
 
 /// Why bytes are not a tag (RFC 5646 section 2.1).
+///
+/// ```
+/// use langtag::{Refusal, RefusalKind};
+///
+/// assert_eq!(Refusal::of(b"zh_Hant").map(|it| it.kind), Some(RefusalKind::Byte));
+/// ```
 #[derive(Clone, Copy, Debug, PartialEq, Eq)]
 pub enum RefusalKind {
     /// A subtag does not fit where it stands, or is empty: `DE` of `de-419-DE`.
@@ -18,6 +24,13 @@ pub enum RefusalKind {
 }
 
 /// Where bytes that are not a tag go wrong. The numbers are offsets in bytes.
+///
+/// ```
+/// use langtag::Refusal;
+///
+/// let refusal = Refusal::of(b"de-419-DE");
+/// assert_eq!(refusal.map(|it| (it.start, it.end, it.offset)), Some((7, 9, 7)));
+/// ```
 #[derive(Clone, Copy, Debug, PartialEq, Eq)]
 pub struct Refusal {
     /// Why they are refused.

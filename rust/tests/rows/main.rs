@@ -37,7 +37,7 @@ fn answer(row: &Row) -> String {
         "scan" => tags::scan(&row.arguments[0]),
         "recommended" => tags::recommended(&row.arguments[0]),
         "refused" => tags::refused(&row.arguments[0]),
-        "order" => tags::order(row.str(0), row.str(1)),
+        "order" => tags::order(&row.arguments[0], &row.arguments[1]),
         "class" => types::class(&row.arguments[0]),
         "types" => types::types(row.str(0)),
         "new" => types::new(row.str(0), row.str(1)),

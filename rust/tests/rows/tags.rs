@@ -229,13 +229,16 @@ pub fn refused(bytes: &[u8]) -> String {
     )
 }
 
-pub fn order(a: &str, b: &str) -> String {
-    let order = a.caseless().cmp(b.caseless());
-    assert_eq!(order, case_insensitive_cmp(a.as_bytes(), b.as_bytes()));
-    assert_eq!(order.is_eq(), a.caseless() == b.caseless());
-    if let (Ok(tag), Ok(other)) = (LangTag::new(a), LangTag::new(b)) {
+pub fn order(a: &[u8], b: &[u8]) -> String {
+    let order = case_insensitive_cmp(a, b);
+    assert_eq!(order.is_eq(), case_insensitive_eq(a, b));
+    if let (Ok(a), Ok(b)) = (std::str::from_utf8(a), std::str::from_utf8(b)) {
+        assert_eq!(a.caseless().cmp(b.caseless()), order);
+        assert_eq!(a.caseless() == b.caseless(), order.is_eq());
+    }
+    if let (Ok(tag), Ok(other)) = (LangTag::from_bytes(a), LangTag::from_bytes(b)) {
         assert_eq!(
-            (tag.cmp(&other), tag == other, tag == b),
+            (tag.cmp(&other), tag == other, tag == other.as_str()),
             (order, order.is_eq(), order.is_eq())
         );
         assert_eq!(tag.to_owned().cmp(&other.to_owned()), order);

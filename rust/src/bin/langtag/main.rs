@@ -20,13 +20,15 @@ fn main() -> ExitCode {
     match run(&options) {
         Ok(true) => ExitCode::SUCCESS,
         Ok(false) => ExitCode::from(1),
-        Err(failure) => {
-            if let Some(words) = failure.words() {
-                eprintln!("langtag: {words}");
-            }
-            ExitCode::from(failure.status())
-        }
+        Err(failure) => failed(failure),
     }
+}
+
+fn failed(failure: Failure) -> ExitCode {
+    if let Some(words) = failure.words() {
+        eprintln!("langtag: {words}");
+    }
+    ExitCode::from(failure.status())
 }
 
 /// Writes what is printed in place of answers: help to standard output, and what was wrong with the arguments to standard error.
@@ -34,7 +36,7 @@ fn said(words: &options::Words) -> ExitCode {
     match words {
         options::Words::Help(text) => match io::stdout().write_all(text.as_bytes()) {
             Ok(()) => ExitCode::SUCCESS,
-            Err(_) => ExitCode::from(5),
+            Err(error) => failed(Failure::write(error)),
         },
         options::Words::Wrong(text) => {
             eprintln!("langtag: {text}\nlangtag: `langtag --help` has the words");

@@ -1,23 +1,33 @@
 //! Why a text is refused, with the subtag underlined.
 use langtag::registry::InvalidSubtag;
-use langtag::{InvalidLangTag, LangTag, Refusal, RefusalKind};
+use langtag::{LangTag, Refusal, RefusalKind};
 
 /// Longer texts are not repeated.
 const LONGEST: usize = 120;
 
 /// Says why a text is not a tag.
 pub fn refused(text: &[u8]) -> String {
-    let shown = shown(text);
-    let readable = String::from_utf8_lossy(text);
-    let reason = InvalidLangTag(&readable).reason().to_string();
-    let marked = match Refusal::of(text) {
-        Some(refusal) if refusal.kind == RefusalKind::Byte => refusal.offset..refusal.offset + 1,
-        Some(refusal) => refusal.start..refusal.end,
-        None => 0..text.len(),
+    let whole = shown(text);
+    let Some(refusal) = Refusal::of(text) else {
+        return format!("`{whole}` is a language tag");
+    };
+    let subtag = shown(&text[refusal.start..refusal.end]);
+    let (reason, marked) = match refusal.kind {
+        RefusalKind::Subtag if subtag.is_empty() => {
+            ("a subtag is empty".into(), refusal.start..refusal.end)
+        }
+        RefusalKind::Subtag => (
+            format!("`{subtag}` does not fit there"),
+            refusal.start..refusal.end,
+        ),
+        RefusalKind::Byte => (
+            format!("`{subtag}` has a byte that is no letter and no digit"),
+            refusal.offset..refusal.offset + 1,
+        ),
+        RefusalKind::End => ("it ends too soon".into(), refusal.start..refusal.end),
     };
     format!(
-        "`{shown}` is not a language tag: {}{}",
-        self::shown(reason.as_bytes()),
+        "`{whole}` is not a language tag: {reason}{}",
         underlined(text, marked)
     )
 }

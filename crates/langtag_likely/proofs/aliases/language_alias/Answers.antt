@@ -23,7 +23,7 @@ returns-in_err-index c =
 pub invariant_of-result : goal.invariant_of-result
 invariant_of-result c =
     let at = first_index-is c.alias_keys.result.now c.language_number.result c.in_ok-index.index (sym (c.in_ok-index.ensures.value ∙ index_searched c.alias_keys.result.now c.language_number.result _ c.alias_keys.ensures.climbs c.binary_search.ensures.position)) in
-    let within : c.in_ok-index.index < 9 = omega (arith, at.inside, c.alias_keys.ensures.count) in
+    let within : c.in_ok-index.index < length ALIAS_LANGUAGES = omega (arith, at.inside, c.alias_keys.ensures.count) in
     record {
       language_class = name_good is_language_field ALIAS_LANGUAGES c.name_at.result.now c.in_ok-index.index alias_languages_good within c.name_at.ensures;
       script_class = name_good is_script_field ALIAS_SCRIPTS c.name_at-2.result.now c.in_ok-index.index alias_scripts_good within c.name_at-2.ensures;

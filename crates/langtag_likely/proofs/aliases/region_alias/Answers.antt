@@ -16,7 +16,7 @@ returns-in_err-index c =
 
 pub invariant_of-result : goal.invariant_of-result
 invariant_of-result c =
-    let within : c.in_ok-index.index < 27 = omega (arith, c.in_ok-index.ensures.within, c.region_alias_keys.ensures.count) in
+    let within : c.in_ok-index.index < length REGION_ALIAS_NAMES = omega (arith, c.in_ok-index.ensures.within, c.region_alias_keys.ensures.count) in
     record {
       language_class = refl;
       script_class = refl;

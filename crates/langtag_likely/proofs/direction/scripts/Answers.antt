@@ -1,5 +1,5 @@
 use Rattle.std.proofs.Common.{refl}
-use Rattle.langtag_likely.specs.Direction.{right_to_left_scripts}
+use Rattle.langtag_likely.specs.RightToLeft.{right_to_left_scripts}
 use Rattle.langtag_likely.proofs.direction.scripts.Goals as goal
 
 pub returns : goal.returns

@@ -1,11 +1,12 @@
-use Rattle.std.proofs.Common.{◌≡◌, ℕ, ◌<◌, Bool, ◌&&◌, List, [], ◌∷◌, ◌++◌, refl}
+use Rattle.std.proofs.Common.{◌≡◌, ℕ, ◌<◌, Bool, false, ◌&&◌, List, [], ◌∷◌, ◌++◌, refl, arith}
+use Rattle.std.proofs.lemmas.Bool.Decides.{nat_tests}
 use Rattle.langtag_scan.specs.Irregular.{folded_at, has_at, is_within, is_candidate}
 use Rattle.langtag_scan.proofs.CandidateRanges.{Narrows, candidates_narrowed}
 use Rattle.langtag_scan.proofs.CandidatesByLength.{candidate-push}
 use Rattle.langtag_scan.proofs.irregular.Candidates.keep.Goals as goal
 
-pub returns-else-index-eq0-clause-follows : goal.returns-else-index-eq0-clause-follows
-returns-else-index-eq0-clause-follows c =
+pub returns-then-not-is_empty-clause-follows : goal.returns-then-not-is_empty-clause-follows
+returns-then-not-is_empty-clause-follows c =
     let candidates = c.args.self.now in
     let from = c.first_with-self in
     let to = c.end_with-self in
@@ -23,3 +24,11 @@ returns-else-index-eq0-clause-follows c =
     let left : (k : ℕ) → k < 17 → is_candidate candidates.len grown k ≡ (is_within candidates.low candidates.high k && has k) = λ k within.
     rw (candidate-push candidates.len p c.args.byte k, at, ← c.into_smallcase-small.ensures, follows.possible k within) refl in
     record { possible = candidates_narrowed candidates.len grown has candidates.low candidates.high from.result to.result candidates.within left narrows }
+
+-- an empty range stays empty
+pub returns-else-not-is_empty-clause-follows : goal.returns-else-not-is_empty-clause-follows
+returns-else-not-is_empty-clause-follows c =
+    let candidates = c.args.self.now in
+    λ p at follows.
+    let none : (k : ℕ) → is_within candidates.low candidates.high k ≡ false = λ k. grind (arith, nat_tests) in
+    record { possible = λ k within. rw (candidate-push candidates.len p c.args.byte k, follows.possible k within, none k) refl }

@@ -1,0 +1,60 @@
+// Made by rust/erase from crates/langtag_c/src/accepted.rt. Change that file, not this one.
+
+//! A walk over the elements of an Accept-Language header (RFC 9110 section 12.5.4), without memory.
+
+use crate::calls::span::Span;
+use crate::matching::{element_at, is_empty_element, ElementPart};
+use crate::scan::len_before;
+
+/// Takes the first element off a header that is not empty, and the comma after it, and says what it is: 1 for a language range
+/// with its weight in thousandths, 2 for an element with a bad language range, 3 for one with a bad weight. Of a bad element the
+/// range is all of it, and the weight 0. 0 where no element is left, or where the span does not lie within the bytes;
+/// then all stays as it was.
+pub fn langtag_next_accepted(
+    bytes: &[u8],
+    rest: &mut Span,
+    range: &mut Span,
+    weight: &mut u32,
+) -> u32 {
+    let Some(item) = next_item(bytes, rest) else {
+        return 0;
+    };
+    match element_at(&bytes[item.start..item.start + item.len]) {
+        Ok(element) => {
+            *range = Span {
+                start: item.start + element.start,
+                len: element.weighted.range.as_str().len(),
+            };
+            *weight = element.weighted.weight;
+            1
+        }
+        Err(part) => {
+            *range = item;
+            *weight = 0;
+            number_of(&part)
+        }
+    }
+}
+
+/// Takes the first item off a list that is not empty, and the comma after it.
+fn next_item(header: &[u8], rest: &mut Span) -> Option<Span> {
+    let mut left = *rest;
+    while let Some(list) = left.of(header) {
+        let len = len_before(list, b',');
+        let item = left.take_first(len);
+        if !is_empty_element(&list[..len]) {
+            *rest = left;
+            return Some(item);
+        }
+    }
+    None
+}
+
+/// Returns the number that says which part is bad.
+#[inline]
+fn number_of(part: &ElementPart) -> u32 {
+    match part {
+        ElementPart::Range => 2,
+        ElementPart::Weight => 3,
+    }
+}

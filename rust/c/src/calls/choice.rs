@@ -1,0 +1,33 @@
+// Made by rust/erase from crates/langtag_c/src/choice.rt. Change that file, not this one.
+
+//! The tag that a reader wants, and how far a tag is from one that they desire (UTS #35, part 1, section 'Language Matching').
+
+use crate::calls::span::Span;
+use crate::calls::spanned_tags::SpannedTags;
+use crate::calls::tag::tag_of;
+use crate::likely::{best_among, distance};
+
+/// The distance where one of two texts is not a tag.
+const NO_DISTANCE: u32 = u32::MAX;
+
+/// Returns the distance from a tag that a reader desires to one that there is (UTS #35, Language Matching): 0 from `zh-TW` to
+/// `zh-Hant`, 4 from `de-AT` to `de`, at most 134, and 255 from a tag without a matching form, or to one, that is not equal but
+/// for case. [`NO_DISTANCE`] where one of the texts is not a tag.
+pub fn langtag_distance(desired: &[u8], supported: &[u8]) -> u32 {
+    match (tag_of(desired), tag_of(supported)) {
+        (Some(desired), Some(supported)) => u32::from(distance(desired, supported)),
+        _ => NO_DISTANCE,
+    }
+}
+
+/// Returns the index of the tag that the reader wants who sent an Accept-Language header, among tags that spans of a text are:
+/// 2 for `zh-TW,zh;q=0.9,en;q=0.8` and `en`, `zh-Hans` and `zh-Hant`. Their number where the reader wants none of them. A span
+/// that is no tag, or reaches out of the text, is passed over.
+#[inline]
+pub fn langtag_best_for_header(header: &[u8], bytes: &[u8], tags: &[Span]) -> usize {
+    let spanned = SpannedTags {
+        text: bytes,
+        spans: tags,
+    };
+    best_among(header, &spanned).unwrap_or(tags.len())
+}

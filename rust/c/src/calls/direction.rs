@@ -1,0 +1,16 @@
+// Made by rust/erase from crates/langtag_c/src/direction.rt. Change that file, not this one.
+
+//! Whether a tag is written from right to left.
+
+use crate::calls::tag::tag_of;
+use crate::likely::is_right_to_left;
+
+/// Returns whether the bytes are a tag that is written from right to left: true of `he`, `pa-PK` and `az-Arab`, false of
+/// `ar-Latn`, and of what is not a tag.
+#[inline]
+pub fn langtag_is_right_to_left(bytes: &[u8]) -> bool {
+    match tag_of(bytes) {
+        Some(tag) => is_right_to_left(tag),
+        None => false,
+    }
+}

@@ -1,0 +1,49 @@
+// Made by rust/erase from crates/langtag_c/src/fallback.rt. Change that file, not this one.
+
+//! What a look-up falls back to from a language range (RFC 4647 section 3.4), without memory.
+
+use crate::calls::span::Span;
+use crate::scan::segment_start;
+
+/// Cuts the last subtag off a language range, or off what is left of one, and each single letter, digit or `*` that would
+/// then stand last (RFC 4647 section 3.4). False where nothing is left, or where the span does not lie within the bytes; then
+/// it stays as it was.
+pub fn langtag_next_fallback(bytes: &[u8], rest: &mut Span) -> bool {
+    let Some(range) = rest.of(bytes) else {
+        return false;
+    };
+    let Some(len) = shortened_len(range) else {
+        return false;
+    };
+    rest.len = len;
+    true
+}
+
+/// Returns how much is left of a range without its last subtag, and without each single character that would stand last
+/// then; None where nothing is.
+fn shortened_len(range: &[u8]) -> Option<usize> {
+    let mut left = range;
+    while let Some(len) = len_without_last(left) {
+        left = &left[..len];
+        if !ends_in_single(left) {
+            return Some(len);
+        }
+    }
+    None
+}
+
+/// Returns how much stands before the last hyphen.
+#[inline]
+fn len_without_last(range: &[u8]) -> Option<usize> {
+    let start = segment_start(range, range.len());
+    if start == 0 {
+        return None;
+    }
+    Some(start - 1)
+}
+
+/// Returns whether the last subtag is a single character.
+#[inline]
+fn ends_in_single(range: &[u8]) -> bool {
+    matches!(range, [_] | [.., b'-', _])
+}

@@ -1,0 +1,38 @@
+// Made by rust/erase from crates/langtag_c/src/likely.rt. Change that file, not this one.
+
+//! The maximal and the minimal form of a tag, in the caller's buffer (UTS #35, part 1, section 'Likely Subtags').
+
+use crate::calls::registry_date::number_of;
+use crate::calls::tag::tag_of;
+use crate::likely::{write_maximized, write_minimized, CLDR_VERSION};
+
+/// Writes a tag with its likely subtags (UTS #35, Add Likely Subtags), and returns its length in bytes: `zh-Hant-TW` of
+/// `zh-TW`. Where the buffer is too short it stays as it was, and the length says how much room there has to be.
+///
+/// 0 where the bytes are not a tag; the buffer then stays, too.
+#[inline]
+pub fn langtag_maximize(bytes: &[u8], buffer: &mut [u8]) -> usize {
+    match tag_of(bytes) {
+        Some(tag) => write_maximized(tag, buffer),
+        None => 0,
+    }
+}
+
+/// Writes a tag without the subtags that are likely anyway (UTS #35, Remove Likely Subtags), and returns its length in bytes:
+/// `zh-TW` of `zh-Hant-TW`. Where the buffer is too short it stays as it was, and the length says how much room there has to
+/// be.
+///
+/// 0 where the bytes are not a tag; the buffer then stays, too.
+#[inline]
+pub fn langtag_minimize(bytes: &[u8], buffer: &mut [u8]) -> usize {
+    match tag_of(bytes) {
+        Some(tag) => write_minimized(tag, buffer),
+        None => 0,
+    }
+}
+
+/// Returns the major version of the Unicode CLDR whose likely subtags these are, such as 48 for CLDR 48.2.
+#[inline]
+pub fn langtag_cldr_version() -> u32 {
+    number_of(CLDR_VERSION.as_bytes())
+}

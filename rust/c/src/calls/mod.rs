@@ -1,0 +1,31 @@
+// Made by rust/erase from crates/langtag_c/src/lib.rt. Change that file, not this one.
+
+//! Language tags for programs in C, and in languages that call C: a static library over plain bytes, which takes no
+//! memory, keeps no state and calls nothing of the program's. `bindings/include/langtag.h` declares it.
+//!
+//! A slice crosses as a pointer and a length. Bytes need not be UTF-8. No function requires more of its arguments
+//! than their types say.
+
+pub(crate) mod accepted;
+pub(crate) mod canonical;
+pub(crate) mod choice;
+pub(crate) mod compare;
+pub(crate) mod direction;
+pub(crate) mod fallback;
+pub(crate) mod grandfathered;
+pub(crate) mod likely;
+pub(crate) mod parse;
+pub(crate) mod part;
+pub(crate) mod posix;
+pub(crate) mod range;
+pub(crate) mod recommend;
+pub(crate) mod refused;
+pub(crate) mod registry_date;
+pub(crate) mod repeats;
+pub(crate) mod span;
+pub(crate) mod spanned_tags;
+pub(crate) mod tag;
+pub(crate) mod validity;
+pub(crate) mod viable;
+pub(crate) mod walk;
+pub(crate) mod with_part;

@@ -1,0 +1,93 @@
+// Made by rust/erase from crates/langtag_c/src/parse.rt. Change that file, not this one.
+
+//! Whether bytes are a tag, of which kind, and where its parts stand.
+
+use crate::calls::span::Span;
+use crate::scan::{recognise, Ends, Found, Metered};
+
+/// Where the parts of a tag stand in its text.
+#[repr(C)]
+#[derive(Clone, Copy)]
+pub struct Parts {
+    pub language: Span,
+    pub script: Span,
+    pub region: Span,
+    pub variants: Span,
+    pub extensions: Span,
+    pub private_use: Span,
+}
+
+impl Parts {
+    /// The parts of a normal tag, by where they end.
+    fn at(ends: &Ends) -> Parts {
+        Parts {
+            language: Span {
+                start: 0,
+                len: ends.language,
+            },
+            script: Span::between(ends.language, ends.script),
+            region: Span::between(ends.script, ends.region),
+            variants: Span::between(ends.region, ends.variants),
+            extensions: Span::between(ends.variants, ends.extensions),
+            private_use: Span::between(ends.extensions, ends.whole),
+        }
+    }
+
+    /// No part at all.
+    #[inline]
+    pub(crate) fn none() -> Parts {
+        Parts::private_alone(0)
+    }
+
+    /// No part but one for private use, of this length.
+    fn private_alone(len: usize) -> Parts {
+        Parts {
+            language: Span { start: 0, len: 0 },
+            script: Span { start: 0, len: 0 },
+            region: Span { start: 0, len: 0 },
+            variants: Span { start: 0, len: 0 },
+            extensions: Span { start: 0, len: 0 },
+            private_use: Span { start: 0, len },
+        }
+    }
+}
+
+/// What the recogniser finds of the bytes; None where they are not a tag.
+#[inline(always)]
+fn found_of(bytes: &[u8]) -> Option<Found> {
+    recognise(&mut Metered::of_bytes(bytes))
+}
+
+/// Returns the kind of the tag that the bytes are: 1 for a normal one, 2 for private use, 3 for an irregular one, and 0
+/// where they are not a tag.
+pub fn langtag_kind(bytes: &[u8]) -> u32 {
+    let Some(found) = found_of(bytes) else {
+        return 0;
+    };
+    if found.is_normal() {
+        1
+    } else if found.is_private_use() {
+        2
+    } else {
+        3
+    }
+}
+
+/// Returns the kind, as [`langtag_kind`] returns it, and where the parts stand. A tag for private use is its own
+/// private use part; an irregular one has no parts. All of `parts` is written, also where the answer is 0.
+pub fn langtag_parse(bytes: &[u8], parts: &mut Parts) -> u32 {
+    let Some(found) = found_of(bytes) else {
+        *parts = Parts::none();
+        return 0;
+    };
+    if let Some(ends) = found.ends() {
+        *parts = Parts::at(&ends);
+        1
+    } else if found.is_private_use() {
+        *parts = Parts::private_alone(bytes.len());
+        2
+    } else {
+        *parts = Parts::none();
+        3
+    }
+}

@@ -1,0 +1,42 @@
+// Made by rust/erase from crates/langtag_c/src/range.rt. Change that file, not this one.
+
+//! Language ranges, and the tags that they match (RFC 4647).
+
+use crate::calls::tag::tag_of;
+use crate::matching::LanguageRange;
+
+/// Returns 1 where the bytes are a basic language range (RFC 4647 section 2.1), as `de-CH` and `*`, 2 where they are an
+/// extended one that is not basic (section 2.2), as `de-*-DE`, and 0 where they are not a range.
+#[inline]
+pub fn langtag_range_kind(bytes: &[u8]) -> u32 {
+    match range_of(bytes) {
+        None => 0,
+        Some(range) if range.is_basic() => 1,
+        Some(_) => 2,
+    }
+}
+
+/// Returns whether a range matches a tag by basic filtering (RFC 4647 section 3.3.1): `de-DE` matches `de-DE-1996`, and
+/// not `de-Latn-DE`. False where the first bytes are not a range, or the second not a tag.
+pub fn langtag_matches_basic(range: &[u8], tag: &[u8]) -> bool {
+    match (range_of(range), tag_of(tag)) {
+        (Some(range), Some(tag)) => range.matches_basic(&tag),
+        _ => false,
+    }
+}
+
+/// Returns whether a range matches a tag by extended filtering (RFC 4647 section 3.3.2): `de-DE` and `de-*-DE` match
+/// `de-Latn-DE`. False where the first bytes are not a range, or the second not a tag.
+pub fn langtag_matches_extended(range: &[u8], tag: &[u8]) -> bool {
+    match (range_of(range), tag_of(tag)) {
+        (Some(range), Some(tag)) => range.matches_extended(&tag),
+        _ => false,
+    }
+}
+
+/// The range that the bytes are.
+#[inline]
+fn range_of<'a>(bytes: &'a [u8]) -> Option<LanguageRange<'a>> {
+    let text = core::str::from_utf8(bytes).ok()?;
+    LanguageRange::new(text).ok()
+}

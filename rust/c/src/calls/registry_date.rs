@@ -1,0 +1,24 @@
+// Made by rust/erase from crates/langtag_c/src/registry_date.rt. Change that file, not this one.
+
+//! The date of the registry (RFC 5646 section 3.1.1).
+
+use crate::registry::FILE_DATE;
+
+/// Returns the File-Date of the registry by which tags are valid and canonical, its year, month and day as the digits of one
+/// number: 20051016 of 2005-10-16.
+#[inline]
+pub fn langtag_registry_date() -> u32 {
+    number_of(FILE_DATE.as_bytes())
+}
+
+/// The digits of a date or a version, read as one number.
+#[inline]
+pub(crate) fn number_of(date: &[u8]) -> u32 {
+    let mut number = 0;
+    for byte in date {
+        if byte.is_ascii_digit() {
+            number = number * 10 + u32::from(byte - b'0');
+        }
+    }
+    number
+}

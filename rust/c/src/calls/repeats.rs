@@ -1,0 +1,84 @@
+// Made by rust/erase from crates/langtag_c/src/repeats.rt. Change that file, not this one.
+
+//! Variants and singletons that stand in a tag twice (RFC 5646 section 2.2.9).
+
+use crate::calls::span::Span;
+use crate::calls::tag::normal_tag_of;
+use crate::tag::NormalLangTag;
+
+/// Where the first variant and the first singleton stand that are equal, but for case, to an earlier one. What is not there
+/// has no byte.
+#[repr(C)]
+#[derive(Clone, Copy)]
+pub struct Repeated {
+    pub variant: Span,
+    pub singleton: Span,
+}
+
+/// Returns 1 where a variant of a normal tag is equal, but for case, to an earlier one, and 2 more where a singleton is; and
+/// where the first of each stands, as the second `1996` of `de-1996-1996`. Such a tag is well formed, and is not valid.
+/// 0 for what is not a normal tag. All of `repeated` is written.
+pub fn langtag_repeats(bytes: &[u8], repeated: &mut Repeated) -> u32 {
+    let none = Span { start: 0, len: 0 };
+    let Some(tag) = normal_tag_of(bytes) else {
+        *repeated = Repeated {
+            variant: none,
+            singleton: none,
+        };
+        return 0;
+    };
+    let variant = repeated_variant(&tag);
+    let singleton = repeated_singleton(&tag);
+    *repeated = Repeated {
+        variant: variant.unwrap_or(none),
+        singleton: singleton.unwrap_or(none),
+    };
+    flags(variant.is_some(), singleton.is_some())
+}
+
+/// Where the first repeated variant stands in a tag.
+#[inline]
+fn repeated_variant(tag: &NormalLangTag<'_>) -> Option<Span> {
+    variant_at(tag, tag.repeated_variant_index()?)
+}
+
+/// Where the variant at an index stands in a tag.
+pub(crate) fn variant_at(tag: &NormalLangTag<'_>, wanted: usize) -> Option<Span> {
+    tag.variants()
+        .iter()
+        .scan(tag.ends().region, |end, variant| {
+            let start = *end + 1;
+            let len = variant.as_str().len();
+            *end = start + len;
+            Some(Span { start, len })
+        })
+        .nth(wanted)
+}
+
+/// Where the first repeated singleton stands in a tag.
+#[inline]
+fn repeated_singleton(tag: &NormalLangTag<'_>) -> Option<Span> {
+    singleton_at(tag, tag.repeated_singleton_index()?)
+}
+
+/// Where the singleton of the extension at an index stands in a tag.
+pub(crate) fn singleton_at(tag: &NormalLangTag<'_>, wanted: usize) -> Option<Span> {
+    tag.extensions()
+        .iter()
+        .scan(tag.ends().variants, |end, extension| {
+            let start = *end + 1;
+            *end = start + extension.as_str().len();
+            Some(Span { start, len: 1 })
+        })
+        .nth(wanted)
+}
+
+/// 1 for a variant, and 2 more for a singleton.
+fn flags(variant: bool, singleton: bool) -> u32 {
+    match (variant, singleton) {
+        (false, false) => 0,
+        (true, false) => 1,
+        (false, true) => 2,
+        (true, true) => 3,
+    }
+}

@@ -1,0 +1,44 @@
+// Made by rust/erase from crates/langtag_c/src/span.rt. Change that file, not this one.
+
+//! Where a part of a text stands in it.
+
+/// So many bytes of a text from an index on. A part that is absent has none.
+#[repr(C)]
+#[derive(Clone, Copy)]
+pub struct Span {
+    pub start: usize,
+    pub len: usize,
+}
+
+impl Span {
+    /// What stands between the end of one part and the end of the next, after the hyphen.
+    #[inline]
+    pub(crate) fn between(before: usize, end: usize) -> Span {
+        let start = if before < end { before + 1 } else { end };
+        Span {
+            start,
+            len: end - start,
+        }
+    }
+
+    /// The bytes, where there are any and they lie within the text.
+    #[inline]
+    pub(crate) fn of<'a>(&self, text: &'a [u8]) -> Option<&'a [u8]> {
+        if self.len == 0 {
+            return None;
+        }
+        let end = self.start.checked_add(self.len)?;
+        text.get(self.start..end)
+    }
+
+    /// Takes so many bytes off the start, and the hyphen after them.
+    #[inline]
+    pub(crate) fn take_first(&mut self, len: usize) -> Span {
+        let first = Span {
+            start: self.start,
+            len,
+        };
+        *self = Span::between(self.start + len, self.start + self.len);
+        first
+    }
+}

@@ -1,0 +1,44 @@
+// Made by rust/erase from crates/langtag_c/src/spanned_tags.rt. Change that file, not this one.
+
+//! The tags that spans of a text are.
+
+use crate::calls::span::Span;
+use crate::calls::tag::tag_of;
+use crate::likely::TagList;
+use crate::tag::LangTag;
+
+/// A text, and spans of it.
+#[derive(Clone, Copy)]
+pub(crate) struct SpannedTags<'a> {
+    pub(crate) text: &'a [u8],
+    pub(crate) spans: &'a [Span],
+}
+
+impl TagList for SpannedTags<'_> {
+    #[inline]
+    fn count(&self) -> usize {
+        self.spans.len()
+    }
+
+    #[inline]
+    fn tag_at(&self, index: usize) -> Option<LangTag<'_>> {
+        tag_in(self.text, self.spans[index])
+    }
+
+    #[inline]
+    fn bytes_at(&self, index: usize) -> &[u8] {
+        bytes_in(self.text, self.spans[index])
+    }
+}
+
+/// Returns the tag that a span of a text is.
+#[inline]
+fn tag_in<'a>(text: &'a [u8], span: Span) -> Option<LangTag<'a>> {
+    tag_of(span.of(text)?)
+}
+
+/// Returns the bytes of a span of a text: none where it has none there.
+#[inline]
+fn bytes_in<'a>(text: &'a [u8], span: Span) -> &'a [u8] {
+    span.of(text).unwrap_or(b"")
+}

@@ -1,0 +1,70 @@
+// Made by rust/erase from crates/langtag_c/src/validity.rt. Change that file, not this one.
+
+//! Whether a tag is valid by the registry (RFC 5646 section 2.2.9).
+
+use crate::calls::repeats::{singleton_at, variant_at};
+use crate::calls::span::Span;
+use crate::calls::tag::tag_of;
+use crate::registry::{fault_at, InvalidSubtag};
+use crate::tag::NormalLangTag;
+
+/// Returns 1 where the bytes are a valid tag, 0 where they are not a tag, and else what is wrong first: 2 and 3 for a
+/// language and an extended language that is not registered, 4 for a second extended one, 5, 6 and 7 for a script, a
+/// region and a variant that is not registered, 8 and 9 for a repeated variant and singleton. `invalid` is where that
+/// subtag stands; it has no byte where the answer is 0 or 1.
+pub fn langtag_validity(bytes: &[u8], invalid: &mut Span) -> u32 {
+    *invalid = Span { start: 0, len: 0 };
+    let Some(tag) = tag_of(bytes) else {
+        return 0;
+    };
+    let (Some(normal), Some((fault, index))) = (tag.as_normal(), fault_at(tag)) else {
+        return 1;
+    };
+    *invalid = place(&normal, fault, index);
+    number(fault)
+}
+
+/// The number that tells what is wrong.
+fn number(fault: InvalidSubtag<'_>) -> u32 {
+    match fault {
+        InvalidSubtag::Language(_) => 2,
+        InvalidSubtag::Extlang(_) => 3,
+        InvalidSubtag::SecondExtlang(_) => 4,
+        InvalidSubtag::Script(_) => 5,
+        InvalidSubtag::Region(_) => 6,
+        InvalidSubtag::Variant(_) => 7,
+        InvalidSubtag::RepeatedVariant(_) => 8,
+        InvalidSubtag::RepeatedSingleton(_) => 9,
+    }
+}
+
+/// Where the subtag that is wrong, and that has this index among its like, stands in its tag.
+fn place(tag: &NormalLangTag<'_>, fault: InvalidSubtag<'_>, index: usize) -> Span {
+    let ends = tag.ends();
+    let none = Span { start: 0, len: 0 };
+    match fault {
+        InvalidSubtag::Language(language) => Span {
+            start: 0,
+            len: language.as_str().len(),
+        },
+        InvalidSubtag::Extlang(extlang) => Span {
+            start: primary_len(tag) + 1,
+            len: extlang.as_str().len(),
+        },
+        InvalidSubtag::SecondExtlang(extlang) => Span {
+            start: primary_len(tag) + 5,
+            len: extlang.as_str().len(),
+        },
+        InvalidSubtag::Script(_) => Span::between(ends.language, ends.script),
+        InvalidSubtag::Region(_) => Span::between(ends.script, ends.region),
+        InvalidSubtag::Variant(_) => variant_at(tag, index).unwrap_or(none),
+        InvalidSubtag::RepeatedVariant(_) => variant_at(tag, index).unwrap_or(none),
+        InvalidSubtag::RepeatedSingleton(_) => singleton_at(tag, index).unwrap_or(none),
+    }
+}
+
+/// The number of bytes of the primary language of a tag.
+#[inline]
+fn primary_len(tag: &NormalLangTag<'_>) -> usize {
+    tag.language().primary().as_str().len()
+}

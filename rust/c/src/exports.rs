@@ -1,0 +1,321 @@
+//! The functions of `bindings/include/langtag.h`, in its order. Each takes what a program lends, and calls the function of its name.
+//!
+//! What the header asks of a program makes these calls safe: as many bytes can be read at a pointer as the length behind it says,
+//! and written if it is not const; a struct to write to is there; what is written is no part of another argument. Of what the header
+//! calls "out" nothing is read. An empty text may have any pointer, NULL too.
+#![allow(unsafe_code, unsafe_op_in_unsafe_fn)]
+#![warn(clippy::all)]
+#![allow(clippy::missing_safety_doc)]
+
+use crate::calls::parse::Parts;
+use crate::calls::repeats::Repeated;
+use crate::calls::span::Span;
+use crate::calls::{
+    accepted, canonical, choice, compare, direction, fallback, grandfathered, likely, parse, posix,
+    range as ranges, recommend, refused, registry_date, repeats, validity, viable, walk, with_part,
+};
+use core::slice;
+
+const NO_SPAN: Span = Span { start: 0, len: 0 };
+
+/// Returns what a program lends to read.
+unsafe fn lent<'a, T>(start: *const T, len: usize) -> &'a [T] {
+    if len == 0 {
+        return &[];
+    }
+    slice::from_raw_parts(start, len)
+}
+
+/// Returns what a program lends to write.
+unsafe fn taken<'a>(start: *mut u8, len: usize) -> &'a mut [u8] {
+    if len == 0 {
+        return &mut [];
+    }
+    slice::from_raw_parts_mut(start, len)
+}
+
+#[no_mangle]
+pub unsafe extern "C" fn langtag_parse(bytes: *const u8, len: usize, parts: *mut Parts) -> u32 {
+    let mut found = Parts::none();
+    let kind = parse::langtag_parse(lent(bytes, len), &mut found);
+    parts.write(found);
+    kind
+}
+
+#[no_mangle]
+pub unsafe extern "C" fn langtag_kind(bytes: *const u8, len: usize) -> u32 {
+    parse::langtag_kind(lent(bytes, len))
+}
+
+#[no_mangle]
+pub unsafe extern "C" fn langtag_viable(bytes: *const u8, len: usize) -> usize {
+    viable::langtag_viable(lent(bytes, len))
+}
+
+#[no_mangle]
+pub unsafe extern "C" fn langtag_stop(bytes: *const u8, len: usize) -> usize {
+    viable::langtag_stop(lent(bytes, len))
+}
+
+#[no_mangle]
+pub unsafe extern "C" fn langtag_refused(
+    bytes: *const u8,
+    len: usize,
+    subtag: *mut Span,
+    offset: *mut usize,
+) -> u32 {
+    let (mut refused, mut at) = (NO_SPAN, 0);
+    let answer = refused::langtag_refused(lent(bytes, len), &mut refused, &mut at);
+    subtag.write(refused);
+    offset.write(at);
+    answer
+}
+
+#[no_mangle]
+pub unsafe extern "C" fn langtag_eq(
+    a: *const u8,
+    a_len: usize,
+    b: *const u8,
+    b_len: usize,
+) -> bool {
+    compare::langtag_eq(lent(a, a_len), lent(b, b_len))
+}
+
+#[no_mangle]
+pub unsafe extern "C" fn langtag_cmp(
+    a: *const u8,
+    a_len: usize,
+    b: *const u8,
+    b_len: usize,
+) -> i32 {
+    compare::langtag_cmp(lent(a, a_len), lent(b, b_len))
+}
+
+#[no_mangle]
+pub unsafe extern "C" fn langtag_hash(state: u64, bytes: *const u8, len: usize) -> u64 {
+    compare::langtag_hash(state, lent(bytes, len))
+}
+
+#[no_mangle]
+pub unsafe extern "C" fn langtag_fold(bytes: *mut u8, len: usize) {
+    compare::langtag_fold(taken(bytes, len));
+}
+
+#[no_mangle]
+pub unsafe extern "C" fn langtag_recommend(bytes: *mut u8, len: usize) {
+    recommend::langtag_recommend(taken(bytes, len));
+}
+
+#[no_mangle]
+pub unsafe extern "C" fn langtag_next_subtag(
+    bytes: *const u8,
+    len: usize,
+    rest: *mut Span,
+    subtag: *mut Span,
+) -> bool {
+    let mut taken = NO_SPAN;
+    let is_one = walk::langtag_next_subtag(lent(bytes, len), &mut *rest, &mut taken);
+    if is_one {
+        subtag.write(taken);
+    }
+    is_one
+}
+
+#[no_mangle]
+pub unsafe extern "C" fn langtag_next_extension(
+    bytes: *const u8,
+    len: usize,
+    rest: *mut Span,
+    extension: *mut Span,
+) -> bool {
+    let mut taken = NO_SPAN;
+    let is_one = walk::langtag_next_extension(lent(bytes, len), &mut *rest, &mut taken);
+    if is_one {
+        extension.write(taken);
+    }
+    is_one
+}
+
+#[no_mangle]
+pub unsafe extern "C" fn langtag_with_part(
+    tag: *const u8,
+    tag_len: usize,
+    part: u32,
+    text: *const u8,
+    text_len: usize,
+    buffer: *mut u8,
+    buffer_len: usize,
+) -> usize {
+    with_part::langtag_with_part(
+        lent(tag, tag_len),
+        part,
+        lent(text, text_len),
+        taken(buffer, buffer_len),
+    )
+}
+
+#[no_mangle]
+pub unsafe extern "C" fn langtag_repeats(
+    bytes: *const u8,
+    len: usize,
+    repeated: *mut Repeated,
+) -> u32 {
+    let mut found = Repeated {
+        variant: NO_SPAN,
+        singleton: NO_SPAN,
+    };
+    let answer = repeats::langtag_repeats(lent(bytes, len), &mut found);
+    repeated.write(found);
+    answer
+}
+
+#[no_mangle]
+pub unsafe extern "C" fn langtag_validity(bytes: *const u8, len: usize, invalid: *mut Span) -> u32 {
+    let mut found = NO_SPAN;
+    let answer = validity::langtag_validity(lent(bytes, len), &mut found);
+    invalid.write(found);
+    answer
+}
+
+#[no_mangle]
+pub unsafe extern "C" fn langtag_canonical(
+    bytes: *const u8,
+    len: usize,
+    buffer: *mut u8,
+    buffer_len: usize,
+) -> usize {
+    canonical::langtag_canonical(lent(bytes, len), taken(buffer, buffer_len))
+}
+
+#[no_mangle]
+pub unsafe extern "C" fn langtag_is_canonical(bytes: *const u8, len: usize) -> bool {
+    canonical::langtag_is_canonical(lent(bytes, len))
+}
+
+#[no_mangle]
+pub extern "C" fn langtag_registry_date() -> u32 {
+    registry_date::langtag_registry_date()
+}
+
+#[no_mangle]
+pub unsafe extern "C" fn langtag_maximize(
+    bytes: *const u8,
+    len: usize,
+    buffer: *mut u8,
+    buffer_len: usize,
+) -> usize {
+    likely::langtag_maximize(lent(bytes, len), taken(buffer, buffer_len))
+}
+
+#[no_mangle]
+pub unsafe extern "C" fn langtag_minimize(
+    bytes: *const u8,
+    len: usize,
+    buffer: *mut u8,
+    buffer_len: usize,
+) -> usize {
+    likely::langtag_minimize(lent(bytes, len), taken(buffer, buffer_len))
+}
+
+#[no_mangle]
+pub unsafe extern "C" fn langtag_is_right_to_left(bytes: *const u8, len: usize) -> bool {
+    direction::langtag_is_right_to_left(lent(bytes, len))
+}
+
+#[no_mangle]
+pub unsafe extern "C" fn langtag_distance(
+    desired: *const u8,
+    desired_len: usize,
+    supported: *const u8,
+    supported_len: usize,
+) -> u32 {
+    choice::langtag_distance(lent(desired, desired_len), lent(supported, supported_len))
+}
+
+#[no_mangle]
+pub unsafe extern "C" fn langtag_best_for_header(
+    header: *const u8,
+    header_len: usize,
+    bytes: *const u8,
+    len: usize,
+    tags: *const Span,
+    tags_len: usize,
+) -> usize {
+    choice::langtag_best_for_header(
+        lent(header, header_len),
+        lent(bytes, len),
+        lent(tags, tags_len),
+    )
+}
+
+#[no_mangle]
+pub unsafe extern "C" fn langtag_from_posix(
+    name: *const u8,
+    name_len: usize,
+    buffer: *mut u8,
+    buffer_len: usize,
+) -> usize {
+    posix::langtag_from_posix(lent(name, name_len), taken(buffer, buffer_len))
+}
+
+#[no_mangle]
+pub extern "C" fn langtag_cldr_version() -> u32 {
+    likely::langtag_cldr_version()
+}
+
+#[no_mangle]
+pub unsafe extern "C" fn langtag_grandfathered(bytes: *const u8, len: usize) -> u32 {
+    grandfathered::langtag_grandfathered(lent(bytes, len))
+}
+
+#[no_mangle]
+pub unsafe extern "C" fn langtag_range_kind(bytes: *const u8, len: usize) -> u32 {
+    ranges::langtag_range_kind(lent(bytes, len))
+}
+
+#[no_mangle]
+pub unsafe extern "C" fn langtag_matches_basic(
+    range: *const u8,
+    range_len: usize,
+    tag: *const u8,
+    tag_len: usize,
+) -> bool {
+    ranges::langtag_matches_basic(lent(range, range_len), lent(tag, tag_len))
+}
+
+#[no_mangle]
+pub unsafe extern "C" fn langtag_matches_extended(
+    range: *const u8,
+    range_len: usize,
+    tag: *const u8,
+    tag_len: usize,
+) -> bool {
+    ranges::langtag_matches_extended(lent(range, range_len), lent(tag, tag_len))
+}
+
+#[no_mangle]
+pub unsafe extern "C" fn langtag_next_fallback(
+    bytes: *const u8,
+    len: usize,
+    rest: *mut Span,
+) -> bool {
+    fallback::langtag_next_fallback(lent(bytes, len), &mut *rest)
+}
+
+#[no_mangle]
+pub unsafe extern "C" fn langtag_next_accepted(
+    bytes: *const u8,
+    len: usize,
+    rest: *mut Span,
+    range: *mut Span,
+    weight: *mut u32,
+) -> u32 {
+    let (mut found, mut thousandths) = (NO_SPAN, 0);
+    let answer =
+        accepted::langtag_next_accepted(lent(bytes, len), &mut *rest, &mut found, &mut thousandths);
+    if answer > 0 {
+        range.write(found);
+        weight.write(thousandths);
+    }
+    answer
+}

@@ -1,0 +1,117 @@
+//! Memory that may be refused: what Rattle's std has and Rust's has not. Rust's own calls end the program then.
+use alloc::string::String;
+use alloc::vec::Vec;
+use core::fmt;
+
+/// The error of a call that was refused memory.
+///
+/// ```
+/// use langtag::{AllocError, LangTag, LangTagBuf};
+///
+/// let owned: Result<LangTagBuf, AllocError> = LangTag::new("fr")?.try_to_owned();
+/// assert!(owned.is_ok());
+/// # Ok::<(), langtag::InvalidLangTag<&str>>(())
+/// ```
+#[derive(Clone, Copy, Debug, PartialEq, Eq, PartialOrd, Ord, Hash)]
+pub struct AllocError;
+
+impl fmt::Display for AllocError {
+    fn fmt(&self, f: &mut fmt::Formatter<'_>) -> fmt::Result {
+        f.write_str("out of memory")
+    }
+}
+
+impl core::error::Error for AllocError {}
+
+impl From<alloc::collections::TryReserveError> for AllocError {
+    fn from(_: alloc::collections::TryReserveError) -> AllocError {
+        AllocError
+    }
+}
+
+/// Copies a text.
+pub(crate) fn try_string(text: &str) -> Result<String, AllocError> {
+    let mut owned = try_string_with_capacity(text.len())?;
+    owned.push_str(text);
+    Ok(owned)
+}
+
+/// Returns an empty text with room for so many bytes.
+pub(crate) fn try_string_with_capacity(room: usize) -> Result<String, AllocError> {
+    let mut owned = String::new();
+    owned.try_reserve_exact(room)?;
+    Ok(owned)
+}
+
+/// Returns a list of one byte, so many times.
+pub(crate) fn try_vec(byte: u8, len: usize) -> Result<Vec<u8>, AllocError> {
+    let mut bytes = Vec::new();
+    bytes.try_reserve_exact(len)?;
+    bytes.resize(len, byte);
+    Ok(bytes)
+}
+
+/// What makes a text longer.
+pub(crate) trait TryText {
+    fn try_push_str(&mut self, text: &str) -> Result<(), AllocError>;
+    fn try_replace_range(
+        &mut self,
+        range: core::ops::Range<usize>,
+        text: &str,
+    ) -> Result<(), AllocError>;
+}
+
+impl TryText for String {
+    fn try_push_str(&mut self, text: &str) -> Result<(), AllocError> {
+        self.try_reserve(text.len())?;
+        self.push_str(text);
+        Ok(())
+    }
+
+    fn try_replace_range(
+        &mut self,
+        range: core::ops::Range<usize>,
+        text: &str,
+    ) -> Result<(), AllocError> {
+        self.try_reserve(text.len())?;
+        self.replace_range(range, text);
+        Ok(())
+    }
+}
+
+/// What makes a list longer, or needs another beside it.
+pub(crate) trait TryItems<T> {
+    fn try_push(&mut self, item: T) -> Result<(), AllocError>;
+
+    /// Sorts, and keeps the order of items of one key. Rust's own `sort_by_key` ends the program where memory is refused.
+    fn try_sort_by_key<K: Ord>(&mut self, key: impl FnMut(&T) -> K) -> Result<(), AllocError>;
+}
+
+impl<T> TryItems<T> for Vec<T> {
+    fn try_push(&mut self, item: T) -> Result<(), AllocError> {
+        self.try_reserve(1)?;
+        self.push(item);
+        Ok(())
+    }
+
+    fn try_sort_by_key<K: Ord>(&mut self, mut key: impl FnMut(&T) -> K) -> Result<(), AllocError> {
+        let mut order = Vec::new();
+        order.try_reserve_exact(self.len())?;
+        order.extend(
+            self.iter()
+                .enumerate()
+                .map(|(index, item)| (key(item), index)),
+        );
+        order.sort_unstable();
+        // `order[place].1` is where the item was that belongs there. It may have been swapped away since, to where its chain ends.
+        for place in 0..self.len() {
+            let mut index = order[place].1;
+            while index < place {
+                index = order[index].1;
+            }
+            order[place].1 = index;
+            self.swap(place, index);
+        }
+        Ok(())
+    }
+}

@@ -1,0 +1,190 @@
+//! The errors that have more than a text, as values that own what they have: they outlive what was read.
+use alloc::string::String;
+use core::error::Error;
+use core::fmt;
+
+use crate::likely::PosixError;
+use crate::matching::{AcceptLanguageError, ElementPart};
+use crate::registry::InvalidSubtag;
+use crate::*;
+
+/// The error of [`validate`](registry::validate), which owns its subtag.
+///
+/// ```
+/// use langtag::registry::{validate, InvalidSubtag};
+/// use langtag::{InvalidLangTag, InvalidSubtagBuf, LangTag};
+///
+/// fn read(text: String) -> Result<(), Box<dyn std::error::Error>> {
+///     let tag = LangTag::new(&text).map_err(InvalidLangTag::into_owned)?;
+///     Ok(validate(tag).map_err(InvalidSubtag::into_owned)?)
+/// }
+/// let error = read("qt-FR".into()).unwrap_err();
+/// assert_eq!(error.to_string(), "language qt is not registered");
+/// assert!(matches!(error.downcast_ref(), Some(InvalidSubtagBuf::Language(language)) if *language == "qt"));
+/// ```
+#[derive(Clone, Debug, PartialEq, Eq, Hash)]
+pub enum InvalidSubtagBuf {
+    /// A language that is not registered.
+    Language(PrimaryLanguageBuf),
+    /// An extended language that is not registered.
+    Extlang(ExtendedLangTagBuf),
+    /// An extended language after another.
+    SecondExtlang(ExtendedLangTagBuf),
+    /// A script that is not registered.
+    Script(ScriptBuf),
+    /// A region that is not registered.
+    Region(RegionBuf),
+    /// A variant that is not registered.
+    Variant(VariantBuf),
+    /// A variant that is equal to an earlier one.
+    RepeatedVariant(VariantBuf),
+    /// A singleton that is equal, but for case, to an earlier one.
+    RepeatedSingleton(Singleton),
+}
+
+impl InvalidSubtagBuf {
+    /// Returns the borrowed form.
+    pub fn as_invalid_subtag(&self) -> InvalidSubtag<'_> {
+        match self {
+            InvalidSubtagBuf::Language(subtag) => {
+                InvalidSubtag::Language(subtag.as_primary_language())
+            }
+            InvalidSubtagBuf::Extlang(subtag) => {
+                InvalidSubtag::Extlang(subtag.as_extended_lang_tag())
+            }
+            InvalidSubtagBuf::SecondExtlang(subtag) => {
+                InvalidSubtag::SecondExtlang(subtag.as_extended_lang_tag())
+            }
+            InvalidSubtagBuf::Script(subtag) => InvalidSubtag::Script(subtag.as_script()),
+            InvalidSubtagBuf::Region(subtag) => InvalidSubtag::Region(subtag.as_region()),
+            InvalidSubtagBuf::Variant(subtag) => InvalidSubtag::Variant(subtag.as_variant()),
+            InvalidSubtagBuf::RepeatedVariant(subtag) => {
+                InvalidSubtag::RepeatedVariant(subtag.as_variant())
+            }
+            InvalidSubtagBuf::RepeatedSingleton(singleton) => {
+                InvalidSubtag::RepeatedSingleton(*singleton)
+            }
+        }
+    }
+}
+
+impl InvalidSubtag<'_> {
+    /// Returns the same error with a copy of the subtag, which outlives the tag.
+    pub fn into_owned(self) -> InvalidSubtagBuf {
+        match self {
+            InvalidSubtag::Language(subtag) => InvalidSubtagBuf::Language(subtag.into()),
+            InvalidSubtag::Extlang(subtag) => InvalidSubtagBuf::Extlang(subtag.into()),
+            InvalidSubtag::SecondExtlang(subtag) => InvalidSubtagBuf::SecondExtlang(subtag.into()),
+            InvalidSubtag::Script(subtag) => InvalidSubtagBuf::Script(subtag.into()),
+            InvalidSubtag::Region(subtag) => InvalidSubtagBuf::Region(subtag.into()),
+            InvalidSubtag::Variant(subtag) => InvalidSubtagBuf::Variant(subtag.into()),
+            InvalidSubtag::RepeatedVariant(subtag) => {
+                InvalidSubtagBuf::RepeatedVariant(subtag.into())
+            }
+            InvalidSubtag::RepeatedSingleton(singleton) => {
+                InvalidSubtagBuf::RepeatedSingleton(singleton)
+            }
+        }
+    }
+}
+
+impl fmt::Display for InvalidSubtagBuf {
+    fn fmt(&self, f: &mut fmt::Formatter<'_>) -> fmt::Result {
+        self.as_invalid_subtag().fmt(f)
+    }
+}
+
+/// The error of [`AcceptLanguage::new`](matching::AcceptLanguage::new), which owns the header.
+#[derive(Debug)]
+pub enum AcceptLanguageErrorBuf {
+    /// A bad element, as in [`AcceptLanguageError::BadElement`].
+    BadElement {
+        /// The header.
+        header: String,
+        /// How many commas stand before the element.
+        index: usize,
+        /// Where the element begins, in bytes.
+        offset: usize,
+        /// What is bad of it.
+        part: ElementPart,
+    },
+    /// Out of memory.
+    Memory(AllocError),
+}
+
+impl AcceptLanguageError<'_> {
+    /// Returns the same error with a copy of the header, which outlives what was read.
+    pub fn into_owned(self) -> AcceptLanguageErrorBuf {
+        match self {
+            AcceptLanguageError::BadElement {
+                header,
+                index,
+                offset,
+                part,
+            } => AcceptLanguageErrorBuf::BadElement {
+                header: header.into(),
+                index,
+                offset,
+                part,
+            },
+            AcceptLanguageError::Memory(error) => AcceptLanguageErrorBuf::Memory(error),
+        }
+    }
+}
+
+impl fmt::Display for AcceptLanguageErrorBuf {
+    fn fmt(&self, f: &mut fmt::Formatter<'_>) -> fmt::Result {
+        match self {
+            AcceptLanguageErrorBuf::BadElement { index, part, .. } => {
+                write!(f, "element {index} has a bad {part}")
+            }
+            AcceptLanguageErrorBuf::Memory(error) => error.fmt(f),
+        }
+    }
+}
+
+/// The error of [`from_posix`](likely::from_posix), which owns the name.
+#[derive(Clone, Debug, PartialEq, Eq)]
+pub enum PosixErrorBuf {
+    /// The name says no language.
+    NoTag(String),
+    /// Out of memory.
+    Memory(AllocError),
+}
+
+impl PosixError<'_> {
+    /// Returns the same error with a copy of the name, which outlives what was read.
+    pub fn into_owned(self) -> PosixErrorBuf {
+        match self {
+            PosixError::NoTag(name) => PosixErrorBuf::NoTag(name.into()),
+            PosixError::Memory(error) => PosixErrorBuf::Memory(error),
+        }
+    }
+}
+
+impl fmt::Display for PosixErrorBuf {
+    fn fmt(&self, f: &mut fmt::Formatter<'_>) -> fmt::Result {
+        match self {
+            PosixErrorBuf::NoTag(name) => PosixError::NoTag(name).fmt(f),
+            PosixErrorBuf::Memory(error) => error.fmt(f),
+        }
+    }
+}
+
+macro_rules! errors {
+    ($($borrowed:ident: $owned:ident;)+) => {$(
+        impl Error for $owned {}
+
+        impl From<$borrowed<'_>> for $owned {
+            fn from(error: $borrowed<'_>) -> Self {
+                error.into_owned()
+            }
+        }
+    )+};
+}
+
+errors! {
+    InvalidSubtag: InvalidSubtagBuf;
+    AcceptLanguageError: AcceptLanguageErrorBuf;
+    PosixError: PosixErrorBuf;
+}

@@ -1,0 +1,79 @@
+//! The names of oxilangtag.
+#![cfg(feature = "oxilangtag")]
+use std::borrow::Cow;
+use std::collections::HashMap;
+
+use langtag::oxilangtag::LanguageTag;
+
+#[test]
+fn parts() {
+    let tag = LanguageTag::parse("zh-cmn-Hans-CN-rozaj-u-co-phonebk-a-bb-x-a-b").unwrap();
+    assert_eq!(
+        (
+            tag.primary_language(),
+            tag.extended_language(),
+            tag.full_language()
+        ),
+        ("zh", Some("cmn"), "zh-cmn")
+    );
+    assert!(tag.extended_language_subtags().eq(["cmn"]));
+    assert_eq!(
+        (tag.script(), tag.region(), tag.variant()),
+        (Some("Hans"), Some("CN"), Some("rozaj"))
+    );
+    assert!(tag.variant_subtags().eq(["rozaj"]));
+    assert_eq!(tag.extension(), Some("u-co-phonebk-a-bb"));
+    assert!(tag
+        .extension_subtags()
+        .eq([('u', "co-phonebk"), ('a', "bb")]));
+    assert_eq!(tag.private_use(), Some("x-a-b"));
+    assert!(tag.private_use_subtags().eq(["a", "b"]));
+}
+
+/// A grandfathered tag has no parts, and one for private use is all private.
+#[test]
+fn whole_tags() {
+    for text in ["i-klingon", "zh-min-nan", "art-lojban", "X-fr-CH"] {
+        let tag = LanguageTag::parse(text).unwrap();
+        assert_eq!(
+            (tag.primary_language(), tag.full_language(), tag.as_str()),
+            (text, text, text)
+        );
+        assert_eq!(
+            (tag.extended_language(), tag.script(), tag.region()),
+            (None, None, None)
+        );
+        assert_eq!((tag.variant(), tag.extension()), (None, None));
+        assert_eq!(tag.private_use(), text.starts_with('X').then_some(text));
+    }
+    assert!(LanguageTag::parse("x-a-b")
+        .unwrap()
+        .private_use_subtags()
+        .eq(["a", "b"]));
+}
+
+/// As there, case counts, so that a map is asked by a `str`.
+#[test]
+fn texts() {
+    let tag: LanguageTag<String> = "EN-us".parse().unwrap();
+    assert_eq!(tag, "en-US");
+    assert_eq!(
+        LanguageTag::parse_and_normalize("zh-hant-tw-X-A")
+            .unwrap()
+            .into_inner(),
+        "zh-Hant-TW-x-a"
+    );
+    assert_ne!(
+        LanguageTag::parse("EN").unwrap(),
+        LanguageTag::parse("en").unwrap()
+    );
+    let map = HashMap::from([(tag, 1)]);
+    assert_eq!((map.get("en-US"), map.get("EN-us")), (Some(&1), None));
+    let cow: LanguageTag<Cow<str>> = LanguageTag::parse("de-CH").unwrap().into();
+    assert_eq!(LanguageTag::<String>::from(cow).region(), Some("CH"));
+    let error = LanguageTag::parse("zh_Hant").unwrap_err();
+    assert_eq!(
+        error.to_string(),
+        "invalid language tag, of which the first 2 bytes can begin one"
+    );
+}
