@@ -17,8 +17,6 @@ mod program;
 #[cfg(test)]
 mod scan;
 #[cfg(test)]
-mod seen;
-#[cfg(test)]
 mod sheet;
 #[cfg(test)]
 mod support;

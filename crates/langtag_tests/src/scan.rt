@@ -1,7 +1,7 @@
 //! What works on bytes: what a hasher is fed (RFC 5646 section 2.1.1), and where subtags begin and end (section 2.1).
 ghost use Rattle.std.specs.Prelude.{◌≡◌, ◌+◌, ◌*◌, ◌%◌, ◌^◌, length, fold};
 
-use crate::support::expect_same;
+use crate::support::expect_true;
 use langtag_scan::{case_insensitive_hash, segment_end, segment_start};
 use std::hash::Hasher;
 
@@ -38,7 +38,7 @@ fn feeds_a_folded_byte_a_call(rt: HostRuntime) {
     ] {
         let mut calls = Calls(0);
         case_insensitive_hash(text.as_bytes(), &mut calls);
-        expect_same(&rt, calls.0, fed, text);
+        expect_true(&rt, calls.0 == fed, text.len());
     }
 }
 
@@ -52,7 +52,7 @@ fn subtags_begin_and_end(rt: HostRuntime) {
         segment_end(b"fr_FR", 0),
         segment_end(b"", 0),
     ];
-    expect_same(&rt, ends, [2, 2, 5, 5, 5, 0], "ends");
+    expect_true(&rt, ends == [2, 2, 5, 5, 5, 0], 5);
     let starts = [
         segment_start(b"fr-FR", 5),
         segment_start(b"fr-FR", 3),
@@ -60,5 +60,5 @@ fn subtags_begin_and_end(rt: HostRuntime) {
         segment_start(b"fr-", 3),
         segment_start(b"", 0),
     ];
-    expect_same(&rt, starts, [3, 3, 0, 3, 0], "starts");
+    expect_true(&rt, starts == [3, 3, 0, 3, 0], 5);
 }
