@@ -2,12 +2,9 @@
 use crate::support::{are_answered, cut};
 use langtag::{GrandfatheredLangTag, LangTag, LangTagBuf, NormalLangTag, Script, ScriptBuf};
 use langtag_examples::{
-    Catalogue, Counts, Literal, find_in_scripts, longest_prefix, replace_script, tag_for_request,
-    tag_or_break, types_of,
+    Catalogue, Counts, find_in_scripts, replace_script, tag_for_request, tag_or_break,
 };
 use std::alloc::{AllocError, Global};
-use std::collections::HashSet;
-use std::hash::{DefaultHasher, Hash, Hasher};
 
 /// An owned tag; `i-default` for a text that is none.
 fn owned(alloc: Global, text: &str) -> Result<LangTagBuf, AllocError> {
@@ -58,40 +55,6 @@ const BREAKS: &[(&str, &str)] = &[
     ),
 ];
 
-/// The types of a key in a tag.
-fn keyword(alloc: Global, question: &str) -> Result<String, AllocError> {
-    let (key, text) = cut(question);
-    let mut shown = String::new(alloc);
-    let Some(types) = types_of(&tag(text), key) else {
-        return String::from_str(alloc, "none");
-    };
-    for subtag in types {
-        shown.push_str(subtag.as_str())?;
-        shown.push_str(" ")?;
-    }
-    Ok(shown)
-}
-
-/// Keys and tags, and the types of the key, with a space after each (RFC 6067).
-const KEYWORDS: &[(&str, &str)] = &[
-    ("CO|de-u-co-phonebk", "phonebk "),
-    (
-        "ca|ar-a-bb-U-attr-CA-Islamic-civil-nu-latn-x-ca-none",
-        "Islamic civil ",
-    ),
-    ("nu|ar-u-ca-islamic-civil-nu-latn", "latn "),
-    ("ca|ar-u-ca-islamic-ca-coptic", "islamic "),
-    ("ca|ar-u-co-u-ca-coptic", "none"),
-    ("kn|ar-u-kn", ""),
-    ("kn|ar-u-kn-co-eor", ""),
-    ("at|ar-u-attr", "none"),
-    ("attr|ar-u-attr", "none"),
-    ("ca|ar-t-ca-coptic", "none"),
-    ("ca|ar", "none"),
-    ("ca|x-u-ca-coptic", "none"),
-    ("ca|i-klingon", "none"),
-];
-
 /// Whether the text for `iw` was moved from a tag to another, and what is then there for both.
 fn moved(alloc: Global, question: &str) -> Result<String, AllocError> {
     let (from, to) = cut(question);
@@ -131,37 +94,6 @@ fn counted(alloc: Global, start: &str) -> Result<String, AllocError> {
 
 const COUNTS: &[(&str, &str)] = &[("x", "all"), ("x-aa", "all")];
 
-fn hash_of(literal: Literal<'_>) -> u64 {
-    let mut hasher = DefaultHasher::new();
-    literal.hash(&mut hasher);
-    hasher.finish()
-}
-
-/// Whether a literal is the same as `color` in `en-us`, is hashed alike, and how many of both a set keeps.
-fn literals(alloc: Global, question: &str) -> Result<String, AllocError> {
-    let (text, language) = cut(question);
-    let color = Literal {
-        text: "color",
-        language: tag("en-us"),
-    };
-    let other = Literal {
-        text,
-        language: tag(language),
-    };
-    let mut kept = HashSet::new(alloc);
-    kept.insert(color)?;
-    kept.insert(other)?;
-    let (is_same, len) = (color.is_same(&other), kept.len());
-    let is_alike = hash_of(color) == hash_of(other);
-    format!(in alloc; "{is_same} {is_alike} {len}")
-}
-
-const LITERALS: &[(&str, &str)] = &[
-    ("color|en-US", "true true 1"),
-    ("Color|en-us", "false false 2"),
-    ("color|en-GB", "false false 2"),
-];
-
 /// A tag in Latin, and what it is with its old script again; what a catalogue has for it, where it has a text for the form in
 /// Latin; and the tag afterwards. The piece after `+` stands 100 times.
 fn in_latin(alloc: Global, question: &str) -> Result<String, AllocError> {
@@ -198,31 +130,6 @@ const IN_LATIN: &[(&str, &str)] = &[
     ("sre-x+-a", "sre-Latn-x true Zdravo true"),
 ];
 
-/// The longest of some tags that a tag begins with.
-fn prefix(alloc: Global, text: &str) -> Result<String, AllocError> {
-    let tags = [
-        tag("de"),
-        tag("ZH"),
-        tag("zh-hanT"),
-        tag("zh-Ha"),
-        tag("ZH-HANT"),
-    ];
-    match longest_prefix(&tags, &tag(text)) {
-        Some(tag) => String::from_str(alloc, tag.as_str()),
-        None => String::from_str(alloc, "none"),
-    }
-}
-
-const PREFIXES: &[(&str, &str)] = &[
-    ("zh-Hant-TW", "zh-hanT"),
-    ("zh-Hant", "zh-hanT"),
-    ("zh-Hans", "ZH"),
-    ("zh", "ZH"),
-    ("zh-ha", "zh-Ha"),
-    ("den", "none"),
-    ("x-de", "none"),
-];
-
 /// The tag for a request, of `en` and `de-CH`; without a header where the text is `none`.
 fn request(alloc: Global, header: &str) -> Result<String, AllocError> {
     let (english, german) = (tag("en"), tag("de-CH"));
@@ -240,17 +147,10 @@ const REQUESTS: &[(&str, &str)] = &[
 ];
 
 #[test]
-fn examples_of_one_tag(rt: HostRuntime) {
+fn examples_have_memory(rt: HostRuntime) {
     are_answered(&rt, rt.alloc(), BREAKS, broken);
-    are_answered(&rt, rt.alloc(), KEYWORDS, keyword);
     are_answered(&rt, rt.alloc(), IN_LATIN, in_latin);
-}
-
-#[test]
-fn examples_of_many_tags(rt: HostRuntime) {
     are_answered(&rt, rt.alloc(), MOVES, moved);
     are_answered(&rt, rt.alloc(), COUNTS, counted);
-    are_answered(&rt, rt.alloc(), LITERALS, literals);
-    are_answered(&rt, rt.alloc(), PREFIXES, prefix);
     are_answered(&rt, rt.alloc(), REQUESTS, request);
 }

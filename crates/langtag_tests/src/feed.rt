@@ -84,12 +84,9 @@ impl Read for Feed<'_> {
             return Err(io::Error::from(kind));
         }
         let bytes = self.text.next_bytes(buf.len().min(self.step));
-        let n = bytes.len();
-        if n == 0 {
-            self.ends = self.ends.saturating_add(1);
-        } else if n <= buf.len() {
-            buf[..n].copy_from_slice(bytes);
-        }
+        let n = bytes.len().min(buf.len());
+        buf[..n].copy_from_slice(&bytes[..n]);
+        self.ends = self.ends.saturating_add(u64::from(n == 0));
         self.owed.set(line_feeds(bytes));
         Ok(n)
     }

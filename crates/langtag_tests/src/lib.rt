@@ -13,11 +13,9 @@ mod feed;
 #[cfg(test)]
 mod forms;
 #[cfg(test)]
-mod hash;
-#[cfg(test)]
 mod program;
 #[cfg(test)]
-mod seen;
+mod scan;
 #[cfg(test)]
 mod sheet;
 #[cfg(test)]

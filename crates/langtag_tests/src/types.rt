@@ -1,79 +1,102 @@
-//! The text types: what each says of the shortest texts, the longest ones, long ones and texts of digits, and how it shows and
+//! The text types: what each says of the shortest texts, the longest ones, long ones and texts of digits, and that it displays and
 //! copies them.
-use crate::seen::seen;
 use crate::support::{are_answered, cut};
 use langtag::{
-    ExtendedLangTag, ExtendedLangTagBuf, Extension, ExtensionBuf, ExtensionSubtag,
-    ExtensionSubtagBuf, Extensions, ExtensionsBuf, LangTag, LangTagBuf, Language, LanguageBuf,
-    LanguageExtension, LanguageExtensionBuf, NormalLangTag, NormalLangTagBuf, PrimaryLanguage,
-    PrimaryLanguageBuf, PrivateUse, PrivateUseBuf, PrivateUseSubtag, PrivateUseSubtagBuf, Region,
-    RegionBuf, Script, ScriptBuf, Variant, VariantBuf, Variants, VariantsBuf,
+    ExtendedLangTag, Extension, ExtensionSubtag, Extensions, LangTag, Language, LanguageExtension,
+    NormalLangTag, PrimaryLanguage, PrivateUse, PrivateUseSubtag, Region, Script, Variant,
+    Variants,
 };
-use langtag_match::{LanguageRange, LanguageRangeBuf};
+use langtag_match::LanguageRange;
 use std::alloc::{AllocError, Global};
+use std::fmt::Display;
+
+/// What a type says of a text: the body of a function for each type. The owned form is the copy.
+macro_rules! told {
+    ($type:ident, $text:ident, $alloc:ident) => {
+        match $type::new($text) {
+            Ok(value) => shown($alloc, $text, &value, &value.try_to_owned($alloc)?),
+            Err(refusal) => refusal.to_string($alloc),
+        }
+    };
+}
+
+/// Whether both forms of a value display its text, or what they display.
+fn shown<T: Display, U: Display>(
+    alloc: Global,
+    text: &str,
+    value: &T,
+    owned: &U,
+) -> Result<String, AllocError> {
+    let lent = value.to_string(alloc)?;
+    let kept = owned.to_string(alloc)?;
+    if lent.as_str() == text && kept.as_str() == text {
+        return String::from_str(alloc, "accepted");
+    }
+    format!(in alloc; "{lent} {kept}")
+}
 
 fn primary_language(text: &str, alloc: Global) -> Result<String, AllocError> {
-    seen!(PrimaryLanguage, PrimaryLanguageBuf, text, alloc)
+    told!(PrimaryLanguage, text, alloc)
 }
 
 fn extended_subtag(text: &str, alloc: Global) -> Result<String, AllocError> {
-    seen!(ExtendedLangTag, ExtendedLangTagBuf, text, alloc)
+    told!(ExtendedLangTag, text, alloc)
 }
 
 fn language(text: &str, alloc: Global) -> Result<String, AllocError> {
-    seen!(Language, LanguageBuf, text, alloc)
+    told!(Language, text, alloc)
 }
 
 fn language_extension(text: &str, alloc: Global) -> Result<String, AllocError> {
-    seen!(LanguageExtension, LanguageExtensionBuf, text, alloc)
+    told!(LanguageExtension, text, alloc)
 }
 
 fn script(text: &str, alloc: Global) -> Result<String, AllocError> {
-    seen!(Script, ScriptBuf, text, alloc)
+    told!(Script, text, alloc)
 }
 
 fn region(text: &str, alloc: Global) -> Result<String, AllocError> {
-    seen!(Region, RegionBuf, text, alloc)
+    told!(Region, text, alloc)
 }
 
 fn variant(text: &str, alloc: Global) -> Result<String, AllocError> {
-    seen!(Variant, VariantBuf, text, alloc)
+    told!(Variant, text, alloc)
 }
 
 fn variants(text: &str, alloc: Global) -> Result<String, AllocError> {
-    seen!(Variants, VariantsBuf, text, alloc)
+    told!(Variants, text, alloc)
 }
 
 fn extension_subtag(text: &str, alloc: Global) -> Result<String, AllocError> {
-    seen!(ExtensionSubtag, ExtensionSubtagBuf, text, alloc)
+    told!(ExtensionSubtag, text, alloc)
 }
 
 fn extension(text: &str, alloc: Global) -> Result<String, AllocError> {
-    seen!(Extension, ExtensionBuf, text, alloc)
+    told!(Extension, text, alloc)
 }
 
 fn extensions(text: &str, alloc: Global) -> Result<String, AllocError> {
-    seen!(Extensions, ExtensionsBuf, text, alloc)
+    told!(Extensions, text, alloc)
 }
 
 fn private_use_subtag(text: &str, alloc: Global) -> Result<String, AllocError> {
-    seen!(PrivateUseSubtag, PrivateUseSubtagBuf, text, alloc)
+    told!(PrivateUseSubtag, text, alloc)
 }
 
 fn private_use(text: &str, alloc: Global) -> Result<String, AllocError> {
-    seen!(PrivateUse, PrivateUseBuf, text, alloc)
+    told!(PrivateUse, text, alloc)
 }
 
 fn normal_lang_tag(text: &str, alloc: Global) -> Result<String, AllocError> {
-    seen!(NormalLangTag, NormalLangTagBuf, text, alloc)
+    told!(NormalLangTag, text, alloc)
 }
 
 fn lang_tag(text: &str, alloc: Global) -> Result<String, AllocError> {
-    seen!(LangTag, LangTagBuf, text, alloc)
+    told!(LangTag, text, alloc)
 }
 
 fn range(text: &str, alloc: Global) -> Result<String, AllocError> {
-    seen!(LanguageRange, LanguageRangeBuf, text, alloc)
+    told!(LanguageRange, text, alloc)
 }
 
 /// What a type says of a text, of which the piece after `+` stands 300 times.

@@ -1,8 +1,8 @@
-//! What a hasher is fed (RFC 5646 section 2.1.1).
+//! What works on bytes: what a hasher is fed (RFC 5646 section 2.1.1), and where subtags begin and end (section 2.1).
 ghost use Rattle.std.specs.Prelude.{◌≡◌, ◌+◌, ◌*◌, ◌%◌, ◌^◌, length, fold};
 
-use crate::support::expect_same;
-use langtag_scan::case_insensitive_hash;
+use crate::support::expect_true;
+use langtag_scan::{case_insensitive_hash, segment_end, segment_start};
 use std::hash::Hasher;
 
 /// Tells each call that fed it: its length, one hexadecimal digit, and then its bytes, two for each of them.
@@ -38,6 +38,27 @@ fn feeds_a_folded_byte_a_call(rt: HostRuntime) {
     ] {
         let mut calls = Calls(0);
         case_insensitive_hash(text.as_bytes(), &mut calls);
-        expect_same(&rt, calls.0, fed, text);
+        expect_true(&rt, calls.0 == fed, text.len());
     }
+}
+
+#[test]
+fn subtags_begin_and_end(rt: HostRuntime) {
+    let ends = [
+        segment_end(b"fr-FR", 0),
+        segment_end(b"fr-FR", 2),
+        segment_end(b"fr-FR", 3),
+        segment_end(b"fr-FR", 5),
+        segment_end(b"fr_FR", 0),
+        segment_end(b"", 0),
+    ];
+    expect_true(&rt, ends == [2, 2, 5, 5, 5, 0], 5);
+    let starts = [
+        segment_start(b"fr-FR", 5),
+        segment_start(b"fr-FR", 3),
+        segment_start(b"fr-FR", 2),
+        segment_start(b"fr-", 3),
+        segment_start(b"", 0),
+    ];
+    expect_true(&rt, starts == [3, 3, 0, 3, 0], 5);
 }
