@@ -558,7 +558,7 @@ fn each_run_ends_as_it_has_to(rt: HostRuntime) {
 fn private_answer(alloc: Global, len: usize) -> Result<Vec<u8>, AllocError> {
     let mut answer = Vec::new(alloc);
     answer.extend_from_slice(b"private x")?;
-    while answer.len() + 3 < len + 8 {
+    for _ in 0..len.saturating_sub(3) / 2 {
         answer.extend_from_slice(b"-a")?;
     }
     answer.extend_from_slice(if len % 2 == 0 { b"-aa\n" } else { b"-a\n" })?;
@@ -574,7 +574,10 @@ fn a_page_is_filled_to_its_last_byte(rt: HostRuntime) {
     for (len, writes) in PAGES {
         let answer = private_answer(rt.alloc(), len).or_else(|_| private_answer(rt.alloc(), len));
         let answer = answer.ok().expect(&rt, "memory was refused twice");
-        let tag = answer.as_slice().get(8..8 + len).unwrap_or(&[]);
+        let tag = answer
+            .as_slice()
+            .get(8..len.saturating_add(8))
+            .unwrap_or(&[]);
         let ended = ran(&rt, rt.alloc(), Given::new(tag, 16_384, answer.as_slice()));
         expect_true(&rt, ended.is(Ok(())) && ended.writes == writes, len);
     }
