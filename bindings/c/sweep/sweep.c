@@ -72,7 +72,7 @@ static const struct {
     {"minimize", langtag_minimize, {"zh-Hant-TW", "-abcde", ""}, {"zh-TW", "-abcde", ""}},
     {"minimize", langtag_minimize, {"en-Latn-US-x", "-a", ""}, {"en-x", "-a", ""}},
     {"minimize", langtag_minimize, {"ZH-YUE-HANT-hk-u-co", "-bcd", ""}, {"ZH-YUE-u-co", "-bcd", ""}},
-    {"minimize", langtag_minimize, {"und-Hmng-a", "-bb", ""}, {"hnj-Hmng-LA-a", "-bb", ""}},
+    {"minimize", langtag_minimize, {"und-Hmng-a", "-bb", ""}, {"hnj-Hmng-a", "-bb", ""}},
     {"minimize", langtag_minimize, {"x", "-a", ""}, {"x", "-a", ""}},
     {"minimize", langtag_minimize, {"qaa-Latn-QM", "-1996", ""}, {"qaa-Latn-QM", "-1996", ""}},
     {"from_posix", langtag_from_posix, {"pt_BR.", "a", ""}, {"pt-BR", "", ""}},
