@@ -13,6 +13,7 @@ import concurrent.futures
 import os
 import pathlib
 import queue
+import re
 import shutil
 import subprocess
 import sys
@@ -52,8 +53,8 @@ def rust(file: str, old: str, new: str, test: str = "owned") -> Fault:
 
 
 def js(file: str, old: str, new: str, says: str) -> Fault:
-    """One that no row shows, and a test of what only JavaScript has."""
-    return Fault(file, old, new, f"not ok {says}", "langtag")
+    """One that no row shows, and the name of a test of what only JavaScript has."""
+    return Fault(file, old, new, f"not ok - {says}", "langtag")
 
 
 FAULTS = {
@@ -192,7 +193,7 @@ FAULTS = {
         Fault(JS, '"second-extlang", "script", "region"', '"second-extlang", "region", "script"'),
         Fault(JS, 'PARTS = ["language", "script", "region"', 'PARTS = ["language", "region", "script"'),
         swapped(CALLS, '"langtag_matches_basic"', '"langtag_matches_extended"'),
-        js(CALLS, "return askText(name, text, length);", "return read(at, length);", "14 - a range, a tag or a text of a megabyte"),
+        js(CALLS, "return askText(name, text, length);", "return read(at, length);", "a range, a tag or a text of a megabyte"),
         Fault(CALLS, "Math.min(length, begin + 8192)", "Math.min(length, 8192)"),
         Fault(JS, "if (!found.has(subtag.toLowerCase())) found", "found"),
         Fault(JS, "(weight > 0)", "(answer === 1)"),
@@ -200,12 +201,12 @@ FAULTS = {
         Fault(JS, '.replaceAll("-*", "")', ""),
         Fault(JS, "AcceptLanguageError(text, index, offset,", "AcceptLanguageError(text, offset, index,"),
         Fault(JS, 'text === "" && value !== null && !isList', 'text === "" && value !== null'),
-        js(CALLS, "unit < 0x80 ? unit : 0xff", "unit & 0xff", "5 - texts that are refused, of any units"),
-        js(CALLS, "    if (isOpen) start();", "    if (calls === undefined) start();", "18 - calls that are cut off"),
-        js(CALLS, "    if (bytes.length > most) start();\n", "", "17 - the memory of a long text is given back"),
-        js(JS, "Object.freeze(this);", "", "10 - a tag does not change"),
-        js(JS, "/[,;]/", "/[,]/", "7 - likely subtags, distances and the best tag"),
-        js(JS, ".replaceAll(/-\\*(?=-|$)/g, \"\")", "", "7 - likely subtags, distances and the best tag"),
+        js(CALLS, "unit < 0x80 ? unit : 0xff", "unit & 0xff", "texts that are refused, of any units"),
+        js(CALLS, "    if (isOpen) start();", "    if (calls === undefined) start();", "calls that are cut off"),
+        js(CALLS, "    if (bytes.length > most) start();\n", "", "the memory of a long text is given back"),
+        js(JS, "Object.freeze(this);", "", "a tag does not change"),
+        js(JS, "/[,;]/", "/[,]/", "likely subtags, distances and the best tag"),
+        js(JS, ".replaceAll(/-\\*(?=-|$)/g, \"\")", "", "likely subtags, distances and the best tag"),
         Fault(JS, ".map(element).join()", '.map(element).join(" ")', "the tag of ranges"),
         Fault(JS, "return bestForHeader(this.#header,", 'return bestForHeader(this.#header.split(",")[0],', "the tag of a header that was read"),
     ],
@@ -282,7 +283,8 @@ def asked(libraries: pathlib.Path, language: str, fault: Fault | None, test: str
             return None if run.returncode == 0 else f"is refused without a fault: {run.stdout[-2000:]}"
         if run.returncode == 0:
             return "PASSES"
-        return None if fault.says in run.stdout else f"is refused, and not by {fault.says!r}: {run.stdout[-2000:]}"
+        said = re.sub(r"\bnot ok \d+ - ", "not ok - ", run.stdout)  # node numbers the tests
+        return None if fault.says in said else f"is refused, and not by {fault.says!r}: {run.stdout[-2000:]}"
 
 
 class RustCopies:
