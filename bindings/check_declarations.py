@@ -32,6 +32,7 @@ class Interface(NamedTuple):
     structs: dict[str, list[Member]]
 
 
+PYTHON = "bindings/python/langtag/_library.py"
 STRUCTS = {"Span": "langtag_span", "Parts": "langtag_parts", "Repeated": "langtag_repeated"}
 INTEGERS = {"usize": "size_t", "u64": "uint64_t", "u32": "uint32_t", "i32": "int32_t", "bool": "bool", "": "void"}
 
@@ -102,23 +103,23 @@ def of_exports(root: pathlib.Path) -> Interface:
 
 
 def of_python(root: pathlib.Path) -> Interface:
-    """Reads the table _FUNCTIONS, of results and parameters, and the classes of structs."""
-    types = {f"c_{name.removesuffix('_t')}": name for name in ("size_t", "uint64_t", "uint32_t", "int32_t", "bool")}
-    types |= {"c_size_t": "size_t", "None": "void", "c_char_p": "const char *", "POINTER(c_char)": "char *"}
-    types |= {"_Spans": "const langtag_span *"}  # of POINTER(_Span), that are only read
-    types |= {"_" + name: in_c for name, in_c in STRUCTS.items()}
-    types |= {f"POINTER(_{name})": f"{in_c} *" for name, in_c in STRUCTS.items()}
-    types |= {"POINTER(c_uint32)": "uint32_t *", "POINTER(c_size_t)": "size_t *"}
+    """Reads the table FUNCTIONS, of the functions for each result with its parameters, and the classes of structs."""
+    types = {f"c_{name.removesuffix('_t')}": [name] for name in ("size_t", "uint64_t", "uint32_t", "int32_t", "bool")}
+    types |= {"c_size_t": ["size_t"], "None": ["void"], "*_TEXT": ["const char *", "size_t"], "*_BUFFER": ["char *", "size_t"]}
+    types |= {"*_SPANS": ["const langtag_span *", "size_t"]}  # that are only read
+    types |= {name: [in_c] for name, in_c in STRUCTS.items()} | {f"POINTER({name})": [f"{in_c} *"] for name, in_c in STRUCTS.items()}
+    types |= {"POINTER(c_uint32)": ["uint32_t *"], "POINTER(c_size_t)": ["size_t *"]}
     functions, structs = {}, {}
-    for node in ast.parse((root / "bindings/python/langtag/_ctypes.py").read_text()).body:
-        if isinstance(node, ast.AnnAssign) and ast.unparse(node.target) == "_FUNCTIONS":
-            for name, row in zip(node.value.keys, node.value.values):
-                result, *parameters = [types[ast.unparse(kind)] for kind in row.elts]
-                functions[name.value] = Function(result, [(kind, None) for kind in parameters])
-        elif isinstance(node, ast.ClassDef) and node.name[1:] in STRUCTS:
+    for node in ast.parse((root / PYTHON).read_text()).body:
+        if isinstance(node, ast.AnnAssign) and ast.unparse(node.target) == "FUNCTIONS":
+            for shape, names in zip(node.value.keys, node.value.values):
+                result, *parameters = [kind for element in shape.elts for kind in types[ast.unparse(element)]]
+                for name in names.value.split():
+                    functions[f"langtag_{name}"] = Function(result, [(kind, None) for kind in parameters])
+        elif isinstance(node, ast.ClassDef) and node.name in STRUCTS:
             fields = next(item.value for item in node.body if isinstance(item, ast.Assign))
-            members = [(types[ast.unparse(field.elts[1])], field.elts[0].value) for field in fields.elts]
-            structs[STRUCTS[node.name[1:]]] = members
+            members = [(types[ast.unparse(field.elts[1])][0], field.elts[0].value) for field in fields.elts]
+            structs[STRUCTS[node.name]] = members
     return Interface(functions, structs)
 
 
@@ -160,7 +161,7 @@ VERSIONS = [
 ]
 NUMBERS = [
     ("bindings/c/Makefile", r"\.so\.([0-9]+)"), ("bindings/c/langtag_verified.map", r"LANGTAG_VERIFIED_([0-9]+) "),
-    ("bindings/python/langtag/_ctypes.py", r"\.so\.([0-9]+)"), ("bindings/python/setup.py", r"\.so\.([0-9]+)"),
+    (PYTHON, r"\.so\.([0-9]+)"), ("bindings/python/setup.py", r"\.so\.([0-9]+)"),
 ]
 
 # Where the registry's date stands, and the files that take it from the library and have no copy of it.
@@ -186,10 +187,10 @@ def copied_dates(root: pathlib.Path) -> list[str]:
 def wrong_numbers(root: pathlib.Path) -> list[str]:
     """Where a number of the header differs from the table, or one of another file from the header."""
     source = (root / "bindings/include/langtag.h").read_text()
-    comment = re.search(r"in RFC 5646 section 2\.1, or(.*?)\*/", source, flags=re.S)
+    comment = re.search(r"order of RFC 5646 section 2\.1, or(.*?)\*/", source, flags=re.S)
     said = sorted((int(number), tag) for number, tag in re.findall(r" (\d+) ([a-z]+-[\w-]+)", comment[1] if comment else ""))
     table = (root / "rows/table.txt").read_text()
-    wanted = [(int(number), tag) for tag, number in re.findall(r"^grandfathered (\S+) (\d+)", table, flags=re.M)][:26]
+    wanted = [(int(number), tag) for tag, number in re.findall(r"^grandfathered \| (\S+) \| (\d+)", table, flags=re.M)][:26]
     found = [] if said == wanted else [f"grandfathered tags: the header has {sorted(set(said) ^ set(wanted))}"]
     if "#define LANGTAG_PURE __attribute__((pure, warn_unused_result))\n" not in source:
         found.append("LANGTAG_PURE: the header's word is not pure")

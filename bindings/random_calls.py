@@ -1,5 +1,5 @@
 #!/usr/bin/env python3
-"""Writes calls in the form of table.txt, without answers: random_calls.py SEED. Texts of up to 100 kB are among them."""
+"""Writes calls in the form of rows, without answers: random_calls.py SEED. Texts of up to 100 kB are among them."""
 import random
 import sys
 
@@ -36,9 +36,9 @@ def main(seed):
         if numbers.random() < 0.3:
             other = one.swapcase().replace("\\X", "\\x")
         beside = one[: numbers.randrange(len(one))] if numbers.random() < 0.4 and "\\" not in one else text(numbers)
-        print(f"tag {one}\nviable {one}\ngrandfathered {one}\nvalidity {one}\ncanonical {one}\nrange {other}")
-        print(f"order {one} {other}\nmatch {beside or '*'} {one}")
-        print(f"refused {one}\nmaximized {one}\nminimized {one}\nright-to-left {one}\nposix {one}\ndistance {one} {other}")
+        print(f"tag | {one}\nviable | {one}\ngrandfathered | {one}\nvalidity | {one}\ncanonical | {one}\nrange | {other}")
+        print(f"order | {one} | {other}\nmatch | {beside or '*'} | {one}")
+        print(f"refused | {one}\nmaximized | {one}\nminimized | {one}\nright-to-left | {one}\nposix | {one}\ndistance | {one} | {other}")
 
 
 if __name__ == "__main__":

@@ -1,5 +1,5 @@
-"""The README of each package: sections of docs/BINDINGS.md that its users need, below a head and above the licences. Run by
-itself it prints one: python3 readmes.py c"""
+"""The README of each package: the page of its language in docs/, in which links to files of the repository name them, and below it the
+licences. Run by itself it prints one: python3 readmes.py c"""
 from __future__ import annotations
 
 import pathlib
@@ -7,20 +7,15 @@ import re
 import sys
 
 HERE = pathlib.Path(__file__).resolve().parent
-BINDINGS = HERE.parent / "docs/BINDINGS.md"
-HEADER, ORDER, KEPT = "Which language a request gets", "Order", "What the caller keeps"
+DOCS = HERE.parent / "docs"
 
-# The name of each package, and its sections.
-PACKAGES = {
-    "c": ("langtag for C and C++", ["C and C++", HEADER, ORDER, KEPT]),
-    "python": ("langtag for Python", ["Python", HEADER, ORDER]),
-    "js": ("langtag for JavaScript", ["JavaScript", HEADER, "The JavaScript package, and Intl.Locale"]),
-    "postgresql": ("langtag for PostgreSQL", ["PostgreSQL", HEADER]),
-}
-LICENCES = """## Licence
+# The page of each package.
+PAGES = {"c": "C.md", "python": "PYTHON.md", "js": "JAVASCRIPT.md", "postgresql": "SQL.md"}
+LICENCES = """
+## Licence
 
-Apache License 2.0 or MIT license, at your option; the likely subtags are Unicode's. PROVED.txt says what is proved of this package,
-and what proved it."""
+Apache License 2.0 or MIT license, at your option. The CLDR data is under Unicode's license.
+"""
 
 
 def description() -> str:
@@ -29,19 +24,15 @@ def description() -> str:
     return found[1] if found else ""
 
 
-def sections() -> dict[str, str]:
-    """The text below each heading of BINDINGS.md, up to the next one."""
-    parts = re.split(r"^##+ (.*)\n", BINDINGS.read_text(encoding="utf-8"), flags=re.M)
-    return {title: text.strip("\n") for title, text in zip(parts[1::2], parts[2::2])}
+def named(link: re.Match[str]) -> str:
+    """What stands in a package for a link to a file that it does not have."""
+    path = link[2].partition("#")[0]
+    return link[0] if path.startswith("http") else f"{link[1]} (`{(DOCS / path).resolve().relative_to(DOCS.parent)}` in the repository)"
 
 
 def readme(package: str) -> str:
-    """The first section stands right below the head, and the others below their headings."""
-    title, names = PACKAGES[package]
-    found = sections()
-    platform = "" if package in ("js", "postgresql") else f" It runs on {found['Platform and versions'].partition(chr(10) * 2)[0]}"
-    page = [f"# {title}", f"{description()}.{platform}", found[names[0]], *(f"## {name}\n\n{found[name]}" for name in names[1:]), LICENCES]
-    return "\n\n".join(page) + "\n"
+    page = (DOCS / PAGES[package]).read_text(encoding="utf-8")
+    return re.sub(r"\[([^\]]*)\]\(([^)#]+(?:#[\w-]*)?)\)", named, page) + LICENCES
 
 
 if __name__ == "__main__":

@@ -14,7 +14,7 @@ import unittest
 import check_declarations
 
 ROOT = pathlib.Path(sys.argv[1] if sys.argv[1:] else pathlib.Path(__file__).parent.parent).resolve()
-HEADER, PYTHON = "bindings/include/langtag.h", "bindings/python/langtag/_ctypes.py"
+HEADER, PYTHON = "bindings/include/langtag.h", check_declarations.PYTHON
 MODULE = "bindings/python/langtag/__init__.py"
 CRATE = "crates/langtag_c/src"
 EXPORTS, CALLS = "rust/c/src/exports.rs", "rust/c/src/calls"
@@ -38,12 +38,11 @@ PLANTED = [
     (EXPORTS, "langtag_kind(bytes: *const u8, len: usize)", "langtag_kind(len: usize, bytes: *const u8)", "langtag_kind"),
     (EXPORTS, '#[no_mangle]\npub extern "C" fn langtag_cldr_version', 'pub extern "C" fn langtag_cldr_version', "langtag_cldr_version"),
     (CALLS, "pub variant: Span", "pub variants: Span", "langtag_repeated"),
-    (PYTHON, '"langtag_cmp": (c_int32,', '"langtag_cmp": (c_uint32,', "langtag_cmp"),
-    (PYTHON, "c_size_t, POINTER(_Repeated))", "c_size_t)", "langtag_repeats"),
-    (PYTHON, '"langtag_canonical": (c_size_t, c_char_p, c_size_t, POINTER(c_char),',
-     '"langtag_canonical": (c_size_t, c_char_p, c_size_t, c_char_p,', "langtag_canonical"),
+    (PYTHON, "    (c_int32, *_TEXT,", "    (c_uint32, *_TEXT,", "langtag_cmp"),
+    (PYTHON, "*_TEXT, POINTER(Repeated))", "*_TEXT)", "langtag_repeats"),
+    (PYTHON, "(c_size_t, *_TEXT, *_BUFFER):", "(c_size_t, *_TEXT, *_TEXT):", "langtag_canonical"),
     (PYTHON, '[("start", c_size_t), ("len", c_size_t)]', '[("start", c_size_t), ("len", c_uint32)]', "langtag_span"),
-    (PYTHON, '    "langtag_fold": (None,', '    "langtag_folds": (None,', "langtag_folds"),
+    (PYTHON, '"fold recommend"', '"folds recommend"', "langtag_folds"),
     (HEADER, "__attribute__((pure,", "__attribute__((const,", "LANGTAG_PURE"),
     (HEADER, "0 en-GB-oed    1 i-ami ", "1 en-GB-oed    0 i-ami ", "grandfathered"),
     (HEADER, "LANGTAG_ABI_VERSION 1", "LANGTAG_ABI_VERSION 2", "LANGTAG_ABI_VERSION"),
@@ -53,7 +52,7 @@ PLANTED = [
     (MODULE, '__version__ = "0.1.0"', '__version__ = "0.2.0"', "LANGTAG_VERSION"),
     (HEADER, "uint32_t langtag_registry_date(void);", "uint64_t langtag_registry_date(void);", "langtag_registry_date"),
     (HEADER, "uint32_t langtag_registry_date(void);", "uint32_t langtag_registry_date(uint32_t kind);", "langtag_registry_date"),
-    (HEADER, "year,\n * month and day", f"{DATE}, year,\n * month and day", DATE),
+    (HEADER, "20250131 is 2025-01-31", DATE, DATE),
     (MODULE, "REGISTRY_DATE = _registry_date()", f'REGISTRY_DATE = "{DATE}"', DATE),
     (check_declarations.DATED, "pub const FILE_DATE", "pub const DATE", "the registry's date"),
     (CRATE, "fn langtag_eq(a: &[u8], b: &[u8])", "fn langtag_eq(b: &[u8], a: &[u8])", "langtag_eq"),

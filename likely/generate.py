@@ -1,5 +1,5 @@
 #!/usr/bin/env python3
-"""Writes the tables and the lists of the crate langtag_likely from Unicode's CLDR, whose likely subtags and whose data of language
+"""Writes the tables and the lists of the crates langtag_likely and langtag_choice from Unicode's CLDR, whose likely subtags and whose data of language
 matching are in data/ (from_cldr.py writes them).
 
 usage: generate.py                        writes them from the data whose checksums stand in data.sha256
@@ -24,7 +24,7 @@ from matching import ALIASES, Matching, folded_number, letter_number
 HERE = pathlib.Path(__file__).resolve().parent
 DATA = HERE / "data"
 CHECKSUMS = HERE / "data.sha256"
-CRATE = HERE.parent / "crates" / "langtag_likely"
+CRATES = HERE.parent / "crates"
 MODULE = HERE.parent / "bindings" / "postgresql" / "cldr_version.mk"
 
 # The variants of Arab and Syrc that have codes of their own (ISO 15924). The data do not name them.
@@ -172,15 +172,21 @@ def tables(likely):
     ])
 
 
-def matching_tables(matching):
+def alias_tables(matching):
     return "\n".join([
-        f"//! What Unicode's CLDR {version()} says of language matching, in tables (the notice: likely/LICENSE-UNICODE). Written by likely/generate.py. Do not edit.\n",
+        f"//! What is deprecated by Unicode's CLDR {version()}, in tables (the notice: likely/LICENSE-UNICODE). Written by likely/generate.py. Do not edit.\n",
         numbers("ALIAS_KEYS", "The languages that are replaced: their letters as the digits of a number, in rising order.", 16, [letter_number(row[0]) for row in matching.aliases]),
         names("ALIAS_LANGUAGES", "What each of them becomes.", [row[1] for row in matching.aliases]),
         names("ALIAS_SCRIPTS", "The script that this brings.", [row[2] for row in matching.aliases]),
         numbers("REGION_ALIAS_KEYS", "The regions that are replaced: their lowercase bytes as the digits of a number, in rising order.", 32,
                 [folded_number(row[0]) for row in matching.region_aliases]),
         names("REGION_ALIAS_NAMES", "What each of them becomes.", [row[1] for row in matching.region_aliases]),
+    ])
+
+
+def matching_tables(matching):
+    return "\n".join([
+        f"//! What Unicode's CLDR {version()} says of language matching, in tables (the notice: likely/LICENSE-UNICODE). Written by likely/generate.py. Do not edit.\n",
         numbers("LANGUAGE_RULE_KEYS", "A desired and a supported language as one number, in rising order.", 32, map(matching.language_key, matching.languages)),
         numbers("LANGUAGE_RULE_DISTANCES", "The distance of each such pair.", 8, [row[2] for row in matching.languages]),
         numbers("RELATED_KEYS", "The languages of two letters that a rule desires, or that replace another: their letters as the digits of a number, in rising order.", 16,
@@ -204,19 +210,27 @@ def word_list(name, doc, kind, reader, rows):
     return f"-- {doc}\nunfoldable pub {name} : List {kind}\n{name} =\n    {text}\n    ({texts}\n    ∷ [])\n"
 
 
-def matching_lists(matching):
+def alias_lists(matching):
     def fields(*texts):
         return " ".join(text or EMPTY for text in texts)
     return "\n".join([
-        f"-- What Unicode's CLDR {version()} says of language matching (the notice: likely/LICENSE-UNICODE). Written by likely/generate.py. Do not edit.\n"
-        "use Rattle.std.specs.Prelude.{ℕ, [], ◌∷◌, List, codes}\nuse Rattle.std.specs.List.{flat_map}\n"
-        "use Rattle.langtag_registry.specs.Subtags.{words}\n"
-        "use Rattle.langtag_likely.specs.Likely.{Likely, likely_of_fields}\n"
-        "use Rattle.langtag_likely.specs.Rules.{Rule, rules_of_languages, rules_of_scripts}\n",
+        f"-- What is deprecated by Unicode's CLDR {version()} (the notice: likely/LICENSE-UNICODE). Written by likely/generate.py. Do not edit.\n"
+        "use Rattle.std.specs.Prelude.{[], ◌∷◌, List, codes}\nuse Rattle.std.specs.List.{flat_map}\n"
+        "use Rattle.langtag_tables.specs.Words.{words}\n"
+        "use Rattle.langtag_likely.specs.Likely.{Likely, likely_of_fields}\n",
         word_list("language_aliases", "languages that are replaced, and what replaces them: language, script and region", "Likely", "likely_of_fields",
                   [[fields(row[0], "", "", *row[1:])] for row in matching.aliases]),
         word_list("region_aliases", "regions that are replaced, and what replaces them", "Likely", "likely_of_fields",
                   [[fields("", "", row[0], "", "", row[1])] for row in matching.region_aliases]),
+    ])
+
+
+def matching_lists(matching):
+    return "\n".join([
+        f"-- What Unicode's CLDR {version()} says of language matching (the notice: likely/LICENSE-UNICODE). Written by likely/generate.py. Do not edit.\n"
+        "use Rattle.std.specs.Prelude.{ℕ, [], ◌∷◌, List, codes}\nuse Rattle.std.specs.List.{flat_map}\n"
+        "use Rattle.langtag_tables.specs.Words.{words}\n"
+        "use Rattle.langtag_choice.specs.Rules.{Rule, rules_of_languages, rules_of_scripts}\n",
         word_list("language_rules", "a desired and a supported language, and their distance: the rules, in each direction in which they hold", "Rule", "rules_of_languages",
                   [[row[0], row[1], in_ones(row[2])] for row in matching.languages]),
         word_list("script_rules", "a desired language with its script and a supported one, and the distance of the scripts: the rules, in each direction in which they hold", "Rule",
@@ -245,7 +259,7 @@ def likely_lists(likely):
     return "\n".join([
         f"-- The likely subtags of Unicode's CLDR {version()} (the notice: likely/LICENSE-UNICODE). Written by likely/generate.py. Do not edit.\n"
         "use Rattle.std.specs.Prelude.{[], ◌∷◌, ◌++◌, List, codes}\nuse Rattle.std.specs.List.{flat_map}\n"
-        "use Rattle.langtag_registry.specs.Subtags.{words}\n"
+        "use Rattle.langtag_tables.specs.Words.{words}\n"
         "use Rattle.langtag_likely.specs.Likely.{Likely, likely_of_languages, likely_of_fields}\n",
         likely_list("language_rows", "the rows whose left side is a language alone: this, and the script and the region that it becomes", "likely_of_languages",
                     [(row[0], row[4], row[5]) for row in likely.of_languages]),
@@ -257,7 +271,7 @@ def likely_lists(likely):
 def script_list():
     return "\n".join([
         f"-- The scripts of Unicode's CLDR {version()} that are written from right to left (the notice: likely/LICENSE-UNICODE). Written by likely/generate.py. Do not edit.\n"
-        "use Rattle.std.specs.Prelude.{ℕ, List, codes}\nuse Rattle.langtag_registry.specs.Subtags.{words}\n",
+        "use Rattle.std.specs.Prelude.{ℕ, List, codes}\nuse Rattle.langtag_tables.specs.Words.{words}\n",
         "-- scriptMetadata, 'RTL?'; and variants of two of them that have codes of their own (ISO 15924: Aran of Arab, Syre, Syrj and Syrn of Syrc)\n"
         f"unfoldable pub right_to_left_scripts : List (List ℕ)\nright_to_left_scripts = words (codes \"{' '.join(right_to_left_scripts())}\")\n",
     ])
@@ -272,16 +286,18 @@ def module_version():
     return f"# The version of CLDR in the library. Written by likely/generate.py. Do not edit.\nCLDR_VERSION = {major_version()}\n"
 
 
-def written(crate, likely, matching):
+def written(crates, likely, matching):
     """The files that are made of the data: of each its path and its text."""
-    return {crate / "src/tables.rt": tables(likely), crate / "src/matching_tables.rt": matching_tables(matching),
-            crate / "specs/LikelySubtags.antt": likely_lists(likely), crate / "specs/MatchingData.antt": matching_lists(matching),
-            crate / "specs/RightToLeft.antt": script_list(), MODULE: module_version()}
+    subtags, choice = crates / "langtag_likely", crates / "langtag_choice"
+    return {subtags / "src/tables.rt": tables(likely), subtags / "src/alias_tables.rt": alias_tables(matching),
+            subtags / "specs/LikelySubtags.antt": likely_lists(likely), subtags / "specs/Aliases.antt": alias_lists(matching),
+            subtags / "specs/RightToLeft.antt": script_list(), choice / "src/matching_tables.rt": matching_tables(matching),
+            choice / "specs/MatchingData.antt": matching_lists(matching), MODULE: module_version()}
 
 
-def lost(crate, likely, matching, named):
+def lost(crates, likely, matching, named):
     """The languages that had a row and have none now, or that had a rule and have neither: their tags get other answers, or none."""
-    standing = second_reading.standing(crate / "specs")
+    standing = second_reading.standing(crates)
     rows = {row[0] for row in likely.of_languages}
     rules = {text for row in matching.languages for text in row[:2]}
     had_row = {row[0] for row in standing.get("language_rows", [])}
@@ -292,40 +308,40 @@ def lost(crate, likely, matching, named):
         yield f"{language}: it had a {had}, and has none now" + (f"; it is an alias of {aliases[language]}" if language in aliases else "")
 
 
-def refuse_unaccepted(crate, likely, matching, accept, named):
+def refuse_unaccepted(crates, likely, matching, accept, named):
     """Refuses other data than those that stand, but for newer ones that are to be accepted."""
     if checksums() == (CHECKSUMS.read_text(encoding="utf-8") if CHECKSUMS.is_file() else ""):
         return
     if not accept:
         sys.exit(f"the data are not those of {CHECKSUMS.name}; --accept takes newer ones")
-    if found := list(lost(crate, likely, matching, named)):
+    if found := list(lost(crates, likely, matching, named)):
         sys.exit("\n".join(found))
 
 
-def main(words, crate):
+def main(words, crates):
     check, accept = words == ["--check"], words[:1] == ["--accept"]
     if words and not check and not accept:
         sys.exit(__doc__)
     likely = Likely(read("likely.txt"), {row[i] for row in read("script-distance.txt") for i in (1, 3)})
     matching = Matching(read, likely)
     if not check:
-        refuse_unaccepted(crate, likely, matching, accept, words[1:])
+        refuse_unaccepted(crates, likely, matching, accept, words[1:])
     told = []
     if check and checksums() != CHECKSUMS.read_text(encoding="utf-8"):
         told.append(f"the data are not those of {CHECKSUMS.name}")
-    for path, text in written(crate, likely, matching).items():
+    for path, text in written(crates, likely, matching).items():
         if not check:
             path.write_text(text, encoding="utf-8")
         elif not path.is_file() or path.read_text(encoding="utf-8") != text:
-            told.append(f"differs: {path.relative_to(crate.parent) if crate in path.parents else path.name}")
+            told.append(f"differs: {path.relative_to(crates) if crates in path.parents else path.name}")
     if accept:
         CHECKSUMS.write_text(checksums(), encoding="utf-8")
     if check:
-        told += second_reading.differences(crate / "specs")
+        told += second_reading.differences(crates)
     for line in told:
         print(line)
     return len(told) > 0
 
 
 if __name__ == "__main__":
-    sys.exit(main(sys.argv[1:], CRATE))
+    sys.exit(main(sys.argv[1:], CRATES))

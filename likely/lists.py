@@ -7,7 +7,8 @@ from pathlib import Path
 
 import oracle
 
-PAGES = ["LikelySubtags", "MatchingData", "RightToLeft", "Nearness"]
+PAGES = ["langtag_likely/specs/LikelySubtags", "langtag_likely/specs/Aliases", "langtag_likely/specs/RightToLeft", "langtag_choice/specs/MatchingData",
+         "langtag_choice/specs/Nearness"]
 
 # How many words a row of a list has; one, where it is not named.
 WIDTH = {"language_rows": 3, "other_rows": 6, "language_aliases": 6, "region_aliases": 6, "language_rules": 3, "script_rules": 5, "is_paradigm": 2}
@@ -27,10 +28,10 @@ def written(page: str) -> dict[str, list[tuple]]:
     return lists
 
 
-def standing(specs: Path) -> dict[str, list[tuple]]:
+def standing(crates: Path) -> dict[str, list[tuple]]:
     """The rows of each list of the pages that are there."""
     lists = {}
-    for page in (specs / f"{page}.antt" for page in PAGES):
+    for page in (crates / f"{page}.antt" for page in PAGES):
         lists.update(written(page.read_text(encoding="utf-8")) if page.is_file() else {})
     return lists
 
@@ -70,9 +71,9 @@ def wanted() -> dict[str, list[tuple]]:
     }
 
 
-def differences(specs: Path) -> Iterator[str]:
+def differences(crates: Path) -> Iterator[str]:
     """A line for each list that the pages have otherwise, lack or add."""
-    ours, theirs = standing(specs), wanted()
+    ours, theirs = standing(crates), wanted()
     for name in sorted(ours.keys() ^ theirs.keys()):
         yield f"{name}: {'not read a second time' if name in ours else 'not on its page'}"
     for name in sorted(ours.keys() & theirs.keys()):

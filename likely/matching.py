@@ -83,6 +83,18 @@ class Matching:
     def script_key(self, row):
         return self.half_key(*row[0]) * 4294967296 + self.half_key(*row[1])
 
+    def distances(self):
+        """Each distance that two tags can have."""
+        languages = {row[:2]: row[2] for row in self.languages}
+        scripts = {}
+        for (desired, _), (supported, _), distance in self.scripts:
+            scripts.setdefault((desired, supported), set()).add(distance)
+        found = {language + script + region for language, regions in ((0, (0, 3, 4, 5)), (80, (0, 4))) for script in (0, 50) for region in regions}
+        for pair in languages.keys() | scripts.keys():
+            language, regions = (0, (0, 3, 4, 5)) if pair[0] == pair[1] else (languages.get(pair, 80), (0, 4))
+            found |= {language + script + region for script in {0, 50} | scripts.get(pair, set()) for region in regions}
+        return found
+
     def test(self, read):
         each("language-alias.txt", "a language of two or three letters", lambda row: is_language(row[0]) and is_language(row[1]), self.aliases)
         each("language-alias.txt", "no target is an alias", lambda row: row[1] not in ALIASES, self.aliases)
@@ -98,6 +110,8 @@ class Matching:
         each("script-distance.txt", "a language of two or three letters", lambda row: is_language(row[0][0]) and is_language(row[1][0]), self.scripts)
         each("script-distance.txt", "a script of the likely subtags", lambda row: row[0][1] in self.likely.scripts and row[1][1] in self.likely.scripts, self.scripts)
         each("script-distance.txt", "a distance from 1 to 50", lambda row: 1 <= row[2] <= 50, self.scripts)
+        each("language-distance.txt", "no distance from 15 to 19, nor from 45 to 49", lambda distance: not (15 <= distance <= 19 or 45 <= distance <= 49),
+             sorted(self.distances()))
         rules = []
         for language, script, name in SIDES:
             rules.append([language, script, f"${name}", f"${name}", "4"])

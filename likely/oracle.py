@@ -116,12 +116,7 @@ def forms(text):
 
 @functools.lru_cache(None)
 def matching_form(text):
-    tag = Tag(text)
-    return form_of(tag.fields) if tag and text.lower() != "und" else None
-
-
-@functools.lru_cache(None)
-def range_form(text):
+    """That of a tag or a range, as far as it begins like a tag."""
     front = FRONT.fullmatch(text)
     return form_of(fields_of(front)) if front and text.lower() != "und" else None
 
@@ -166,12 +161,12 @@ def distance(line):
     desired, supported = line.split()
     if not (is_tag(desired) and is_tag(supported)):
         return "-"
-    return str(between(desired, supported, matching_form))
+    return str(between(desired, supported))
 
 
 @functools.lru_cache(None)
-def between(desired, supported, find):
-    d, s = find(desired), find(supported)
+def between(desired, supported):
+    d, s = matching_form(desired), matching_form(supported)
     if d is None or s is None:
         return 0 if desired.lower() == supported.lower() else 255
     total = 0
@@ -192,13 +187,15 @@ def is_right_to_left(text):
 # ---- the choice for a request
 
 
-def element(text):
-    """The range of an element of a header and its weight in thousandths, of which a person would make something; None of another."""
+def element(text, behind=""):
+    """The range of an element of a header and its weight in thousandths, of which a person would make something; None of another.
+    Digits behind its comma are the fraction of a weight without a point: fr;q=0,8."""
     name, *parameters = text.split(";")
     wish = re.split("[.@]", name.strip(" \t"))[0].replace("_", "-")
     pairs = [parameter.partition("=") for parameter in parameters]
     values = [value.strip(" \t") for name, equals, value in pairs if equals and name.strip(" \t") in ("q", "Q")]
-    weight = decimal.Decimal(values[0]) if values and NUMBER.fullmatch(values[0]) else 1
+    value = "".join(values[:1]) + ("." + behind if values and "." not in values[0] and re.fullmatch("[0-9]+", behind, re.A) else "")
+    weight = decimal.Decimal(value) if NUMBER.fullmatch(value) else 1
     return (wish, int(min(weight, 1) * 1000)) if RANGE.fullmatch(wish) else None
 
 
@@ -227,7 +224,7 @@ def look_up(wish, tags):
 
 def unlikely(tag):
     """Of tags that are as near: the likely region of its language and script, then one of the paradigms, then any other."""
-    form = range_form(tag)
+    form = matching_form(tag)
     if form is None:
         return 2
     most = add_likely((form[0], form[1], ""))
@@ -242,12 +239,13 @@ def nearest(wish, near, tags):
 
 def best(header, tags):
     """The index of the tag that the reader wants, or None."""
-    elements = [found for found in map(element, header.split(",")) if found]
+    items = header.split(",")
+    elements = [found for found in map(element, items, items[1:] + [""]) if found]
     wishes = [wish for wish, weight in sorted(elements, key=lambda found: -found[1]) if weight > 0 and wish != "*"]
     have = [index for index, tag in enumerate(tags) if is_tag(tag) and not is_refused(tag, elements)]
     for limit in (16, 50):
         for wish in wishes:
-            far = [between(wish, tags[index], range_form) for index in have]
+            far = [between(wish, tags[index]) for index in have]
             if min(far, default=limit) < limit:
                 return nearest(wish, [index for index, distance in zip(have, far) if distance == min(far)], tags)
     found = (look_up(wish, [tags[index] for index in have]) for wish in wishes)
@@ -286,8 +284,7 @@ def escaped(text):
 
 
 def answer(row):
-    by = " | " if " | " in row else " "
-    call, *words = row.split(by)
+    call, *words = row.split(" | ")
     texts = [plain(word) for word in words]
     if call == "best":
         tags = texts[1].split()
@@ -297,7 +294,7 @@ def answer(row):
         told = distance(" ".join(texts))
     else:
         told = CALLS[call](texts[0])
-    return row + by + (told if told == "-" else escaped(told))
+    return row + " | " + (told if told == "-" else escaped(told))
 
 
 def written(find):

@@ -135,10 +135,10 @@ def random_row(rng):
     how = rng.randrange(6)
     if how < 3:
         text = random_tag(rng) if rng.random() < 0.5 else near_tag(rng)
-        return ("maximized", "minimized", "right-to-left")[how] + " " + escaped(text if rng.random() < 0.95 else mutated(text, rng))
+        return ("maximized", "minimized", "right-to-left")[how] + " | " + escaped(text if rng.random() < 0.95 else mutated(text, rng))
     if how == 3:
-        return "distance " + random_pair(rng)
-    return random_choice(rng) if how == 4 else "posix " + escaped(random_name(rng))
+        return "distance | " + random_pair(rng).replace(" ", " | ")
+    return random_choice(rng) if how == 4 else "posix | " + escaped(random_name(rng))
 
 
 def each():
@@ -147,14 +147,14 @@ def each():
     tags = ["-".join(filter(None, (fields[0] or "und", *fields[1:]))) for fields in triples]
     beside_und = sorted({row[1] for row in LIKELY.values()} | RIGHT_TO_LEFT) + sorted(REGION_ALIASES)
     for tag in tags + sorted(ALIASES) + ["und-" + subtag for subtag in beside_und]:
-        print(f"maximized {tag}\nminimized {tag}\nright-to-left {tag}")
+        print(f"maximized | {tag}\nminimized | {tag}\nright-to-left | {tag}")
     for pair, _, _ in LANGUAGE_RULES + SCRIPT_RULES:
-        print(f"distance {pair[0]} {pair[1]}\ndistance {pair[1]} {pair[0]}")
+        print(f"distance | {pair[0]} | {pair[1]}\ndistance | {pair[1]} | {pair[0]}")
     regions = sorted(set(GROUPS) | set().union(*GROUPS.values()) | set(REGION_ALIASES))
     for language in ("ar", "en", "es", "pt", "zh-Hant", "de"):
         for region in regions:
             for other in ("GB", "US", "419", "MA", "HK", "150"):
-                print(f"distance {language}-{region} {language}-{other}\ndistance {language}-{other} {language}-{region}")
+                print(f"distance | {language}-{region} | {language}-{other}\ndistance | {language}-{other} | {language}-{region}")
 
 
 MAKERS = {"tags": random_tag, "pairs": random_pair, "rows": random_row}

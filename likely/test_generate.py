@@ -14,8 +14,9 @@ import generate
 import lists
 import matching
 
-WRITTEN = ["src/tables.rt", "src/matching_tables.rt", "specs/LikelySubtags.antt", "specs/MatchingData.antt", "specs/RightToLeft.antt"]
-BY_HAND = ["specs/Nearness.antt"]
+WRITTEN = ["langtag_likely/src/tables.rt", "langtag_likely/src/alias_tables.rt", "langtag_likely/specs/LikelySubtags.antt", "langtag_likely/specs/Aliases.antt",
+           "langtag_likely/specs/RightToLeft.antt", "langtag_choice/src/matching_tables.rt", "langtag_choice/specs/MatchingData.antt"]
+BY_HAND = ["langtag_choice/specs/Nearness.antt"]
 
 
 class Generating(unittest.TestCase):
@@ -23,7 +24,7 @@ class Generating(unittest.TestCase):
         folder = tempfile.TemporaryDirectory()
         self.addCleanup(folder.cleanup)
         self.folder = pathlib.Path(folder.name)
-        self.crate = self.folder / generate.CRATE.name
+        self.crates = self.folder / generate.CRATES.name
         for name in ("DATA", "CHECKSUMS", "MODULE"):
             path = getattr(generate, name)
             (shutil.copytree if path.is_dir() else shutil.copy)(path, self.folder / path.name)
@@ -31,14 +32,14 @@ class Generating(unittest.TestCase):
             self.addCleanup(patch.stop)
             patch.start()
         for name in WRITTEN + BY_HAND:
-            (self.crate / name).parent.mkdir(parents=True, exist_ok=True)
-            shutil.copy(generate.CRATE / name, self.crate / name)
+            (self.crates / name).parent.mkdir(parents=True, exist_ok=True)
+            shutil.copy(generate.CRATES / name, self.crates / name)
 
     def run_with(self, *words):
         """The status, and the lines that are printed."""
         out = io.StringIO()
         with contextlib.redirect_stdout(out):
-            status = generate.main(list(words), self.crate)
+            status = generate.main(list(words), self.crates)
         return status, out.getvalue().splitlines()
 
     def assert_told(self, *starts):
@@ -49,7 +50,7 @@ class Generating(unittest.TestCase):
             self.assertTrue(line.startswith(start), told)
 
     def put(self, name, old, new):
-        path = self.crate / name
+        path = self.crates / name
         text = path.read_text(encoding="utf-8")
         self.assertIn(old, text)
         path.write_text(text.replace(old, new, 1), encoding="utf-8")
@@ -67,7 +68,7 @@ class Generating(unittest.TestCase):
         path.write_text(text.replace(old, new, 1), encoding="utf-8")
 
     def assert_refused(self, told, *words):
-        before = {path: path.read_bytes() for path in [*self.crate.rglob("*.*"), generate.CHECKSUMS, generate.MODULE]}
+        before = {path: path.read_bytes() for path in [*self.crates.rglob("*.*"), generate.CHECKSUMS, generate.MODULE]}
         with self.assertRaisesRegex(SystemExit, told):
             self.run_with(*words)
         self.assertEqual({path: path.read_bytes() for path in before}, before)
@@ -89,8 +90,8 @@ class Generating(unittest.TestCase):
         self.edit("right-to-left.txt", "\nHebr\n", "\nHebr\nZxyz\n")
         self.assert_refused("--accept takes newer ones")
         self.assertEqual(self.run_with("--accept"), (False, []))
-        self.assertIn('CLDR_VERSION: &str = "99"', (self.crate / "src/tables.rt").read_text(encoding="utf-8"))
-        self.assertIn("CLDR 99.1", (self.crate / "specs/LikelySubtags.antt").read_text(encoding="utf-8"))
+        self.assertIn('CLDR_VERSION: &str = "99"', (self.crates / "langtag_likely/src/tables.rt").read_text(encoding="utf-8"))
+        self.assertIn("CLDR 99.1", (self.crates / "langtag_likely/specs/LikelySubtags.antt").read_text(encoding="utf-8"))
         self.assertIn("CLDR_VERSION = 99\n", generate.MODULE.read_text(encoding="utf-8"))
         self.assertEqual(self.run_with(), (False, []))
         # lists.py reads the data that stand, and these alone are other
@@ -114,7 +115,7 @@ class Generating(unittest.TestCase):
     def test_an_alias_loses_its_rule(self):
         """As gom did, of which data of old had a rule, and newer ones an alias alone."""
         with mock.patch.object(generate, "ALIASES", [name for name in matching.ALIASES if name != "gom"]):
-            self.put("specs/MatchingData.antt", "gsw de 4 ", "gsw de 4 gom kok 10 ")
+            self.put("langtag_choice/specs/MatchingData.antt", "gsw de 4 ", "gsw de 4 gom kok 10 ")
             self.edit("language-alias.txt", "gom kok", "gom  kok")
             self.assert_refused("^gom: it had a rule, and has none now; it is an alias of kok$", "--accept")
 
@@ -129,6 +130,7 @@ class Generating(unittest.TestCase):
             ("language-alias.txt", "\ntl fil - -\n", "\ntl iw - -\n", "no target is an alias"),
             ("language-alias.txt", "\ntl fil - -\n", "\n", "each is there"),
             ("language-distance.txt", "\nda no 8 0\n", "\nda no 81 0\n", "a distance from 1 to 80"),
+            ("language-distance.txt", "\nda no 8 0\n", "\nda no 16 0\n", "no distance from 15 to 19"),
             ("region-distance.txt", "\nen * $enUS $enUS 4\n", "\nen * $enUS $enUS 2\n", "other rules than those"),
         ):
             with self.subTest(told=told):
@@ -144,19 +146,20 @@ class Generating(unittest.TestCase):
 
     def test_what_a_file_loses(self):
         for name, old, new, told in (
-            ("src/tables.rt", "0x", "0X", ["differs: langtag_likely/src/tables.rt"]),
-            ("src/matching_tables.rt", "0x", "0X", ["differs: langtag_likely/src/matching_tables.rt"]),
-            ("specs/LikelySubtags.antt", "ab Cyrl GE ", "", ["differs: langtag_likely/specs/Likely", "language_rows: differs"]),
-            ("specs/LikelySubtags.antt", "- - AD ca Latn AD", "- - AD es Latn AD", ["differs: langtag_likely/specs/Likely", "other_rows: differs"]),
-            ("specs/MatchingData.antt", "da nb 8 ", "", ["differs: langtag_likely/specs/MatchingData", "language_rules: differs"]),
-            ("specs/RightToLeft.antt", "Hebr ", "", ["differs: langtag_likely/specs/Right", "right_to_left_scripts: differs"]),
-            ("specs/RightToLeft.antt", "right_to_left_scripts =", "scripts =", ["differs: langtag_likely/specs/Right", "right_to_left_scripts: not on", "scripts: not read"]),
-            ("specs/Nearness.antt", "\"419\"", "\"MX\"", ["is_paradigm: differs"]),
+            ("langtag_likely/src/tables.rt", "0x", "0X", ["differs: langtag_likely/src/tables.rt"]),
+            ("langtag_choice/src/matching_tables.rt", "0x", "0X", ["differs: langtag_choice/src/matching_tables.rt"]),
+            ("langtag_likely/specs/LikelySubtags.antt", "ab Cyrl GE ", "", ["differs: langtag_likely/specs/Likely", "language_rows: differs"]),
+            ("langtag_likely/specs/LikelySubtags.antt", "- - AD ca Latn AD", "- - AD es Latn AD", ["differs: langtag_likely/specs/Likely", "other_rows: differs"]),
+            ("langtag_likely/specs/Aliases.antt", "- - AN - - CW ", "", ["differs: langtag_likely/specs/Aliases", "region_aliases: differs"]),
+            ("langtag_choice/specs/MatchingData.antt", "da nb 8 ", "", ["differs: langtag_choice/specs/MatchingData", "language_rules: differs"]),
+            ("langtag_likely/specs/RightToLeft.antt", "Hebr ", "", ["differs: langtag_likely/specs/Right", "right_to_left_scripts: differs"]),
+            ("langtag_likely/specs/RightToLeft.antt", "right_to_left_scripts =", "scripts =", ["differs: langtag_likely/specs/Right", "right_to_left_scripts: not on", "scripts: not read"]),
+            ("langtag_choice/specs/Nearness.antt", "\"419\"", "\"MX\"", ["is_paradigm: differs"]),
         ):
             with self.subTest(name=name, new=new):
                 self.put(name, old, new)
                 self.assert_told(*told)
-                shutil.copy(generate.CRATE / name, self.crate / name)
+                shutil.copy(generate.CRATES / name, self.crates / name)
 
     def test_what_the_generator_loses(self):
         """The files are written by a generator that loses something, and --check runs over them by the same generator."""

@@ -1,6 +1,6 @@
 #!/usr/bin/env python3
 """Writes the tables and the lists of the crate langtag_registry from IANA's language subtag registry, which stands beside this
-file in its own form (RFC 5646 section 3.1.1), and the pages of proofs that compare them.
+file in its own form (RFC 5646 section 3.1.1), and the pages of proofs that compare them; and names for Python and JavaScript.
 
 usage: generate.py            writes them from the registry whose checksum stands beside it
        generate.py --accept   writes them from a newer registry, and its checksum
@@ -29,6 +29,8 @@ TABLES = "crates/langtag_registry/src/tables.rt"
 LISTS = "crates/langtag_registry/specs/Subtags.antt"
 PROOFS = "crates/langtag_registry/proofs"
 MODULE = "bindings/postgresql/registry_date.mk"
+NAMES_FOR_PYTHON = "bindings/python/langtag/names.txt"
+NAMES_FOR_JAVASCRIPT = "bindings/js/names.js"
 
 # The lists: the Types of their records.
 SUBTAGS = ["language", "extlang", "script", "region", "variant"]
@@ -151,9 +153,8 @@ def entry_list(name, doc, pairs):
 
 def lists(registry):
     out = [f"-- The registry (RFC 5646 section 3.1). Written by registry/generate.py from the registry of {registry.date}. Do not edit.\n"
-           "use Rattle.std.specs.Prelude.{ℕ, ◌==◌, List, [], ◌∷◌, codes}\nuse Rattle.std.specs.List.{slice_split, flat_map}\n"
-           "use Rattle.langtag_registry.specs.Entry.{Entry, entries}\n",
-           "-- the words of a text, between spaces\nabbrev pub words : List ℕ → List (List ℕ)\nwords text = slice_split (λ b. b == 32) text\n"]
+           "use Rattle.std.specs.Prelude.{ℕ, List, [], ◌∷◌, codes}\nuse Rattle.std.specs.List.{flat_map}\n"
+           "use Rattle.langtag_tables.specs.Words.{words}\nuse Rattle.langtag_registry.specs.Entry.{Entry, entries}\n"]
     for kind in SUBTAGS:
         out.append(text_list(f"{kind}_subtags", f"the Subtag fields of the records of Type {kind}, ranges written out", subtags(registry, kind)))
     for kind in DEPRECATED:
@@ -171,9 +172,35 @@ def module_date(registry):
     return f"# The date of the registry in the library. Written by registry/generate.py. Do not edit.\nREGISTRY_DATE = {registry.date}\n"
 
 
+# On this day the languages of ISO 639-3 were added to those of ISO 639-1 and 639-2.
+ALL_LANGUAGES = "2009-07-29"
+
+
+def is_named(record):
+    """Whether a record has a name for people. Private use and rarer languages have none, and no collection with three letters."""
+    if "Private use" in record.values("Description"):
+        return False
+    is_common = record.value("Added") < ALL_LANGUAGES and record.value("Scope") != "collection"
+    return record.kind != "language" or len(record.text) == 2 or is_common
+
+
+def names(registry):
+    """Lines of a subtag or a grandfathered tag, and the first of its descriptions. Letters' case tells the kinds of subtags apart."""
+    extended = [record for record in registry.all("extlang") if any(len(prefix) == 2 for prefix in record.values("Prefix"))]
+    named = [record for kind in ("language", "script", "region", "variant", "grandfathered") for record in registry.all(kind) if is_named(record)]
+    found = {record.text: re.sub(r" \((macrolanguage|individual language)\)$", "", record.value("Description")) for record in extended + named}
+    return "".join(f"{text} {found[text]}\n" for text in sorted(found))
+
+
+def names_for_javascript(registry):
+    head = "/** Subtags and grandfathered tags with a description of the registry. Written by registry/generate.py. Do not edit. */\n"
+    return f"{head}export const NAMES = `\\\n{names(registry)}`;\n"
+
+
 def written(registry):
     """The files that are made of a registry: of each its path and its text."""
-    return {TABLES: tables(registry), LISTS: lists(registry), MODULE: module_date(registry)} | {f"{PROOFS}/{name}.antt": page() for name, page in PAGES.items()}
+    for_people = {NAMES_FOR_PYTHON: names(registry), NAMES_FOR_JAVASCRIPT: names_for_javascript(registry)}
+    return {TABLES: tables(registry), LISTS: lists(registry), MODULE: module_date(registry)} | for_people | {f"{PROOFS}/{name}.antt": page() for name, page in PAGES.items()}
 
 
 def checksum(source):

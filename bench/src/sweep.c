@@ -113,14 +113,14 @@ static void sweep_prefixes(const char *row, size_t row_len, size_t wanted_tags) 
     check("prefixes", row_len, found == wanted_tags);
 }
 
-/* The rows `scan TEXT READS TAGS ..` of a file, whose texts are ASCII: the prefixes of each, of which TAGS are tags. */
+/* The rows `scan | TEXT | READS TAGS ..` of a file, whose texts are ASCII: the prefixes of each, of which TAGS are tags. */
 static size_t sweep_rows(const char *path) {
     static char line[1 << 16], row[1 << 16];
     FILE *file = fopen(path, "r");
     size_t rows = 0, found;
     if (!file) return 0;
     while (fgets(line, sizeof line, file))
-        if (sscanf(line, "scan %65535s %*u %zu", row, &found) == 2 && !strpbrk(row, "\\{'")) {
+        if (sscanf(line, "scan | %65535s | %*u %zu", row, &found) == 2 && !strpbrk(row, "\\{'")) {
             sweep_prefixes(row, strlen(row), found);
             rows++;
         }

@@ -28,7 +28,7 @@ aarch64_example() {
     on_aarch64 "$work/built/parts-aarch64" zh-Hant-TW | diff - <(wanted)
 }
 aarch64_rows() {
-    aarch64_compile c/test/*.c examples/accept_language.c -o "$work/built/test-aarch64" || return 1
+    aarch64_compile c/test/*.c -o "$work/built/test-aarch64" || return 1
     on_aarch64 "$work/built/test-aarch64" $(make -s -C c ROWS="$work/rows" asked)
 }
 check "aarch64: an example, under qemu" aarch64_example

@@ -32,19 +32,19 @@ check "C: the date of the registry is that of its file" dated
 
 # What Rust and Python answer to random calls is compared with C's answers.
 answers_of_c() {
-    python3 random_calls.py "$FUZZ_SEED" >"$work/calls" && "$work/c/test" --answer <"$work/calls" >"$work/answers"
+    python3 random_calls.py "$FUZZ_SEED" >"$work/calls" && "$work/c/test" --answer "$work/rows/calls.txt" <"$work/calls" >"$work/answers"
 }
 check "C: answers to random calls, for Rust and Python" answers_of_c
 
 # What C answers about tags of the registry's subtags, in the words of the oracle, a plain reading of the registry.
 oracle() { python3 "$root/registry/oracle.py" "$root/registry/language-subtag-registry" "$@"; }
 in_its_words() {
-    paste - - | sed -E 's/^validity \S+ none\t.* -$/refused/; s/^validity \S+ valid\tcanonical \S+ /valid canonical=/
-        s/^validity \S+ (\S+) [0-9]+ (\S+)\tcanonical \S+ /invalid \1=\2 canonical=/'
+    paste - - | sed -E 's/^validity \| \S+ \| none\t.* -$/refused/; s/^validity \| \S+ \| valid\tcanonical \| \S+ \| /valid canonical=/
+        s/^validity \| \S+ \| (\S+) [0-9]+ (\S+)\tcanonical \| \S+ \| /invalid \1=\2 canonical=/'
 }
 as_the_oracle() {
     { oracle --each && oracle --make 30000 "$FUZZ_SEED"; } >"$work/tags" || return 1
-    sed 's/.*/validity &\ncanonical &/' "$work/tags" | "$work/c/test" --answer | in_its_words >"$work/told" || return 1
+    sed 's/.*/validity | &\ncanonical | &/' "$work/tags" | "$work/c/test" --answer "$work/rows/calls.txt" | in_its_words >"$work/told" || return 1
     oracle validity canonical --compare "$work/told" <"$work/tags"
 }
 check "C: validity and canonical form of 50,000 tags, by a plain reading of the registry" as_the_oracle
@@ -53,7 +53,7 @@ check "C: validity and canonical form of 50,000 tags, by a plain reading of the 
 as_the_likely_oracle() {
     local likely=$root/likely
     { "$likely/questions.py" each && "$likely/questions.py" rows 30000 "$FUZZ_SEED"; } >"$work/asked" || return 1
-    "$work/c/test" --answer <"$work/asked" >"$work/told_of_likely" || return 1
+    "$work/c/test" --answer "$work/rows/calls.txt" <"$work/asked" >"$work/told_of_likely" || return 1
     "$likely/oracle.py" rows --compare "$work/told_of_likely" <"$work/asked"
 }
 check "C: 100,000 rows of likely subtags and choices, by a plain reading of the data" as_the_likely_oracle

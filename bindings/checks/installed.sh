@@ -1,5 +1,4 @@
-# The library used from an empty folder by the lines of docs/BINDINGS.md: the archive and the header alone, and
-# installed.
+# The library used from an empty folder: the archive and the header alone, and installed.
 wanted() { printf 'language zh\nscript Hant\nregion TW\n'; }
 
 archive_alone() {

@@ -18,7 +18,7 @@ native_tests() {
     env -u LANGTAG_LIBRARY "$2" -c 'import langtag; assert langtag._backend.__name__ == "langtag._native"' || return 1
     env -u LANGTAG_LIBRARY LANGTAG_OTHER="$LANGTAG_LIBRARY" LANGTAG_ANSWERS="$work/answers" "$2" -m unittest
 }
-ctypes_tests() { cd python && "$1" -m unittest; }
+ctypes_tests() { cd python && "$1" -m unittest ${2:-}; }
 header=
 for python in $pythons; do
     if [ -f "$("$python" -c 'import sysconfig; print(sysconfig.get_paths()["include"])')/Python.h" ]; then header=$python; break; fi
@@ -27,10 +27,11 @@ if [ -n "$header" ]; then check "Python: the C module builds without a warning" 
 number=0
 for python in $pythons; do
     number=$((number + 1))
-    check "Python: the tests by $python over ctypes" ctypes_tests "$python"
     if [ -n "$header" ]; then
         check "Python: the tests by $python over the C module" native_tests $number "$python"
+        check "Python: values by $python over ctypes" ctypes_tests "$python" test_langtag.Values
     else
+        check "Python: the tests by $python over ctypes" ctypes_tests "$python"
         not_run "Python: the C module by $python" "there is no Python.h (in Debian: apt-get install python3-dev)"
     fi
 done

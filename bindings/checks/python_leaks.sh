@@ -10,12 +10,12 @@ leaks_of() {
     env -u LANGTAG_LIBRARY "$@"
 }
 lost='s/^    Py_DECREF(given.owner);$//'
-unfreed='s/^    PyMem_Free(header.ranges);$//'
+unfreed='s/^    if (offered->text != offered->little) PyMem_Free(offered->text);$//'
 
 by_references() { leaks_of references -DPy_DEBUG "$header" $debug leaks.py; }
 by_blocks() {
     PYTHONMALLOC=malloc leaks_of valgrind -g "$header" valgrind --leak-check=full --show-leak-kinds=definite --log-file=valgrind.log \
-        "$real" leaks.py 3 && ! grep -E '\((text|value|parts|forms|range|calls|likely|negotiate|module)\.c:' "$work/leaks-valgrind/valgrind.log"
+        "$real" leaks.py 3 && ! grep -E '\((text|value|parts|forms|range|calls|likely|choice|module)\.c:' "$work/leaks-valgrind/valgrind.log"
 }
 by_sanitizers() {
     local runtime
@@ -44,7 +44,7 @@ else
 fi
 if has valgrind; then
     check "Python: no block is kept, by valgrind" by_blocks
-    check "Python: a block that is not freed is seen" seen "$unfreed" "negotiate\.c" by_blocks
+    check "Python: a block that is not freed is seen" seen "$unfreed" "choice\.c" by_blocks
 else
     not_run "Python: blocks" "there is no valgrind"
 fi

@@ -4,7 +4,7 @@ if ! has rt && [ -z "${RT_VERSION:-}" ]; then RT_VERSION="not known: there was n
 
 releases() {
     (cd "$root" && cp --parents $(sed -n '/^LICENCES = /s/[^"]*"\([^"]*\)"[^"]*/\1 /gp' "$here/release") "$work") || return 1
-    mkdir -p "$work/docs" && cp "$root/docs/BINDINGS.md" "$work/docs" && (cd "$root" && cp -r --parents crates/*/src "$work") || return 1
+    cp -r "$root/docs" "$work" && (cd "$root" && cp -r --parents crates/*/src "$work") || return 1
     export COMMIT=$(git -C "$root" rev-parse HEAD 2>/dev/null || echo "not known")
     local targets=()
     if [ -n "${aarch64_archive:-}" ]; then targets+=(--target "aarch64-unknown-linux-gnu=$aarch64_archive"); fi
@@ -47,7 +47,7 @@ check "release: each package has a README" readmes
 # What the tarball has by its own: the archive as the page names it, and the examples.
 by_itself() {
     away 'tar -xzf ../dist/*-x86_64-elf.tar.gz; cd langtag-verified-*; rm ../parts.*
-        cc examples/negotiate.c -Iinclude lib/liblangtag_verified.a -o negotiate; cc -c examples/accept_language.c -Iinclude
+        cc examples/negotiate.c -Iinclude lib/liblangtag_verified.a -o negotiate
         c++ -std=c++17 examples/subtitles.cc -Iinclude lib/liblangtag_verified.a -o subtitles
         c++ -std=c++17 examples/parts.cc -Iinclude lib/liblangtag_verified.a -o parts; ./parts zh-Hant-TW >cc
         cc examples/parts.c -Iinclude lib/liblangtag_verified.a -o parts; ./parts zh-Hant-TW | tee c; cmp c cc'

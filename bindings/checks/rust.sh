@@ -44,7 +44,9 @@ with_serde() {
     sed 's/^#: \?//' "$rust_crate/Cargo.toml" >"$folder/Cargo.toml" || return 1
     printf '%s\n' '[dev-dependencies]' 'serde = { version = "1", features = ["derive"] }' 'serde_json = "1"' >>"$folder/Cargo.toml"
     mkdir "$folder/.cargo" && printf '%s\n' '[source.crates-io]' 'replace-with = "folder"' '[source.folder]' "directory = \"$registry\"" >"$folder/.cargo/config.toml"
-    cd "$folder" && RUSTFLAGS=-Dwarnings cargo test -q --features serde,oxilangtag --test serde
+    cd "$folder" && RUSTFLAGS=-Dwarnings cargo test -q --features serde,oxilangtag --test serde || return 1
+    cargo run -q --features serde --example articles | diff - <(printf '%s\n' 'fr Vélo' 'zh-Hant 單車' \
+        'invalid value: string "de_CH", expected a language tag at line 1 column 19')
 }
 if ls "$registry"/serde-1.* "$registry"/serde_json-1.* >/dev/null 2>&1; then
     check "Rust: tags as strings of serde" with_serde

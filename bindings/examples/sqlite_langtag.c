@@ -1,6 +1,6 @@
 /*
- * A loadable extension for SQLite: the parts of language tags, their canonical forms, whether they are valid, likely
- * subtags, the tag for a request, which ranges match, and their order.
+ * A loadable extension for SQLite. It returns parts of language tags, canonical forms, validity, likely subtags, the best tag for a
+ * request, and whether a range matches, and it has a collation.
  *
  *     cc -O2 -fPIC -shared sqlite_langtag.c -o sqlite_langtag.so $(pkg-config --cflags --libs langtag_verified)
  *     sqlite> .load ./sqlite_langtag
@@ -12,14 +12,18 @@
  *     sqlite> SELECT * FROM texts WHERE langtag_matches_basic('de', tag);
  *     sqlite> SELECT * FROM texts WHERE tag = 'ZH-hant' COLLATE langtag;
  *
- * langtag_part(tag, part) is NULL where the text is not a tag, and where the part is absent. The parts are language,
- * script, region, variants, extensions and private_use. langtag_canonical(tag) and langtag_is_valid(tag) are NULL where
- * the text is not a tag (RFC 5646 sections 4.5 and 2.2.9, by the registry of langtag_registry_date). So are
- * langtag_maximize(tag), langtag_minimize(tag), langtag_is_right_to_left(tag) and langtag_distance(desired, supported)
- * (UTS #35). langtag_best_for_header(header, tag, ..) is the tag that a reader wants, NULL where it is none of them.
- * langtag_matches_basic(range, tag) and langtag_matches_extended(range, tag) are 0 where a text is not a range, or not a
- * tag (RFC 4647 sections 3.3.1 and 3.3.2). Each call with a NULL is NULL. In the order of the collation a tag comes after
- * those that begin with it; ORDER BY lower(tag) is people's.
+ * Each function returns NULL if an argument is NULL.
+ *
+ * langtag_part(tag, part) returns NULL if the text is not a tag, or the part is absent. The parts are language, script, region,
+ * variants, extensions and private_use. These return NULL if a text is not a tag:
+ *
+ *   - langtag_canonical(tag) and langtag_is_valid(tag) (RFC 5646 sections 4.5 and 2.2.9), by langtag_registry_date
+ *   - langtag_maximize(tag), langtag_minimize(tag), langtag_is_right_to_left(tag), langtag_distance(desired, supported) (UTS #35)
+ *
+ * langtag_best_for_header(header, tag, ..) returns the best tag for a header, or NULL if none is suitable.
+ * langtag_matches_basic(range, tag) and langtag_matches_extended(range, tag) return 0 if a text is not a range, or not a tag
+ * (RFC 4647 sections 3.3.1 and 3.3.2). In the collation a tag sorts after every longer tag that begins with it. For alphabetical
+ * order use ORDER BY lower(tag).
  */
 #include <langtag.h>
 #include <sqlite3ext.h>

@@ -93,6 +93,8 @@ STATEMENTS = [
     ("SELECT langtag_maximize(NULL) IS NULL, langtag_distance('de', NULL) IS NULL, langtag_best_for_header(NULL, 'de') IS NULL;",
      "1|1|1"),
     ("SELECT langtag_best_for_header('zh-TW,zh;q=0.9,en;q=0.8', 'en', 'zh-Hans', NULL, 'zh-Hant');", "zh-Hant"),
+    ("SELECT langtag_best_for_header('zh-TW', NULL, 'zh-Hant'), langtag_best_for_header('zh-TW', NULL, NULL, 'de', 'zh-Hant', NULL);", "zh-Hant|zh-Hant"),
+    ("SELECT langtag_best_for_header('de', NULL) IS NULL, langtag_best_for_header('', NULL, 'de') IS NULL;", "1|1"),
     ("SELECT langtag_best_for_header('fi', 'en') IS NULL, langtag_best_for_header('fi') IS NULL;", "1|1"),
     (TABLE + "CREATE INDEX forms ON texts (langtag_canonical(tag), langtag_part(tag, 'script')); SELECT 1;", "1"),
     (TABLE + "CREATE INDEX valid ON texts (langtag_is_valid(tag), langtag_matches_basic('de', tag)); SELECT 1;", "1"),

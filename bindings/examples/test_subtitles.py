@@ -44,10 +44,10 @@ PICKED = [
 
 # A line that is not good, and what is said of it.
 POINTED = [
-    ("de-419-DE Deutsch", "NAME:8: not a language tag: DE does not fit there\n  de-419-DE Deutsch\n         ^~\n"),
-    ("de_CH Deutsch", "NAME:8: not a language tag: de_CH has a byte that is no letter and no digit\n  de_CH Deutsch\n    ^\n"),
-    ("de--AT Deutsch", "NAME:8: not a language tag: a subtag is empty\n  de--AT Deutsch\n     ^\n"),
-    ("de- Deutsch", "NAME:8: not a language tag: it ends too soon\n  de- Deutsch\n     ^\n"),
+    ("de-419-DE Deutsch", "NAME:8: not a language tag: unexpected subtag 'DE'\n  de-419-DE Deutsch\n         ^~\n"),
+    ("de_CH Deutsch", "NAME:8: not a language tag: invalid character '_': expected a letter, a digit or a hyphen\n  de_CH Deutsch\n    ^\n"),
+    ("de--AT Deutsch", "NAME:8: not a language tag: empty subtag\n  de--AT Deutsch\n     ^\n"),
+    ("de- Deutsch", "NAME:8: not a language tag: unexpected end: expected a subtag\n  de- Deutsch\n     ^\n"),
 ]
 
 

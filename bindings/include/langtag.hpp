@@ -1,7 +1,12 @@
 /*
- * langtag.h for C++17, over std::string_view. A tag, a range and their parts are views of the text that they were read
- * from, which has to outlive them: a temporary string is refused by the compiler. Bytes after a view's end are never read,
- * and a view of no text, without a pointer, is an empty one.
+ * langtag.h for C++17, over std::string_view.
+ *
+ *     const auto tag = langtag::tag::parse("zh-Hant-TW");
+ *     tag->script();                                                              // "Hant"
+ *     langtag::best_for_header("zh-TW,zh;q=0.9", {"zh-Hans", "zh-Hant"})->text(); // "zh-Hant"
+ *
+ * A tag, a range and their parts are views of the text that they were read from, which has to outlive them. The compiler refuses
+ * a temporary string. Bytes after the end of a view are never read, and a view without a pointer is an empty text.
  */
 #ifndef LANGTAG_HPP
 #define LANGTAG_HPP
@@ -49,7 +54,7 @@ enum class part : std::uint32_t {
     private_use = LANGTAG_PART_PRIVATE_USE
 };
 
-/* What is wrong with a subtag (RFC 5646 section 2.2.9). */
+/* What is wrong with a subtag of a tag that is not valid (RFC 5646 section 2.2.9). */
 enum class fault : std::uint32_t {
     language = LANGTAG_INVALID_LANGUAGE,
     extlang = LANGTAG_INVALID_EXTLANG,
@@ -61,13 +66,13 @@ enum class fault : std::uint32_t {
     repeated_singleton = LANGTAG_INVALID_REPEATED_SINGLETON
 };
 
-/* A subtag that makes a tag invalid, and the offset at which it begins. */
+/* A subtag that makes a tag invalid, and the offset in the text at which it begins. */
 struct invalid_subtag {
     langtag::fault fault;
     std::string_view subtag;
-    std::size_t offset;
+    std::size_t start;
 
-    /* What is wrong, in words: "language qt is not registered", "extended language yue is the second". */
+    /* Returns what is wrong, in words: "language qt is not registered", "extended language yue is the second". */
     std::string message() const {
         const auto say = [this](const char *what, const char *how) { return (what + std::string(subtag)).append(how); };
         switch (fault) {
@@ -84,19 +89,19 @@ struct invalid_subtag {
     }
 };
 
-/* The 26 grandfathered tags as they are registered (RFC 5646 section 2.1): first the seventeen irregular ones. */
+/* The 26 grandfathered tags in their registered spelling (RFC 5646 section 2.1). The first seventeen are irregular. */
 inline constexpr std::string_view grandfathered_tags[] = {
     "en-GB-oed",   "i-ami",  "i-bnn",  "i-default", "i-enochian", "i-hak",     "i-klingon",  "i-lux",     "i-mingo",
     "i-navajo",    "i-pwn",  "i-tao",  "i-tay",     "i-tsu",      "sgn-BE-FR", "sgn-BE-NL",  "sgn-CH-DE", "art-lojban",
     "cel-gaulish", "no-bok", "no-nyn", "zh-guoyu",  "zh-hakka",   "zh-min",    "zh-min-nan", "zh-xiang"};
 
-/* A string that is gone before the view of it is used: what keeps a view has a deleted overload for it. */
+/* A temporary string, for which functions that keep a view have a deleted overload. */
 template <class Allocator> using temporary_string = const std::basic_string<char, std::char_traits<char>, Allocator> &&;
 
-/* A language tag (RFC 5646 section 2.1). */
+/* A language tag (RFC 5646 section 2.1), as a view of its text. */
 class tag {
 public:
-    /* None where the text is not a tag. */
+    /* Parses a tag; returns std::nullopt if the text is not a tag. `refused` says why. */
     static std::optional<tag> parse(std::string_view text) {
         langtag_parts parts;
         const std::uint32_t found = langtag_parse(langtag_bytes(text.data()), text.size(), &parts);
@@ -108,7 +113,7 @@ public:
     std::string_view text() const noexcept { return text_; }
     langtag::kind kind() const noexcept { return kind_; }
 
-    /* The parts, empty where they are absent. A tag for private use is its own private use part. */
+    /* Return the parts, which are empty if they are absent. A private-use tag is its own private-use part. */
     std::string_view language() const noexcept { return cut(parts_.language); }
     std::string_view script() const noexcept { return cut(parts_.script); }
     std::string_view region() const noexcept { return cut(parts_.region); }
@@ -116,18 +121,18 @@ public:
     std::string_view extensions() const noexcept { return cut(parts_.extensions); }
     std::string_view private_use() const noexcept { return cut(parts_.private_use); }
 
-    /* Which of grandfathered_tags it is, in any case; empty where it is none of them. */
+    /* Returns the registered spelling if the tag is grandfathered (ignoring case), otherwise an empty view. */
     std::string_view grandfathered() const noexcept {
         const std::uint32_t number = langtag_grandfathered(text_.data(), text_.size());
         return number < LANGTAG_GRANDFATHERED_COUNT ? grandfathered_tags[number] : std::string_view();
     }
 
-    /* The first variant, and the first singleton, that equals an earlier one but for case; empty where there is none. */
+    /* Return the first variant, and the first singleton, that equals an earlier one, ignoring case. Empty if there is none. */
     std::string_view repeated_variant() const noexcept { return cut(repeated().variant); }
     std::string_view repeated_singleton() const noexcept { return cut(repeated().singleton); }
 
-    /* The text of the tag with a part set to a text, or taken out where that is empty. None where the tag is not a normal
-     * one, or the text not one of that part. */
+    /* Returns the text of the tag with one part changed; an empty text removes the part. Returns std::nullopt if the tag is not
+     * a normal one, or the text is not such a part. */
     std::optional<std::string> with(langtag::part which, std::string_view given) const {
         std::string made(text_.size() + given.size() + 1, '\0');
         const std::size_t len = langtag_with_part(text_.data(), text_.size(), static_cast<std::uint32_t>(which),
@@ -137,7 +142,7 @@ public:
         return made;
     }
 
-    /* The same for several parts, one after the other: tag.with({{part::script, "Latn"}, {part::region, "RS"}}). */
+    /* Changes several parts, one after another: tag.with({{part::script, "Latn"}, {part::region, "RS"}}). */
     std::optional<std::string> with(std::initializer_list<std::pair<langtag::part, std::string_view>> parts) const {
         std::optional<std::string> made{std::string(text_)};
         for (const auto &[which, given] : parts) {
@@ -147,7 +152,7 @@ public:
         return made;
     }
 
-    /* The first subtag that makes the tag invalid, by the registry of registry_date. None where it is valid. */
+    /* Returns the first subtag that makes the tag invalid, by the registry of registry_date, or std::nullopt if it is valid. */
     std::optional<langtag::invalid_subtag> invalid_subtag() const noexcept {
         langtag_span invalid;
         const std::uint32_t found = langtag_validity(text_.data(), text_.size(), &invalid);
@@ -156,39 +161,21 @@ public:
     }
     bool is_valid() const noexcept { return !invalid_subtag(); }
 
-    /* The canonical form (RFC 5646 section 4.5), by the same registry: he of iw. */
+    /* Returns the canonical form (RFC 5646 section 4.5), by the same registry: iw becomes he. */
     std::string canonical() const { return written(langtag_canonical); }
 
-    /* The tag with its likely subtags (UTS #35), and without them: zh-Hant-TW of zh-TW, zh-TW of zh-Hant-TW. */
+    /* Return the tag with its likely subtags (UTS #35), and without them: zh-TW becomes zh-Hant-TW, and zh-Hant-TW becomes zh-TW. */
     std::string maximized() const { return written(langtag_maximize); }
     std::string minimized() const { return written(langtag_minimize); }
 
-    /* Whether it is written from right to left, by its own script or the likely one. */
+    /* Returns whether the tag is written from right to left, by its script or its likely script. */
     bool is_right_to_left() const noexcept { return langtag_is_right_to_left(text_.data(), text_.size()); }
 
-    /* Whether the tag is its own canonical form, whatever the case of its letters. */
+    /* Returns whether the tag equals its canonical form, ignoring case. */
     bool is_canonical() const noexcept { return langtag_is_canonical(text_.data(), text_.size()); }
 
-    /* FNV-1a of 64 bits over the text in small letters: the same number in every program and at every time. */
+    /* Returns the 64-bit FNV-1a hash of the text in lowercase: the same number in every program. */
     std::uint64_t fnv1a() const noexcept { return langtag_hash(LANGTAG_HASH, text_.data(), text_.size()); }
-
-    /* Without regard to case; a tag comes after those that begin with it. For people's order sort by folded(text()). */
-    friend bool operator==(const tag &a, const tag &b) noexcept { return a == b.text_; }
-    friend bool operator!=(const tag &a, const tag &b) noexcept { return !(a == b); }
-    friend bool operator<(const tag &a, const tag &b) noexcept {
-        return langtag_cmp(a.text_.data(), a.text_.size(), b.text_.data(), b.text_.size()) < 0;
-    }
-    friend bool operator>(const tag &a, const tag &b) noexcept { return b < a; }
-    friend bool operator<=(const tag &a, const tag &b) noexcept { return !(b < a); }
-    friend bool operator>=(const tag &a, const tag &b) noexcept { return !(a < b); }
-
-    /* Whether the tag is a text, but for case. */
-    friend bool operator==(const tag &a, std::string_view b) noexcept {
-        return langtag_eq(a.text_.data(), a.text_.size(), langtag_bytes(b.data()), b.size());
-    }
-    friend bool operator!=(const tag &a, std::string_view b) noexcept { return !(a == b); }
-    friend bool operator==(std::string_view a, const tag &b) noexcept { return b == a; }
-    friend bool operator!=(std::string_view a, const tag &b) noexcept { return !(b == a); }
 
 private:
     friend class owned_tag;
@@ -202,7 +189,7 @@ private:
         return made;
     }
 
-    /* Each span lies within the text. */
+    /* No bounds are checked: langtag_parse guarantees that each span is within the text. */
     std::string_view cut(langtag_span span) const noexcept { return {text_.data() + span.start, span.len}; }
 
     langtag_repeated repeated() const noexcept {
@@ -216,7 +203,7 @@ private:
     langtag_parts parts_;
 };
 
-/* What a call of langtag.h takes off a part, one after the other, as views. */
+/* The views that a function of langtag.h takes off a part, one after another. */
 template <bool (*Next)(const char *, std::size_t, langtag_span *, langtag_span *)> class pieces {
 public:
     class iterator {
@@ -240,7 +227,7 @@ public:
             ++*this;
             return before;
         }
-        /* Of two in one part; the one at the end views none. */
+        /* Compares iterators of one part. The one at the end has an empty view. */
         friend bool operator==(const iterator &a, const iterator &b) noexcept {
             return a.part_.size() == b.part_.size() && a.rest_.len == b.rest_.len;
         }
@@ -264,7 +251,7 @@ private:
 /* The subtags of a part, in order: for (std::string_view variant : langtag::subtags(tag.variants())) .. */
 using subtags = pieces<langtag_next_subtag>;
 
-/* The extensions of tag.extensions(), in order, each with its singleton: u-co-pinyin. */
+/* The extensions of tag.extensions(), in order, each with its singleton, such as u-co-pinyin. */
 using extensions = pieces<langtag_next_extension>;
 
 /* Calls a function with each subtag of a part, in order. */
@@ -272,23 +259,23 @@ template <class Function> void for_each_subtag(std::string_view part, Function c
     for (std::string_view subtag : subtags(part)) call(subtag);
 }
 
-/* The text in the case that RFC 5646 section 2.1.1 recommends. */
+/* Returns the text in the case that RFC 5646 section 2.1.1 recommends: zh-Hant-TW. */
 inline std::string recommended(std::string_view text) {
     std::string made(text);
     langtag_recommend(&made[0], made.size());
     return made;
 }
 
-/* The text in small letters, the same for all tags that are equal: the key to sort by for people, as in a dictionary, de
- * before de-AT, which tags as they are compared are not. All tags below de stand from the key "de-" up to "de.". */
+/* Returns the text in lowercase, which is the same for all equal tags. It is a key for alphabetical order, de before de-AT. All
+ * tags that begin with de- are between the keys "de-" and "de.". */
 inline std::string folded(std::string_view text) {
     std::string made(text);
     langtag_fold(&made[0], made.size());
     return made;
 }
 
-/* The text of the tag of these parts, of which those that are empty are left out. None where one is not what it is given
- * for, or there is no language. */
+/* Returns the text of the tag made of these parts; empty parts are left out. Returns std::nullopt if a text is not such a part, or
+ * if there is no language. */
 inline std::optional<std::string> from_parts(std::string_view language, std::string_view script = {},
                                              std::string_view region = {}, std::string_view variants = {},
                                              std::string_view extension = {}, std::string_view private_use = {}) {
@@ -300,10 +287,10 @@ inline std::optional<std::string> from_parts(std::string_view language, std::str
                                     {part::private_use, private_use}});
 }
 
-/* A tag that owns its text, to be kept. One that was moved from may be assigned to or destroyed, and nothing else. */
+/* A tag that owns its text. After a move from it, it may only be assigned to or destroyed. */
 class owned_tag {
 public:
-    /* None where the text is not a tag. */
+    /* Parses a tag; returns std::nullopt if the text is not a tag. */
     static std::optional<owned_tag> parse(std::string text) {
         const auto read = tag::parse(text);
         if (!read) return std::nullopt;
@@ -313,12 +300,21 @@ public:
 
     const std::string &text() const noexcept { return text_; }
 
-    /* The tag as a view, which has the parts. The text is not read again. */
+    /* Returns the tag as a view, which has the parts. The text is not parsed again. */
     tag view() const & noexcept { return tag(text_, kind_, parts_); }
     tag view() const && = delete;
 
-    /* Sets a part to a text, or takes it out where that is empty. False, with the tag as it was, where it is not a normal
-     * one, or the text not one of that part. */
+    /* Return what a tag says that is not a view. */
+    langtag::kind kind() const noexcept { return kind_; }
+    bool is_valid() const noexcept { return view().is_valid(); }
+    bool is_canonical() const noexcept { return view().is_canonical(); }
+    bool is_right_to_left() const noexcept { return view().is_right_to_left(); }
+    std::string canonical() const { return view().canonical(); }
+    std::string maximized() const { return view().maximized(); }
+    std::string minimized() const { return view().minimized(); }
+
+    /* Changes one part; an empty text removes it. Returns false and leaves the tag unchanged if it is not a normal one, or the
+     * text is not such a part. */
     bool set(part which, std::string_view given) {
         auto made = view().with(which, given);
         auto read = made ? parse(std::move(*made)) : std::nullopt;
@@ -326,25 +322,13 @@ public:
         return read.has_value();
     }
 
-    /* A tag with a part set or taken out: t = t.with(part::script, "Latn").with(part::region, "RS"). Throws
-     * std::invalid_argument where `set` answers false. */
+    /* Returns a tag with one part changed: t = t.with(part::script, "Latn").with(part::region, "RS"). Throws
+     * std::invalid_argument if `set` would return false. */
     owned_tag with(part which, std::string_view given) const {
         owned_tag made = *this;
         if (!made.set(which, given)) throw std::invalid_argument(text_ + " can't have the part " + std::string(given));
         return made;
     }
-
-    /* As tags are compared. */
-    friend bool operator==(const owned_tag &a, const owned_tag &b) noexcept { return a.view() == b.view(); }
-    friend bool operator!=(const owned_tag &a, const owned_tag &b) noexcept { return !(a == b); }
-    friend bool operator<(const owned_tag &a, const owned_tag &b) noexcept { return a.view() < b.view(); }
-    friend bool operator>(const owned_tag &a, const owned_tag &b) noexcept { return b < a; }
-    friend bool operator<=(const owned_tag &a, const owned_tag &b) noexcept { return !(b < a); }
-    friend bool operator>=(const owned_tag &a, const owned_tag &b) noexcept { return !(a < b); }
-    friend bool operator==(const owned_tag &a, std::string_view b) noexcept { return a.view() == b; }
-    friend bool operator!=(const owned_tag &a, std::string_view b) noexcept { return !(a == b); }
-    friend bool operator==(std::string_view a, const owned_tag &b) noexcept { return b == a; }
-    friend bool operator!=(std::string_view a, const owned_tag &b) noexcept { return !(b == a); }
 
 private:
     owned_tag(std::string text, langtag::kind kind, const langtag_parts &parts) noexcept
@@ -355,6 +339,58 @@ private:
     langtag_parts parts_;
 };
 
+/* Returns the text of a tag or a range. */
+inline std::string_view text_of(std::string_view text) noexcept { return text; }
+inline std::string_view text_of(const tag &tag) noexcept { return tag.text(); }
+inline std::string_view text_of(const owned_tag &tag) noexcept { return tag.text(); }
+
+/* The tags of a list as the library reads them: their texts, one behind the other, and where each one stands. */
+class listed_tags {
+public:
+    template <class Tags> explicit listed_tags(const Tags &tags) {
+        for (const auto &it : tags) {
+            given_.push_back(text_of(it));
+            spans_.push_back({text_.size(), given_.back().size()});
+            text_.append(given_.back());
+        }
+        spans_.push_back({0, 0}); /* so that there is one to point at */
+    }
+
+    using choice = std::size_t (*)(const char *, std::size_t, const char *, std::size_t, const langtag_span *, std::size_t);
+
+    /* Returns the tag that a call chooses for a header, or std::nullopt. */
+    std::optional<tag> chosen(choice choose, std::string_view header) const {
+        const std::size_t index = choose(langtag_bytes(header.data()), header.size(), text_.data(), text_.size(), spans_.data(),
+                                         given_.size());
+        return index < given_.size() ? tag::parse(given_[index]) : std::nullopt;
+    }
+
+private:
+    std::string text_;
+    std::vector<langtag_span> spans_;
+    std::vector<std::string_view> given_;
+};
+
+/* Tags of both classes are compared with each other and with texts, so that std::less<> finds a tag in a map by each of these. */
+template <class Value> inline constexpr bool is_tag = std::is_same_v<Value, tag> || std::is_same_v<Value, owned_tag>;
+template <class Value> inline constexpr bool is_text = std::is_convertible_v<const Value &, std::string_view>;
+template <class A, class B>
+using if_compared = std::enable_if_t<(is_tag<A> && (is_tag<B> || is_text<B>)) || (is_text<A> && is_tag<B>), bool>;
+
+/* Compare, ignoring case. A tag sorts after every longer tag that begins with it. For alphabetical order, sort by folded(text()). */
+template <class A, class B> if_compared<A, B> operator==(const A &a, const B &b) noexcept {
+    const std::string_view x = text_of(a), y = text_of(b);
+    return langtag_eq(langtag_bytes(x.data()), x.size(), langtag_bytes(y.data()), y.size());
+}
+template <class A, class B> if_compared<A, B> operator<(const A &a, const B &b) noexcept {
+    const std::string_view x = text_of(a), y = text_of(b);
+    return langtag_cmp(langtag_bytes(x.data()), x.size(), langtag_bytes(y.data()), y.size()) < 0;
+}
+template <class A, class B> if_compared<A, B> operator!=(const A &a, const B &b) noexcept { return !(a == b); }
+template <class A, class B> if_compared<A, B> operator>(const A &a, const B &b) noexcept { return b < a; }
+template <class A, class B> if_compared<A, B> operator<=(const A &a, const B &b) noexcept { return !(b < a); }
+template <class A, class B> if_compared<A, B> operator>=(const A &a, const B &b) noexcept { return !(a < b); }
+
 /* Why a text is not a tag. */
 enum class refusal_kind : std::uint32_t {
     subtag = LANGTAG_REFUSED_SUBTAG,
@@ -362,48 +398,56 @@ enum class refusal_kind : std::uint32_t {
     end = LANGTAG_REFUSED_END
 };
 
-/* Where a text goes wrong that is not a tag: the subtag that does not fit, and the offset to point at, which is its own or
- * that of a byte that is no letter and no digit. Of a text that ends too soon the subtag is empty. */
+/* Where a text that is not a tag goes wrong: the subtag that is refused, and its start, to underline it. The offset is the place to
+ * point at: the start, or a byte that is neither a letter nor a digit. If the text ends too soon, the subtag is empty. */
 struct refusal {
     refusal_kind kind;
     std::string_view subtag;
-    std::size_t offset;
+    std::size_t start, offset;
 
-    /* In words: "DE does not fit there", "it ends too soon". */
+    /* Returns the reason in words: "unexpected subtag 'DE'", "unexpected end: expected a subtag". */
     std::string message() const {
         switch (kind) {
-        case refusal_kind::subtag: return subtag.empty() ? "a subtag is empty" : std::string(subtag) + " does not fit there";
-        case refusal_kind::byte: return std::string(subtag) + " has a byte that is no letter and no digit";
-        case refusal_kind::end: return "it ends too soon";
+        case refusal_kind::subtag: return subtag.empty() ? "empty subtag" : "unexpected subtag '" + std::string(subtag) + "'";
+        case refusal_kind::byte: return "invalid character '" + first(subtag.substr(offset - start)) + "': expected a letter, a digit or a hyphen";
+        case refusal_kind::end: return "unexpected end: expected a subtag";
         }
         return {};
     }
+
+private:
+    /* The first character of a text in UTF-8. */
+    static std::string first(std::string_view text) {
+        std::size_t end = 1;
+        while (end < text.size() && (static_cast<unsigned char>(text[end]) & 0xC0) == 0x80) end++;
+        return std::string(text.substr(0, end));
+    }
 };
 
-/* None where the text is a tag. */
+/* Returns why a text is not a tag, or std::nullopt if it is a tag. */
 inline std::optional<refusal> refused(std::string_view text) noexcept {
     langtag_span subtag;
     std::size_t offset;
     const std::uint32_t answer = langtag_refused(langtag_bytes(text.data()), text.size(), &subtag, &offset);
     if (answer == LANGTAG_REFUSED_NONE) return std::nullopt;
-    return refusal{static_cast<refusal_kind>(answer), std::string_view(text.data() + subtag.start, subtag.len), offset};
+    return refusal{static_cast<refusal_kind>(answer), std::string_view(text.data() + subtag.start, subtag.len), subtag.start, offset};
 }
 template <class Allocator> std::optional<refusal> refused(temporary_string<Allocator>) = delete;
 
-/* The length of the longest prefix that some tag begins with: where a text goes wrong that is not a tag. */
+/* Returns the length of the longest prefix with which some tag begins. */
 inline std::size_t viable(std::string_view text) noexcept {
     return langtag_viable(langtag_bytes(text.data()), text.size());
 }
 
-/* The length of the shortest prefix that no tag begins with, or of the whole text where there is none. */
+/* Returns the length of the shortest prefix with which no tag begins, or of the whole text if there is none. */
 inline std::size_t stop(std::string_view text) noexcept {
     return langtag_stop(langtag_bytes(text.data()), text.size());
 }
 
-/* The date of the registry by which tags are valid and canonical, as one number: 20051016 would be 2005-10-16. */
+/* Returns the date of the IANA registry inside this library as one number, so that 20250131 is 2025-01-31. */
 inline std::uint32_t registry_date() noexcept { return langtag_registry_date(); }
 
-/* Whether a language range matches a tag (RFC 4647 sections 3.3.1 and 3.3.2). */
+/* Return whether a language range matches a tag, by basic and by extended filtering (RFC 4647 sections 3.3.1 and 3.3.2). */
 inline bool matches_basic(std::string_view range, const tag &tag) noexcept {
     return langtag_matches_basic(langtag_bytes(range.data()), range.size(), tag.text().data(), tag.text().size());
 }
@@ -414,7 +458,7 @@ inline bool matches_extended(std::string_view range, const tag &tag) noexcept {
 /* A language range, basic or extended (RFC 4647 section 2): de-CH, *, *-CH, de-*-DE. */
 class range {
 public:
-    /* None where the text is not a range. */
+    /* Parses a range; returns std::nullopt if the text is not a range. */
     static std::optional<range> parse(std::string_view text) noexcept {
         const std::uint32_t found = langtag_range_kind(langtag_bytes(text.data()), text.size());
         if (found == LANGTAG_RANGE_NONE) return std::nullopt;
@@ -424,13 +468,13 @@ public:
 
     std::string_view text() const noexcept { return text_; }
 
-    /* Whether it is a basic one (section 2.1): de-CH, or * alone. */
+    /* Returns whether it is a basic range (section 2.1): de-CH, or only *. */
     bool is_basic() const noexcept { return is_basic_; }
 
     bool matches_basic(const tag &tag) const noexcept { return langtag::matches_basic(text_, tag); }
     bool matches_extended(const tag &tag) const noexcept { return langtag::matches_extended(text_, tag); }
 
-    /* What is looked up after it (section 3.4): zh-Hant after zh-Hant-CN. None where nothing is left. */
+    /* Returns the next shorter range of a look-up (section 3.4), or std::nullopt if none is left: zh-Hant-CN is followed by zh-Hant. */
     std::optional<range> fallback() const noexcept {
         langtag_span rest = {0, text_.size()};
         if (!langtag_next_fallback(text_.data(), text_.size(), &rest)) return std::nullopt;
@@ -438,24 +482,18 @@ public:
         return range(left, is_basic_ || left.find('*') == left.npos);
     }
 
-    /* The text of the basic range as which an extended one counts (section 3.2): de-DE of de-*-DE. */
+    /* Returns the basic range as which a look-up reads an extended one (section 3.2): de-*-DE becomes de-DE. */
     std::string without_wildcards() const {
         std::string basic(text_);
         for (auto at = basic.find("-*"); at != basic.npos; at = basic.find("-*", at)) basic.erase(at, 2);
         return basic;
     }
 
-    /* The tag that it finds by look-up (section 3.4): the one that is equal to it, or else to the first of its fallbacks
-     * that there is; of tags that are equal but for case the first. None where there is none. An extended range is looked
-     * up as the basic one without its * (section 3.2), and finds nothing where it begins with one. */
+    /* Returns the tag that the range finds by look-up (section 3.4): the first that equals the range, or the first of its fallbacks
+     * that equals one. Returns std::nullopt if there is none. An extended range is looked up without its * (section 3.2). A range
+     * that begins with * finds nothing. */
     std::optional<tag> look_up(const std::vector<tag> &tags) const {
-        const std::string basic = without_wildcards();
-        std::optional<range> looked_up = range(basic, true);
-        for (; looked_up; looked_up = looked_up->fallback()) {
-            const auto found = std::find(tags.begin(), tags.end(), looked_up->text_);
-            if (found != tags.end()) return *found;
-        }
-        return std::nullopt;
+        return listed_tags(tags).chosen(langtag_tag_for_header_lenient, without_wildcards());
     }
 
 private:
@@ -466,20 +504,16 @@ private:
     bool is_basic_;
 };
 
-/* The tag of the first range that finds one. */
+/* Returns the tag of the first range that finds one. */
 inline std::optional<tag> look_up(const std::vector<range> &ranges, const std::vector<tag> &tags) {
-    for (const range &range : ranges)
-        if (const auto found = range.look_up(tags)) return found;
-    return std::nullopt;
+    std::string header;
+    for (const range &range : ranges) header.append(range.without_wildcards()).append(1, ',');
+    return listed_tags(tags).chosen(langtag_tag_for_header_lenient, header);
 }
 
-/* The text of what has one. */
-inline std::string_view text_of(std::string_view text) noexcept { return text; }
-inline std::string_view text_of(const tag &tag) noexcept { return tag.text(); }
-inline std::string_view text_of(const owned_tag &tag) noexcept { return tag.text(); }
 inline std::string_view text_of(const range &range) noexcept { return range.text(); }
 
-/* Whether the texts of a list are there after a call with it: those of views, and of owners in a list that is no temporary. */
+/* Whether the texts of a list outlive a call with it: views do, and owners in a list that is not a temporary. */
 template <class List, class Element = decltype(*std::begin(std::declval<List &>())), class Plain = std::decay_t<Element>>
 inline constexpr bool stays = std::is_same_v<Plain, tag> || std::is_same_v<Plain, std::string_view> ||
                               std::is_pointer_v<Plain> ||
@@ -488,33 +522,23 @@ inline constexpr bool stays = std::is_same_v<Plain, tag> || std::is_same_v<Plain
 /* Texts in braces. */
 using texts = std::initializer_list<std::string_view>;
 
-/* The tag that a reader wants whose browser sends this Accept-Language header: zh-Hant for "zh-TW,zh;q=0.9,en;q=0.8". Bad
- * elements are read as what they mean, as de_CH. None where it wants none of them: .value_or(..)
+/* Returns the best tag for an Accept-Language header, or std::nullopt if none is suitable: zh-Hant for "zh-TW,zh;q=0.9,en;q=0.8".
+ * Malformed elements count as what they mean: de_CH is read as de-CH. Among tags at one distance the first in the
+ * list is chosen, if look-up and CLDR's likely region do not tell them apart (langtag.h).
  *
- * The tags are a list of tag, owned_tag, strings or views, as {"en", "zh-Hant"}; a text that is no tag is passed over. What
- * is returned is a view: a temporary list of owners is refused by the compiler. */
+ * The tags are a list of tag, owned_tag, strings or views, such as {"en", "zh-Hant"}. A text that is not a tag is skipped. The
+ * result is a view, so the compiler refuses a temporary list of owners. */
 template <class Tags = texts, std::enable_if_t<stays<Tags>, int> = 0>
 std::optional<tag> best_for_header(std::string_view header, Tags &&tags) {
-    std::string text;
-    std::vector<langtag_span> spans;
-    std::vector<std::string_view> given;
-    for (const auto &it : tags) {
-        given.push_back(text_of(it));
-        spans.push_back({text.size(), given.back().size()});
-        text.append(given.back());
-    }
-    const langtag_span none = {0, 0};
-    const std::size_t best = langtag_best_for_header(langtag_bytes(header.data()), header.size(), text.data(), text.size(),
-                                                     spans.empty() ? &none : spans.data(), spans.size());
-    return best < given.size() ? tag::parse(given[best]) : std::nullopt;
+    return listed_tags(tags).chosen(langtag_best_for_header, header);
 }
 inline std::optional<tag> best_for_header(std::string_view header, const std::vector<tag> &tags) {
     return best_for_header<const std::vector<tag> &>(header, tags);
 }
 
-/* The tag that a reader wants who asks for these ranges, the best one first: what best_for_header chooses for a header of
- * them. They are a list of range, strings or views. An extended one counts without its *, and a text that no element of a
- * header can have, as de;q=0, is passed over. */
+/* Returns the best tag for a list of ranges, the most wanted first, as best_for_header does for a header of them. The ranges are a
+ * list of range, strings or views. An extended range counts without its *. A text that no element of a header can have, such as
+ * de;q=0, is skipped. */
 template <class Ranges = texts, class Tags = texts, std::enable_if_t<stays<Tags>, int> = 0>
 std::optional<tag> best_for_ranges(const Ranges &ranges, Tags &&tags) {
     std::string header;
@@ -533,23 +557,23 @@ struct weighted_range {
     std::uint32_t weight;
 };
 
-/* What is bad of an element of a header. Where both are, it is the range. */
+/* Which part of an element of a header is malformed. If both are, it is the range. */
 enum class element_part : std::uint32_t { range = LANGTAG_ACCEPTED_BAD_RANGE, weight = LANGTAG_ACCEPTED_BAD_WEIGHT };
 
-/* A bad element of a header: how many commas stand before it, and the offset just after the last of them. */
+/* A malformed element of a header: how many commas are before it, and the offset after the last of them. */
 struct bad_element {
     element_part part;
     std::size_t index, offset;
 };
 
-/* The value of an Accept-Language header (RFC 9110 section 12.5.4). It is a view of the header, and reads it at each call. */
+/* The value of an Accept-Language header (RFC 9110 section 12.5.4), as a view. Each call reads the header again. */
 class accept_language {
 public:
     explicit accept_language(std::string_view header) noexcept : header_(header) {}
     template <class Allocator> explicit accept_language(temporary_string<Allocator>) = delete;
 
-    /* The first bad element, as de_CH or de;q=2. Who is strict refuses the header where there is one: the calls below pass
-     * bad elements over. */
+    /* Returns the first malformed element, such as de_CH or de;q=2. A strict server refuses such a header. The calls below skip
+     * malformed elements. */
     std::optional<langtag::bad_element> bad_element() const noexcept {
         langtag_span rest = whole(), element;
         std::uint32_t weight, answer;
@@ -560,8 +584,8 @@ public:
         return langtag::bad_element{static_cast<element_part>(answer), static_cast<std::size_t>(commas), element.start};
     }
 
-    /* The ranges, those of the greatest weight first; ranges of one weight keep their order. Those of the weight 0 are left
-     * out, since they are not acceptable. */
+    /* Returns the ranges by falling weight; ranges of one weight keep their order. Ranges of the weight 0 are not acceptable, so they
+     * are left out. */
     std::vector<weighted_range> ranges() const {
         std::vector<weighted_range> found;
         langtag_span rest = whole(), element;
@@ -573,14 +597,12 @@ public:
         return found;
     }
 
-    /* The tag that the ranges find, those of the greatest weight first. None where they find none: .value_or(..) */
+    /* Returns the tag that the ranges find by look-up, the greatest weight first, or std::nullopt. */
     std::optional<tag> look_up(const std::vector<tag> &tags) const {
-        for (const weighted_range &weighted : ranges())
-            if (const auto found = weighted.range.look_up(tags)) return found;
-        return std::nullopt;
+        return listed_tags(tags).chosen(langtag_tag_for_header_lenient, header_);
     }
 
-    /* What best_for_header chooses for the header. */
+    /* Returns what best_for_header returns for the header. */
     template <class Tags = texts, std::enable_if_t<stays<Tags>, int> = 0> std::optional<tag> best(Tags &&tags) const {
         return best_for_header(header_, std::forward<Tags>(tags));
     }
@@ -595,14 +617,15 @@ private:
     std::string_view header_;
 };
 
-/* How far a supported tag is from one that a reader desires (UTS #35, Language Matching): 0 from zh-TW to zh-Hant, 134 at
- * most; 255 where one of the two has no language that is known, and they are not equal. */
+/* Returns how far a supported tag is from the tag that a reader desires (UTS #35, Language Matching): 0 from zh-TW to zh-Hant, and at
+ * most 134. It is 255 if one of the two has no known language, and they are not equal. */
 inline std::uint32_t distance(const tag &desired, const tag &supported) noexcept {
     const std::string_view a = desired.text(), b = supported.text();
     return langtag_distance(a.data(), a.size(), b.data(), b.size());
 }
 
-/* The tag of a POSIX locale's name: pt-BR of pt_BR.UTF-8. None where it names none, as C and POSIX. */
+/* Returns the tag for the name of a POSIX locale: pt_BR.UTF-8 becomes pt-BR. Returns std::nullopt if there is none, as for C and
+ * POSIX. */
 inline std::optional<std::string> from_posix(std::string_view name) {
     char none;
     std::string made(langtag_from_posix(langtag_bytes(name.data()), name.size(), &none, 0), '\0');
@@ -626,7 +649,7 @@ std::basic_ostream<char, Traits> &operator<<(std::basic_ostream<char, Traits> &o
 
 } // namespace langtag
 
-/* Equal tags hash alike. Whoever picks the tags can make them collide, as strings by most libraries. */
+/* Equal tags have equal hashes. An attacker who controls the tags can cause collisions. */
 template <> struct std::hash<langtag::tag> {
     std::size_t operator()(const langtag::tag &tag) const noexcept { return static_cast<std::size_t>(tag.fnv1a()); }
 };
@@ -636,7 +659,7 @@ template <> struct std::hash<langtag::owned_tag> {
     }
 };
 
-/* The text of a tag, as std::format writes a text: {:>10} is ten wide. */
+/* Formats a tag as std::format formats its text: {:>10} is ten columns wide. */
 #ifdef __cpp_lib_format
 template <> struct std::formatter<langtag::tag> : std::formatter<std::string_view> {
     template <class Context> auto format(const langtag::tag &tag, Context &context) const {

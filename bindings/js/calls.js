@@ -224,8 +224,8 @@ export function accepted(header) {
     }
 }
 
-/** The index of the tag that a header's reader wants, or how many tags there are. */
-export function bestForHeader(header, tags) {
+/** The index of the tag that a call chooses for a header, or how many tags there are. */
+function chosen(name, header, tags) {
     const joined = tags.join("");
     const at = (header.length + joined.length + 7) & -8;
     open(at + 16 * tags.length);
@@ -237,5 +237,8 @@ export function bestForHeader(header, tags) {
         start += tag.length;
     }
     const [second, spans] = [BigInt(texts + header.length), BigInt(texts + at)];
-    return close(Number(calls.langtag_best_for_header(textsAddress, BigInt(header.length), second, BigInt(start), spans, BigInt(tags.length))));
+    return close(Number(calls[name](textsAddress, BigInt(header.length), second, BigInt(start), spans, BigInt(tags.length))));
 }
+
+export const bestForHeader = (header, tags) => chosen("langtag_best_for_header", header, tags);
+export const tagForHeader = (header, tags) => chosen("langtag_tag_for_header_lenient", header, tags);

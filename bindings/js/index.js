@@ -3,6 +3,7 @@
  * what each thing does.
  */
 import * as calls from "./calls.js";
+import { NAMES } from "./names.js";
 
 /** The 26 grandfathered tags as they are registered (RFC 5646 section 2.1): first the seventeen irregular ones. */
 export const GRANDFATHERED = Object.freeze([
@@ -32,6 +33,12 @@ function textOf(value) {
     throw new TypeError(`a text or a tag is wanted, and this is ${value === null ? "null" : `of type ${typeof value}`}`);
 }
 
+/** Some tags or ranges. A single text is refused, since its letters are none. */
+function several(values, what) {
+    if (typeof values === "string") throw new TypeError(`a list of ${what} is wanted, and this is of type string`);
+    return values;
+}
+
 /** Returns the text of a header. A request without one asks for nothing: Node has undefined for it, and fetch has null. */
 const headerText = (header) => textOf(header ?? "");
 
@@ -47,8 +54,9 @@ export class InvalidTag extends Refusal {
     constructor(text) {
         const [answer, start, length, offset] = calls.refused(text);
         const subtag = answer < 3 ? text.slice(start, start + length) : undefined;
-        const reason = answer === 1 ? (subtag === "" ? `a subtag is empty at ${offset}` : `${quoted(subtag)} can't stand at ${offset}`) :
-            answer === 2 ? `no subtag has the ${quoted(String.fromCodePoint(text.codePointAt(offset)))} at ${offset}` : "it ends too soon";
+        const reason = answer === 1 ? (subtag === "" ? "empty subtag" : `unexpected subtag ${quoted(subtag)}`) :
+            answer === 2 ? `invalid character ${quoted(String.fromCodePoint(text.codePointAt(offset)))}: expected a letter, a digit or a hyphen` :
+            "unexpected end: expected a subtag";
         super(`${quoted(text)} is not a language tag: ${reason}`, { text, subtag, start, offset, viable: calls.viable(text), reason });
     }
 }
@@ -79,8 +87,8 @@ const HOW = { "second-extlang": "is the second", "repeated-variant": "is repeate
 
 /** The first subtag that makes a tag invalid. */
 class InvalidSubtag {
-    constructor(fault, subtag, offset) {
-        Object.freeze(Object.assign(this, { fault, subtag, offset }));
+    constructor(fault, subtag, start) {
+        Object.freeze(Object.assign(this, { fault, subtag, start }));
     }
     toString() {
         const kind = this.fault.replace("extlang", "extended language").replace(/^(second|repeated)-/, "");
@@ -121,7 +129,7 @@ export class LanguageTag {
     }
 
     static parse(text) {
-        return new this(text);
+        return new LanguageTag(text);
     }
 
     static canParse(text) {
@@ -221,8 +229,8 @@ export class LanguageTag {
     }
 
     get invalidSubtag() {
-        const [answer, offset, length] = calls.validity(this.text);
-        return answer > 1 ? new InvalidSubtag(FAULTS[answer - 2], this.#at(offset, length), offset) : undefined;
+        const [answer, start, length] = calls.validity(this.text);
+        return answer > 1 ? new InvalidSubtag(FAULTS[answer - 2], this.#at(start, length), start) : undefined;
     }
 
     get isCanonical() {
@@ -305,7 +313,7 @@ export class LanguageRange {
     }
 
     static parse(text) {
-        return new this(text);
+        return new LanguageRange(text);
     }
 
     static canParse(text) {
@@ -343,22 +351,16 @@ export class LanguageRange {
 
 const rangeOf = (value) => (value instanceof LanguageRange ? value : new LanguageRange(value));
 
+/** The tag that a call chooses for a header, or what stands for none. */
+function chosen(choose, header, tags, otherwise) {
+    const list = [...several(tags, "tags")];
+    const index = choose(headerText(header), list.map((tag) => tagOf(tag).text));
+    return index < list.length ? list[index] : otherwise;
+}
+
 export function lookUp(ranges, tags, otherwise) {
-    const known = new Map();
-    let longest = 0;
-    for (const tag of tags) {
-        const text = tagOf(tag).text.toLowerCase();
-        if (!known.has(text)) known.set(text, tag);
-        longest = Math.max(longest, text.length);
-    }
-    for (const range of ranges) {
-        const text = rangeOf(range).text.replaceAll("-*", "").toLowerCase();
-        for (const end of calls.fallbackEnds(text)) {
-            const tag = end <= longest ? known.get(text.slice(0, end)) : undefined;
-            if (tag !== undefined) return tag;
-        }
-    }
-    return otherwise;
+    const header = [...several(ranges, "ranges")].map((range) => rangeOf(range).text.replaceAll("-*", "")).join();
+    return chosen(calls.tagForHeader, header, tags, otherwise);
 }
 
 const BAD_PARTS = [, , "language range", "weight"];
@@ -381,15 +383,15 @@ export class AcceptLanguage {
     }
 
     static parse(header) {
-        return new this(header);
+        return new AcceptLanguage(header);
     }
 
     static lenient(header) {
-        return new this(header, true);
+        return new AcceptLanguage(header, true);
     }
 
     lookUp(tags, otherwise) {
-        return lookUp(this.ranges.map((weighted) => weighted.range), tags, otherwise);
+        return chosen(calls.tagForHeader, this.#header, tags, otherwise);
     }
 
     best(tags, otherwise) {
@@ -402,7 +404,7 @@ export function tagForHeader(header, tags, otherwise) {
 }
 
 export function tagForHeaderLenient(header, tags, otherwise) {
-    return AcceptLanguage.lenient(header).lookUp(tags, otherwise);
+    return chosen(calls.tagForHeader, header, tags, otherwise);
 }
 
 export function distance(desired, supported) {
@@ -410,9 +412,7 @@ export function distance(desired, supported) {
 }
 
 export function bestForHeader(header, tags, otherwise) {
-    const list = [...tags];
-    const index = calls.bestForHeader(headerText(header), list.map((tag) => tagOf(tag).text));
-    return index < list.length ? list[index] : otherwise;
+    return chosen(calls.bestForHeader, header, tags, otherwise);
 }
 
 export function viableLength(text) {
@@ -430,6 +430,19 @@ function element(range) {
 }
 
 export function bestForRanges(ranges, tags, otherwise) {
-    if (typeof ranges === "string") throw new TypeError("a list of ranges is wanted, and this is of type string");
-    return bestForHeader([...ranges].map(element).join(), tags, otherwise);
+    return bestForHeader([...several(ranges, "ranges")].map(element).join(), tags, otherwise);
+}
+
+let names; // by subtags in the recommended case, and by grandfathered tags; read when they are first asked for
+
+export function describe(value) {
+    names ??= new Map(NAMES.split("\n").map((line) => [line.slice(0, line.indexOf(" ")), line.slice(line.indexOf(" ") + 1)]));
+    const tag = tagOf(value).toRecommended();
+    if (tag.grandfathered !== undefined || tag.language === undefined) return names.get(tag.text) ?? tag.text;
+    const name = (subtag) => names.get(subtag) ?? subtag;
+    const language = names.get(tag.extendedLanguages[0] ?? tag.language) ?? tag.language;
+    const subtags = [tag.script, tag.region, ...tag.variants].filter(Boolean).map(name);
+    const extensions = [...tag.extensions].map(([singleton, rest]) => [singleton, ...rest].join("-"));
+    const inside = [...subtags, ...extensions, tag.privateUse ?? []].flat().join(", ").replaceAll("(", "[").replaceAll(")", "]");
+    return inside === "" ? language : `${language} (${inside})`;
 }

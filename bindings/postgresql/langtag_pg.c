@@ -67,10 +67,11 @@ static char *why_no_tag(const char *text, size_t len) {
     int place = pg_mbstrlen_with_len(text, (int)offset) + 1;
     if (len == 0) return pstrdup("A language tag is not empty.");
     if (answer == LANGTAG_REFUSED_BYTE)
-        return psprintf("\"%s\" at character %d stands in no subtag.", pnstrdup(text + offset, pg_mblen(text + offset)), place);
-    if (answer == LANGTAG_REFUSED_END) return pstrdup("The text ends inside of a language tag.");
-    if (subtag.len == 0) return psprintf("The subtag at character %d is empty.", place);
-    return psprintf("Subtag \"%s\" at character %d does not fit there.", shown(text + subtag.start, subtag.len), place);
+        return psprintf("Invalid character \"%s\" at character %d: expected a letter, a digit or a hyphen.",
+                        pnstrdup(text + offset, pg_mblen(text + offset)), place);
+    if (answer == LANGTAG_REFUSED_END) return pstrdup("Unexpected end: expected a subtag.");
+    if (subtag.len == 0) return psprintf("Empty subtag at character %d.", place);
+    return psprintf("Unexpected subtag \"%s\" at character %d.", shown(text + subtag.start, subtag.len), place);
 }
 
 static void refuse(const char *type, const char *text, size_t len, const char *why) {
@@ -81,12 +82,19 @@ static void refuse(const char *type, const char *text, size_t len, const char *w
 
 /* ---- the types ---- */
 
-static struct varlena *checked_tag(const char *text, size_t len) {
-    struct varlena *tag;
+static void check_tag(const char *text, size_t len) {
     if (langtag_kind(text, len) == LANGTAG_NONE) refuse("langtag", text, len, why_no_tag(text, len));
-    tag = value_of(text, len);
+}
+
+static struct varlena *tag_of(const char *text, size_t len) {
+    struct varlena *tag = value_of(text, len);
     langtag_recommend(VARDATA(tag), len);
     return tag;
+}
+
+static struct varlena *checked_tag(const char *text, size_t len) {
+    check_tag(text, len);
+    return tag_of(text, len);
 }
 
 static struct varlena *checked_range(const char *text, size_t len) {
@@ -147,6 +155,13 @@ PG_FUNCTION_INFO_V1(pg_langtag_is_langtag);
 Datum pg_langtag_is_langtag(PG_FUNCTION_ARGS) {
     text *given = PG_GETARG_TEXT_PP(0);
     PG_RETURN_BOOL(langtag_kind(BYTES(given), LEN(given)) != LANGTAG_NONE);
+}
+
+PG_FUNCTION_INFO_V1(pg_langtag_try_langtag);
+Datum pg_langtag_try_langtag(PG_FUNCTION_ARGS) {
+    text *given = PG_GETARG_TEXT_PP(0);
+    if (langtag_kind(BYTES(given), LEN(given)) == LANGTAG_NONE) PG_RETURN_NULL();
+    PG_RETURN_POINTER(tag_of(BYTES(given), LEN(given)));
 }
 
 PG_FUNCTION_INFO_V1(pg_langtag_viable);
@@ -381,31 +396,28 @@ Datum pg_langtag_recommended(PG_FUNCTION_ARGS) { PG_RETURN_POINTER(PG_GETARG_VAR
 
 /* ---- the registry, and likely subtags ---- */
 
-static uint32 validity(struct varlena *tag, langtag_span *invalid) {
-    check_stack_depth(); /* the call takes 96 KiB of the 512 KiB that PostgreSQL keeps free behind its limit */
-    return langtag_validity(BYTES(tag), LEN(tag), invalid);
-}
-
 PG_FUNCTION_INFO_V1(pg_langtag_is_valid);
 Datum pg_langtag_is_valid(PG_FUNCTION_ARGS) {
+    struct varlena *tag = PG_GETARG_VARLENA_PP(0);
     langtag_span invalid;
-    PG_RETURN_BOOL(validity(PG_GETARG_VARLENA_PP(0), &invalid) == LANGTAG_VALID);
+    PG_RETURN_BOOL(langtag_validity(BYTES(tag), LEN(tag), &invalid) == LANGTAG_VALID);
 }
 
 PG_FUNCTION_INFO_V1(pg_langtag_invalid_subtag);
 Datum pg_langtag_invalid_subtag(PG_FUNCTION_ARGS) {
     struct varlena *tag = PG_GETARG_VARLENA_PP(0);
     langtag_span invalid;
-    validity(tag, &invalid);
+    langtag_validity(BYTES(tag), LEN(tag), &invalid);
     return span_or_null(fcinfo, BYTES(tag), invalid);
 }
 
 typedef size_t (*form_of)(const char *, size_t, char *, size_t);
 
-/* A form of a tag, which may be longer than the tag, in its recommended case. */
+/* Returns a form of a tag in its recommended case, or NULL if the library writes none. A canonical form has at most twice as many
+ * bytes as the tag, and 14. */
 static Datum form(FunctionCallInfo fcinfo, form_of write) {
     struct varlena *tag = PG_GETARG_VARLENA_PP(0), *form;
-    size_t room = LEN(tag) + 16, len;
+    size_t room = 2 * LEN(tag) + 14, len;
     form = palloc(VARHDRSZ + room);
     len = write(BYTES(tag), LEN(tag), VARDATA(form), room);
     if (len > room) {
@@ -413,6 +425,7 @@ static Datum form(FunctionCallInfo fcinfo, form_of write) {
         form = palloc(VARHDRSZ + len);
         write(BYTES(tag), LEN(tag), VARDATA(form), len);
     }
+    if (len == 0) PG_RETURN_NULL();
     SET_VARSIZE(form, VARHDRSZ + len);
     langtag_recommend(VARDATA(form), len);
     PG_RETURN_POINTER(form);
@@ -426,6 +439,9 @@ Datum pg_langtag_maximized(PG_FUNCTION_ARGS) { return form(fcinfo, langtag_maxim
 
 PG_FUNCTION_INFO_V1(pg_langtag_minimized);
 Datum pg_langtag_minimized(PG_FUNCTION_ARGS) { return form(fcinfo, langtag_minimize); }
+
+PG_FUNCTION_INFO_V1(pg_langtag_from_posix);
+Datum pg_langtag_from_posix(PG_FUNCTION_ARGS) { return form(fcinfo, langtag_from_posix); }
 
 PG_FUNCTION_INFO_V1(pg_langtag_distance);
 Datum pg_langtag_distance(PG_FUNCTION_ARGS) {
@@ -561,7 +577,7 @@ Datum pg_langtag_extended_support(PG_FUNCTION_ARGS) { return support(fcinfo, tru
 
 /* ---- which tag a request gets ---- */
 
-/* The tags of an array, without its NULLs. */
+/* The tags of an array, or the texts, which have to be tags; without its NULLs. */
 static struct varlena **tags_of(ArrayType *array, int *count) {
     struct varlena **tags;
     Datum *values;
@@ -570,79 +586,72 @@ static struct varlena **tags_of(ArrayType *array, int *count) {
     deconstruct_array(array, ARR_ELEMTYPE(array), -1, false, TYPALIGN_INT, &values, &nulls, &all);
     tags = palloc(all * sizeof *tags);
     *count = 0;
-    for (int k = 0; k < all; k++)
-        if (!nulls[k]) tags[(*count)++] = PG_DETOAST_DATUM_PACKED(values[k]);
+    for (int k = 0; k < all; k++) {
+        struct varlena *tag = nulls[k] ? NULL : PG_DETOAST_DATUM_PACKED(values[k]);
+        if (tag == NULL) continue;
+        if (ARR_ELEMTYPE(array) == TEXTOID) check_tag(BYTES(tag), LEN(tag));
+        tags[(*count)++] = tag;
+    }
     return tags;
 }
 
-/* The place of the tag that a range finds, or `count`. */
-static int look_up(const char *range, size_t len, struct varlena **tags, int count) {
-    langtag_span rest = {0, len};
-    do {
-        CHECK_FOR_INTERRUPTS();
-        for (int k = 0; k < count; k++)
-            if (langtag_eq(range, rest.len, BYTES(tags[k]), LEN(tags[k]))) return k;
-    } while (langtag_next_fallback(range, len, &rest));
-    return count;
-}
+/* What the library chooses among tags for a header. */
+typedef size_t choice(const char *header, size_t header_len, const char *bytes, size_t len, const langtag_span *tags, size_t count);
 
-PG_FUNCTION_INFO_V1(pg_langtag_tag_for_header);
-Datum pg_langtag_tag_for_header(PG_FUNCTION_ARGS) {
-    int count;
-    struct varlena **tags = tags_of(PG_GETARG_ARRAYTYPE_P(0), &count);
-    text *header = PG_GETARG_TEXT_PP(1);
-    langtag_span rest = {0, LEN(header)}, range;
-    uint32 answer, weight, best_weight = 0;
-    int best = count;
-    while ((answer = langtag_next_accepted(BYTES(header), LEN(header), &rest, &range, &weight)) != LANGTAG_ACCEPTED_END) {
-        int found;
-        if (answer != LANGTAG_ACCEPTED_RANGE || weight <= best_weight) continue;
-        found = look_up(BYTES(header) + range.start, range.len, tags, count);
-        if (found < count) best = found, best_weight = weight;
-    }
-    if (best == count) PG_RETURN_NULL();
-    PG_RETURN_POINTER(tags[best]);
-}
-
-/* One call of the library, which nothing interrupts, compares each range of a header with each of some tags: so long may the
- * header be, and so many are the tags. */
-#define LONGEST_HEADER 8192
+/* One call of the library, which nothing interrupts, compares each range of a header with each of some tags: so many are the tags,
+ * and so many bytes have they together, if they are more than one. */
 #define TAGS_AT_ONCE 64
+#define BYTES_AT_ONCE 4096
 
-/* The place of the best of some tags, or `count`. */
-static int best_of(text *header, struct varlena **tags, int count) {
+/* The place of the tag that is chosen of some, or `count`. */
+static int chosen_of(choice *choose, text *header, struct varlena **tags, int count) {
     langtag_span spans[TAGS_AT_ONCE];
     StringInfoData all;
-    size_t best;
+    size_t chosen;
     initStringInfo(&all);
     for (int k = 0; k < count; k++) {
         spans[k] = (langtag_span){.start = (size_t)all.len, .len = LEN(tags[k])};
         appendBinaryStringInfo(&all, BYTES(tags[k]), (int)LEN(tags[k]));
     }
-    best = langtag_best_for_header(BYTES(header), LEN(header), all.data, (size_t)all.len, spans, (size_t)count);
+    chosen = choose(BYTES(header), LEN(header), all.data, (size_t)all.len, spans, (size_t)count);
     pfree(all.data);
-    return (int)Min(best, (size_t)count);
+    return (int)Min(chosen, (size_t)count);
 }
 
-/* The best so far stands before the next tags: which of two tags goes before the other rests on no third one, and of two
- * that are alike the first one stays. */
-PG_FUNCTION_INFO_V1(pg_langtag_best_for_header);
-Datum pg_langtag_best_for_header(PG_FUNCTION_ARGS) {
+/* The tag so far stands before the next tags: which of two tags goes before the other rests on no third one, and of two that are
+ * alike the first one stays. */
+static Datum chosen(FunctionCallInfo fcinfo, choice *choose) {
     int count;
     struct varlena **tags = tags_of(PG_GETARG_ARRAYTYPE_P(0), &count), *best = NULL;
     text *header = PG_GETARG_TEXT_PP(1);
-    if (LEN(header) > LONGEST_HEADER)
-        ereport(ERROR, (errcode(ERRCODE_PROGRAM_LIMIT_EXCEEDED),
-                        errmsg("the header has %zu bytes, and may have %d", LEN(header), LONGEST_HEADER)));
     for (int next = 0; next < count;) {
         struct varlena *some[TAGS_AT_ONCE];
+        size_t bytes = 0;
         int taken = 0, found;
         CHECK_FOR_INTERRUPTS();
         if (best != NULL) some[taken++] = best;
-        while (taken < TAGS_AT_ONCE && next < count) some[taken++] = tags[next++];
-        found = best_of(header, some, taken);
+        while (taken < TAGS_AT_ONCE && next < count && (bytes == 0 || bytes + LEN(tags[next]) <= BYTES_AT_ONCE)) {
+            bytes += LEN(tags[next]);
+            some[taken++] = tags[next++];
+        }
+        found = chosen_of(choose, header, some, taken);
         if (found < taken) best = some[found];
     }
     if (best == NULL) PG_RETURN_NULL();
     PG_RETURN_POINTER(best);
+}
+
+PG_FUNCTION_INFO_V1(pg_langtag_tag_for_header);
+Datum pg_langtag_tag_for_header(PG_FUNCTION_ARGS) { return chosen(fcinfo, langtag_tag_for_header_lenient); }
+
+/* So long may the header be, for which distances are computed. */
+#define LONGEST_HEADER 8192
+
+PG_FUNCTION_INFO_V1(pg_langtag_best_for_header);
+Datum pg_langtag_best_for_header(PG_FUNCTION_ARGS) {
+    text *header = PG_GETARG_TEXT_PP(1);
+    if (LEN(header) > LONGEST_HEADER)
+        ereport(ERROR, (errcode(ERRCODE_PROGRAM_LIMIT_EXCEEDED),
+                        errmsg("the header has %zu bytes, and may have %d", LEN(header), LONGEST_HEADER)));
+    return chosen(fcinfo, langtag_best_for_header);
 }

@@ -10,26 +10,21 @@ from typing import Callable, Iterator, Mapping, NamedTuple
 
 FOLDER = pathlib.Path(__file__).resolve().parent.parent.parent / "rows"
 
-#: How many arguments each call has that is asked of the bindings.
-CALLS = {
-    "tag": 1, "scan": 1, "recommended": 1, "validity": 1, "canonical": 1, "grandfathered": 1, "viable": 1, "range": 1,
-    "refused": 1, "maximized": 1, "minimized": 1, "distance": 2, "right-to-left": 1, "posix": 1, "best": 2, "match": 2, "order": 2,
-    "header": 2, "ranges": 2, "elements": 1, "fallbacks": 1, "filter": 3, "edit": 3,
-}
+#: How many arguments each call has.
+CALLS = {name: int(count) for name, count in re.findall(r"(?m)^([\w-]+) (\d)$", (FOLDER / "calls.txt").read_text("ascii"))}
 
 Answer = Callable[..., "str | None"]
 
 
 class Row(NamedTuple):
-    """A row: where it stands, its text, the call, the arguments as bytes, the answer and what separates it from them. A row
-    without an answer is a question. The lines that belong to a row stand in its answer, each behind a line feed."""
+    """A row: where it stands, its text, the call, the arguments as bytes, and the answer. A row without an answer is a question. The
+    lines that belong to a row stand in its answer, each behind a line feed."""
 
     place: str
     text: str
     call: str
     arguments: list[bytes]
     wanted: str
-    by: str
 
 
 def expand(line: str) -> str:
@@ -41,24 +36,20 @@ def unescape(word: str) -> bytes:
 
 
 def read(path: pathlib.Path) -> Iterator[Row]:
-    """The rows of a file, but for calls that the bindings lack."""
+    """The rows of a file."""
     lines = path.read_text("ascii").splitlines()
     for at, line in enumerate(lines):
         if not line or line[0] in "# ":
             continue
-        text, by = expand(line), " | " if " | " in line else " "
-        words = text.split(by)
-        if by == " | " and words[0] not in CALLS:  # rows of edits begin with the tag
-            words.insert(0, "edit")
-        if words[0] not in CALLS:
-            continue
+        text = expand(line)
+        words = text.split(" | ")
         end = CALLS[words[0]] + 1
-        wanted = by.join(words[end:])
+        wanted = " | ".join(words[end:])
         for more in lines[at + 1 :]:
             if not more.startswith(" "):
                 break
             wanted += "\n" + expand(more)
-        yield Row(f"{path.name}:{at + 1}", text, words[0], [unescape(word) for word in words[1:end]], wanted, by)
+        yield Row(f"{path.name}:{at + 1}", text, words[0], [unescape(word) for word in words[1:end]], wanted)
 
 
 class Asker:
@@ -81,7 +72,7 @@ class Asker:
             self.asked[row.call] += 1
             wanted = self.adapted(row)
             if not row.wanted:
-                print(f"{row.text}{row.by}{found}")
+                print(f"{row.text} | {found}")
             elif found != wanted:
                 self.differing.append(f"{row.place}: {row.text:.300}\n  wanted {wanted:.300}\n  found  {found:.300}")
         asked = sum(self.asked.values()) - before

@@ -15,6 +15,7 @@ import threading
 import time
 import tracemalloc
 import unittest
+import unittest.mock
 import weakref
 
 import langtag
@@ -65,7 +66,7 @@ class Kinds(unittest.TestCase):
 
     def test_where_a_text_goes_wrong(self):
         self.assertEqual((viable("i-no"), stop("i-no"), viable("en-"), stop("en-")), (3, 4, 3, 3))
-        self.assertEqual(str(InvalidTag("en-")), "'en-' is not a language tag: it ends too soon")
+        self.assertEqual(str(InvalidTag("en-")), "'en-' is not a language tag: unexpected end: expected a subtag")
 
     def test_any_bytes(self):
         numbers = random.Random(1)
@@ -142,10 +143,83 @@ class Values(unittest.TestCase):
         self.assertEqual(noted.word, "Velo")
 
     def test_copies(self):
-        for value in (parse("zh-Hant"), Range("*-CH"), InvalidTag("en_US"), InvalidTag(b"en_US"), InvalidRange("de_")):
-            for made in (copy.copy(value), copy.deepcopy(value), pickle.loads(pickle.dumps(value))):
+        values = [parse("zh-Hant"), Range("*-CH"), Kind.NORMAL, Tag("qt").invalid_subtag, AcceptLanguage("fr;q=0.5, de").ranges[0],
+                  AcceptLanguage("fr;q=0.5, de, en;q=0"), AcceptLanguage.lenient(b"fr, de_CH")]
+        values += [error for call in REFUSALS if (error := caught(call))]
+        for value in values:
+            dumps = [pickle.dumps(value, protocol) for protocol in range(pickle.HIGHEST_PROTOCOL + 1)]
+            for made in (copy.copy(value), copy.deepcopy(value), *map(pickle.loads, dumps)):
                 self.assertEqual((type(made), repr(made), str(made)), (type(value), repr(value), str(value)))
                 self.assertEqual(getattr(made, "__dict__", None), getattr(value, "__dict__", None))
+        again = pickle.loads(pickle.dumps(AcceptLanguage("en;q=0, fr, *;q=0.5"), 0))
+        self.assertEqual(again.best(["en", "fr-CA"]), "fr-CA")
+
+    def test_other_objects(self):
+        """Of another type, the other side is asked."""
+        for value in (Tag("de"), Range("de")):
+            self.assertTrue(value == unittest.mock.ANY and unittest.mock.ANY == value)
+            self.assertFalse(value != unittest.mock.ANY)
+
+    def test_a_copy_is_the_tag(self):
+        for text in ("de-CH", "x-a", "i-klingon"):
+            one, other = Tag(text), Tag(Tag(text))
+            for name in ("kind", "language", "region", "private_use", "grandfathered"):
+                self.assertEqual(getattr(one, name), getattr(other, name))
+            self.assertEqual(hash(one), hash(other))
+        self.assertEqual([Range(Range(text)).is_basic for text in ("de", "de-*")], [True, False])
+
+    def test_arguments(self):
+        self.assertEqual((str(Tag(text="de")), str(Range(text="de-*")), str(parse(text="de"))), ("de", "de-*", "de"))
+        for call in (lambda: Tag(other="de"), lambda: Range("de", text="de"), lambda: Tag()):
+            with self.assertRaises(TypeError):
+                call()
+
+    def test_no_init(self):
+        for kind, calls in ((Tag, (str, hash, lambda it: langtag.best_for_header("", [Tag("de"), it]), lambda it: tag_for_header_lenient("", [it]))),
+                            (Range, (str, hash, lambda it: it.matches_basic("de")))):
+            for call in calls:
+                with self.assertRaises(AttributeError):
+                    call(kind.__new__(kind))
+
+
+#: Each way in which something is refused.
+REFUSALS = (
+    lambda text: Tag(text), lambda text: parse(text), lambda text: Range(text), lambda text: Tag.from_posix(text),
+    lambda text: Tag("de").replace(script=text), lambda text: Tag.from_parts(text), lambda text: Tag("x-a").replace(script="Latn"),
+    lambda text: AcceptLanguage(text), lambda text: tag_for_header("de, " + text, ["de"]), lambda text: Range("de").matches_basic(text),
+    lambda text: Range("de").matches_extended(text), lambda text: langtag.distance("de", text), lambda text: look_up([text], ["de"]),
+    lambda text: look_up(["de"], [text]), lambda text: langtag.best_for_header("de", [text]), lambda text: tag_for_header("de", [text]),
+    lambda text: tag_for_header_lenient("de", [text]), lambda text: langtag.best_for_ranges(["de"], [text]),
+)
+
+
+def caught(call, text="de_"):
+    try:
+        call(text)
+    except langtag.Error as error:
+        return error
+    raise AssertionError(f"not refused: {text:.20}")
+
+
+class Refusals(unittest.TestCase):
+    def test_one_family(self):
+        for call in REFUSALS:
+            self.assertIsInstance(caught(call), ValueError)
+        self.assertIsInstance(caught(Tag.from_posix, "C"), langtag.InvalidLocale)
+        self.assertEqual(str(caught(Tag.from_posix, "POSIX")), "'POSIX' names no locale with a language")
+        for name in langtag.__all__:
+            kind = getattr(langtag, name)
+            if isinstance(kind, type) and issubclass(kind, Exception):
+                self.assertTrue(issubclass(kind, langtag.Error), name)
+
+    def test_that_a_long_text_is_cut(self):
+        for call in REFUSALS:
+            for text in ("abcdefgh-" * 100_000 + "_", "a" * 1_000_000, "_" * 1_000_000, "\u00e9" * 100_000):
+                error = caught(call, text)
+                self.assertLess(len(str(error)), 1200)
+                self.assertIn(getattr(error, "text", None), (text, None))
+        self.assertEqual(str(caught(Tag, "a" * 80)), f"{'a' * 80!r} is not a language tag: unexpected subtag {'a' * 80!r}")
+        self.assertEqual(str(caught(Range, b"a" * 81)), f"{b'a' * 80!r}... is not a language range")
 
 
 class Ranges(unittest.TestCase):
@@ -198,9 +272,49 @@ class Negotiation(unittest.TestCase):
         for value in (5, ["de"]):
             with self.assertRaises(TypeError):
                 AcceptLanguage.lenient(value)
-        for ranges, tags in (([Range("de")], ["de"]), (["de"], [Tag("de")]), ([Tag("de")], [Tag("de")])):
+        for ranges, tags in (([5], ["de"]), ([Tag("de")], ["de"]), ([None], ["de"]), (["de"], [5]), (["de"], [Range("de")]), (5, ["de"])):
             with self.assertRaises(TypeError):
                 look_up(ranges, tags, None)
+
+    def test_texts(self):
+        """A text serves where a tag or a range does, and is what is returned."""
+        for texts in (["fr", "de-CH"], [b"fr", b"de-CH"], (Tag("fr"), Tag("de-CH")), iter(["fr", b"de-CH"]), {"fr": 1, "de-CH": 2}):
+            kept = list(texts)
+            for call in (look_up, langtag.best_for_ranges):
+                for ranges in (["nl", "DE-ch"], [b"nl", Range("DE-ch")]):
+                    self.assertIs(call(ranges, kept), kept[1])
+            for call in (tag_for_header, tag_for_header_lenient, langtag.best_for_header):
+                self.assertIs(call("nl, DE-ch", kept), kept[1])
+                self.assertIs(call(b"nl, DE-ch", iter(kept)), kept[1])
+                self.assertIsNone(call("nl", kept))
+                self.assertEqual(call("nl", kept, default=5), 5)
+            for accepted in (AcceptLanguage("nl, DE-ch"), AcceptLanguage.lenient(b"nl, DE-ch")):
+                self.assertIs(accepted.look_up(kept), kept[1])
+                self.assertIs(accepted.best(kept, None), kept[1])
+
+    def test_one_text_is_no_list(self):
+        for one in ("en", b"en", ""):
+            for call in (lambda: look_up(["de"], one), lambda: tag_for_header("de", one), lambda: tag_for_header_lenient("de", one),
+                         lambda: langtag.best_for_header("de", one), lambda: langtag.best_for_ranges(["de"], one),
+                         lambda: AcceptLanguage("de").look_up(one), lambda: AcceptLanguage("de").best(one)):
+                with self.assertRaisesRegex(TypeError, "a list of tags is wanted, and not (str|bytes)"):
+                    call()
+            for call in (look_up, langtag.best_for_ranges):
+                with self.assertRaisesRegex(TypeError, "a list of ranges is wanted, and not (str|bytes)"):
+                    call(one, ["de"])
+
+    def test_many_ranges_of_a_weight(self):
+        names = [f"{a}{b}" for a in "abcdefgh" for b in "abcdefgh"]
+        header = ",".join(names)
+        for place, name in enumerate(names):
+            for call in (tag_for_header, tag_for_header_lenient):
+                self.assertEqual(call(header, [name]), name, place)
+                self.assertEqual(call(f"zz;q=0.9,{header.replace(',', ';q=0.5,')};q=0.5", [names[-1], name]), name, place)
+
+    def test_extended_ranges(self):
+        """Of a list: each * behind a hyphen is left out, and no other."""
+        self.assertIsNone(langtag.best_for_ranges(["de-*a"], ["dea"]))
+        self.assertEqual(langtag.best_for_ranges(["zh-*-Hant-x-" + "abcdefgh-" * 9 + "a"], ["en", "zh-Hant"]), "zh-Hant")
 
     def test_equal_weights(self):
         for header in ("a, nl, b", "a;q=0.5, nl;q=0.5, b;q=0.5, c;q=0.5, fr;q=0.1"):
@@ -240,6 +354,30 @@ class Negotiation(unittest.TestCase):
         for header in ("ab-" * 21_000 + "ab", "a-" * 32_000 + "b", "de-CH," * 10_000):
             tag_for_header_lenient(header, [Tag("en"), Tag("de")], None)
         self.assertLess(time.monotonic() - begun, 10)
+
+
+#: Tags with their names, as JavaScript's tests have them.
+NAMES = (
+    ("pt-BR", "Portuguese (Brazil)"), ("sr-Latn", "Serbian (Latin)"), ("zh-yue-HK", "Yue Chinese (Hong Kong)"), ("yue", "Yue Chinese"),
+    ("ZH-hant-tw", "Chinese (Han [Traditional variant], Taiwan, Province of China)"), ("el", "Modern Greek (1453-)"), ("ms", "Malay"),
+    ("es-419", "Spanish (Latin America and the Caribbean)"), ("fil", "Filipino"), ("i-klingon", "Klingon"), ("ART-lojban", "Lojban"),
+    ("x-a", "x-a"), ("de-1996-u-co-phonebk-x-mine", "German (German orthography of 1996, u-co-phonebk, x-mine)"),
+    ("sgn-ase", "sgn-ase"), ("qt-FQ-1997", "qt (FQ, 1997)"), ("aaa-Qaaa", "aaa (Qaaa)"), ("und-a-bb-A-cc", "Undetermined (a-bb)"),
+)
+
+
+class Names(unittest.TestCase):
+    def test_names(self):
+        for text, name in NAMES:
+            for tag in (text, text.encode(), Tag(text)):
+                self.assertEqual(langtag.describe(tag), name)
+        with self.assertRaises(InvalidTag):
+            langtag.describe("de_CH")
+
+    def test_that_each_language_of_two_letters_has_one(self):
+        letters = "abcdefghijklmnopqrstuvwxyz"
+        for text in map("".join, itertools.product(letters, letters)):
+            self.assertEqual(Tag(text).is_valid, langtag.describe(text) != text, text)
 
 
 class Edits(unittest.TestCase):
@@ -347,6 +485,26 @@ class Threads(unittest.TestCase):
             thread.join()
         self.assertGreater(sum(seen), 100)
 
+    def meanwhile(self, call):
+        """How often another thread ran during a call, and its answer."""
+        answers, counted = [], 0
+        thread = threading.Thread(target=lambda: answers.append(call()))
+        thread.start()
+        while thread.is_alive():
+            counted += 1
+            time.sleep(0.001)
+        return counted, answers[0]
+
+    def test_that_others_run_during_a_choice(self):
+        tags = [f"zh-x-{number}" for number in range(2000)] + ["fr"]
+        header = ",".join(f"aa-x-{number}" for number in range(3000)) + ",fr"  # over 4,096 bytes
+        counted, answer = self.meanwhile(lambda: langtag.best_for_header(header, tags))
+        self.assertEqual(answer, "fr")
+        self.assertGreater(counted, 20)
+        listed = list(tags)
+        threading.Timer(0.05, listed.clear).start()
+        self.assertEqual(langtag.best_for_header(header, listed), "fr")
+
     @unittest.skipUnless(IS_NATIVE, "ctypes itself is not for several interpreters in each Python")
     def test_interpreters(self):
         try:
@@ -363,14 +521,12 @@ class Threads(unittest.TestCase):
 
 class Backends(unittest.TestCase):
     @unittest.skipUnless(IS_NATIVE and "LANGTAG_OTHER" in os.environ, "there is one")
-    def test_that_both_say_the_same(self):
-        """Names and help; LANGTAG_OTHER names the library."""
-        code = """import inspect, langtag
-for name, value in [*vars(langtag._backend.TagBase).items(), *vars(langtag._backend.RangeBase).items()]:
-    if name[0] != "_": print(name, inspect.getdoc(value))"""
-        said = [sorted(" ".join(subprocess.run([sys.executable, "-c", code], capture_output=True, text=True, check=True,
-                                               env={**os.environ, "LANGTAG_LIBRARY": library}).stdout.split()))
-                for library in ("", os.environ["LANGTAG_OTHER"])]
+    def test_that_both_have_the_same(self):
+        """The same members; LANGTAG_OTHER names the library."""
+        code = """import langtag
+print(*sorted(name for base in (langtag._backend.TagBase, langtag._backend.RangeBase) for name in vars(base) if name[0] != "_"))"""
+        said = [subprocess.run([sys.executable, "-c", code], capture_output=True, text=True, check=True,
+                               env={**os.environ, "LANGTAG_LIBRARY": library}).stdout for library in ("", os.environ["LANGTAG_OTHER"])]
         self.assertEqual(*said)
 
 

@@ -23,7 +23,7 @@ def run(program, arguments, given=b""):
 
 def texts():
     """The texts of the rows of two calls."""
-    found = re.findall(rb"(?m)^(?:canonical|types) ([\w-]+)", (ROWS / "registry.txt").read_bytes() + (ROWS / "texts.txt").read_bytes())
+    found = re.findall(rb"(?m)^(?:canonical|types) \| ([\w-]+)", (ROWS / "registry.txt").read_bytes() + (ROWS / "texts.txt").read_bytes())
     return [*dict.fromkeys(found)][:300] + ODD
 
 
@@ -54,7 +54,7 @@ class Program(unittest.TestCase):
         self.assertEqual(run(PYTHON, ["check", "iw", "fr-FQ"])[:2], (1, b"valid canonical=he\ninvalid region=FQ canonical=fr-FQ\n"))
         self.assertEqual(run(PYTHON, ["canonical"], b"iw\n\nzh-yue"), (1, b"he\n-\nyue\n", b""))
         self.assertEqual(run(PYTHON, ["match", "*-CH"], b"de-CH\nfr\n"), (0, b"de-CH\n", b""))
-        self.assertEqual(run(PYTHON, ["show", "de-419-DE"])[2], b"langtag: `de-419-DE` is not a language tag: `DE` does not fit there\n"
+        self.assertEqual(run(PYTHON, ["show", "de-419-DE"])[2], b"langtag: `de-419-DE` is not a language tag: unexpected subtag `DE`\n"
                                                                b"    de-419-DE\n           ^^\n")
 
     @unittest.skipUnless(os.environ.get("root"), "the repository is not named")

@@ -7,7 +7,7 @@ import unittest
 
 import langtag
 import rows
-from langtag import (GRANDFATHERED, AcceptLanguageError, EditError, InvalidRange, InvalidTag, Range, Tag, look_up,
+from langtag import (GRANDFATHERED, AcceptLanguage, AcceptLanguageError, EditError, InvalidRange, InvalidTag, Range, Tag, look_up,
                      tag_for_header, tag_for_header_lenient)
 
 KINDS = {None: "none", langtag.Kind.NORMAL: "normal", langtag.Kind.PRIVATE_USE: "private", langtag.Kind.IRREGULAR: "irregular"}
@@ -94,10 +94,10 @@ def answer_validity(text):
     assert tag.is_valid == (wrong is None)
     if wrong is None:
         return "valid"
-    assert text[wrong.offset :].decode().startswith(wrong.subtag)
+    assert text[wrong.start :].decode().startswith(wrong.subtag)
     kind, how = FAULTS[wrong.fault]
     assert str(wrong) == f"{kind} '{wrong.subtag}' {how}"
-    return f"{wrong.fault} {wrong.offset} {wrong.subtag}"
+    return f"{wrong.fault} {wrong.start} {wrong.subtag}"
 
 
 def answer_canonical(text):
@@ -175,6 +175,8 @@ def strict(header, tags):
 
 def answer_header(header, tags):
     tags = [Tag(text) for text in tags.split()]
+    accepted = AcceptLanguage.lenient(header)
+    assert look_up([it.range for it in accepted.ranges], tags) is accepted.look_up(tags), "by its ranges"
     return f"{strict(header.decode(), tags)} | {tag_for_header_lenient(header, iter(tags), DEFAULT)}"
 
 
@@ -214,8 +216,8 @@ def answer_refused(text):
         Tag(text)
     except InvalidTag as error:
         assert text.decode("utf-8", "backslashreplace").find(error.subtag) >= 0 and error.viable <= len(text)
-        why = str(error).rpartition(": ")[2]
-        kind = "end" if why == "it ends too soon" else "byte" if why.endswith("stands in no subtag") else "subtag"
+        why = str(error).rpartition(" is not a language tag: ")[2]
+        kind = "end" if why == "unexpected end: expected a subtag" else "byte" if why.startswith("invalid character ") else "subtag"
         answer, start, length, offset = langtag._backend.refused(text)
         assert (start, offset) == (error.start, error.offset) and text[start : start + length].decode("utf-8", "backslashreplace") == error.subtag
         return f"{kind} {start} {length} {offset}"

@@ -6,6 +6,8 @@ from words import group_end, skip_to, starts, words_of
 CRATES = {
     "langtag_scan": "scan",
     "langtag_case": "case",
+    "langtag_tables": "tables",
+    "langtag_output": "output",
     "langtag_language": "language",
     "langtag_place": "place",
     "langtag_extension": "extension",
@@ -14,6 +16,8 @@ CRATES = {
     "langtag_match": "matching",
     "langtag_registry": "registry",
     "langtag_likely": "likely",
+    "langtag_choice": "choice",
+    "langtag_unicode": "unicode",
     "langtag_c": "calls",
 }
 # The crates whose modules stand elsewhere than below src: the C library has those modules, too.

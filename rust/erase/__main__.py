@@ -13,7 +13,7 @@ import tempfile
 from crates import MODULES
 from docs import erase_docs
 from errors import erase_derives
-from exports import keep_inside
+from exports import keep_inside, lent_by
 from features import mark_owning, owning_items
 from ghosts import erase_ghosts
 from memory import erase_allocators
@@ -46,16 +46,17 @@ def head(source):
 
 def write(out):
     """Writes all modules below a folder."""
-    files, conditional = {}, set()
+    files, inside = {}, set()
     for module in MODULES:
+        inside |= lent_by(CRATES / module.crate / "src/lib.rt")
         for source in sorted((CRATES / module.crate / "src").glob("*.rt")):
             name = "mod.rs" if source.stem == "lib" else source.stem + ".rs"
             code, names = erase(source, module)
             if module.crate == "langtag_c":
                 code.rewrite("mod $name;", "pub(crate) mod $name;")  # its exports stand beside it
             files[source, out / module.folder / name] = code
-            conditional |= names
-    finish([code for (_, path), code in files.items() if path.is_relative_to(out / "src")], conditional)
+            inside |= names
+    finish([code for (_, path), code in files.items() if path.is_relative_to(out / "src")], inside)
     for (source, path), code in files.items():
         path.parent.mkdir(parents=True, exist_ok=True)
         path.write_text(head(source) + str(code), encoding="utf-8")
@@ -63,10 +64,10 @@ def write(out):
     subprocess.run(["rustfmt", "--edition", "2021", *roots], check=True)
 
 
-def finish(files, conditional):
+def finish(files, inside):
     """Does what takes a look at all files: what is for the crate alone, and what is left out without `alloc`."""
     for code in files:
-        keep_inside(code, conditional)
+        keep_inside(code, inside)
     owning = owning_items(files)
     for code in files:
         mark_owning(code, owning)

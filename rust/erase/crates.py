@@ -12,6 +12,8 @@ class Module(NamedTuple):
 MODULES = [
     Module("langtag_scan", "src/scan", "crate::scan"),
     Module("langtag_case", "src/case", "crate::case"),
+    Module("langtag_tables", "src/tables", "crate::tables"),
+    Module("langtag_output", "src/output", "crate::output"),
     Module("langtag_language", "src/language", "crate::language"),
     Module("langtag_place", "src/place", "crate::place"),
     Module("langtag_extension", "src/extension", "crate::extension"),
@@ -20,12 +22,14 @@ MODULES = [
     Module("langtag_match", "src/matching", "crate::matching"),
     Module("langtag_registry", "src/registry", "crate::registry"),
     Module("langtag_likely", "src/likely", "crate::likely"),
+    Module("langtag_choice", "src/choice", "crate::choice"),
+    Module("langtag_unicode", "src/unicode", "crate::unicode"),
     # The C library is a crate of its own, rust/c, which has the modules above, too.
     Module("langtag_c", "c/src/calls", "crate::calls"),
 ]
 
 # The modules that users name. What the others have they find at the root, as far as src/lib.rs has it.
-PUBLIC = {"crate::matching", "crate::registry", "crate::likely"}
+PUBLIC = {"crate::matching", "crate::registry", "crate::likely", "crate::choice", "crate::unicode"}
 
 
 def path_of(crate):

@@ -1,4 +1,12 @@
-"""Functions with a condition are for the crate alone: `pub use` of one becomes `pub(crate) use`."""
+"""Functions with a condition, and what a crate lends to others of the repository, are for the crate alone: their `pub use` becomes
+`pub(crate) use`."""
+import re
+
+
+def lent_by(root):
+    """Returns the names below the line `// For CRATE..` of a lib.rt, which are `pub` for these crates, and for nobody else."""
+    _, _, uses = root.read_text(encoding="utf-8").partition("\n// For ")
+    return set(re.findall(r"(\w+)[,;}]", uses))
 
 
 def keep_inside(code, names):

@@ -9,10 +9,11 @@ use crate::matching::LanguageRange;
 use crate::matching::LanguageRangeBuf;
 use crate::*;
 
-/// A text, seen without the case of its ASCII letters: what a map by tags, by parts or by ranges is asked by, without memory.
+/// A text without the case of its ASCII letters. Use it to look up a text in a map with tags, parts or ranges as keys, without
+/// allocating.
 ///
-/// Each text, borrowed or owned, and each tag is one. A map whose keys are [`LangTagBuf`](crate::LangTagBuf) can't be asked by
-/// `&LangTag`, since no key holds a `LangTag` to lend, nor by `&str`, which is hashed with its case.
+/// Each text, borrowed or owned, and each tag implements it. A map whose keys are [`LangTagBuf`](crate::LangTagBuf) cannot be
+/// asked by `&LangTag`, since no key holds a `LangTag` to lend, nor by `&str`, which is hashed with its case.
 ///
 /// ```
 /// # #[cfg(feature = "alloc")] {
@@ -30,7 +31,7 @@ pub trait CaselessText {
     /// Returns the text, with its case.
     fn text(&self) -> &str;
 
-    /// Returns the same text, to ask a map by.
+    /// Returns the same text, to look it up in a map.
     fn caseless(&self) -> &dyn CaselessText
     where
         Self: Sized,

@@ -64,13 +64,13 @@ impl<T: AsRef<str>> InvalidLangTag<T> {
         Refusal::of(self.0.as_ref().as_bytes())
     }
 
-    /// Returns why the text is refused, in words, to be displayed.
+    /// Returns the reason for the refusal in words, to be displayed.
     ///
     /// ```
     /// use langtag::LangTag;
     ///
     /// let error = LangTag::new("de-419-DE").unwrap_err();
-    /// assert_eq!(error.reason().to_string(), "`DE` does not fit there");
+    /// assert_eq!(error.reason().to_string(), "unexpected subtag `DE`");
     /// ```
     pub fn reason(&self) -> impl fmt::Display + '_ {
         Reason(self.0.as_ref())
@@ -87,10 +87,16 @@ impl fmt::Display for Reason<'_> {
         };
         let subtag = &self.0[refusal.start..refusal.end];
         match refusal.kind {
-            RefusalKind::Subtag if subtag.is_empty() => f.write_str("a subtag is empty"),
-            RefusalKind::Subtag => write!(f, "`{subtag}` does not fit there"),
-            RefusalKind::Byte => write!(f, "`{subtag}` has a byte that is no letter and no digit"),
-            RefusalKind::End => f.write_str("it ends too soon"),
+            RefusalKind::Subtag if subtag.is_empty() => f.write_str("empty subtag"),
+            RefusalKind::Subtag => write!(f, "unexpected subtag `{subtag}`"),
+            RefusalKind::Byte => {
+                let wrong = &self.0[refusal.offset..].chars().next().unwrap_or_default();
+                write!(
+                    f,
+                    "invalid character `{wrong}`: expected a letter, a digit or a hyphen"
+                )
+            }
+            RefusalKind::End => f.write_str("unexpected end: expected a subtag"),
         }
     }
 }

@@ -1,7 +1,7 @@
 //! Language tags (BCP 47): parse, compare, edit, match, validate and choose.
 //!
 //! ```
-//! use langtag::likely::best_for_header;
+//! use langtag::choice::best_for_header;
 //! use langtag::registry::{canonical, validate};
 //! use langtag::LangTag;
 //!
@@ -23,7 +23,9 @@
 //!
 //! - [`matching`]: language ranges, filters and look-up (RFC 4647), and Accept-Language headers (RFC 9110)
 //! - [`registry`]: the IANA Language Subtag Registry: which tags are valid, and their canonical forms (RFC 5646)
-//! - [`likely`]: likely subtags (UTS #35), and the tag that suits a reader best
+//! - [`likely`]: likely subtags (UTS #35)
+//! - [`choice`]: the tag that suits a reader best, and the distance of two tags (UTS #35)
+//! - [`unicode`]: what the extensions `u` and `t` say: keywords, such as a calendar, and transforms (RFC 6067, RFC 6497)
 //!
 //! # What is proved
 //!
@@ -35,10 +37,10 @@
 //! - The differences between the two sources that are not contracts. There are some fifty kinds, and `checker/kinds.txt` gives
 //!   a reason for each. A checker that shares no code with the eraser refuses all others.
 //! - The files directly below `src`, which are written by hand. Erased modules use two of them: `memory.rs` allocates and
-//!   returns an error if memory is refused, and `shim.rs` compares tags by their text. The others add what Rust programs
+//!   returns an error if that fails, and `shim.rs` compares tags by their text. The others add what Rust programs
 //!   expect, such as `FromStr` and `AsRef<str>`.
 //! - The width of `usize`. It is proved for 64 bits that nothing overflows. 32 bits are tested, not proved.
-//! - Your own implementations of [`ByteSource`], [`likely::TagList`] and [`likely::RangeList`]. A fault there can give a
+//! - Your own implementations of [`ByteSource`], [`choice::TagList`] and [`choice::RangeList`]. A fault there can give a
 //!   wrong answer or a panic, and nothing else: the crate has no unsafe code.
 //!
 //! No public call makes a value without a test, so there is no `Script` that is not a script.
@@ -51,8 +53,8 @@
 //! - `serde`, in releases: tags, parts and ranges are strings. The manifest in the repository names no other crate, so that
 //!   cargo works there without a network.
 //!
-//! Calls whose names begin with `try_` return an error if memory is refused, and leave the tag as it was, as the setters do.
-//! Their short forms, such as `to_owned` and `clone`, end the program then, as is usual in Rust.
+//! Calls whose names begin with `try_` return an error if allocation fails, and leave the tag as it was, as the setters do.
+//! Their short forms, such as `to_owned` and `clone`, abort instead, as is usual in Rust.
 //!
 //! # Where the items of langtag 0.4.0 are
 //!
@@ -71,12 +73,12 @@
 //! | `Borrow` | [`CaselessText`], by which a map is asked with a text in any case |
 //! | `PartialEq` with `str`, `&str`, `String` | the same, both ways; case is ignored; also `eq_str` |
 //! | `PartialEq` with `[u8]` | [`case_insensitive_eq`] |
-//! | `ToOwned`, `Clone` of owned forms | the methods `to_owned` and `clone`; `try_to_owned` returns an error if memory is refused |
+//! | `ToOwned`, `Clone` of owned forms | the methods `to_owned` and `clone`; `try_to_owned` returns an error if allocation fails |
 //! | `language`, `script`, `region`, `variants`, `extensions`, `private_use`, `private_use_subtags` | the same names |
 //! | `kind`, `is_normal`, `is_private_use`, `is_grandfathered`, `as_normal`, `as_private_use`, `as_grandfathered` | the same names |
 //! | `Kind`, `TypedLangTag`, `PrivateUseLangTag`, `PrivateUseLangTagBuf` | the same names |
 //! | `GrandfatheredLangTag`, the static `GRANDFATHERED` | the same names, a constant |
-//! | `Singleton`, its `FromStr` | the same; `Singleton::from_string` hands the text back |
+//! | `Singleton`, its `FromStr` | the same; `Singleton::from_string` returns the text if it is refused |
 //! | `Extensions::get`, `iter`, `iter_extension` | the same names; case is ignored |
 //! | `PrimaryLanguage`, of three letters or of `abc-def` | of 2 to 8 letters (RFC 5646 section 2.1) |
 //! | `LanguageExtensionIter`, `VariantsIter`, `ExtensionIter`, `ExtensionsIter`, `PrivateUseIter` | the same names |
@@ -99,19 +101,23 @@ mod text_types;
 
 // The modules that rust/erase makes: each is a folder.
 mod case;
+pub mod choice;
 // For the C library: first_extension_end.
 #[allow(dead_code, unused_imports)]
 mod extension;
 mod language;
 pub mod likely;
 pub mod matching;
+mod output;
 mod place;
 mod private;
 pub mod registry;
 mod scan;
+mod tables;
 // For crates of Rattle: NormalLangTag::from_checked, segment_end.
 #[allow(dead_code, unused_imports)]
 mod tag;
+pub mod unicode;
 
 // Habits of Rust, by hand over these.
 mod caseless_text;
@@ -134,8 +140,3 @@ pub use owned_errors::{AcceptLanguageErrorBuf, InvalidSubtagBuf, PosixErrorBuf};
 #[cfg(feature = "alloc")]
 pub use shim::AllocError;
 pub use tag::*;
-
-/// The examples of README.md.
-#[cfg(all(doctest, feature = "alloc"))]
-#[doc = include_str!("../README.md")]
-pub struct Readme;

@@ -3,7 +3,7 @@ use alloc::string::String;
 use alloc::vec::Vec;
 use core::fmt;
 
-/// The error of a call that was refused memory.
+/// The error of a call that could not allocate.
 ///
 /// ```
 /// use langtag::{AllocError, LangTag, LangTagBuf};
@@ -83,7 +83,7 @@ impl TryText for String {
 pub(crate) trait TryItems<T> {
     fn try_push(&mut self, item: T) -> Result<(), AllocError>;
 
-    /// Sorts, and keeps the order of items of one key. Rust's own `sort_by_key` ends the program where memory is refused.
+    /// Sorts by a key, and keeps the order of items with equal keys. Rust's own `sort_by_key` aborts if allocation fails.
     fn try_sort_by_key<K: Ord>(&mut self, key: impl FnMut(&T) -> K) -> Result<(), AllocError>;
 }
 

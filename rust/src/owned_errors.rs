@@ -28,7 +28,7 @@ pub enum InvalidSubtagBuf {
     Language(PrimaryLanguageBuf),
     /// An extended language that is not registered.
     Extlang(ExtendedLangTagBuf),
-    /// An extended language after another.
+    /// A second extended language.
     SecondExtlang(ExtendedLangTagBuf),
     /// A script that is not registered.
     Script(ScriptBuf),
@@ -36,9 +36,9 @@ pub enum InvalidSubtagBuf {
     Region(RegionBuf),
     /// A variant that is not registered.
     Variant(VariantBuf),
-    /// A variant that is equal to an earlier one.
+    /// A variant that equals an earlier one, ignoring case.
     RepeatedVariant(VariantBuf),
-    /// A singleton that is equal, but for case, to an earlier one.
+    /// A singleton that equals an earlier one, ignoring case.
     RepeatedSingleton(Singleton),
 }
 
@@ -97,18 +97,18 @@ impl fmt::Display for InvalidSubtagBuf {
 /// The error of [`AcceptLanguage::new`](matching::AcceptLanguage::new), which owns the header.
 #[derive(Debug)]
 pub enum AcceptLanguageErrorBuf {
-    /// A bad element, as in [`AcceptLanguageError::BadElement`].
+    /// A malformed element, as in [`AcceptLanguageError::BadElement`].
     BadElement {
         /// The header.
         header: String,
-        /// How many commas stand before the element.
+        /// The number of commas before the element.
         index: usize,
         /// Where the element begins, in bytes.
         offset: usize,
-        /// What is bad of it.
+        /// Which part of it is malformed.
         part: ElementPart,
     },
-    /// Out of memory.
+    /// Allocation failed.
     Memory(AllocError),
 }
 
@@ -146,9 +146,9 @@ impl fmt::Display for AcceptLanguageErrorBuf {
 /// The error of [`from_posix`](likely::from_posix), which owns the name.
 #[derive(Clone, Debug, PartialEq, Eq)]
 pub enum PosixErrorBuf {
-    /// The name says no language.
+    /// The name has no language.
     NoTag(String),
-    /// Out of memory.
+    /// Allocation failed.
     Memory(AllocError),
 }
 

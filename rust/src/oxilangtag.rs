@@ -35,11 +35,11 @@ pub struct LanguageTag<T> {
 }
 
 impl<T: Deref<Target = str>> LanguageTag<T> {
-    /// The tag of a text, which is kept as it is.
+    /// Parses a tag, and keeps its text as it is.
     ///
     /// # Errors
     ///
-    /// The text is not a tag.
+    /// Returns an error if the text is not a tag.
     pub fn parse(tag: T) -> Result<Self, LanguageTagParseError> {
         let read = LangTag::new(&tag).map_err(|error| LanguageTagParseError::of(error.0))?;
         let ends = match read.as_normal() {
@@ -49,75 +49,75 @@ impl<T: Deref<Target = str>> LanguageTag<T> {
         Ok(LanguageTag { tag, ends })
     }
 
-    /// The text.
+    /// Returns the text.
     #[inline]
     pub fn as_str(&self) -> &str {
         &self.tag
     }
 
-    /// The very text that it was made of.
+    /// Returns the text that it was made of.
     #[inline]
     pub fn into_inner(self) -> T {
         self.tag
     }
 
-    /// The primary language: `zh`. All of a tag without parts.
+    /// Returns the primary language, such as `zh`, or the whole text of a tag without parts.
     pub fn primary_language(&self) -> &str {
         self.normal()
             .map_or(&self.tag, |tag| tag.language().primary().into())
     }
 
-    /// The extended languages, as one text: `cmn`.
+    /// Returns the extended languages as one text, such as `cmn`.
     pub fn extended_language(&self) -> Option<&str> {
         self.normal()?.language().extension().map(Into::into)
     }
 
-    /// The extended languages.
+    /// Iterates over the extended languages.
     pub fn extended_language_subtags(&self) -> impl Iterator<Item = &str> {
         Subtags::new(self.extended_language().unwrap_or(""))
     }
 
-    /// The primary and the extended languages: `zh-cmn`. All of a tag without parts.
+    /// Returns the primary and the extended languages, such as `zh-cmn`, or the whole text of a tag without parts.
     pub fn full_language(&self) -> &str {
         self.normal().map_or(&self.tag, |tag| tag.language().into())
     }
 
-    /// The script: `Hans`.
+    /// Returns the script, such as `Hans`.
     pub fn script(&self) -> Option<&str> {
         self.normal()?.script().map(Into::into)
     }
 
-    /// The region: `CN`.
+    /// Returns the region, such as `CN`.
     pub fn region(&self) -> Option<&str> {
         self.normal()?.region().map(Into::into)
     }
 
-    /// The variants, as one text: `rozaj-1994`.
+    /// Returns the variants as one text, such as `rozaj-1994`.
     pub fn variant(&self) -> Option<&str> {
         self.normal()
             .map(|tag| tag.variants().into())
             .filter(|text: &&str| !text.is_empty())
     }
 
-    /// The variants.
+    /// Iterates over the variants.
     pub fn variant_subtags(&self) -> impl Iterator<Item = &str> {
         Subtags::new(self.variant().unwrap_or(""))
     }
 
-    /// The extensions, as one text: `u-co-phonebk`.
+    /// Returns the extensions as one text, such as `u-co-phonebk`.
     pub fn extension(&self) -> Option<&str> {
         self.normal()
             .map(|tag| tag.extensions().into())
             .filter(|text: &&str| !text.is_empty())
     }
 
-    /// The extensions, each by its singleton: `('u', "co-phonebk")`.
+    /// Iterates over the extensions, each with its singleton, such as `('u', "co-phonebk")`.
     pub fn extension_subtags(&self) -> impl Iterator<Item = (char, &str)> {
         let extensions = self.normal().into_iter().flat_map(|tag| tag.extensions());
         extensions.map(|extension| (extension.singleton().into(), &extension.as_str()[2..]))
     }
 
-    /// The private use part: `x-mine`. All of a tag for private use.
+    /// Returns the private-use part, such as `x-mine`, or the whole text of a private-use tag.
     pub fn private_use(&self) -> Option<&str> {
         match self.normal() {
             Some(tag) => tag.private_use().map(Into::into),
@@ -125,7 +125,7 @@ impl<T: Deref<Target = str>> LanguageTag<T> {
         }
     }
 
-    /// The subtags of the private use part, without its mark: `mine`.
+    /// Iterates over the subtags of the private-use part, without its `x`: `mine`.
     pub fn private_use_subtags(&self) -> impl Iterator<Item = &str> {
         Subtags::new(self.private_use().map_or("", |part| &part[2..]))
     }
@@ -141,11 +141,11 @@ fn begins_private_use(tag: &str) -> bool {
 }
 
 impl LanguageTag<String> {
-    /// The tag of a text, in the case that RFC 5646 section 2.1.1 recommends.
+    /// Parses a tag, and changes its text to the case that RFC 5646 section 2.1.1 recommends.
     ///
     /// # Errors
     ///
-    /// The text is not a tag.
+    /// Returns an error if the text is not a tag.
     pub fn parse_and_normalize(tag: &str) -> Result<Self, LanguageTagParseError> {
         let mut tag: LangTagBuf = tag.parse().map_err(|_| LanguageTagParseError::of(tag))?;
         tag.make_recommended_case();
@@ -153,7 +153,7 @@ impl LanguageTag<String> {
     }
 }
 
-/// The error for a text that is not a tag. Its message says up to where the text could begin one.
+/// The error for a text that is not a tag. Its message says how much of the text can begin a tag.
 #[derive(Clone, Debug)]
 pub struct LanguageTagParseError {
     viable_len: usize,

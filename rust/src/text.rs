@@ -152,7 +152,7 @@ mod owned {
     use crate::matching::{InvalidLanguageRange, LanguageRange, LanguageRangeBuf};
     use crate::*;
 
-    /// Ends the program where memory was refused, as `String` does.
+    /// Aborts if allocation fails, as `String` does.
     #[inline]
     fn or_end<T>(made: Result<T, AllocError>, text: &str) -> T {
         made.unwrap_or_else(|_| handle_alloc_error(Layout::for_value(text)))

@@ -2,6 +2,7 @@
 use core::iter::FusedIterator;
 
 use crate::matching::{Fallbacks, Filtered};
+use crate::unicode::{AttributesIter, KeywordsIter};
 use crate::*;
 
 macro_rules! listed {
@@ -41,3 +42,5 @@ listed! {
 impl FusedIterator for Subtags<'_> {}
 impl FusedIterator for Fallbacks<'_> {}
 impl FusedIterator for Filtered<'_, '_> {}
+impl FusedIterator for AttributesIter<'_> {}
+impl FusedIterator for KeywordsIter<'_> {}

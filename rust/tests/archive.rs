@@ -3,11 +3,9 @@
 //!
 //!     RUSTFLAGS="--cfg archive -L native=$PWD/../crates/langtag_c/out" cargo test --release --test archive
 #![cfg(archive)]
-use langtag::likely::{
-    best_for_header, distance, is_right_to_left, write_maximized, write_minimized,
-    FORMLESS_DISTANCE,
-};
-use langtag::matching::LanguageRange;
+use langtag::choice::{best_for_header, distance, FORMLESS_DISTANCE};
+use langtag::likely::{is_right_to_left, write_maximized, write_minimized};
+use langtag::matching::{AcceptLanguage, AcceptLanguageError, ElementPart, LanguageRange};
 use langtag::registry::{fault_at, is_canonical, write_canonical, InvalidSubtag};
 use langtag::*;
 
@@ -36,6 +34,8 @@ extern "C" {
     fn langtag_is_right_to_left(bytes: *const u8, len: usize) -> bool;
     fn langtag_distance(desired: *const u8, desired_len: usize, supported: *const u8, supported_len: usize) -> u32;
     fn langtag_best_for_header(header: *const u8, header_len: usize, bytes: *const u8, len: usize, tags: *const Span, tags_len: usize) -> usize;
+    fn langtag_tag_for_header_lenient(header: *const u8, header_len: usize, bytes: *const u8, len: usize, tags: *const Span, tags_len: usize) -> usize;
+    fn langtag_tag_for_header(header: *const u8, header_len: usize, bytes: *const u8, len: usize, tags: *const Span, tags_len: usize, index: *mut usize, bad: *mut Span) -> u32;
     fn langtag_matches_basic(range: *const u8, range_len: usize, tag: *const u8, tag_len: usize) -> bool;
     fn langtag_matches_extended(range: *const u8, range_len: usize, tag: *const u8, tag_len: usize) -> bool;
 }
@@ -270,6 +270,53 @@ fn same_choice(header: &str, texts: &[String]) {
         )
     };
     assert_eq!(ours, theirs, "{header:?} {texts:?}");
+    same_look_up(header, &all, &spans, &tags);
+}
+
+/// By the tag that is found, strictly and leniently.
+fn same_look_up(header: &str, all: &str, spans: &[Span], tags: &[LangTag<'_>]) {
+    let none = LangTag::new("x-none").unwrap();
+    let found = AcceptLanguage::lenient(header).unwrap().look_up(tags, none);
+    let ours = tags
+        .iter()
+        .position(|tag| tag.as_str().as_ptr() == found.as_str().as_ptr());
+    let (mut index, mut bad) = (0, Span::default());
+    let theirs = unsafe {
+        langtag_tag_for_header_lenient(
+            header.as_ptr(),
+            header.len(),
+            all.as_ptr(),
+            all.len(),
+            spans.as_ptr(),
+            spans.len(),
+        )
+    };
+    assert_eq!(ours.unwrap_or(tags.len()), theirs, "{header:?} {all:?}");
+    let answer = unsafe {
+        langtag_tag_for_header(
+            header.as_ptr(),
+            header.len(),
+            all.as_ptr(),
+            all.len(),
+            spans.as_ptr(),
+            spans.len(),
+            &mut index,
+            &mut bad,
+        )
+    };
+    let wanted = match AcceptLanguage::new(header) {
+        Ok(_) => (0, theirs, header.len()),
+        Err(AcceptLanguageError::BadElement { offset, part, .. }) => {
+            let part = if matches!(part, ElementPart::Range) {
+                2
+            } else {
+                3
+            };
+            (part, tags.len(), offset)
+        }
+        Err(error) => panic!("{error}"),
+    };
+    assert_eq!((answer, index, bad.start), wanted, "{header:?} {all:?}");
 }
 
 #[test]

@@ -71,12 +71,15 @@ fn where_a_text_goes_wrong() {
     for (text, words) in [
         (
             "zh_Hant",
-            "`zh_Hant` has a byte that is no letter and no digit",
+            "invalid character `_`: expected a letter, a digit or a hyphen",
         ),
-        ("de-419-DE", "`DE` does not fit there"),
-        ("de--DE", "a subtag is empty"),
-        ("en-", "it ends too soon"),
-        ("é", "`é` has a byte that is no letter and no digit"),
+        ("de-419-DE", "unexpected subtag `DE`"),
+        ("de--DE", "empty subtag"),
+        ("en-", "unexpected end: expected a subtag"),
+        (
+            "é",
+            "invalid character `é`: expected a letter, a digit or a hyphen",
+        ),
     ] {
         assert_eq!(LangTag::new(text).unwrap_err().reason().to_string(), words);
     }

@@ -30,6 +30,18 @@ fn parts() {
     assert!(tag.private_use_subtags().eq(["a", "b"]));
 }
 
+/// The mark of private use is a letter in either case.
+#[test]
+fn private_use_in_capitals() {
+    for text in ["X-a", "x-A", "X-a-b"] {
+        let tag = LanguageTag::parse(text).unwrap();
+        assert_eq!(tag.private_use(), Some(text));
+        assert!(tag.private_use_subtags().eq(text[2..].split('-')));
+    }
+    let tag = LanguageTag::parse("de-X-a").unwrap();
+    assert_eq!((tag.private_use(), tag.extension()), (Some("X-a"), None));
+}
+
 /// A grandfathered tag has no parts, and one for private use is all private.
 #[test]
 fn whole_tags() {

@@ -158,20 +158,20 @@ fn columns() {
 
 #[test]
 fn explanations() {
-    says(&["show", "de-419-DE"], "langtag: `de-419-DE` is not a language tag: `DE` does not fit there\n    de-419-DE\n           ^^\n");
-    says(&["check", "zh_Hant"], "langtag: `zh_Hant` is not a language tag: `zh_Hant` has a byte that is no letter and no digit\n    zh_Hant\n      ^\n");
+    says(&["show", "de-419-DE"], "langtag: `de-419-DE` is not a language tag: unexpected subtag `DE`\n    de-419-DE\n           ^^\n");
+    says(&["check", "zh_Hant"], "langtag: `zh_Hant` is not a language tag: invalid character `_`: expected a letter, a digit or a hyphen\n    zh_Hant\n      ^\n");
     says(
         &["canonical", "de--DE"],
-        "langtag: `de--DE` is not a language tag: a subtag is empty\n    de--DE\n       ^\n",
+        "langtag: `de--DE` is not a language tag: empty subtag\n    de--DE\n       ^\n",
     );
     says(
         &["canonical", "en-"],
-        "langtag: `en-` is not a language tag: it ends too soon\n    en-\n       ^\n",
+        "langtag: `en-` is not a language tag: unexpected end: expected a subtag\n    en-\n       ^\n",
     );
-    says(&["maximize", "é-b"], "langtag: `é-b` is not a language tag: `é` has a byte that is no letter and no digit\n    é-b\n    ^\n");
+    says(&["maximize", "é-b"], "langtag: `é-b` is not a language tag: invalid character `é`: expected a letter, a digit or a hyphen\n    é-b\n    ^\n");
     says(&["check", "fr-a-bb-A-cc"], "langtag: `fr-a-bb-A-cc` is not valid: singleton A is repeated\n    fr-a-bb-A-cc\n            ^\n");
     says(&["check", "de-CH-1996-1996"], "langtag: `de-CH-1996-1996` is not valid: variant 1996 is repeated\n    de-CH-1996-1996\n               ^^^^\n");
-    says(&["best", "de", "d!"], "langtag: `d!` is not a language tag: `d!` has a byte that is no letter and no digit\n    d!\n     ^\n");
+    says(&["best", "de", "d!"], "langtag: `d!` is not a language tag: invalid character `!`: expected a letter, a digit or a hyphen\n    d!\n     ^\n");
     says(&["show", "fr-FR"], "");
 }
 

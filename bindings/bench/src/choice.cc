@@ -19,7 +19,7 @@ namespace {
 const char *const tags[] = {"en", "en-GB", "fr", "fr-CA", "de", "de-CH", "es", "es-419", "pt-BR", "pt-PT",
                             "it", "nl", "sv", "pl", "ru", "ja", "ko", "zh-Hans", "zh-Hant", "ar"};
 
-/* Whose range is served: the first, a tag nearer than 16; the last, such a one; the last, by look-up, after all passes; none. */
+/* Whose range is served: the first, a tag nearer than 16; the last, such a one; the last, by look-up; the last, behind a weight 0; none. */
 const struct {
     const char *name, *header;
 } headers[] = {
@@ -27,6 +27,7 @@ const struct {
     {"last", "th-TH, vi;q=0.9, el;q=0.8, hu;q=0.7, de-AT;q=0.6"},
     {"look-up", "th-TH, vi;q=0.9, el;q=0.8, hu;q=0.7, nl-Cyrl;q=0.6"},
     {"zero", "th-TH, vi;q=0.9, el;q=0.8, hu;q=0, de-AT;q=0.6"},
+    {"none", "th-TH, vi;q=0.9, el;q=0.8, hu;q=0.7, fi;q=0.6"},
 };
 
 struct site {

@@ -248,6 +248,37 @@ static void check_choice(slice text, slice other, slice header) {
     SAME(read_tag(at(text, tags[index])).kind != 0);
 }
 
+/* The index of the tag that a range finds, or `count`. */
+static size_t read_look_up(slice range, slice text, const langtag_span *tags, size_t count) {
+    size_t lengths[MAX_SUBTAGS + 1], fallbacks = 1 + read_fallbacks(range, lengths + 1);
+    lengths[0] = range.len;
+    for (size_t k = 0; k < fallbacks; k++)
+        for (size_t index = 0; index < count; index++)
+            if (tags[index].start <= text.len && tags[index].len <= text.len - tags[index].start &&
+                are_alike((slice){range.at, lengths[k]}, at(text, tags[index])) && read_tag(at(text, tags[index])).kind != 0)
+                return index;
+    return count;
+}
+
+/* langtag_tag_for_header and its lenient form */
+static void check_look_up(slice text, slice header) {
+    element elements[ROOM + 1];
+    size_t found = read_header(header, elements), count = below(5), wanted = count, index;
+    uint32_t weight = 0, answer = 0;
+    langtag_span tags[4], bad, first = {header.len, 0};
+    for (int k = 0; k < 4; k++) tags[k] = (langtag_span){below(2) * below(text.len + 2), below(text.len + 2)};
+    for (size_t k = found; k-- > 0;)
+        if (elements[k].answer != 1) answer = elements[k].answer, first.start = (size_t)(elements[k].range.at - header.at), first.len = elements[k].range.len;
+    for (size_t k = 0; k < found; k++) {
+        if (elements[k].answer != 1 || elements[k].weight <= weight) continue;
+        size_t one = read_look_up(elements[k].range, text, tags, count);
+        if (one < count) wanted = one, weight = elements[k].weight;
+    }
+    SAME(langtag_tag_for_header_lenient(header.at, header.len, text.at, text.len, tags, count) == wanted);
+    SAME(langtag_tag_for_header(header.at, header.len, text.at, text.len, tags, count, &index, &bad) == answer);
+    SAME(index == (answer == 0 ? wanted : count) && bad.start == first.start && bad.len == first.len);
+}
+
 /* langtag_range_kind and both ways to match */
 static void check_ranges(slice range, slice text) {
     SAME(langtag_range_kind(range.at, range.len) == range_kind(range));
@@ -314,6 +345,7 @@ static unsigned check_one(pages here, pages there, pages out) {
     check_likely(placed, langtag_minimize, out);
     check_posix(placed, out);
     check_choice(placed, neighbour, neighbour);
+    check_look_up(placed, neighbour);
     check_ranges(neighbour, placed);
     check_fallbacks(placed);
     check_header(placed);
@@ -322,6 +354,7 @@ static unsigned check_one(pages here, pages there, pages out) {
     slice sent = {place(there, header, header_len, at_the_end), header_len};
     check_header(sent);
     check_choice(placed, sent, sent);
+    check_look_up(placed, sent);
     unsigned kind = langtag_kind(bytes, len);
     check_case(bytes, len);
     SAME(langtag_kind(bytes, len) == kind);

@@ -47,6 +47,10 @@ FUNCTION(best_for_header, found = (langtag_span){0, len};
          result = langtag_best_for_header(text, len, "de-DE", 5, &(langtag_span){0, 5}, 1) +
                   langtag_best_for_header("de", 2, text, len, &found, 1))
 FUNCTION(best_of_tags, result = best_among("fr, aaaaaaaa;q=0.5, x-1;q=0, aaaaaaaa-DE;q=0"))
+FUNCTION(tag_for_header, result = langtag_tag_for_header(text, len, "de-DE", 5, &(langtag_span){0, 5}, 1, &offset, &found))
+FUNCTION(tag_for_header_lenient, found = (langtag_span){0, len};
+         result = langtag_tag_for_header_lenient(text, len, "de-DE", 5, &(langtag_span){0, 5}, 1) +
+                  langtag_tag_for_header_lenient("de", 2, text, len, &found, 1))
 FUNCTION(from_posix, result = langtag_from_posix(text, len, buffer, sizeof buffer))
 FUNCTION(cldr_version, result = langtag_cldr_version())
 FUNCTION(is_canonical, result = langtag_is_canonical(text, len))
@@ -85,6 +89,8 @@ static const struct function functions[] = {
     {"distance", distance},
     {"best_for_header", best_for_header},
     {"best_of_tags", best_of_tags},
+    {"tag_for_header", tag_for_header},
+    {"tag_for_header_lenient", tag_for_header_lenient},
     {"from_posix", from_posix},
     {"cldr_version", cldr_version},
     {"is_canonical", is_canonical},

@@ -147,6 +147,25 @@ static size_t choice(size_t header_len) {
     return langtag_best_for_header(text, header_len, "en,de-CH,ja", 11, (langtag_span[]){{0, 2}, {3, 5}, {9, 2}}, 3);
 }
 
+/* Headers that find the second by look-up. */
+static const struct shape looked_up[] = {
+    {"", "fr;q=0.5,", "de-ch-1996;q=0.1"}, {"", " ", "de-CH"}, {"de-CH", "-a", ""}, {"", ",", "DE-ch"}, {"", "d!,", "de-ch;q=0.1"},
+};
+
+static void sweep_look_ups(void) {
+    static const struct shape bad = {"fr", ",de", ",d!"};
+    const langtag_span three[] = {{0, 2}, {3, 5}, {9, 2}};
+    for (size_t row = 0; row < LENGTH(looked_up); row++)
+        for (size_t times = 0, len = 0; grow(&looked_up[row], &times, &len);)
+            check("tag_for_header_lenient", len, langtag_tag_for_header_lenient(text, len, "en,de-CH,ja", 11, three, 3) == 1);
+    for (size_t times = 0, len = 0; grow(&bad, &times, &len);) {
+        size_t index;
+        langtag_span there;
+        uint32_t answer = langtag_tag_for_header(text, len, "en,de-CH,ja", 11, three, 3, &index, &there);
+        check("tag_for_header", len, answer == LANGTAG_ACCEPTED_BAD_RANGE && index == 3 && there.start == len - 2 && there.len == 2);
+    }
+}
+
 /* More and more tags, of which the header chooses the last, and then one of a range of weight 0. */
 static void sweep_choices(void) {
     static const struct shape many = {"", "en,", "DE-ch"};
@@ -156,6 +175,7 @@ static void sweep_choices(void) {
     for (size_t times = 0, len = 0; grow(&many, &times, &len);) {
         for (size_t tag = 0; tag <= times; tag++) spans[tag] = (langtag_span){3 * tag, tag < times ? 2 : 5};
         check("best_for_header", len, langtag_best_for_header(wish, strlen(wish), text, len, spans, times + 1) == times);
+        check("tag_for_header_lenient", len, langtag_tag_for_header_lenient(wish, strlen(wish), text, len, spans, times + 1) == times);
         check("best_for_header", len, langtag_best_for_header(zero, strlen(zero), text, len, spans, times + 1) == times + 1);
     }
 }
@@ -167,6 +187,7 @@ int main(void) {
     for (size_t row = 0; row < LENGTH(refusals); row++)
         sweep_refusal(&refusals[row].text, refusals[row].answer, refusals[row].before, refusals[row].subtag_len, refusals[row].offset_before);
     sweep_choices();
+    sweep_look_ups();
     printf("sweep: %zu calls, %zu faults\n", calls, faults);
     return faults != 0;
 }

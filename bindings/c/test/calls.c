@@ -1,7 +1,6 @@
 /* What the library answers to the calls of the rows, in their words. */
 #include "rows.h"
 
-#include "../../examples/accept_language.h"
 #include "check.h"
 #include <stdlib.h>
 
@@ -285,85 +284,95 @@ static void answer_edit(text *to, const text *arguments) {
     put_edited(to, tag, part, given);
 }
 
-/* The tag that a header finds, by accept_language.c of the examples: strictly, and leniently. */
-static void put_chosen(text *to, text header, text texts) {
-    char *words = malloc(texts.len + 1);
-    const char *tags[64];
-    size_t count = 0, found;
-    if (!words) abort();
-    memcpy(words, texts.at, texts.len), words[texts.len] = '\0';
-    for (char *word = strtok(words, " "); word && count < 63; word = strtok(NULL, " ")) tags[count++] = word;
-    tags[count] = "-";
-    uint32_t answer = choose_tag_strict(header.at, header.len, tags, count, &found);
-    if (answer == LANGTAG_ACCEPTED_END) {
-        put_word(to, " "), put_word(to, tags[found]);
-    } else {
-        size_t commas = 0;
-        for (size_t at = 0; at < found; at++) commas += header.at[at] == ',';
-        put_number(to, " bad", commas), put_number(to, "", found);
-        put_word(to, answer == LANGTAG_ACCEPTED_BAD_RANGE    ? " range"
-                     : answer == LANGTAG_ACCEPTED_BAD_WEIGHT ? " weight"
-                                                             : " unknown");
-    }
-    put_word(to, " | "), put_word(to, tags[choose_tag_lenient(header.at, header.len, tags, count)]);
-    free(words);
-}
+enum { MOST_TAGS = 64 };
 
-static void answer_header(text *to, const text *arguments) { put_chosen(to, arguments[0], arguments[1]); }
-
-/* Basic ranges are a header, too. The example reads no extended ones. */
-static void answer_ranges(text *to, const text *arguments) {
-    text header = {NULL, 0, 0}, both = {NULL, 0, 0};
-    if (memchr(arguments[0].at, '*', arguments[0].len)) return;
-    put(&header, arguments[0].at, arguments[0].len);
-    for (size_t at = 0; at < header.len; at++)
-        if (header.at[at] == ' ') header.at[at] = ',';
-    put(&both, "", 0), put_chosen(&both, header, arguments[1]);
-    const char *lenient = strstr(both.at, " | ");
-    put(to, both.at, (size_t)(lenient - both.at));
-    if (strlen(lenient + 2) != to->len || memcmp(to->at, lenient + 2, to->len) != 0) put_word(to, lenient);
-    free(header.at), free(both.at);
-}
-
-/* The tags as spans of the text that has them, and one that reaches out of it. */
-static void answer_best(text *to, const text *arguments) {
-    text header = arguments[0], words = arguments[1];
-    langtag_span tags[64];
+/* The tags of a text as spans of it, and one more that reaches out of it. */
+static size_t find_tags(text words, langtag_span *tags) {
     size_t count = 0;
-    for (size_t at = 0; at < words.len && count < 63;) {
+    for (size_t at = 0; at < words.len && count < MOST_TAGS - 1;) {
         const char *blank = memchr(words.at + at, ' ', words.len - at);
         size_t end = blank ? (size_t)(blank - words.at) : words.len;
         if (end > at) tags[count++] = (langtag_span){at, end - at};
         at = end + 1;
     }
     tags[count] = (langtag_span){words.len, SIZE_MAX};
-    size_t index = langtag_best_for_header(header.at, header.len, words.at, words.len, tags, count);
+    return count;
+}
+
+typedef size_t choice(const char *header, size_t header_len, const char *bytes, size_t len, const langtag_span *tags, size_t count);
+
+static void put_tag(text *to, text words, const langtag_span *tags, size_t count, size_t index) {
     if (index < count) put_bytes(to, words.at + tags[index].start, tags[index].len);
     else put_word(to, index == count ? " -" : " beyond the tags");
-    size_t again = langtag_best_for_header(header.at, header.len, words.at, words.len, tags, count + 1);
+}
+
+/* The tag that a call chooses, also beside a span out of the text. */
+static void put_chosen(text *to, choice *choose, text header, text words) {
+    langtag_span tags[MOST_TAGS];
+    size_t count = find_tags(words, tags);
+    size_t index = choose(header.at, header.len, words.at, words.len, tags, count);
+    put_tag(to, words, tags, count, index);
+    size_t again = choose(header.at, header.len, words.at, words.len, tags, count + 1);
     if (again != (index < count ? index : count + 1)) put_word(to, " but another beside a span out of the text");
 }
 
+/* Strictly: the tag, or which element is bad. */
+static void put_strictly(text *to, text header, text words) {
+    langtag_span tags[MOST_TAGS], bad;
+    size_t count = find_tags(words, tags), index, commas = 0;
+    uint32_t answer = langtag_tag_for_header(header.at, header.len, words.at, words.len, tags, count, &index, &bad);
+    if (answer == LANGTAG_ACCEPTED_END) {
+        put_tag(to, words, tags, count, index);
+        if (bad.start != header.len || bad.len != 0) put_word(to, " and a bad element");
+        return;
+    }
+    for (size_t at = 0; at < bad.start; at++) commas += header.at[at] == ',';
+    put_number(to, " bad", commas), put_number(to, "", bad.start);
+    put_word(to, answer == LANGTAG_ACCEPTED_BAD_RANGE ? " range" : answer == LANGTAG_ACCEPTED_BAD_WEIGHT ? " weight" : " unknown");
+    if (index != count || memchr(header.at + bad.start, ',', bad.len) || (bad.start + bad.len < header.len && header.at[bad.start + bad.len] != ','))
+        put_word(to, " and another element");
+}
+
+static void answer_header(text *to, const text *arguments) {
+    put_strictly(to, arguments[0], arguments[1]);
+    put_word(to, " |"), put_chosen(to, langtag_tag_for_header_lenient, arguments[0], arguments[1]);
+}
+
+/* Ranges are a header with commas between, each without its "-*". */
+static void answer_ranges(text *to, const text *arguments) {
+    text header = {NULL, 0, 0};
+    put(&header, "", 0);
+    for (size_t at = 0; at < arguments[0].len; at++) {
+        const char *here = arguments[0].at + at;
+        if (*here == '-' && at + 1 < arguments[0].len && here[1] == '*') at++;
+        else put(&header, *here == ' ' ? "," : here, 1);
+    }
+    put_chosen(to, langtag_tag_for_header_lenient, header, arguments[1]);
+    free(header.at);
+}
+
+static void answer_best(text *to, const text *arguments) { put_chosen(to, langtag_best_for_header, arguments[0], arguments[1]); }
+
 call calls[] = {
-    {"tag", 1, answer_tag, 0},
-    {"validity", 1, answer_validity, 0},
-    {"canonical", 1, answer_canonical, 0},
-    {"maximized", 1, answer_maximized, 0},
-    {"minimized", 1, answer_minimized, 0},
-    {"posix", 1, answer_posix, 0},
-    {"right-to-left", 1, answer_right_to_left, 0},
-    {"distance", 2, answer_distance, 0},
-    {"grandfathered", 1, answer_grandfathered, 0},
-    {"viable", 1, answer_viable, 0},
-    {"refused", 1, answer_refused, 0},
-    {"range", 1, answer_range, 0},
-    {"scan", 1, answer_scan, 0},
-    {"recommended", 1, answer_recommended, 0},
-    {"match", 2, answer_match, 0},
-    {"order", 2, answer_order, 0},
-    {"edit", 3, answer_edit, 0},
-    {"header", 2, answer_header, 0},
-    {"ranges", 2, answer_ranges, 0},
-    {"best", 2, answer_best, 0},
-    {NULL, 0, NULL, 0},
+    {"tag", answer_tag, 0, 0},
+    {"validity", answer_validity, 0, 0},
+    {"canonical", answer_canonical, 0, 0},
+    {"maximized", answer_maximized, 0, 0},
+    {"minimized", answer_minimized, 0, 0},
+    {"posix", answer_posix, 0, 0},
+    {"right-to-left", answer_right_to_left, 0, 0},
+    {"distance", answer_distance, 0, 0},
+    {"grandfathered", answer_grandfathered, 0, 0},
+    {"viable", answer_viable, 0, 0},
+    {"refused", answer_refused, 0, 0},
+    {"range", answer_range, 0, 0},
+    {"scan", answer_scan, 0, 0},
+    {"recommended", answer_recommended, 0, 0},
+    {"match", answer_match, 0, 0},
+    {"order", answer_order, 0, 0},
+    {"edit", answer_edit, 0, 0},
+    {"header", answer_header, 0, 0},
+    {"ranges", answer_ranges, 0, 0},
+    {"best", answer_best, 0, 0},
+    {NULL, NULL, 0, 0},
 };

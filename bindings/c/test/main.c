@@ -1,7 +1,7 @@
 /*
- * Tests of the C interface: test FILE FLOOR .. asks the rows of each file, of which there have to be as many as its floor,
- * and tests by hand what they do not have, the edges of inputs and what stays as it was. test --answer answers the calls of
- * the standard input.
+ * Tests of the C interface: test CALLS FILE FLOOR .. asks the rows of each file, of which there have to be as many as its floor,
+ * and tests by hand what they do not have, the edges of inputs and what stays as it was. test --answer CALLS answers the calls
+ * of the standard input. CALLS is rows/calls.txt.
  */
 #include "check.h"
 #include "rows.h"
@@ -23,8 +23,10 @@ static void test_rows(const char *name, int floor) {
 }
 
 int main(int argc, char **argv) {
-    if (argc > 1 && strcmp(argv[1], "--answer") == 0) return ask_rows(stdin, "the standard input"), 0;
-    for (int k = 1; k + 1 < argc; k += 2) test_rows(argv[k], atoi(argv[k + 1]));
+    bool is_asked = argc > 1 && strcmp(argv[1], "--answer") == 0;
+    if (!read_calls(argv[argc > 1 ? 1 + is_asked : 0])) return printf("no table of calls\n"), 1;
+    if (is_asked) return ask_rows(stdin, "the standard input"), 0;
+    for (int k = 2; k + 1 < argc; k += 2) test_rows(argv[k], atoi(argv[k + 1]));
     for (const call *it = calls; it->name; it++)
         if (it->asked == 0) failures++, printf("no row asks %s\n", it->name);
     test_parse();

@@ -33,16 +33,16 @@ static void put_expanded(text *to, const char *line, size_t len) {
     }
 }
 
-/* Takes a word off a row, up to what separates words. */
-static text take_word(const char **row, const char *by) {
-    const char *end = strstr(*row, by);
+/* Takes a field off a row, up to the next bar. */
+static text take_field(const char **row) {
+    const char *end = strstr(*row, " | ");
     size_t len = end ? (size_t)(end - *row) : strlen(*row);
-    text word = {(char *)*row, len, len};
-    *row += end ? len + strlen(by) : len;
-    return word;
+    text field = {(char *)*row, len, len};
+    *row += end ? len + 3 : len;
+    return field;
 }
 
-/* The bytes of a word, in memory of their number, so that a sanitizer sees who reads behind them. */
+/* The bytes of a field, in memory of their number, so that a sanitizer sees who reads behind them. */
 static text argument_of(text word) {
     text out = {malloc(word.len ? word.len : 1), 0, word.len};
     const char *at = word.at, *end = at + word.len;
@@ -72,32 +72,18 @@ static void tell(const char *name, int line, const char *row, const char *wanted
     if (told++ < 3) printf("%s:%d: %.300s\n  wanted%.300s\n  found %.300s\n", name, line, row, wanted, found);
 }
 
-/* The calls whose fields stand between bars and that C has not. */
-static const char *const lacking[] = {"elements", "fallbacks", "filter"};
-
-/* The call of a row; a row of edits begins with the tag. One without a name where C has not the call. */
-static call *call_of(const char *row, const char *by, const char **rest) {
-    text name = take_word(rest, by);
-    call *found = call_named(name);
-    if (found->name || strcmp(by, " ") == 0) return found;
-    for (size_t k = 0; k < sizeof lacking / sizeof *lacking; k++)
-        if (strlen(lacking[k]) == name.len && memcmp(lacking[k], name.at, name.len) == 0) return found;
-    *rest = row;
-    return call_named((text){(char *)"edit", 4, 4});
-}
-
 /* Asks one row, with the lines that belong to it behind it. */
 static bool ask(const char *name, int line, const char *row, const char *more) {
-    const char *by = strstr(row, " | ") ? " | " : " ", *rest = row;
+    const char *rest = row;
     text arguments[ARGUMENTS], found = {NULL, 0, 0}, wanted = {NULL, 0, 0};
-    call *asked = call_of(row, by, &rest);
+    call *asked = call_named(take_field(&rest));
     if (!asked->name) return false;
-    for (int k = 0; k < asked->arguments; k++) arguments[k] = argument_of(take_word(&rest, by));
-    put(&found, "", 0), put(&wanted, by, rest[0] != '\0' ? 1 : 0);
+    for (int k = 0; k < asked->arguments; k++) arguments[k] = argument_of(take_field(&rest));
+    put(&found, "", 0), put(&wanted, " ", rest[0] != '\0' ? 1 : 0);
     put_word(&wanted, rest), put_word(&wanted, more);
     asked->answer(&found, arguments);
     bool is_asked = found.len > 0;
-    if (is_asked && wanted.len == 0) printf("%s%s%s\n", row, by[1] != '\0' ? " |" : "", found.at);
+    if (is_asked && wanted.len == 0) printf("%s |%s\n", row, found.at);
     else if (is_asked && (checks++, strcmp(found.at, wanted.at) != 0)) tell(name, line, row, wanted.at, found.at);
     asked->asked += is_asked;
     for (int k = 0; k < asked->arguments; k++) free(arguments[k].at);
@@ -111,6 +97,17 @@ static text read_all(FILE *file) {
     put(&out, "", 0);
     for (size_t got; (got = fread(piece, 1, sizeof piece, file)) > 0;) put(&out, piece, got);
     return out;
+}
+
+bool read_calls(const char *name) {
+    FILE *file = fopen(name, "r");
+    char word[64], line[256];
+    int count;
+    while (file && fgets(line, sizeof line, file))
+        if (sscanf(line, "%63s %d", word, &count) == 2 && count <= ARGUMENTS)
+            call_named((text){word, strlen(word), sizeof word})->arguments = count;
+    if (file) fclose(file);
+    return file != NULL;
 }
 
 int ask_rows(FILE *file, const char *name) {

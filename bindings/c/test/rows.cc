@@ -77,8 +77,8 @@ static std::string validity_of(const strings &asked) {
     const auto wrong = one->invalid_subtag();
     if (one->is_valid() != !wrong) return "is_valid says otherwise";
     if (!wrong) return "valid";
-    const std::string subtag(wrong->subtag), at = " " + std::to_string(wrong->offset) + " " + subtag;
-    if (wrong->subtag.data() != one->text().data() + wrong->offset) return "another offset than" + at;
+    const std::string subtag(wrong->subtag), at = " " + std::to_string(wrong->start) + " " + subtag;
+    if (wrong->subtag.data() != one->text().data() + wrong->start) return "another offset than" + at;
     const auto said = [&](const char *name, const char *what, const char *how) {
         const std::string message = std::string(what) + " " + subtag + " is " + how;
         return wrong->message() == message ? name + at : name + at + ", and says: " + wrong->message();
@@ -204,6 +204,9 @@ static std::string header_of(const strings &asked) {
     const langtag::accept_language accepted(asked[0]);
     const std::string found = found_or_default(accepted.look_up(tags_of(texts)));
     const auto bad = accepted.bad_element();
+    std::vector<langtag::range> ranges;
+    for (const auto &weighted : accepted.ranges()) ranges.push_back(weighted.range);
+    if (found_or_default(langtag::look_up(ranges, tags_of(texts))) != found) return "another tag by its ranges";
     if (!bad) return found + " | " + found;
     const char *part = bad->part == langtag::element_part::range    ? "range"
                        : bad->part == langtag::element_part::weight ? "weight"
@@ -290,31 +293,28 @@ static std::string best_of(const strings &asked) {
     return found_or_default(best);
 }
 
-static const struct call {
-    std::size_t arguments;
-    std::string (*answer)(const strings &asked); /* empty where C++ does not answer */
-} no_call = {0, nullptr};
-static const std::map<std::string, call> calls = {
-    {"tag", {1, tag_of}},
-    {"validity", {1, validity_of}},
-    {"canonical", {1, canonical_of}},
-    {"viable", {1, viable_of}},
-    {"range", {1, range_of}},
-    {"grandfathered", {1, grandfathered_of}},
-    {"scan", {1, scan_of}},
-    {"recommended", {1, recommended_of}},
-    {"match", {2, match_of}},
-    {"order", {2, order_of}},
-    {"edit", {3, edit_of}},
-    {"header", {2, header_of}},
-    {"ranges", {2, ranges_of}},
-    {"refused", {1, refused_of}},
-    {"maximized", {1, maximized_of}},
-    {"minimized", {1, minimized_of}},
-    {"right-to-left", {1, right_to_left_of}},
-    {"distance", {2, distance_of}},
-    {"posix", {1, posix_of}},
-    {"best", {2, best_of}},
+using answer = std::string (*)(const strings &asked); /* empty where C++ does not answer */
+static const std::map<std::string, answer> calls = {
+    {"tag", tag_of},
+    {"validity", validity_of},
+    {"canonical", canonical_of},
+    {"viable", viable_of},
+    {"range", range_of},
+    {"grandfathered", grandfathered_of},
+    {"scan", scan_of},
+    {"recommended", recommended_of},
+    {"match", match_of},
+    {"order", order_of},
+    {"edit", edit_of},
+    {"header", header_of},
+    {"ranges", ranges_of},
+    {"refused", refused_of},
+    {"maximized", maximized_of},
+    {"minimized", minimized_of},
+    {"right-to-left", right_to_left_of},
+    {"distance", distance_of},
+    {"posix", posix_of},
+    {"best", best_of},
 };
 
 /* A line with each {N:piece} written out. */
@@ -350,26 +350,27 @@ static std::string join(const strings &words, std::size_t from, const std::strin
 static std::map<std::string, int> times_asked;
 static int differing;
 
-/* The calls whose fields stand between bars; a row of edits has them too, and begins with the tag. */
-static bool has_bars(const std::string &call) {
-    static const strings names = {"header", "ranges", "best", "elements", "fallbacks", "filter"};
-    return std::find(names.begin(), names.end(), call) != names.end();
+/* How many arguments each call has, from rows/calls.txt. */
+static std::map<std::string, std::size_t> counts;
+
+static void read_counts(const char *name) {
+    std::ifstream file(name);
+    for (std::string line; std::getline(file, line);)
+        if (!line.empty() && line[0] != '#') counts[line.substr(0, line.find(' '))] = std::stoul(line.substr(line.find(' ')));
 }
 
 /* Asks one row, the lines that belong to it behind it. */
 static bool ask(const std::string &place, const std::string &row, const std::string &more) {
-    const std::string by = row.find(" | ") == row.npos ? " " : " | ";
-    strings words = split(row, by);
-    if (by != " " && !has_bars(words[0])) words.insert(words.begin(), "edit");
-    const auto found_call = calls.find(words[0]);
-    const call &call = found_call == calls.end() ? no_call : found_call->second;
-    if (!call.answer) return false;
+    const strings fields = split(row, " | ");
+    const auto call = calls.find(fields[0]);
+    if (call == calls.end()) return false;
+    const std::size_t count = counts.at(fields[0]);
     strings asked;
-    for (std::size_t k = 1; k <= call.arguments; k++) asked.push_back(unescape(words.at(k)));
-    const std::string wanted = join(words, call.arguments + 1, by) + more, found = call.answer(asked);
+    for (std::size_t k = 1; k <= count; k++) asked.push_back(unescape(fields.at(k)));
+    const std::string wanted = join(fields, count + 1, " | ") + more, found = call->second(asked);
     if (found.empty()) return false;
-    times_asked[words[0]]++;
-    if (wanted.empty()) std::cout << row << by << found << "\n";
+    times_asked[fields[0]]++;
+    if (wanted.empty()) std::cout << row << " | " << found << "\n";
     else if (found != wanted && ++differing <= 3)
         std::cout << place << ": " << row.substr(0, 300) << "\n  wanted " << wanted.substr(0, 300) << "\n  found  "
                   << found.substr(0, 300) << "\n";
@@ -393,7 +394,8 @@ static int ask_all(const char *name) {
 
 int main(int count, char **arguments) {
     int failures = 0;
-    for (int k = 1; k + 1 < count; k += 2) {
+    read_counts(count > 1 ? arguments[1] : "");
+    for (int k = 2; k + 1 < count; k += 2) {
         const int asked = ask_all(arguments[k]), floor = std::stoi(arguments[k + 1]);
         std::cout << arguments[k] << ": " << asked << " rows\n";
         if (asked < floor) failures++, std::cout << "at least " << floor << " were to be asked\n";

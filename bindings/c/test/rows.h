@@ -19,15 +19,17 @@ void put_word(text *to, const char *word);
 /* A call of the rows. Its answer is put as the rows have it, with a blank before each word; none where C has none. */
 typedef struct call {
     const char *name;
-    int arguments;
     void (*answer)(text *to, const text *arguments);
-    int asked;
+    int arguments, asked;
 } call;
 
 enum { ARGUMENTS = 3 };
 
 /* Every call, and after them one without a name. */
 extern call calls[];
+
+/* Reads how many arguments each call has, from rows/calls.txt. False where the file is not there. */
+bool read_calls(const char *name);
 
 /* Asks each row, counts those that differ as failures, and tells three of them; a row without an answer is written with
  * one. Returns how many rows were asked. */

@@ -109,14 +109,38 @@ static void check_keys() {
     CHECK(!one->with({{langtag::part::script, "Latin"}, {langtag::part::region, "AT"}}) && one->with({}) == "de-CH");
 }
 
+/* A map of tags is asked by what need not own a text. */
+static void check_lookups() {
+    std::map<langtag::owned_tag, int, std::less<>> owners;
+    std::map<tag, int, std::less<>> views;
+    for (const char *text : {"de", "zh", "zh-Hant"}) {
+        owners.emplace(*langtag::owned_tag::parse(text), static_cast<int>(owners.size()));
+        views.emplace(*tag::parse(text), static_cast<int>(views.size()));
+    }
+    const std::string name = "ZH-hant";
+    const auto one = tag::parse(name);
+    const langtag::owned_tag owned(*one);
+    CHECK(owners.find("ZH")->second == 1 && owners.find(name)->second == 2 && owners.find(std::string_view(name))->second == 2);
+    CHECK(owners.find(*one)->second == 2 && owners.find(owned)->second == 2 && owners.count("zh-Han") == 0 && owners.count("") == 0);
+    CHECK(views.find("DE")->second == 0 && views.find(owned)->second == 2 && views.count(std::string("d")) == 0);
+    CHECK(owners.lower_bound("zh-a")->second == 2 && owned == *one && *one == owned && owned < "zh" && "zh" > owned && *one <= owned && !(owned != *one));
+    CHECK(owned.is_valid() && owned.is_canonical() && owned.kind() == langtag::kind::normal && !owned.is_right_to_left());
+    const auto other = *langtag::owned_tag::parse("iw-FQ");
+    CHECK(!other.is_valid() && !other.is_canonical() && other.is_right_to_left() && other.canonical() == "he-FQ");
+    CHECK(owned.maximized() == "ZH-hant-TW" && owned.minimized() == "ZH-TW" && !langtag::owned_tag::parse("qt")->is_valid());
+}
+
 static void check_refused() {
     const auto shown = [](std::string_view text) {
         const auto found = langtag::refused(text);
         return found ? std::string(found->subtag) + ' ' + std::to_string(found->offset) + ' ' + found->message() : "a tag";
     };
-    CHECK(shown("de-419-DE") == "DE 7 DE does not fit there" && shown("de-DE") == "a tag");
-    CHECK(shown("de_CH") == "de_CH 2 de_CH has a byte that is no letter and no digit");
-    CHECK(shown("de--AT") == " 3 a subtag is empty" && shown("en-a") == " 4 it ends too soon" && shown({}) == " 0 it ends too soon");
+    CHECK(shown("de-419-DE") == "DE 7 unexpected subtag 'DE'" && shown("de-DE") == "a tag");
+    const auto byte = langtag::refused("zh-de_CH");
+    CHECK(byte && byte->start == 3 && byte->offset == 5 && byte->subtag == "de_CH");
+    CHECK(tag::parse("de-1996-FQ") == std::nullopt && tag::parse("de-FQ")->invalid_subtag()->start == 3);
+    CHECK(shown("de_CH") == "de_CH 2 invalid character '_': expected a letter, a digit or a hyphen");
+    CHECK(shown("de--AT") == " 3 empty subtag" && shown("en-a") == " 4 unexpected end: expected a subtag" && shown({}) == " 0 unexpected end: expected a subtag");
 }
 
 static void check_likely() {
@@ -172,6 +196,7 @@ int main() {
     check_views();
     check_walks();
     check_keys();
+    check_lookups();
     check_refused();
     check_likely();
     check_lists();

@@ -1,6 +1,6 @@
 /* What the page shows of the texts that are typed: by textContent alone, so that each stands there as a text. */
 import {
-    AcceptLanguage, AcceptLanguageError, bestForHeader, distance, InvalidTag, LanguageRange, LanguageTag, REGISTRY_DATE, tagForHeaderLenient,
+    AcceptLanguage, AcceptLanguageError, bestForHeader, describe, distance, InvalidTag, LanguageRange, LanguageTag, REGISTRY_DATE, tagForHeaderLenient,
 } from "../index.js";
 
 const find = (id) => document.getElementById(id);
@@ -39,12 +39,14 @@ function partsOf(tag) {
     return parts.filter((part) => part.text);
 }
 
-/** Shows pieces of a text, each with its name below it. */
-function showPieces(place, pieces) {
-    place.replaceChildren(...pieces.map(([text, className, name], index) => {
-        const isJoined = index > 0 && className !== "refused" && className !== "plain";
-        return made("span", `part ${className}`, isJoined ? "-" : "", made("b", "", short(text)), made("small", "", name));
-    }));
+/** Shows a text as it is typed, in pieces with classes; those without a class stand between them. */
+function showPieces(id, pieces) {
+    find(id).replaceChildren(...pieces.filter(([text]) => text !== "").map(([text, className]) => (className ? made("b", className, short(text)) : short(text))));
+}
+
+/** A piece of which some is wrong, as three pieces. */
+function markedIn(text, className, begin, end) {
+    return [[text.slice(0, begin), className], [text.slice(begin, end), `${className} invalid`], [text.slice(end), className]];
 }
 
 /** What may stand behind a front of a text: the part that it is of, whether it is all of the part, and an example. */
@@ -69,10 +71,9 @@ function couldStand(front) {
     }).map(([told, , , example]) => `${told}: ${example}`);
 }
 
-/** Shows a text of which some of it is refused, or what is missing at its end. */
-function showBroken(id, text, begin, end, name) {
-    const pieces = [[text.slice(0, begin), "plain", ""], [text.slice(begin, end) || "…", "refused", name], [text.slice(end), "plain", ""]];
-    showPieces(find(id), pieces.filter(([piece]) => piece !== ""));
+/** Shows a text of which some is refused, or that something is missing. */
+function showBroken(id, text, begin, end) {
+    showPieces(id, [[text.slice(0, begin)], [text.slice(begin, end) || "…", "refused"], [text.slice(end)]]);
 }
 
 /** The character at an offset, of one unit or two; "" at the end. */
@@ -80,8 +81,10 @@ const characterAt = (text, offset) => (offset < text.length ? String.fromCodePoi
 
 function showRefused(text, error) {
     const refused = /^[0-9a-z]+$/i.test(error.subtag ?? "") ? error.subtag : ""; // else one character of it
-    showBroken("tag-text", text, error.offset, error.offset + (refused || characterAt(text, error.offset)).length, "refused");
-    find("tag-summary").textContent = text === "" ? "Type a text." : `Not a tag: ${error.reason}.`;
+    const place = [...text.slice(0, error.offset)].length + 1; // as people count
+    if (text === "") find("tag-text").replaceChildren();
+    else showBroken("tag-text", text, error.offset, error.offset + (refused || error.subtag && characterAt(text, error.offset) || "").length);
+    find("tag-summary").textContent = text === "" ? "Type a tag." : `Not a tag: ${error.reason}${error.offset < text.length ? ` (character ${place})` : ""}.`;
     const front = text.slice(0, text.slice(0, error.offset).lastIndexOf("-") + 1);
     find("tag-could").hidden = false;
     find("tag-could").querySelector("ul").replaceChildren(...couldStand(front).map((it) => made("li", "", it)));
@@ -106,21 +109,22 @@ function showTag() {
     const validity = wrong === undefined ? "valid" : `not valid: ${wrong}`;
     find("tag-summary").textContent = `A tag, ${validity}, by IANA's registry of ${REGISTRY_DATE}.`;
     let end = 0;
-    showPieces(find("tag-text"), parts.map((part) => {
+    showPieces("tag-text", parts.flatMap(({ text: part, className }) => {
         const begin = end;
-        end += part.text.length + 1;
-        const isWrong = wrong !== undefined && begin <= wrong.offset && wrong.offset < end;
-        return [part.text, isWrong ? `${part.className} invalid` : part.className, isWrong ? `${part.name}, not valid` : part.name];
+        end += part.length + 1;
+        const isWrong = wrong !== undefined && begin <= wrong.start && wrong.start < end;
+        const shown = isWrong ? markedIn(part, className, wrong.start - begin, wrong.start - begin + wrong.subtag.length) : [[part, className]];
+        return begin === 0 ? shown : [["-"], ...shown];
     }));
     find("tag-parts").tBodies[0].replaceChildren(...parts.map((part) =>
         made("tr", "", made("th", part.className, part.name), cell(part.text, `code ${part.className}`), cell(`section ${part.section}`))));
     for (const head of find("tag-parts").tBodies[0].querySelectorAll("th")) head.scope = "row";
     const forms = [
-        ["Kind", tag.kind], ["Validity", validity], ["Recommended case", tag.toRecommended()], ["Canonical form", tag.canonical()],
+        ["Name", describe(tag), "words"], ["Kind", tag.kind, "words"], ["Validity", validity, "words"], ["Recommended case", tag.toRecommended()], ["Canonical form", tag.canonical()],
         ["With likely subtags", tag.maximize()], ["Without them", tag.minimize()],
-        ["Written", tag.isRightToLeft ? "from right to left" : "from left to right"],
+        ["Written", tag.isRightToLeft ? "from right to left" : "from left to right", "words"],
     ];
-    find("tag-forms").replaceChildren(...forms.flatMap(([name, form]) => [made("dt", "", name), made("dd", "", short(String(form)))]));
+    find("tag-forms").replaceChildren(...forms.flatMap(([name, form, className]) => [made("dt", "", name), made("dd", className, short(String(form)))]));
 }
 
 /** The tags at hand; words that are none are told, and left out. */
@@ -152,14 +156,14 @@ function showHeader(tags) {
     } catch (error) {
         if (!(error instanceof AcceptLanguageError)) throw error;
         const end = `${header},`.indexOf(",", error.offset);
-        showBroken("header-text", header, error.offset, end, `bad ${error.part}`);
-        told = `A strict reader refuses it: ${error.message}. A lenient one passes that over. `;
+        showBroken("header-text", header, error.offset, end);
+        told = ` Element ${error.index + 1} has a bad ${error.part}: the best tag reads it as what it means, and look-up passes it over.`;
     }
     find("header").setAttribute("aria-invalid", String(told !== ""));
-    const found = chosen === undefined ? "By look-up (RFC 4647) it finds none of the tags" : `By look-up (RFC 4647) it finds ${short(chosen.text)}`;
     const best = bestForHeader(header, tags);
-    const nearest = best === undefined ? "by distance (UTS #35) none" : `by distance (UTS #35) ${short(best.text)}`;
-    find("header-summary").textContent = `${told}${found}, ${nearest}.`;
+    const name = (tag) => (tag === undefined ? "none of the tags" : short(tag.text));
+    const differs = best === chosen ? "" : " Use the best tag, unless you have to follow RFC 4647.";
+    find("header-summary").textContent = `The best tag is ${name(best)}, by language distance. Look-up (RFC 4647) finds ${name(chosen)}.${differs}${told}`;
 }
 
 function showRange(tags) {

@@ -81,9 +81,9 @@ function answerValidity(text) {
     const wrong = tag.invalidSubtag;
     assert(tag.isValid === (wrong === undefined), "valid");
     if (wrong === undefined) return "valid";
-    assert(text.startsWith(wrong.subtag, wrong.offset), "the subtag");
+    assert(text.startsWith(wrong.subtag, wrong.start), "the subtag");
     assert(String(wrong) === FAULTS[wrong.fault].replace("SUBTAG", wrong.subtag), String(wrong));
-    return `${wrong.fault} ${wrong.offset} ${wrong.subtag}`;
+    return `${wrong.fault} ${wrong.start} ${wrong.subtag}`;
 }
 
 function answerCanonical(text) {
@@ -150,6 +150,7 @@ function answerHeader(header, list) {
     }
     const lenient = String(tagForHeaderLenient(header, tags, DEFAULT));
     assert(tagForHeaderLenient(header, new Set(texts), DEFAULT) === lenient, "the tag of texts");
+    assert(String(lookUp(AcceptLanguage.lenient(header).ranges.map((it) => it.range), tags, DEFAULT)) === lenient, "the tag of its ranges");
     return `${strict} | ${lenient}`;
 }
 

@@ -58,10 +58,9 @@ const skip = program === undefined && "CHROMIUM names no program";
 for (const [name, floor] of Object.entries(FLOORS)) {
     test(`${name} in a page`, { skip }, async () => {
         const found = await browser.value(`(async () => {
-            const [{ ask }, { adapted, answers }, response] = await Promise.all([
-                import("/package/test/rows.js"), import("/package/test/answers.js"), fetch("/rows/${name}")]);
-            const content = await response.text();
-            return ask("${name}", content, ${floor}, answers, adapted);
+            const [{ ask, counts }, { adapted, answers }, response, calls] = await Promise.all([
+                import("/package/test/rows.js"), import("/package/test/answers.js"), fetch("/rows/${name}"), fetch("/rows/calls.txt")]);
+            return ask("${name}", await response.text(), counts(await calls.text()), ${floor}, answers, adapted);
         })()`);
         console.log(`${name}: ${found.count} rows`);
         assert.deepEqual(found.differing, []);

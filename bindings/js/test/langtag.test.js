@@ -21,7 +21,7 @@ WebAssembly.Instance = function (...given) {
     return made;
 };
 const folder = mkdtempSync(join(tmpdir(), "langtag-"));
-for (const name of ["package.json", "index.js", "calls.js", "module.js"]) cpSync(new URL(`../${name}`, import.meta.url), join(folder, name));
+for (const name of ["package.json", "index.js", "calls.js", "module.js", "names.js"]) cpSync(new URL(`../${name}`, import.meta.url), join(folder, name));
 const other = await import(pathToFileURL(join(folder, "index.js")));
 rmSync(folder, { recursive: true });
 const calls = await import("../calls.js?watched");
@@ -95,9 +95,9 @@ test("texts that are refused, of any units", () => {
 });
 
 test("where a text is refused", () => {
-    for (const [text, subtag, offset, reason] of [["de-419-DE", "DE", 7, '"DE" can\'t stand at 7'], ["de_CH", "de_CH", 2, 'no subtag has the "_" at 2'],
-        ["en-", undefined, 3, "it ends too soon"], ["en-a", undefined, 4, "it ends too soon"], ["i", undefined, 1, "it ends too soon"],
-        ["en--us", "", 3, "a subtag is empty at 3"], ["de-\u{1f600}", "\u{1f600}", 3, 'no subtag has the "\u{1f600}" at 3']]) {
+    for (const [text, subtag, offset, reason] of [["de-419-DE", "DE", 7, 'unexpected subtag "DE"'], ["de_CH", "de_CH", 2, 'invalid character "_": expected a letter, a digit or a hyphen'],
+        ["en-", undefined, 3, "unexpected end: expected a subtag"], ["en-a", undefined, 4, "unexpected end: expected a subtag"], ["i", undefined, 1, "unexpected end: expected a subtag"],
+        ["en--us", "", 3, "empty subtag"], ["de-\u{1f600}", "\u{1f600}", 3, 'invalid character "\u{1f600}": expected a letter, a digit or a hyphen']]) {
         const error = thrown(() => LanguageTag.parse(text));
         assert.deepEqual([error.subtag, error.offset, error.reason], [subtag, offset, reason]);
         assert.equal(error.start, text === "de_CH" ? 0 : offset);
@@ -160,6 +160,27 @@ test("what is no text is a TypeError", () => {
     assert.throws(() => LanguageTag.from({ script: "Latn" }), TypeError);
 });
 
+test("static calls need no this", () => {
+    const { parse, canParse, from, fromPosix, compare } = LanguageTag, { parse: range } = LanguageRange, { parse: strict, lenient } = AcceptLanguage;
+    assert.deepEqual(["de", "EN"].map(LanguageTag.parse).map(String), ["de", "EN"]);
+    assert.deepEqual(["*-CH", "de"].map(LanguageRange.parse).map(String), ["*-CH", "de"]);
+    assert.deepEqual(["de", "de_"].map(canParse), [true, false]);
+    assert.deepEqual([parse("de"), from({ language: "de" }), fromPosix("de_CH.UTF-8"), range("de-*")].map(String), ["de", "de", "de-CH", "de-*"]);
+    assert.equal(compare("de", "en"), -1);
+    for (const read of [strict, lenient]) assert.equal(read("fr, de").best(["de"]), "de");
+    assert.deepEqual(["fr, de", "de, fr"].map(AcceptLanguage.lenient).map((it) => it.lookUp(["de", "fr"])), ["fr", "de"]);
+});
+
+test("one text is no list", () => {
+    for (const one of ["de", ""]) {
+        for (const call of HEADER_CALLS) assert.throws(() => call("de", one), { name: "TypeError", message: "a list of tags is wanted, and this is of type string" });
+        assert.throws(() => lookUp(one, ["de"]), { name: "TypeError", message: "a list of ranges is wanted, and this is of type string" });
+        assert.throws(() => lookUp(["de"], one), TypeError);
+        assert.throws(() => bestForRanges(one, ["de"]), TypeError);
+        assert.throws(() => bestForRanges(["de"], one), TypeError);
+    }
+});
+
 test("equality and order", () => {
     const tag = LanguageTag.parse("zh-Hant");
     assert.ok(tag.equals(LanguageTag.parse("ZH-HANT")) && tag.equals("zh-hant") && !tag.equals("zh") && !tag.equals("zh_Hant"));
@@ -182,6 +203,21 @@ test("texts, JSON and clones", () => {
     assert.deepEqual(structuredClone(tag), { text: "ZH-hant" });
     assert.ok(LanguageTag.parse(structuredClone(tag)).equals(tag) && LanguageTag.parse(JSON.parse(JSON.stringify(tag))).equals(tag));
     assert.deepEqual([String(LanguageTag.parse("EN-ca-X-CA").toRecommended()), LanguageTag.parse("EN-ca-X-CA").toFolded()], ["en-CA-x-ca", "en-ca-x-ca"]);
+});
+
+test("names", () => {
+    for (const [text, name] of [
+        ["pt-BR", "Portuguese (Brazil)"], ["sr-Latn", "Serbian (Latin)"], ["zh-yue-HK", "Yue Chinese (Hong Kong)"], ["yue", "Yue Chinese"],
+        ["ZH-hant-tw", "Chinese (Han [Traditional variant], Taiwan, Province of China)"], ["el", "Modern Greek (1453-)"], ["ms", "Malay"],
+        ["es-419", "Spanish (Latin America and the Caribbean)"], ["fil", "Filipino"], ["i-klingon", "Klingon"], ["ART-lojban", "Lojban"],
+        ["x-a", "x-a"], ["de-1996-u-co-phonebk-x-mine", "German (German orthography of 1996, u-co-phonebk, x-mine)"],
+        ["sgn-ase", "sgn-ase"], ["qt-FQ-1997", "qt (FQ, 1997)"], ["aaa-Qaaa", "aaa (Qaaa)"], ["und-a-bb-A-cc", "Undetermined (a-bb)"],
+    ]) {
+        assert.equal(langtag.describe(text), name);
+        assert.equal(langtag.describe(LanguageTag.parse(text)), name);
+    }
+    assert.throws(() => langtag.describe("de_CH"), InvalidTag);
+    for (const code of ["aa", "de", "iw", "zu"]) assert.notEqual(langtag.describe(code), code);
 });
 
 test("edits", () => {
@@ -234,7 +270,7 @@ test("a range, a tag or a text of a megabyte", () => {
     assert.equal(String(tag.canonical()), long);
     assert.equal(String(LanguageTag.parse(`ja${"-heploc".repeat(50)}`).canonical()), `ja${"-alalc97".repeat(50)}`);
     assert.equal(String(tag.with({ region: "CH" })).length, long.length + 3);
-    assert.equal(tag.invalidSubtag.offset, 3);
+    assert.equal(tag.invalidSubtag.start, 3);
     assert.throws(() => LanguageTag.parse(`${long}_`), (error) => error.viable === long.length && error.message.length < 300);
     assert.equal(LanguageRange.parse(long).matchesBasic(tag), true);
     const header = `${"nl, ".repeat(100_000)}fr`;

@@ -53,7 +53,7 @@ function same(name, texts, more) {
 }
 
 for (const line of readFileSync(process.argv[2], "latin1").split("\n")) {
-    const [call, ...words] = line.split(" ");
+    const [call, ...words] = line.split(" | ");
     const texts = words.map((word) => (word === "''" ? [] : Buffer.from(word.replace(/\\x(..)/g, (_, it) => String.fromCharCode(Number.parseInt(it, 16))), "latin1")));
     if (call === "tag") for (const [name, more] of Object.entries(ONE)) same(name, texts, more);
     if (call === "match") {

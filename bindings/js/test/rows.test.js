@@ -3,13 +3,14 @@ import assert from "node:assert/strict";
 import { readFileSync } from "node:fs";
 import test from "node:test";
 import { adapted, answers, FLOORS } from "./answers.js";
-import { ask } from "./rows.js";
+import { ask, counts } from "./rows.js";
 
 const FOLDER = new URL("../../../rows/", import.meta.url);
+const calls = counts(readFileSync(new URL("calls.txt", FOLDER), "latin1"));
 const asked = {};
 
 function askFile(name, content, floor) {
-    const found = ask(name, content, floor, answers, adapted);
+    const found = ask(name, content, calls, floor, answers, adapted);
     for (const [call, count] of Object.entries(found.asked)) asked[call] = (asked[call] ?? 0) + count;
     console.log(`${name}: ${found.count} rows`);
     assert.ok(found.differing.length === 0, `${found.differing.slice(0, 3).join("\n")}\n${found.differing.length} differ`);

@@ -47,6 +47,12 @@ CREATE INDEX ON texts (t, tag);
 SET enable_seqscan = off; SET enable_bitmapscan = off;
 EXPLAIN (COSTS OFF) SELECT * FROM texts WHERE t = 'd' AND tag <@ 'de';
 RESET enable_seqscan; RESET enable_bitmapscan;
+-- Ranges of any length, by the index as without it
+CREATE TABLE long AS SELECT ('de-x-' || repeat('abcdefgh-', k) || 'a')::langtag AS tag FROM generate_series(1, 40) AS k; CREATE INDEX ON long (tag);
+SET enable_seqscan = off; SET enable_bitmapscan = off;
+SELECT string_agg(found::text, ' ' ORDER BY k) FROM generate_series(1, 40) AS k, LATERAL (SELECT count(*) AS found FROM long WHERE tag ~ ('de-*-x-' || repeat('abcdefgh-', k) || 'a')::langtag_range) s;
+SELECT string_agg(found::text, ' ' ORDER BY k) FROM generate_series(1, 40) AS k, LATERAL (SELECT count(*) AS found FROM long WHERE tag <@ ('DE-x-' || repeat('abcdefgh-', k) || 'a')::langtag_range) s;
+RESET enable_seqscan; RESET enable_bitmapscan; DROP TABLE long;
 -- Estimates by the column's statistics
 CREATE TABLE counted AS SELECT CASE WHEN k % 10 = 0 THEN 'de-CH' WHEN k % 10 < 4 THEN 'de-Latn-CH' ELSE 'fr' END::langtag AS tag FROM generate_series(1, 10000) AS k;
 ANALYZE counted;

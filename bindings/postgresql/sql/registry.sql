@@ -16,12 +16,32 @@ DROP TABLE t;
 SELECT tag_for_header_lenient('{en,de-CH,fr}', 'fr;q=0.3, DE-ch-1996;q=0.9'), tag_for_header_lenient('{en,NULL}', 'ja, *;q=0.1'), tag_for_header_lenient('{}', 'de'),
     tag_for_header_lenient('{de,fr}', 'fr_FR, de;q=0.1'), tag_for_header_lenient('{de}', 'fr;q=2, DE'), tag_for_header_lenient('{NULL,DE,de}', 'de'), tag_for_header_lenient('{de}', ''),
     tag_for_header_lenient('{de,fr}', 'fr;q=0.5, de;q=0.5');
+-- Texts in place of tags: the text is the answer, as it was given; a literal is an array of tags
+SELECT best_for_header(ARRAY['EN', 'zh-HANT', NULL], 'zh-TW'), pg_typeof(best_for_header(ARRAY['en'], 'en')), best_for_header('{EN,DE}', 'de'), pg_typeof(best_for_header('{en}', 'en')),
+    best_for_header('{EN,DE}', t), best_for_header(a, 'de'), best_for_header(a::langtag[], t), best_for_header(NULL::text[], t) FROM (VALUES (text 'de-CH', '{EN,DE}'::text[])) AS v(t, a);
+SELECT tag_for_header_lenient(ARRAY['EN', 'DE', NULL], 'de-CH'), pg_typeof(tag_for_header_lenient(ARRAY['en'], 'en')), tag_for_header_lenient('{EN,DE}', t), pg_typeof(tag_for_header_lenient('{en}', 'en')) FROM (VALUES (text 'de-CH')) AS v(t);
+SELECT best_for_header(ARRAY['en', 'de_CH'], 'en');
+SELECT tag_for_header_lenient(ARRAY['', 'de'], 'de');
+SELECT best_for_header('{en,de_CH}', 'en');
+SELECT best_for_header('en', 'en');
 -- Likely subtags
 SELECT t, maximized(t), minimized(t), is_right_to_left(t), distance(t, 'zh-TW') FROM unnest('{zh-hk,az-Arab,zh-Hant,und-US,i-klingon,x-a,en-Latn-US-u-co-phonebk}'::langtag[]) AS t;
+-- Names of locales
+SELECT n, from_posix(n) FROM unnest('{pt_BR.UTF-8,sr_RS@latin,C,POSIX,de,"",DE_ch}'::text[]) AS n;
 -- The best tag for a reader
 SELECT best_for_header('{en,NULL,de-CH,zh-Hant}', 'gsw'), best_for_header('{en,zh-Hant}', 'zh-TW;q=0.5'), best_for_header('{}', 'de');
 SELECT best_for_header('{de}', repeat('a', 9000));
 SELECT best_for_header(array_agg(CASE k WHEN 3 THEN 'de-CH' WHEN 200 THEN 'fr' ELSE 'x-a' END::langtag ORDER BY k), 'de-CH, fr;q=0.5') FROM generate_series(1, 200) AS k;
+-- A call ends soon after it is cancelled, of many tags and of long ones.
+CREATE FUNCTION ends_soon(query text) RETURNS boolean LANGUAGE plpgsql AS $$ DECLARE begun timestamptz := clock_timestamp(); BEGIN
+    EXECUTE query; RETURN clock_timestamp() < begun + '3 s'; EXCEPTION WHEN query_canceled THEN RETURN clock_timestamp() < begun + '3 s'; END $$;
+SET statement_timeout = '500ms';
+SELECT ends_soon($$SELECT best_for_header(array_agg(('zh-x-' || k)::langtag), repeat('no,', 2700)) FROM generate_series(1, 16000) AS k$$);
+SELECT ends_soon($$SELECT best_for_header((SELECT array_agg(('zh-x-' || repeat('abcdefgh-', 9000) || lpad(k::text, 3, '0'))::langtag) FROM generate_series(1, 64) AS k),
+    string_agg('zh;q=.' || lpad(k::text, 3, '0'), ',' ORDER BY k)) FROM generate_series(1, 740) AS k$$);
+SELECT ends_soon($$SELECT tag_for_header_lenient(array_agg(('x-' || k)::langtag), repeat('aa-', 60000) || 'de') FROM generate_series(1, 30000) AS k$$);
+RESET statement_timeout;
+DROP FUNCTION ends_soon;
 -- A dropped extension leaves nothing.
 DROP EXTENSION langtag CASCADE;
 SELECT count(*) FROM pg_proc WHERE proname ~ 'langtag';

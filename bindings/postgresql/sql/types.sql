@@ -46,6 +46,8 @@ SELECT 'de_CH'::text::langtag;
 SELECT castsource::regtype, casttarget::regtype, castcontext, castmethod FROM pg_cast
 WHERE castsource::regtype::text ~ 'langtag' OR casttarget::regtype::text ~ 'langtag' ORDER BY 1, 2;
 DROP TABLE casts;
+-- Rows of others: what is no tag is NULL, and does not end the statement.
+SELECT t, try_langtag(t), is_langtag(t) FROM unnest('{DE-ch,de_CH,"",NULL,x-A,i-klingon,en-}'::text[]) AS t;
 -- Long tags
 SELECT length(('x-' || repeat('abcdefgh-', 120000) || 'a')::langtag::text);
 CREATE TABLE long (tag langtag); INSERT INTO long SELECT ('x-' || repeat('abcdefgh-', 120000) || x)::langtag FROM unnest('{a,b,a}'::text[]) AS x;

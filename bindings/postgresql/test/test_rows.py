@@ -52,8 +52,12 @@ def text(data):
     return f"convert_from('\\x{data.hex()}'::bytea, 'UTF8')"
 
 
+def texts(data):
+    return "ARRAY[" + ",".join(text(tag) for tag in data.split() if tag != b"''") + "]::text[]"
+
+
 def tags(data):
-    return "ARRAY[" + ",".join(text(tag) for tag in data.split() if tag != b"''") + "]::text[]::langtag[]"
+    return texts(data) + "::langtag[]"
 
 
 def best(asked, names):
@@ -64,7 +68,13 @@ def best(asked, names):
 
 
 def header(asked, names):
-    return f"SELECT tag_for_header_lenient({tags(names)}, {text(asked)})::text"
+    return by_texts("tag_for_header_lenient", asked, names)
+
+
+def by_texts(function, asked, names):
+    """Asked of the tags, and of their texts."""
+    return (f"SELECT CASE WHEN a::text IS NOT DISTINCT FROM b::langtag::text THEN b ELSE 'differs as text' END FROM (SELECT {function}(tags::langtag[], asked) AS a, "
+            f"{function}(tags, asked) AS b FROM (SELECT {texts(names)} AS tags, {text(asked)} AS asked) s) t")
 
 
 def edit(tag, part, given):
@@ -75,7 +85,8 @@ def edit(tag, part, given):
 
 
 def ranges(asked, names):
-    return header(asked.replace(b" ", b", "), names) if b"*" not in asked and asked else None
+    """Ranges are a header with commas between, each without its "-*"."""
+    return header(asked.replace(b"-*", b"").replace(b" ", b", "), names) if asked else None
 
 
 # A call of the rows as a query; None where SQL has no answer.
@@ -95,9 +106,9 @@ QUERIES = {
     "maximized": lambda tag: f"SELECT maximized({text(tag)}::langtag)::text",
     "minimized": lambda tag: f"SELECT minimized({text(tag)}::langtag)::text",
     "distance": lambda desired, supported: f"SELECT distance({text(desired)}::langtag, {text(supported)}::langtag)::text",
+    "posix": lambda name: f"SELECT from_posix({text(name)})::text",
     "best": best, "header": header, "ranges": ranges, "edit": edit,
 }
-rows.CALLS.update({"best": 2, "distance": 2, "maximized": 1, "minimized": 1})
 NO_TAG = "22P02"
 HOW = {"t t": "both", "t f": "basic", "f t": "extended", "f f": "neither", NO_TAG: "neither"}
 # What SQL says, in the words of the rows.
@@ -107,6 +118,7 @@ ANSWERS = {
     "canonical": lambda said: "-" if said == NO_TAG else said.lower(),
     "maximized": lambda said: "-" if said == NO_TAG else said.lower(),
     "minimized": lambda said: "-" if said == NO_TAG else said.lower(),
+    "posix": str.lower,
     "range": lambda said: {NO_TAG: "none", "range true": "range"}.get(said, said),
     "match": lambda said: HOW.get(said, said),
     "order": lambda said: {"-1": "before", "0": "equal", "1": "after"}.get(said, said),
@@ -134,7 +146,7 @@ def adapted(row):
         return "before" if a != b and b.startswith(a) else "after" if a != b and a.startswith(b) else wanted
     if row.call == "header":
         return row.text.split(" | ")[-1].lower()
-    return wanted.lower() if row.call in ("canonical", "maximized", "minimized", "edit", "ranges", "best") else wanted
+    return wanted.lower() if row.call in ("canonical", "posix", "maximized", "minimized", "edit", "ranges", "best") else wanted
 
 
 def query(row):
@@ -181,7 +193,7 @@ class Rows(unittest.TestCase):
         self.ask("texts.txt", 500)
 
     def test_negotiation(self):
-        self.ask("negotiation.txt", 87)
+        self.ask("negotiation.txt", 95)
 
     def test_edits(self):
         self.ask("edits.txt", 110)
@@ -191,6 +203,9 @@ class Rows(unittest.TestCase):
 
     def test_distance(self):
         self.ask("distance.txt", 100)
+
+    def test_posix(self):
+        self.ask("posix.txt", 70)
 
     def test_choices(self):
         self.ask("choices.txt", 250)

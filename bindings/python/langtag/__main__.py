@@ -14,9 +14,9 @@ Asks language tags (BCP 47): the arguments, or else the lines of standard input.
 
   show [TAG..]          kind and parts: normal language=zh script= region=TW ..
   check [TAG..]         validity and canonical form: invalid region=FQ canonical=..
-  canonical [TAG..]     the canonical form: he of iw
-  maximize [TAG..]      with likely subtags: zh-Hant-TW of zh-TW
-  minimize [TAG..]      without likely subtags: zh-TW of zh-Hant-TW
+  canonical [TAG..]     the canonical form: iw becomes he
+  maximize [TAG..]      with likely subtags: zh-TW becomes zh-Hant-TW
+  minimize [TAG..]      without likely subtags: zh-Hant-TW becomes zh-TW
   best HEADER [TAG..]   the best tag for an Accept-Language header
   distance [A B]        how far B is from A: 0 is nearest, 255 is unknown
   match RANGE [TAG..]   the tags that a language range matches
@@ -221,15 +221,16 @@ def between(desired: bytes, supported: bytes, found: str, options: Options) -> A
 def why_refused(text: bytes) -> str:
     answer, start, length, offset = _backend.refused(text)
     subtag = shown(text[start : start + length])
-    why = {1: f"`{subtag}` does not fit there" if length else "a subtag is empty",
-           2: f"`{subtag}` has a byte that is no letter and no digit", 3: "it ends too soon"}[answer]
+    why = {1: f"unexpected subtag `{subtag}`" if length else "empty subtag",
+           2: f"invalid character `{shown(text[offset:])[:1]}`: expected a letter, a digit or a hyphen",
+           3: "unexpected end: expected a subtag"}[answer]
     marked = (offset, 1) if answer == 2 else (start, length)
     return f"`{shown(text)}` is not a language tag: {why}{underlined(text, *marked)}"
 
 
 def why_invalid(text: bytes, invalid: InvalidSubtag) -> str:
     words = str(invalid).replace("'", "")
-    return f"`{shown(text)}` is not valid: {words}{underlined(text, invalid.offset, len(invalid.subtag))}"
+    return f"`{shown(text)}` is not valid: {words}{underlined(text, invalid.start, len(invalid.subtag))}"
 
 
 def shown(text: bytes) -> str:
@@ -248,7 +249,7 @@ def underlined(text: bytes, start: int, length: int) -> str:
 
 
 def lines() -> Iterator[bytes | None]:
-    """The lines of standard input, and None before each read, which may wait. A line ends at LF alone."""
+    """The lines of standard input, and None before each read, which may wait. Only LF ends a line."""
     rest = b""
     while True:
         yield None

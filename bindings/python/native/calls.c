@@ -103,7 +103,7 @@ PyMethodDef lt_functions[] = {
     {"elements", elements, METH_O, NULL},
     {"registry_date", registry_date, METH_NOARGS, NULL},
     {"cldr_version", cldr_version, METH_NOARGS, NULL},
-    {"negotiate", lt_negotiate, METH_VARARGS, NULL},
+    {"tag_for_header", lt_tag_for_header, METH_VARARGS, NULL},
     {"distance", lt_distance, METH_VARARGS, NULL},
     {"is_right_to_left", lt_is_right_to_left, METH_O, NULL},
     {"from_posix", lt_from_posix, METH_O, NULL},

@@ -30,8 +30,7 @@ typedef struct {
     langtag_parts parts; /* of a Tag alone */
 } Value;
 
-/* Lets other threads run during a call on a long text: where a stranger sends megabytes, langtag_validity and
- * langtag_repeats may take seconds. */
+/* Lets other threads run during a call on a long text: if a stranger sends megabytes, langtag_repeats may take seconds. */
 #define LONG_TEXT 4096
 #define LET_GO(len) PyThreadState *others = (len) >= LONG_TEXT ? PyEval_SaveThread() : NULL
 #define TAKE_BACK() do { if (others) PyEval_RestoreThread(others); } while (0)
@@ -53,12 +52,15 @@ int lt_tag_init(PyObject *self, PyObject *arguments, PyObject *named);
 Value *lt_as_tag(PyObject *object, const char *message); /* NULL with the message where it is no Tag */
 void lt_refuse(PyObject *class, PyObject *from); /* a text that is no tag, with the exception of the class of tags */
 
+/* A choice among tags for a header, as langtag_best_for_header. */
+typedef size_t Choose(const char *header, size_t header_len, const char *bytes, size_t len, const langtag_span *tags, size_t count);
+
 #define FUNCTION(name) (PyCFunction)(void (*)(void))(name)
 
 extern PyType_Slot lt_value_slots[];
 extern PyGetSetDef lt_tag_members[], lt_range_members[];
 extern PyMethodDef lt_tag_methods[], lt_range_methods[], lt_functions[];
-PyObject *lt_negotiate(PyObject *module, PyObject *arguments);
+PyObject *lt_tag_for_header(PyObject *module, PyObject *arguments);
 PyObject *lt_distance(PyObject *module, PyObject *arguments);
 PyObject *lt_is_right_to_left(PyObject *module, PyObject *from);
 PyObject *lt_from_posix(PyObject *module, PyObject *from);

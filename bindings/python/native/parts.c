@@ -123,53 +123,52 @@ static PyObject *tag_grandfathered(PyObject *object, PyObject *unused) {
 PyGetSetDef lt_tag_members[] = {
     {"_data", lt_value_data, NULL, NULL, NULL},
     {"_kind", tag_kind, NULL, NULL, NULL},
-    {"language", tag_part, NULL, "The language of a normal tag, with its extended subtags: zh-yue.", (void *)0},
-    {"primary_language", tag_primary, NULL, "The primary language subtag of a normal tag: zh.", NULL},
-    {"extended_language", tag_extended, NULL, "The extended language subtags: ('yue',).", NULL},
-    {"script", tag_part, NULL, "The script: Hant.", (void *)1},
-    {"region", tag_part, NULL, "The region: HK, 419.", (void *)2},
-    {"variants", tag_variants, NULL, "The variants: ('rozaj', '1994').", NULL},
+    {"language", tag_part, NULL, "The primary language with its extended languages, such as zh-yue.", (void *)0},
+    {"primary_language", tag_primary, NULL, "The primary language only, such as zh.", NULL},
+    {"extended_language", tag_extended, NULL, "The extended languages, such as ('yue',).", NULL},
+    {"script", tag_part, NULL, "The script, such as Hant.", (void *)1},
+    {"region", tag_part, NULL, "The region, such as HK or 419.", (void *)2},
+    {"variants", tag_variants, NULL, "The variants, such as ('rozaj', '1994').", NULL},
     {"extensions", tag_extensions, NULL,
-     "The subtags of each extension by its singleton in small letters, and of a singleton that is repeated the first:\n"
-     "{'u': ('co', 'pinyin')}.", NULL},
-    {"private_use", tag_part, NULL, "The private use part with its mark: x-mine. A tag for private use is all of it.", (void *)5},
+     "The subtags of each extension by its lowercase singleton, such as {'u': ('co', 'pinyin')}. If a singleton is repeated,\n"
+     "the first one counts.", NULL},
+    {"private_use", tag_part, NULL, "The private-use part with its x, such as x-mine. For a private-use tag it is the whole text.", (void *)5},
     {"repeated_variant", tag_repeated, NULL,
-     "The first variant that equals an earlier one but for case. A tag with one is well formed, and not valid.", (void *)0},
+     "The first variant that equals an earlier one, ignoring case. Such a tag is well-formed and not valid.", (void *)0},
     {"repeated_singleton", tag_repeated, NULL,
-     "The first singleton that equals an earlier one but for case. A tag with one is well formed, and not valid.", (void *)1},
+     "The first singleton that equals an earlier one, ignoring case. Such a tag is well-formed and not valid.", (void *)1},
     {"is_valid", tag_is_valid, NULL,
-     "Whether it is valid (RFC 5646 section 2.2.9) by IANA's registry of REGISTRY_DATE: grandfathered, or with a\n"
-     "registered language, script, region and variants, at most one extended language, registered too, and no variant or\n"
-     "singleton twice. Deprecated subtags are valid.", NULL},
-    {"is_canonical", lt_is_canonical, NULL, "Whether it is its own canonical form, whatever the case of its letters.", NULL},
+     "Whether the tag is valid (RFC 5646 section 2.2.9) by IANA's registry of REGISTRY_DATE. It is valid if it is\n"
+     "grandfathered, or if its subtags are registered, it has at most one extended language, and no variant or singleton is\n"
+     "repeated. Deprecated subtags are valid.", NULL},
+    {"is_canonical", lt_is_canonical, NULL, "Whether the tag equals its canonical form, ignoring case.", NULL},
     {NULL, NULL, NULL, NULL, NULL}};
 
 PyMethodDef lt_tag_methods[] = {
     {"__reduce__", lt_reduce, METH_NOARGS, NULL},
     {"__format__", lt_format, METH_O, NULL},
     {"recommended", lt_recommended, METH_NOARGS, "recommended($self, /)\n--\n\n"
-     "The equal tag in the case that RFC 5646 section 2.1.1 recommends: zh-Hant-TW."},
+     "Returns the tag in the case that RFC 5646 section 2.1.1 recommends: zh-hant-tw becomes zh-Hant-TW."},
     {"canonical", lt_canonical, METH_NOARGS,
      "canonical($self, /)\n--\n\n"
-     "The canonical form (RFC 5646 section 4.5), by the registry of REGISTRY_DATE: he of iw. What is put in has the\n"
-     "registry's case, and all else keeps its own. Step 2 is taken again after step 3: gsg of sgn-DD. A tag need not be\n"
-     "valid: what is not registered stays."},
+     "Returns the canonical form (RFC 5646 section 4.5) by the registry of REGISTRY_DATE: iw becomes he. Replacements have the\n"
+     "registry's case, and everything else keeps its own. Step 2 is repeated after step 3: sgn-DD becomes gsg. The tag need not\n"
+     "be valid: subtags that are not registered stay."},
     {"maximized", lt_maximized, METH_NOARGS,
      "maximized($self, /)\n--\n\n"
-     "The tag with its likely subtags (UTS #35, part 1, Add Likely Subtags), by the CLDR of CLDR_VERSION: zh-Hant-TW of zh-TW.\n"
-     "What is deprecated stays: canonical() first replaces it."},
+     "Returns the tag with its likely subtags (UTS #35, part 1), by CLDR_VERSION: zh-TW becomes zh-Hant-TW. Deprecated subtags\n"
+     "stay; call canonical() first to replace them."},
     {"minimized", lt_minimized, METH_NOARGS,
      "minimized($self, /)\n--\n\n"
-     "The tag without the subtags that are likely anyway (Remove Likely Subtags): zh-TW of zh-Hant-TW."},
+     "Returns the tag without its likely subtags (UTS #35, part 1): zh-Hant-TW becomes zh-TW."},
     {"folded", lt_folded, METH_NOARGS,
      "folded($self, /)\n--\n\n"
-     "The text in small letters: the same for all tags that are equal, to keep where texts are compared byte by byte, and\n"
-     "the key to sort by for people, de before de-AT. Among such texts, those of all tags below de stand from \"de-\" up to\n"
-     "\"de.\"."},
+     "Returns the text in lowercase, which is the same for all equal tags. It is a key for stores that compare bytes, and for\n"
+     "alphabetical order, de before de-AT. All tags that begin with de- are between \"de-\" and \"de.\"."},
     {"fnv1a", lt_fnv1a, METH_NOARGS,
      "fnv1a($self, /)\n--\n\n"
-     "FNV-1a of 64 bits over the folded text: the same number in every program and at every time. It does not withstand\n"
-     "whoever picks the tags; hash() does."},
+     "Returns the 64-bit FNV-1a hash of the lowercase text: the same number in every program. Not safe against hash flooding;\n"
+     "hash() is."},
     {"_validity", tag_validity, METH_NOARGS, NULL},
     {"_grandfathered", tag_grandfathered, METH_NOARGS, NULL},
     {"_set", lt_set, METH_VARARGS, NULL},

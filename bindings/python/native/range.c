@@ -46,15 +46,15 @@ PyMethodDef lt_range_methods[] = {
     {"__format__", lt_format, METH_O, NULL},
     {"matches_basic", matches_basic, METH_O,
      "matches_basic($self, tag, /)\n--\n\n"
-     "Whether it matches a tag by basic filtering (section 3.3.1): de-DE matches de-DE-1996, and not de-Latn-DE. A text that\n"
-     "is no tag is an InvalidTag."},
+     "Returns whether it matches a tag by basic filtering (section 3.3.1): de-DE matches de-DE-1996, but not de-Latn-DE. Raises\n"
+     "InvalidTag if a text is not a tag."},
     {"matches_extended", matches_extended, METH_O,
      "matches_extended($self, tag, /)\n--\n\n"
-     "Whether it matches a tag by extended filtering (section 3.3.2): de-DE matches de-Latn-DE. A text that is no tag is an\n"
-     "InvalidTag."},
+     "Returns whether it matches a tag by extended filtering (section 3.3.2): de-DE matches de-Latn-DE. Raises InvalidTag if a\n"
+     "text is not a tag."},
     {NULL, NULL, 0, NULL}};
 
 PyGetSetDef lt_range_members[] = {
     {"_data", lt_value_data, NULL, NULL, NULL},
-    {"is_basic", is_basic, NULL, "Whether it is a basic range (section 2.1): de-CH, or * alone.", NULL},
+    {"is_basic", is_basic, NULL, "Whether it is a basic range (section 2.1): de-CH, or only *.", NULL},
     {NULL, NULL, NULL, NULL, NULL}};

@@ -11,8 +11,8 @@ use langtag_scan::{Ends, Found, Metered, recognise};
 
 /// What the recogniser finds of bytes; None where they are not a tag.
 ///
-/// Each constructor of the crate calls this function. It is not inlined, so that the recogniser's code is there once.
-#[inline(never)]
+/// Each constructor of the crate calls this function. It is inlined: the recogniser is one short loop.
+#[inline(always)]
 pub(crate) fn recognise_bytes(bytes: &[u8]) -> Option<Recognised>
     ensures { MatchOption result (IsTag bytes.now → ⊥) (λ found. IsFoundOf bytes.now (finding_of found)) }
 {

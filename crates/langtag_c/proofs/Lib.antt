@@ -12,3 +12,4 @@ mod TagLengths
 mod LikelyForms
 mod DateLaws
 mod TagsAt
+mod LookUps

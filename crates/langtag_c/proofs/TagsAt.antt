@@ -10,8 +10,7 @@ use Rattle.langtag_scan.proofs.NormalTexts.{normal_from_runs, runs_from_normal}
 use Rattle.langtag_scan.proofs.TagLaws.{tag_normal, tag_private, tag_of_irregular}
 use Rattle.langtag_match.specs.AcceptLanguage.{Element}
 use Rattle.langtag_match.specs.Wanted.{wanted_elements}
-use Rattle.langtag_likely.specs.Best.{best}
-use Rattle.langtag_likely.specs.ChoiceLaws.{IsIndex}
+use Rattle.langtag_choice.specs.Best.{IsChoice}
 use Rattle.langtag_private.specs.Decided.{is_private_use}
 use Rattle.langtag_private.proofs.Rules.{IsPrivate-from_test, is_private_use-from_rule}
 use Rattle.langtag_c.specs.Choice.{AreTagsAt, HasTag, IsBest, IsTagAt}
@@ -96,7 +95,7 @@ tag_bytes text spans index bytes within same tag is =
     let at = subst (IsTagAt text (get_or spans index (empty_at 0))) (sym (tags_at_index text spans index within) ∙ is) (is_tag_at text (get_or spans index (empty_at 0))) in
     same at.0.0 ∙ sym at.1
 
-are_tags_at : (text : List ℕ) (spans : List Span) → AreTagsAt text spans (tags_at text spans)
+pub are_tags_at : (text : List ℕ) (spans : List Span) → AreTagsAt text spans (tags_at text spans)
 are_tags_at text spans = record {
   same_len = length-map spans (tag_at text);
   each = λ index within.
@@ -107,14 +106,14 @@ are_tags_at text spans = record {
 -- ---- the one that is wanted
 
 pub is_best :
-    (header text : List ℕ) (spans : List Span) (answer : ℕ) →
-    answer ≡ unwrap_or (best (wanted_elements header) (tags_at text spans)) (length spans) → IsBest header text spans answer
-is_best header text spans answer is = record { tags = tags_at text spans; are = are_tags_at text spans; best = is }
+    (header text : List ℕ) (spans : List Span) (chosen : Option ℕ) (answer : ℕ) → IsChoice (wanted_elements header) (tags_at text spans) chosen →
+    answer ≡ unwrap_or chosen (length spans) → IsBest header text spans answer
+is_best header text spans chosen answer choice is = record { tags = tags_at text spans; are = are_tags_at text spans; chosen = chosen; choice = choice; same = is }
 
 -- an index of a tag, or the number of the spans, is not above that number
 pub within_spans :
-    (elements : List Element) (text : List ℕ) (spans : List Span) (answer : Option ℕ) → IsIndex elements (tags_at text spans) answer →
+    (elements : List Element) (text : List ℕ) (spans : List Span) (answer : Option ℕ) → IsChoice elements (tags_at text spans) answer →
     unwrap_or answer (length spans) ≤ length spans
-within_spans elements text spans None listed = omega arith
-within_spans elements text spans (Some index) listed =
-    omega (arith, length-map spans (tag_at text), slice_get_within (tags_at text spans) index _ listed.1)
+within_spans elements text spans None choice = omega arith
+within_spans elements text spans (Some index) choice =
+    omega (arith, length-map spans (tag_at text), choice.here, slice_get_within (tags_at text spans) choice.pair.index _ choice.pair.there)

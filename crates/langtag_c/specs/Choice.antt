@@ -2,7 +2,7 @@
 use Rattle.std.specs.Prelude.{◌≡◌, ◌<◌, ℕ, List, Option, None, MatchOption, length, slice_index_or, unwrap_or}
 use Rattle.langtag_scan.specs.Tag.{IsTag}
 use Rattle.langtag_match.specs.Wanted.{wanted_elements}
-use Rattle.langtag_likely.specs.Best.{best}
+use Rattle.langtag_choice.specs.Best.{IsChoice}
 use Rattle.langtag_c.specs.Spans.{HasBytes, empty_at, span_text}
 use Rattle.langtag_c.specs.declared.span.Span.{Span}
 
@@ -23,4 +23,6 @@ pub record AreTagsAt (text : List ℕ) (spans : List Span) (tags : List (Option 
 pub record IsBest (header text : List ℕ) (spans : List Span) (answer : ℕ) : Type 0 where
   pub tags : List (Option (List ℕ))
   pub are : AreTagsAt text spans tags
-  pub best : answer ≡ unwrap_or (best (wanted_elements header) tags) (length spans)
+  pub chosen : Option ℕ
+  pub choice : IsChoice (wanted_elements header) tags chosen
+  pub same : answer ≡ unwrap_or chosen (length spans)

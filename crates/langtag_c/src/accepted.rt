@@ -73,7 +73,7 @@ fn next_item(header: &[u8], rest: &mut Span) -> Option<Span>
 }
 
 /// Returns the number that says which part is bad.
-fn number_of(part: &ElementPart) -> u32
+pub(crate) fn number_of(part: &ElementPart) -> u32
     ensures range { result ≡ 2 ↔ part.now ≡ Range }
     ensures weight { result ≡ 3 ↔ part.now ≡ Weight }
     ensures few { (2 ≤ result) × (result ≤ 3) }

@@ -2,7 +2,7 @@
 ghost use Rattle.std.specs.Prelude.{◌≡◌, ◌↔◌, ◌≤◌, length, true};
 ghost use Rattle.langtag_scan.specs.Tag.{IsTag};
 ghost use Rattle.langtag_registry.specs.Canonical.{IsCanonicalForm, canonical_bound};
-ghost use Rattle.langtag_registry.specs.Writes.{Writes};
+ghost use Rattle.langtag_output.specs.Writes.{Writes};
 
 use crate::tag::tag_of;
 use langtag_registry::{is_canonical, write_canonical};

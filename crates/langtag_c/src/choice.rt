@@ -1,13 +1,13 @@
 //! The tag that a reader wants, and how far a tag is from one that they desire (UTS #35, part 1, section 'Language Matching').
 ghost use Rattle.std.specs.Prelude.{◌≡◌, ◌↔◌, ◌-◌, ◌^◌, ◌≤◌, length};
 ghost use Rattle.langtag_scan.specs.Tag.{IsTag};
-ghost use Rattle.langtag_likely.specs.Distance.{IsDistance};
+ghost use Rattle.langtag_choice.specs.Distance.{distance_of_texts};
 ghost use Rattle.langtag_c.specs.Choice.{IsBest};
 
 use crate::span::Span;
 use crate::spanned_tags::SpannedTags;
 use crate::tag::tag_of;
-use langtag_likely::{best_among, distance};
+use langtag_choice::{best_among, distance};
 
 /// The distance where one of two texts is not a tag.
 const NO_DISTANCE: u32 = u32::MAX;
@@ -17,7 +17,7 @@ const NO_DISTANCE: u32 = u32::MAX;
 /// for case. [`NO_DISTANCE`] where one of the texts is not a tag.
 #[unsafe(no_mangle)]
 pub extern "C" fn langtag_distance(desired: &[u8], supported: &[u8]) -> u32
-    ensures distance { IsTag desired.now → IsTag supported.now → IsDistance desired.now supported.now result }
+    ensures distance { IsTag desired.now → IsTag supported.now → result ≡ distance_of_texts desired.now supported.now }
     ensures no_tag { result ≡ 2 ^ 32 - 1 ↔ (IsTag desired.now × IsTag supported.now → ⊥) }
 {
     match (tag_of(desired), tag_of(supported)) {
@@ -29,7 +29,6 @@ pub extern "C" fn langtag_distance(desired: &[u8], supported: &[u8]) -> u32
 /// Returns the index of the tag that the reader wants who sent an Accept-Language header, among tags that spans of a text are:
 /// 2 for `zh-TW,zh;q=0.9,en;q=0.8` and `en`, `zh-Hans` and `zh-Hant`. Their number where the reader wants none of them. A span
 /// that is no tag, or reaches out of the text, is passed over.
-#[tactic(auto, using(crate::proofs::TagsAt::is_best, crate::proofs::TagsAt::within_spans))]
 #[unsafe(no_mangle)]
 pub extern "C" fn langtag_best_for_header(header: &[u8], bytes: &[u8], tags: &[Span]) -> usize
     ensures best { IsBest header.now bytes.now tags.now result }

@@ -1,7 +1,7 @@
 //! Whether a tag is written from right to left.
 ghost use Rattle.std.specs.Prelude.{◌≡◌, false};
 ghost use Rattle.langtag_scan.specs.Tag.{IsTag};
-ghost use Rattle.langtag_likely.specs.Direction.{IsRightToLeft};
+ghost use Rattle.langtag_likely.specs.Direction as spec;
 
 use crate::tag::tag_of;
 use langtag_likely::is_right_to_left;
@@ -10,7 +10,7 @@ use langtag_likely::is_right_to_left;
 /// `ar-Latn`, and of what is not a tag.
 #[unsafe(no_mangle)]
 pub extern "C" fn langtag_is_right_to_left(bytes: &[u8]) -> bool
-    ensures tag { IsTag bytes.now → IsRightToLeft bytes.now result }
+    ensures tag { IsTag bytes.now → result ≡ spec.is_right_to_left bytes.now }
     ensures no_tag { (IsTag bytes.now → ⊥) → result ≡ false }
 {
     match tag_of(bytes) {

@@ -13,6 +13,7 @@ mod direction;
 mod fallback;
 mod grandfathered;
 mod likely;
+mod look_up;
 mod parse;
 mod part;
 mod posix;

@@ -1,7 +1,7 @@
 //! The maximal and the minimal form of a tag, in the caller's buffer (UTS #35, part 1, section 'Likely Subtags').
 ghost use Rattle.std.specs.Prelude.{◌≡◌, ◌↔◌};
 ghost use Rattle.langtag_scan.specs.Tag.{IsTag};
-ghost use Rattle.langtag_registry.specs.Writes.{Writes};
+ghost use Rattle.langtag_output.specs.Writes.{Writes};
 ghost use Rattle.langtag_likely.specs.Maximal.{IsMaximalForm, IsMinimalForm};
 ghost use Rattle.langtag_likely.specs.declared.tables.TheConstants.{CLDR_VERSION};
 ghost use Rattle.langtag_c.specs.Answers.{digits_number};

@@ -1,6 +1,6 @@
 //! The tag of a POSIX locale's name, in the caller's buffer.
 ghost use Rattle.std.specs.Prelude.{◌≡◌, ◌↔◌};
-ghost use Rattle.langtag_registry.specs.Writes.{Writes};
+ghost use Rattle.langtag_output.specs.Writes.{Writes};
 ghost use Rattle.langtag_likely.specs.Posix.{IsTagOfName, NamesTag};
 
 use langtag_likely::write_from_posix;

@@ -9,7 +9,7 @@ ghost use Rattle.langtag_c.specs.TagsAt.{tags_at};
 use crate::span::Span;
 use crate::tag::tag_of;
 use langtag::LangTag;
-use langtag_likely::TagList;
+use langtag_choice::TagList;
 
 /// A text, and spans of it.
 #[derive(Clone, Copy)]
@@ -36,14 +36,14 @@ impl TagList for SpannedTags<'_> {
 }
 
 /// Returns the tag that a span of a text is.
-fn tag_in<'a>(text: &'a [u8], span: Span) -> Option<LangTag<'a>>
+pub(crate) fn tag_in<'a>(text: &'a [u8], span: Span) -> Option<LangTag<'a>>
     ensures { IsTagAt text.now span (option_map lang_tag_text result) }
 {
     tag_of(span.of(text)?)
 }
 
 /// Returns the bytes of a span of a text: none where it has none there.
-fn bytes_in<'a>(text: &'a [u8], span: Span) -> &'a [u8]
+pub(crate) fn bytes_in<'a>(text: &'a [u8], span: Span) -> &'a [u8]
     ensures { HasBytes text.now span → result.now ≡ span_text text.now span }
 {
     span.of(text).unwrap_or(b"")

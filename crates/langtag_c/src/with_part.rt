@@ -1,13 +1,13 @@
 //! A tag with another part, in the caller's buffer (RFC 5646 sections 2.2.1 to 2.2.7).
 ghost use Rattle.std.specs.Prelude.{◌≡◌, ◌↔◌, ◌≤◌, ◌++◌, IfSome, length};
 ghost use Rattle.std.specs.List.{replace_range};
-ghost use Rattle.langtag_registry.specs.Writes.{Writes};
+ghost use Rattle.langtag_output.specs.Writes.{Writes};
 ghost use Rattle.langtag_c.specs.Setting.{CanSet, SetsPart, part_numbered};
 
 use crate::part::part_of;
 use crate::tag::normal_tag_of;
 use langtag::{Replacement, put_part};
-use langtag_registry::write_pieces;
+use langtag_output::write_pieces;
 
 /// Writes a normal tag with one of its parts set to a text, or taken out where that is empty, and returns its length in
 /// bytes. The parts are counted from 0, the language, in the order in which they stand. Where the buffer is too short it

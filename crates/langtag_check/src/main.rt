@@ -13,9 +13,7 @@
 //! If a read, a write or an allocation fails, the program says so on standard error and by its status.
 #![tactic(auto)]
 
-mod answer;
-
-use crate::answer::Check;
+use langtag_answers::Check;
 use langtag_lines::{answer_lines, conclude};
 use std::io;
 use std::process::ExitCode;

@@ -3,14 +3,14 @@ use Rattle.std.proofs.Common.{◌≡◌, ℕ, ◌<◌, true, List, [], length, g
 use Rattle.std.proofs.lemmas.List.{get_or-map}
 use Rattle.langtag_scan.specs.Class.{are_letters, are_alphanumeric}
 use Rattle.langtag_scan.specs.Case.{folded_number}
-use Rattle.langtag_registry.specs.Numbers.{letter_number}
-use Rattle.langtag_likely.specs.declared.matching_tables.TheConstants.{ALIAS_LANGUAGES, ALIAS_SCRIPTS, REGION_ALIAS_NAMES}
+use Rattle.langtag_tables.specs.Numbers.{letter_number}
+use Rattle.langtag_likely.specs.declared.alias_tables.TheConstants.{ALIAS_LANGUAGES, ALIAS_SCRIPTS, REGION_ALIAS_NAMES}
 use Rattle.langtag_likely.specs.Likely.{Fields, Likely, likely_for, language_alone}
 use Rattle.langtag_likely.specs.Matching.{region_alone}
-use Rattle.langtag_likely.specs.MatchingData.{language_aliases, region_aliases}
+use Rattle.langtag_likely.specs.Aliases.{language_aliases, region_aliases}
 use Rattle.langtag_likely.specs.Numbers.{first_index, name_at}
-use Rattle.langtag_likely.proofs.MatchingTables.{aliases_alone, alias_languages, alias_scripts, alias_regions, region_aliases_alone, region_alias_languages, region_alias_scripts, region_alias_names}
-use Rattle.langtag_likely.proofs.PairNumbers.{is_region_alone, region_number, region-tells}
+use Rattle.langtag_likely.proofs.AliasTables.{aliases_alone, alias_languages, alias_scripts, alias_regions, region_aliases_alone, region_alias_languages, region_alias_scripts, region_alias_names}
+use Rattle.langtag_likely.proofs.RegionNumbers.{is_region_alone, region_number, region-tells}
 use Rattle.langtag_likely.proofs.RowLaws.{is_language, language_number, language-tells}
 use Rattle.langtag_likely.proofs.RowsFound.{found_by_number}
 use Rattle.langtag_likely.specs.Rows.{no_row}

@@ -1,8 +1,8 @@
 -- What the class of a field says of its letters and its length.
 use Rattle.std.proofs.Common.{◌≡◌, ℕ, ◌<◌, ◌≤◌, true, false, Bool, List, [], ◌∷◌, length, refl, arith, cond, inl, inr}
 use Rattle.langtag_scan.specs.Class.{are_letters, are_alphanumeric, is_primary, is_extended, is_script, is_region}
-use Rattle.langtag_registry.specs.Numbers.{letter_number}
-use Rattle.langtag_registry.proofs.Letters.{primary_letters, extended_primary}
+use Rattle.langtag_tables.specs.Numbers.{letter_number}
+use Rattle.langtag_tables.proofs.Letters.{primary_letters, extended_primary}
 use Rattle.langtag_likely.specs.Good.{is_language_field, is_script_field, is_region_field}
 use Rattle.langtag_likely.specs.Likely.{Fields, known}
 use Rattle.langtag_likely.proofs.KeyNumbers.{are_plain}

@@ -7,8 +7,8 @@ use Rattle.std.specs.Ordering.{nat_cmp}
 use Rattle.std.specs.Result.{result_ok}
 use Rattle.std.proofs.lemmas.Bool.{and_parts, ltb-true, eq-eqb, ne_eqb, true_from_ne_false, both_ways}
 use Rattle.std.proofs.lemmas.Bool.Decides.{eqb_tells}
-use Rattle.langtag_registry.specs.Numbers.{climbs_from}
-use Rattle.langtag_registry.proofs.Rising.{IsSearched, climb_searched, searched_apart}
+use Rattle.langtag_tables.specs.Numbers.{climbs_from}
+use Rattle.langtag_tables.proofs.Rising.{IsSearched, climb_searched, searched_apart}
 use Rattle.langtag_likely.specs.Numbers.{first_index}
 use Rattle.std.proofs.lemmas.List.Folds.{list_all_at}
 use Rattle.std.proofs.lemmas.List.Sorted.{searched}

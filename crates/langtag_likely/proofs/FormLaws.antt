@@ -6,7 +6,7 @@ use Rattle.langtag_scan.specs.Tag.{IsNormal, IsTag}
 use Rattle.langtag_scan.proofs.NormalTexts.{spelled_once, normal_from_runs, runs_from_normal}
 use Rattle.langtag_likely.specs.Maximal.{IsForm}
 use Rattle.std.proofs.lemmas.List.{drop_all}
-use Rattle.langtag_registry.specs.Writes.{Writes}
+use Rattle.langtag_output.specs.Writes.{Writes}
 
 decided : {P : Type 0} (b : Bool) → (b ≡ true → P) → (P → b ≡ true) → P ⊎ (P → ⊥)
 decided true holds is = inl (holds refl)

@@ -7,7 +7,7 @@ use Rattle.langtag_scan.specs.AlikeRecords.{AlikeRecords, fold_extension, fold_p
 use Rattle.langtag_scan.specs.Case.{Alike, are_alike, fold_text}
 use Rattle.langtag_scan.specs.Class.{is_extended}
 use Rattle.langtag_scan.specs.Record.{Record, IsWellFormed}
-use Rattle.langtag_registry.proofs.Letters.{primary_length, extended_primary}
+use Rattle.langtag_tables.proofs.Letters.{primary_length, extended_primary}
 use Rattle.langtag_likely.specs.Likely.{Fields, or_other, known, known_fields, add_likely, least}
 use Rattle.langtag_likely.specs.LikelySubtags.{likely_subtags}
 use Rattle.langtag_likely.specs.Maximal.{fields_of, language_field, put_fields, put_language, subtag_of, maximal_record, minimal_record}

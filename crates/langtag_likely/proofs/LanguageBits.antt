@@ -8,7 +8,7 @@ use Rattle.std.proofs.lemmas.Bool.{and_parts, eq-eqb, ne_eqb, eqb-true, eqb-fals
 use Rattle.std.proofs.lemmas.List.{get_or_append_left, get_or-append-add, take-append-le}
 use Rattle.std.proofs.lemmas.Nat.{ones_le_self}
 use Rattle.langtag_scan.specs.Case.{fold_byte}
-use Rattle.langtag_registry.specs.Numbers.{letter_number, places}
+use Rattle.langtag_tables.specs.Numbers.{letter_number, places}
 use Rattle.langtag_likely.specs.declared.tables.TheConstants.{LANGUAGE_BITS, LANGUAGE_ENDS}
 use Rattle.langtag_likely.specs.LikelySubtags.{language_rows}
 use Rattle.langtag_likely.specs.Numbers.{first_index}

@@ -11,7 +11,7 @@ use Rattle.langtag_scan.specs.Subtags.{join}
 use Rattle.langtag_scan.proofs.Joins.{hyphenated, hyphenated-append, join-append, length-hyphenated, length-join, drop-join}
 use Rattle.langtag_scan.proofs.PartOffsets.{ends_in_order}
 use Rattle.langtag_language.specs.Language.{SpellsLanguage}
-use Rattle.langtag_registry.proofs.Letters.{primary_length, extended_primary}
+use Rattle.langtag_tables.proofs.Letters.{primary_length, extended_primary}
 use Rattle.langtag_likely.specs.Likely.{Fields, or_other}
 use Rattle.langtag_likely.specs.Maximal.{put_fields, put_language, subtag_of}
 use Rattle.langtag_likely.proofs.RowsFound.{alike_length}

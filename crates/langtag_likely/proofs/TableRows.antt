@@ -5,7 +5,7 @@ use Rattle.std.specs.List.{list_all}
 use Rattle.langtag_scan.specs.Case.{fold_byte}
 use Rattle.langtag_scan.specs.Class.{is_letter, is_digit, are_letters, is_primary, is_script, is_region}
 use Rattle.langtag_scan.specs.Case.{folded_number}
-use Rattle.langtag_registry.specs.Numbers.{letter_number}
+use Rattle.langtag_tables.specs.Numbers.{letter_number}
 use Rattle.langtag_likely.specs.declared.tables.TheConstants as table
 use Rattle.langtag_likely.specs.Good.{is_language_field, is_script_field, is_region_field}
 use Rattle.langtag_likely.specs.LikelySubtags.{language_rows, other_rows}

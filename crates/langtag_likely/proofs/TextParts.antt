@@ -4,7 +4,7 @@ use Rattle.std.specs.List.{list_all, before_first, after_first}
 use Rattle.std.proofs.lemmas.Bool.{and_parts, or_cases}
 use Rattle.std.proofs.lemmas.Bool.Decides.{eqb_tells}
 use Rattle.langtag_scan.specs.Class.{is_letter, is_digit, are_letters, are_digits, is_primary, is_extended, is_script, is_region}
-use Rattle.langtag_registry.proofs.Letters.{primary_letters}
+use Rattle.langtag_tables.proofs.Letters.{primary_letters}
 use Rattle.langtag_scan.specs.Subtags.{subtags}
 use Rattle.langtag_match.specs.Wanted.{hyphened, hyphened_byte, is_mark}
 use Rattle.langtag_match.proofs.WantedTexts.{cut_or_whole, segments-read, is_letter-read, is_digit-read, list_all-read, length-read}

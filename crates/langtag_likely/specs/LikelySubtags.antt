@@ -1,7 +1,7 @@
 -- The likely subtags of Unicode's CLDR 48.2 (the notice: likely/LICENSE-UNICODE). Written by likely/generate.py. Do not edit.
 use Rattle.std.specs.Prelude.{[], ◌∷◌, ◌++◌, List, codes}
 use Rattle.std.specs.List.{flat_map}
-use Rattle.langtag_registry.specs.Subtags.{words}
+use Rattle.langtag_tables.specs.Words.{words}
 use Rattle.langtag_likely.specs.Likely.{Likely, likely_of_languages, likely_of_fields}
 
 -- the rows whose left side is a language alone: this, and the script and the region that it becomes

@@ -1,14 +1,13 @@
--- The matching form of a tag: the fields by which two tags are compared (UTS #35, part 1, section 'Language Matching': likely
+-- The matching form of a text: the fields by which two tags are compared (UTS #35, part 1, section 'Language Matching': likely
 -- subtags are added to both first, in what is canonical).
-use Rattle.std.specs.Prelude.{ℕ, List, [], Option, None, Some, codes, if◌then◌else◌}
-use Rattle.std.specs.Option.{option_map_or}
+use Rattle.std.specs.Prelude.{ℕ, List, [], Option, None, codes, if◌then◌else◌}
+use Rattle.std.specs.Option.{option_map, option_map_or}
 use Rattle.langtag_scan.specs.Case.{are_alike}
-use Rattle.langtag_scan.specs.Record.{Record, EachRecord, spell}
-use Rattle.langtag_scan.specs.Tag.{IsNormal}
+use Rattle.langtag_match.specs.Wanted.{hyphened}
 use Rattle.langtag_likely.specs.Likely.{Fields, likely_for, or_other, language_alone, add_likely}
 use Rattle.langtag_likely.specs.LikelySubtags.{likely_subtags}
-use Rattle.langtag_likely.specs.MatchingData.{language_aliases, region_aliases}
-use Rattle.langtag_likely.specs.Maximal.{fields_of}
+use Rattle.langtag_likely.specs.Aliases.{language_aliases, region_aliases}
+use Rattle.langtag_likely.specs.TextFields.{text_fields}
 
 -- ---- what is deprecated is replaced
 
@@ -52,13 +51,14 @@ completed f = most_likely (region_replaced f)
 abbrev pub matching_fields : Fields → Fields
 matching_fields f = completed (language_replaced f)
 
--- ---- the form of a tag
+-- ---- the form of a text
 
--- a tag `und` and no more has none; variants, extensions and private use are of no account
-unfoldable pub matching_form : Record → Option Fields
-matching_form r = if are_alike (codes "und") (spell r) then None else Some (matching_fields (fields_of r))
+-- a text `und` and no more has none, nor has what does not begin with a language, such as a tag for private use and `i-default`.
+-- "_" is read as "-", as in a range of a header. Variants, extensions and private use are of no account, nor is what else
+-- follows the fields: `en-GB-oed` has the form of `en-GB`
+unfoldable pub matching_form : List ℕ → Option Fields
+matching_form text = if are_alike (hyphened text) (codes "und") then None else option_map matching_fields (text_fields (hyphened text))
 
--- what is said of the matching form of a tag: an irregular tag and one of private use have none
-pub record OfForm (tag : List ℕ) (P : Option Fields → Type 0) : Type 0 where
-  pub none : (IsNormal tag → ⊥) → P None
-  pub parts : EachRecord tag (λ r. P (matching_form r))
+-- the fields of a text, of which the language is replaced; contracts of private functions alone speak of it
+unfoldable pub replaced_form : List ℕ → Option Fields
+replaced_form text = if are_alike (hyphened text) (codes "und") then None else option_map language_replaced (text_fields (hyphened text))

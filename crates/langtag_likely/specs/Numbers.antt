@@ -2,7 +2,7 @@
 use Rattle.std.specs.Prelude.{ℕ, suc, ◌+◌, ◌*◌, ◌==◌, List, [], ◌∷◌, length, map, take, slice_index_or, Option, None, Some, if◌then◌else◌}
 use Rattle.std.specs.Option.{option_map, option_map_or}
 use Rattle.langtag_scan.specs.Case.{folded_number}
-use Rattle.langtag_registry.specs.Numbers.{letter_number}
+use Rattle.langtag_tables.specs.Numbers.{letter_number}
 use Rattle.langtag_likely.specs.declared.tables.TheConstants.{SCRIPT_KEYS, REGION_KEYS}
 use Rattle.langtag_likely.specs.Likely.{Fields}
 
@@ -32,11 +32,3 @@ name_text name = take (name_length name) name
 -- the text of the name at an index
 abbrev pub name_at : List (List ℕ) → ℕ → List ℕ
 name_at names index = slice_index_or (map name_text names) index []
-
--- two languages as one number
-abbrev pub language_pair : Fields → Fields → ℕ
-language_pair desired supported = letter_number desired.language * 32768 + letter_number supported.language
-
--- two languages, each with its script, as one number
-abbrev pub script_pair : Fields → Fields → ℕ
-script_pair desired supported = key_number desired * 4294967296 + key_number supported

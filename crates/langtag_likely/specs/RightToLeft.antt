@@ -1,6 +1,6 @@
 -- The scripts of Unicode's CLDR 48.2 that are written from right to left (the notice: likely/LICENSE-UNICODE). Written by likely/generate.py. Do not edit.
 use Rattle.std.specs.Prelude.{ℕ, List, codes}
-use Rattle.langtag_registry.specs.Subtags.{words}
+use Rattle.langtag_tables.specs.Words.{words}
 
 -- scriptMetadata, 'RTL?'; and variants of two of them that have codes of their own (ISO 15924: Aran of Arab, Syre, Syrj and Syrn of Syrc)
 unfoldable pub right_to_left_scripts : List (List ℕ)

@@ -2,16 +2,16 @@
 ghost use Rattle.std.specs.Prelude.{◌≡◌, IsTrue, length, map};
 ghost use Rattle.std.specs.Option.{option_map};
 ghost use Rattle.langtag_scan.specs.Case.{folded_number};
-ghost use Rattle.langtag_registry.specs.Numbers.{climbs_from, letter_number};
+ghost use Rattle.langtag_tables.specs.Numbers.{climbs_from, letter_number};
 ghost use Rattle.langtag_likely.specs.Likely.{likely_for, language_alone};
 ghost use Rattle.langtag_likely.specs.Matching as spec;
-ghost use Rattle.langtag_likely.specs.MatchingData.{language_aliases, region_aliases};
+ghost use Rattle.langtag_likely.specs.Aliases.{language_aliases, region_aliases};
 ghost use Rattle.langtag_likely.specs.Texts.{field_texts};
-ghost use Rattle.langtag_likely.specs.declared.matching_tables.TheConstants.{ALIAS_LANGUAGES, REGION_ALIAS_NAMES};
+ghost use Rattle.langtag_likely.specs.declared.alias_tables.TheConstants.{ALIAS_LANGUAGES, REGION_ALIAS_NAMES};
 
+use crate::alias_tables as tables;
 use crate::fields::or_other;
 use crate::keys::index_of;
-use crate::matching_tables as tables;
 use crate::names::name_at;
 use crate::rows::language_number;
 use crate::tag_fields::TagFields;
@@ -67,7 +67,7 @@ fn region_alias(fields: TagFields<'_>) -> Option<TagFields<'static>>
     })
 }
 
-#[tactic(auto, using(crate::proofs::MatchingTables::alias_numbers))]
+#[tactic(auto, using(crate::proofs::AliasTables::alias_numbers))]
 fn alias_keys() -> &'static [u16]
     ensures numbers { result.now ≡ map (λ row. letter_number row.from.language) language_aliases }
     ensures climbs { IsTrue (climbs_from 0 result.now) }
@@ -76,7 +76,7 @@ fn alias_keys() -> &'static [u16]
     &tables::ALIAS_KEYS
 }
 
-#[tactic(auto, using(crate::proofs::MatchingTables::region_alias_numbers))]
+#[tactic(auto, using(crate::proofs::AliasTables::region_alias_numbers))]
 fn region_alias_keys() -> &'static [u32]
     ensures numbers { result.now ≡ map (λ row. folded_number row.from.region) region_aliases }
     ensures climbs { IsTrue (climbs_from 0 result.now) }

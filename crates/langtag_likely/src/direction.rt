@@ -13,9 +13,9 @@ use langtag::{LangTag, case_insensitive_eq};
 /// By the script of the tag and, where it names none, by the one that its language and its region have most likely; what is
 /// deprecated is read as what replaces it (`iw`). A tag for private use, an irregular one and `und` are not.
 pub fn is_right_to_left(tag: LangTag<'_>) -> bool
-    ensures { spec.IsRightToLeft (lang_tag_text tag.entry) result }
+    ensures { result ≡ spec.is_right_to_left (lang_tag_text tag.entry) }
 {
-    match matching_form(tag) {
+    match matching_form(tag.as_bytes()) {
         Some(form) => is_right_to_left_script(form.script),
         None => false,
     }

@@ -2,7 +2,7 @@
 ghost use Rattle.std.specs.Prelude.{◌≡◌, IfOk};
 ghost use Rattle.langtag.specs.Text.{lang_tag_text, lang_tag_buf_text};
 ghost use Rattle.langtag_scan.specs.Tag.{IsTag};
-ghost use Rattle.langtag_registry.specs.Writes.{Writes};
+ghost use Rattle.langtag_output.specs.Writes.{Writes};
 ghost use Rattle.langtag_likely.specs.Maximal.{IsMaximalForm, IsMinimalForm, IsOnlyForm, maximal_record, minimal_record};
 ghost use Rattle.langtag_likely.specs.MaximalLaws.{IsAlikeForm, KeepsOthers, TellsAsMaximal, UndoesMaximal, UndoesMinimal};
 

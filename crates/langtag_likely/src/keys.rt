@@ -1,13 +1,13 @@
 //! Where texts stand in the tables that know them by their numbers.
 ghost use Rattle.std.specs.Prelude.{◌≡◌, ◌≤◌, ◌<◌, IfSome, IsTrue, length};
 ghost use Rattle.langtag_scan.specs.Case.{folded_number};
-ghost use Rattle.langtag_registry.specs.Numbers.{climbs_from};
+ghost use Rattle.langtag_tables.specs.Numbers.{climbs_from};
 ghost use Rattle.langtag_likely.specs.Numbers.{first_index, place};
 
 use langtag_scan::folded_number;
 
 /// Returns where the number of a text stands among others, which rise.
-pub(crate) fn index_of(keys: &[u32], text: &[u8]) -> Option<usize>
+pub fn index_of(keys: &[u32], text: &[u8]) -> Option<usize>
     requires climbs { IsTrue (climbs_from 0 keys.now) }
     requires short { length text.now ≤ 4 }
     ensures found { result ≡ first_index keys.now (folded_number text.now) }

@@ -1,5 +1,5 @@
 //! Likely subtags (UTS #35, part 1, section 'Likely Subtags') over Unicode's CLDR: the script and the region that a language has
-//! most likely, added to a tag or taken out of it.
+//! most likely, added to a tag or taken out of it; whether a tag is written from right to left; and the tags of POSIX locales' names.
 //!
 //! ```
 //! use langtag::LangTag;
@@ -10,43 +10,34 @@
 //! ```
 #![tactic(auto)]
 
+mod alias_tables;
 mod aliases;
-mod best;
-mod by_ranges;
-mod by_tags;
-mod candidate;
 mod direction;
 mod fields;
 mod forms;
 mod keys;
 mod likely;
-mod lone;
 mod matching;
-mod matching_tables;
 mod names;
-mod nearness;
 mod posix;
 mod posix_error;
 mod put;
-mod range_list;
-mod read_range;
-mod refused;
-mod region_distance;
+mod read_text;
 mod rows;
-mod rule_distance;
 mod tables;
-mod tag_distance;
 mod tag_fields;
-mod tag_list;
 mod text_fields;
-mod wish;
 
-pub use best::{best_among, best_for_accept_language, best_for_header, best_for_ranges};
 pub use direction::is_right_to_left;
 pub use forms::{maximized, minimized, write_maximized, write_minimized};
 pub use posix::{from_posix, write_from_posix};
 pub use posix_error::PosixError;
-pub use range_list::RangeList;
 pub use tables::CLDR_VERSION;
-pub use tag_distance::{FORMLESS_DISTANCE, distance};
-pub use tag_list::TagList;
+
+// For langtag_choice.
+pub use keys::index_of;
+pub use likely::suffices;
+pub use matching::{completed, matching_form, replaced_form};
+pub use read_text::{are_alike, hyphened};
+pub use rows::{key_number, language_number};
+pub use tag_fields::TagFields;

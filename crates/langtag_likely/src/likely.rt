@@ -63,7 +63,7 @@ fn least<'a>(most: TagFields<'a>) -> TagFields<'a>
 }
 
 /// Returns whether few fields have this maximal form.
-pub(crate) fn suffices(most: TagFields<'_>, few: TagFields<'_>) -> bool
+pub fn suffices(most: TagFields<'_>, few: TagFields<'_>) -> bool
     ensures { result ≡ suffices likely_subtags (field_texts most.entry) (field_texts few.entry) }
 {
     match add_likely(few) {

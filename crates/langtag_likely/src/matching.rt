@@ -1,37 +1,42 @@
 //! The fields by which two tags are compared (UTS #35, part 1, section 'Language Matching').
 ghost use Rattle.std.specs.Prelude.{◌≡◌};
 ghost use Rattle.std.specs.Option.{option_map};
-ghost use Rattle.langtag.specs.Text.{lang_tag_text};
 ghost use Rattle.langtag_likely.specs.Matching as spec;
 ghost use Rattle.langtag_likely.specs.Texts.{field_texts};
 
 use crate::aliases::{language_replaced, region_replaced};
 use crate::likely::add_likely;
+use crate::read_text::are_alike;
 use crate::tag_fields::TagFields;
-use langtag::LangTag;
-use langtag_scan::case_insensitive_eq;
 
-/// Returns the matching form of a tag: its fields, of which what is deprecated is replaced, with the likely ones in place of
-/// those that are empty. A tag `und`, an irregular tag and one of private use have none.
-pub(crate) fn matching_form<'a>(tag: LangTag<'a>) -> Option<TagFields<'a>>
-    ensures { spec.OfForm (lang_tag_text tag.entry) (λ form. option_map field_texts result ≡ form) }
+/// Returns the matching form of a text: its fields, of which what is deprecated is replaced, with the likely ones in place of those
+/// that are empty. A text `und` has none, nor has one that does not begin with a language.
+#[tactic(auto, using(crate::proofs::CompletedForms::form_completed))]
+pub fn matching_form(text: &[u8]) -> Option<TagFields<'_>>
+    ensures { option_map field_texts result ≡ spec.matching_form text.now }
 {
-    if case_insensitive_eq(b"und", tag.as_bytes()) {
-        return None;
+    match replaced_form(text) {
+        Some(fields) => Some(completed(fields)),
+        None => None,
     }
-    let normal = tag.as_normal()?;
-    Some(matching_fields(TagFields::of(normal)))
 }
 
-/// Returns the matching form of fields.
-pub(crate) fn matching_fields<'a>(fields: TagFields<'a>) -> TagFields<'a>
-    ensures { field_texts result ≡ spec.matching_fields (field_texts fields.entry) }
+/// Returns the fields of a text, of which the language is replaced where it is deprecated.
+#[tactic(auto, unfolding(crate::specs::Matching::replaced_form))]
+pub fn replaced_form(text: &[u8]) -> Option<TagFields<'_>>
+    ensures { option_map field_texts result ≡ spec.replaced_form text.now }
 {
-    completed(language_replaced(fields))
+    if are_alike(text, b"und") {
+        return None;
+    }
+    match TagFields::of_text(text) {
+        Some(fields) => Some(language_replaced(fields)),
+        None => None,
+    }
 }
 
 /// Returns fields with another region in place of one that is deprecated, and with likely subtags.
-pub(crate) fn completed<'a>(fields: TagFields<'a>) -> TagFields<'a>
+pub fn completed<'a>(fields: TagFields<'a>) -> TagFields<'a>
     ensures { field_texts result ≡ spec.completed (field_texts fields.entry) }
 {
     most_likely(region_replaced(fields))

@@ -5,7 +5,7 @@ ghost use Rattle.langtag.specs.Edit.{SetsPart, SetsScript, SetsVariants};
 ghost use Rattle.langtag_place.specs.Variants.{IsVariants};
 ghost use Rattle.langtag_scan.specs.Class.{is_script};
 ghost use Rattle.langtag.specs.Text.{lang_tag_text, lang_tag_buf_text, normal_lang_tag_text};
-ghost use Rattle.langtag_registry.specs.Writes.{Writes};
+ghost use Rattle.langtag_output.specs.Writes.{Writes};
 ghost use Rattle.langtag_likely.specs.Maximal.{IsForm};
 ghost use Rattle.langtag_likely.specs.Posix.{IsPlace, IsRefusal, IsTagOfName, NamesTag, hyphenated, with_modifier};
 
@@ -13,8 +13,8 @@ use crate::forms::tag_of;
 use crate::posix_error::PosixError;
 use crate::put::write_text;
 use langtag::{LangTag, LangTagBuf, NormalLangTag, Part, case_insensitive_eq, put_part};
+use langtag_output::write_pieces;
 use langtag_place::{Script, Variants};
-use langtag_registry::write_pieces;
 use langtag_scan::split_at_byte;
 use std::alloc::{AllocError, Global};
 

@@ -8,7 +8,7 @@ ghost use Rattle.langtag_scan.specs.Subtags.{join};
 ghost use Rattle.langtag_language.specs.Language.{EachLanguageSpelling};
 ghost use Rattle.langtag_language.specs.Text.{language_text};
 ghost use Rattle.langtag.specs.Text.{normal_lang_tag_text};
-ghost use Rattle.langtag_registry.specs.Writes.{Writes};
+ghost use Rattle.langtag_output.specs.Writes.{Writes};
 ghost use Rattle.langtag_likely.specs.Maximal.{put_fields, put_language, subtag_of};
 ghost use Rattle.langtag_likely.specs.Texts.{field_texts};
 
@@ -16,7 +16,7 @@ use crate::fields::or_other;
 use crate::tag_fields::TagFields;
 use langtag::NormalLangTag;
 use langtag_language::Language;
-use langtag_registry::write_pieces;
+use langtag_output::write_pieces;
 
 /// Writes a tag with other fields into a buffer, or as it is where there are none.
 pub(crate) fn write_changed(

@@ -2,7 +2,7 @@
 ghost use Rattle.std.specs.Prelude.{◌≡◌, ◌≤◌, ◌<◌, IsTrue, length, map, slice_index_or};
 ghost use Rattle.std.specs.Option.{option_map};
 ghost use Rattle.langtag_scan.specs.Class as class;
-ghost use Rattle.langtag_registry.specs.Numbers.{climbs_from, letter_number};
+ghost use Rattle.langtag_tables.specs.Numbers.{climbs_from, letter_number};
 ghost use Rattle.langtag_likely.specs.Good.{is_language_field};
 ghost use Rattle.langtag_likely.specs.Likely.{filled, likely_for};
 ghost use Rattle.langtag_likely.specs.LikelySubtags.{likely_subtags, language_rows, other_rows};
@@ -15,7 +15,7 @@ use crate::keys::place;
 use crate::names::name_in;
 use crate::tables;
 use crate::tag_fields::TagFields;
-use langtag_registry::letter_number;
+use langtag_tables::letter_number;
 
 /// Returns the right side of the row with this left side. Its language is empty where the left side has one.
 #[tactic(auto, using(crate::proofs::RowLaws::all_long, crate::proofs::RowLaws::all_alone, crate::proofs::RowLaws::all_other))]
@@ -69,7 +69,7 @@ fn other_row(key: TagFields<'_>) -> Option<TagFields<'static>>
 
 /// Returns fields as one number, which is not 0.
 #[tactic(auto, using(crate::proofs::FieldClasses::script_length, crate::proofs::FieldClasses::region_length), unfolding(crate::specs::Numbers::key_number))]
-pub(crate) fn key_number(key: TagFields<'_>) -> u32
+pub fn key_number(key: TagFields<'_>) -> u32
     requires { length key.language.now ≤ 3 }
     ensures { result ≡ key_number (field_texts key.entry) }
 {
@@ -79,7 +79,7 @@ pub(crate) fn key_number(key: TagFields<'_>) -> u32
 
 /// Returns the letters of a language as the digits of a number in base 26; 0 where there is none.
 #[tactic(auto, using(crate::proofs::FieldClasses::language_primary, crate::proofs::FieldClasses::number_of_none))]
-pub(crate) fn language_number(language: &[u8]) -> u32
+pub fn language_number(language: &[u8]) -> u32
     requires in_class { IsTrue (is_language_field language.now) }
     requires short { length language.now ≤ 3 }
     ensures number { result ≡ letter_number language.now }

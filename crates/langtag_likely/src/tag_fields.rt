@@ -8,13 +8,13 @@ use langtag_scan::case_insensitive_eq;
 
 /// A language, a script and a region, each the empty text where there is none.
 #[derive(Clone, Copy)]
-pub(crate) struct TagFields<'a> {
-    pub(crate) language: &'a [u8],
-    pub(crate) script: &'a [u8],
-    pub(crate) region: &'a [u8],
-    ghost language_class: { IsTrue (is_language_field language.now) },
-    ghost script_class: { IsTrue (is_script_field script.now) },
-    ghost region_class: { IsTrue (is_region_field region.now) },
+pub struct TagFields<'a> {
+    pub language: &'a [u8],
+    pub script: &'a [u8],
+    pub region: &'a [u8],
+    pub ghost language_class: { IsTrue (is_language_field language.now) },
+    pub ghost script_class: { IsTrue (is_script_field script.now) },
+    pub ghost region_class: { IsTrue (is_region_field region.now) },
 }
 
 impl<'a> TagFields<'a> {
@@ -47,7 +47,7 @@ impl<'a> TagFields<'a> {
     }
 
     /// Returns the language and the script.
-    pub(crate) fn without_region(self) -> TagFields<'a>
+    pub fn without_region(self) -> TagFields<'a>
         ensures { field_texts result ≡ without_region (field_texts self.entry) }
     {
         TagFields {

@@ -12,23 +12,25 @@ use crate::fields::known;
 use crate::tag_fields::TagFields;
 use langtag_scan::{is_extended, is_primary, is_region, is_script, split_at_either};
 
-/// Returns the fields of a text in which `_` is read as `-`: None where it does not begin with a language.
-#[tactic(auto, using(crate::proofs::FieldClasses::known_language, crate::proofs::FieldClasses::known_script, crate::proofs::FieldClasses::known_region, crate::proofs::FieldClasses::from_primary, crate::proofs::TextParts::no_fields, crate::proofs::TextParts::all_fields))]
-pub(crate) fn text_fields(text: &[u8]) -> Option<TagFields<'_>>
-    ensures { option_map field_texts result ≡ spec.text_fields (hyphened text.now) }
-{
-    let (first, rest) = first_subtag(text);
-    if !is_primary(first) {
-        return None;
+impl<'a> TagFields<'a> {
+    /// Returns the fields of a text in which `_` is read as `-`: None where it does not begin with a language.
+    #[tactic(auto, using(crate::proofs::FieldClasses::known_language, crate::proofs::FieldClasses::known_script, crate::proofs::FieldClasses::known_region, crate::proofs::FieldClasses::from_primary, crate::proofs::TextParts::no_fields, crate::proofs::TextParts::all_fields))]
+    pub(crate) fn of_text(text: &'a [u8]) -> Option<TagFields<'a>>
+        ensures { option_map field_texts result ≡ spec.text_fields (hyphened text.now) }
+    {
+        let (first, rest) = first_subtag(text);
+        if !is_primary(first) {
+            return None;
+        }
+        let (language, rest) = last_extended(known(b"und", first), rest);
+        let (script, rest) = script_before(rest);
+        let region = region_before(rest);
+        Some(TagFields {
+            language,
+            script: known(b"Zzzz", script),
+            region: known(b"ZZ", region),
+        })
     }
-    let (language, rest) = last_extended(known(b"und", first), rest);
-    let (script, rest) = script_before(rest);
-    let region = region_before(rest);
-    Some(TagFields {
-        language,
-        script: known(b"Zzzz", script),
-        region: known(b"ZZ", region),
-    })
 }
 
 /// Returns the last of the extended subtags in front, or else the language before them, and what follows.

@@ -1,7 +1,7 @@
 -- Headers that are equal but for the case of letters have elements that are equal but for case.
-use Rattle.std.proofs.Common.{◌≡◌, ℕ, ◌+◌, ◌*◌, nat_lt, Bool, true, false, cond, ◌&&◌, List, [], ◌∷◌, map, length, Option, None, Some, option_map, refl, sym, ap, ◌∙◌, arith}
+use Rattle.std.proofs.Common.{◌≡◌, ℕ, Bool, true, false, cond, List, [], ◌∷◌, map, Option, None, Some, option_map, refl, sym, ap, ◌∙◌, arith}
 use Rattle.std.specs.Int.{is_in_range}
-use Rattle.std.specs.List.{list_all, slice_split, before_first, after_first, cons_option, filter_map}
+use Rattle.std.specs.List.{list_any, slice_split, before_first, after_first, cons_option}
 use Rattle.std.proofs.lemmas.Bool.{and_parts}
 use Rattle.std.proofs.lemmas.Bool.Decides.{nat_tests}
 use Rattle.langtag_scan.specs.Case.{fold_byte, fold_text}
@@ -9,7 +9,7 @@ use Rattle.langtag_scan.proofs.CaseLaw.{all-fold}
 use Rattle.langtag_match.specs.AcceptLanguage.{Element, is_comma, is_semicolon, trimmed, range_of, items}
 use Rattle.langtag_match.specs.Range.{is_basic_range}
 use Rattle.langtag_match.specs.Weight.{is_q}
-use Rattle.langtag_match.specs.Wanted.{hyphened, ends_locale, wanted_text, is_point, is_zero, are_digits, digit_of, value_weight, is_equals, is_q_name, is_q_parameter, wanted_weight, parameters, wanted, wanted_elements, folded, IgnoresCase}
+use Rattle.langtag_match.specs.Wanted.{hyphened, ends_locale, wanted_text, is_point, are_digits, number_weight, value_weight, is_equals, is_q_name, is_q_parameter, wanted_weight, parameters, wanted, digits_behind, wanted_items, wanted_elements, folded, IgnoresCase}
 use Rattle.langtag_match.proofs.AlikeTexts.{mark-fold, hyphened-fold, trimmed-fold, is_basic_range-fold}
 use Rattle.langtag_match.proofs.ChangedTexts.{list_any-changed, before_first-changed, after_first-changed, slice_split-changed}
 
@@ -59,26 +59,31 @@ digits_stay (b ∷ text) digits =
 are_digits-fold : (text : List ℕ) → are_digits (fold_text text) ≡ are_digits text
 are_digits-fold = all-fold (is_in_range 48 57) decimal-fold
 
--- the weight by what stands before and after the point
-abbrev weight_by_parts : List ℕ → List ℕ → ℕ
-weight_by_parts whole fraction =
-    cond (are_digits whole && are_digits fraction && nat_lt 0 (length whole + length fraction))
-    (cond (list_all is_zero whole) (100 * digit_of fraction 0 + 10 * digit_of fraction 1 + digit_of fraction 2) 1000)
-    1000
-
-weight_by_parts-fold : (whole fraction : List ℕ) → weight_by_parts (fold_text whole) (fold_text fraction) ≡ weight_by_parts whole fraction
-weight_by_parts-fold whole fraction = by_tests (are_digits whole) (are_digits fraction) refl refl
+number_weight-fold : (whole fraction : List ℕ) → number_weight (fold_text whole) (fold_text fraction) ≡ number_weight whole fraction
+number_weight-fold whole fraction = by_tests (are_digits whole) (are_digits fraction) refl refl
   where
-    by_tests : (s t : Bool) → are_digits whole ≡ s → are_digits fraction ≡ t → weight_by_parts (fold_text whole) (fold_text fraction) ≡ weight_by_parts whole fraction
+    by_tests : (s t : Bool) → are_digits whole ≡ s → are_digits fraction ≡ t → number_weight (fold_text whole) (fold_text fraction) ≡ number_weight whole fraction
     by_tests true true s t = rw (digits_stay whole s, digits_stay fraction t) refl
     by_tests true false s t = rw (are_digits-fold whole, are_digits-fold fraction, s, t) refl
     by_tests false t s is = rw (are_digits-fold whole, s) refl
 
-value_weight-fold : (value : List ℕ) → value_weight (fold_text value) ≡ value_weight value
-value_weight-fold value =
-    ap (λ w. weight_by_parts w (after_first is_point (fold_text value))) (before_first-changed fold_byte is_point is_point is_point-fold value)
-    ∙ ap (weight_by_parts (fold_text (before_first is_point value))) (after_first-changed fold_byte is_point is_point is_point-fold value)
-    ∙ weight_by_parts-fold (before_first is_point value) (after_first is_point value)
+-- the fraction of a value: what stands after its point, or behind a comma
+fraction_of-fold :
+    (value behind : List ℕ) →
+    cond (list_any is_point (fold_text value)) (after_first is_point (fold_text value)) (fold_text behind) ≡ fold_text (cond (list_any is_point value) (after_first is_point value) behind)
+fraction_of-fold value behind =
+    rw (list_any-changed fold_byte is_point is_point is_point-fold value, after_first-changed fold_byte is_point is_point is_point-fold value) (by_test (list_any is_point value))
+  where
+    by_test : (point : Bool) → cond point (fold_text (after_first is_point value)) (fold_text behind) ≡ fold_text (cond point (after_first is_point value) behind)
+    by_test true = refl
+    by_test false = refl
+
+value_weight-fold : (value behind : List ℕ) → value_weight (fold_text value) (fold_text behind) ≡ value_weight value behind
+value_weight-fold value behind =
+    ap (λ w. number_weight w (cond (list_any is_point (fold_text value)) (after_first is_point (fold_text value)) (fold_text behind)))
+    (before_first-changed fold_byte is_point is_point is_point-fold value)
+    ∙ ap (number_weight (fold_text (before_first is_point value))) (fraction_of-fold value behind)
+    ∙ number_weight-fold (before_first is_point value) (cond (list_any is_point value) (after_first is_point value) behind)
 
 -- ---- parameters
 
@@ -100,15 +105,17 @@ is_q_parameter-fold parameter =
       is_q_name-fold (trimmed (before_first is_equals parameter)),
     ) refl
 
-said_weight-fold : (parameter : List ℕ) → value_weight (trimmed (after_first is_equals (fold_text parameter))) ≡ value_weight (trimmed (after_first is_equals parameter))
-said_weight-fold parameter =
-    ap (λ t. value_weight (trimmed t)) (after_first-changed fold_byte is_equals is_equals is_equals-fold parameter)
-    ∙ ap value_weight (trimmed-fold (after_first is_equals parameter))
-    ∙ value_weight-fold (trimmed (after_first is_equals parameter))
+said_weight-fold :
+    (parameter behind : List ℕ) → value_weight (trimmed (after_first is_equals (fold_text parameter))) (fold_text behind) ≡ value_weight (trimmed (after_first is_equals parameter)) behind
+said_weight-fold parameter behind =
+    ap (λ t. value_weight (trimmed t) (fold_text behind)) (after_first-changed fold_byte is_equals is_equals is_equals-fold parameter)
+    ∙ ap (λ t. value_weight t (fold_text behind)) (trimmed-fold (after_first is_equals parameter))
+    ∙ value_weight-fold (trimmed (after_first is_equals parameter)) behind
 
-wanted_weight-fold : (parameters : List (List ℕ)) → wanted_weight (map fold_text parameters) ≡ wanted_weight parameters
-wanted_weight-fold [] = refl
-wanted_weight-fold (parameter ∷ parameters) = rw (is_q_parameter-fold parameter, said_weight-fold parameter, wanted_weight-fold parameters) refl
+wanted_weight-fold : (parameters : List (List ℕ)) (behind : List ℕ) → wanted_weight (map fold_text parameters) (fold_text behind) ≡ wanted_weight parameters behind
+wanted_weight-fold [] behind = refl
+wanted_weight-fold (parameter ∷ parameters) behind =
+    rw (is_q_parameter-fold parameter, said_weight-fold parameter behind, wanted_weight-fold parameters behind) refl
 
 -- ---- elements
 
@@ -124,25 +131,34 @@ element_of-fold range weight = rw (is_basic_range-fold range) (by_test (is_basic
     by_test true = refl
     by_test false = refl
 
-wanted-fold : (item : List ℕ) → wanted (fold_text item) ≡ option_map folded (wanted item)
+wanted-fold : (item behind : List ℕ) → wanted (fold_text item) (fold_text behind) ≡ option_map folded (wanted item behind)
 unfolding wanted
-wanted-fold item =
-    ap (λ r. element_of r (wanted_weight (parameters (fold_text item)))) (wanted_range-fold item)
-    ∙ ap (λ ps. element_of (fold_text (hyphened (wanted_text item))) (wanted_weight ps)) (parameters-fold item)
-    ∙ ap (element_of (fold_text (hyphened (wanted_text item)))) (wanted_weight-fold (parameters item))
-    ∙ element_of-fold (hyphened (wanted_text item)) (wanted_weight (parameters item))
+wanted-fold item behind =
+    ap (λ r. element_of r (wanted_weight (parameters (fold_text item)) (fold_text behind))) (wanted_range-fold item)
+    ∙ ap (λ ps. element_of (fold_text (hyphened (wanted_text item))) (wanted_weight ps (fold_text behind))) (parameters-fold item)
+    ∙ ap (element_of (fold_text (hyphened (wanted_text item)))) (wanted_weight-fold (parameters item) behind)
+    ∙ element_of-fold (hyphened (wanted_text item)) (wanted_weight (parameters item) behind)
 
-wanted_items-fold : (items : List (List ℕ)) → filter_map wanted (map fold_text items) ≡ map folded (filter_map wanted items)
-wanted_items-fold [] = refl
-wanted_items-fold (item ∷ items) = rw (wanted-fold item, wanted_items-fold items) (by_first (wanted item))
+digits_behind-fold : (items : List (List ℕ)) → digits_behind (map fold_text items) ≡ fold_text (digits_behind items)
+digits_behind-fold [] = refl
+digits_behind-fold (item ∷ items) = rw (are_digits-fold item) (by_test (are_digits item))
   where
-    by_first : (here : Option Element) → cons_option (option_map folded here) (map folded (filter_map wanted items)) ≡ map folded (cons_option here (filter_map wanted items))
+    by_test : (digits : Bool) → cond digits (fold_text item) [] ≡ fold_text (cond digits item [])
+    by_test true = refl
+    by_test false = refl
+
+wanted_items-fold : (items : List (List ℕ)) → wanted_items (map fold_text items) ≡ map folded (wanted_items items)
+wanted_items-fold [] = refl
+wanted_items-fold (item ∷ items) =
+    rw (digits_behind-fold items, wanted-fold item (digits_behind items), wanted_items-fold items) (by_first (wanted item (digits_behind items)))
+  where
+    by_first : (here : Option Element) → cons_option (option_map folded here) (map folded (wanted_items items)) ≡ map folded (cons_option here (wanted_items items))
     by_first None = refl
     by_first (Some element) = refl
 
 -- those of a header in small letters are those of the header, in small letters
 wanted_elements-fold : (header : List ℕ) → wanted_elements (fold_text header) ≡ map folded (wanted_elements header)
-wanted_elements-fold header = ap (filter_map wanted) (slice_split-changed fold_byte is_comma is_comma (mark-fold 44 (omega arith)) header) ∙ wanted_items-fold (items header)
+wanted_elements-fold header = ap wanted_items (slice_split-changed fold_byte is_comma is_comma (mark-fold 44 (omega arith)) header) ∙ wanted_items-fold (items header)
 
 pub alike_headers : (header : List ℕ) → IgnoresCase header (wanted_elements header)
 alike_headers header other alike = sym (wanted_elements-fold other) ∙ ap wanted_elements (sym alike) ∙ wanted_elements-fold header

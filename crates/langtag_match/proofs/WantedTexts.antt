@@ -1,19 +1,19 @@
 -- Ranges in which "_" is read as "-", and the parts of a list that is cut one after the other.
 use Rattle.std.proofs.Common.{◌≡◌, ◌⊎◌, take, not, nat_lt, inl, inr, cond, Option, ℕ, ◌+◌, ◌<◌, ◌≤◌, Bool, true, false, ◌&&◌, ◌||◌, List, [], ◌∷◌, Some, None, map, length, length-drop, ap, refl, sym, ◌∙◌, arith}
-use Rattle.std.specs.List.{list_all, slice_split, before_first, after_first, position, position_or_len, cons_option, filter_map}
+use Rattle.std.specs.List.{list_all, slice_split, before_first, after_first, position, position_or_len, cons_option}
 use Rattle.std.proofs.lemmas.Bool.{and_parts, cases_lt}
 use Rattle.std.proofs.lemmas.Bool.Decides.{nat_tests, eqb_tells}
-use Rattle.std.proofs.lemmas.List.{length-map, drop_all, take_all}
+use Rattle.std.proofs.lemmas.List.{length-map, length-take-le, drop_all, take_all}
 use Rattle.std.proofs.lemmas.List.Splits.{length-slice_split, slice_split_first, slice_split_none}
 use Rattle.std.proofs.lemmas.List.Sums.{count_by-le-length, prefix_len-le-length, fails_before_first}
 use Rattle.langtag.specs.Class.{has_length, is_letter, is_digit, is_alphanumeric, are_letters, is_private_subtag}
 use Rattle.langtag.specs.Subtags.{is_hyphen, segments, subtags}
-use Rattle.langtag_match.specs.AcceptLanguage.{items, is_comma, is_semicolon, trimmed}
+use Rattle.langtag_match.specs.AcceptLanguage.{Element, items, is_comma, is_semicolon, trimmed}
 use Rattle.langtag_match.specs.Range.{is_star, is_first_subtag, are_basic_range, is_basic_range}
 use Rattle.langtag_match.proofs.ChangedTexts.{list_all-changed, slice_split-changed}
 use Rattle.langtag_scan.proofs.SubtagFacts.{letters_alphanumeric}
 use Rattle.langtag_scan.proofs.Places.{any_at_first, none_at_length}
-use Rattle.langtag_match.specs.Wanted.{hyphened_byte, hyphened, is_mark, is_q_name, is_q_parameter, is_equals, value_weight, wanted_weight, wanted, wanted_elements}
+use Rattle.langtag_match.specs.Wanted.{hyphened_byte, hyphened, is_mark, is_q_name, is_q_parameter, is_equals, is_point, are_digits, number_weight, value_weight, wanted_weight, wanted, digits_behind, wanted_items, wanted_elements}
 
 -- ---- a byte that is read as a hyphen is one
 
@@ -129,19 +129,28 @@ basic_read text = rw (is_star-read text, subtags_segments (hyphened text), are_b
 
 -- ---- the elements of a header, and the weight of an element, part by part
 
-pub elements_at : (header : List ℕ) → wanted_elements header ≡ cons_option (wanted (before_first is_comma header)) (wanted_elements (after_first is_comma header))
+pub elements_at :
+    (header : List ℕ) →
+    wanted_elements header ≡ cons_option (wanted (before_first is_comma header) (digits_behind (items (after_first is_comma header)))) (wanted_elements (after_first is_comma header))
 unfolding wanted
 elements_at header = elim (cut_or_whole is_comma header) [
-  | inl more ↦ ap (filter_map wanted) more
+  | inl more ↦ ap wanted_items more
   | inr whole ↦ rw (whole.0, whole.1) refl
 ]
 
+-- the digits that a text begins with, if they are its first item
+pub digits_at : (text : List ℕ) → digits_behind (items text) ≡ cond (are_digits (before_first is_comma text)) (before_first is_comma text) []
+digits_at text = elim (cut_or_whole is_comma text) [
+  | inl more ↦ ap digits_behind more
+  | inr whole ↦ ap digits_behind whole.0
+]
+
 pub weight_at :
-    (parameters : List ℕ) →
-    wanted_weight (slice_split is_semicolon parameters) ≡
-    cond (is_q_parameter (before_first is_semicolon parameters)) (value_weight (trimmed (after_first is_equals (before_first is_semicolon parameters)))) (wanted_weight (slice_split is_semicolon (after_first is_semicolon parameters)))
-weight_at parameters = elim (cut_or_whole is_semicolon parameters) [
-  | inl more ↦ ap wanted_weight more
+    (parameters behind : List ℕ) →
+    wanted_weight (slice_split is_semicolon parameters) behind ≡
+    cond (is_q_parameter (before_first is_semicolon parameters)) (value_weight (trimmed (after_first is_equals (before_first is_semicolon parameters))) behind) (wanted_weight (slice_split is_semicolon (after_first is_semicolon parameters)) behind)
+weight_at parameters behind = elim (cut_or_whole is_semicolon parameters) [
+  | inl more ↦ ap (λ parts. wanted_weight parts behind) more
   | inr whole ↦ rw (whole.0, whole.1) refl
 ]
 
@@ -149,17 +158,32 @@ weight_at parameters = elim (cut_or_whole is_semicolon parameters) [
 pub shorter : (p : ℕ → Bool) (text : List ℕ) → 0 < length text → length (after_first p text) < length text
 shorter p text some = omega (arith, length-drop (position_or_len p text + 1) text)
 
+-- ---- a text has a point if it ends behind what stands before one
+
+cut_at : (text : List ℕ) → length (before_first is_point text) ≡ position_or_len is_point text
+cut_at text = length-take-le (position_or_len is_point text) text (prefix_len-le-length (λ b. not (is_point b)) text)
+
+pub value_with_point :
+    (value behind : List ℕ) → length (before_first is_point value) < length value →
+    value_weight value behind ≡ number_weight (before_first is_point value) (after_first is_point value)
+value_with_point value behind cut = rw (any_at_first is_point value (omega (arith, cut_at value, cut))) refl
+
+pub value_without_point :
+    (value behind : List ℕ) → length value ≤ length (before_first is_point value) → value_weight value behind ≡ number_weight (before_first is_point value) behind
+value_without_point value behind whole =
+    rw (none_at_length is_point value (omega (arith, cut_at value, whole, prefix_len-le-length (λ b. not (is_point b)) value))) refl
+
 -- no more ranges than bytes, and one
-length-filter_map : {X Y : Type 0} (f : X → Option Y) (xs : List X) → length (filter_map f xs) ≤ length xs
-length-filter_map {Y = Y} f [] = omega arith
-length-filter_map {Y = Y} f (x ∷ xs) = by_first (f x) (length-filter_map f xs)
+length-wanted_items : (items : List (List ℕ)) → length (wanted_items items) ≤ length items
+length-wanted_items [] = omega arith
+length-wanted_items (item ∷ items) = by_first (wanted item (digits_behind items)) (length-wanted_items items)
   where
-    by_first : (here : Option Y) → length (filter_map f xs) ≤ length xs → length (cons_option here (filter_map f xs)) ≤ length (x ∷ xs)
+    by_first : (here : Option Element) → length (wanted_items items) ≤ length items → length (cons_option here (wanted_items items)) ≤ length (item ∷ items)
     by_first None few = omega arith
-    by_first (Some y) few = omega arith
+    by_first (Some element) few = omega arith
 
 pub few_wanted : (header : List ℕ) → length (wanted_elements header) ≤ length header + 1
-few_wanted header = omega (arith, length-filter_map wanted (items header), length-slice_split is_comma header, count_by-le-length is_comma header)
+few_wanted header = omega (arith, length-wanted_items (items header), length-slice_split is_comma header, count_by-le-length is_comma header)
 
 -- ---- a parameter without a "=", and one with it
 

@@ -1,7 +1,7 @@
 -- How a header is read so that each range that can be made out counts, and nothing in it is an error.
 use Rattle.std.specs.Prelude.{◌≡◌, ℕ, ◌+◌, ◌-◌, ◌*◌, ◌==◌, Bool, ◌&&◌, ◌||◌, false, if◌then◌else◌, List, [], ◌∷◌, Option, Some, None, map, length, nat_lt, slice_index_or}
 use Rattle.std.specs.Int.{is_in_range}
-use Rattle.std.specs.List.{list_all, list_any, slice_split, before_first, after_first, filter_map}
+use Rattle.std.specs.List.{list_all, list_any, slice_split, before_first, after_first, cons_option}
 use Rattle.langtag.specs.Case.{Alike, fold_text}
 use Rattle.langtag_match.specs.AcceptLanguage.{Element, is_semicolon, range_of, trimmed, items}
 use Rattle.langtag_match.specs.Range.{is_basic_range}
@@ -39,12 +39,7 @@ is_point b = b == 46
 abbrev pub are_digits : List ℕ → Bool
 are_digits text = list_all (is_in_range 48 57) text
 
--- digits, and perhaps a point before, among or after them: 1, 0.25, .5, 1.
-abbrev pub is_number : List ℕ → Bool
-is_number text =
-    are_digits (before_first is_point text) && are_digits (after_first is_point text) &&
-    nat_lt 0 (length (before_first is_point text) + length (after_first is_point text))
-
+-- "0"
 abbrev pub is_zero : ℕ → Bool
 is_zero b = b == 48
 
@@ -52,16 +47,21 @@ is_zero b = b == 48
 abbrev pub digit_of : List ℕ → ℕ → ℕ
 digit_of fraction index = slice_index_or fraction index 48 - 48
 
--- a number from 1 on is 1; of a smaller one the first three places count
-abbrev pub at_most_one : List ℕ → ℕ
-at_most_one text =
-    if list_all is_zero (before_first is_point text) then
-    100 * digit_of (after_first is_point text) 0 + 10 * digit_of (after_first is_point text) 1 + digit_of (after_first is_point text) 2
-    else 1000
+-- digits before or after a mark: 1, 0.25, .5, 1.
+abbrev pub are_number : List ℕ → List ℕ → Bool
+are_number whole fraction = are_digits whole && are_digits fraction && nat_lt 0 (length whole + length fraction)
 
--- what is no number is 1
-abbrev pub value_weight : List ℕ → ℕ
-value_weight text = if is_number text then at_most_one text else 1000
+-- a number from 1 on is 1; of a smaller one the first three places count
+abbrev pub at_most_one : List ℕ → List ℕ → ℕ
+at_most_one whole fraction = if list_all is_zero whole then 100 * digit_of fraction 0 + 10 * digit_of fraction 1 + digit_of fraction 2 else 1000
+
+-- the weight of what stands before a mark and after it; what is no number is 1
+abbrev pub number_weight : List ℕ → List ℕ → ℕ
+number_weight whole fraction = if are_number whole fraction then at_most_one whole fraction else 1000
+
+-- the weight that a value says, with the digits after a comma, which are its fraction if it has no point
+abbrev pub value_weight : List ℕ → List ℕ → ℕ
+value_weight text behind = number_weight (before_first is_point text) (if list_any is_point text then after_first is_point text else behind)
 
 -- "="
 abbrev pub is_equals : ℕ → Bool
@@ -78,10 +78,10 @@ abbrev pub is_q_parameter : List ℕ → Bool
 is_q_parameter parameter = list_any is_equals parameter && is_q_name (trimmed (before_first is_equals parameter))
 
 -- the weight that the first parameter named q says; without one it is 1
-abbrev pub wanted_weight : List (List ℕ) → ℕ
-wanted_weight [] = 1000
-wanted_weight (parameter ∷ parameters) =
-    if is_q_parameter parameter then value_weight (trimmed (after_first is_equals parameter)) else wanted_weight parameters
+abbrev pub wanted_weight : List (List ℕ) → List ℕ → ℕ
+wanted_weight [] behind = 1000
+wanted_weight (parameter ∷ parameters) behind =
+    if is_q_parameter parameter then value_weight (trimmed (after_first is_equals parameter)) behind else wanted_weight parameters behind
 
 -- the parameters of an item: what stands between the ";" after the first
 abbrev pub parameters : List ℕ → List (List ℕ)
@@ -90,15 +90,25 @@ parameters item = slice_split is_semicolon (after_first is_semicolon item)
 -- ---- the elements
 
 -- the element that an item is read as: none where what is to be its range is none, with "_" read as "-"
-unfoldable pub wanted : List ℕ → Option Element
-wanted item =
+unfoldable pub wanted : List ℕ → List ℕ → Option Element
+wanted item behind =
     if is_basic_range (hyphened (wanted_text item)) then
-    Some (record { range = hyphened (wanted_text item); weight = wanted_weight (parameters item) })
+    Some (record { range = hyphened (wanted_text item); weight = wanted_weight (parameters item) behind })
     else None
 
--- those of a header, in order, with those of the weight 0 among them
+-- an item of digits alone is no range: it stands behind the comma of a number that was printed as in "fr;q=0,8"
+abbrev pub digits_behind : List (List ℕ) → List ℕ
+digits_behind [] = []
+digits_behind (item ∷ items) = if are_digits item then item else []
+
+-- those of some items, in order
+abbrev pub wanted_items : List (List ℕ) → List Element
+wanted_items [] = []
+wanted_items (item ∷ items) = cons_option (wanted item (digits_behind items)) (wanted_items items)
+
+-- those of a header, with those of the weight 0 among them
 abbrev pub wanted_elements : List ℕ → List Element
-wanted_elements header = filter_map wanted (items header)
+wanted_elements header = wanted_items (items header)
 
 -- ---- the case of letters
 

@@ -40,8 +40,8 @@ pub struct WantedRanges<'a> {
 /// 1000, and `en`, of 500.
 ///
 /// In a range `_` is read as `-`, and what follows `.` or `@` is dropped; what is no range then is passed over. Parameters
-/// other than `q` count for nothing, a weight that is no number is 1, and so is one above 1. [`AcceptLanguage`] reads a header
-/// by the letter of RFC 9110.
+/// other than `q` count for nothing, a weight that is no number is 1, and so is one above 1. A weight may have a decimal
+/// comma: `fr;q=0,8` has the weight 800. [`AcceptLanguage`] reads a header by the letter of RFC 9110.
 ///
 /// [`AcceptLanguage`]: crate::AcceptLanguage
 pub fn wanted_ranges<'a>(header: &'a [u8]) -> WantedRanges<'a>
@@ -74,7 +74,7 @@ impl<'a> Iterator for WantedRanges<'a> {
 
 /// Returns the first range of a header, as [`wanted_ranges`] reads it, and what stands after its comma: `de` and `en` for
 /// `de,en`. None where there is none. Whoever keeps what follows walks over the ranges by a `Copy` value.
-#[tactic(auto, using(crate::proofs::WantedTexts::elements_at, crate::proofs::WantedTexts::shorter, crate::proofs::WantedTexts::few_wanted))]
+#[tactic(auto, using(crate::proofs::WantedTexts::elements_at, crate::proofs::WantedTexts::nothing_wanted, crate::proofs::WantedTexts::shorter, crate::proofs::WantedTexts::few_wanted))]
 pub fn split_wanted(header: &[u8]) -> Option<(WantedRange<'_>, &[u8])>
     ensures first { spec.wanted_elements header.now
         ≡ option_map_or (λ found. spec.wanted_element found.0 ∷ spec.wanted_elements found.1.now) result [] }
@@ -83,7 +83,7 @@ pub fn split_wanted(header: &[u8]) -> Option<(WantedRange<'_>, &[u8])>
     let mut left = header;
     while !left.is_empty() {
         let (item, rest) = split_at_byte(left, b',');
-        if let Some(found) = wanted_at(item) {
+        if let Some(found) = wanted_at(item, rest) {
             return Some((found, rest));
         }
         left = rest;

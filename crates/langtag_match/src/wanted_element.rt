@@ -1,9 +1,9 @@
 //! An element of a header of which nothing is refused.
-ghost use Rattle.std.specs.Prelude.{◌≡◌, ◌+◌, ◌&&◌, false, IsTrue, MatchOption, length, nat_lt};
+ghost use Rattle.std.specs.Prelude.{◌≡◌, false, IsTrue, MatchOption};
 ghost use Rattle.std.specs.List.{after_first, slice_split, list_all};
 ghost use Rattle.std.specs.Option.{option_map};
 ghost use Rattle.langtag.specs.Class.{is_private_subtag};
-ghost use Rattle.langtag_match.specs.AcceptLanguage.{is_semicolon, trimmed};
+ghost use Rattle.langtag_match.specs.AcceptLanguage.{is_semicolon, items, trimmed};
 ghost use Rattle.langtag_match.specs.Range.{is_basic_range, is_star};
 ghost use Rattle.langtag_match.specs.Wanted as spec;
 
@@ -14,17 +14,17 @@ use crate::weight::{are_digits, digit_at};
 use langtag::is_private_subtag;
 use langtag_scan::{first_place, split_at_byte, split_at_either};
 
-/// Returns the range that an item of a header has, with its weight.
+/// Returns the range that an item of a header has, with its weight, if `behind` follows the comma after the item.
 #[tactic(auto, unfolding(crate::specs::Wanted::wanted))]
-pub(crate) fn wanted_at(item: &[u8]) -> Option<WantedRange<'_>>
-    ensures { option_map spec.wanted_element result ≡ spec.wanted item.now }
+pub(crate) fn wanted_at<'a>(item: &'a [u8], behind: &[u8]) -> Option<WantedRange<'a>>
+    ensures { option_map spec.wanted_element result ≡ spec.wanted item.now (spec.digits_behind (items behind.now)) }
 {
     let (before, parameters) = split_at_byte(item, b';');
     let (bytes, _codeset) = split_at_either(trimmed(before), b'.', b'@');
     if !is_wanted_range(bytes) {
         return None;
     }
-    let weight = wanted_weight(parameters);
+    let weight = wanted_weight(parameters, behind);
     Some(WantedRange { bytes, weight })
 }
 
@@ -59,14 +59,14 @@ fn is_mark(byte: u8) -> bool
 
 /// Returns the weight that the first parameter named `q` says, and 1000 without one.
 #[tactic(auto, using(crate::proofs::WantedTexts::weight_at, crate::proofs::WantedTexts::shorter))]
-fn wanted_weight(parameters: &[u8]) -> u32
-    ensures { result ≡ spec.wanted_weight (slice_split is_semicolon parameters.now) }
+fn wanted_weight(parameters: &[u8], behind: &[u8]) -> u32
+    ensures { result ≡ spec.wanted_weight (slice_split is_semicolon parameters.now) (spec.digits_behind (items behind.now)) }
 {
     let mut left = parameters;
     while !left.is_empty() {
         let (parameter, rest) = split_at_byte(left, b';');
         if let Some(value) = q_value(parameter) {
-            return value_weight(value);
+            return value_weight(value, behind);
         }
         left = rest;
     }
@@ -94,20 +94,39 @@ fn is_q_name(name: &[u8]) -> bool
     matches!(name, [b'q' | b'Q'])
 }
 
-/// Returns the weight that a value says: 1 where it is no number or a number above 1.
-fn value_weight(value: &[u8]) -> u32
-    ensures { result ≡ spec.value_weight value.now }
+/// Returns the weight that a value says. Without a point, digits alone behind the comma are its fraction.
+fn value_weight(value: &[u8], behind: &[u8]) -> u32
+    ensures { result ≡ spec.value_weight value.now (spec.digits_behind (items behind.now)) }
 {
     let (whole, fraction) = split_at_byte(value, b'.');
+    if whole.len() < value.len() {
+        return number_weight(whole, fraction);
+    }
+    number_weight(whole, digits_behind(behind))
+}
+
+/// Returns the digits that a text begins with, if a comma or the end follows them, and else nothing.
+#[tactic(auto, using(crate::proofs::WantedTexts::digits_at))]
+fn digits_behind(text: &[u8]) -> &[u8]
+    ensures { result.now ≡ spec.digits_behind (items text.now) }
+{
+    let (item, _rest) = split_at_byte(text, b',');
+    if are_digits(item, b'9') { item } else { b"" }
+}
+
+/// Returns the weight of what stands before and after a decimal mark: 1 where it is no number or a number above 1.
+fn number_weight(whole: &[u8], fraction: &[u8]) -> u32
+    ensures { result ≡ spec.number_weight whole.now fraction.now }
+{
     if !is_number(whole, fraction) || !are_zeros(whole) {
         return 1000;
     }
     100 * digit_at(fraction, 0) + 10 * digit_at(fraction, 1) + digit_at(fraction, 2)
 }
 
-/// Returns whether what stands before and after a point are digits, and not both nothing.
+/// Returns whether what stands before and after a decimal mark are digits, and not both nothing.
 fn is_number(whole: &[u8], fraction: &[u8]) -> bool
-    ensures { result ≡ (spec.are_digits whole.now && spec.are_digits fraction.now && nat_lt 0 (length whole.now + length fraction.now)) }
+    ensures { result ≡ spec.are_number whole.now fraction.now }
 {
     are_digits(whole, b'9') && are_digits(fraction, b'9') && whole.len() + fraction.len() > 0
 }

@@ -1,16 +1,15 @@
 -- The canonical forms of alike texts are alike.
-use Rattle.std.proofs.Common.{◌≡◌, ℕ, ◌==◌, true, false, Bool, cond, List, [], ◌∷◌, ◌++◌, map, filter, Option, None, Some, option_map, unwrap_or, inl, inr, ◌⊎◌, refl, sym, ap, ◌∙◌, arith}
+use Rattle.std.proofs.Common.{◌≡◌, ℕ, ◌==◌, true, false, Bool, cond, List, [], ◌∷◌, ◌++◌, map, filter, Option, None, Some, option_map, unwrap_or, inl, inr, ◌⊎◌, refl, sym, ap, ◌∙◌}
 use Rattle.std.specs.List.{flat_map}
-use Rattle.std.proofs.lemmas.Bool.Decides.{nat_tests}
 use Rattle.std.proofs.lemmas.List.{map-append}
 use Rattle.langtag_scan.specs.AlikeRecords.{fold_extension, fold_private_use, fold_record, AlikeRecords}
 use Rattle.langtag_scan.specs.Case.{fold_byte, fold_text, Alike}
-use Rattle.langtag_scan.specs.Record.{Extension, PrivateUse, Record, one_flat, flat, spell}
-use Rattle.langtag_scan.specs.Subtags.{join}
+use Rattle.langtag_scan.specs.Record.{Extension, PrivateUse, Record, spell}
 use Rattle.langtag_scan.specs.Tag.{IsNormal}
-use Rattle.langtag_scan.proofs.CaseLaw.{join-fold, extensions-fold, private_part-fold, alike_normal, alike_parts}
+use Rattle.langtag_scan.proofs.CaseLaw.{alike_normal, alike_parts}
 use Rattle.langtag.specs.Registered.{IsGrandfathered, IsGrandfatheredAt}
 use Rattle.langtag.specs.Repeat.{are_alike_bytes}
+use Rattle.langtag_tables.proofs.AlikeTexts.{fold_byte-twice, map-twice, fold_text-twice, spelled_alike}
 use Rattle.langtag_registry.specs.Canonical.{singletons, in_order, preferred_extlang, canonical_primary, canonical_extended, canonical_region, canonical_variants, canonical_record, IsCanonicalForm}
 use Rattle.langtag_registry.specs.Fields.{preferred_language, preferred_region, preferred_variant, preferred_tag}
 use Rattle.langtag_registry.specs.Registered.{is_registered_extlang}
@@ -20,21 +19,10 @@ use Rattle.langtag_registry.proofs.TwiceLaws.{Way, as_whole, as_it_is, by_parts,
 
 -- ---- what is folded once is folded
 
-fold_byte-twice : (b : ℕ) → fold_byte (fold_byte b) ≡ fold_byte b
-unfolding fold_byte
-fold_byte-twice b = grind (arith, nat_tests)
-
 module _ {X : Type 0} (f : X → X) (twice : (x : X) → f (f x) ≡ f x) where
-  map-twice : (xs : List X) → map f (map f xs) ≡ map f xs
-  map-twice [] = refl
-  map-twice (x ∷ xs) = ap (λ y. y ∷ map f (map f xs)) (twice x) ∙ ap (λ ys. f x ∷ ys) (map-twice xs)
-
   option_map-twice : (o : Option X) → option_map f (option_map f o) ≡ option_map f o
   option_map-twice None = refl
   option_map-twice (Some x) = ap Some (twice x)
-
-pub fold_text-twice : (s : List ℕ) → fold_text (fold_text s) ≡ fold_text s
-fold_text-twice = map-twice fold_byte fold_byte-twice
 
 fold_extension-twice : (e : Extension) → fold_extension (fold_extension e) ≡ fold_extension e
 fold_extension-twice e =
@@ -122,19 +110,6 @@ canonical_record-fold r =
 -- alike records have alike canonical records
 canonical_record-alike : (r q : Record) → AlikeRecords r q → AlikeRecords (canonical_record r) (canonical_record q)
 canonical_record-alike r q alike = sym (canonical_record-fold r) ∙ ap (λ z. fold_record (canonical_record z)) alike ∙ canonical_record-fold q
-
--- ---- alike records spell alike texts
-
-one_flat-fold : (o : Option (List ℕ)) → one_flat (option_map fold_text o) ≡ map fold_text (one_flat o)
-one_flat-fold None = refl
-one_flat-fold (Some s) = refl
-
-flat-fold : (r : Record) → flat (fold_record r) ≡ map fold_text (flat r)
-flat-fold r = simp (one_flat-fold, extensions-fold, private_part-fold, map-append)
-
-pub spelled_alike : (r q : Record) → AlikeRecords r q → Alike (spell r) (spell q)
-spelled_alike r q alike =
-    sym (ap join (flat-fold r) ∙ join-fold (flat r)) ∙ ap spell alike ∙ ap join (flat-fold q) ∙ join-fold (flat q)
 
 -- ---- alike texts
 

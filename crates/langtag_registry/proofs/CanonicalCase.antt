@@ -11,7 +11,7 @@ use Rattle.langtag_registry.proofs.AlikeForms.{preferred_tag-alike, grandfathere
 use Rattle.langtag_registry.proofs.OrderLaws.{keys_of, in_order-risen, rises_from_in_order}
 use Rattle.langtag_registry.proofs.CanonicalParts.{record_stays, parts_stay, own_record, kept_form}
 use Rattle.langtag_registry.proofs.ReplacedSubtags.{replaced, IsSettled, IgnoresCase, language_settled, language-alike, region_settled, region-alike, variant_settled, variant-alike, extlang_cases, extlang-alike, registered_extlang-alike}
-use Rattle.langtag_registry.proofs.Rising.{rises_from}
+use Rattle.langtag_tables.proofs.Rising.{rises_from}
 use Rattle.langtag_registry.proofs.TwiceLaws.{itself, whole_settled, Way, as_whole, as_it_is, by_parts, way_of}
 
 -- ---- a subtag that stays, and one that is alike

@@ -13,12 +13,12 @@ use Rattle.langtag_extension.specs.Spelling.{extension_spelling, SpellsExtension
 use Rattle.langtag_extension.proofs.ExtensionLookUp.{first_byte-spelling}
 use Rattle.langtag.specs.Repeat.{are_alike_bytes}
 use Rattle.langtag_registry.specs.Canonical.{singletons, in_order}
-use Rattle.langtag_registry.specs.declared.output.Output.{Output}
+use Rattle.langtag_output.specs.declared.output.Output.{Output}
 use Rattle.langtag_registry.specs.Noted.{small_singleton, of_singleton}
-use Rattle.langtag_registry.specs.Output.{HasText, Pushes, with_subtag}
+use Rattle.langtag_output.specs.Output.{HasText, Pushes, with_subtag}
 use Rattle.langtag_registry.proofs.OrderLaws.{keys_of, in_order-risen, rises_from_in_order}
 use Rattle.langtag_registry.proofs.Pushed.{with_joined, pushes_same, pushes_ended, pushes_joined}
-use Rattle.langtag_registry.proofs.Rising.{rises_from}
+use Rattle.langtag_tables.proofs.Rising.{rises_from}
 
 abbrev pub spellings : List Extension → List (List ℕ)
 spellings es = map extension_spelling es

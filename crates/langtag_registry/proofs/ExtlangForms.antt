@@ -14,7 +14,7 @@ use Rattle.langtag_registry.specs.Entry.{Entry, value_for}
 use Rattle.langtag_registry.specs.Fields.{extlang_prefix}
 use Rattle.langtag_registry.specs.Subtags.{extlang_prefixes}
 use Rattle.langtag_registry.proofs.FieldTables.{prefix_good}
-use Rattle.langtag_registry.proofs.Letters.{primary_letters}
+use Rattle.langtag_tables.proofs.Letters.{primary_letters}
 use Rattle.langtag_registry.proofs.Values.{value_good}
 
 -- ---- by computation: the subtags have three letters, and the prefixes at most three

@@ -10,10 +10,11 @@ use Rattle.langtag_scan.specs.CaseLaws.{are_alike-decides}
 use Rattle.langtag_scan.specs.Class.{is_letter, are_letters}
 use Rattle.langtag_registry.specs.declared.tables.TheConstants.{LANGUAGE_BITS}
 use Rattle.langtag_registry.specs.Subtags.{language_subtags}
-use Rattle.langtag_registry.specs.Numbers.{letter_number, bits, places, language_bit}
+use Rattle.langtag_tables.specs.Numbers.{letter_number, places}
+use Rattle.langtag_registry.specs.Tables.{bits, language_bit}
 use Rattle.langtag_registry.specs.Registered.{is_registered_language}
 use Rattle.langtag_scan.proofs.FoldedNumbers.{among-numbers}
-use Rattle.langtag_registry.proofs.Letters.{letter_number-tells}
+use Rattle.langtag_tables.proofs.Letters.{letter_number-tells}
 
 -- ---- by computation
 

@@ -1,7 +1,5 @@
 pub mod Members
-pub mod Letters
 pub mod LanguageTable
-pub mod Rising
 pub mod KeyTables
 pub mod FaultLaws
 pub mod ValidLaws

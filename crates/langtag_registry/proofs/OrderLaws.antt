@@ -13,8 +13,8 @@ use Rattle.langtag_scan.proofs.Ascii.{alphanumeric_below}
 use Rattle.langtag_scan.proofs.SubtagFacts.{singleton_alphanumeric}
 use Rattle.langtag.specs.Repeat.{are_alike_bytes}
 use Rattle.langtag_registry.specs.Canonical.{singletons, in_order}
-use Rattle.langtag_registry.specs.Numbers.{climbs_from}
-use Rattle.langtag_registry.proofs.Rising.{rises_from}
+use Rattle.langtag_tables.specs.Numbers.{climbs_from}
+use Rattle.langtag_tables.proofs.Rising.{rises_from}
 
 -- ---- lists that are gathered key by key
 

@@ -1,5 +1,5 @@
 -- Subtags that are put into an output, after a text.
-use Rattle.std.proofs.Common.{◌≡◌, ℕ, ◌≤◌, List, [], ◌∷◌, ◌++◌, length, fold, Option, Some, None, refl, sym, ap, subst, ◌∙◌, arith, append_assoc, append-nil, length-append}
+use Rattle.std.proofs.Common.{◌≡◌, ℕ, ◌≤◌, List, [], ◌∷◌, ◌++◌, length, fold, Option, Some, None, sym, ap, subst, ◌∙◌, arith, append_assoc, append-nil, length-append}
 use Rattle.std.specs.List.{flat_map}
 use Rattle.std.specs.Option.{option_map}
 use Rattle.std.proofs.lemmas.List.Sums.{fold-append}
@@ -7,20 +7,11 @@ use Rattle.langtag_scan.specs.Record.{PrivateUse, Record, IsWellFormed, extensio
 use Rattle.langtag_scan.specs.Subtags.{join}
 use Rattle.langtag_scan.proofs.Joins.{hyphenated, join-hyphenated}
 use Rattle.langtag_scan.proofs.SubtagFacts.{of_primary}
-use Rattle.langtag_registry.specs.declared.output.Output.{Output}
-use Rattle.langtag_registry.specs.Output.{HasText, Pushes, with_subtag}
+use Rattle.langtag_output.specs.declared.output.Output.{Output}
+use Rattle.langtag_output.specs.Output.{HasText, Pushes, with_subtag}
+use Rattle.langtag_output.proofs.WithSubtag.{with_subtag-some}
 
 -- ---- a text and subtags
-
-pub with_subtag-none : (text subtag : List ℕ) → length text ≡ 0 → with_subtag text subtag ≡ subtag
-unfolding with_subtag
-with_subtag-none [] subtag none = refl
-with_subtag-none (b ∷ text) subtag none = absurd (omega (arith, none))
-
-pub with_subtag-some : (text subtag : List ℕ) → 1 ≤ length text → with_subtag text subtag ≡ text ++ 45 ∷ subtag
-unfolding with_subtag
-with_subtag-some [] subtag some = absurd (omega (arith, some))
-with_subtag-some (b ∷ text) subtag some = refl
 
 -- after a text with bytes, a hyphen stands before each
 with_subtags-some : (text : List ℕ) (ss : List (List ℕ)) → 1 ≤ length text → fold with_subtag text ss ≡ text ++ hyphenated ss

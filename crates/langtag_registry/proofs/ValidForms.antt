@@ -14,7 +14,7 @@ use Rattle.langtag.specs.Repeat.{repeat}
 use Rattle.langtag_registry.specs.declared.tables.TheConstants.{LANGUAGE_BITS}
 use Rattle.langtag_registry.specs.Canonical.{preferred_extlang, canonical_primary, canonical_extended, canonical_variants, canonical_record, IsCanonicalForm}
 use Rattle.langtag_registry.specs.Fields.{preferred_language, preferred_region, preferred_variant, preferred_tag}
-use Rattle.langtag_registry.specs.Numbers.{letter_number}
+use Rattle.langtag_tables.specs.Numbers.{letter_number}
 use Rattle.langtag_registry.specs.Registered.{is_registered_language, is_registered_extlang, is_registered_script, is_registered_region, is_registered_variant}
 use Rattle.langtag_registry.specs.Subtags.{language_preferred, region_preferred, variant_preferred, tag_preferred, extlang_subtags, script_subtags, region_subtags, variant_subtags}
 use Rattle.langtag_registry.specs.Valid.{IsValidRecord, IsValid}

@@ -10,9 +10,9 @@ use Rattle.langtag_scan.specs.CaseLaws.{are_alike-decides}
 use Rattle.langtag_scan.specs.Class.{are_alphanumeric}
 use Rattle.langtag_scan.proofs.FoldedNumbers.{folded_number-tells}
 use Rattle.langtag_registry.specs.Entry.{Entry, value_for}
-use Rattle.langtag_registry.specs.Numbers.{climbs_from}
+use Rattle.langtag_tables.specs.Numbers.{climbs_from}
 use Rattle.langtag_registry.specs.Tables.{AreKeysOf, AreEndsOf, end_number}
-use Rattle.langtag_registry.proofs.Rising.{IsSearched, searched_apart}
+use Rattle.langtag_tables.proofs.Rising.{IsSearched, searched_apart}
 
 -- ---- a value beside a number
 

@@ -5,7 +5,7 @@ use Rattle.langtag_scan.specs.Class.{is_primary, is_extended, is_region, is_vari
 use Rattle.langtag_scan.specs.Record.{Record, IsWellFormed, IsWellFormedExtension}
 use Rattle.langtag_registry.specs.Canonical.{canonical_primary, canonical_extended, canonical_region, canonical_variants, canonical_record}
 use Rattle.langtag_registry.specs.Fields.{preferred_language, preferred_region, preferred_variant}
-use Rattle.langtag_registry.proofs.Letters.{extended_primary}
+use Rattle.langtag_tables.proofs.Letters.{extended_primary}
 use Rattle.langtag_registry.proofs.OrderLaws.{in_order-each}
 use Rattle.langtag_registry.proofs.FieldTables.{preferred_good, regions_good, variants_good}
 use Rattle.langtag_registry.proofs.ReplacedSubtags.{replaced, replaced-holds, if_some-map, each-map, new_language_short, extlang_cases, new_extlang_extended}

@@ -1,6 +1,5 @@
 pub mod Entry
 pub mod Subtags
-pub mod Numbers
 pub mod Registered
 pub mod Fields
 pub mod Tables
@@ -12,5 +11,3 @@ pub mod Form
 pub mod CanonicalLaws
 pub mod Prefix
 pub mod Noted
-pub mod Output
-pub mod Writes

@@ -1,11 +1,8 @@
 -- The registry (RFC 5646 section 3.1). Written by registry/generate.py from the registry of 2025-08-25. Do not edit.
-use Rattle.std.specs.Prelude.{ℕ, ◌==◌, List, [], ◌∷◌, codes}
-use Rattle.std.specs.List.{slice_split, flat_map}
+use Rattle.std.specs.Prelude.{ℕ, List, [], ◌∷◌, codes}
+use Rattle.std.specs.List.{flat_map}
+use Rattle.langtag_tables.specs.Words.{words}
 use Rattle.langtag_registry.specs.Entry.{Entry, entries}
-
--- the words of a text, between spaces
-abbrev pub words : List ℕ → List (List ℕ)
-words text = slice_split (λ b. b == 32) text
 
 -- the Subtag fields of the records of Type language, ranges written out
 unfoldable pub language_subtags : List (List ℕ)

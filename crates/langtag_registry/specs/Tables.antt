@@ -1,10 +1,11 @@
 -- What the tables have. Contracts of private functions alone speak of this page.
-use Rattle.std.specs.Prelude.{◌≡◌, ℕ, ◌-◌, IsTrue, List, length, map, drop}
-use Rattle.std.specs.List.{list_all}
+use Rattle.std.specs.Prelude.{◌≡◌, ℕ, ◌-◌, ◌/◌, ◌%◌, ◌^◌, ◌==◌, Bool, false, IsTrue, List, length, map, drop, slice_index_or}
+use Rattle.std.specs.List.{list_all, flat_map, range_with_len}
 use Rattle.langtag_scan.specs.Case.{folded_number}
 use Rattle.langtag_scan.specs.Class.{are_alphanumeric}
 use Rattle.langtag_registry.specs.Entry.{Entry}
-use Rattle.langtag_registry.specs.Numbers.{climbs_from}
+use Rattle.langtag_registry.specs.declared.tables.TheConstants.{LANGUAGE_BITS}
+use Rattle.langtag_tables.specs.Numbers.{climbs_from}
 
 -- the numbers of some texts of letters and digits, which rise
 pub record AreKeysOf (keys : List ℕ) (list : List (List ℕ)) : Type 0 where
@@ -25,3 +26,11 @@ end_number text = folded_number (drop (length text - 8) text)
 pub record AreEndsOf (keys : List ℕ) (texts : List (List ℕ)) : Type 0 where
   pub numbers : keys ≡ map end_number texts
   pub climb : IsTrue (climbs_from 0 keys)
+
+-- the 64 bits of a word, from the lowest on
+unfoldable pub bits : ℕ → List Bool
+bits word = map (λ k. word / 2 ^ k % 2 == 1) (range_with_len 0 64)
+
+-- whether a bit of the table of languages is set
+unfoldable pub language_bit : ℕ → Bool
+language_bit index = slice_index_or (flat_map bits LANGUAGE_BITS) index false

@@ -7,13 +7,13 @@ ghost use Rattle.langtag_registry.specs.CanonicalLaws.{IsOnlyForm, IsAlikeForm, 
 ghost use Rattle.langtag_registry.specs.Canonical as form;
 ghost use Rattle.langtag_registry.specs.Canonical.{IsCanonicalForm, canonical_text};
 ghost use Rattle.langtag_registry.specs.Fields as field;
-ghost use Rattle.langtag_registry.specs.Writes.{Writes};
+ghost use Rattle.langtag_output.specs.Writes.{Writes};
 
 use crate::canonical_parts::put_canonical_parts;
 use crate::form::{Form, form_of};
 use crate::preferred::preferred_for;
-use crate::write::write_pieces;
 use langtag::{LangTag, LangTagBuf, NormalLangTag};
+use langtag_output::write_pieces;
 use std::alloc::{AllocError, Global};
 
 /// No text that is replaced as a whole has more bytes.

@@ -14,16 +14,16 @@ ghost use Rattle.langtag_private.specs.Text.{private_use_text};
 ghost use Rattle.langtag.specs.Text.{normal_lang_tag_text};
 ghost use Rattle.langtag_registry.specs.Canonical.{canonical_record, canonical_language, canonical_primary, canonical_extended, canonical_region, canonical_variants, in_order};
 ghost use Rattle.langtag_registry.specs.Noted.{of_singleton};
-ghost use Rattle.langtag_registry.specs.Output.{Pushes, IsCounted};
+ghost use Rattle.langtag_output.specs.Output.{Pushes, IsCounted};
 
 use crate::extension_order::{SINGLETONS, are_in_order, folded_singleton, singletons_of};
 use crate::language_fields::preferred_language;
-use crate::output::Output;
 use crate::preferred::{preferred_region, preferred_variant};
 use crate::subtags::is_registered_extlang;
 use langtag::NormalLangTag;
 use langtag_extension::Extensions;
 use langtag_language::{ExtendedLangTag, Language, PrimaryLanguage};
+use langtag_output::Output;
 use langtag_place::{Region, Script, Variants};
 use langtag_private::PrivateUse;
 use langtag_scan::into_smallcase;

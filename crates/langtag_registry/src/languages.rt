@@ -1,17 +1,16 @@
 //! Registered languages (RFC 5646 section 2.2.1).
-ghost use Rattle.std.specs.Prelude.{◌≡◌, ◌≤◌, ◌<◌, IsTrue, length};
-ghost use Rattle.langtag_scan.specs.Class as class;
+ghost use Rattle.std.specs.Prelude.{◌≡◌, ◌<◌};
 ghost use Rattle.langtag_language.specs.Text.{primary_language_text};
-ghost use Rattle.langtag_registry.specs.Numbers.{letter, letter_number, language_bit};
 ghost use Rattle.langtag_registry.specs.Registered as registered;
+ghost use Rattle.langtag_registry.specs.Tables.{language_bit};
 
 use crate::tables::LANGUAGE_BITS;
 use langtag_language::PrimaryLanguage;
-use langtag_scan::into_smallcase;
+use langtag_tables::letter_number;
 
 /// Returns whether a language is registered (RFC 5646 section 2.2.1), in any case: true for `fr`, `FR` and the private use
 /// `qaa`, false for `qt`.
-#[tactic(auto, using(crate::proofs::LanguageTable::long_language, crate::proofs::LanguageTable::language_from_bit, crate::proofs::Letters::primary_letters))]
+#[tactic(auto, using(crate::proofs::LanguageTable::long_language, crate::proofs::LanguageTable::language_from_bit, langtag_tables::proofs::Letters::primary_letters))]
 pub fn is_registered_language(language: PrimaryLanguage<'_>) -> bool
     ensures { result ≡ registered.is_registered_language (primary_language_text language.entry) }
 {
@@ -20,36 +19,6 @@ pub fn is_registered_language(language: PrimaryLanguage<'_>) -> bool
         return false;
     }
     is_set(letter_number(bytes) - 27)
-}
-
-/// Returns the letters of a text as the digits of a number in base 26, in any case: 27 of `aa`, 31 of `ae` and `AE`, 18278 of
-/// `zzz`. The number tells texts of two and three letters apart, as languages (RFC 5646 section 2.2.1) mostly have.
-///
-/// The text has to be two or three ASCII letters.
-#[tactic(auto, using(crate::proofs::Letters::primary_length, crate::proofs::Letters::letter_at, crate::proofs::Letters::number_of_two, crate::proofs::Letters::number_of_three))]
-pub fn letter_number(bytes: &[u8]) -> usize
-    requires primary { IsTrue (class.is_primary bytes.now) }
-    requires short { length bytes.now ≤ 3 }
-    ensures number { result ≡ letter_number bytes.now }
-    ensures from_aa { 27 ≤ result }
-    ensures to_zzz { result ≤ 18278 }
-{
-    let number = place(bytes[0]) * 26 + place(bytes[1]);
-    if bytes.len() == 2 {
-        return number;
-    }
-    number * 26 + place(bytes[2])
-}
-
-/// Returns the place of a letter in the alphabet, from 1 on.
-#[tactic(auto, using(crate::proofs::Letters::letter_place))]
-fn place(byte: u8) -> usize
-    requires { IsTrue (class.is_letter byte) }
-    ensures place { result ≡ letter byte }
-    ensures some { 1 ≤ result }
-    ensures most { result ≤ 26 }
-{
-    usize::from(into_smallcase(byte)) - 96
 }
 
 /// Returns a bit of the table.

@@ -33,14 +33,12 @@ mod invalid_subtag;
 mod language_fields;
 mod languages;
 mod misplaced;
-mod output;
 mod preferred;
 mod prefixes;
 mod subtags;
 mod table;
 mod tables;
 mod validity;
-mod write;
 
 pub use canonical_form::{canonical, canonical_bound, is_canonical, write_canonical};
 pub use deprecated::{
@@ -50,7 +48,7 @@ pub use deprecated::{
 pub use extlang_forms::extlang_form;
 pub use invalid_subtag::InvalidSubtag;
 pub use language_fields::{macrolanguage, preferred_language, suppress_script};
-pub use languages::{is_registered_language, letter_number};
+pub use languages::is_registered_language;
 pub use misplaced::{misplaced_extlang, misplaced_variant};
 pub use preferred::{preferred_region, preferred_tag, preferred_variant};
 pub use prefixes::extlang_prefix;
@@ -59,4 +57,3 @@ pub use subtags::{
 };
 pub use tables::FILE_DATE;
 pub use validity::{fault_at, validate};
-pub use write::write_pieces;

@@ -10,7 +10,7 @@ use langtag_language::{ExtendedLangTag, PrimaryLanguage};
 
 /// Returns the language that an extended language stands after (the field Prefix, RFC 5646 section 3.1.8): `zh` for `yue`.
 /// None for what is not registered. A tag of another language, as `de-yue`, may be valid.
-#[tactic(auto, using(crate::proofs::Letters::extended_primary))]
+#[tactic(auto, using(langtag_tables::proofs::Letters::extended_primary))]
 pub fn extlang_prefix(extlang: ExtendedLangTag<'_>) -> Option<PrimaryLanguage<'static>>
     ensures { option_map primary_language_text result ≡ field.extlang_prefix (extended_lang_tag_text extlang.entry) }
 {

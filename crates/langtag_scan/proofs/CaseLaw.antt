@@ -5,14 +5,12 @@ use Rattle.std.specs.List.{AllByRecursion, list_all, flat_map, onto_first}
 use Rattle.std.specs.Option.{option_map, option_map_or}
 use Rattle.std.proofs.lemmas.Bool.Decides.{nat_tests}
 use Rattle.std.proofs.lemmas.List.{length-map, map-append}
-use Rattle.langtag_scan.specs.declared.stage.Stage.{Stage}
-use Rattle.langtag_scan.specs.declared.stage.Stage.TheVariants.{Start, AfterMark}
 use Rattle.langtag_scan.specs.Case.{fold_byte, fold_text, Alike}
 use Rattle.langtag_scan.specs.AlikeRecords.{fold_extension, fold_private_use, fold_record, AlikeRecords, IsSpelledAlike}
 use Rattle.langtag_scan.specs.Class.{is_letter, is_digit, is_alphanumeric, starts_with_digit, is_primary, is_extended, is_script, is_region, is_variant, is_extension_subtag, is_private_subtag, is_mark, is_singleton}
 use Rattle.langtag_scan.specs.Ends.{ends_of}
 use Rattle.langtag_scan.specs.Record.{Extension, PrivateUse, Record, IsWellFormedExtension, IsWellFormedPrivateUse, IsWellFormed, extension_flat, one_flat, private_part_flat, flat, spell, EachRecord}
-use Rattle.langtag_scan.specs.Stage.{Classes, is_one, classes_of, next_stage}
+use Rattle.langtag_scan.specs.Stage.{Stage, Start, AfterMark, Classes, is_one, classes_of, next_stage}
 use Rattle.langtag_scan.specs.Subtags.{join, segments}
 use Rattle.langtag_scan.specs.Tag.{IsNormal, IsPrivate, IsIrregular, IsIrregularAt, IsTag}
 use Rattle.langtag_scan.proofs.NormalTexts.{normal_from_runs, runs_from_normal, spelled_once}
@@ -33,6 +31,10 @@ is_digit-fold b = grind (arith, nat_tests)
 pub is_mark-fold : (b : ℕ) → is_mark (fold_byte b) ≡ is_mark b
 unfolding fold_byte is_mark
 is_mark-fold b = grind (arith, nat_tests)
+
+pub fold_byte-twice : (b : ℕ) → fold_byte (fold_byte b) ≡ fold_byte b
+unfolding fold_byte
+fold_byte-twice b = grind (arith, nat_tests)
 
 pub hyphen-fold : (b : ℕ) → eqb (fold_byte b) 45 ≡ eqb b 45
 unfolding fold_byte

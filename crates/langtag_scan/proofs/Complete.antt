@@ -3,11 +3,9 @@ use Rattle.std.proofs.Common.{◌≡◌, ℕ, ◌+◌, ◌-◌, ◌≤◌, true,
 use Rattle.std.specs.Prelude.{IsTrue, IfSome}
 use Rattle.std.specs.List.{AllByRecursion, flat_map}
 use Rattle.std.proofs.lemmas.Bool.{and_from, eq-eqb, lt-ltb, le-leb}
-use Rattle.langtag_scan.specs.declared.stage.Stage.{Stage}
-use Rattle.langtag_scan.specs.declared.stage.Stage.TheVariants.{Start, Language, Extended, AfterScript, AfterRegion, AfterVariant, AfterSingleton, InExtension, AfterMark, InPrivate}
 use Rattle.langtag_scan.specs.Class.{is_extended, is_script, is_region, is_variant, is_extension_subtag, is_private_subtag, is_primary}
 use Rattle.langtag_scan.specs.Record.{PrivateUse, Extension, Record, IsWellFormedPrivateUse, IsWellFormedExtension, IsWellFormed, extension_flat, one_flat, private_part_flat, flat}
-use Rattle.langtag_scan.specs.Stage.{classes_of, may_end}
+use Rattle.langtag_scan.specs.Stage.{Stage, Start, Language, Extended, AfterScript, AfterRegion, AfterVariant, AfterSingleton, InExtension, AfterMark, InPrivate, classes_of, may_end}
 use Rattle.langtag_scan.proofs.Disjoint.{reached}
 use Rattle.langtag_scan.proofs.Runs.{runs}
 use Rattle.langtag_scan.proofs.Steps.{leads_to, may_follow, next_part, is_next_extended, part_ends, part_follows}

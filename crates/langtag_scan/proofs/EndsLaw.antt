@@ -3,12 +3,10 @@
 use Rattle.std.proofs.Common.{◌≡◌, subst, drop, ℕ, zero, suc, ◌+◌, ◌≤◌, true, false, cond, leb, List, [], ◌∷◌, length, Some, refl, sym, ◌∙◌, arith}
 use Rattle.std.proofs.lemmas.Bool.Decides.{nat_tests}
 use Rattle.std.proofs.lemmas.List.{length-append}
-use Rattle.langtag_scan.specs.declared.stage.Stage.{Stage}
-use Rattle.langtag_scan.specs.declared.stage.Stage.TheVariants.{Start, Language}
 use Rattle.langtag_scan.specs.Ends.{ends_of}
 use Rattle.langtag_scan.specs.Machine.{all_at, end_at, index_after}
 use Rattle.langtag_scan.specs.Record.{Record, IsWellFormed, flat}
-use Rattle.langtag_scan.specs.Stage.{next_stage, may_end}
+use Rattle.langtag_scan.specs.Stage.{Stage, Start, Language, next_stage, may_end}
 use Rattle.langtag_scan.specs.declared.ends.Ends.{Ends}
 use Rattle.langtag_scan.proofs.Complete.{decode_complete}
 use Rattle.langtag_scan.proofs.Decoding.{Read, put, whole, decode, decode-cons, over_run, add, blocks, by_part, by_part-put}

@@ -6,13 +6,11 @@ use Rattle.std.proofs.Math.Seq.{take-append_seam}
 use Rattle.langtag_scan.specs.Case.{fold_byte, fold_text}
 use Rattle.langtag_scan.specs.Tag.{IsIrregular, IsIrregularAt, IsTag}
 use Rattle.langtag_scan.specs.Viable.{IsViable, IsIrregularPrefix, filling, fill}
-use Rattle.langtag_scan.specs.Stage.{after_stage}
+use Rattle.langtag_scan.specs.Stage.{Stage, Start, after_stage}
 use Rattle.langtag_scan.specs.Subtags.{is_hyphen, segments}
 use Rattle.langtag_scan.specs.Machine.{all_at, end_at, outcome_of, IsRefused}
 use Rattle.langtag_scan.specs.declared.ends.Ends.{Ends}
 use Rattle.langtag_scan.specs.declared.finding.Finding.{Finding}
-use Rattle.langtag_scan.specs.declared.stage.Stage.{Stage}
-use Rattle.langtag_scan.specs.declared.stage.Stage.TheVariants.{Start}
 use Rattle.langtag_scan.proofs.Outcomes.{Decides, decided}
 use Rattle.langtag_scan.proofs.ReadingLaws.{IsPartRead, reads_nothing, reads_filled, reads_after, after_hyphen, found_begun}
 use Rattle.langtag_scan.proofs.Running.{empty_begun, found_after}
@@ -35,7 +33,7 @@ begun-push q b other =
 
 -- the subtag that stands after its last hyphen has begun
 abbrev IsBegunPrefix : List ℕ → Type 0
-IsBegunPrefix q = (p : List ℕ) × (stage : Stage) × (e : Ends) × IsPartRead p (begun q) q (length q) stage e
+IsBegunPrefix q = (p : List ℕ) × (stage : Stage) × (e : Ends) × IsPartRead p (begun q) q stage e
 
 at_hyphen :
     (q u : List ℕ) (f : Finding) → IsBegunPrefix q → outcome_of ((q ++ 45 ∷ []) ++ u) ≡ Some f → IsBegunPrefix (q ++ 45 ∷ [])
@@ -45,17 +43,17 @@ at_hyphen q u f (p, stage, e, k) is = by_next (after_stage stage (begun q)) refl
     by_next None next found = absurd cc
     by_next (Some after) next found =
         let ends = end_at after (length q) e in
-        let part : IsPartRead (q ++ 45 ∷ []) [] (q ++ 45 ∷ []) (length (q ++ 45 ∷ [])) after ends =
-        record { split = append-nil (q ++ 45 ∷ []); long = refl; reads = reads_after k after next; begun = empty_begun after } in
-        (q ++ 45 ∷ [], after, ends, subst (λ s. IsPartRead (q ++ 45 ∷ []) s (q ++ 45 ∷ []) (length (q ++ 45 ∷ [])) after ends) (sym (begun-hyphen q)) part)
+        let part : IsPartRead (q ++ 45 ∷ []) [] (q ++ 45 ∷ []) after ends =
+        record { split = append-nil (q ++ 45 ∷ []); reads = reads_after k after next; begun = empty_begun after } in
+        (q ++ 45 ∷ [], after, ends, subst (λ s. IsPartRead (q ++ 45 ∷ []) s (q ++ 45 ∷ []) after ends) (sym (begun-hyphen q)) part)
 
 at_other :
     (q u : List ℕ) (b : ℕ) (f : Finding) → eqb b 45 ≡ false → IsBegunPrefix q → outcome_of ((q ++ b ∷ []) ++ u) ≡ Some f → IsBegunPrefix (q ++ b ∷ [])
 at_other q u b f other (p, stage, e, k) is =
     let split : p ++ (begun q ++ b ∷ []) ≡ q ++ b ∷ [] = sym (append_assoc p (begun q) (b ∷ [])) ∙ ap (λ x. x ++ b ∷ []) k.split in
-    let part : IsPartRead p (begun q ++ b ∷ []) (q ++ b ∷ []) (length (q ++ b ∷ [])) stage e =
-    record { split = split; long = refl; reads = k.reads; begun = found_begun k b u f other is } in
-    (p, stage, e, subst (λ s. IsPartRead p s (q ++ b ∷ []) (length (q ++ b ∷ [])) stage e) (sym (begun-push q b other)) part)
+    let part : IsPartRead p (begun q ++ b ∷ []) (q ++ b ∷ []) stage e =
+    record { split = split; reads = k.reads; begun = found_begun k b u f other is } in
+    (p, stage, e, subst (λ s. IsPartRead p s (q ++ b ∷ []) stage e) (sym (begun-push q b other)) part)
 
 -- byte by byte
 begins : (q p u : List ℕ) (f : Finding) → IsBegunPrefix q → outcome_of ((q ++ p) ++ u) ≡ Some f → IsBegunPrefix (q ++ p)
@@ -79,7 +77,7 @@ filled_tag p u some = by_found (outcome_of (p ++ u)) refl
     by_found : (o : Option Finding) → outcome_of (p ++ u) ≡ o → IsTag (fill p)
     by_found None is = absurd (some (subst (Decides (p ++ u)) is (decided (p ++ u))))
     by_found (Some f) is =
-        let nothing : IsPartRead [] [] [] 0 Start (all_at 0) = record { split = refl; long = refl; reads = reads_nothing; begun = empty_begun Start } in
+        let nothing : IsPartRead [] [] [] Start (all_at 0) = record { split = refl; reads = reads_nothing; begun = empty_begun Start } in
         reads_filled (begins [] p u f ([], Start, all_at 0, nothing) is).3
 
 -- ---- prefixes of irregular texts

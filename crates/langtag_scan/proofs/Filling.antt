@@ -1,22 +1,19 @@
 -- A subtag that has begun, filled to five letters, may stand wherever it has begun, and a tag may end after it.
-use Rattle.std.proofs.Common.{◌≡◌, ℕ, zero, suc, ◌-◌, ◌≤◌, true, cond, List, ◌++◌, length, eqb, [], Some, None, refl, sym, ap, subst, ◌∙◌, arith, ne_eqb}
+use Rattle.std.proofs.Common.{◌≡◌, ℕ, zero, suc, ◌-◌, ◌≤◌, true, cond, List, ◌++◌, length, [], Some, None, refl, sym, ap, subst, ◌∙◌, arith, ne_eqb}
 use Rattle.std.specs.Prelude.{replicate}
-use Rattle.std.specs.List.{count_by}
 use Rattle.std.proofs.lemmas.Bool.{le-leb, lt-leb}
 use Rattle.std.proofs.lemmas.List.{length-append, length-replicate}
 use Rattle.std.proofs.lemmas.List.Folds.{list_all-append}
-use Rattle.langtag_scan.specs.Class.{is_letter, is_digit, is_alphanumeric, are_letters, are_alphanumeric}
+use Rattle.langtag_scan.specs.Class.{is_letter, is_alphanumeric, are_letters, are_alphanumeric}
 use Rattle.langtag_scan.specs.Subtags.{segments}
-use Rattle.langtag_scan.specs.Shape.{classes_of_shape}
+use Rattle.langtag_scan.specs.Kind.{Kind, kind_of, has_letters, classes_by}
 use Rattle.langtag_scan.specs.Viable.{filling}
-use Rattle.langtag_scan.specs.Stage.{Classes, classes_of, after_by, may_end}
+use Rattle.langtag_scan.specs.Stage.{Stage, Start, Language, Extended, AfterScript, AfterRegion, AfterVariant, AfterSingleton, InExtension, AfterMark, InPrivate, AfterFirstMark, InPrivateTag, Classes, classes_of, after_by, may_end}
 use Rattle.langtag_scan.specs.Machine.{IsBegun, end_at, index_after, found_by, outcome}
 use Rattle.langtag_scan.specs.declared.ends.Ends.{Ends}
 use Rattle.langtag_scan.specs.declared.finding.Finding.{Finding}
-use Rattle.langtag_scan.specs.declared.stage.Stage.{Stage}
-use Rattle.langtag_scan.specs.declared.stage.Stage.TheVariants.{Start, Language, Extended, AfterScript, AfterRegion, AfterVariant, AfterSingleton, InExtension, AfterMark, InPrivate, AfterFirstMark, InPrivateTag}
 use Rattle.langtag_scan.proofs.Running.{found_after, segments-one}
-use Rattle.langtag_scan.proofs.ShapeLaws.{shape, classes_of-shape, letters-digits}
+use Rattle.langtag_scan.proofs.KindLaws.{classes_of-kind, letters-kind_of}
 use Rattle.langtag_scan.proofs.SubtagFacts.{letters_alphanumeric}
 
 record IsFull (f : List ℕ) : Type 0 where
@@ -24,15 +21,15 @@ record IsFull (f : List ℕ) : Type 0 where
   short : length f ≤ 8
   alphanumeric : are_alphanumeric f ≡ true
 
--- the classes of one are those of five letters and digits, of which so many are digits
-abbrev full : ℕ → Classes
-full digits = classes_of_shape (shape 5 0 digits)
+-- the classes of one are those of five letters and digits of its kind
+abbrev full : Kind → Classes
+full kind = classes_by kind 5
 
-full_classes : (f : List ℕ) → IsFull f → classes_of f ≡ full (count_by is_digit f)
+full_classes : (f : List ℕ) → IsFull f → classes_of f ≡ full (kind_of f)
 full_classes f h =
     let n : ℕ = length f in
     let long : 5 ≤ n = h.long in
-    classes_of-shape f h.short h.alphanumeric
+    classes_of-kind f h.short h.alphanumeric
     ∙ rw (
       le-leb 5 n long,
       le-leb 2 n (omega arith),
@@ -48,20 +45,20 @@ full_classes f h =
 Finishes : Stage → Classes → Type 0
 Finishes stage c = (after : Stage) × (after_by stage c ≡ Some after) × (may_end after ≡ true)
 
-after_full : (stage : Stage) (digits : ℕ) → (stage ≡ Start → eqb digits 0 ≡ true) → Finishes stage (full digits)
+after_full : (stage : Stage) (kind : Kind) → (stage ≡ Start → has_letters kind ≡ true) → Finishes stage (full kind)
 unfolding Finishes
-after_full Start digits first = (Language 3, rw (first refl) refl, refl)
-after_full (Language taken) digits first = (AfterVariant, refl, refl)
-after_full (Extended taken) digits first = (AfterVariant, refl, refl)
-after_full AfterScript digits first = (AfterVariant, refl, refl)
-after_full AfterRegion digits first = (AfterVariant, refl, refl)
-after_full AfterVariant digits first = (AfterVariant, refl, refl)
-after_full AfterSingleton digits first = (InExtension, refl, refl)
-after_full InExtension digits first = (InExtension, refl, refl)
-after_full AfterMark digits first = (InPrivate, refl, refl)
-after_full InPrivate digits first = (InPrivate, refl, refl)
-after_full AfterFirstMark digits first = (InPrivateTag, refl, refl)
-after_full InPrivateTag digits first = (InPrivateTag, refl, refl)
+after_full Start kind first = (Language 3, rw (first refl) refl, refl)
+after_full (Language taken) kind first = (AfterVariant, refl, refl)
+after_full (Extended taken) kind first = (AfterVariant, refl, refl)
+after_full AfterScript kind first = (AfterVariant, refl, refl)
+after_full AfterRegion kind first = (AfterVariant, refl, refl)
+after_full AfterVariant kind first = (AfterVariant, refl, refl)
+after_full AfterSingleton kind first = (InExtension, refl, refl)
+after_full InExtension kind first = (InExtension, refl, refl)
+after_full AfterMark kind first = (InPrivate, refl, refl)
+after_full InPrivate kind first = (InPrivate, refl, refl)
+after_full AfterFirstMark kind first = (InPrivateTag, refl, refl)
+after_full InPrivateTag kind first = (InPrivateTag, refl, refl)
 
 letters_a : (n : ℕ) → are_letters (replicate n 97) ≡ true
 unfolding is_letter
@@ -86,7 +83,7 @@ finishes stage s begun =
     let f = s ++ filling s in
     let full_f = filled stage s begun in
     subst (Finishes stage) (sym (full_classes f full_f))
-    (after_full stage (count_by is_digit f) (λ first. sym (letters-digits f full_f.alphanumeric) ∙ filled_letters s (begun.letters first)))
+    (after_full stage (kind_of f) (λ first. sym (letters-kind_of f) ∙ filled_letters s (begun.letters first)))
 
 -- where the last subtag is filled, something is found
 pub filled_found : (stage : Stage) (e : Ends) (s : List ℕ) → IsBegun stage s → (f : Finding) × (outcome stage e (segments (s ++ filling s)) ≡ Some f)

@@ -6,10 +6,9 @@ mod Complete
 pub mod SubtagFacts
 pub mod NormalTexts
 pub mod CaseOrder
-mod ShapeLaws
+mod KindLaws
 mod Running
 mod Outcomes
-mod NoCandidates
 mod Filling
 mod PrivateTexts
 mod Steps
@@ -17,9 +16,9 @@ mod StageLaws
 mod ReadingLaws
 mod EndsLaw
 pub mod IrregularTexts
-mod CandidatesByLength
-mod CandidateRanges
 pub mod TagLaws
+mod StateTables
+mod PositionLaws
 mod RecogniserLaws
 mod FillLaw
 pub mod CaseLaw

@@ -1,13 +1,13 @@
 -- No text is of two of the three cases of a tag.
 use Rattle.std.proofs.Common.{◌≡◌, ℕ, ◌<◌, Bool, true, false, List, [], ◌∷◌, map, refl, sym, ap, ◌∙◌}
 use Rattle.std.proofs.lemmas.Bool.{agree_below_at, both_ways}
-use Rattle.langtag_scan.specs.declared.stage.Stage.TheVariants.{Start}
 use Rattle.langtag_scan.specs.Case.{fold_byte, fold_text}
 use Rattle.langtag_scan.specs.Class.{is_letter, is_digit, is_primary, is_extended, is_script, is_region, is_variant, is_extension_subtag, is_private_subtag, is_mark, is_singleton}
 use Rattle.langtag_scan.specs.Grandfathered.{grandfathered_tags, irregular_texts}
 use Rattle.langtag_scan.specs.Irregular.{folded_texts, folded_at}
 use Rattle.langtag_scan.specs.Subtags.{segments}
 use Rattle.langtag_scan.specs.Tag.{IsNormal, IsPrivate, IsIrregular}
+use Rattle.langtag_scan.specs.Stage.{Start}
 use Rattle.langtag_scan.proofs.NormalTexts.{runs_from_normal}
 use Rattle.langtag_scan.proofs.PrivateTexts.{runs_private, runs_from_private, one_no_primary}
 use Rattle.langtag_scan.proofs.CaseLaw.{runs-fold, runs_private-fold, segments_test-fold}

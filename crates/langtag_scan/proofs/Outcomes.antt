@@ -8,14 +8,12 @@ use Rattle.langtag_scan.specs.Ends.{HasEnds}
 use Rattle.langtag_scan.specs.Found.{IsFoundOf}
 use Rattle.langtag_scan.specs.Machine.{all_at, end_at, index_after, found_by, outcome, outcome_of, IsRefused}
 use Rattle.langtag_scan.specs.Record.{flat}
-use Rattle.langtag_scan.specs.Stage.{is_one, next_stage, may_end}
+use Rattle.langtag_scan.specs.Stage.{Stage, Start, Language, InPrivate, AfterMark, AfterFirstMark, InPrivateTag, is_one, next_stage, may_end}
 use Rattle.langtag_scan.specs.Subtags.{segments}
 use Rattle.langtag_scan.specs.Tag.{IsNormal}
 use Rattle.langtag_scan.specs.declared.ends.Ends.{Ends}
 use Rattle.langtag_scan.specs.declared.finding.Finding.{Finding}
 use Rattle.langtag_scan.specs.declared.finding.Finding.TheVariants.{Normal, PrivateUse}
-use Rattle.langtag_scan.specs.declared.stage.Stage.{Stage}
-use Rattle.langtag_scan.specs.declared.stage.Stage.TheVariants.{Start, Language, InPrivate, AfterMark, AfterFirstMark, InPrivateTag}
 use Rattle.langtag_scan.proofs.EndsLaw.{ends_after-flat}
 use Rattle.langtag_scan.proofs.NormalTexts.{normal_from_runs, runs_from_normal, spelled_segments}
 use Rattle.langtag_scan.proofs.PrivateTexts.{runs_private, runs_from_private, private_from_runs, one_no_primary}

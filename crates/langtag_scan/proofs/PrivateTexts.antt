@@ -2,11 +2,10 @@
 use Rattle.std.proofs.Common.{Bool, append-nil, ◌≡◌, ℕ, true, false, ◌&&◌, List, [], ◌∷◌, refl, sym, ap, ◌∙◌}
 use Rattle.std.proofs.lemmas.Bool.{and_parts, and_from}
 use Rattle.std.proofs.lemmas.List.Splits.{join_with_byte-slice_split}
-use Rattle.langtag_scan.specs.declared.stage.Stage.TheVariants.{AfterMark}
 use Rattle.langtag_scan.specs.Class.{is_private_subtag, is_primary, is_mark}
 use Rattle.langtag_scan.specs.Subtags.{join, segments}
 use Rattle.langtag_scan.specs.Tag.{IsPrivate}
-use Rattle.langtag_scan.specs.Stage.{is_one}
+use Rattle.langtag_scan.specs.Stage.{AfterMark, is_one}
 use Rattle.langtag_scan.proofs.Decoding.{decode, decode_sound}
 use Rattle.langtag_scan.proofs.Complete.{after_mark}
 use Rattle.langtag_scan.proofs.SubtagLists.{segments-joined, each_subtag}

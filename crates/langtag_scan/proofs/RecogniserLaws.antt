@@ -1,34 +1,31 @@
--- What the recogniser knows after each byte, and how it answers by that.
-use Rattle.std.proofs.Common.{◌≡◌, ℕ, ◌+◌, ◌<◌, ◌≤◌, Bool, true, false, cond, ◌⊎◌, List, [], ◌∷◌, ◌++◌, length, take, drop, get_or, inl, inr, refl, sym, ap, subst, ◌∙◌, arith, append_assoc}
-use Rattle.std.specs.Prelude.{Option, Some, None, MatchOption}
-use Rattle.std.proofs.lemmas.Bool.{cases_lt}
-use Rattle.std.proofs.lemmas.List.{take_more, take_all, take-append-drop, take-take, length-take}
-use Rattle.langtag_scan.specs.Found.{finding, IsFoundOf}
-use Rattle.langtag_scan.specs.Irregular.{is_possible}
-use Rattle.langtag_scan.specs.Machine.{found_by, outcome, HasStopped, IsRefused}
-use Rattle.langtag_scan.specs.Stage.{may_end}
-use Rattle.langtag_scan.specs.Candidates.{Follows, IsGone}
-use Rattle.langtag_scan.specs.Tag.{IsNormal, IsPrivate, IsIrregular, IsTag}
-use Rattle.langtag_scan.specs.Tracking.{IsDecided, IsReadTo, IsKept}
+-- What the position after some bytes says of them: whether a tag begins so, and what they are as a whole text.
+use Rattle.std.proofs.Common.{◌≡◌, ℕ, ◌+◌, ◌<◌, Bool, true, false, cond, ◌&&◌, List, [], ◌∷◌, ◌++◌, length, take, get_or, set, Option, Some, None, inl, inr, refl, sym, ap, subst, ◌∙◌, arith, append-nil}
+use Rattle.std.specs.List.{position}
+use Rattle.std.specs.Option.{option_map, option_map_or, is_none}
+use Rattle.std.specs.Str.{bytes_eq}
+use Rattle.std.proofs.lemmas.Bool.{both_ways}
+use Rattle.std.proofs.lemmas.List.{take_more, take_all, length-take}
+use Rattle.std.proofs.lemmas.List.Quantifiers.{position-Some}
+use Rattle.std.proofs.lemmas.Slice.Eq.{bytes_eq-Decides}
+use Rattle.langtag_scan.specs.Case.{fold_text}
+use Rattle.langtag_scan.specs.Found.{IsFoundOf}
+use Rattle.langtag_scan.specs.Irregular.{folded_texts, folded_at, is_possible}
+use Rattle.langtag_scan.specs.Machine.{end_at, found_by, outcome, HasStopped, IsRefused, ends_at}
+use Rattle.langtag_scan.specs.Position.{Begun, position_of, begun_after, fresh, stage_after, place_of, part_before, ending_after, irregular_ending, ending_of, is_dead}
+use Rattle.langtag_scan.specs.Stage.{Stage, Start, InPrivateTag, may_end}
+use Rattle.langtag_scan.specs.Tag.{IsNormal, IsPrivate, IsIrregular, IsIrregularAt, IsTag}
 use Rattle.langtag_scan.specs.Viable.{IsViable, IsStop}
-use Rattle.langtag_scan.specs.declared.finding.Finding.{Finding}
-use Rattle.langtag_scan.specs.declared.found.Found.{Found}
-use Rattle.langtag_scan.specs.declared.irregular.Candidates.{Candidates}
-use Rattle.langtag_scan.specs.declared.machine.Machine.{Machine}
-use Rattle.langtag_scan.proofs.IrregularTexts.{possible_viable}
-use Rattle.langtag_scan.proofs.CandidateRanges.{first_possible, gone_empty, follows-append}
-use Rattle.langtag_scan.proofs.CandidatesByLength.{not_viable}
+use Rattle.langtag_scan.specs.declared.ends.Ends.{Ends}
+use Rattle.langtag_scan.specs.declared.finding.Finding.TheVariants as finding
+use Rattle.langtag_scan.specs.declared.state.Ending.{Ending}
+use Rattle.langtag_scan.specs.declared.state.Ending.TheVariants.{NoTag, Normal, PrivateUse, Irregular}
+use Rattle.langtag_scan.proofs.IrregularTexts.{seventeen_folded, irregular_from_fold, irregular_fold, possible_viable, possible_prefix}
 use Rattle.langtag_scan.proofs.Outcomes.{Decides, decided}
+use Rattle.langtag_scan.proofs.PositionLaws.{Tracks, IsTracked, FollowsIrregular, follows_irregular, place_before, tracks_push, stage_is, marked_end, position-None, position_of-push}
+use Rattle.langtag_scan.proofs.ReadingLaws.{reads_viable, reads_ended}
+use Rattle.langtag_scan.proofs.Running.{found_after}
+use Rattle.langtag_scan.proofs.StageLaws.{after_not_start}
 use Rattle.langtag_scan.proofs.TagLaws.{tag_irregular, viable_from_tag, no_tag_dead, prefixes_viable, stop_at, stop_whole}
-
--- ---- one byte more
-
--- what is known of a prefix becomes known of the prefix with the next byte
-pub read_next :
-    (t : List ℕ) (i b : ℕ) (P Q : List ℕ → Type 0) → i < length t → b ≡ get_or t i 0 →
-    ((p : List ℕ) → length p ≡ i → P p → Q (p ++ b ∷ [])) → P (take i t) → Q (take (i + 1) t)
-read_next t i b P Q within read step known =
-    subst Q (ap (λ x. take i t ++ x ∷ []) read ∙ sym (take_more t i 0 within)) (step (take i t) (omega (arith, length-take i t)) known)
 
 -- ---- which prefixes are viable
 
@@ -38,28 +35,43 @@ viable_possible p k within possible =
     let there = possible_viable p k within possible in
     viable_from_tag p there.0 (tag_irregular (p ++ there.0) k there.1)
 
--- ---- where the machine has stopped
+-- some tag begins with the empty text
+pub viable_nothing : IsViable []
+viable_nothing = viable_possible [] 0 (omega arith) refl
 
-pub stopped-append : (p u : List ℕ) → HasStopped p → HasStopped (p ++ u)
-stopped-append p u stopped = record {
-  not_normal = λ v normal. stopped.not_normal (u ++ v) (subst IsNormal (append_assoc p u v) normal);
-  not_private = λ v private. stopped.not_private (u ++ v) (subst IsPrivate (append_assoc p u v) private);
-}
+-- where nothing of the three kinds may follow, no tag begins so
+not_viable : (p : List ℕ) → HasStopped p → ((k : ℕ) → k < 17 → is_possible p k ≡ false) → IsViable p → ⊥
+unfolding IsViable IsTag IsIrregular
+not_viable p stopped gone (u, inl normal) = stopped.not_normal u normal
+not_viable p stopped gone (u, inr (inl private)) = stopped.not_private u private
+not_viable p stopped gone (u, inr (inr (k, irregular))) =
+    let possible = possible_prefix p u k irregular in
+    both_ways (is_possible p k) (gone k possible.0) possible.1
 
--- what is stopped by a prefix stays so
-pub stopped_longer : (t : List ℕ) (i n : ℕ) → i ≤ n → HasStopped (take i t) → HasStopped (take n t)
-stopped_longer t i n le stopped =
-    let longer : take i t ++ drop i (take n t) ≡ take n t = ap (λ p. p ++ drop i (take n t)) (sym (take-take i n t le)) ∙ take-append-drop i (take n t) in
-    subst HasStopped longer (stopped-append (take i t) (drop i (take n t)) stopped)
+by_dead : (q places : List ℕ) (b : Option Begun) (o : Option (List ℕ)) → Tracks q places b → FollowsIrregular q o → (is_none b && is_none o) ≡ true → IsViable q → ⊥
+by_dead q places None None stopped gone dead = not_viable q stopped gone
+by_dead q places None (Some p) stopped known dead = absurd cc
+by_dead q places (Some s) o known follows dead = absurd cc
 
--- the whole text is neither a normal tag nor a private one
-pub whole_refused : (t : List ℕ) (i : ℕ) → HasStopped (take i t) → IsRefused t
-whole_refused t i stopped = record {
-  not_normal = λ normal. stopped.not_normal (drop i t) (subst IsNormal (sym (take-append-drop i t)) normal);
-  not_private = λ private. stopped.not_private (drop i t) (subst IsPrivate (sym (take-append-drop i t)) private);
-}
+pub dead_not_viable : (q places : List ℕ) → Tracks q places (position_of q).begun → is_dead (position_of q) ≡ true → IsViable q → ⊥
+dead_not_viable q places tracks dead = by_dead q places _ _ tracks (follows_irregular q) dead
 
--- ---- the answers
+by_alive : (q places : List ℕ) (b : Option Begun) (o : Option (List ℕ)) → Tracks q places b → FollowsIrregular q o → (is_none b && is_none o) ≡ false → IsViable q
+by_alive q places None None stopped gone alive = absurd cc
+by_alive q places None (Some p) stopped (is, k, at, within, possible) alive = viable_possible q k within possible
+by_alive q places (Some s) o known follows alive = reads_viable known.part
+
+pub alive_viable : (q places : List ℕ) → Tracks q places (position_of q).begun → is_dead (position_of q) ≡ false → IsViable q
+alive_viable q places tracks alive = by_alive q places _ _ tracks (follows_irregular q) alive
+
+-- ---- a whole text
+
+-- the text is what its last position says, where the last part ends in this place
+abbrev pub IsEnded : List ℕ → List ℕ → ℕ → Ending → Type 0
+IsEnded t places place NoTag = IsTag t → ⊥
+IsEnded t places place Normal = IsFoundOf t (finding.Normal (ends_at (set places place (length t)) (length t)))
+IsEnded t places place PrivateUse = IsPrivate t
+IsEnded t places place (Irregular k) = IsIrregularAt k t
 
 -- a text that is of none of the three kinds is not a tag
 no_tag : (t : List ℕ) → IsRefused t → (IsIrregular t → ⊥) → IsTag t → ⊥
@@ -68,75 +80,105 @@ no_tag t refused never (inl normal) = refused.not_normal normal
 no_tag t refused never (inr (inl private)) = refused.not_private private
 no_tag t refused never (inr (inr irregular)) = never irregular
 
--- what the irregular texts say of a text that is neither of the others
-pub found_irregular :
-    (t : List ℕ) (found : Option Found) → IsRefused t → MatchOption found (IsIrregular t → ⊥) (λ f. IsFoundOf t (finding f)) →
-    MatchOption found (IsTag t → ⊥) (λ f. IsFoundOf t (finding f))
-found_irregular t None refused never = no_tag t refused never
-found_irregular t (Some f) refused found = found
+module _ (t places : List ℕ) (place : ℕ) (refused : IsRefused t) where
+  by_text : (o : Option ℕ) → position (bytes_eq (fold_text t)) folded_texts ≡ o → IsEnded t places place (option_map_or Irregular o NoTag)
+  unfolding IsIrregular
+  by_text None none = no_tag t refused (λ (k, irregular).
+      let is = irregular_fold t k irregular in
+      let other = position-None (bytes_eq (fold_text t)) folded_texts k [] none (omega (arith, is.0, seventeen_folded)) in
+      both_ways (bytes_eq (fold_text t) (folded_at k)) other ((bytes_eq-Decides (fold_text t) (folded_at k)).1 (sym is.1)))
+  by_text (Some k) at =
+      let first = position-Some (bytes_eq (fold_text t)) folded_texts k [] at in
+      irregular_from_fold t k (omega (arith, first.0, seventeen_folded)) (sym ((bytes_eq-Decides (fold_text t) (folded_at k)).0 first.1))
 
--- the range of the irregular texts after a prefix is that of the whole text, where the prefix is the whole or the range is empty
-pub whole_follows :
-    (t : List ℕ) (i : ℕ) (candidates : Candidates) → i ≤ length t → (i < length t → IsGone (take i t) candidates) → Follows (take i t) candidates →
-    Follows t candidates
-whole_follows t i candidates within gone follows =
-    elim (cases_lt i (length t)) [
-      | inl before ↦ subst (λ p. Follows p candidates) (take-append-drop i t) (follows-append (take i t) (drop i t) candidates (gone before) follows)
-      | inr end ↦ subst (λ p. Follows p candidates) (take_all i t end) follows
-    ]
+  -- what is neither normal nor for private use may be irregular
+  refused_ended : (o : Option (List ℕ)) → FollowsIrregular t o → IsEnded t places place (option_map_or irregular_ending o NoTag)
+  unfolding IsIrregular
+  refused_ended None gone = no_tag t refused (λ (k, irregular).
+      let possible = possible_prefix t [] k (subst (IsIrregularAt k) (sym (append-nil t)) irregular) in
+      both_ways (is_possible t k) (gone k possible.0) possible.1)
+  refused_ended (Some p) (is, k, at, within, possible) = rw is (by_text (position (bytes_eq (fold_text t)) folded_texts) refl)
 
--- the stop of a text of which so many bytes were read when the machine had stopped
-pub stop_read :
-    (t : List ℕ) (n : ℕ) (candidates : Candidates) → candidates.high ≤ 17 → n ≤ length t → (n < length t → IsGone (take n t) candidates) →
-    Follows (take n t) candidates → HasStopped (take n t) → ((k : ℕ) → k < n → IsViable (take k t)) → IsStop t n
-stop_read t n candidates few within gone follows stopped earlier =
-    elim (cases_lt n (length t)) [
-      | inl before ↦ stop_at t n within earlier (not_viable candidates.len (take n t) stopped (gone before))
-      | inr end ↦ elim (cases_lt candidates.low candidates.high) [
-        | inl some ↦
-            let viable = viable_possible (take n t) candidates.low (omega arith) (first_possible (take n t) candidates follows some few) in
-            record { within = within; before = earlier; at = inl (viable, omega arith) }
-        | inr none ↦ stop_at t n within earlier (not_viable candidates.len (take n t) stopped (gone_empty (take n t) candidates follows (omega arith)))
-      ]
-    ]
-
--- ---- a text that was read to the first byte after which no tag can follow
-
-pub dead_decided : (t : List ℕ) (i : ℕ) → i < length t → IsViable (take i t) → (IsViable (take (i + 1) t) → ⊥) → IsDecided t None (i + 1)
-dead_decided t i within viable dead = record {
-  answer = no_tag_dead t (i + 1) dead;
-  stop = stop_at t (i + 1) (omega arith) (λ k below. prefixes_viable t i k viable (omega arith)) dead;
+-- the whole text is neither
+stopped_refused : (t : List ℕ) → HasStopped t → IsRefused t
+stopped_refused t stopped = record {
+  not_normal = λ normal. stopped.not_normal [] (subst IsNormal (sym (append-nil t)) normal);
+  not_private = λ private. stopped.not_private [] (subst IsPrivate (sym (append-nil t)) private);
 }
 
--- ---- a text whose last subtag has ended
+whole-end : (after : Stage) (n : ℕ) (e : Ends) → (end_at after n e).whole ≡ n
+whole-end Start n e = refl
+whole-end _ n e = refl
 
-module _ (t : List ℕ) (end : ℕ) (candidates : Candidates) (m : Machine) (goes_on : Bool) (at : end ≡ length t) (known : IsReadTo t end candidates m goes_on) where
-  stop : IsStop t (length t)
-  stop = stop_whole t (subst IsViable (take_all end t (omega (arith, at))) known.viable)
+module _ (t places : List ℕ) (s : Begun) (known : IsTracked t places s) (o : Option (List ℕ)) (follows : FollowsIrregular t o) where
+  found : (stage : Stage) → (stage ≡ Start → ⊥) → IsFoundOf t (found_by stage (end_at stage (length t) known.ends)) → IsEnded t places (place_of stage) (ending_after stage)
+  found InPrivateTag past is = is
+  found stage past is =
+      let marked = marked_end places (length t) known.ends stage past known.marked in
+      subst (λ e. IsFoundOf t (finding.Normal e)) (marked.is ∙ ap (ends_at (set places (place_of stage) (length t))) (whole-end stage (length t) known.ends)) is
 
-  -- the machine alone says what is not found, but for an irregular text of nine bytes
-  pub end_refused :
-      (found : Option Found) → (goes_on ≡ false) ⊎ (may_end m.stage ≡ false) →
-      (IsKept t (length t) candidates → (IsIrregular t → length t ≡ 9) → MatchOption found (IsIrregular t → ⊥) (λ f. IsFoundOf t (finding f))) →
-      IsDecided t found (length t)
+  by_end :
+      (stage : Stage) → (stage ≡ Start → ⊥) → (v : Bool) → Decides t (cond v (Some (found_by stage (end_at stage (length t) known.ends))) None) →
+      IsEnded t places (place_of stage) (cond v (ending_after stage) (option_map_or irregular_ending o NoTag))
+  by_end stage past true is = found stage past is
+  by_end stage past false refused = refused_ended t places (place_of stage) refused o follows
+
+  by_stage :
+      (next : Option Stage) → stage_after s ≡ next →
+      IsEnded t places (place_before (option_map fresh next)) (option_map_or (λ stage. cond (may_end stage) (ending_after stage) (option_map_or irregular_ending o NoTag)) next (option_map_or irregular_ending o NoTag))
   unfolding outcome
-  end_refused found why answer = record {
-    answer = found_irregular t found (subst (Decides t) (known.found at ∙ none) (decided t)) (answer (subst (λ n. IsKept t n candidates) (omega (arith, at)) known.kept) (known.nine at));
-    stop = stop;
-  }
-    where
-      either : (v : Bool) (o : Option Finding) → o ≡ None → cond v o None ≡ None
-      either true o is = is
-      either false o is = refl
+  by_stage None next = refused_ended t places _ (subst (Decides t) (reads_ended known.part ∙ ap (found_after known.ends (length t) []) (sym (stage_is t places s known) ∙ next)) (decided t)) o follows
+  by_stage (Some stage) next =
+      let led = sym (stage_is t places s known) ∙ next in
+      by_end stage (after_not_start s.stage stage known.bytes led) (may_end stage)
+      (subst (Decides t) (reads_ended known.part ∙ ap (found_after known.ends (length t) []) led) (decided t))
 
-      none : cond goes_on (outcome m.stage m.ends []) None ≡ None
-      none = elim why [ inl off ↦ rw off refl | inr open_end ↦ either goes_on _ (rw open_end refl) ]
+by_begun :
+    (t places : List ℕ) (b : Option Begun) (o : Option (List ℕ)) → Tracks t places b → FollowsIrregular t o →
+    IsEnded t places (place_before (option_map_or (begun_after 45) b None)) (ending_of (record { begun = b; irregular = o }))
+by_begun t places None o stopped follows = refused_ended t places _ (stopped_refused t stopped) o follows
+by_begun t places (Some s) o known follows = by_stage t places s known o follows (stage_after s) refl
 
-  pub end_accepted :
-      (found : Found) → goes_on ≡ true → may_end m.stage ≡ true → finding found ≡ found_by m.stage m.ends →
-      IsDecided t (Some found) (length t)
-  unfolding outcome
-  end_accepted found on ends is = record { answer = subst (IsFoundOf t) (sym is) (subst (Decides t) (known.found at ∙ some) (decided t)); stop = stop }
-    where
-      some : cond goes_on (outcome m.stage m.ends []) None ≡ Some (found_by m.stage m.ends)
-      some = rw (on, ends) refl
+pub ended : (t places : List ℕ) → Tracks t places (position_of t).begun → IsEnded t places (place_before (option_map_or (begun_after 45) (position_of t).begun None)) (ending_of (position_of t))
+ended t places tracks = by_begun t places _ _ tracks (follows_irregular t)
+
+-- ---- where a text has been read to an index
+
+pub next_prefix : (t : List ℕ) (i b : ℕ) → i < length t → b ≡ get_or t i 0 → take i t ++ b ∷ [] ≡ take (i + 1) t
+next_prefix t i b within read = ap (λ x. take i t ++ x ∷ []) read ∙ sym (take_more t i 0 within)
+
+-- one byte more
+pub tracks_next :
+    (t places : List ℕ) (i b place : ℕ) → i < length t → take i t ++ b ∷ [] ≡ take (i + 1) t → place ≡ part_before (position_of (take i t ++ b ∷ [])) →
+    Tracks (take i t) places (position_of (take i t)).begun → Tracks (take (i + 1) t) (set places place i) (position_of (take (i + 1) t)).begun
+tracks_next t places i b place within next is known =
+    let pushed = tracks_push (take i t) places b (position_of (take i t)).begun known in
+    let step = position_of-push (take i t) b in
+    let same : place_before (option_map_or (begun_after b) (position_of (take i t)).begun None) ≡ place = ap part_before (sym step) ∙ sym is in
+    let long : length (take i t) ≡ i = omega (arith, length-take i t, within) in
+    let here : Tracks (take i t ++ b ∷ []) (set places place i) (position_of (take i t ++ b ∷ [])).begun = rw step (rw (same, long) at pushed) in
+    subst (λ q. Tracks q (set places place i) (position_of q).begun) next here
+
+-- after which no tag can follow
+pub dead_next :
+    (t places : List ℕ) (i b : ℕ) → i < length t → b ≡ get_or t i 0 → IsViable (take i t) → Tracks (take i t) places (position_of (take i t)).begun →
+    is_dead (position_of (take i t ++ b ∷ [])) ≡ true → (IsTag t → ⊥) × IsStop t (i + 1)
+dead_next t places i b within read viable known dead =
+    let next = next_prefix t i b within read in
+    let tracks = tracks_next t places i b _ within next refl known in
+    let never = dead_not_viable (take (i + 1) t) _ tracks (ap (λ q. is_dead (position_of q)) (sym next) ∙ dead) in
+    (no_tag_dead t (i + 1) never, stop_at t (i + 1) (omega arith) (λ k below. prefixes_viable t i k viable (omega arith)) never)
+
+-- up to its end
+pub text_ended :
+    (t places : List ℕ) (i place : ℕ) (ending : Ending) → i ≡ length t → Tracks (take i t) places (position_of (take i t)).begun →
+    place ≡ part_before (position_of (take i t ++ 45 ∷ [])) → ending ≡ ending_of (position_of (take i t)) → IsEnded t places place ending
+text_ended t places i place ending at tracks part is =
+    let whole : take i t ≡ t = take_all i t (omega (arith, at)) in
+    let last : place ≡ place_before (option_map_or (begun_after 45) (position_of t).begun None) =
+    part ∙ ap (λ q. part_before (position_of (q ++ 45 ∷ []))) whole ∙ ap part_before (position_of-push t 45) in
+    let what : ending ≡ ending_of (position_of t) = is ∙ ap (λ q. ending_of (position_of q)) whole in
+    rw (last, what) (ended t places (subst (λ q. Tracks q places (position_of q).begun) whole tracks))
+
+pub whole_stop : (t : List ℕ) (i : ℕ) → i ≡ length t → IsViable (take i t) → IsStop t i
+whole_stop t i at viable = subst (IsStop t) (sym at) (stop_whole t (subst IsViable (take_all i t (omega (arith, at))) viable))

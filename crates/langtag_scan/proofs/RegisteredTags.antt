@@ -10,7 +10,7 @@ use Rattle.langtag_scan.specs.Grandfathered.{Grandfathered, grandfathered_tags, 
 use Rattle.langtag_scan.specs.Irregular.{folded_texts, folded_at}
 use Rattle.langtag_scan.specs.Subtags.{segments}
 use Rattle.langtag_scan.specs.Tag.{IsTag}
-use Rattle.langtag_scan.specs.declared.stage.Stage.TheVariants.{Start}
+use Rattle.langtag_scan.specs.Stage.{Start}
 use Rattle.langtag_scan.proofs.IrregularTexts.{irregular_from_fold}
 use Rattle.langtag_scan.proofs.NormalTexts.{normal_from_runs}
 use Rattle.langtag_scan.proofs.Runs.{runs}

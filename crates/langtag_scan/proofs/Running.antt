@@ -9,12 +9,10 @@ use Rattle.std.proofs.lemmas.List.Folds.{list_all-append}
 use Rattle.std.proofs.lemmas.List.Splits.{slice_split_none, slice_split_at, slice_split-cons_no, slice_split-cons_yes}
 use Rattle.langtag_scan.specs.Class.{is_letter, is_alphanumeric, has_length, are_letters, are_alphanumeric, is_primary, is_mark}
 use Rattle.langtag_scan.specs.Subtags.{is_hyphen, segments}
-use Rattle.langtag_scan.specs.Stage.{is_one, next_stage, after_stage}
+use Rattle.langtag_scan.specs.Stage.{Stage, Start, Language, AfterFirstMark, is_one, next_stage, after_stage}
 use Rattle.langtag_scan.specs.Machine.{end_at, index_after, outcome, IsBegun}
 use Rattle.langtag_scan.specs.declared.ends.Ends.{Ends}
 use Rattle.langtag_scan.specs.declared.finding.Finding.{Finding}
-use Rattle.langtag_scan.specs.declared.stage.Stage.{Stage}
-use Rattle.langtag_scan.specs.declared.stage.Stage.TheVariants.{Start, Language, AfterFirstMark}
 use Rattle.langtag_scan.proofs.BoolFacts.{chosen}
 use Rattle.langtag_scan.proofs.SubtagFacts.{no_hyphen_each, alphanumeric_no_hyphen, mark_letters}
 use Rattle.langtag_scan.proofs.NormalTexts.{after_subtag}

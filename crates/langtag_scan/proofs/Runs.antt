@@ -2,9 +2,8 @@
 use Rattle.std.specs.Prelude.{ℕ, Bool, false, List, [], ◌∷◌}
 use Rattle.std.specs.Option.{option_map_or}
 use Rattle.langtag_scan.specs.Machine.{end_at, index_after}
-use Rattle.langtag_scan.specs.Stage.{next_stage, may_end}
+use Rattle.langtag_scan.specs.Stage.{Stage, next_stage, may_end}
 use Rattle.langtag_scan.specs.declared.ends.Ends.{Ends}
-use Rattle.langtag_scan.specs.declared.stage.Stage.{Stage}
 
 -- whether these subtags may follow in a normal tag
 unfoldable pub runs : Stage → List (List ℕ) → Bool

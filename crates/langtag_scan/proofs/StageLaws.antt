@@ -1,10 +1,8 @@
 -- The stages: what comes after a subtag, and where it ends.
 use Rattle.std.proofs.Common.{◌≡◌, ℕ, ◌+◌, Bool, true, false, ◌⊎◌, List, [], length, Some, inl, inr, refl, ap, arith}
-use Rattle.langtag_scan.specs.Stage.{classes_of, next_stage, after_stage}
+use Rattle.langtag_scan.specs.Stage.{Stage, Start, Language, AfterFirstMark, InPrivateTag, classes_of, next_stage, after_stage}
 use Rattle.langtag_scan.specs.Machine.{end_at, index_after}
 use Rattle.langtag_scan.specs.declared.ends.Ends.{Ends}
-use Rattle.langtag_scan.specs.declared.stage.Stage.{Stage}
-use Rattle.langtag_scan.specs.declared.stage.Stage.TheVariants.{Start, Language, AfterFirstMark, InPrivateTag}
 use Rattle.langtag_scan.proofs.Steps.{leads_to, may_follow, after_class, next_step}
 
 -- ---- which stages follow

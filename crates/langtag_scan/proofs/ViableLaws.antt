@@ -1,16 +1,12 @@
 -- How much of a text is viable, by where the text stops once it has one byte more.
-use Rattle.std.proofs.Common.{◌≡◌, ℕ, ◌+◌, ◌≤◌, List, [], ◌∷◌, ◌++◌, length, take, inl, inr, refl, sym, subst, arith, append_assoc}
+use Rattle.std.proofs.Common.{◌≡◌, ℕ, ◌+◌, ◌≤◌, List, [], ◌∷◌, ◌++◌, length, take, inl, inr, sym, subst, arith, append_assoc}
 use Rattle.std.proofs.lemmas.Bool.{cases_lt}
 use Rattle.std.proofs.lemmas.List.{take-append-le, length_push}
 use Rattle.langtag_scan.specs.Viable.{IsViable, IsStop, IsViableLength}
-use Rattle.langtag_scan.proofs.RecogniserLaws.{viable_possible}
+use Rattle.langtag_scan.proofs.RecogniserLaws.{viable_nothing}
 use Rattle.langtag_scan.proofs.TagLaws.{prefixes_viable}
 
--- some tag begins with the empty text
-viable_nothing : IsViable []
-viable_nothing = viable_possible [] 0 (omega arith) refl
-
--- so a text that has a byte does not stop before it
+-- a text that has a byte does not stop before it
 pub stop_some : (t : List ℕ) (n : ℕ) → IsStop t n → 1 ≤ length t → 1 ≤ n
 stop_some t n stop some = elim (cases_lt 0 n) [
   | inl read ↦ omega (arith, read)

@@ -9,11 +9,12 @@ pub mod Parts
 pub mod Viable
 pub mod Found
 pub mod Stage
-pub mod Shape
+pub mod Kind
 pub mod Machine
 pub mod CaseLaws
 pub mod Compare
 pub mod AlikeRecords
 pub mod Irregular
-pub mod Candidates
+pub mod Position
+pub mod States
 pub mod Tracking

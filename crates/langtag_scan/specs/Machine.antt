@@ -1,21 +1,11 @@
 -- What the machine knows of the bytes that it has read.
 -- Only contracts of private functions cite this page.
---
--- What implies what, here and on the page Tracking:
---   Tracks p m                          p are the bytes before a subtag, and the machine m knows what they have led to:
---     = Reads p stage ends              however p goes on, what is found follows from the subtags after p, at the stage
---   → IsReading t start i m s           with more of the text t: the bytes up to i have begun a subtag (IsBegun) of shape s
---     → IsSubtagRead t start m .. s     after them t ends or has a hyphen
---       → IsReadTo t end .. m goes_on   the subtag has ended: Tracks after the hyphen, or what is found where t ends
-use Rattle.std.specs.Prelude.{◌≡◌, ℕ, ◌+◌, ◌≤◌, true, List, [], ◌∷◌, ◌++◌, length, Option, Some, None, if◌then◌else◌}
+use Rattle.std.specs.Prelude.{◌≡◌, ℕ, ◌+◌, ◌≤◌, max, true, List, [], ◌∷◌, ◌++◌, length, slice_index, Option, Some, None, if◌then◌else◌}
 use Rattle.std.specs.Option.{option_map_or}
 use Rattle.langtag_scan.specs.Class.{are_letters, are_alphanumeric}
 use Rattle.langtag_scan.specs.Subtags.{segments}
 use Rattle.langtag_scan.specs.Tag.{IsNormal, IsPrivate}
-use Rattle.langtag_scan.specs.Candidates.{HasNoCandidate}
-use Rattle.langtag_scan.specs.Stage.{after_stage, may_end}
-use Rattle.langtag_scan.specs.declared.stage.Stage.{Stage}
-use Rattle.langtag_scan.specs.declared.stage.Stage.TheVariants.{Start, Language, Extended, AfterScript, AfterRegion, AfterVariant, AfterSingleton, InExtension, AfterMark, InPrivate, AfterFirstMark, InPrivateTag}
+use Rattle.langtag_scan.specs.Stage.{Stage, Start, Language, Extended, AfterScript, AfterRegion, AfterVariant, AfterSingleton, InExtension, AfterMark, InPrivate, AfterFirstMark, InPrivateTag, after_stage, may_end}
 use Rattle.langtag_scan.specs.declared.ends.Ends.{Ends}
 use Rattle.langtag_scan.specs.declared.finding.Finding.{Finding}
 use Rattle.langtag_scan.specs.declared.finding.Finding.TheVariants.{Normal, PrivateUse}
@@ -39,6 +29,18 @@ end_at AfterMark p e = record { language = e.language; script = e.script; region
 end_at InPrivate p e = record { language = e.language; script = e.script; region = e.region; variants = e.variants; extensions = e.extensions; whole = p }
 end_at AfterFirstMark p e = record { language = e.language; script = e.script; region = e.region; variants = e.variants; extensions = e.extensions; whole = p }
 end_at InPrivateTag p e = record { language = e.language; script = e.script; region = e.region; variants = e.variants; extensions = e.extensions; whole = p }
+
+-- the ends that are known from the last end that was marked for each part, 0 where there was none: that of an absent part is the
+-- end of the part before
+abbrev pub ends_at : List ℕ → ℕ → Ends
+ends_at places len = record {
+  language = slice_index places 0;
+  script = max (slice_index places 1) (slice_index places 0);
+  region = max (slice_index places 2) (max (slice_index places 1) (slice_index places 0));
+  variants = max (slice_index places 3) (max (slice_index places 2) (max (slice_index places 1) (slice_index places 0)));
+  extensions = max (slice_index places 4) (max (slice_index places 3) (max (slice_index places 2) (max (slice_index places 1) (slice_index places 0))));
+  whole = len;
+}
 
 -- where a subtag ends that begins after the hyphen after all others
 abbrev pub index_after : Stage → Ends → List ℕ → ℕ
@@ -68,13 +70,10 @@ pub record IsBegun (stage : Stage) (s : List ℕ) : Type 0 where
   pub alphanumeric : are_alphanumeric s ≡ true
   pub letters : stage ≡ Start → are_letters s ≡ true
 
--- a tag may begin with the prefix p, which is nothing or ends with a hyphen, and has led to a stage and these ends; after
--- the first subtag it is no beginning of an irregular text that begins with `i`
+-- a tag may begin with the prefix p, which is nothing or ends with a hyphen, and has led to a stage and these ends
 pub record Reads (p : List ℕ) (stage : Stage) (e : Ends) : Type 0 where
   pub same : (u : List ℕ) → outcome_of (p ++ u) ≡ outcome stage e (segments u)
   pub index : index_after stage e [] ≡ length p
-  pub first : stage ≡ Start → p ≡ []
-  pub later : (stage ≡ Start → ⊥) → HasNoCandidate p
 
 -- neither a normal tag nor a private use one may begin with it
 pub record HasStopped (p : List ℕ) : Type 0 where

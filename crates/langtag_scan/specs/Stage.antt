@@ -2,8 +2,21 @@
 -- Only contracts of private functions cite this page.
 use Rattle.std.specs.Prelude.{ℕ, ◌+◌, Bool, true, false, nat_lt, nat_le, List, [], ◌∷◌, length, Option, Some, None, if◌then◌else◌}
 use Rattle.langtag_scan.specs.Class.{is_primary, is_extended, is_script, is_region, is_variant, is_extension_subtag, is_private_subtag, is_mark, is_singleton}
-use Rattle.langtag_scan.specs.declared.stage.Stage.{Stage}
-use Rattle.langtag_scan.specs.declared.stage.Stage.TheVariants.{Start, Language, Extended, AfterScript, AfterRegion, AfterVariant, AfterSingleton, InExtension, AfterMark, InPrivate, AfterFirstMark, InPrivateTag}
+
+-- which part of a tag the last whole subtag belongs to
+pub data Stage : Type 0 where
+  Start : Stage  -- before the first subtag
+  Language : ℕ → Stage  -- a primary subtag; so many places for extended ones are taken, all after four letters or more
+  Extended : ℕ → Stage  -- an extended subtag, with so many places taken
+  AfterScript : Stage
+  AfterRegion : Stage
+  AfterVariant : Stage
+  AfterSingleton : Stage  -- whose extension needs a subtag
+  InExtension : Stage
+  AfterMark : Stage  -- the mark of a private use part, which needs a subtag
+  InPrivate : Stage
+  AfterFirstMark : Stage  -- a mark that begins the text, which needs a subtag
+  InPrivateTag : Stage
 
 -- whether a subtag is one byte that passes a test
 abbrev pub is_one : (ℕ → Bool) → List ℕ → Bool

@@ -1,8 +1,6 @@
 //! Where the parts of a normal tag end.
 ghost use Rattle.std.specs.Prelude.{◌≡◌};
 
-use crate::stage::Stage;
-
 /// The end of each part of a normal tag, or, where a part is absent, of the part before: offsets in bytes from
 /// the start of the text, each one past the last byte (RFC 5646 section 2.1).
 ///
@@ -31,54 +29,50 @@ pub struct Ends {
     pub whole: usize,
 }
 
-impl Ends {
-    ghost use Rattle.langtag_scan.specs.Machine.{all_at, end_at};
+/// Where each part of a tag has ended so far, in the order of [`Ends`]: 0 if it has not.
+#[derive(Drop)]
+pub(crate) struct Marks {
+    /// The last place takes what is no end, so that each byte sets one, without a test.
+    places: [usize; 7],
+}
 
-    /// Each end at one index.
-    pub(crate) fn all_at(index: usize) -> Self
-        ensures { result ≡ all_at index }
+impl Marks {
+    ghost use Rattle.std.specs.Prelude.{replicate, set, ◌<◌};
+    ghost use Rattle.langtag_scan.specs.Machine.{ends_at};
+
+    /// Before the first byte.
+    #[inline(always)]
+    pub(crate) fn new() -> Self
+        ensures { result.places ≡ replicate 7 0 }
     {
-        Ends {
-            language: index,
-            script: index,
-            region: index,
-            variants: index,
-            extensions: index,
-            whole: index,
-        }
+        Marks { places: [0; 7] }
     }
 
-    /// The ends after one more subtag, which ends at `index` and belongs to the part of the stage.
-    pub(crate) fn end_at(&mut self, stage: Stage, index: usize)
-        ensures { self.new ≡ end_at stage index self.old }
+    /// Sets the end of a part.
+    #[inline(always)]
+    pub(crate) fn set(&mut self, part: usize, index: usize)
+        requires { part < 7 }
+        ensures { self.new.places ≡ set self.old.places part index }
     {
-        match stage {
-            Stage::Start | Stage::Language(_) | Stage::Extended(_) => *self = Ends::all_at(index),
-            Stage::AfterScript => {
-                self.script = index;
-                self.region = index;
-                self.variants = index;
-                self.extensions = index;
-                self.whole = index;
-            }
-            Stage::AfterRegion => {
-                self.region = index;
-                self.variants = index;
-                self.extensions = index;
-                self.whole = index;
-            }
-            Stage::AfterVariant => {
-                self.variants = index;
-                self.extensions = index;
-                self.whole = index;
-            }
-            Stage::AfterSingleton | Stage::InExtension => {
-                self.extensions = index;
-                self.whole = index;
-            }
-            Stage::AfterMark | Stage::InPrivate | Stage::AfterFirstMark | Stage::InPrivateTag => {
-                self.whole = index;
-            }
+        self.places[part] = index;
+    }
+
+    /// The ends in a text of this length. That of an absent part is the end of the part before.
+    #[inline(always)]
+    pub(crate) fn ends(&self, len: usize) -> Ends
+        ensures { result ≡ ends_at self.now.places len }
+    {
+        let language = self.places[0];
+        let script = self.places[1].max(language);
+        let region = self.places[2].max(script);
+        let variants = self.places[3].max(region);
+        Ends {
+            language,
+            script,
+            region,
+            variants,
+            extensions: self.places[4].max(variants),
+            whole: len,
         }
     }
 }

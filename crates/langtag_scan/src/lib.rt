@@ -24,15 +24,13 @@ mod class;
 mod ends;
 mod finding;
 mod found;
-mod irregular;
-mod machine;
 mod metered;
 mod recogniser;
 mod segment;
-mod shape;
 mod source;
 mod split;
-mod stage;
+mod state;
+mod states;
 mod subtags;
 mod viable;
 

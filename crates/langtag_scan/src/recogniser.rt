@@ -1,16 +1,15 @@
 //! The recognisers: one pass over a source of bytes.
-ghost use Rattle.std.specs.Prelude.{◌≡◌, ◌↔◌, ◌⊎◌, ℕ, ◌≤◌, ◌+◌, ◌^◌, max, List, [], ◌∷◌, length, take, IsTrue, MatchOption};
+ghost use Rattle.std.specs.Prelude.{◌≡◌, ◌↔◌, ◌⊎◌, ℕ, ◌≤◌, ◌+◌, ◌^◌, max, List, IsTrue, MatchOption};
 ghost use Rattle.langtag_scan.specs.Record.{Record, IsWellFormed, spell};
 ghost use Rattle.langtag_scan.specs.Tag.{IsNormal, IsPrivate, IsIrregularAt, IsIrregular, IsTag};
 ghost use Rattle.langtag_scan.specs.Viable.{IsStop, IsViable, IsIrregularPrefix, fill};
 ghost use Rattle.langtag_scan.specs.Found.{finding, IsFoundOf, is_normal};
-ghost use Rattle.langtag_scan.specs.Machine.{HasStopped};
-ghost use Rattle.langtag_scan.specs.Tracking.{IsDecided};
 
+use crate::ends::Marks;
+use crate::finding::Finding;
 use crate::found::Found;
-use crate::irregular::Candidates;
-use crate::machine::Machine;
 use crate::source::ByteSource;
+use crate::state::{Ending, State};
 
 /// Decides whether the bytes of a source are a tag (RFC 5646 section 2.1), and of which kind. None says that they
 /// are none.
@@ -35,63 +34,28 @@ pub fn recognise<S: ByteSource>(source: &mut S) -> Option<Found>
     ensures one_stop { (t : List ℕ) (n m : ℕ) → IsStop t n → IsStop t m → n ≡ m }
     ensures viable { (p : List ℕ) → IsViable p ↔ (IsTag (fill p) ⊎ IsIrregularPrefix p) }
 {
-    read_tag(source)
-}
-
-/// Reads a text a subtag at a time, and decides whether it is a tag.
-#[inline(always)]
-fn read_tag<S: ByteSource>(source: &mut S) -> Option<Found>
-    requires { S.reads source.old ≤ 2 ^ 126 }
-    ensures bytes { S.bytes source.new ≡ S.bytes source.old }
-    ensures decided { (n : ℕ) × IsDecided (S.bytes source.old) result n ×
-        (S.reads source.new ≡ S.reads source.old + n) × (S.reach source.new ≡ max (S.reach source.old) n) }
-{
     let len = source.len();
-    let mut machine = Machine::new();
-    let mut candidates = Candidates::new(len);
-    let subtag = machine.read_subtag(source, &mut candidates, 0)?;
-    let mut index = subtag.len;
-    let mut goes_on = machine.end_subtag(&subtag, index);
-    // Of the irregular texts only those that begin with `i` leave what the machine follows before their end.
-    if !goes_on && index == 1 && index < len {
-        return read_irregular(source, subtag.first);
-    }
-    while goes_on && index < len {
-        let subtag = machine.read_subtag(source, &mut candidates, index + 1)?;
-        index += 1 + subtag.len;
-        goes_on = machine.end_subtag(&subtag, index);
-    }
-    if index < len {
-        return None;
-    }
-    if goes_on && machine.may_end() {
-        return Some(machine.found());
-    }
-    candidates.found_nine()
-}
-
-/// Reads on after a first subtag of one byte, and the hyphen after it, while an irregular text is possible.
-#[inline(always)]
-fn read_irregular<S: ByteSource>(source: &mut S, first: u8) -> Option<Found>
-    requires few { S.reads source.old ≤ 2 ^ 126 + 2 }
-    requires reached { 2 ≤ S.reach source.old }
-    requires begun { take 2 (S.bytes source.old) ≡ first ∷ 45 ∷ [] }
-    requires stopped { HasStopped (take 2 (S.bytes source.old)) }
-    requires viable { IsViable (take 1 (S.bytes source.old)) }
-    ensures bytes { S.bytes source.new ≡ S.bytes source.old }
-    ensures decided { (n : ℕ) × (2 ≤ n) × IsDecided (S.bytes source.old) result n ×
-        (S.reads source.new + 2 ≡ S.reads source.old + n) × (S.reach source.new ≡ max (S.reach source.old) n) }
-{
-    let len = source.len();
-    let mut candidates = Candidates::new(len);
-    candidates.keep(0, first);
-    candidates.keep(1, b'-');
-    let mut index = 2;
-    while index < len && !candidates.is_empty() {
-        candidates.keep(index, source.byte(index));
+    let mut state = State::start();
+    let mut marks = Marks::new();
+    let mut index = 0;
+    while index < len {
+        state = state.after(source.byte(index));
+        if state.is_dead() {
+            return None;
+        }
+        marks.set(state.part_before(), index);
         index += 1;
     }
-    candidates.found()
+    let finding = match state.ending() {
+        Ending::NoTag => return None,
+        Ending::Normal => {
+            marks.set(state.last_part(), len);
+            Finding::Normal(marks.ends(len))
+        }
+        Ending::PrivateUse => Finding::PrivateUse,
+        Ending::Irregular(index) => Finding::Irregular(index),
+    };
+    Some(Found { finding })
 }
 
 /// Decides whether the bytes of a source are a normal tag (rule `langtag` of RFC 5646 section 2.1), as [`recognise`]

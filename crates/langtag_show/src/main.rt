@@ -12,8 +12,8 @@
 //! If a read, a write or an allocation fails, the program says so on standard error and by its status.
 #![tactic(auto)]
 
+pub use langtag_answers::{ShowError, run};
 use langtag_lines::conclude;
-pub use langtag_report::{ShowError, run};
 use std::io;
 use std::process::ExitCode;
 

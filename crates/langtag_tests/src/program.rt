@@ -2,8 +2,8 @@
 use crate::feed::{Feed, Text};
 use crate::sheet::{Fault, Sheet};
 use crate::support::expect_true;
+use langtag_answers::{ShowError, run};
 use langtag_lines::conclude;
-use langtag_report::{ShowError, run};
 use std::alloc::{AllocError, Global};
 use std::cell::Cell;
 use std::io::ErrorKind;

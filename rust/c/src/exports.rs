@@ -11,8 +11,9 @@ use crate::calls::parse::Parts;
 use crate::calls::repeats::Repeated;
 use crate::calls::span::Span;
 use crate::calls::{
-    accepted, canonical, choice, compare, direction, fallback, grandfathered, likely, parse, posix,
-    range as ranges, recommend, refused, registry_date, repeats, validity, viable, walk, with_part,
+    accepted, canonical, choice, compare, direction, fallback, grandfathered, likely, look_up,
+    parse, posix, range as ranges, recommend, refused, registry_date, repeats, validity, viable,
+    walk, with_part,
 };
 use core::slice;
 
@@ -317,5 +318,45 @@ pub unsafe extern "C" fn langtag_next_accepted(
         range.write(found);
         weight.write(thousandths);
     }
+    answer
+}
+
+#[no_mangle]
+pub unsafe extern "C" fn langtag_tag_for_header_lenient(
+    header: *const u8,
+    header_len: usize,
+    bytes: *const u8,
+    len: usize,
+    tags: *const Span,
+    tags_len: usize,
+) -> usize {
+    look_up::langtag_tag_for_header_lenient(
+        lent(header, header_len),
+        lent(bytes, len),
+        lent(tags, tags_len),
+    )
+}
+
+#[no_mangle]
+pub unsafe extern "C" fn langtag_tag_for_header(
+    header: *const u8,
+    header_len: usize,
+    bytes: *const u8,
+    len: usize,
+    tags: *const Span,
+    tags_len: usize,
+    index: *mut usize,
+    bad: *mut Span,
+) -> u32 {
+    let (mut found, mut wrong) = (0, NO_SPAN);
+    let answer = look_up::langtag_tag_for_header(
+        lent(header, header_len),
+        lent(bytes, len),
+        lent(tags, tags_len),
+        &mut found,
+        &mut wrong,
+    );
+    index.write(found);
+    bad.write(wrong);
     answer
 }

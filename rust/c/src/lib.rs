@@ -22,6 +22,8 @@ mod shim;
 
 #[path = "../../src/case/mod.rs"]
 mod case;
+#[path = "../../src/choice/mod.rs"]
+mod choice;
 #[path = "../../src/extension/mod.rs"]
 mod extension;
 #[path = "../../src/language/mod.rs"]
@@ -30,6 +32,8 @@ mod language;
 mod likely;
 #[path = "../../src/matching/mod.rs"]
 mod matching;
+#[path = "../../src/output/mod.rs"]
+mod output;
 #[path = "../../src/place/mod.rs"]
 mod place;
 #[path = "../../src/private/mod.rs"]
@@ -38,6 +42,8 @@ mod private;
 mod registry;
 #[path = "../../src/scan/mod.rs"]
 mod scan;
+#[path = "../../src/tables/mod.rs"]
+mod tables;
 #[path = "../../src/tag/mod.rs"]
 mod tag;
 

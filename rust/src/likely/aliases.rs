@@ -2,9 +2,9 @@
 
 //! What is deprecated in the fields of a tag, replaced.
 
+use crate::likely::alias_tables as tables;
 use crate::likely::fields::or_other;
 use crate::likely::keys::index_of;
-use crate::likely::matching_tables as tables;
 use crate::likely::names::name_at;
 use crate::likely::rows::language_number;
 use crate::likely::tag_fields::TagFields;

@@ -12,7 +12,7 @@ use crate::tag::{case_insensitive_eq, LangTag};
 /// deprecated is read as what replaces it (`iw`). A tag for private use, an irregular one and `und` are not.
 #[inline]
 pub fn is_right_to_left(tag: LangTag<'_>) -> bool {
-    match matching_form(tag) {
+    match matching_form(tag.as_bytes()) {
         Some(form) => is_right_to_left_script(form.script),
         None => false,
     }

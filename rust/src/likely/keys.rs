@@ -6,7 +6,7 @@ use crate::scan::folded_number;
 
 /// Returns where the number of a text stands among others, which rise.
 #[inline]
-pub(crate) fn index_of(keys: &[u32], text: &[u8]) -> Option<usize> {
+pub fn index_of(keys: &[u32], text: &[u8]) -> Option<usize> {
     keys.binary_search_by_key(&folded_number(text), |key| u64::from(*key))
         .ok()
 }

@@ -54,7 +54,7 @@ fn least<'a>(most: TagFields<'a>) -> TagFields<'a> {
 
 /// Returns whether few fields have this maximal form.
 #[inline]
-pub(crate) fn suffices(most: TagFields<'_>, few: TagFields<'_>) -> bool {
+pub fn suffices(most: TagFields<'_>, few: TagFields<'_>) -> bool {
     match add_likely(few) {
         Some(form) => most.are_alike(form),
         None => false,

@@ -4,30 +4,33 @@
 
 use crate::likely::aliases::{language_replaced, region_replaced};
 use crate::likely::likely::add_likely;
+use crate::likely::read_text::are_alike;
 use crate::likely::tag_fields::TagFields;
-use crate::scan::case_insensitive_eq;
-use crate::tag::LangTag;
 
-/// Returns the matching form of a tag: its fields, of which what is deprecated is replaced, with the likely ones in place of
-/// those that are empty. A tag `und`, an irregular tag and one of private use have none.
+/// Returns the matching form of a text: its fields, of which what is deprecated is replaced, with the likely ones in place of those
+/// that are empty. A text `und` has none, nor has one that does not begin with a language.
 #[inline]
-pub(crate) fn matching_form<'a>(tag: LangTag<'a>) -> Option<TagFields<'a>> {
-    if case_insensitive_eq(b"und", tag.as_bytes()) {
-        return None;
+pub fn matching_form(text: &[u8]) -> Option<TagFields<'_>> {
+    match replaced_form(text) {
+        Some(fields) => Some(completed(fields)),
+        None => None,
     }
-    let normal = tag.as_normal()?;
-    Some(matching_fields(TagFields::of(normal)))
 }
 
-/// Returns the matching form of fields.
-#[inline]
-pub(crate) fn matching_fields<'a>(fields: TagFields<'a>) -> TagFields<'a> {
-    completed(language_replaced(fields))
+/// Returns the fields of a text, of which the language is replaced where it is deprecated.
+pub fn replaced_form(text: &[u8]) -> Option<TagFields<'_>> {
+    if are_alike(text, b"und") {
+        return None;
+    }
+    match TagFields::of_text(text) {
+        Some(fields) => Some(language_replaced(fields)),
+        None => None,
+    }
 }
 
 /// Returns fields with another region in place of one that is deprecated, and with likely subtags.
 #[inline]
-pub(crate) fn completed<'a>(fields: TagFields<'a>) -> TagFields<'a> {
+pub fn completed<'a>(fields: TagFields<'a>) -> TagFields<'a> {
     most_likely(region_replaced(fields))
 }
 

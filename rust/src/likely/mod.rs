@@ -1,7 +1,7 @@
 // Made by rust/erase from crates/langtag_likely/src/lib.rt. Change that file, not this one.
 
 //! Likely subtags (UTS #35, part 1, section 'Likely Subtags') over Unicode's CLDR: the script and the region that a language has
-//! most likely, added to a tag or taken out of it.
+//! most likely, added to a tag or taken out of it; whether a tag is written from right to left; and the tags of POSIX locales' names.
 //!
 //! ```
 //! # fn main() -> Result<(), Box<dyn std::error::Error>> {
@@ -14,40 +14,24 @@
 //! # }
 //! ```
 
+mod alias_tables;
 mod aliases;
-mod best;
-mod by_ranges;
-mod by_tags;
-mod candidate;
 mod direction;
 mod fields;
 mod forms;
 mod keys;
 mod likely;
-mod lone;
 mod matching;
-mod matching_tables;
 mod names;
-mod nearness;
 mod posix;
 mod posix_error;
 mod put;
-mod range_list;
-mod read_range;
-mod refused;
-mod region_distance;
+mod read_text;
 mod rows;
-mod rule_distance;
 mod tables;
-mod tag_distance;
 mod tag_fields;
-mod tag_list;
 mod text_fields;
-mod wish;
 
-#[cfg(feature = "alloc")]
-pub use best::best_for_accept_language;
-pub use best::{best_among, best_for_header, best_for_ranges};
 pub use direction::is_right_to_left;
 #[cfg(feature = "alloc")]
 pub use forms::{maximized, minimized};
@@ -57,7 +41,12 @@ pub use posix::from_posix;
 pub use posix::write_from_posix;
 #[cfg(feature = "alloc")]
 pub use posix_error::PosixError;
-pub use range_list::RangeList;
 pub use tables::CLDR_VERSION;
-pub use tag_distance::{distance, FORMLESS_DISTANCE};
-pub use tag_list::TagList;
+
+// For langtag_choice.
+pub(crate) use keys::index_of;
+pub(crate) use likely::suffices;
+pub(crate) use matching::{completed, matching_form, replaced_form};
+pub(crate) use read_text::{are_alike, hyphened};
+pub(crate) use rows::{key_number, language_number};
+pub(crate) use tag_fields::TagFields;

@@ -7,8 +7,8 @@ use crate::likely::forms::tag_of;
 #[cfg(feature = "alloc")]
 use crate::likely::posix_error::PosixError;
 use crate::likely::put::write_text;
+use crate::output::write_pieces;
 use crate::place::{Script, Variants};
-use crate::registry::write_pieces;
 use crate::scan::split_at_byte;
 #[cfg(feature = "alloc")]
 use crate::shim::{try_vec, AllocError};

@@ -5,7 +5,7 @@
 use crate::language::Language;
 use crate::likely::fields::or_other;
 use crate::likely::tag_fields::TagFields;
-use crate::registry::write_pieces;
+use crate::output::write_pieces;
 use crate::tag::NormalLangTag;
 
 /// Writes a tag with other fields into a buffer, or as it is where there are none.

@@ -6,7 +6,7 @@ use crate::likely::keys::place;
 use crate::likely::names::name_in;
 use crate::likely::tables;
 use crate::likely::tag_fields::TagFields;
-use crate::registry::letter_number;
+use crate::tables::letter_number;
 
 /// Returns the right side of the row with this left side. Its language is empty where the left side has one.
 pub(crate) fn likely_for(key: TagFields<'_>) -> Option<TagFields<'static>> {
@@ -45,14 +45,14 @@ fn other_row(key: TagFields<'_>) -> Option<TagFields<'static>> {
 }
 
 /// Returns fields as one number, which is not 0.
-pub(crate) fn key_number(key: TagFields<'_>) -> u32 {
+pub fn key_number(key: TagFields<'_>) -> u32 {
     let places = place(script_keys(), key.script) * 512 + (place(region_keys(), key.region) + 1);
     language_number(key.language) * 131072 + places
 }
 
 /// Returns the letters of a language as the digits of a number in base 26; 0 where there is none.
 #[inline]
-pub(crate) fn language_number(language: &[u8]) -> u32 {
+pub fn language_number(language: &[u8]) -> u32 {
     if language.is_empty() {
         return 0;
     }

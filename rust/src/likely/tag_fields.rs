@@ -8,10 +8,10 @@ use crate::tag::NormalLangTag;
 
 /// A language, a script and a region, each the empty text where there is none.
 #[derive(Clone, Copy)]
-pub(crate) struct TagFields<'a> {
-    pub(crate) language: &'a [u8],
-    pub(crate) script: &'a [u8],
-    pub(crate) region: &'a [u8],
+pub struct TagFields<'a> {
+    pub language: &'a [u8],
+    pub script: &'a [u8],
+    pub region: &'a [u8],
 }
 
 impl<'a> TagFields<'a> {
@@ -37,7 +37,7 @@ impl<'a> TagFields<'a> {
 
     /// Returns the language and the script.
     #[inline]
-    pub(crate) fn without_region(self) -> TagFields<'a> {
+    pub fn without_region(self) -> TagFields<'a> {
         TagFields {
             language: self.language,
             script: self.script,

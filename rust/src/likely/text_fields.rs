@@ -6,20 +6,22 @@ use crate::likely::fields::known;
 use crate::likely::tag_fields::TagFields;
 use crate::scan::{is_extended, is_primary, is_region, is_script, split_at_either};
 
-/// Returns the fields of a text in which `_` is read as `-`: None where it does not begin with a language.
-pub(crate) fn text_fields(text: &[u8]) -> Option<TagFields<'_>> {
-    let (first, rest) = first_subtag(text);
-    if !is_primary(first) {
-        return None;
+impl<'a> TagFields<'a> {
+    /// Returns the fields of a text in which `_` is read as `-`: None where it does not begin with a language.
+    pub(crate) fn of_text(text: &'a [u8]) -> Option<TagFields<'a>> {
+        let (first, rest) = first_subtag(text);
+        if !is_primary(first) {
+            return None;
+        }
+        let (language, rest) = last_extended(known(b"und", first), rest);
+        let (script, rest) = script_before(rest);
+        let region = region_before(rest);
+        Some(TagFields {
+            language,
+            script: known(b"Zzzz", script),
+            region: known(b"ZZ", region),
+        })
     }
-    let (language, rest) = last_extended(known(b"und", first), rest);
-    let (script, rest) = script_before(rest);
-    let region = region_before(rest);
-    Some(TagFields {
-        language,
-        script: known(b"Zzzz", script),
-        region: known(b"ZZ", region),
-    })
 }
 
 /// Returns the last of the extended subtags in front, or else the language before them, and what follows.

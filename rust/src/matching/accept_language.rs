@@ -91,7 +91,7 @@ impl<'a> AcceptLanguage<'a> {
 ///
 /// For `fr;q=0.3, DE-ch-1996;q=0.9` and the tags `de-CH` and `fr` it is `de-CH`.
 ///
-/// This is RFC 4647 to the letter: `zh-TW` finds no `zh-Hant`. What a site wants is `langtag::likely::best_for_header`.
+/// This is RFC 4647 to the letter: `zh-TW` finds no `zh-Hant`. What a site wants is `langtag::choice::best_for_header`.
 ///
 /// # Errors
 ///

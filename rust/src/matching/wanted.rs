@@ -38,8 +38,8 @@ pub struct WantedRanges<'a> {
 /// 1000, and `en`, of 500.
 ///
 /// In a range `_` is read as `-`, and what follows `.` or `@` is dropped; what is no range then is passed over. Parameters
-/// other than `q` count for nothing, a weight that is no number is 1, and so is one above 1. [`AcceptLanguage`] reads a header
-/// by the letter of RFC 9110.
+/// other than `q` count for nothing, a weight that is no number is 1, and so is one above 1. A weight may have a decimal
+/// comma: `fr;q=0,8` has the weight 800. [`AcceptLanguage`] reads a header by the letter of RFC 9110.
 ///
 /// [`AcceptLanguage`]: crate::matching::AcceptLanguage
 #[inline]
@@ -67,7 +67,7 @@ pub fn split_wanted(header: &[u8]) -> Option<(WantedRange<'_>, &[u8])> {
     let mut left = header;
     while !left.is_empty() {
         let (item, rest) = split_at_byte(left, b',');
-        if let Some(found) = wanted_at(item) {
+        if let Some(found) = wanted_at(item, rest) {
             return Some((found, rest));
         }
         left = rest;

@@ -9,14 +9,14 @@ use crate::matching::weight::{are_digits, digit_at};
 use crate::scan::{first_place, split_at_byte, split_at_either};
 use crate::tag::is_private_subtag;
 
-/// Returns the range that an item of a header has, with its weight.
-pub(crate) fn wanted_at(item: &[u8]) -> Option<WantedRange<'_>> {
+/// Returns the range that an item of a header has, with its weight, if `behind` follows the comma after the item.
+pub(crate) fn wanted_at<'a>(item: &'a [u8], behind: &[u8]) -> Option<WantedRange<'a>> {
     let (before, parameters) = split_at_byte(item, b';');
     let (bytes, _codeset) = split_at_either(trimmed(before), b'.', b'@');
     if !is_wanted_range(bytes) {
         return None;
     }
-    let weight = wanted_weight(parameters);
+    let weight = wanted_weight(parameters, behind);
     Some(WantedRange { bytes, weight })
 }
 
@@ -45,12 +45,12 @@ fn is_mark(byte: u8) -> bool {
 }
 
 /// Returns the weight that the first parameter named `q` says, and 1000 without one.
-fn wanted_weight(parameters: &[u8]) -> u32 {
+fn wanted_weight(parameters: &[u8], behind: &[u8]) -> u32 {
     let mut left = parameters;
     while !left.is_empty() {
         let (parameter, rest) = split_at_byte(left, b';');
         if let Some(value) = q_value(parameter) {
-            return value_weight(value);
+            return value_weight(value, behind);
         }
         left = rest;
     }
@@ -73,16 +73,35 @@ fn is_q_name(name: &[u8]) -> bool {
     matches!(name, [b'q' | b'Q'])
 }
 
-/// Returns the weight that a value says: 1 where it is no number or a number above 1.
-fn value_weight(value: &[u8]) -> u32 {
+/// Returns the weight that a value says. Without a point, digits alone behind the comma are its fraction.
+fn value_weight(value: &[u8], behind: &[u8]) -> u32 {
     let (whole, fraction) = split_at_byte(value, b'.');
+    if whole.len() < value.len() {
+        return number_weight(whole, fraction);
+    }
+    number_weight(whole, digits_behind(behind))
+}
+
+/// Returns the digits that a text begins with, if a comma or the end follows them, and else nothing.
+#[inline]
+fn digits_behind(text: &[u8]) -> &[u8] {
+    let (item, _rest) = split_at_byte(text, b',');
+    if are_digits(item, b'9') {
+        item
+    } else {
+        b""
+    }
+}
+
+/// Returns the weight of what stands before and after a decimal mark: 1 where it is no number or a number above 1.
+fn number_weight(whole: &[u8], fraction: &[u8]) -> u32 {
     if !is_number(whole, fraction) || !are_zeros(whole) {
         return 1000;
     }
     100 * digit_at(fraction, 0) + 10 * digit_at(fraction, 1) + digit_at(fraction, 2)
 }
 
-/// Returns whether what stands before and after a point are digits, and not both nothing.
+/// Returns whether what stands before and after a decimal mark are digits, and not both nothing.
 #[inline]
 fn is_number(whole: &[u8], fraction: &[u8]) -> bool {
     are_digits(whole, b'9') && are_digits(fraction, b'9') && whole.len() + fraction.len() > 0

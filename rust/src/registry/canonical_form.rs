@@ -2,10 +2,10 @@
 
 //! The canonical form of a tag (RFC 5646 section 4.5).
 
+use crate::output::write_pieces;
 use crate::registry::canonical_parts::put_canonical_parts;
 use crate::registry::form::{form_of, Form};
 use crate::registry::preferred::preferred_for;
-use crate::registry::write::write_pieces;
 #[cfg(feature = "alloc")]
 use crate::shim::{try_vec, AllocError};
 #[cfg(feature = "alloc")]

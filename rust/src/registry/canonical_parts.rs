@@ -4,11 +4,11 @@
 
 use crate::extension::Extensions;
 use crate::language::{ExtendedLangTag, Language, PrimaryLanguage};
+use crate::output::Output;
 use crate::place::{Region, Script, Variants};
 use crate::private::PrivateUse;
 use crate::registry::extension_order::{are_in_order, folded_singleton, singletons_of, SINGLETONS};
 use crate::registry::language_fields::preferred_language;
-use crate::registry::output::Output;
 use crate::registry::preferred::{preferred_region, preferred_variant};
 use crate::registry::subtags::is_registered_extlang;
 use crate::scan::into_smallcase;

@@ -37,14 +37,12 @@ mod invalid_subtag;
 mod language_fields;
 mod languages;
 mod misplaced;
-mod output;
 mod preferred;
 mod prefixes;
 mod subtags;
 mod table;
 mod tables;
 mod validity;
-mod write;
 
 #[cfg(feature = "alloc")]
 pub use canonical_form::canonical;
@@ -58,7 +56,6 @@ pub use extlang_forms::extlang_form;
 pub use invalid_subtag::InvalidSubtag;
 pub use language_fields::{macrolanguage, preferred_language, suppress_script};
 pub use languages::is_registered_language;
-pub(crate) use languages::letter_number;
 pub use misplaced::{misplaced_extlang, misplaced_variant};
 pub use preferred::{preferred_region, preferred_tag, preferred_variant};
 pub use prefixes::extlang_prefix;
@@ -67,4 +64,3 @@ pub use subtags::{
 };
 pub use tables::FILE_DATE;
 pub use validity::{fault_at, validate};
-pub use write::write_pieces;

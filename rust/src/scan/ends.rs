@@ -2,8 +2,6 @@
 
 //! Where the parts of a normal tag end.
 
-use crate::scan::stage::Stage;
-
 /// The end of each part of a normal tag, or, where a part is absent, of the part before: offsets in bytes from
 /// the start of the text, each one past the last byte (RFC 5646 section 2.1).
 ///
@@ -32,49 +30,39 @@ pub struct Ends {
     pub whole: usize,
 }
 
-impl Ends {
-    /// Each end at one index.
-    #[inline]
-    pub(crate) fn all_at(index: usize) -> Self {
-        Ends {
-            language: index,
-            script: index,
-            region: index,
-            variants: index,
-            extensions: index,
-            whole: index,
-        }
+/// Where each part of a tag has ended so far, in the order of [`Ends`]: 0 if it has not.
+pub(crate) struct Marks {
+    /// The last place takes what is no end, so that each byte sets one, without a test.
+    places: [usize; 7],
+}
+
+impl Marks {
+    /// Before the first byte.
+    #[inline(always)]
+    pub(crate) fn new() -> Self {
+        Marks { places: [0; 7] }
     }
 
-    /// The ends after one more subtag, which ends at `index` and belongs to the part of the stage.
-    pub(crate) fn end_at(&mut self, stage: Stage, index: usize) {
-        match stage {
-            Stage::Start | Stage::Language(_) | Stage::Extended(_) => *self = Ends::all_at(index),
-            Stage::AfterScript => {
-                self.script = index;
-                self.region = index;
-                self.variants = index;
-                self.extensions = index;
-                self.whole = index;
-            }
-            Stage::AfterRegion => {
-                self.region = index;
-                self.variants = index;
-                self.extensions = index;
-                self.whole = index;
-            }
-            Stage::AfterVariant => {
-                self.variants = index;
-                self.extensions = index;
-                self.whole = index;
-            }
-            Stage::AfterSingleton | Stage::InExtension => {
-                self.extensions = index;
-                self.whole = index;
-            }
-            Stage::AfterMark | Stage::InPrivate | Stage::AfterFirstMark | Stage::InPrivateTag => {
-                self.whole = index;
-            }
+    /// Sets the end of a part.
+    #[inline(always)]
+    pub(crate) fn set(&mut self, part: usize, index: usize) {
+        self.places[part] = index;
+    }
+
+    /// The ends in a text of this length. That of an absent part is the end of the part before.
+    #[inline(always)]
+    pub(crate) fn ends(&self, len: usize) -> Ends {
+        let language = self.places[0];
+        let script = self.places[1].max(language);
+        let region = self.places[2].max(script);
+        let variants = self.places[3].max(region);
+        Ends {
+            language,
+            script,
+            region,
+            variants,
+            extensions: self.places[4].max(variants),
+            whole: len,
         }
     }
 }

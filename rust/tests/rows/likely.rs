@@ -1,4 +1,5 @@
 //! Calls of likely subtags, distances and choices.
+use langtag::choice::*;
 use langtag::likely::*;
 use langtag::matching::AcceptLanguage;
 use langtag::*;

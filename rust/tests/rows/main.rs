@@ -7,6 +7,7 @@ mod reader;
 mod registry;
 mod tags;
 mod types;
+mod unicode;
 mod walks;
 
 use reader::{ask, Row};
@@ -68,6 +69,10 @@ fn answer(row: &Row) -> String {
         "best" => likely::best(&row.arguments[0], row.str(1)),
         "best-accepted" => likely::best_accepted(row.str(0), row.str(1)),
         "best-ranges" => likely::best_ranges(row.str(0), row.str(1)),
+        "keyword" => unicode::value(row.str(0), row.str(1)),
+        "keywords" => unicode::pairs(row.str(0)),
+        "attributes" => unicode::distinct(row.str(0)),
+        "transform" => unicode::transformed(row.str(0)),
         call => panic!("no call: {call}"),
     }
 }
@@ -98,6 +103,7 @@ files! {
     names: "posix.txt", 80, ["posix"];
     choices: "choices.txt", 260, ["best"];
     preferences: "lists.txt", 15, ["best-accepted", "best-ranges"];
+    keywords: "unicode.txt", 500, ["keyword", "keywords", "attributes", "transform"];
 }
 
 #[test]

@@ -1,4 +1,5 @@
 //! The rows that the tests of all languages read: a call, its arguments and its answer. Their README says their form.
+use std::collections::HashMap;
 use std::panic::{catch_unwind, AssertUnwindSafe};
 use std::path::PathBuf;
 
@@ -12,8 +13,6 @@ pub struct Row {
     pub arguments: Vec<Vec<u8>>,
     /// The answer, with the lines that belong to the row, each behind a line feed.
     pub wanted: String,
-    /// What separates the words.
-    by: &'static str,
 }
 
 impl Row {
@@ -54,7 +53,7 @@ pub fn ask(file: &str, calls: &[&str], floor: usize, answer: impl Fn(&Row) -> St
         let found = catch_unwind(AssertUnwindSafe(|| answer(&row)));
         let found = found.unwrap_or_else(|_| "a panic, see above".into());
         if row.wanted.is_empty() {
-            println!("{}{}{found}", row.text, row.by);
+            println!("{} | {found}", row.text);
         } else if found != row.wanted {
             let (place, text, wanted) = (&row.place, &row.text, &row.wanted);
             differing.push(format!(
@@ -75,6 +74,7 @@ pub fn ask(file: &str, calls: &[&str], floor: usize, answer: impl Fn(&Row) -> St
 fn read(path: &PathBuf) -> Vec<Row> {
     let name = path.file_name().unwrap().to_string_lossy();
     let text = std::fs::read_to_string(path).unwrap();
+    let counts = argument_counts();
     let mut rows: Vec<Row> = Vec::new();
     for (index, line) in text.lines().enumerate() {
         if line.is_empty() || line.starts_with('#') {
@@ -85,43 +85,37 @@ fn read(path: &PathBuf) -> Vec<Row> {
             let row = rows.last_mut().expect("a row stands before its lines");
             row.wanted = format!("{}\n{line}", row.wanted);
         } else {
-            rows.push(row(format!("{name}:{}", index + 1), line));
+            rows.push(row(format!("{name}:{}", index + 1), line, &counts));
         }
     }
     rows
 }
 
-fn row(place: String, text: String) -> Row {
-    let by = if text.contains(" | ") { " | " } else { " " };
-    let mut words: Vec<&str> = text.split(by).collect();
-    let count = match argument_count(words[0]) {
-        0 if by == " | " => {
-            words.insert(0, "edit"); // such a row begins with the tag
-            3
-        }
-        count => count.max(1),
-    };
-    let arguments = words[1..=count].iter().map(|word| unescape(word)).collect();
-    let (call, wanted) = (words[0].to_owned(), words[count + 1..].join(by));
+fn row(place: String, text: String, counts: &HashMap<String, usize>) -> Row {
+    let fields: Vec<&str> = text.split(" | ").collect();
+    let count = *counts.get(fields[0]).expect("the call is in calls.txt");
+    let arguments = fields[1..=count]
+        .iter()
+        .map(|field| unescape(field))
+        .collect();
+    let (call, wanted) = (fields[0].to_owned(), fields[count + 1..].join(" | "));
     Row {
         place,
         call,
         arguments,
         wanted,
-        by,
         text,
     }
 }
 
-/// How many arguments a call has that is asked with bars or with more than one; 0 for another one.
-fn argument_count(call: &str) -> usize {
-    match call {
-        "filter" | "walk" => 3,
-        "match" | "order" | "header" | "ranges" | "best" | "best-accepted" | "best-ranges"
-        | "distance" | "new" | "fronts" | "extension" => 2,
-        "elements" | "fallbacks" => 1,
-        _ => 0,
-    }
+/// How many arguments each call has.
+fn argument_counts() -> HashMap<String, usize> {
+    let text = std::fs::read_to_string(folder().join("calls.txt")).unwrap();
+    let calls = text.lines().filter(|line| !line.starts_with('#'));
+    calls
+        .filter_map(|line| line.split_once(' '))
+        .map(|(call, count)| (call.to_owned(), count.parse().unwrap()))
+        .collect()
 }
 
 /// Repeats each `{N:piece}`.

@@ -52,7 +52,7 @@ fn next_item(header: &[u8], rest: &mut Span) -> Option<Span> {
 
 /// Returns the number that says which part is bad.
 #[inline]
-fn number_of(part: &ElementPart) -> u32 {
+pub(crate) fn number_of(part: &ElementPart) -> u32 {
     match part {
         ElementPart::Range => 2,
         ElementPart::Weight => 3,

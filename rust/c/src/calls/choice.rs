@@ -5,7 +5,7 @@
 use crate::calls::span::Span;
 use crate::calls::spanned_tags::SpannedTags;
 use crate::calls::tag::tag_of;
-use crate::likely::{best_among, distance};
+use crate::choice::{best_among, distance};
 
 /// The distance where one of two texts is not a tag.
 const NO_DISTANCE: u32 = u32::MAX;

@@ -14,6 +14,7 @@ pub(crate) mod direction;
 pub(crate) mod fallback;
 pub(crate) mod grandfathered;
 pub(crate) mod likely;
+pub(crate) mod look_up;
 pub(crate) mod parse;
 pub(crate) mod part;
 pub(crate) mod posix;

@@ -4,7 +4,7 @@
 
 use crate::calls::span::Span;
 use crate::calls::tag::tag_of;
-use crate::likely::TagList;
+use crate::choice::TagList;
 use crate::tag::LangTag;
 
 /// A text, and spans of it.
@@ -33,12 +33,12 @@ impl TagList for SpannedTags<'_> {
 
 /// Returns the tag that a span of a text is.
 #[inline]
-fn tag_in<'a>(text: &'a [u8], span: Span) -> Option<LangTag<'a>> {
+pub(crate) fn tag_in<'a>(text: &'a [u8], span: Span) -> Option<LangTag<'a>> {
     tag_of(span.of(text)?)
 }
 
 /// Returns the bytes of a span of a text: none where it has none there.
 #[inline]
-fn bytes_in<'a>(text: &'a [u8], span: Span) -> &'a [u8] {
+pub(crate) fn bytes_in<'a>(text: &'a [u8], span: Span) -> &'a [u8] {
     span.of(text).unwrap_or(b"")
 }

@@ -4,7 +4,7 @@
 
 use crate::calls::part::part_of;
 use crate::calls::tag::normal_tag_of;
-use crate::registry::write_pieces;
+use crate::output::write_pieces;
 use crate::tag::{put_part, Replacement};
 
 /// Writes a normal tag with one of its parts set to a text, or taken out where that is empty, and returns its length in

@@ -1,5 +1,6 @@
 //! What each command answers.
-use langtag::likely::{best_for_header, distance, maximized, minimized};
+use langtag::choice::{best_for_header, distance};
+use langtag::likely::{maximized, minimized};
 use langtag::matching::LanguageRange;
 use langtag::registry::{canonical, validate, InvalidSubtag};
 use langtag::{LangTag, LangTagBuf, NormalLangTag, TypedLangTag};

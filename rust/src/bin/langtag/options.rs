@@ -10,9 +10,9 @@ Asks language tags (BCP 47): the arguments, or else the lines of standard input.
 
   show [TAG..]          kind and parts: normal language=zh script= region=TW ..
   check [TAG..]         validity and canonical form: invalid region=FQ canonical=..
-  canonical [TAG..]     the canonical form: he of iw
-  maximize [TAG..]      with likely subtags: zh-Hant-TW of zh-TW
-  minimize [TAG..]      without likely subtags: zh-TW of zh-Hant-TW
+  canonical [TAG..]     the canonical form: iw becomes he
+  maximize [TAG..]      with likely subtags: zh-TW becomes zh-Hant-TW
+  minimize [TAG..]      without likely subtags: zh-Hant-TW becomes zh-TW
   best HEADER [TAG..]   the best tag for an Accept-Language header
   distance [A B]        how far B is from A: 0 is nearest, 255 is unknown
   match RANGE [TAG..]   the tags that a language range matches

@@ -12,19 +12,23 @@ pub fn refused(text: &[u8]) -> String {
         return format!("`{whole}` is a language tag");
     };
     let subtag = shown(&text[refusal.start..refusal.end]);
+    let wrong: String = shown(&text[refusal.offset..]).chars().take(1).collect();
     let (reason, marked) = match refusal.kind {
         RefusalKind::Subtag if subtag.is_empty() => {
-            ("a subtag is empty".into(), refusal.start..refusal.end)
+            ("empty subtag".into(), refusal.start..refusal.end)
         }
         RefusalKind::Subtag => (
-            format!("`{subtag}` does not fit there"),
+            format!("unexpected subtag `{subtag}`"),
             refusal.start..refusal.end,
         ),
         RefusalKind::Byte => (
-            format!("`{subtag}` has a byte that is no letter and no digit"),
+            format!("invalid character `{wrong}`: expected a letter, a digit or a hyphen"),
             refusal.offset..refusal.offset + 1,
         ),
-        RefusalKind::End => ("it ends too soon".into(), refusal.start..refusal.end),
+        RefusalKind::End => (
+            "unexpected end: expected a subtag".into(),
+            refusal.start..refusal.end,
+        ),
     };
     format!(
         "`{whole}` is not a language tag: {reason}{}",

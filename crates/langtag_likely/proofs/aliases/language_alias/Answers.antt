@@ -1,13 +1,13 @@
 use Rattle.std.proofs.Common.{◌<◌, Some, option_map, refl, sym, ap, ◌∙◌, arith, length}
-use Rattle.langtag_likely.specs.declared.matching_tables.TheConstants.{ALIAS_LANGUAGES, ALIAS_SCRIPTS}
+use Rattle.langtag_likely.specs.declared.alias_tables.TheConstants.{ALIAS_LANGUAGES, ALIAS_SCRIPTS}
 use Rattle.langtag_likely.specs.Good.{is_language_field, is_script_field}
 use Rattle.langtag_likely.specs.Likely.{language_alone}
-use Rattle.langtag_likely.specs.MatchingData.{language_aliases}
+use Rattle.langtag_likely.specs.Aliases.{language_aliases}
 use Rattle.langtag_likely.specs.Texts.{field_texts}
 use Rattle.langtag_likely.proofs.AliasLaws.{alias_at, alias_found}
 use Rattle.langtag_likely.proofs.Columns.{name_good}
 use Rattle.langtag_likely.proofs.FieldClasses.{language_letters}
-use Rattle.langtag_likely.proofs.MatchingTables.{alias_count, aliases_short, alias_languages_good, alias_scripts_good}
+use Rattle.langtag_likely.proofs.AliasTables.{alias_count, aliases_short, alias_languages_good, alias_scripts_good}
 use Rattle.langtag_likely.proofs.FirstIndex.{first_index-is, index_searched}
 use Rattle.langtag_likely.proofs.RowsFound.{long_nowhere}
 use Rattle.langtag_likely.proofs.aliases.language_alias.Goals as goal

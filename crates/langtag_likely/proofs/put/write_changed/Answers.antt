@@ -1,6 +1,6 @@
 use Rattle.std.proofs.Common.{◌≡◌, option_map, sym, ap, subst, ◌∙◌}
 use Rattle.std.specs.Option.{option_map_or}
-use Rattle.langtag_registry.specs.Writes.{Writes}
+use Rattle.langtag_output.specs.Writes.{Writes}
 use Rattle.langtag_scan.specs.Record.{spell}
 use Rattle.langtag_likely.specs.Maximal.{put_fields}
 use Rattle.langtag_likely.specs.Texts.{field_texts}

@@ -1,5 +1,4 @@
-use Rattle.std.proofs.Common.{◌≡◌, ◌<◌, ◌^◌, [], ◌++◌, length, ap, ◌∙◌, arith}
-use Rattle.langtag_registry.proofs.FaultLaws.{language_spelled}
+use Rattle.std.proofs.Common.{◌≡◌, ◌<◌, ◌^◌, [], ◌++◌, length, ap, sym, ◌∙◌, arith}
 use Rattle.langtag_scan.specs.Record.{spell}
 use Rattle.langtag.specs.Text.{normal_lang_tag_text}
 use Rattle.langtag_likely.specs.Maximal.{put_fields}
@@ -14,7 +13,7 @@ returns c = λ r spells.
     let f = field_texts c.args.fields in
     let text = c.put_language.result.now ++ (c.hyphen_before.result.now ++ (f.script ++ (c.hyphen_before-2.result.now ++ (f.region ++ (c.after_region.result.now ++ []))))) in
     let same : text ≡ spell (put_fields r f) =
-    rw (c.put_language.ensures r.primary r.extended (language_spelled r _ spells.0 (c.language.ensures r spells)), c.after_region.ensures r spells)
+    rw (c.put_language.ensures r.primary r.extended (record { first = spells.0.primary; others = spells.0.extended; few = spells.0.few; short = spells.0.short; joined = sym (c.language.ensures r spells) }), c.after_region.ensures r spells)
     (put_spelled r f c.hyphen_before.result.now c.hyphen_before-2.result.now c.hyphen_before.ensures c.hyphen_before-2.ensures) in
     let room : length (normal_lang_tag_text c.args.tag) < 2 ^ 63 = omega arith in
     let most = put_length r f in

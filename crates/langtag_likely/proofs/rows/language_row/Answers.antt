@@ -1,7 +1,7 @@
 use Rattle.std.proofs.Common.{Some, map, sym, ap, ◌∙◌, option_map, arith}
 use Rattle.std.proofs.lemmas.List.{length-map}
-use Rattle.langtag_registry.proofs.Letters.{primary_letters}
-use Rattle.langtag_registry.specs.Numbers.{letter_number}
+use Rattle.langtag_tables.proofs.Letters.{primary_letters}
+use Rattle.langtag_tables.specs.Numbers.{letter_number}
 use Rattle.langtag_likely.specs.LikelySubtags.{language_rows}
 use Rattle.langtag_likely.specs.Rows.{places_of}
 use Rattle.langtag_likely.specs.Texts.{field_texts}

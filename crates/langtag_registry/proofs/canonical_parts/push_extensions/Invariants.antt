@@ -3,8 +3,8 @@ use Rattle.langtag_scan.specs.Record as model
 use Rattle.langtag_extension.specs.Spelling.{SpellsExtensions}
 use Rattle.langtag_extension.specs.Text.{extensions_text}
 use Rattle.langtag_registry.specs.Canonical.{singletons}
-use Rattle.langtag_registry.specs.declared.output.Output.{Output}
-use Rattle.langtag_registry.specs.Output.{Pushes}
+use Rattle.langtag_output.specs.declared.output.Output.{Output}
+use Rattle.langtag_output.specs.Output.{Pushes}
 use Rattle.langtag_registry.proofs.ExtensionOrder.{by_singletons, spellings}
 use Rattle.langtag_registry.proofs.canonical_parts.push_extensions.Given as goal
 

@@ -1,7 +1,7 @@
 use Rattle.std.proofs.Common.{sym, ap, ◌∙◌}
 use Rattle.langtag_extension.specs.Text.{extensions_left}
 use Rattle.langtag_registry.proofs.ExtensionOrder.{keys, rises-next, falls-next, rise_in_order}
-use Rattle.langtag_registry.proofs.Rising.{rises_from}
+use Rattle.langtag_tables.proofs.Rising.{rises_from}
 use Rattle.langtag_registry.proofs.extension_order.are_in_order.Goals as goal
 
 pub loop-extension-init : goal.loop-extension-init

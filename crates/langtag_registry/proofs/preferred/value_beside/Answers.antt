@@ -3,7 +3,7 @@ use Rattle.std.proofs.lemmas.List.Sorted.{searched}
 use Rattle.langtag_scan.specs.Case.{are_alike}
 use Rattle.langtag_registry.specs.Entry.{Entry}
 use Rattle.langtag_registry.specs.Tables.{AreEndsOf}
-use Rattle.langtag_registry.proofs.Rising.{climb_searched}
+use Rattle.langtag_tables.proofs.Rising.{climb_searched}
 use Rattle.langtag_registry.proofs.Values.{end_searched, end_of, subtags-view, end_decided}
 use Rattle.langtag_registry.proofs.preferred.value_beside.Goals as goal
 

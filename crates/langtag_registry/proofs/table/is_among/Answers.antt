@@ -3,7 +3,7 @@ use Rattle.std.proofs.lemmas.List.Sorted.{searched}
 use Rattle.std.specs.List.{list_any}
 use Rattle.langtag_scan.specs.Case.{folded_number}
 use Rattle.langtag_scan.proofs.FoldedNumbers.{among-folded}
-use Rattle.langtag_registry.proofs.Rising.{climb_searched, found_among}
+use Rattle.langtag_tables.proofs.Rising.{climb_searched, found_among}
 use Rattle.langtag_registry.proofs.table.is_among.Goals as goal
 
 pub returns : goal.returns

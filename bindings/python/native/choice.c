@@ -1,0 +1,114 @@
+/* The choice among tags for a header: of Tags, or texts of tags, the item itself. */
+#include "native.h"
+
+/* The texts of the tags to choose from, one behind the other, and their spans; in the room at the end where that is enough. */
+typedef struct {
+    langtag_span *spans;
+    char *text;
+    size_t count, len, room;
+    PyTypeObject *known; /* of the last tag, so that it need not be asked again */
+    langtag_span few[64];
+    char little[1024];
+} Offered;
+
+static int open_offered(Offered *offered, size_t count) {
+    offered->count = offered->len = 0;
+    offered->room = sizeof offered->little;
+    offered->text = offered->little;
+    offered->known = NULL;
+    int is_few = count <= sizeof offered->few / sizeof *offered->few;
+    offered->spans = is_few ? offered->few : PyMem_Malloc(count * sizeof *offered->spans);
+    if (offered->spans) return 0;
+    PyErr_NoMemory();
+    return -1;
+}
+
+static void close_offered(Offered *offered) {
+    if (offered->spans != offered->few) PyMem_Free(offered->spans);
+    if (offered->text != offered->little) PyMem_Free(offered->text);
+}
+
+static int grow(Offered *offered, size_t len) {
+    size_t room = 2 * (offered->len + len);
+    char *more = PyMem_Malloc(room);
+    if (!more) {
+        PyErr_NoMemory();
+        return -1;
+    }
+    memcpy(more, offered->text, offered->len);
+    if (offered->text != offered->little) PyMem_Free(offered->text);
+    offered->text = more;
+    offered->room = room;
+    return 0;
+}
+
+static int add(Offered *offered, const Text *tag) {
+    size_t len = (size_t)tag->len;
+    if (len > offered->room - offered->len && grow(offered, len)) return -1;
+    memcpy(offered->text + offered->len, tag->data, len);
+    offered->spans[offered->count++] = (langtag_span){offered->len, len};
+    offered->len += len;
+    return 0;
+}
+
+/* Adds a text, which the class that Python calls Tag refuses where it is no tag. */
+static int add_text(Offered *offered, PyObject *from, PyObject *type) {
+    Text text;
+    if (lt_text(from, &text)) return -1;
+    int status = -1;
+    if (langtag_kind(text.data, (size_t)text.len)) status = add(offered, &text);
+    else lt_refuse(type, from);
+    Py_DECREF(text.owner);
+    return status;
+}
+
+static int add_item(Offered *offered, PyObject *item, PyObject *type) {
+    Value *tag = (Value *)item;
+    if (Py_TYPE(item) != offered->known || !tag->text.owner) {
+        if (PyUnicode_Check(item) || PyBytes_Check(item)) return add_text(offered, item, type);
+        if (!lt_as_tag(item, "a tag is a Tag or a text, and not %S")) return -1;
+        offered->known = Py_TYPE(item);
+    }
+    return add(offered, &tag->text);
+}
+
+/* Borrowed from a list or a tuple, which nothing changes meanwhile. */
+static PyObject *chosen(Text header, PyObject *listed, PyObject *otherwise, PyObject *type, Choose *choose) {
+    Offered offered;
+    PyObject *(*item)(PyObject *, Py_ssize_t) = PyList_Check(listed) ? PyList_GetItem : PyTuple_GetItem;
+    size_t count = (size_t)PySequence_Size(listed), index = count;
+    if (open_offered(&offered, count)) return NULL;
+    int status = 0;
+    for (size_t i = 0; i < count && !status; i++) status = add_item(&offered, item(listed, (Py_ssize_t)i), type);
+    if (!status) {
+        LET_GO(header.len);
+        index = choose(header.data, (size_t)header.len, offered.text, offered.len, offered.spans, count);
+        TAKE_BACK();
+    }
+    close_offered(&offered);
+    if (status) return NULL;
+    return index < count ? item(listed, (Py_ssize_t)index) : otherwise;
+}
+
+static PyObject *for_header(PyObject *arguments, Choose *choose) {
+    PyObject *from, *all, *otherwise, *type;
+    Text header;
+    if (!PyArg_UnpackTuple(arguments, "a choice", 4, 4, &from, &all, &otherwise, &type) || lt_text(from, &header)) return NULL;
+    /* The caller's own list, but where others may change it: those that run during a call on a long header. */
+    PyObject *listed = header.len < LONG_TEXT ? PySequence_Fast(all, "the tags are not iterable") : PySequence_Tuple(all);
+    PyObject *found = listed ? chosen(header, listed, otherwise, type, choose) : NULL;
+    Py_XINCREF(found);
+    Py_XDECREF(listed);
+    Py_DECREF(header.owner);
+    return found;
+}
+
+PyObject *lt_best_for_header(PyObject *module, PyObject *arguments) {
+    (void)module;
+    return for_header(arguments, langtag_best_for_header);
+}
+
+PyObject *lt_tag_for_header(PyObject *module, PyObject *arguments) {
+    (void)module;
+    return for_header(arguments, langtag_tag_for_header_lenient);
+}

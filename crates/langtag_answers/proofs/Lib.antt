@@ -1,0 +1,2 @@
+pub mod KindAnswers
+pub mod Verdicts

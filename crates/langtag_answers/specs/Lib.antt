@@ -1,0 +1,4 @@
+pub mod CheckAnswer
+pub mod CheckLaws
+pub mod ShowAnswer
+pub mod ShowLaws

@@ -1,0 +1,101 @@
+//! The answer to one line.
+ghost use Rattle.std.specs.Prelude.{◌≡◌, ◌++◌, OnOk, IsOkUnless, codes};
+ghost use Rattle.std.specs.Io.KnownBytes.{Appends, append_known};
+ghost use Rattle.langtag_registry.specs.Fault.{told};
+ghost use Rattle.langtag_lines.specs.Lines.{ended};
+ghost use Rattle.langtag_answers.specs.CheckLaws.{one_answer};
+ghost use Rattle.langtag_answers.specs.CheckAnswer.{IsAnswer, fault_text};
+
+use langtag::LangTag;
+use langtag_lines::{Answerer, Page, RunError};
+use langtag_registry::{InvalidSubtag, canonical, validate};
+use std::alloc::Global;
+use std::io::Write;
+
+/// Answers a line with whether it is a valid tag, what is wrong with it if not, and its canonical form:
+///
+/// - `valid canonical=TAG`, where TAG is the canonical form of the tag;
+/// - `invalid WHAT=TEXT canonical=TAG`, where TEXT is the first faulty subtag as it stands in the tag, and WHAT is `language`,
+///   `extlang`, `script`, `region` or `variant` where it is not registered, `second-extlang` for an extended language after
+///   another, and `repeated-variant` or `repeated-singleton` for the later one of two that are equal, but for case;
+/// - `refused` for a line that is not a tag, also for one that is not UTF-8.
+#[derive(Drop)]
+pub struct Check {
+    /// What the canonical forms are allocated by.
+    pub alloc: Global,
+}
+
+impl Answerer for Check {
+    ghost is_answer = { IsAnswer };
+
+    fn put_answer<W: Write>(
+        &self,
+        line: &[u8],
+        page: &mut Page,
+        output: &mut W,
+    ) -> Result<(), RunError> {
+        let Ok(tag) = LangTag::from_bytes(line) else {
+            return page.put_line(&["refused"], output);
+        };
+        let Ok(form) = canonical(self.alloc, tag) else {
+            return Err(RunError::Memory);
+        };
+        match validate(tag) {
+            Ok(()) => page.put_line(&["valid canonical=", form.as_str()], output),
+            Err(invalid) => put_invalid(invalid, form.as_str(), page, output),
+        }
+    }
+
+    ghost one_answer = { one_answer };
+}
+
+/// Adds the answer to a tag that is not valid to the page: its fault, and its canonical form.
+fn put_invalid<W: Write>(
+    invalid: InvalidSubtag<'_>,
+    form: &str,
+    page: &mut Page,
+    output: &mut W,
+) -> Result<(), RunError>
+    ensures ok { OnOk result (Appends (append_known (W.contents output.old) page.old) (append_known (W.contents output.new) page.new)
+        (ended (codes "invalid " ++ fault_text (told invalid.entry) ++ codes " canonical=" ++ form.now))) }
+    ensures err { IsOkUnless result RunError.Write }
+{
+    let mut room = [0; 4];
+    let (what, subtag) = fault_words(invalid, &mut room);
+    put_fault(what, subtag, form, page, output)
+}
+
+/// Returns what is wrong with a subtag, and the subtag, of which a singleton is written into this room.
+fn fault_words<'a>(invalid: InvalidSubtag<'a>, room: &'a mut [u8; 4]) -> (&'static str, &'a str)
+    ensures { result.0.now ++ result.1.now ≡ fault_text (told invalid.entry) }
+{
+    match invalid {
+        InvalidSubtag::Language(language) => ("language=", language.as_str()),
+        InvalidSubtag::Extlang(extlang) => ("extlang=", extlang.as_str()),
+        InvalidSubtag::SecondExtlang(extlang) => ("second-extlang=", extlang.as_str()),
+        InvalidSubtag::Script(script) => ("script=", script.as_str()),
+        InvalidSubtag::Region(region) => ("region=", region.as_str()),
+        InvalidSubtag::Variant(variant) => ("variant=", variant.as_str()),
+        InvalidSubtag::RepeatedVariant(variant) => ("repeated-variant=", variant.as_str()),
+        InvalidSubtag::RepeatedSingleton(singleton) => (
+            "repeated-singleton=",
+            char::from(singleton.unwrap()).encode_utf8(room),
+        ),
+    }
+}
+
+/// Adds the answer to a tag with a subtag that is wrong, after what is wrong with it, to the page.
+fn put_fault<W: Write>(
+    what: &str,
+    subtag: &str,
+    form: &str,
+    page: &mut Page,
+    output: &mut W,
+) -> Result<(), RunError>
+    ensures ok { OnOk result (Appends (append_known (W.contents output.old) page.old) (append_known (W.contents output.new) page.new)
+        (ended (codes "invalid " ++ (what.now ++ subtag.now) ++ codes " canonical=" ++ form.now))) }
+    ensures err { IsOkUnless result RunError.Write }
+{
+    let pieces = ["invalid ", what, subtag, " canonical=", form];
+    page.put_line(&pieces, output)
+}

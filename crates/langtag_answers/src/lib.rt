@@ -1,0 +1,18 @@
+//! What the programs `langtag_show` and `langtag_check` answer to a line: [`Show`] the kind and the parts of the tag that the line is
+//! (RFC 5646 section 2.1), and [`Check`] whether it is valid (section 2.2.9), with its canonical form (section 4.5).
+//!
+//! ```
+//! let mut input = b"fr-FR\n".as_slice();
+//! let mut output = Vec::new(alloc);
+//! langtag_answers::run(alloc, &mut input, &mut output)?;
+//! // normal language=fr script= region=FR variants= extensions= private= repeats=no
+//! ```
+#![tactic(auto)]
+
+mod check;
+mod report;
+mod show;
+
+pub use check::Check;
+pub use report::{ShowError, run};
+pub use show::Show;

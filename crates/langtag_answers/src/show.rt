@@ -1,0 +1,94 @@
+//! The answer to one line.
+ghost use Rattle.std.specs.Prelude.{◌≡◌, [], unwrap_or};
+ghost use Rattle.std.specs.List.{flat_map};
+ghost use Rattle.std.specs.Option.{option_map};
+ghost use Rattle.langtag_scan.specs.Record.{EachRecord};
+ghost use Rattle.langtag.specs.PlaceText.{script_text, region_text};
+ghost use Rattle.langtag.specs.PrivateText.{private_use_text};
+ghost use Rattle.langtag.specs.Text.{normal_lang_tag_text};
+ghost use Rattle.langtag_answers.specs.ShowAnswer.{IsAnswer, has_repeats};
+ghost use Rattle.langtag_answers.specs.ShowLaws.{one_answer};
+
+use langtag::{LangTag, NormalLangTag, PrivateUse, Region, Script, TypedLangTag};
+use langtag_lines::{Answerer, Page, RunError};
+use std::io::Write;
+
+/// Answers a line with the kind and the parts of the tag that it is:
+///
+/// - `normal language=L script=S region=R variants=V extensions=E private=P repeats=Q`, where an absent part is empty, and
+///   Q is `yes` if a variant or a singleton occurs twice in the tag (RFC 5646 section 2.2.9), and `no` otherwise;
+/// - `private` and the tag;
+/// - `irregular` and the tag as it is registered;
+/// - `refused` for a line that is not a tag, also for one that is not UTF-8.
+pub struct Show;
+
+impl Answerer for Show {
+    ghost is_answer = { IsAnswer };
+
+    fn put_answer<W: Write>(
+        &self,
+        line: &[u8],
+        page: &mut Page,
+        output: &mut W,
+    ) -> Result<(), RunError> {
+        let Ok(tag) = LangTag::from_bytes(line) else {
+            return page.put_line(&["refused"], output);
+        };
+        match tag.as_typed() {
+            TypedLangTag::Normal(tag) => page.put_line(&normal_answer(&tag), output),
+            TypedLangTag::PrivateUse(tag) => page.put_line(&["private ", tag.as_str()], output),
+            TypedLangTag::Grandfathered(tag) => {
+                page.put_line(&["irregular ", tag.as_str()], output)
+            }
+        }
+    }
+
+    ghost one_answer = { one_answer };
+}
+
+/// The answer to a normal tag, in pieces: its parts, and whether it repeats a variant or a singleton.
+fn normal_answer<'a>(tag: &NormalLangTag<'a>) -> [&'a str; 14]
+    ensures { IsAnswer (normal_lang_tag_text tag.now) (flat_map (λ piece. piece.now) result) }
+{
+    [
+        "normal language=",
+        tag.language().as_str(),
+        " script=",
+        script_or_nothing(tag.script()),
+        " region=",
+        region_or_nothing(tag.region()),
+        " variants=",
+        tag.variants().as_str(),
+        " extensions=",
+        tag.extensions().as_str(),
+        " private=",
+        private_use_or_nothing(tag.private_use()),
+        " repeats=",
+        if has_repeats(tag) { "yes" } else { "no" },
+    ]
+}
+
+fn script_or_nothing(script: Option<Script<'_>>) -> &str
+    ensures { result.now ≡ unwrap_or (option_map script_text script.entry) [] }
+{
+    script.map_or("", |script| script.as_str())
+}
+
+fn region_or_nothing(region: Option<Region<'_>>) -> &str
+    ensures { result.now ≡ unwrap_or (option_map region_text region.entry) [] }
+{
+    region.map_or("", |region| region.as_str())
+}
+
+fn private_use_or_nothing(private_use: Option<PrivateUse<'_>>) -> &str
+    ensures { result.now ≡ unwrap_or (option_map private_use_text private_use.entry) [] }
+{
+    private_use.map_or("", |private_use| private_use.as_str())
+}
+
+/// Returns `true` if a variant or a singleton occurs twice in a tag.
+fn has_repeats(tag: &NormalLangTag<'_>) -> bool
+    ensures { EachRecord (normal_lang_tag_text tag.now) (λ r. result ≡ has_repeats r) }
+{
+    tag.repeated_variant().is_some() || tag.repeated_singleton().is_some()
+}

@@ -1,0 +1,41 @@
+-- The tag that look-up finds for an Accept-Language header (RFC 9110 section 12.5.4, RFC 4647 section 3.4), and what refuses one.
+use Rattle.std.specs.Prelude.{◌≡◌, ℕ, false, List, [], ◌∷◌, Option, None, length, unwrap_or}
+use Rattle.std.specs.List.{position}
+use Rattle.std.specs.Option.{option_map_or, option_or}
+use Rattle.langtag_scan.specs.Case.{are_alike}
+use Rattle.langtag_match.specs.AcceptLanguage.{Element, IsByWeight, IsFirstBad, acceptable, elements, items}
+use Rattle.langtag_match.specs.Fallback.{fallbacks}
+use Rattle.langtag_match.specs.declared.accept_language_error.ElementPart.{ElementPart}
+use Rattle.langtag_c.specs.Choice.{AreTagsAt}
+use Rattle.langtag_c.specs.Spans.{IsWithin, span_text}
+use Rattle.langtag_c.specs.declared.span.Span.{Span}
+
+-- the index of the first of some tags that is a text, ignoring case
+abbrev pub index_alike : List (Option (List ℕ)) → List ℕ → Option ℕ
+index_alike tags text = position (λ tag. option_map_or (λ t. are_alike t text) tag false) tags
+
+-- that of the first of some texts that is one of the tags
+abbrev pub first_alike : List (Option (List ℕ)) → List (List ℕ) → Option ℕ
+first_alike tags [] = None
+first_alike tags (text ∷ texts) = option_or (index_alike tags text) (first_alike tags texts)
+
+-- that of the first of some elements of which a fallback is one of the tags
+abbrev pub first_found : List (Option (List ℕ)) → List Element → Option ℕ
+first_found tags [] = None
+first_found tags (element ∷ elements) = option_or (first_alike tags (fallbacks element.range)) (first_found tags elements)
+
+-- the index of the tag that look-up finds for the acceptable elements of a header, the heaviest first, or the number of the
+-- spans where it finds none
+pub record IsLookedUp (header text : List ℕ) (spans : List Span) (answer : ℕ) : Type 0 where
+  pub tags : List (Option (List ℕ))
+  pub are : AreTagsAt text spans tags
+  pub ordered : List Element
+  pub by_weight : IsByWeight (acceptable (elements (items header))) ordered
+  pub found : answer ≡ unwrap_or (first_found tags ordered) (length spans)
+
+-- a span is the first item of a header that is neither empty nor an element, and this part of it is bad
+pub record IsBadAt (header : List ℕ) (span : Span) (part : ElementPart) : Type 0 where
+  pub within : IsWithin header span
+  pub commas : ℕ
+  pub first : IsFirstBad header commas span.start part
+  pub there : first.item ≡ span_text header span

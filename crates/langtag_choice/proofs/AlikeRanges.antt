@@ -1,0 +1,151 @@
+-- The matching form of a text, and how far another is, do not change with the case of letters.
+use Rattle.std.proofs.Common.{◌≡◌, ℕ, ◌+◌, true, false, Bool, cond, List, [], ◌∷◌, map, Option, None, Some, option_map, refl, sym, ap, ◌∙◌}
+use Rattle.std.specs.Prelude.{codes}
+use Rattle.std.specs.Option.{option_map_or}
+use Rattle.langtag_scan.specs.Case.{Alike, are_alike, fold_text}
+use Rattle.langtag_scan.specs.CaseLaws.{are_alike-decides}
+use Rattle.langtag_scan.specs.Class.{is_letter, is_digit, is_primary, is_extended, is_script, is_region}
+use Rattle.langtag_scan.specs.Subtags.{subtags}
+use Rattle.langtag_scan.proofs.CaseLaw.{all-fold, is_letter-fold, length-fold}
+use Rattle.langtag_match.specs.Wanted.{hyphened}
+use Rattle.langtag_match.proofs.AlikeTexts.{hyphened-fold, is_digit-fold, subtags-fold}
+use Rattle.langtag_tables.proofs.AlikeTexts.{fold_text-twice}
+use Rattle.langtag_choice.specs.Distance.{IgnoresCase, distance_of_forms, distance_of_texts, language_distance, script_distance, region_distance}
+use Rattle.langtag_likely.specs.Likely.{Fields, known, without_region}
+use Rattle.langtag_likely.specs.Matching.{matching_fields, matching_form}
+use Rattle.langtag_choice.specs.Nearness.{is_form, unlikely, unlikely_form}
+use Rattle.langtag_likely.specs.TextFields.{text_fields, fields_of_subtags, language_of, after_language, script_of, after_script, region_of}
+use Rattle.langtag_likely.proofs.AlikeFields.{AlikeFields, AlikeOptions, are_alike-right, suffices-alike, by_options, by_same, are_alike-left}
+use Rattle.langtag_choice.proofs.DistanceCase.{forms-alike, matching-alike}
+
+-- ---- bytes and subtags
+
+pub hyphened-alike : (a b : List ℕ) → Alike a b → Alike (hyphened a) (hyphened b)
+hyphened-alike a b alike = sym (hyphened-fold a) ∙ ap hyphened alike ∙ hyphened-fold b
+
+is_primary-fold : (s : List ℕ) → is_primary (fold_text s) ≡ is_primary s
+unfolding is_primary
+is_primary-fold s = rw (length-fold s, all-fold is_letter is_letter-fold s) refl
+
+is_extended-fold : (s : List ℕ) → is_extended (fold_text s) ≡ is_extended s
+unfolding is_extended
+is_extended-fold s = rw (length-fold s, all-fold is_letter is_letter-fold s) refl
+
+is_script-fold : (s : List ℕ) → is_script (fold_text s) ≡ is_script s
+unfolding is_script
+is_script-fold s = rw (length-fold s, all-fold is_letter is_letter-fold s) refl
+
+is_region-fold : (s : List ℕ) → is_region (fold_text s) ≡ is_region s
+unfolding is_region
+is_region-fold s = rw (length-fold s, all-fold is_letter is_letter-fold s, all-fold is_digit is_digit-fold s) refl
+
+-- ---- the fields of subtags
+
+pub cond-map : {A B : Type 0} (f : A → B) (b : Bool) (x y : A) → cond b (f x) (f y) ≡ f (cond b x y)
+cond-map f true x y = refl
+cond-map f false x y = refl
+
+language_of-fold : (language : List ℕ) (subtags : List (List ℕ)) → language_of (fold_text language) (map fold_text subtags) ≡ fold_text (language_of language subtags)
+language_of-fold language [] = refl
+language_of-fold language (s ∷ others) = rw (is_extended-fold s, language_of-fold s others) (cond-map fold_text (is_extended s) (language_of s others) language)
+
+after_language-fold : (subtags : List (List ℕ)) → after_language (map fold_text subtags) ≡ map fold_text (after_language subtags)
+after_language-fold [] = refl
+after_language-fold (s ∷ others) = rw (is_extended-fold s, after_language-fold others) (cond-map (map fold_text) (is_extended s) (after_language others) (s ∷ others))
+
+script_of-fold : (subtags : List (List ℕ)) → script_of (map fold_text subtags) ≡ fold_text (script_of subtags)
+script_of-fold [] = refl
+script_of-fold (s ∷ others) = rw (is_script-fold s) (cond-map fold_text (is_script s) s [])
+
+after_script-fold : (subtags : List (List ℕ)) → after_script (map fold_text subtags) ≡ map fold_text (after_script subtags)
+after_script-fold [] = refl
+after_script-fold (s ∷ others) = rw (is_script-fold s) (cond-map (map fold_text) (is_script s) others (s ∷ others))
+
+region_of-fold : (subtags : List (List ℕ)) → region_of (map fold_text subtags) ≡ fold_text (region_of subtags)
+region_of-fold [] = refl
+region_of-fold (s ∷ others) = rw (is_region-fold s) (cond-map fold_text (is_region s) s [])
+
+known-fold : (unknown text : List ℕ) → known unknown (fold_text text) ≡ fold_text (known unknown text)
+known-fold unknown text = rw (are_alike-right unknown (fold_text text) text (fold_text-twice text)) (cond-map fold_text (are_alike unknown text) [] text)
+
+abbrev fold_fields : Fields → Fields
+fold_fields f = record { language = fold_text f.language; script = fold_text f.script; region = fold_text f.region }
+
+fields_of_subtags-fold : (subtags : List (List ℕ)) → fields_of_subtags (map fold_text subtags) ≡ option_map fold_fields (fields_of_subtags subtags)
+fields_of_subtags-fold [] = refl
+fields_of_subtags-fold (s ∷ others) =
+    let language = ap (λ l. language_of l (map fold_text others)) (known-fold (codes "und") s) ∙ language_of-fold (known (codes "und") s) others in
+    let script = ap (λ t. known (codes "Zzzz") (script_of t)) (after_language-fold others) ∙ ap (known (codes "Zzzz")) (script_of-fold (after_language others)) ∙ known-fold (codes "Zzzz") (script_of (after_language others)) in
+    let region =
+    ap (λ t. known (codes "ZZ") (region_of (after_script t))) (after_language-fold others)
+    ∙ ap (λ t. known (codes "ZZ") (region_of t)) (after_script-fold (after_language others))
+    ∙ ap (known (codes "ZZ")) (region_of-fold (after_script (after_language others)))
+    ∙ known-fold (codes "ZZ") (region_of (after_script (after_language others))) in
+    rw (is_primary-fold s, language, script, region) (by_test (is_primary s) _)
+  where
+    by_test : (b : Bool) (f : Fields) → cond b (Some (fold_fields f)) None ≡ option_map fold_fields (cond b (Some f) None)
+    by_test true f = refl
+    by_test false f = refl
+
+text_fields-fold : (text : List ℕ) → text_fields (fold_text text) ≡ option_map fold_fields (text_fields text)
+unfolding text_fields
+text_fields-fold text = ap fields_of_subtags (subtags-fold text) ∙ fields_of_subtags-fold (subtags text)
+
+-- ---- forms
+
+same_fields : (f g : Option Fields) → option_map fold_fields f ≡ option_map fold_fields g → AlikeOptions (option_map matching_fields f) (option_map matching_fields g)
+same_fields None None same = tt
+same_fields None (Some b) same = absurd cc
+same_fields (Some a) None same = absurd cc
+same_fields (Some a) (Some b) same =
+    let folded : fold_fields a ≡ fold_fields b = cc in
+    matching-alike a b (record { language = ap (λ f. f.language) folded; script = ap (λ f. f.script) folded; region = ap (λ f. f.region) folded })
+
+pub matching_form-alike : (a b : List ℕ) → Alike a b → AlikeOptions (matching_form a) (matching_form b)
+unfolding matching_form
+matching_form-alike a b alike =
+    by_same (λ s t. AlikeOptions (cond s None (option_map matching_fields (text_fields (hyphened a)))) (cond t None (option_map matching_fields (text_fields (hyphened b))))) by_test _ _
+    (are_alike-left (hyphened a) (hyphened b) (codes "und") read)
+  where
+    read : Alike (hyphened a) (hyphened b)
+    read = hyphened-alike a b alike
+
+    by_test : (t : Bool) → AlikeOptions (cond t None (option_map matching_fields (text_fields (hyphened a)))) (cond t None (option_map matching_fields (text_fields (hyphened b))))
+    by_test true = tt
+    by_test false = same_fields (text_fields (hyphened a)) (text_fields (hyphened b)) (sym (text_fields-fold (hyphened a)) ∙ ap text_fields read ∙ text_fields-fold (hyphened b))
+
+pub distance-alike : (a b c d : List ℕ) → Alike a b → Alike c d → distance_of_texts a c ≡ distance_of_texts b d
+unfolding distance_of_texts
+distance-alike a b c d h k = forms-alike a b c d h k (matching_form a) (matching_form b) (matching_form c) (matching_form d) (matching_form-alike a b h) (matching_form-alike c d k)
+
+pub ignores_case : (desired supported : List ℕ) (distance : ℕ) → distance ≡ distance_of_texts desired supported → IgnoresCase desired supported distance
+ignores_case desired supported distance is = λ d s h k. sym (is ∙ distance-alike desired d supported s h k)
+
+no_distance : (a b : Fields) → AlikeFields a b → language_distance a b + (script_distance a b + region_distance a b) ≡ 0
+unfolding language_distance script_distance region_distance
+no_distance a b same =
+    rw ((are_alike-decides a.language b.language).1 same.language, (are_alike-decides a.script b.script).1 same.script, (are_alike-decides a.region b.region).1 same.region) refl
+
+-- what is alike is at no distance
+pub distance-none : (a b : List ℕ) → Alike a b → distance_of_texts a b ≡ 0
+unfolding distance_of_texts
+distance-none a b alike =
+    let same = (are_alike-decides a b).1 alike in
+    by_options (λ f g. distance_of_forms a b f g ≡ 0) (rw same refl) no_distance _ _ (matching_form-alike a b alike)
+
+is_form-alike : (language region : List ℕ) (f g : Fields) → AlikeFields f g → is_form language region f ≡ is_form language region g
+is_form-alike language region f g same =
+    rw (are_alike-right language _ _ same.language, are_alike-right (codes "Latn") _ _ same.script, are_alike-right region _ _ same.region) refl
+
+unlikely_form-alike : (f g : Fields) → AlikeFields f g → unlikely_form f ≡ unlikely_form g
+unlikely_form-alike f g same =
+    rw (
+      suffices-alike f g (without_region f) (without_region g) same (record { language = same.language; script = same.script; region = refl }),
+      is_form-alike (codes "en") (codes "GB") f g same,
+      is_form-alike (codes "es") (codes "419") f g same,
+      is_form-alike (codes "pt") (codes "PT") f g same,
+    ) refl
+
+pub unlikely-alike : (a b : List ℕ) → Alike a b → unlikely a ≡ unlikely b
+unfolding unlikely
+unlikely-alike a b alike = by_options (λ f g. option_map_or unlikely_form f 2 ≡ option_map_or unlikely_form g 2) refl unlikely_form-alike _ _ (matching_form-alike a b alike)

@@ -1,0 +1,52 @@
+-- Of the choice: it is the only one, and what was found on the way is it.
+use Rattle.std.proofs.Common.{◌≡◌, ℕ, true, List, get_or, Option, Some, None, ap, refl, sym, subst, ◌∙◌}
+use Rattle.langtag_match.specs.AcceptLanguage.{Element}
+use Rattle.langtag_choice.specs.Best.{IsAtMost, IsChoice, IsLeast, Pair, rank, rank_of_pair, serves}
+use Rattle.langtag_choice.specs.ChoiceLaws.{IsOnlyChoice}
+use Rattle.langtag_choice.specs.Found.{IsFor, IsOpen, rank_of}
+use Rattle.langtag_choice.specs.declared.candidate.Candidate.{Candidate}
+use Rattle.langtag_choice.proofs.Ranks.{both_at_most}
+
+rank_index : (place : ℕ) (element : Element) (index : ℕ) (tag : List ℕ) → get_or (rank place element index tag) 6 0 ≡ index
+unfolding rank
+rank_index place element index tag = refl
+
+module _ (elements : List Element) (tags : List (Option (List ℕ))) where
+  -- pairs that are at most each other have one index
+  pub same_index :
+      (a b : Pair elements tags) → IsAtMost (rank_of_pair elements tags a) (rank_of_pair elements tags b) → IsAtMost (rank_of_pair elements tags b) (rank_of_pair elements tags a) →
+      a.index ≡ b.index
+  same_index a b one other =
+      sym (rank_index a.place a.element a.index a.tag)
+      ∙ ap (λ ranks. get_or ranks 6 0) (both_at_most (rank_of_pair elements tags a) (rank_of_pair elements tags b) one other)
+      ∙ rank_index b.place b.element b.index b.tag
+
+  same_choice : (a b : Option ℕ) → IsChoice elements tags a → IsChoice elements tags b → b ≡ a
+  same_choice None None none also = refl
+  same_choice None (Some j) none some = absurd (none some.pair)
+  same_choice (Some i) None some none = absurd (none some.pair)
+  same_choice (Some i) (Some j) some also =
+      ap Some (sym also.here ∙ same_index also.pair some.pair (also.least some.pair) (some.least also.pair) ∙ some.here)
+
+  pub only_choice : (answer : Option ℕ) → IsChoice elements tags answer → IsOnlyChoice elements tags answer
+  only_choice answer is = λ other also. same_choice answer other is also
+
+  -- a candidate that is open and at most all pairs is the choice
+  pub least_chosen : (c : Candidate) → IsFor elements tags c → IsOpen elements tags c.index → ((pair : Pair elements tags) → IsAtMost (rank_of c) (rank_of_pair elements tags pair)) → IsLeast elements tags c.index
+  least_chosen c for chosen least =
+      let same = for.there chosen.0 chosen.1 in
+      record {
+        pair = record {
+          place = c.rank.place;
+          element = for.at.element;
+          wanted = for.at.wanted;
+          index = c.index;
+          tag = chosen.0;
+          there = chosen.1;
+          served = subst (λ tag. serves for.at.element tag ≡ true) same for.at.served;
+          unrefused = chosen.2;
+        };
+        here = refl;
+        least = λ other.
+            subst (λ ranks. IsAtMost ranks (rank_of_pair elements tags other)) (for.at.same_rank ∙ ap (rank c.rank.place for.at.element c.index) same) (least other);
+      }

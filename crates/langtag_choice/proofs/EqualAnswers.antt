@@ -1,0 +1,115 @@
+-- A tag that is the first range of the greatest weight is chosen.
+use Rattle.std.proofs.Common.{◌≡◌, ℕ, ◌-◌, ◌<◌, ◌≤◌, ◌==◌, Bool, true, false, cond, not, ◌&&◌, ◌||◌, nat_lt, IsTrue, List, [], ◌∷◌, length, length-take, take, drop, Option, Some, None, ap, refl, sym, subst, ◌∙◌, arith}
+use Rattle.std.specs.List.{slice_get}
+use Rattle.std.proofs.lemmas.Bool.{and_parts, ltb-true, ltb-false}
+use Rattle.langtag_scan.specs.Case.{Alike, are_alike}
+use Rattle.langtag_scan.specs.CaseLaws.{are_alike-decides}
+use Rattle.langtag_match.specs.AcceptLanguage.{Element}
+use Rattle.langtag_match.specs.Basic.{ends_subtag}
+use Rattle.langtag_match.specs.Fallback.{ends_in_single}
+use Rattle.langtag_match.specs.Range.{is_star}
+use Rattle.langtag_choice.specs.Best.{IsAtMost, IsChoice, Pair, is_refused, is_wish, rank, rank_of_pair, reach, serves, service}
+use Rattle.langtag_choice.specs.ChoiceLaws.{IsHeaviest, IsFirstAlike, AnswersEqual}
+use Rattle.langtag_choice.specs.Nearness.{is_fallback, kept, unlikely}
+use Rattle.langtag_choice.proofs.AlikeRanges.{distance-none, unlikely-alike}
+use Rattle.langtag_choice.proofs.ChoiceLaws.{same_index}
+use Rattle.langtag_choice.proofs.LookUpAnswers.{whole_fallback}
+use Rattle.langtag_choice.proofs.Ranks.{le_then}
+use Rattle.std.proofs.Math.Seq.{take-length}
+use Rattle.langtag_match.proofs.Prefixes.{length-alike}
+
+-- ---- what is kept whole is the range
+
+kept_alike : (range tag : List ℕ) → Alike range tag → kept range tag ≡ length range
+unfolding kept
+kept_alike range tag alike =
+    let is = whole_fallback range tag alike in
+    rw is (sym (length-alike range tag alike))
+
+alike_kept : (range tag : List ℕ) → 0 < length range → length range - kept range tag ≡ 0 → Alike range tag
+unfolding kept
+alike_kept range tag some whole = by_test (is_fallback range tag) refl
+  where
+    is_alike : length range - length tag ≡ 0 → is_fallback range tag ≡ true → Alike range tag
+    is_alike whole is =
+        let parts = and_parts (are_alike (take (length tag) range) tag) (ends_subtag (drop (length tag) range) && ((length tag == length range) || not (ends_in_single tag))) is in
+        let same = (are_alike-decides (take (length tag) range) tag).0 (parts.0) in
+        let long : length tag ≡ length range = omega (arith, whole, length-alike (take (length tag) range) tag same, length-take (length tag) range) in
+        let all : take (length tag) range ≡ range = ap (λ n. take n range) long ∙ take-length range in
+        rw (← all) same
+
+    by_test : (b : Bool) → is_fallback range tag ≡ b → Alike range tag
+    by_test true is = let left : length range - length tag ≡ 0 = ap (λ b. length range - cond b (length tag) 0) (sym is) ∙ whole in is_alike left is
+    by_test false is = let left : length range - 0 ≡ 0 = ap (λ b. length range - cond b (length tag) 0) (sym is) ∙ whole in absurd (omega (arith, some, left))
+
+module _ (elements : List Element) (all : List (Option (List ℕ))) (place : ℕ) (element : Element) (index : ℕ) (heaviest : IsHeaviest elements place element) (wish : IsTrue (is_wish element)) (most : element.weight ≤ 1000) (star : is_star element.range ≡ false) (long : 0 < length element.range) (first : IsFirstAlike elements all element.range index) where
+  lost_none : length element.range - kept element.range first.tag ≡ 0
+  lost_none = let whole = kept_alike element.range first.tag first.alike in omega (arith, whole)
+
+  reach_none : reach element.range first.tag ≡ 0
+  unfolding reach
+  reach_none = let near = distance-none element.range first.tag first.alike in rw near refl
+
+  -- it may serve the range
+  own_pair : Pair elements all
+  unfolding serves
+  own_pair =
+      let near = reach_none in
+      let served : serves element first.tag ≡ true = rw (wish, star, near) refl in
+      record { place = place; element = element; wanted = heaviest.there; index = index; tag = first.tag; there = first.there; served = served; unrefused = first.unrefused }
+
+  abbrev own_rank : List ℕ
+  own_rank = 0 ∷ (1000 - element.weight) ∷ place ∷ 0 ∷ (length element.range - kept element.range first.tag) ∷ unlikely first.tag ∷ index ∷ []
+
+  is_own_rank : rank place element index first.tag ≡ own_rank
+  unfolding rank
+  is_own_rank = let near = reach_none in rw near refl
+
+  -- for the range itself
+  own_range : (tag : List ℕ) (k : ℕ) → slice_get all k ≡ Some (Some tag) → is_refused elements tag ≡ false → IsAtMost own_rank (rank place element k tag)
+  unfolding rank
+  own_range tag k there free =
+      le_then 0 (service (reach element.range tag)) _ (omega arith) (λ r.
+      le_then (1000 - element.weight) (1000 - element.weight) _ (omega arith) (λ s.
+      le_then place place _ (omega arith) (λ t.
+      le_then 0 (reach element.range tag) _ (omega arith) (λ u.
+      le_then (length element.range - kept element.range first.tag) (length element.range - kept element.range tag) _ (omega (arith, lost_none)) (λ v.
+      let alike = alike_kept element.range tag long (sym v ∙ lost_none) in
+      let same = unlikely-alike first.tag tag (sym first.alike ∙ alike) in
+      le_then (unlikely first.tag) (unlikely tag) _ (omega (arith, same)) (λ w.
+      le_then index k _ (first.first k tag there free alike) (λ x. refl)))))))
+
+  -- for any range
+  none_before :
+      (other : Element) (p : ℕ) (tag : List ℕ) (k : ℕ) → slice_get elements p ≡ Some other → slice_get all k ≡ Some (Some tag) → is_refused elements tag ≡ false →
+      IsAtMost own_rank (rank p other k tag)
+  unfolding rank
+  none_before other p tag k range_there there free = by_tests (nat_lt p place) (nat_lt place p) refl refl
+    where
+      at_place : p ≡ place → IsAtMost own_rank (rank p other k tag)
+      at_place same =
+          let one : Some other ≡ Some element = sym range_there ∙ ap (slice_get elements) same ∙ heaviest.there in
+          let equal : other ≡ element = cc in
+          subst (λ q. IsAtMost own_rank (rank q other k tag)) (sym same) (subst (λ e. IsAtMost own_rank (rank place e k tag)) (sym equal) (own_range tag k there free))
+
+      by_tests : (s t : Bool) → nat_lt p place ≡ s → nat_lt place p ≡ t → IsAtMost own_rank (rank p other k tag)
+      by_tests true t before after =
+          let lighter = heaviest.first p other range_there (ltb-true p place before) in
+          le_then 0 (service (reach other.range tag)) _ (omega arith) (λ r.
+          le_then (1000 - element.weight) (1000 - other.weight) _ (omega (arith, most, lighter)) (λ same. absurd (omega (arith, most, lighter, same))))
+      by_tests false true before after =
+          let later = ltb-true place p after in
+          le_then 0 (service (reach other.range tag)) _ (omega arith) (λ r.
+          le_then (1000 - element.weight) (1000 - other.weight) _ (omega (arith, heaviest.most p other range_there)) (λ same. le_then place p _ (omega (arith, later)) (λ s. absurd (omega (arith, later, s)))))
+      by_tests false false before after = at_place (omega (arith, ltb-false p place before, ltb-false place p after))
+
+  leads : (other : Pair elements all) → IsAtMost (rank place element index first.tag) (rank_of_pair elements all other)
+  leads other = rw is_own_rank (none_before other.element other.place other.tag other.index other.wanted other.there other.unrefused)
+
+  is_answer : (answer : Option ℕ) → IsChoice elements all answer → answer ≡ Some index
+  unfolding own_pair
+  is_answer None none = absurd (none own_pair)
+  is_answer (Some i) some = ap Some (sym some.here ∙ same_index elements all some.pair own_pair (some.least own_pair) (leads some.pair))
+
+pub equal_answered : (elements : List Element) (tags : List (Option (List ℕ))) (answer : Option ℕ) → IsChoice elements tags answer → AnswersEqual elements tags answer
+equal_answered elements tags answer is place element index heaviest wish most star long first = is_answer elements tags place element index heaviest wish most star long first answer is

@@ -1,0 +1,20 @@
+-- Where no range has the weight 0, no tag is refused.
+use Rattle.std.proofs.Common.{◌≡◌, ℕ, Bool, true, false, ◌||◌, List, [], ◌∷◌, refl, arith}
+use Rattle.std.specs.List.{list_any}
+use Rattle.std.proofs.lemmas.Bool.Decides.{nat_tests}
+use Rattle.langtag_match.specs.AcceptLanguage.{Element}
+use Rattle.langtag_choice.specs.Best.{is_zero, is_refused, longest}
+
+longest_none : (of_kind : Element → Bool) (elements : List Element) (tag : List ℕ) → list_any of_kind elements ≡ false → longest of_kind elements tag ≡ 0
+longest_none of_kind [] tag none = refl
+longest_none of_kind (element ∷ elements) tag none = by_first (of_kind element) refl none (longest_none of_kind elements tag)
+  where
+    by_first :
+        (is : Bool) → of_kind element ≡ is → (is || list_any of_kind elements) ≡ false → (list_any of_kind elements ≡ false → longest of_kind elements tag ≡ 0) →
+        longest of_kind (element ∷ elements) tag ≡ 0
+    by_first true is some others = absurd cc
+    by_first false is some others = rw is (others some)
+
+pub none_refused : (elements : List Element) (tag : List ℕ) → list_any is_zero elements ≡ false → is_refused elements tag ≡ false
+unfolding is_refused
+none_refused elements tag none = let zero = longest_none is_zero elements tag none in rw zero (grind (arith, nat_tests))

@@ -1,0 +1,88 @@
+-- A rule is found by the number of what it is for, and a text among others by its own.
+use Rattle.std.proofs.Common.{◌≡◌, ℕ, suc, ◌<◌, true, false, ◌==◌, Bool, cond, ltb, List, [], ◌∷◌, length, get_or, map, Option, None, Some, option_map, refl, ap, ◌∙◌, arith}
+use Rattle.std.specs.Option.{option_map_or}
+use Rattle.std.specs.Prelude.{◌&&◌, ◌||◌, is_some}
+use Rattle.std.specs.List.{list_all}
+use Rattle.std.proofs.lemmas.Bool.{and_parts, ltb-true, false_from_ne_true}
+use Rattle.langtag_scan.specs.Case.{are_alike}
+use Rattle.langtag_scan.specs.Class.{are_alphanumeric}
+use Rattle.langtag_scan.specs.Case.{folded_number}
+use Rattle.langtag_scan.proofs.FoldedNumbers.{folded_number-tells}
+use Rattle.langtag_choice.specs.Distance.{is_among}
+use Rattle.langtag_likely.specs.Likely.{Fields, are_alike_fields}
+use Rattle.langtag_likely.specs.Numbers.{first_index}
+use Rattle.langtag_choice.specs.Rules.{Rule, fits, distance_by}
+use Rattle.langtag_likely.proofs.RowsFound.{alike_length}
+use Rattle.std.proofs.Math.Bool.{and-false}
+
+abbrev pub distance_of : Rule → ℕ
+distance_of rule = rule.distance
+
+-- where a number tells pairs apart, the first rule with it is the rule for the two
+module _ (number : Rule → ℕ) (is_good : Rule → Bool) (key : ℕ) (desired supported : Fields)
+    (tells : (rule : Rule) → is_good rule ≡ true → (key == number rule) ≡ fits desired supported rule) where
+  pub distance_by_number :
+      (otherwise : ℕ) (rules : List Rule) → list_all is_good rules ≡ true →
+      option_map_or (λ i. get_or (map distance_of rules) i 0) (first_index (map number rules) key) otherwise ≡ distance_by rules otherwise desired supported
+  distance_by_number otherwise [] all = refl
+  distance_by_number otherwise (rule ∷ rules) all =
+      let k = and_parts (is_good rule) (list_all is_good rules) all in
+      by_test (key == number rule) (first_index (map number rules) key) (distance_by_number otherwise rules k.1)
+      ∙ ap (λ b. cond b rule.distance (distance_by rules otherwise desired supported)) (tells rule k.0)
+    where
+      by_index :
+          (o : Option ℕ) → option_map_or (λ i. get_or (map distance_of rules) i 0) o otherwise ≡ distance_by rules otherwise desired supported →
+          option_map_or (λ i. get_or (map distance_of (rule ∷ rules)) i 0) (option_map suc o) otherwise ≡ distance_by rules otherwise desired supported
+      by_index None later = later
+      by_index (Some i) later = later
+
+      by_test :
+          (b : Bool) (o : Option ℕ) → option_map_or (λ i. get_or (map distance_of rules) i 0) o otherwise ≡ distance_by rules otherwise desired supported →
+          option_map_or (λ i. get_or (map distance_of (rule ∷ rules)) i 0) (cond b (Some 0) (option_map suc o)) otherwise
+          ≡ cond b rule.distance (distance_by rules otherwise desired supported)
+      by_test true o later = refl
+      by_test false o later = by_index o later
+
+-- ---- no rule has a language of more than three letters
+
+abbrev pub is_short : Rule → Bool
+is_short rule = ltb (length rule.desired.language) 4 && ltb (length rule.supported.language) 4
+
+long_apart : (a b : Fields) → 3 < length b.language → ltb (length a.language) 4 ≡ true → are_alike_fields a b ≡ false
+long_apart a b long short = false_from_ne_true (are_alike_fields a b) (λ alike.
+    let same = alike_length a.language b.language (and_parts (are_alike a.language b.language) (are_alike a.script b.script && are_alike a.region b.region) alike).0 in
+    let few = ltb-true (length a.language) 4 short in
+    omega (arith, same, long, few))
+
+pub long_desired : (otherwise : ℕ) (rules : List Rule) (desired supported : Fields) → 3 < length desired.language → list_all is_short rules ≡ true → distance_by rules otherwise desired supported ≡ otherwise
+long_desired otherwise [] desired supported long all = refl
+long_desired otherwise (rule ∷ rules) desired supported long all =
+    let k = and_parts (is_short rule) (list_all is_short rules) all in
+    ap (λ b. cond b rule.distance (distance_by rules otherwise desired supported)) (ap (λ b. b && are_alike_fields rule.supported supported) (long_apart rule.desired desired long (and_parts (ltb (length rule.desired.language) 4) (ltb (length rule.supported.language) 4) k.0).0))
+    ∙ long_desired otherwise rules desired supported long k.1
+
+pub long_supported : (otherwise : ℕ) (rules : List Rule) (desired supported : Fields) → 3 < length supported.language → list_all is_short rules ≡ true → distance_by rules otherwise desired supported ≡ otherwise
+long_supported otherwise [] desired supported long all = refl
+long_supported otherwise (rule ∷ rules) desired supported long all =
+    let k = and_parts (is_short rule) (list_all is_short rules) all in
+    let s = and_parts (ltb (length rule.desired.language) 4) (ltb (length rule.supported.language) 4) k.0 in
+    ap (λ b. cond b rule.distance (distance_by rules otherwise desired supported))
+    (ap (λ b. are_alike_fields rule.desired desired && b) (long_apart rule.supported supported long s.1) ∙ and-false (are_alike_fields rule.desired desired))
+    ∙ long_supported otherwise rules desired supported long k.1
+
+-- ---- a text among others
+
+pub among_by_number :
+    (words : List (List ℕ)) (text : List ℕ) → list_all are_alphanumeric words ≡ true → are_alphanumeric text ≡ true →
+    is_some (first_index (map folded_number words) (folded_number text)) ≡ is_among words text
+among_by_number [] text all plain = refl
+among_by_number (word ∷ words) text all plain =
+    let k = and_parts (are_alphanumeric word) (list_all are_alphanumeric words) all in
+    by_first (folded_number text == folded_number word) (first_index (map folded_number words) (folded_number text))
+    ∙ ap (λ b. b || is_some (first_index (map folded_number words) (folded_number text))) (folded_number-tells word text k.0 plain)
+    ∙ ap (λ b. are_alike word text || b) (among_by_number words text k.1 plain)
+  where
+    by_first : (b : Bool) (o : Option ℕ) → is_some (cond b (Some 0) (option_map suc o)) ≡ (b || is_some o)
+    by_first true o = refl
+    by_first false None = refl
+    by_first false (Some i) = refl

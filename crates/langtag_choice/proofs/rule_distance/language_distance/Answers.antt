@@ -1,0 +1,28 @@
+use Rattle.std.proofs.Common.{None, Some, refl, sym, ap, ◌∙◌}
+use Rattle.std.specs.Result.{result_ok}
+use Rattle.langtag_likely.specs.Texts.{field_texts}
+use Rattle.langtag_choice.proofs.DistanceLaws.{language_long_desired, language_long_supported, language_found}
+use Rattle.langtag_likely.proofs.FieldClasses.{language_letters}
+use Rattle.langtag_likely.proofs.FirstIndex.{index_searched}
+use Rattle.langtag_choice.proofs.rule_distance.language_distance.Goals as goal
+use Rattle.langtag_choice.proofs.rule_distance.language_distance.Goals.{then-desired-gt3-via-then-desired-gt3, then-desired-gt3-via-else-desired-gt3+then-supported-gt3}
+
+pub returns-then-desired-gt3-clause-distance : goal.returns-then-desired-gt3-clause-distance
+returns-then-desired-gt3-clause-distance c =
+    let other = sym c.case_insensitive_eq.ensures.test ∙ c.if-case_insensitive_eq.false in
+    elim c.then-desired-gt3.branch [
+      | then-desired-gt3-via-then-desired-gt3 w ↦ language_long_desired (field_texts c.args.desired) (field_texts c.args.supported) other w.if-desired-gt3.true
+      | then-desired-gt3-via-else-desired-gt3+then-supported-gt3 w ↦ language_long_supported (field_texts c.args.desired) (field_texts c.args.supported) other w.if-supported-gt3.true
+    ]
+
+pub returns-in-Ok-clause-distance : goal.returns-in-Ok-clause-distance
+returns-in-Ok-clause-distance c =
+    language_found (field_texts c.args.desired) (field_texts c.args.supported) (Some c.in-Ok.index) _ _ _ (sym c.case_insensitive_eq.ensures.test ∙ c.if-case_insensitive_eq.false)
+    (language_letters _ c.args.desired.language_class) (language_letters _ c.args.supported.language_class) c.language_pair.ensures.half
+    c.language_rule_keys.ensures.numbers c.language_pair.ensures.number (ap result_ok (sym c.in-Ok.is) ∙ index_searched c.language_rule_keys.result.now c.language_pair.result _ c.language_rule_keys.ensures.climbs c.binary_search.ensures.position) c.language_rule_distance.ensures.distance
+
+pub returns-in-Err-clause-distance : goal.returns-in-Err-clause-distance
+returns-in-Err-clause-distance c =
+    language_found (field_texts c.args.desired) (field_texts c.args.supported) None 80 _ _ (sym c.case_insensitive_eq.ensures.test ∙ c.if-case_insensitive_eq.false)
+    (language_letters _ c.args.desired.language_class) (language_letters _ c.args.supported.language_class) c.language_pair.ensures.half
+    c.language_rule_keys.ensures.numbers c.language_pair.ensures.number (ap result_ok (sym c.in-Err.is) ∙ index_searched c.language_rule_keys.result.now c.language_pair.result _ c.language_rule_keys.ensures.climbs c.binary_search.ensures.position) refl

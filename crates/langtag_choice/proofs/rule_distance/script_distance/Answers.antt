@@ -1,0 +1,31 @@
+use Rattle.std.proofs.Common.{None, Some, refl, sym, ap, ◌∙◌}
+use Rattle.std.specs.Result.{result_ok}
+use Rattle.langtag_likely.specs.Likely.{without_region}
+use Rattle.langtag_likely.specs.Texts.{field_texts}
+use Rattle.langtag_choice.proofs.DistanceLaws.{script_long_desired, script_long_supported, script_found}
+use Rattle.langtag_likely.proofs.FieldClasses.{fields_plain}
+use Rattle.langtag_likely.proofs.FirstIndex.{index_searched}
+use Rattle.langtag_choice.proofs.rule_distance.script_distance.Goals as goal
+use Rattle.langtag_choice.proofs.rule_distance.script_distance.Goals.{then-desired-gt3-via-then-desired-gt3, then-desired-gt3-via-else-desired-gt3+then-supported-gt3}
+
+pub returns-then-desired-gt3-clause-distance : goal.returns-then-desired-gt3-clause-distance
+returns-then-desired-gt3-clause-distance c =
+    let other = sym c.case_insensitive_eq.ensures.test ∙ c.if-case_insensitive_eq.false in
+    elim c.then-desired-gt3.branch [
+      | then-desired-gt3-via-then-desired-gt3 w ↦ script_long_desired (field_texts c.args.desired) (field_texts c.args.supported) other w.if-desired-gt3.true
+      | then-desired-gt3-via-else-desired-gt3+then-supported-gt3 w ↦ script_long_supported (field_texts c.args.desired) (field_texts c.args.supported) other w.if-supported-gt3.true
+    ]
+
+pub returns-in-Ok-clause-distance : goal.returns-in-Ok-clause-distance
+returns-in-Ok-clause-distance c =
+    script_found (field_texts c.args.desired) (field_texts c.args.supported) (Some c.in-Ok.index) _ _ _ (sym c.case_insensitive_eq.ensures.test ∙ c.if-case_insensitive_eq.false)
+    (fields_plain (without_region (field_texts c.args.desired)) c.args.desired.language_class c.args.desired.script_class refl)
+    (fields_plain (without_region (field_texts c.args.supported)) c.args.supported.language_class c.args.supported.script_class refl) c.script_pair.ensures.half
+    c.script_rule_keys.ensures.numbers c.script_pair.ensures.number (ap result_ok (sym c.in-Ok.is) ∙ index_searched c.script_rule_keys.result.now c.script_pair.result _ c.script_rule_keys.ensures.climbs c.binary_search.ensures.position) c.script_rule_distance.ensures.distance
+
+pub returns-in-Err-clause-distance : goal.returns-in-Err-clause-distance
+returns-in-Err-clause-distance c =
+    script_found (field_texts c.args.desired) (field_texts c.args.supported) None 50 _ _ (sym c.case_insensitive_eq.ensures.test ∙ c.if-case_insensitive_eq.false)
+    (fields_plain (without_region (field_texts c.args.desired)) c.args.desired.language_class c.args.desired.script_class refl)
+    (fields_plain (without_region (field_texts c.args.supported)) c.args.supported.language_class c.args.supported.script_class refl) c.script_pair.ensures.half
+    c.script_rule_keys.ensures.numbers c.script_pair.ensures.number (ap result_ok (sym c.in-Err.is) ∙ index_searched c.script_rule_keys.result.now c.script_pair.result _ c.script_rule_keys.ensures.climbs c.binary_search.ensures.position) refl

@@ -1,0 +1,91 @@
+-- The tag that a reader wants: the choice among some tags for some ranges with weights.
+use Rattle.std.specs.Prelude.{◌≡◌, ℕ, ◌-◌, Bool, false, not, ◌==◌, ◌&&◌, ◌||◌, if◌then◌else◌, IsTrue, List, [], ◌∷◌, Option, Some, MatchOption, length, max, nat_lt}
+use Rattle.std.specs.Cmp.Lexicographic.{slice_cmp}
+use Rattle.std.specs.List.{slice_get}
+use Rattle.std.specs.Ordering.{is_gt, nat_cmp}
+use Rattle.langtag_choice.specs.Distance.{distance_of_texts}
+use Rattle.langtag_choice.specs.Nearness.{unlikely, kept}
+use Rattle.langtag_match.specs.AcceptLanguage.{Element}
+use Rattle.langtag_match.specs.Basic.{test_basic}
+use Rattle.langtag_match.specs.Range.{is_star}
+
+-- ---- which tags are refused
+
+abbrev pub is_zero : Element → Bool
+is_zero element = element.weight == 0
+
+abbrev pub is_wish : Element → Bool
+is_wish element = not (is_zero element)
+
+-- a range, other than "*", matches a tag by basic filtering (RFC 4647 section 3.3.1)
+abbrev pub matches : Element → List ℕ → Bool
+matches element tag = not (is_star element.range) && test_basic element.range tag
+
+-- the length of the longest range of a kind that matches a tag
+abbrev pub longest : (Element → Bool) → List Element → List ℕ → ℕ
+longest of_kind [] tag = 0
+longest of_kind (element ∷ elements) tag =
+    if of_kind element && matches element tag then max (length element.range) (longest of_kind elements tag)
+    else longest of_kind elements tag
+
+-- the longest range that matches a tag has the weight 0
+unfoldable pub is_refused : List Element → List ℕ → Bool
+is_refused elements tag = nat_lt (longest is_wish elements tag) (longest is_zero elements tag)
+
+-- ---- which tags may serve a range
+
+-- the distance; from 50 on no tag is farther than another
+unfoldable pub reach : List ℕ → List ℕ → ℕ
+reach range tag = if nat_lt (distance_of_texts range tag) 50 then distance_of_texts range tag else 50
+
+-- a tag is nearer than 50, or look-up of the range finds it
+abbrev pub may_serve : List ℕ → List ℕ → Bool
+may_serve range tag = nat_lt (reach range tag) 50 || nat_lt 0 (kept range tag)
+
+-- and the range has a weight above 0, and is not "*"
+unfoldable pub serves : Element → List ℕ → Bool
+serves element tag = is_wish element && (not (is_star element.range) && may_serve element.range tag)
+
+-- ---- which goes before another
+
+-- a tag that is nearer than 16 serves best, then one that is nearer than 50, then what look-up alone finds. Where 16 and 50
+-- stand is of no account within the gaps beside them: no distance lies from 15 to 19, nor from 45 to 49
+abbrev pub service : ℕ → ℕ
+service distance = if nat_lt distance 16 then 0 else if nat_lt distance 50 then 1 else 2
+
+-- the rank of the tag at an index for the range at a place: how the tag serves it, what the weight lacks to 1, the place, the
+-- distance, what look-up takes from the range (all where it does not find the tag), how unlikely the region is, the index
+unfoldable pub rank : ℕ → Element → ℕ → List ℕ → List ℕ
+rank place element index tag =
+    service (reach element.range tag) ∷ (1000 - element.weight) ∷ place ∷ reach element.range tag ∷
+    (length element.range - kept element.range tag) ∷ unlikely tag ∷ index ∷ []
+
+-- of two ranks the first number that differs decides
+abbrev pub IsAtMost : List ℕ → List ℕ → Type 0
+IsAtMost a b = is_gt (slice_cmp nat_cmp a b) ≡ false
+
+-- ---- the choice
+
+-- a range and a tag that may serve it and is not refused
+pub record Pair (elements : List Element) (tags : List (Option (List ℕ))) : Type 0 where
+  pub place : ℕ
+  pub element : Element
+  pub wanted : slice_get elements place ≡ Some element
+  pub index : ℕ
+  pub tag : List ℕ
+  pub there : slice_get tags index ≡ Some (Some tag)
+  pub served : IsTrue (serves element tag)
+  pub unrefused : is_refused elements tag ≡ false
+
+abbrev pub rank_of_pair : (elements : List Element) (tags : List (Option (List ℕ))) → Pair elements tags → List ℕ
+rank_of_pair elements tags pair = rank pair.place pair.element pair.index pair.tag
+
+-- the tag at an index is that of the least of all pairs
+pub record IsLeast (elements : List Element) (tags : List (Option (List ℕ))) (index : ℕ) : Type 0 where
+  pub pair : Pair elements tags
+  pub here : pair.index ≡ index
+  pub least : (other : Pair elements tags) → IsAtMost (rank_of_pair elements tags pair) (rank_of_pair elements tags other)
+
+-- the tag that a reader wants: that of the least pair, none if there is no pair
+abbrev pub IsChoice : List Element → List (Option (List ℕ)) → Option ℕ → Type 0
+IsChoice elements tags answer = MatchOption answer (Pair elements tags → ⊥) (IsLeast elements tags)

@@ -1,0 +1,62 @@
+-- What is true of the choice, beside its definition.
+use Rattle.std.specs.Prelude.{◌≡◌, ℕ, ◌<◌, ◌≤◌, false, IsTrue, List, map, Option, Some, length, is_some}
+use Rattle.std.specs.List.{Contains, slice_get}
+use Rattle.std.specs.Option.{option_map}
+use Rattle.langtag_scan.specs.Case.{Alike, fold_text}
+use Rattle.langtag_match.specs.AcceptLanguage.{Element}
+use Rattle.langtag_match.specs.Fallback.{fallbacks}
+use Rattle.langtag_match.specs.Range.{is_star}
+use Rattle.langtag_match.specs.Wanted.{folded, wanted_elements}
+use Rattle.langtag_choice.specs.Best.{IsChoice, is_refused, is_wish}
+
+-- there is no other choice
+abbrev pub IsOnlyChoice : List Element → List (Option (List ℕ)) → Option ℕ → Type 0
+IsOnlyChoice elements tags answer = (other : Option ℕ) → IsChoice elements tags other → other ≡ answer
+
+-- ---- where look-up finds a tag
+
+-- a tag is what look-up falls back to from a range (RFC 4647 section 3.4)
+abbrev pub LooksUp : List ℕ → List ℕ → Type 0
+LooksUp range tag = (text : List ℕ) × Contains (fallbacks range) text × Alike text tag
+
+-- where look-up finds one that is not refused, for a range of a weight above 0, there is an answer
+abbrev pub AnswersLookUp : List Element → List (Option (List ℕ)) → Option ℕ → Type 0
+AnswersLookUp elements tags answer =
+    (place : ℕ) (element : Element) (index : ℕ) (tag : List ℕ) → slice_get elements place ≡ Some element → IsTrue (is_wish element) → is_star element.range ≡ false →
+    slice_get tags index ≡ Some (Some tag) → is_refused elements tag ≡ false → 0 < length tag → LooksUp element.range tag → IsTrue (is_some answer)
+
+-- ---- a tag that is the range itself
+
+-- of the elements none is heavier than one, and none before it as heavy
+pub record IsHeaviest (elements : List Element) (place : ℕ) (element : Element) : Type 0 where
+  pub there : slice_get elements place ≡ Some element
+  pub most : (k : ℕ) (other : Element) → slice_get elements k ≡ Some other → other.weight ≤ element.weight
+  pub first : (k : ℕ) (other : Element) → slice_get elements k ≡ Some other → k < place → other.weight < element.weight
+
+-- the tag at an index is a range but for case, and is not refused; no such tag stands before it
+pub record IsFirstAlike (elements : List Element) (tags : List (Option (List ℕ))) (range : List ℕ) (index : ℕ) : Type 0 where
+  pub tag : List ℕ
+  pub there : slice_get tags index ≡ Some (Some tag)
+  pub unrefused : is_refused elements tag ≡ false
+  pub alike : Alike range tag
+  pub first : (k : ℕ) (other : List ℕ) → slice_get tags k ≡ Some (Some other) → is_refused elements other ≡ false → Alike range other → index ≤ k
+
+-- a tag that is the first range of the greatest weight is the answer
+abbrev pub AnswersEqual : List Element → List (Option (List ℕ)) → Option ℕ → Type 0
+AnswersEqual elements tags answer =
+    (place : ℕ) (element : Element) (index : ℕ) → IsHeaviest elements place element → IsTrue (is_wish element) → element.weight ≤ 1000 → is_star element.range ≡ false →
+    0 < length element.range → IsFirstAlike elements tags element.range index → answer ≡ Some index
+
+-- ---- the case of letters
+
+-- of elements and tags that are equal to these but for case it is the choice, too
+abbrev pub IgnoresCase : List Element → List (Option (List ℕ)) → Option ℕ → Type 0
+IgnoresCase elements tags answer =
+    (other : List Element) (other_tags : List (Option (List ℕ))) → map folded elements ≡ map folded other → map (option_map fold_text) tags ≡ map (option_map fold_text) other_tags →
+    IsChoice other other_tags answer
+
+-- of a header and tags that are equal to these but for case it is the choice, too
+abbrev pub IgnoresHeaderCase : List ℕ → List (Option (List ℕ)) → Option ℕ → Type 0
+IgnoresHeaderCase header tags answer =
+    (other : List ℕ) (other_tags : List (Option (List ℕ))) → Alike header other → map (option_map fold_text) tags ≡ map (option_map fold_text) other_tags →
+    IsChoice (wanted_elements other) other_tags answer

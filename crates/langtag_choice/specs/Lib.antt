@@ -1,0 +1,11 @@
+pub mod Best
+pub mod ChoiceLaws
+pub mod Distance
+pub mod Found
+pub mod ListTexts
+pub mod Lone
+pub mod MatchingData
+pub mod Nearness
+pub mod Pairs
+pub mod Rules
+pub mod Sets

@@ -1,0 +1,37 @@
+-- What decides among tags that are as near to a range.
+use Rattle.std.specs.Prelude.{ℕ, Bool, ◌==◌, ◌&&◌, ◌||◌, not, if◌then◌else◌, List, codes, length, take, drop}
+use Rattle.std.specs.Option.{option_map_or}
+use Rattle.langtag_scan.specs.Case.{are_alike}
+use Rattle.langtag_likely.specs.Likely.{Fields, suffices, without_region}
+use Rattle.langtag_likely.specs.LikelySubtags.{likely_subtags}
+use Rattle.langtag_likely.specs.Matching.{matching_form}
+use Rattle.langtag_match.specs.Basic.{ends_subtag}
+use Rattle.langtag_match.specs.Fallback.{ends_in_single}
+
+-- ---- what look-up keeps of a range (RFC 4647 section 3.4)
+
+-- a tag is a range, or what stands before one of its hyphens and does not end in a single character
+abbrev pub is_fallback : List ℕ → List ℕ → Bool
+is_fallback range tag =
+    are_alike (take (length tag) range) tag && (ends_subtag (drop (length tag) range) && ((length tag == length range) || not (ends_in_single tag)))
+
+-- how much of a range look-up keeps where it finds a tag: 0 where it does not find it
+unfoldable pub kept : List ℕ → List ℕ → ℕ
+kept range tag = if is_fallback range tag then length tag else 0
+
+-- ---- which of several tags is the likeliest
+
+-- a language with the script Latn, and a region
+abbrev pub is_form : List ℕ → List ℕ → Fields → Bool
+is_form language region form = are_alike language form.language && (are_alike (codes "Latn") form.script && are_alike region form.region)
+
+-- the paradigm locales whose regions are not the likely ones: en-GB, es-419 and pt-PT
+abbrev pub is_paradigm : Fields → Bool
+is_paradigm form = is_form (codes "en") (codes "GB") form || (is_form (codes "es") (codes "419") form || is_form (codes "pt") (codes "PT") form)
+
+-- 0 where its region is the likely one of its language and script, 1 of a paradigm locale, 2 of any other
+abbrev pub unlikely_form : Fields → ℕ
+unlikely_form form = if suffices likely_subtags form (without_region form) then 0 else if is_paradigm form then 1 else 2
+
+unfoldable pub unlikely : List ℕ → ℕ
+unlikely tag = option_map_or unlikely_form (matching_form tag) 2

@@ -1,0 +1,13 @@
+-- The numbers by which the tables know two languages. Contracts of private functions alone speak of this page.
+use Rattle.std.specs.Prelude.{ℕ, ◌+◌, ◌*◌}
+use Rattle.langtag_tables.specs.Numbers.{letter_number}
+use Rattle.langtag_likely.specs.Likely.{Fields}
+use Rattle.langtag_likely.specs.Numbers.{key_number}
+
+-- two languages as one number
+abbrev pub language_pair : Fields → Fields → ℕ
+language_pair desired supported = letter_number desired.language * 32768 + letter_number supported.language
+
+-- two languages, each with its script, as one number
+abbrev pub script_pair : Fields → Fields → ℕ
+script_pair desired supported = key_number desired * 4294967296 + key_number supported

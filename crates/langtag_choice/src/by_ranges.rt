@@ -1,0 +1,58 @@
+//! The choice range by range, which passes over lighter ranges where a heavier one has a tag.
+ghost use Rattle.std.specs.Prelude.{◌≡◌, ℕ, List, IsTrue, Some, length};
+ghost use Rattle.std.specs.List.{list_any, slice_get};
+ghost use Rattle.langtag_match.specs.AcceptLanguage.{Element};
+ghost use Rattle.langtag_match.specs.Wanted.{wanted_element};
+ghost use Rattle.langtag_choice.specs.Best.{is_zero};
+ghost use Rattle.langtag_choice.specs.Found.{Covers, CoversTags, IsReal, Keeps};
+
+use crate::candidate::Candidate;
+use crate::improve::{improve, limit};
+use crate::range_list::RangeList;
+use crate::tag_list::TagList;
+use crate::wish::Wish;
+use langtag_match::WantedRange;
+
+/// Returns the first candidate of all, whoever is refused or no tag, and whether a range has the weight 0.
+pub(crate) fn first_by_ranges<'a, 't, R: RangeList<'a>, T: TagList>(
+    ranges: R,
+    tags: &'t T,
+) -> (Option<Candidate<'a, 't>>, bool)
+    ensures least { Covers (R.elements ranges) (T.texts tags.now) (length (R.elements ranges)) result.0 }
+    ensures real { IsReal (R.elements ranges) (T.texts tags.now) result.0 }
+    ensures zero { result.1 ≡ list_any is_zero (R.elements ranges) }
+{
+    let mut first = None;
+    let mut has_zero = false;
+    let mut place = 0;
+    let mut left = ranges;
+    while let Some((wanted, rest)) = left.split_range() {
+        has_zero = has_zero || wanted.weight == 0;
+        improve_for_range(&mut first, wanted, place, tags);
+        place += 1;
+        left = rest;
+    }
+    (first, has_zero)
+}
+
+/// Puts the first candidate for a range in place of what was found, if it goes before.
+fn improve_for_range<'a, 't, T: TagList>(
+    found: &mut Option<Candidate<'a, 't>>,
+    wanted: WantedRange<'a>,
+    place: usize,
+    tags: &'t T,
+)
+    ensures keeps { Keeps found.old found.new }
+    ensures covers { CoversTags (wanted_element wanted.entry) place (T.texts tags.now) (length (T.texts tags.now)) found.new }
+    ensures real { (elements : List Element) → slice_get elements place ≡ Some (wanted_element wanted.entry) → IsReal elements (T.texts tags.now) found.old → IsReal elements (T.texts tags.now) found.new }
+{
+    if limit(found, wanted.weight, place) == 0 {
+        return;
+    }
+    let Some(wish) = Wish::new(wanted, place) else {
+        return;
+    };
+    for index in 0..tags.count() {
+        improve(found, &wish, tags.bytes_at(index), index);
+    }
+}

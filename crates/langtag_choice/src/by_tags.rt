@@ -1,0 +1,100 @@
+//! The choice tag by tag, which asks of each tag once whether it is one, and whether it is refused.
+ghost use Rattle.std.specs.Prelude.{◌≡◌, ◌<◌, ◌↔◌, ℕ, List, IsTrue, Some, false, length};
+ghost use Rattle.std.specs.List.{slice_get};
+ghost use Rattle.langtag_match.specs.AcceptLanguage.{Element};
+ghost use Rattle.langtag_match.specs.Wanted.{wanted_element};
+ghost use Rattle.langtag_choice.specs.Best.{is_refused, rank, serves};
+ghost use Rattle.langtag_choice.specs.Found.{AreOpen, CoversOpen, CoversRanges, IsFrom, IsOpen, IsReal, IsWithin, Keeps};
+
+use crate::candidate::Candidate;
+use crate::improve::{improve, limit};
+use crate::range_list::RangeList;
+use crate::refused::is_refused;
+use crate::tag_list::TagList;
+use crate::wish::Wish;
+use langtag_match::WantedRange;
+
+/// Returns the first candidate among the tags that are not refused.
+pub(crate) fn first_by_tags<'a, 't, R: RangeList<'a>, T: TagList>(
+    ranges: R,
+    tags: &'t T,
+) -> Option<Candidate<'a, 't>>
+    ensures least { CoversOpen (R.elements ranges) (T.texts tags.now) (length (T.texts tags.now)) result }
+    ensures real { IsReal (R.elements ranges) (T.texts tags.now) result }
+    ensures unrefused { AreOpen (R.elements ranges) (T.texts tags.now) result }
+{
+    let mut first = None;
+    for index in 0..tags.count() {
+        improve_at(&mut first, ranges, tags, index);
+    }
+    first
+}
+
+/// Puts the first candidate that the tag at an index is in place of what was found, if it is not refused and goes before.
+fn improve_at<'a, 't, R: RangeList<'a>, T: TagList>(
+    found: &mut Option<Candidate<'a, 't>>,
+    ranges: R,
+    tags: &'t T,
+    index: usize,
+)
+    requires { index < length (T.texts tags.now) }
+    ensures keeps { Keeps found.old found.new }
+    ensures covers { (tag : List ℕ) → slice_get (T.texts tags.now) index ≡ Some (Some tag) → is_refused (R.elements ranges) tag ≡ false → CoversRanges (R.elements ranges) tag index (length (R.elements ranges)) found.new }
+    ensures real { IsReal (R.elements ranges) (T.texts tags.now) found.old → IsReal (R.elements ranges) (T.texts tags.now) found.new }
+    ensures unrefused { AreOpen (R.elements ranges) (T.texts tags.now) found.old → AreOpen (R.elements ranges) (T.texts tags.now) found.new }
+{
+    if is_open(ranges, tags, index) {
+        improve_for_tag(found, ranges, tags.bytes_at(index), index);
+    }
+}
+
+/// Returns whether a tag stands at an index, which is not refused.
+fn is_open<'a, R: RangeList<'a>, T: TagList>(ranges: R, tags: &T, index: usize) -> bool
+    requires { index < length (T.texts tags.now) }
+    ensures { IsTrue result ↔ IsOpen (R.elements ranges) (T.texts tags.now) index }
+{
+    match tags.tag_at(index) {
+        Some(tag) => !is_refused(ranges, tag.as_bytes()),
+        None => false,
+    }
+}
+
+/// Puts the first candidate that a tag is in place of what was found, if it goes before.
+fn improve_for_tag<'a, 't, R: RangeList<'a>>(
+    found: &mut Option<Candidate<'a, 't>>,
+    ranges: R,
+    tag: &'t [u8],
+    index: usize,
+)
+    ensures keeps { Keeps found.old found.new }
+    ensures covers { CoversRanges (R.elements ranges) tag.now index (length (R.elements ranges)) found.new }
+    ensures from { IsFrom (R.elements ranges) tag.now index found.old found.new }
+{
+    let mut place = 0;
+    let mut left = ranges;
+    while let Some((wanted, rest)) = left.split_range() {
+        improve_for_pair(found, wanted, place, tag, index);
+        place += 1;
+        left = rest;
+    }
+}
+
+/// Puts the candidate that a tag is for a range in place of what was found, if it goes before.
+fn improve_for_pair<'a, 't>(
+    found: &mut Option<Candidate<'a, 't>>,
+    wanted: WantedRange<'a>,
+    place: usize,
+    tag: &'t [u8],
+    index: usize,
+)
+    ensures keeps { Keeps found.old found.new }
+    ensures covers { IsTrue (serves (wanted_element wanted.entry) tag.now) → IsWithin found.new (rank place (wanted_element wanted.entry) index tag.now) }
+    ensures from { (elements : List Element) → slice_get elements place ≡ Some (wanted_element wanted.entry) → IsFrom elements tag.now index found.old found.new }
+{
+    if limit(found, wanted.weight, place) == 0 {
+        return;
+    }
+    if let Some(wish) = Wish::new(wanted, place) {
+        improve(found, &wish, tag, index);
+    }
+}

@@ -1,0 +1,136 @@
+//! A tag that may serve a range.
+ghost use Rattle.std.specs.Prelude.{◌≡◌};
+ghost use Rattle.std.specs.Option.{option_map};
+ghost use Rattle.langtag_likely.specs.Matching.{matching_form};
+ghost use Rattle.langtag_likely.specs.Texts.{field_texts};
+
+use crate::likely_region::unlikely;
+use crate::nearness::kept;
+use langtag_likely::TagFields;
+use std::cmp::Ordering;
+
+/// How a tag serves a range: it is nearer than 16, or nearer than 50, or look-up alone finds it. The first is the best.
+#[derive(Clone, Copy, PartialEq, Eq, PartialOrd, Ord)]
+pub(crate) enum Service {
+    Near,
+    Acceptable,
+    LookUp,
+}
+
+impl Service {
+    ghost use Rattle.std.specs.Prelude.{◌≤◌, ℕ};
+    ghost use Rattle.langtag_choice.specs.Best.{service};
+    ghost use Rattle.langtag_choice.specs.Found.{number_of};
+
+    /// Returns how a tag serves a range at a distance, which is 50 if look-up alone finds it.
+    pub(crate) fn at(distance: u8) -> Service
+        ensures { number_of result ≡ service distance }
+    {
+        if distance < 16 {
+            Service::Near
+        } else if distance < 50 {
+            Service::Acceptable
+        } else {
+            Service::LookUp
+        }
+    }
+
+    /// Returns the least distance at which a tag serves a range so.
+    pub(crate) fn least_distance(self) -> u8
+        ensures { (distance : ℕ) → result ≤ distance → number_of self ≤ service distance }
+    {
+        match self {
+            Service::Near => 0,
+            Service::Acceptable => 16,
+            Service::LookUp => 50,
+        }
+    }
+}
+
+/// What is compared first. Of two the lesser is the better, by the first field in which they differ.
+#[derive(Clone, Copy, PartialEq, Eq, PartialOrd, Ord)]
+pub(crate) struct Rank {
+    pub(crate) service: Service,
+    /// What the weight of the range lacks to 1, in thousandths.
+    pub(crate) lack: u32,
+    /// How many ranges stand before it.
+    pub(crate) place: usize,
+    /// How far the tag is from it, and 50 for each tag that look-up alone finds.
+    pub(crate) distance: u8,
+}
+
+impl Rank {
+    ghost use Rattle.std.specs.Prelude.{◌==◌, ◌&&◌, ◌||◌, nat_lt};
+
+    /// Returns whether the range is heavier than one at a place, or as heavy and stands before it.
+    pub(crate) fn is_wanted_more(self, lack: u32, place: usize) -> bool
+        ensures { result ≡ (nat_lt self.lack lack || ((self.lack == lack) && nat_lt self.place place)) }
+    {
+        self.lack < lack || (self.lack == lack && self.place < place)
+    }
+}
+
+/// A tag that may serve a range, at an index, with its matching form.
+#[derive(Clone, Copy)]
+pub(crate) struct Candidate<'a, 't> {
+    pub(crate) rank: Rank,
+    pub(crate) range: &'a [u8],
+    pub(crate) tag: &'t [u8],
+    pub(crate) form: Option<TagFields<'t>>,
+    pub(crate) index: usize,
+    ghost known: { option_map field_texts form ≡ matching_form tag.now },
+}
+
+impl Candidate<'_, '_> {
+    ghost use Rattle.std.specs.Prelude.{◌-◌, drop, length};
+    ghost use Rattle.std.specs.Cmp.Lexicographic.{slice_cmp};
+    ghost use Rattle.std.specs.Ordering.{is_lt, nat_cmp};
+    ghost use Rattle.langtag_match.specs.Wanted.{hyphened};
+    ghost use Rattle.langtag_choice.specs.Found.{rank_of};
+    ghost use Rattle.langtag_choice.specs.Nearness.{kept};
+
+    /// Returns whether this goes before another.
+    pub(crate) fn goes_before(&self, other: &Candidate<'_, '_>) -> bool
+        ensures { result ≡ is_lt (slice_cmp nat_cmp (rank_of self.now) (rank_of other.now)) }
+    {
+        match self.rank.cmp(&other.rank) {
+            Ordering::Less => true,
+            Ordering::Greater => false,
+            Ordering::Equal => self.breaks_tie(other),
+        }
+    }
+
+    /// Returns whether this goes before another of the same rank: by what look-up loses, then by the likely region, then by the index.
+    #[tactic(auto, unfolding(crate::specs::Nearness::unlikely))]
+    fn breaks_tie(&self, other: &Candidate<'_, '_>) -> bool
+        ensures { result ≡ is_lt (slice_cmp nat_cmp (drop 4 (rank_of self.now)) (drop 4 (rank_of other.now))) }
+    {
+        let (lost, others_lost) = (self.lost(), other.lost());
+        if lost != others_lost {
+            return lost < others_lost;
+        }
+        let (unlikely, others) = (unlikely(self.form), unlikely(other.form));
+        if unlikely != others {
+            return unlikely < others;
+        }
+        self.index < other.index
+    }
+
+    /// Returns how many bytes look-up takes from the range to find the tag, and all where it does not.
+    #[tactic(auto, using(crate::proofs::ReadRanges::length_read))]
+    fn lost(&self) -> usize
+        ensures { result ≡ length (hyphened self.now.range.now) - kept (hyphened self.now.range.now) self.now.tag.now }
+    {
+        self.range.len().saturating_sub(kept(self.range, self.tag))
+    }
+}
+
+/// Returns the index of the tag that was found.
+pub(crate) fn index_of(found: Option<Candidate<'_, '_>>) -> Option<usize>
+    ensures { result ≡ option_map (λ c. c.index) found.entry }
+{
+    match found {
+        Some(found) => Some(found.index),
+        None => None,
+    }
+}

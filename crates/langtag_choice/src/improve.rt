@@ -1,0 +1,100 @@
+//! What was found, made better by one more tag.
+ghost use Rattle.std.specs.Prelude.{◌≡◌, ◌-◌, ◌≤◌, ℕ, List, IsTrue, MatchOption, Some, false};
+ghost use Rattle.langtag_match.specs.AcceptLanguage.{Element};
+ghost use Rattle.langtag_choice.specs.Best as spec;
+ghost use Rattle.langtag_choice.specs.Found.{IsOf, IsWithin, Keeps, Takes, rank_of, wish_element};
+
+use crate::candidate::{Candidate, Rank, Service};
+use crate::nearness::measured;
+use crate::wish::Wish;
+
+/// Returns the distance below which a tag may be better than what was found, for a range with a weight at a place: 0 where none
+/// is, and 51 where it may be one that look-up alone finds.
+pub(crate) fn limit(found: &Option<Candidate<'_, '_>>, weight: u32, place: usize) -> u8
+    ensures { (element : Element) (index : ℕ) (tag : List ℕ) → element.weight ≡ weight → result ≤ spec.reach element.range tag → IsWithin found.now (spec.rank place element index tag) }
+{
+    match found {
+        Some(found) if found.rank.is_wanted_more(lack(weight), place) => {
+            found.rank.service.least_distance()
+        }
+        _ => 51,
+    }
+}
+
+/// Returns what a weight lacks to 1.
+fn lack(weight: u32) -> u32
+    ensures { result ≡ 1000 - weight }
+{
+    1000_u32.saturating_sub(weight)
+}
+
+/// Puts the text at an index in place of what was found, if it may serve a range and goes before. That it is a tag is not tested.
+pub(crate) fn improve<'a, 't>(
+    found: &mut Option<Candidate<'a, 't>>,
+    wish: &Wish<'a>,
+    tag: &'t [u8],
+    index: usize,
+)
+    ensures { Takes wish.now tag.now index found.old found.new }
+{
+    if !wish.is_far_from(tag) {
+        improve_near(found, wish, tag, index);
+    }
+}
+
+/// Does the same by the distance. It stands apart, so that the first letters are tested in the loops over tags themselves.
+#[inline(never)]
+fn improve_near<'a, 't>(
+    found: &mut Option<Candidate<'a, 't>>,
+    wish: &Wish<'a>,
+    tag: &'t [u8],
+    index: usize,
+)
+    ensures { Takes wish.now tag.now index found.old found.new }
+{
+    let limit = limit(found, wish.weight, wish.place);
+    let Some(next) = as_candidate(limit, wish, tag, index) else {
+        return;
+    };
+    if is_first(&next, found) {
+        *found = Some(next);
+    }
+}
+
+/// Returns whether a candidate goes before what was found.
+fn is_first(next: &Candidate<'_, '_>, found: &Option<Candidate<'_, '_>>) -> bool
+    ensures first { IsTrue result → Keeps found.now (Some next.now) }
+    ensures later { result ≡ false → IsWithin found.now (rank_of next.now) }
+{
+    match found {
+        Some(found) => next.goes_before(found),
+        None => true,
+    }
+}
+
+/// Returns the text at an index as a candidate for a range, if it may serve it and is nearer than a limit.
+#[tactic(auto, unfolding(crate::specs::Best::rank, crate::specs::Best::serves))]
+fn as_candidate<'a, 't>(
+    limit: u8,
+    wish: &Wish<'a>,
+    tag: &'t [u8],
+    index: usize,
+) -> Option<Candidate<'a, 't>>
+    ensures { MatchOption result (IsTrue (spec.serves (wish_element wish.now) tag.now) → limit ≤ spec.reach (wish_element wish.now).range tag.now)
+        (IsOf wish.now tag.now index) }
+{
+    let near = measured(limit, wish, tag)?;
+    let rank = Rank {
+        service: Service::at(near.distance),
+        lack: lack(wish.weight),
+        place: wish.place,
+        distance: near.distance,
+    };
+    Some(Candidate {
+        rank,
+        range: wish.range,
+        tag,
+        form: near.form,
+        index,
+    })
+}

@@ -1,0 +1,35 @@
+//! The choice of the tag that suits a reader best: for an Accept-Language header (RFC 9110, section 12.5.4), or for language ranges
+//! (RFC 4647), by the distance of tags (UTS #35, part 1, section 'Language Matching') and, where none is near, by look-up.
+//!
+//! ```
+//! use langtag::LangTag;
+//! use langtag_choice::{best_for_header, distance};
+//!
+//! let tags = [LangTag::new("en")?, LangTag::new("zh-Hans")?, LangTag::new("zh-Hant")?];
+//! best_for_header(b"zh-TW,zh;q=0.9,en;q=0.8", &tags); // Some(2)
+//! distance(LangTag::new("zh-TW")?, tags[2]);          // 0
+//! ```
+#![tactic(auto)]
+
+mod best;
+mod by_ranges;
+mod by_tags;
+mod candidate;
+mod improve;
+mod likely_region;
+mod lone;
+mod matching_tables;
+mod nearness;
+mod range_list;
+mod read_range;
+mod refused;
+mod region_distance;
+mod rule_distance;
+mod tag_distance;
+mod tag_list;
+mod wish;
+
+pub use best::{best_among, best_for_accept_language, best_for_header, best_for_ranges};
+pub use range_list::RangeList;
+pub use tag_distance::{FORMLESS_DISTANCE, distance};
+pub use tag_list::TagList;

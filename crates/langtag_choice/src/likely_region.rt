@@ -1,0 +1,44 @@
+//! How unlikely the region of a tag is.
+ghost use Rattle.std.specs.Prelude.{◌≡◌};
+ghost use Rattle.std.specs.Option.{option_map, option_map_or};
+ghost use Rattle.langtag_choice.specs.Nearness as spec;
+ghost use Rattle.langtag_likely.specs.Texts.{field_texts};
+
+use langtag_likely::{TagFields, suffices};
+use langtag_scan::case_insensitive_eq;
+
+/// Returns 0 for the form of a tag whose region is the likely one of its language and script, 1 for another that stands for many,
+/// and 2 for all others.
+pub(crate) fn unlikely(form: Option<TagFields<'_>>) -> u32
+    ensures { result ≡ option_map_or spec.unlikely_form (option_map field_texts form.entry) 2 }
+{
+    match form {
+        Some(form) => unlikely_form(form),
+        None => 2,
+    }
+}
+
+fn unlikely_form(form: TagFields<'_>) -> u32
+    ensures { result ≡ spec.unlikely_form (field_texts form.entry) }
+{
+    if suffices(form, form.without_region()) {
+        0
+    } else if is_paradigm(form) {
+        1
+    } else {
+        2
+    }
+}
+
+fn is_paradigm(form: TagFields<'_>) -> bool
+    ensures { result ≡ spec.is_paradigm (field_texts form.entry) }
+{
+    is_form(form, b"en", b"GB") || (is_form(form, b"es", b"419") || is_form(form, b"pt", b"PT"))
+}
+
+fn is_form(form: TagFields<'_>, language: &[u8], region: &[u8]) -> bool
+    ensures { result ≡ spec.is_form language.now region.now (field_texts form.entry) }
+{
+    case_insensitive_eq(language, form.language)
+        && (case_insensitive_eq(b"Latn", form.script) && case_insensitive_eq(region, form.region))
+}

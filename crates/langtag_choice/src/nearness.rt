@@ -1,0 +1,153 @@
+//! How near a tag is to a range.
+ghost use Rattle.std.specs.Prelude.{◌≡◌, ◌≤◌, IsTrue, MatchOption, Some, length, take};
+ghost use Rattle.std.specs.Option.{option_map};
+ghost use Rattle.langtag_scan.specs.Case.{are_alike};
+ghost use Rattle.langtag_match.specs.Basic.{ends_subtag};
+ghost use Rattle.langtag_match.specs.Fallback.{ends_in_single};
+ghost use Rattle.langtag_match.specs.Wanted.{hyphened};
+ghost use Rattle.langtag_choice.specs.Best.{may_serve, reach};
+ghost use Rattle.langtag_choice.specs.Distance.{distance_of_texts, fields_distance, formless_distance, language_distance};
+ghost use Rattle.langtag_choice.specs.Found.{IsNear, IsNearer};
+ghost use Rattle.langtag_likely.specs.Likely.{Fields};
+ghost use Rattle.langtag_likely.specs.Matching.{completed, matching_form};
+ghost use Rattle.langtag_choice.specs.Nearness as spec;
+ghost use Rattle.langtag_likely.specs.Texts.{field_texts};
+
+use crate::rule_distance::language_distance;
+use crate::tag_distance::places_distance;
+use crate::wish::Wish;
+use langtag_likely::{TagFields, are_alike, completed, hyphened, matching_form, replaced_form};
+
+/// How far a tag is from a range, and its matching form.
+#[derive(Clone, Copy)]
+pub(crate) struct Nearness<'t> {
+    pub(crate) distance: u8,
+    pub(crate) form: Option<TagFields<'t>>,
+}
+
+/// Returns how near a tag is to a range that it may serve, if it is nearer than a limit: at the distance 50 where look-up alone finds
+/// it.
+#[tactic(auto, unfolding(crate::specs::Best::reach))]
+pub(crate) fn measured<'t>(limit: u8, wish: &Wish<'_>, tag: &'t [u8]) -> Option<Nearness<'t>>
+    ensures { MatchOption result (IsTrue (may_serve (hyphened wish.now.range.now) tag.now) → limit ≤ reach (hyphened wish.now.range.now) tag.now)
+        (IsNear (hyphened wish.now.range.now) tag.now) }
+{
+    if let Some(near) = nearer_than(limit.min(50), wish, tag) {
+        return Some(near);
+    }
+    if limit <= 50 || kept(wish.range, tag) == 0 {
+        return None;
+    }
+    Some(Nearness {
+        distance: 50,
+        form: matching_form(tag),
+    })
+}
+
+/// Returns how near a tag is to a range (UTS #35, Language Matching), if it is nearer than a limit.
+#[tactic(auto, unfolding(crate::specs::Distance::distance_of_texts), using(crate::proofs::ReadRanges::form_read, langtag_likely::proofs::CompletedForms::form_completed))]
+fn nearer_than<'t>(limit: u8, wish: &Wish<'_>, tag: &'t [u8]) -> Option<Nearness<'t>>
+    ensures { MatchOption result (limit ≤ distance_of_texts (hyphened wish.now.range.now) tag.now)
+        (IsNearer limit (distance_of_texts (hyphened wish.now.range.now) tag.now) (matching_form tag.now)) }
+{
+    match (wish.form, replaced_form(tag)) {
+        (Some(desired), Some(supported)) => nearer_fields(limit, desired, supported),
+        _ => equal_text(limit, wish.range, tag),
+    }
+}
+
+/// Returns how near fields are that are still to be completed. Where the language alone is too far they are not.
+fn nearer_fields<'t>(
+    limit: u8,
+    desired: TagFields<'_>,
+    supported: TagFields<'t>,
+) -> Option<Nearness<'t>>
+    ensures { MatchOption result (limit ≤ fields_distance (field_texts desired.entry) (completed (field_texts supported.entry)))
+        (IsNearer limit (fields_distance (field_texts desired.entry) (completed (field_texts supported.entry))) (Some (completed (field_texts supported.entry)))) }
+{
+    let language = language_distance(desired, with_language(supported));
+    if language >= limit {
+        return None;
+    }
+    let form = completed(supported);
+    let distance = language + places_distance(desired, form);
+    if distance >= limit {
+        return None;
+    }
+    Some(Nearness {
+        distance,
+        form: Some(form),
+    })
+}
+
+/// Returns fields with the likely language where they have none.
+#[tactic(auto, using(crate::proofs::NearForms::same_language))]
+fn with_language<'t>(fields: TagFields<'t>) -> TagFields<'t>
+    ensures { (desired : Fields) → language_distance desired (field_texts result) ≡ language_distance desired (completed (field_texts fields.entry)) }
+{
+    if fields.language.is_empty() {
+        completed(fields)
+    } else {
+        fields
+    }
+}
+
+/// Returns how near a tag is to a range where one of them has no matching form.
+fn equal_text<'t>(limit: u8, range: &[u8], tag: &'t [u8]) -> Option<Nearness<'t>>
+    ensures { MatchOption result (limit ≤ formless_distance (hyphened range.now) tag.now)
+        (IsNearer limit (formless_distance (hyphened range.now) tag.now) (matching_form tag.now)) }
+{
+    if limit == 0 || !are_alike(range, tag) {
+        return None;
+    }
+    Some(Nearness {
+        distance: 0,
+        form: matching_form(tag),
+    })
+}
+
+/// Returns how much of a range look-up keeps where it finds a tag.
+#[tactic(auto, unfolding(crate::specs::Nearness::kept))]
+pub(crate) fn kept(range: &[u8], tag: &[u8]) -> usize
+    ensures { result ≡ spec.kept (hyphened range.now) tag.now }
+{
+    if is_fallback(range, tag) {
+        tag.len()
+    } else {
+        0
+    }
+}
+
+/// Returns whether a tag is a range, or what stands before one of its hyphens and does not end in a single character.
+#[tactic(auto, using(crate::proofs::ReadRanges::drop_read, crate::proofs::ReadRanges::length_read))]
+fn is_fallback(range: &[u8], tag: &[u8]) -> bool
+    ensures { result ≡ spec.is_fallback (hyphened range.now) tag.now }
+{
+    starts(range, tag)
+        && (goes_on(&range[tag.len()..]) && (tag.len() == range.len() || !ends_in_single(tag)))
+}
+
+/// Returns whether a range begins like a tag.
+#[tactic(auto, using(crate::proofs::ReadRanges::take_read, crate::proofs::ReadRanges::too_short))]
+fn starts(range: &[u8], tag: &[u8]) -> bool
+    ensures test { result ≡ are_alike (take (length tag.now) (hyphened range.now)) tag.now }
+    ensures within { IsTrue result → length tag.now ≤ length range.now }
+{
+    tag.len() <= range.len() && are_alike(&range[..tag.len()], tag)
+}
+
+/// Returns whether nothing follows, or a hyphen.
+fn goes_on(rest: &[u8]) -> bool
+    ensures { result ≡ ends_subtag (hyphened rest.now) }
+{
+    match rest {
+        [first, ..] => hyphened(*first) == b'-',
+        [] => true,
+    }
+}
+
+fn ends_in_single(text: &[u8]) -> bool
+    ensures { result ≡ ends_in_single text.now }
+{
+    matches!(text, [_] | [.., b'-', _])
+}

@@ -1,0 +1,67 @@
+//! Language ranges for which a tag is chosen.
+ghost use Rattle.std.specs.Prelude.{◌≡◌, ◌<◌, ◌^◌, ◌∷◌, [], List, length, map};
+ghost use Rattle.std.specs.Option.{option_map_or};
+ghost use Rattle.langtag_match.specs.AcceptLanguage.{Element, reading};
+ghost use Rattle.langtag_match.specs.Wanted.{wanted_element, wanted_elements};
+ghost use Rattle.langtag_choice.specs.ListTexts.{ordered_elements};
+
+use langtag_match::{LanguageRange, WantedRange, WeightedRange, split_wanted};
+
+/// Language ranges with their weights, in the order in which a reader names them: those of an Accept-Language header in a slice
+/// of bytes, and those in a slice of [`WeightedRange`] or of [`LanguageRange`]. A value is a walk over them, and takes no memory.
+///
+/// ```
+/// use langtag::LangTag;
+/// use langtag_choice::best_for_ranges;
+/// use langtag_match::LanguageRange;
+///
+/// let tags = [LangTag::new("en")?, LangTag::new("nb")?];
+/// best_for_ranges(&[LanguageRange::new("nn")?], &tags); // Some(1)
+/// ```
+pub trait RangeList<'a>: Copy {
+    ghost elements: { Self → List Element };
+
+    /// Returns the first range and those that follow it, None where there is none left.
+    fn split_range(self) -> Option<(WantedRange<'a>, Self)>
+        ensures first { elements self ≡ option_map_or (λ found. wanted_element found.0 ∷ elements found.1) result [] }
+        ensures few { length (elements self) < 2 ^ 64 };
+}
+
+/// An Accept-Language header, which is read as `langtag_match::wanted_ranges` reads it.
+impl<'a> RangeList<'a> for &'a [u8] {
+    ghost elements = { λ header. wanted_elements header.now };
+
+    fn split_range(self) -> Option<(WantedRange<'a>, &'a [u8])> {
+        split_wanted(self)
+    }
+}
+
+/// Ranges with their weights.
+#[tactic(auto, using(langtag_match::proofs::PlainRanges::hyphened_range))]
+impl<'a> RangeList<'a> for &'a [WeightedRange<'a>] {
+    ghost elements = { λ ranges. map reading ranges.now };
+
+    fn split_range(self) -> Option<(WantedRange<'a>, &'a [WeightedRange<'a>])> {
+        let (first, rest) = self.split_first()?;
+        let wanted = WantedRange {
+            bytes: first.range.as_str().as_bytes(),
+            weight: first.weight,
+        };
+        Some((wanted, rest))
+    }
+}
+
+/// Ranges of which the first is wanted most.
+#[tactic(auto, using(langtag_match::proofs::PlainRanges::hyphened_range))]
+impl<'a> RangeList<'a> for &'a [LanguageRange<'a>] {
+    ghost elements = { λ ranges. ordered_elements ranges.now };
+
+    fn split_range(self) -> Option<(WantedRange<'a>, &'a [LanguageRange<'a>])> {
+        let (first, rest) = self.split_first()?;
+        let wanted = WantedRange {
+            bytes: first.as_str().as_bytes(),
+            weight: 1000,
+        };
+        Some((wanted, rest))
+    }
+}

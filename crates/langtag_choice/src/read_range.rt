@@ -1,0 +1,25 @@
+//! Texts of ranges in which `_` is read as `-`.
+ghost use Rattle.std.specs.Prelude.{◌≡◌, ◌&&◌, length, take, drop};
+ghost use Rattle.langtag_scan.specs.Case.{are_alike};
+ghost use Rattle.langtag_match.specs.Basic.{ends_subtag};
+ghost use Rattle.langtag_match.specs.Range.{is_star};
+ghost use Rattle.langtag_match.specs.Wanted.{hyphened};
+
+use langtag_likely::are_alike;
+
+/// Returns whether a range is `*`.
+pub(crate) fn is_star(range: &[u8]) -> bool
+    ensures { result ≡ is_star (hyphened range.now) }
+{
+    matches!(range, [b'*'])
+}
+
+/// Returns whether a tag is a range, or begins so and goes on with a hyphen.
+pub(crate) fn begins(range: &[u8], tag: &[u8]) -> bool
+    ensures { result ≡ (are_alike (hyphened range.now) (take (length range.now) tag.now) && ends_subtag (drop (length range.now) tag.now)) }
+{
+    if tag.len() < range.len() || !are_alike(range, &tag[..range.len()]) {
+        return false;
+    }
+    range.len() == tag.len() || tag[range.len()] == b'-'
+}

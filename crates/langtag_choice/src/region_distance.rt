@@ -1,0 +1,148 @@
+//! The distance of regions: for some languages, by the sets in which they lie.
+ghost use Rattle.std.specs.Prelude.{◌≡◌, ◌≤◌, ◌==◌, IsTrue, false, map};
+ghost use Rattle.langtag_scan.specs.Case.{are_alike};
+ghost use Rattle.langtag_scan.specs.Case.{folded_number};
+ghost use Rattle.langtag_tables.specs.Numbers.{climbs_from};
+ghost use Rattle.langtag_choice.specs.Distance as spec;
+ghost use Rattle.langtag_likely.specs.Good.{is_region_field};
+ghost use Rattle.langtag_choice.specs.Sets.{set_of};
+ghost use Rattle.langtag_likely.specs.Texts.{field_texts};
+
+use crate::matching_tables as tables;
+use langtag_likely::{TagFields, index_of};
+use langtag_scan::case_insensitive_eq;
+
+/// Returns the distance of two regions, each that of a language.
+#[tactic(auto, unfolding(crate::specs::Distance::region_distance))]
+pub(crate) fn region_distance(desired: TagFields<'_>, supported: TagFields<'_>) -> u8
+    ensures distance { result ≡ spec.region_distance (field_texts desired.entry) (field_texts supported.entry) }
+    ensures most { result ≤ 5 }
+    ensures apart { are_alike desired.entry.language.now supported.entry.language.now ≡ false → result ≤ 4 }
+    ensures equal { (result == 0) ≡ are_alike desired.entry.region.now supported.entry.region.now }
+{
+    if case_insensitive_eq(desired.region, supported.region) {
+        return 0;
+    }
+    if !case_insensitive_eq(desired.language, supported.language) {
+        return 4;
+    }
+    by_language(desired, supported)
+}
+
+/// Returns the distance of two different regions of one language.
+fn by_language(desired: TagFields<'_>, supported: TagFields<'_>) -> u8
+    ensures distance { result ≡ spec.by_language (field_texts desired.entry) (field_texts supported.entry) }
+    ensures some { 1 ≤ result }
+    ensures most { result ≤ 5 }
+{
+    let language = desired.language;
+    if case_insensitive_eq(b"ar", language) {
+        return by_side(SetName::Maghreb, desired, supported);
+    }
+    if case_insensitive_eq(b"en", language) {
+        return english(desired, supported);
+    }
+    if case_insensitive_eq(b"es", language) || case_insensitive_eq(b"pt", language) {
+        return by_side(SetName::Americas, desired, supported);
+    }
+    if case_insensitive_eq(b"zh", language)
+        && (case_insensitive_eq(b"Hant", desired.script)
+            && case_insensitive_eq(b"Hant", supported.script))
+    {
+        return by_side(SetName::HongKongAndMacao, desired, supported);
+    }
+    4
+}
+
+/// Returns the distance of two regions by the side of a set on which they lie.
+fn by_side(set: SetName, a: TagFields<'_>, b: TagFields<'_>) -> u8
+    ensures distance { result ≡ spec.by_side (set_of set) a.entry.region.now b.entry.region.now }
+    ensures some { 1 ≤ result }
+    ensures most { result ≤ 5 }
+{
+    if on_one_side(set, a, b) { 4 } else { 5 }
+}
+
+/// Returns the distance of two regions of English: what is not as in the United States is nearer to the British.
+fn english(a: TagFields<'_>, b: TagFields<'_>) -> u8
+    ensures distance { result ≡ spec.english a.entry.region.now b.entry.region.now }
+    ensures some { 1 ≤ result }
+    ensures most { result ≤ 5 }
+{
+    if is_british(a, b) || is_british(b, a) {
+        return 3;
+    }
+    by_side(SetName::UnitedStates, a, b)
+}
+
+fn is_british(a: TagFields<'_>, b: TagFields<'_>) -> bool
+    ensures { result ≡ spec.is_british a.entry.region.now b.entry.region.now }
+{
+    case_insensitive_eq(b"GB", a.region) && SetName::UnitedStates.is_outside(b)
+}
+
+/// Returns whether both regions lie in a set, or both in what it leaves.
+fn on_one_side(set: SetName, a: TagFields<'_>, b: TagFields<'_>) -> bool
+    ensures { result ≡ spec.on_one_side (set_of set) a.entry.region.now b.entry.region.now }
+{
+    (set.is_inside(a) && set.is_inside(b)) || (set.is_outside(a) && set.is_outside(b))
+}
+
+/// The sets of regions that the rules name.
+#[derive(Clone, Copy)]
+pub(crate) enum SetName {
+    Maghreb,
+    UnitedStates,
+    Americas,
+    HongKongAndMacao,
+}
+
+impl SetName {
+    /// Returns the regions of the set, and the groups of which all countries are in it.
+    #[tactic(auto, using(crate::proofs::MatchingTables::maghreb_inside_numbers, crate::proofs::MatchingTables::en_us_inside_numbers, crate::proofs::MatchingTables::americas_inside_numbers, crate::proofs::MatchingTables::cnsar_inside_numbers))]
+    fn inside(self) -> &'static [u32]
+        ensures numbers { result.now ≡ map folded_number (set_of self).inside }
+        ensures climbs { IsTrue (climbs_from 0 result.now) }
+    {
+        match self {
+            SetName::Maghreb => &tables::MAGHREB_INSIDE,
+            SetName::UnitedStates => &tables::EN_US_INSIDE,
+            SetName::Americas => &tables::AMERICAS_INSIDE,
+            SetName::HongKongAndMacao => &tables::CNSAR_INSIDE,
+        }
+    }
+
+    /// Returns the groups of which some countries are in the set, but not all.
+    #[tactic(auto, using(crate::proofs::MatchingTables::maghreb_partly_numbers, crate::proofs::MatchingTables::en_us_partly_numbers, crate::proofs::MatchingTables::americas_partly_numbers, crate::proofs::MatchingTables::cnsar_partly_numbers))]
+    fn partly(self) -> &'static [u32]
+        ensures numbers { result.now ≡ map folded_number (set_of self).partly }
+        ensures climbs { IsTrue (climbs_from 0 result.now) }
+    {
+        match self {
+            SetName::Maghreb => &tables::MAGHREB_PARTLY,
+            SetName::UnitedStates => &tables::EN_US_PARTLY,
+            SetName::Americas => &tables::AMERICAS_PARTLY,
+            SetName::HongKongAndMacao => &tables::CNSAR_PARTLY,
+        }
+    }
+
+    #[tactic(auto, using(langtag_likely::proofs::FieldClasses::region_length, langtag_likely::proofs::FieldClasses::region_alphanumeric, crate::proofs::RulesFound::among_by_number, crate::proofs::SetLaws::inside_plain))]
+    fn is_inside(self, fields: TagFields<'_>) -> bool
+        ensures { result ≡ spec.is_among (set_of self).inside fields.entry.region.now }
+    {
+        index_of(self.inside(), fields.region).is_some()
+    }
+
+    #[tactic(auto, using(langtag_likely::proofs::FieldClasses::region_length, langtag_likely::proofs::FieldClasses::region_alphanumeric, crate::proofs::RulesFound::among_by_number, crate::proofs::SetLaws::partly_plain))]
+    fn is_partly_inside(self, fields: TagFields<'_>) -> bool
+        ensures { result ≡ spec.is_among (set_of self).partly fields.entry.region.now }
+    {
+        index_of(self.partly(), fields.region).is_some()
+    }
+
+    fn is_outside(self, fields: TagFields<'_>) -> bool
+        ensures { result ≡ spec.is_outside (set_of self) fields.entry.region.now }
+    {
+        !self.is_inside(fields) && !self.is_partly_inside(fields)
+    }
+}

@@ -1,0 +1,80 @@
+//! How far a tag is from another that a reader desires (UTS #35, part 1, section 'Language Matching').
+ghost use Rattle.std.specs.Prelude.{◌≡◌, ◌+◌, ◌≤◌, ◌⊎◌, ◌==◌, ◌&&◌, false};
+ghost use Rattle.langtag.specs.Text.{lang_tag_text};
+ghost use Rattle.langtag_scan.specs.Case.{are_alike};
+ghost use Rattle.langtag_choice.specs.Distance as spec;
+ghost use Rattle.langtag_likely.specs.Likely.{are_alike_fields};
+ghost use Rattle.langtag_likely.specs.Texts.{field_texts};
+
+use crate::region_distance::region_distance;
+use crate::rule_distance::{language_distance, script_distance};
+use langtag::LangTag;
+use langtag_likely::{TagFields, matching_form};
+use langtag_scan::case_insensitive_eq;
+
+/// The distance of two different tags where one has no matching form: it is `und` and no more, of private use, or begins with `i-`.
+pub const FORMLESS_DISTANCE: u8 = 255;
+
+/// Returns the distance from a tag that a reader desires to one that there is (UTS #35, Language Matching): 0 from `zh-TW` to
+/// `zh-Hant`, 4 from `de-AT` to `de`, 10 from `yue` to `zh-HK`, 84 from `de` to `en`.
+///
+/// It is the sum of that of the languages (80 where no rule says less), that of the scripts (50) and that of the regions (at most
+/// 5), once what is deprecated is replaced and likely subtags are added. So up to 15 the languages are nearly the same, and below
+/// 50 most readers understand the one who read the other. The case, variants, extensions and private use are of no account, nor is
+/// what else follows the region, as in `en-GB-oed`.
+/// Where a tag has no such form, it is [`FORMLESS_DISTANCE`], or 0 if the tags are equal but for case.
+///
+/// The languages `arb cmn in iw ji jw mo sh tl` are replaced, and deprecated regions; `langtag_registry::canonical` replaces all
+/// that is deprecated.
+pub fn distance(desired: LangTag<'_>, supported: LangTag<'_>) -> u8
+    ensures distance { result ≡ spec.distance_of_texts (lang_tag_text desired.entry) (lang_tag_text supported.entry) }
+    ensures equal { spec.ZeroIfEqual (lang_tag_text desired.entry) (lang_tag_text supported.entry) result }
+    ensures case { spec.IgnoresCase (lang_tag_text desired.entry) (lang_tag_text supported.entry) result }
+    ensures most { result ≤ 134 ⊎ (result ≡ 255) }
+{
+    texts_distance(desired.as_bytes(), supported.as_bytes())
+}
+
+/// Returns the distance of two texts.
+#[tactic(auto, unfolding(crate::specs::Distance::distance_of_texts))]
+fn texts_distance(desired: &[u8], supported: &[u8]) -> u8
+    ensures distance { result ≡ spec.distance_of_texts desired.now supported.now }
+    ensures equal { spec.ZeroIfEqual desired.now supported.now result }
+    ensures most { result ≤ 134 ⊎ (result ≡ 255) }
+{
+    match (matching_form(desired), matching_form(supported)) {
+        (Some(desired), Some(supported)) => fields_distance(desired, supported),
+        _ => formless_distance(desired, supported),
+    }
+}
+
+/// Returns the distance of two texts of which one has no matching form.
+fn formless_distance(desired: &[u8], supported: &[u8]) -> u8
+    ensures distance { result ≡ spec.formless_distance desired.now supported.now }
+    ensures equal { (result == 0) ≡ are_alike desired.now supported.now }
+{
+    if case_insensitive_eq(desired, supported) {
+        0
+    } else {
+        FORMLESS_DISTANCE
+    }
+}
+
+/// Returns the distance of two matching forms: 0 exactly if they are equal but for case.
+fn fields_distance(desired: TagFields<'_>, supported: TagFields<'_>) -> u8
+    ensures distance { result ≡ spec.fields_distance (field_texts desired.entry) (field_texts supported.entry) }
+    ensures most { result ≤ 134 }
+    ensures equal { (result == 0) ≡ are_alike_fields (field_texts desired.entry) (field_texts supported.entry) }
+{
+    language_distance(desired, supported) + places_distance(desired, supported)
+}
+
+/// Returns the distance of the scripts and the regions of two matching forms.
+pub(crate) fn places_distance(desired: TagFields<'_>, supported: TagFields<'_>) -> u8
+    ensures distance { result ≡ spec.script_distance (field_texts desired.entry) (field_texts supported.entry) + spec.region_distance (field_texts desired.entry) (field_texts supported.entry) }
+    ensures most { result ≤ 55 }
+    ensures apart { are_alike desired.entry.language.now supported.entry.language.now ≡ false → result ≤ 54 }
+    ensures equal { (result == 0) ≡ (are_alike desired.entry.script.now supported.entry.script.now && are_alike desired.entry.region.now supported.entry.region.now) }
+{
+    script_distance(desired, supported) + region_distance(desired, supported)
+}

@@ -1,0 +1,69 @@
+//! Tags among which one is chosen.
+ghost use Rattle.std.specs.Prelude.{◌≡◌, ◌<◌, ℕ, List, Option, None, length, slice_index_or};
+ghost use Rattle.std.specs.Option.{ForSome, option_map};
+ghost use Rattle.langtag.specs.Text.{lang_tag_text};
+ghost use Rattle.langtag_choice.specs.ListTexts.{tag_texts};
+
+use langtag::LangTag;
+
+/// A list of tags, each at an index. What stands at an index need not be a tag, and is then never chosen.
+///
+/// ```
+/// use langtag::LangTag;
+/// use langtag_choice::{TagList, best_among};
+///
+/// struct Texts(&'static [&'static str]);
+///
+/// impl TagList for Texts {
+///     fn count(&self) -> usize {
+///         self.0.len()
+///     }
+///
+///     fn tag_at(&self, index: usize) -> Option<LangTag<'_>> {
+///         LangTag::new(self.0[index]).ok()
+///     }
+///
+///     fn bytes_at(&self, index: usize) -> &[u8] {
+///         self.0[index].as_bytes()
+///     }
+/// }
+///
+/// best_among(&b"zh-TW"[..], &Texts(&["en", "zh-Hant"])); // Some(1)
+/// ```
+pub trait TagList {
+    ghost texts: { Self → List (Option (List ℕ)) };
+
+    /// Returns how many there are.
+    fn count(&self) -> usize
+        ensures { result ≡ length (texts self.now) };
+
+    /// Returns the tag at an index, None where what stands there is none.
+    fn tag_at(&self, index: usize) -> Option<LangTag<'_>>
+        requires { index < length (texts self.now) }
+        ensures { option_map lang_tag_text result ≡ slice_index_or (texts self.now) index None };
+
+    /// Returns the text of the tag at an index. Where what stands there is no tag, it may be any text.
+    fn bytes_at(&self, index: usize) -> &[u8]
+        requires { index < length (texts self.now) }
+        ensures { ForSome (slice_index_or (texts self.now) index None) (λ text. result.now ≡ text) };
+}
+
+/// Tags in a slice.
+#[derive(Clone, Copy)]
+pub(crate) struct Tags<'a, 't>(pub(crate) &'a [LangTag<'t>]);
+
+impl TagList for Tags<'_, '_> {
+    ghost texts = { λ tags. tag_texts tags.0.now };
+
+    fn count(&self) -> usize {
+        self.0.len()
+    }
+
+    fn tag_at(&self, index: usize) -> Option<LangTag<'_>> {
+        Some(self.0[index])
+    }
+
+    fn bytes_at(&self, index: usize) -> &[u8] {
+        self.0[index].as_bytes()
+    }
+}

@@ -1,0 +1,68 @@
+//! A range of a header that tags may serve.
+ghost use Rattle.std.specs.Prelude.{◌≡◌, ◌≤◌, ◌==◌, ℕ, IsTrue, List, MatchOption, Some, false};
+ghost use Rattle.std.specs.Option.{ForSome, option_map};
+ghost use Rattle.langtag_choice.specs.Lone.{lone_head};
+ghost use Rattle.langtag_likely.specs.Matching.{matching_form};
+ghost use Rattle.langtag_likely.specs.Texts.{field_texts};
+ghost use Rattle.langtag_match.specs.Range.{is_star};
+ghost use Rattle.langtag_match.specs.Wanted.{hyphened};
+
+use crate::lone::{differs, head, lone_letters};
+use crate::read_range::is_star;
+use langtag_likely::{TagFields, matching_form};
+use langtag_match::WantedRange;
+
+/// A range other than `*`, its weight, which is not 0, how many ranges stand before it, and its matching form, which is made once for
+/// all tags, with the letters of its language where no other is near that.
+#[derive(Clone, Copy)]
+pub(crate) struct Wish<'a> {
+    pub(crate) range: &'a [u8],
+    pub(crate) weight: u32,
+    pub(crate) place: usize,
+    pub(crate) form: Option<TagFields<'a>>,
+    lone: Option<(u8, u8)>,
+    ghost some: { (weight == 0) ≡ false },
+    ghost no_star: { is_star (hyphened range.now) ≡ false },
+    ghost known: { option_map field_texts form ≡ matching_form range.now },
+    ghost far: { ForSome lone (λ letters. lone_head (matching_form range.now) ≡ Some letters) },
+}
+
+impl<'a> Wish<'a> {
+    ghost use Rattle.langtag_match.specs.Wanted.{wanted_element};
+    ghost use Rattle.langtag_choice.specs.Best.{serves};
+    ghost use Rattle.langtag_choice.specs.Distance.{distance_of_texts};
+    ghost use Rattle.langtag_choice.specs.Found.{wish_element};
+    ghost use Rattle.langtag_choice.specs.Nearness.{kept};
+
+    /// Reads the range at a place: None of `*`, and of one with the weight 0.
+    #[tactic(auto, unfolding(crate::specs::Best::serves))]
+    pub(crate) fn new(wanted: WantedRange<'a>, place: usize) -> Option<Wish<'a>>
+        ensures { MatchOption result ((tag : List ℕ) → serves (wanted_element wanted.entry) tag ≡ false)
+            (λ wish. (wish_element wish ≡ wanted_element wanted.entry) × (wish.place ≡ place)) }
+    {
+        if wanted.weight == 0 || is_star(wanted.bytes) {
+            return None;
+        }
+        let form = matching_form(wanted.bytes);
+        Some(Wish {
+            range: wanted.bytes,
+            weight: wanted.weight,
+            place,
+            form,
+            lone: lone_letters(form),
+        })
+    }
+
+    /// Returns whether a tag cannot serve the range, where its first letters show it: the range has a language that no other is
+    /// near, and the tag begins with other letters, which are not those of `und`.
+    pub(crate) fn is_far_from(&self, tag: &[u8]) -> bool
+        ensures far { IsTrue result → 50 ≤ distance_of_texts (hyphened self.now.range.now) tag.now }
+        ensures kept { IsTrue result → kept (hyphened self.now.range.now) tag.now ≡ 0 }
+    {
+        let Some(letters) = self.lone else {
+            return false;
+        };
+        let begins = head(tag);
+        differs(begins, letters) && differs(begins, (b'u', b'n'))
+    }
+}

@@ -1,0 +1,50 @@
+//! A text that is written into a buffer of the caller's, subtag by subtag.
+ghost use Rattle.std.specs.Prelude.{◌≡◌, ◌∷◌, [], length};
+ghost use Rattle.langtag_output.specs.Output.{Appends, Pushes, HasText};
+
+/// A buffer, and the length of the text that was put into it so far. What does not fit is counted, and not written.
+#[derive(Drop)]
+pub struct Output<'a> {
+    buffer: &'a mut [u8],
+    len: usize,
+}
+
+impl<'a> Output<'a> {
+    /// Returns the output that begins at the start of a buffer.
+    pub fn new(buffer: &'a mut [u8]) -> Output<'a>
+        ensures same_buffer { result.buffer.ghost_name ≡ buffer.entry.ghost_name }
+        ensures empty { HasText buffer.old result [] }
+    {
+        Output { buffer, len: 0 }
+    }
+
+    /// Returns the length of the text so far, in bytes.
+    pub fn len(&self) -> usize
+        ensures { result ≡ self.now.len }
+    {
+        self.len
+    }
+
+    /// Puts a subtag, or some that are joined, at the end, with a hyphen between them and what stands before.
+    pub fn push_subtag(&mut self, subtag: &[u8])
+        ensures same_buffer { self.new.buffer.ghost_name ≡ self.old.buffer.ghost_name }
+        ensures pushed { Pushes (subtag.now ∷ []) self.old self.new }
+    {
+        if self.len > 0 {
+            self.push(b"-");
+        }
+        self.push(subtag);
+    }
+
+    /// Puts bytes at the end. The length stays at its greatest where a text has more bytes than that.
+    pub fn push(&mut self, bytes: &[u8])
+        ensures same_buffer { self.new.buffer.ghost_name ≡ self.old.buffer.ghost_name }
+        ensures appended { Appends bytes.now self.old self.new }
+    {
+        let end = self.len.saturating_add(bytes.len());
+        if end <= self.buffer.len() {
+            self.buffer[self.len..end].copy_from_slice(bytes);
+        }
+        self.len = end;
+    }
+}

@@ -1,0 +1,247 @@
+-- What a position says is so: which tags may follow the bytes that led to it, and where their parts have ended.
+use Rattle.std.proofs.Common.{◌≡◌, ℕ, ◌+◌, ◌<◌, ◌≤◌, Bool, true, false, cond, eqb, eqb-true, ne_eqb, ltb, not, ◌&&◌, ◌||◌, List, [], ◌∷◌, ◌++◌, length, get_or, set, Option, Some, None, inl, inr, refl, sym, ap, subst, ◌∙◌, arith, append_assoc, append-nil}
+use Rattle.std.specs.Prelude.{MatchOption, replicate}
+use Rattle.std.specs.List.{position, position_or_len}
+use Rattle.std.specs.Option.{option_map, option_map_or}
+use Rattle.std.proofs.Math.Bool.{and-true}
+use Rattle.std.proofs.lemmas.Bool.{cases_lt, and_parts, and_left, lt-ltb, ltb-true, both_ways}
+use Rattle.std.proofs.lemmas.Grind.{common_steps}
+use Rattle.std.proofs.lemmas.List.{length_push, length-set, map-append}
+use Rattle.std.proofs.lemmas.List.Quantifiers.{position-Some}
+use Rattle.std.proofs.lemmas.List.Sums.{fold-append, fails_before_first}
+use Rattle.langtag_scan.specs.Case.{fold_byte, fold_text}
+use Rattle.langtag_scan.specs.Class.{is_letter, is_digit, is_alphanumeric}
+use Rattle.langtag_scan.specs.Grandfathered.{grandfathered_tags, irregular_texts}
+use Rattle.langtag_scan.specs.Irregular.{folded_texts, folded_at, is_prefix, is_possible}
+use Rattle.langtag_scan.specs.Kind.{kind_after, kind_of}
+use Rattle.langtag_scan.specs.Machine.{IsBegun, all_at, end_at, HasStopped, ends_at}
+use Rattle.langtag_scan.specs.Position.{Begun, fresh, nothing_read, is_start, may_grow, stage_after, begun_after, possible_index, irregular_after, position_after, position_of, place_of}
+use Rattle.langtag_scan.specs.Stage.{Stage, Start, after_stage, after_by}
+use Rattle.langtag_scan.specs.declared.ends.Ends.{Ends}
+use Rattle.langtag_scan.proofs.IrregularTexts.{is_prefix-push, seventeen_folded}
+use Rattle.langtag_scan.proofs.KindLaws.{classes_of-kind}
+use Rattle.langtag_scan.proofs.ReadingLaws.{IsPartRead, reads_nothing, reads_after, refused_stops, stuck_stops}
+use Rattle.langtag_scan.proofs.Running.{empty_begun, begun_push, begun_parts}
+use Rattle.langtag_scan.proofs.StageLaws.{after_not_start}
+
+pub position_of-push : (q : List ℕ) (b : ℕ) → position_of (q ++ b ∷ []) ≡ position_after (position_of q) b
+position_of-push q b = fold-append position_after nothing_read q (b ∷ [])
+
+-- ---- the ends
+
+-- up to an index the ends stand in these places
+pub record IsMarked (places : List ℕ) (n : ℕ) (e : Ends) : Type 0 where
+  pub seven : length places ≡ 7
+  pub below : (k : ℕ) → get_or places k 0 ≤ n
+  pub is : e ≡ ends_at places e.whole
+
+abbrev ends_with : ℕ → ℕ → ℕ → ℕ → ℕ → ℕ → Ends
+ends_with language script region variants extensions whole =
+    record { language = language; script = script; region = region; variants = variants; extensions = extensions; whole = whole }
+
+ends_equal :
+    (a b : Ends) → a.language ≡ b.language → a.script ≡ b.script → a.region ≡ b.region → a.variants ≡ b.variants → a.extensions ≡ b.extensions → a.whole ≡ b.whole →
+    a ≡ b
+ends_equal a b language script region variants extensions whole =
+    let same : ends_with a.language a.script a.region a.variants a.extensions a.whole ≡ ends_with b.language b.script b.region b.variants b.extensions b.whole =
+    rw (language, script, region, variants, extensions, whole) refl in
+    same
+
+placed : (places : List ℕ) (k n j : ℕ) → k < length places → get_or (set places k n) j 0 ≡ cond (eqb j k) n (get_or places j 0)
+placed places k n j within = grind (arith, common_steps)
+
+place_within : (stage : Stage) → place_of stage < 7
+place_within Start = omega arith
+place_within _ = omega arith
+
+below_set : (places : List ℕ) (k n : ℕ) → k < length places → ((j : ℕ) → get_or places j 0 ≤ n) → (j : ℕ) → get_or (set places k n) j 0 ≤ n + 1
+below_set places k n within below j = let old = below j in grind (arith, common_steps, old)
+
+-- no part ends
+marked_on : (places : List ℕ) (n : ℕ) (e : Ends) → IsMarked places n e → IsMarked (set places 6 n) (n + 1) e
+marked_on places n e m =
+    let within : 6 < length places = omega (arith, m.seven) in
+    record {
+      seven = length-set places 6 n ∙ m.seven;
+      below = below_set places 6 n within m.below;
+      is = rw (placed places 6 n 0 within, placed places 6 n 1 within, placed places 6 n 2 within, placed places 6 n 3 within, placed places 6 n 4 within) m.is;
+    }
+
+-- the part of a stage ends at the index
+ends_set : (places : List ℕ) (n : ℕ) (e : Ends) (after : Stage) → (after ≡ Start → ⊥) → IsMarked places n e → end_at after n e ≡ ends_at (set places (place_of after) n) (end_at after n e).whole
+ends_set places n e Start past m = absurd (past refl)
+ends_set places n e after past m =
+    let k = place_of after in
+    let within : k < length places = omega (arith, m.seven, place_within after) in
+    rw (placed places k n 0 within, placed places k n 1 within, placed places k n 2 within, placed places k n 3 within, placed places k n 4 within)
+    (ends_equal _ _
+    (omega (arith, m.below 0, m.below 1, m.below 2, m.below 3, m.below 4, ap (λ (x : Ends). x.language) m.is))
+    (omega (arith, m.below 0, m.below 1, m.below 2, m.below 3, m.below 4, ap (λ (x : Ends). x.script) m.is))
+    (omega (arith, m.below 0, m.below 1, m.below 2, m.below 3, m.below 4, ap (λ (x : Ends). x.region) m.is))
+    (omega (arith, m.below 0, m.below 1, m.below 2, m.below 3, m.below 4, ap (λ (x : Ends). x.variants) m.is))
+    (omega (arith, m.below 0, m.below 1, m.below 2, m.below 3, m.below 4, ap (λ (x : Ends). x.extensions) m.is))
+    refl)
+
+pub marked_end : (places : List ℕ) (n : ℕ) (e : Ends) (after : Stage) → (after ≡ Start → ⊥) → IsMarked places n e → IsMarked (set places (place_of after) n) (n + 1) (end_at after n e)
+marked_end places n e after past m =
+    let within : place_of after < length places = omega (arith, m.seven, place_within after) in
+    record {
+      seven = length-set places (place_of after) n ∙ m.seven;
+      below = below_set places (place_of after) n within m.below;
+      is = ends_set places n e after past m;
+    }
+
+-- ---- the subtag that has begun
+
+-- the bytes q have led to this subtag, and the ends before it stand in these places
+pub record IsTracked (q places : List ℕ) (s : Begun) : Type 0 where
+  pub before : List ℕ
+  pub bytes : List ℕ
+  pub ends : Ends
+  pub part : IsPartRead before bytes q s.stage ends
+  pub kind : s.kind ≡ kind_of bytes
+  pub size : s.size ≡ length bytes
+  pub marked : IsMarked places (length q) ends
+
+abbrev pub Tracks : List ℕ → List ℕ → Option Begun → Type 0
+Tracks q places o = MatchOption o (HasStopped q) (IsTracked q places)
+
+-- the place that is set with the byte that leads there
+abbrev pub place_before : Option Begun → ℕ
+place_before o = option_map_or (λ s. cond (eqb s.size 0) (place_of s.stage) 6) o 6
+
+pub tracks_nothing : Tracks [] (replicate 7 0) (Some (fresh Start))
+tracks_nothing = record {
+  before = [];
+  bytes = [];
+  ends = all_at 0;
+  part = record { split = refl; reads = reads_nothing; begun = empty_begun Start };
+  kind = refl;
+  size = refl;
+  marked = record { seven = refl; below = λ k. grind (arith, common_steps); is = refl };
+}
+
+pub stopped-append : (p u : List ℕ) → HasStopped p → HasStopped (p ++ u)
+stopped-append p u stopped = record {
+  not_normal = λ v normal. stopped.not_normal (u ++ v) (rw append_assoc at normal);
+  not_private = λ v private. stopped.not_private (u ++ v) (rw append_assoc at private);
+}
+
+module _ (q places : List ℕ) (s : Begun) (known : IsTracked q places s) where
+  -- the stage after the subtag follows from what is known of it
+  pub stage_is : stage_after s ≡ after_stage s.stage known.bytes
+  stage_is =
+      ap (after_by s.stage) (rw (known.kind, known.size) (sym (classes_of-kind known.bytes known.part.begun.short known.part.begun.alphanumeric)))
+
+  -- and so does whether it may go on with a byte
+  opened : (stage : Stage) (l d : Bool) → (l || d) ≡ true → (stage ≡ Start → l ≡ true) → (l || (d && not (is_start stage))) ≡ true
+  opened stage true d any first = refl
+  opened Start false d any first = absurd (both_ways false refl (first refl))
+  opened _ false d any first = and-true d ∙ any
+
+  closed : (stage : Stage) (l d : Bool) → (l || (d && not (is_start stage))) ≡ true → ((l || d) ≡ true) × (stage ≡ Start → l ≡ true)
+  closed stage true d h = (refl, λ start. refl)
+  closed Start false true h = absurd cc
+  closed Start false false h = absurd cc
+  closed _ false d h = (sym (and-true d) ∙ h, λ start. absurd cc)
+
+  grows_begun : (b : ℕ) → may_grow s b ≡ true → IsBegun s.stage (known.bytes ++ b ∷ [])
+  grows_begun b grows =
+      let parts = and_parts (ltb s.size 8) (is_letter b || (is_digit b && not (is_start s.stage))) grows in
+      let other = closed s.stage (is_letter b) (is_digit b) parts.1 in
+      begun_push s.stage known.bytes b other.0 other.1 (omega (arith, known.size, ltb-true s.size 8 parts.0)) known.part.begun
+
+  begun_grows : (b : ℕ) → IsBegun s.stage (known.bytes ++ b ∷ []) → may_grow s b ≡ true
+  begun_grows b begun =
+      let last = (begun_parts s.stage known.bytes (b ∷ []) begun).1 in
+      let any = (and_parts (is_alphanumeric b) true last.alphanumeric).0 in
+      rw (lt-ltb s.size 8 (omega (arith, known.size, begun.short, length_push known.bytes b)))
+      (opened s.stage (is_letter b) (is_digit b) any (λ start. (and_parts (is_letter b) true (last.letters start)).0))
+
+  at_hyphen : (o : Option Stage) → stage_after s ≡ o → Tracks (q ++ 45 ∷ []) (set places (place_before (option_map fresh o)) (length q)) (option_map fresh o)
+  at_hyphen None next = refused_stops known.part (sym stage_is ∙ next)
+  at_hyphen (Some after) next =
+      let led = sym stage_is ∙ next in
+      record {
+        before = q ++ 45 ∷ [];
+        bytes = [];
+        ends = end_at after (length q) known.ends;
+        part = record { split = append-nil (q ++ 45 ∷ []); reads = reads_after known.part after led; begun = empty_begun after };
+        kind = refl;
+        size = refl;
+        marked = rw (length_push q 45) (marked_end places (length q) known.ends after (after_not_start s.stage after known.bytes led) known.marked);
+      }
+
+  at_other :
+      (b : ℕ) → eqb b 45 ≡ false → (grows : Bool) → may_grow s b ≡ grows →
+      let grown : Option Begun = cond grows (Some (record { stage = s.stage; kind = kind_after s.kind b; size = s.size + 1 })) None in
+      Tracks (q ++ b ∷ []) (set places (place_before grown) (length q)) grown
+  at_other b other false stuck = stuck_stops known.part b other (λ begun. both_ways (may_grow s b) stuck (begun_grows b begun))
+  at_other b other true grows = record {
+    before = known.before;
+    bytes = known.bytes ++ b ∷ [];
+    ends = known.ends;
+    part = record {
+      split = sym (append_assoc known.before known.bytes (b ∷ [])) ∙ ap (λ x. x ++ b ∷ []) known.part.split;
+      reads = known.part.reads;
+      begun = grows_begun b grows;
+    };
+    kind = ap (λ kind. kind_after kind b) known.kind ∙ sym (fold-append kind_after _ known.bytes (b ∷ []));
+    size = omega (arith, known.size, length_push known.bytes b);
+    marked = rw (length_push q b, ne_eqb (s.size + 1) 0 (λ e. omega (arith, e))) (marked_on places (length q) known.ends known.marked);
+  }
+
+  by_hyphen : (b : ℕ) (v : Bool) → eqb b 45 ≡ v →
+      let next : Option Begun = cond v (option_map fresh (stage_after s)) (cond (may_grow s b) (Some (record { stage = s.stage; kind = kind_after s.kind b; size = s.size + 1 })) None) in
+      Tracks (q ++ b ∷ []) (set places (place_before next) (length q)) next
+  by_hyphen b true at = rw (eqb-true b 45 at) (at_hyphen (stage_after s) refl)
+  by_hyphen b false at = at_other b at (may_grow s b) refl
+
+-- one byte more
+pub tracks_push : (q places : List ℕ) (b : ℕ) (o : Option Begun) → Tracks q places o → Tracks (q ++ b ∷ []) (set places (place_before (option_map_or (begun_after b) o None)) (length q)) (option_map_or (begun_after b) o None)
+tracks_push q places b None stopped = stopped-append q (b ∷ []) stopped
+tracks_push q places b (Some s) known = by_hyphen q places s known b (eqb b 45) refl
+
+-- ---- the irregular texts
+
+-- no irregular text begins with the bytes q, or these, folded, are the prefix of one
+abbrev pub FollowsIrregular : List ℕ → Option (List ℕ) → Type 0
+FollowsIrregular q o = MatchOption o ((k : ℕ) → k < 17 → is_possible q k ≡ false) (λ p. (p ≡ fold_text q) × (k : ℕ) × (possible_index p ≡ Some k) × (k < 17) × (is_possible q k ≡ true))
+
+fold_text-push : (q : List ℕ) (b : ℕ) → fold_text (q ++ b ∷ []) ≡ fold_text q ++ fold_byte b ∷ []
+fold_text-push q b = map-append fold_byte q (b ∷ [])
+
+-- where no element passes a test
+pub position-None : {X : Type 0} (p : X → Bool) (xs : List X) (k : ℕ) (d : X) → position p xs ≡ None → k < length xs → p (get_or xs k d) ≡ false
+position-None p xs k d none within =
+    elim (cases_lt k (position_or_len p xs)) [
+      | inl before ↦ fails_before_first p xs k d before
+      | inr after ↦
+          let found : ltb (position_or_len p xs) (length xs) ≡ true = lt-ltb _ _ (omega arith) in
+          let some = ap (λ v. cond v (Some (position_or_len p xs)) None) (sym found) ∙ none in
+          absurd cc
+    ]
+
+by_index : (q : List ℕ) (o : Option ℕ) → possible_index (fold_text q) ≡ o → FollowsIrregular q (option_map (λ k. fold_text q) o)
+by_index q None none = λ k within. position-None (is_prefix (fold_text q)) folded_texts k [] none (omega (arith, seventeen_folded))
+by_index q (Some k) at =
+    let first = position-Some (is_prefix (fold_text q)) folded_texts k [] at in
+    (refl, k, at, omega (arith, first.0, seventeen_folded), first.1)
+
+pub irregular_push : (q : List ℕ) (b : ℕ) (o : Option (List ℕ)) → FollowsIrregular q o → FollowsIrregular (q ++ b ∷ []) (option_map_or (irregular_after b) o None)
+irregular_push q b None none = λ k within.
+    rw (fold_text-push q b, is_prefix-push (fold_text q) (folded_at k) (fold_byte b)) (and_left (is_possible q k) _ (none k within))
+irregular_push q b (Some p) (is, k, at, within, possible) =
+    let same : p ++ fold_byte b ∷ [] ≡ fold_text (q ++ b ∷ []) = ap (λ x. x ++ fold_byte b ∷ []) is ∙ sym (fold_text-push q b) in
+    rw same (by_index (q ++ b ∷ []) (possible_index (fold_text (q ++ b ∷ []))) refl)
+
+follows_from : (p q : List ℕ) → FollowsIrregular p (position_of p).irregular → FollowsIrregular (p ++ q) (position_of (p ++ q)).irregular
+follows_from p [] known = rw (append-nil p) known
+follows_from p (b ∷ q) known =
+    let more = irregular_push p b (position_of p).irregular known in
+    let next : FollowsIrregular (p ++ b ∷ []) (position_of (p ++ b ∷ [])).irregular = rw (position_of-push p b) more in
+    subst (λ x. FollowsIrregular x (position_of x).irregular) (append_assoc p (b ∷ []) q) (follows_from (p ++ b ∷ []) q next)
+
+pub follows_irregular : (q : List ℕ) → FollowsIrregular q (position_of q).irregular
+unfolding folded_texts irregular_texts grandfathered_tags
+follows_irregular q = follows_from [] q (by_index [] (Some 0) refl)

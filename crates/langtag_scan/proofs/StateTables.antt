@@ -1,0 +1,316 @@
+-- What the tables say of the state of a position is what the grammar says of the position: by computation.
+use Rattle.std.proofs.Common.{◌≡◌, ℕ, ◌-◌, ◌<◌, zero, suc, Bool, true, false, cond, eqb, eqb-true, eq-eqb, ltb, leb, not, ◌&&◌, ◌||◌, List, [], ◌∷◌, ◌++◌, length, take, drop, get_or, Option, Some, None, inl, inr, refl, sym, ap, ◌∙◌, arith}
+use Rattle.std.specs.Prelude.{codes, fold}
+use Rattle.std.specs.List.{list_all}
+use Rattle.std.specs.Option.{option_map, option_map_or}
+use Rattle.std.specs.Cmp.{booleans_Decides}
+use Rattle.std.proofs.Math.Bool.{beq}
+use Rattle.std.proofs.Math.Seq.{take-append_seam}
+use Rattle.std.proofs.lemmas.Bool.{agree_below, agree_below_at, and_parts, or_cases, not-true, ltb-true, leb-true, cases_lt, both_ways}
+use Rattle.std.proofs.lemmas.List.{length-append, get_or_past}
+use Rattle.std.proofs.lemmas.List.Quantifiers.{position-Some}
+use Rattle.std.proofs.lemmas.List.Sums.{AllPass-from_list_all}
+use Rattle.langtag_scan.specs.Case.{fold_byte, fold_text}
+use Rattle.langtag_scan.specs.Class.{is_letter, is_digit, is_mark}
+use Rattle.langtag_scan.specs.Grandfathered.{grandfathered_tags, irregular_texts}
+use Rattle.langtag_scan.specs.Irregular.{folded_texts, folded_at, is_prefix, is_possible}
+use Rattle.langtag_scan.specs.Kind.{Kind, Empty, Mark, Letters, Digits, LetterFirst, DigitFirst, with_letter}
+use Rattle.langtag_scan.specs.Position.{Begun, Position, nothing_read, begun_after, possible_index, irregular_after, position_after, position_of, part_before, ending_of, is_dead}
+use Rattle.langtag_scan.specs.Stage.{Stage, Start, Language, Extended, AfterScript, AfterRegion, AfterVariant, AfterSingleton, InExtension, AfterMark, InPrivate, AfterFirstMark, InPrivateTag}
+use Rattle.langtag_scan.specs.States.{states_of, states_along}
+use Rattle.langtag_scan.specs.Tracking.{Stands, next_number, begun_number, is_reached, state_of}
+use Rattle.langtag_scan.specs.declared.state.Ending.{Ending}
+use Rattle.langtag_scan.specs.declared.state.Ending.TheVariants.{NoTag, Normal, PrivateUse, Irregular}
+use Rattle.langtag_scan.specs.declared.states.TheConstants as table
+use Rattle.langtag_scan.proofs.CaseLaw.{is_letter-fold, is_digit-fold, is_mark-fold, hyphen-fold, fold_byte-twice}
+use Rattle.langtag_scan.proofs.IrregularTexts.{is_prefix-push, prefix_rest, seventeen_folded}
+use Rattle.langtag_scan.proofs.PositionLaws.{FollowsIrregular, follows_irregular, position_of-push}
+
+-- ---- a byte of each class
+
+abbrev class_bytes : List ℕ
+class_bytes = codes "abcdefghijklmnopqrstuvwxyz0-" ++ 0 ∷ []
+
+abbrev pub class_of : ℕ → ℕ
+class_of b = get_or table.CLASSES.now b 0
+
+abbrev class_byte : ℕ → ℕ
+class_byte class = get_or class_bytes class 0
+
+same_from_beq : (x y : Bool) → beq x y ≡ true → x ≡ y
+same_from_beq x y same = (booleans_Decides x y).0 same
+
+-- ---- what is computed at each position
+
+abbrev ending_number : Ending → ℕ
+ending_number NoTag = 0
+ending_number Normal = 1
+ending_number PrivateUse = 2
+ending_number (Irregular k) = suc (suc (suc k))
+
+-- the ending that a number stands for
+abbrev pub ending_by : ℕ → Ending
+ending_by zero = NoTag
+ending_by (suc zero) = Normal
+ending_by (suc (suc zero)) = PrivateUse
+ending_by (suc (suc (suc k))) = Irregular k
+
+ending_from : (n : ℕ) (ending : Ending) → n ≡ ending_number ending → ending_by n ≡ ending
+ending_from n NoTag is = ap ending_by is
+ending_from n Normal is = ap ending_by is
+ending_from n PrivateUse is = ap ending_by is
+ending_from n (Irregular k) is = ap ending_by is
+
+pub irregular_by : (n : ℕ) → (n ≡ 0 → ⊥) → (n ≡ 1 → ⊥) → (n ≡ 2 → ⊥) → Irregular (n - 3) ≡ ending_by n
+irregular_by zero no_tag normal private = absurd (no_tag refl)
+irregular_by (suc zero) no_tag normal private = absurd (normal refl)
+irregular_by (suc (suc zero)) no_tag normal private = absurd (private refl)
+irregular_by (suc (suc (suc k))) no_tag normal private = ap Irregular (omega arith)
+
+-- one byte of a class leads from a position with this number to that of the next one
+abbrev leads : Position → ℕ → ℕ → Bool
+leads p number class =
+    eqb (next_number class number) (state_of (position_after p (class_byte class))) && is_reached (position_after p (class_byte class))
+
+-- and the tables say of the number what the position says
+is_described_by : Position → ℕ → Bool
+is_described_by p number =
+    agree_below (leads p number) (λ class. true) 29
+    && (eqb (get_or table.PARTS.now number 0) (part_before p) && (eqb (get_or table.KINDS.now number 0) (ending_number (ending_of p)) && beq (eqb number 0) (is_dead p)))
+
+abbrev is_described : Position → Bool
+is_described p = is_described_by p (state_of p)
+
+-- ---- a subtag that has begun
+
+abbrev kinds : List Kind
+kinds = Empty ∷ Mark ∷ Letters ∷ Digits ∷ LetterFirst ∷ DigitFirst ∷ []
+
+abbrev kind_index : Kind → ℕ
+kind_index Empty = 0
+kind_index Mark = 1
+kind_index Letters = 2
+kind_index Digits = 3
+kind_index LetterFirst = 4
+kind_index DigitFirst = 5
+
+abbrev alone : Stage → Kind → ℕ → Position
+alone stage kind size = record { begun = Some (record { stage = stage; kind = kind; size = size }); irregular = None }
+
+abbrev is_row_described : Stage → Kind → Bool
+is_row_described stage kind =
+    leb (length (states_of stage kind)) 9
+    && agree_below (λ size. eqb (get_or (states_of stage kind) size 0) 0 || is_described_by (alone stage kind size) (get_or (states_of stage kind) size 0)) (λ size. true) 9
+
+abbrev are_rows_described : Stage → Bool
+are_rows_described stage = list_all (is_row_described stage) kinds
+
+rows_described : (stage : Stage) → are_rows_described stage ≡ true
+unfolding is_described_by states_of is_letter is_digit is_mark fold_byte
+rows_described Start = refl
+rows_described (Language zero) = refl
+rows_described (Language (suc zero)) = refl
+rows_described (Language (suc (suc zero))) = refl
+rows_described (Language (suc (suc (suc zero)))) = refl
+rows_described (Language (suc (suc (suc (suc taken))))) = refl
+rows_described (Extended zero) = refl
+rows_described (Extended (suc zero)) = refl
+rows_described (Extended (suc (suc zero))) = refl
+rows_described (Extended (suc (suc (suc zero)))) = refl
+rows_described (Extended (suc (suc (suc (suc taken))))) = refl
+rows_described AfterScript = refl
+rows_described AfterRegion = refl
+rows_described AfterVariant = refl
+rows_described AfterSingleton = refl
+rows_described InExtension = refl
+rows_described AfterMark = refl
+rows_described InPrivate = refl
+rows_described AfterFirstMark = refl
+rows_described InPrivateTag = refl
+
+-- ---- along the irregular texts, and where no tag begins so
+
+along_described : agree_below (λ k. ltb (length (folded_at k)) 12 && agree_below (λ n. is_described (position_of (take n (folded_at k)))) (λ n. true) 12) (λ k. true) 17 ≡ true
+unfolding is_described_by states_of states_along folded_texts irregular_texts grandfathered_tags is_letter is_digit is_mark fold_byte
+along_described = refl
+
+nowhere_described : is_described (record { begun = None; irregular = None }) ≡ true
+unfolding is_described_by
+nowhere_described = refl
+
+-- ---- a byte and that of its class
+
+-- a letter or a hyphen, as in the irregular texts
+abbrev is_text_byte : ℕ → Bool
+is_text_byte b = is_letter b || eqb b 45
+
+texts_plain : agree_below (λ k. list_all is_text_byte (folded_at k)) (λ k. true) 17 ≡ true
+unfolding folded_texts irregular_texts grandfathered_tags is_letter fold_byte
+texts_plain = refl
+
+-- they differ in nothing that a position looks at
+abbrev is_alike_by : ℕ → ℕ → Bool
+is_alike_by c b =
+    beq (eqb c 45) (eqb b 45) && (beq (is_letter c) (is_letter b) && (beq (is_digit c) (is_digit b) && (beq (is_mark c) (is_mark b)
+    && (eqb (fold_byte c) (fold_byte b) || not (is_text_byte b)))))
+
+bytes_classed : (b : ℕ) → b < 256 → (ltb (class_of b) 29 && is_alike_by (class_byte (class_of b)) b) ≡ true
+unfolding is_letter is_digit is_mark fold_byte
+bytes_classed b within = agree_below_at (λ b. ltb (class_of b) 29 && is_alike_by (class_byte (class_of b)) b) (λ b. true) 256 b refl within
+
+pub class_within : (b : ℕ) → b < 256 → class_of b < 29
+class_within b within = ltb-true _ _ (and_parts (ltb (class_of b) 29) _ (bytes_classed b within)).0
+
+with_letter-same : (kind : Kind) (c b : ℕ) → is_mark c ≡ is_mark b → with_letter kind c ≡ with_letter kind b
+with_letter-same Empty c b marks = ap (λ v. cond v Mark Letters) marks
+with_letter-same _ c b marks = refl
+
+begun_after-same : (o : Option Begun) (c b : ℕ) → eqb c 45 ≡ eqb b 45 → is_letter c ≡ is_letter b → is_digit c ≡ is_digit b → is_mark c ≡ is_mark b →
+    option_map_or (begun_after c) o None ≡ option_map_or (begun_after b) o None
+begun_after-same None c b hyphens letters digits marks = refl
+begun_after-same (Some s) c b hyphens letters digits marks = rw (hyphens, letters, digits, with_letter-same s.kind c b marks) refl
+
+-- no irregular text has another byte
+outside : (p : List ℕ) (c : ℕ) (o : Option ℕ) → is_text_byte c ≡ false → possible_index (p ++ c ∷ []) ≡ o → o ≡ None
+outside p c None other at = refl
+outside p c (Some k) other at =
+    let first = position-Some (is_prefix (p ++ c ∷ [])) folded_texts k [] at in
+    let within : k < 17 = omega (arith, first.0, seventeen_folded) in
+    let has = and_parts (ltb (length p) (length (folded_at k))) (eqb (get_or (folded_at k) (length p) 0) c) (and_parts (is_prefix p (folded_at k)) _ (sym (is_prefix-push p (folded_at k) c) ∙ first.1)).1 in
+    let plain = AllPass-from_list_all is_text_byte (folded_at k) (agree_below_at (λ k. list_all is_text_byte (folded_at k)) (λ k. true) 17 k texts_plain within) (length p) 0 (ltb-true _ _ has.0) in
+    absurd (both_ways (is_text_byte c) other (ap is_text_byte (sym (eqb-true _ _ has.1)) ∙ plain))
+
+irregular_after-same : (o : Option (List ℕ)) (c b : ℕ) → eqb c 45 ≡ eqb b 45 → is_letter c ≡ is_letter b → (eqb (fold_byte c) (fold_byte b) || not (is_text_byte b)) ≡ true →
+    option_map_or (irregular_after c) o None ≡ option_map_or (irregular_after b) o None
+irregular_after-same None c b hyphens letters folds = refl
+irregular_after-same (Some p) c b hyphens letters folds =
+    elim (or_cases (eqb (fold_byte c) (fold_byte b)) (not (is_text_byte b)) folds) [
+      | inl same ↦ ap (λ x. option_map (λ k. p ++ x ∷ []) (possible_index (p ++ x ∷ []))) (eqb-true _ _ same)
+      | inr other ↦
+          let none : is_text_byte (fold_byte b) ≡ false = rw (is_letter-fold b, hyphen-fold b) (not-true _ other) in
+          let none_too : is_text_byte (fold_byte c) ≡ false = rw (is_letter-fold c, hyphen-fold c, letters, hyphens) (not-true _ other) in
+          ap (option_map (λ k. p ++ fold_byte c ∷ [])) (outside p (fold_byte c) _ none_too refl)
+          ∙ sym (ap (option_map (λ k. p ++ fold_byte b ∷ [])) (outside p (fold_byte b) _ none refl))
+    ]
+
+position_after-same :
+    (p : Position) (c b : ℕ) → eqb c 45 ≡ eqb b 45 → is_letter c ≡ is_letter b → is_digit c ≡ is_digit b → is_mark c ≡ is_mark b →
+    (eqb (fold_byte c) (fold_byte b) || not (is_text_byte b)) ≡ true → position_after p c ≡ position_after p b
+position_after-same p c b hyphens letters digits marks folds =
+    rw (begun_after-same p.begun c b hyphens letters digits marks, irregular_after-same p.irregular c b hyphens letters folds) refl
+
+position_after-class : (p : Position) (b : ℕ) → b < 256 → position_after p (class_byte (class_of b)) ≡ position_after p b
+position_after-class p b within =
+    let c = class_byte (class_of b) in
+    let hyphens = and_parts (beq (eqb c 45) (eqb b 45)) _ (and_parts (ltb (class_of b) 29) _ (bytes_classed b within)).1 in
+    let letters = and_parts (beq (is_letter c) (is_letter b)) _ hyphens.1 in
+    let digits = and_parts (beq (is_digit c) (is_digit b)) _ letters.1 in
+    let marks = and_parts (beq (is_mark c) (is_mark b)) _ digits.1 in
+    position_after-same p c b (same_from_beq _ _ hyphens.0) (same_from_beq _ _ letters.0) (same_from_beq _ _ digits.0) (same_from_beq _ _ marks.0) marks.1
+
+-- a position does not change with the case of letters
+position_after-fold : (p : Position) (b : ℕ) → position_after p (fold_byte b) ≡ position_after p b
+position_after-fold p b =
+    position_after-same p (fold_byte b) b (hyphen-fold b) (is_letter-fold b) (is_digit-fold b) (is_mark-fold b)
+    (rw (eq-eqb (fold_byte (fold_byte b)) (fold_byte b) (fold_byte-twice b)) refl)
+
+position_from-fold : (q : List ℕ) (p : Position) → fold position_after p (fold_text q) ≡ fold position_after p q
+position_from-fold [] p = refl
+position_from-fold (b ∷ q) p = ap (λ x. fold position_after x (fold_text q)) (position_after-fold p b) ∙ position_from-fold q (position_after p b)
+
+-- ---- what the tables say of a state
+
+kind_at : (kind : Kind) → (kind_index kind < 6) × (get_or kinds (kind_index kind) Empty ≡ kind)
+kind_at Empty = (omega arith, refl)
+kind_at Mark = (omega arith, refl)
+kind_at Letters = (omega arith, refl)
+kind_at Digits = (omega arith, refl)
+kind_at LetterFirst = (omega arith, refl)
+kind_at DigitFirst = (omega arith, refl)
+
+second : (a b : Bool) → a ≡ false → (a || b) ≡ true → b ≡ true
+second true b first either = absurd cc
+second false b first either = either
+
+begun_described : (s : Begun) → not (eqb (begun_number s) 0) ≡ true → is_described (record { begun = Some s; irregular = None }) ≡ true
+begun_described s reached =
+    let kind = kind_at s.kind in
+    let row : is_row_described s.stage s.kind ≡ true = ap (is_row_described s.stage) (sym kind.1) ∙ AllPass-from_list_all (is_row_described s.stage) kinds (rows_described s.stage) (kind_index s.kind) Empty kind.0 in
+    let parts = and_parts (leb (length (states_of s.stage s.kind)) 9) _ row in
+    let some = not-true (eqb (begun_number s) 0) reached in
+    elim (cases_lt s.size 9) [
+      | inl within ↦ second (eqb (begun_number s) 0) _ some (agree_below_at (λ size. eqb (get_or (states_of s.stage s.kind) size 0) 0 || is_described_by (alone s.stage s.kind size) (get_or (states_of s.stage s.kind) size 0)) (λ size. true) 9 s.size parts.1 within)
+      | inr past ↦
+          let none : begun_number s ≡ 0 = get_or_past (states_of s.stage s.kind) s.size 0 (omega (arith, leb-true _ _ parts.0)) in
+          absurd (both_ways (eqb (begun_number s) 0) some (eq-eqb _ _ none))
+    ]
+
+prefix_described : (q : List ℕ) (k : ℕ) → k < 17 → is_possible q k ≡ true → is_described (position_of q) ≡ true
+prefix_described q k within possible =
+    let n = length (fold_text q) in
+    let rest = prefix_rest (fold_text q) (folded_at k) possible in
+    let prefix : take n (folded_at k) ≡ fold_text q = ap (take n) (sym rest) ∙ take-append_seam (fold_text q) (drop n (folded_at k)) in
+    let along = and_parts (ltb (length (folded_at k)) 12) _ (agree_below_at (λ k. ltb (length (folded_at k)) 12 && agree_below (λ n. is_described (position_of (take n (folded_at k)))) (λ n. true) 12) (λ k. true) 17 k along_described within) in
+    let short : n < 12 = omega (arith, ltb-true _ _ along.0, ap length rest, length-append (fold_text q) (drop n (folded_at k))) in
+    ap is_described (sym (position_from-fold q nothing_read) ∙ ap position_of (sym prefix)) ∙ agree_below_at (λ n. is_described (position_of (take n (folded_at k)))) (λ n. true) 12 n along.1 short
+
+by_parts : (q : List ℕ) (b : Option Begun) (o : Option (List ℕ)) → position_of q ≡ record { begun = b; irregular = o } → FollowsIrregular q o → is_reached (record { begun = b; irregular = o }) ≡ true →
+    is_described (record { begun = b; irregular = o }) ≡ true
+by_parts q None None at gone reached = nowhere_described
+by_parts q (Some s) None at gone reached = begun_described s reached
+by_parts q b (Some p) at (is, k, index, within, possible) reached = ap is_described (sym at) ∙ prefix_described q k within possible
+
+module _ (q : List ℕ) (number : ℕ) (stands : Stands q number) where
+  described : is_described_by (position_of q) number ≡ true
+  described = rw stands.is (by_parts q (position_of q).begun (position_of q).irregular refl (follows_irregular q) stands.reached)
+
+  -- where each class of bytes leads, and what the other tables have
+  abbrev Said : Type 0
+  Said =
+      (agree_below (leads (position_of q) number) (λ class. true) 29 ≡ true) × (get_or table.PARTS.now number 0 ≡ part_before (position_of q))
+      × (get_or table.KINDS.now number 0 ≡ ending_number (ending_of (position_of q))) × (eqb number 0 ≡ is_dead (position_of q))
+
+  said : Said
+  unfolding is_described_by
+  said =
+      let first = and_parts (agree_below (leads (position_of q) number) (λ class. true) 29) _ described in
+      let part = and_parts (eqb (get_or table.PARTS.now number 0) (part_before (position_of q))) _ first.1 in
+      let kind = and_parts (eqb (get_or table.KINDS.now number 0) (ending_number (ending_of (position_of q)))) _ part.1 in
+      (first.0, eqb-true _ _ part.0, eqb-true _ _ kind.0, same_from_beq _ _ kind.1)
+
+  pub stands_push : (b : ℕ) → b < 256 → Stands (q ++ b ∷ []) (next_number (class_of b) number)
+  stands_push b within =
+      let led = agree_below_at (leads (position_of q) number) (λ class. true) 29 (class_of b) said.0 (class_within b within) in
+      let parts = and_parts (eqb (next_number (class_of b) number) (state_of (position_after (position_of q) (class_byte (class_of b))))) _ led in
+      let next : position_after (position_of q) (class_byte (class_of b)) ≡ position_of (q ++ b ∷ []) =
+      position_after-class (position_of q) b within ∙ sym (position_of-push q b) in
+      record { reached = ap is_reached (sym next) ∙ parts.1; is = eqb-true _ _ parts.0 ∙ ap state_of next }
+
+  pub stands_part : get_or table.PARTS.now number 0 ≡ part_before (position_of q)
+  stands_part = said.1
+
+  pub stands_ending : ending_by (get_or table.KINDS.now number 0) ≡ ending_of (position_of q)
+  stands_ending = ending_from (get_or table.KINDS.now number 0) (ending_of (position_of q)) said.2
+
+  pub stands_dead : eqb number 0 ≡ is_dead (position_of q)
+  stands_dead = said.3
+
+pub stands_nothing : Stands [] table.START
+unfolding states_along folded_texts irregular_texts grandfathered_tags fold_byte
+stands_nothing = record { reached = refl; is = refl }
+
+-- ---- the numbers
+
+rows_within : list_all (λ row. (eqb (length row) 165) && list_all (λ n. ltb n 165) row) table.NEXT.now ≡ true
+rows_within = refl
+
+pub next_within : (class number : ℕ) → class < 29 → number < 165 → next_number class number < 165
+next_within class number in_rows in_row =
+    let row = and_parts (eqb (length (get_or table.NEXT.now class [])) 165) _ (AllPass-from_list_all (λ row. (eqb (length row) 165) && list_all (λ n. ltb n 165) row) table.NEXT.now rows_within class [] in_rows) in
+    ltb-true _ _ (AllPass-from_list_all (λ n. ltb n 165) (get_or table.NEXT.now class []) row.1 number 0 (omega (arith, eqb-true _ _ row.0)))
+
+parts_within : list_all (λ n. ltb n 7) table.PARTS.now ≡ true
+parts_within = refl
+
+pub part_within : (number : ℕ) → number < 165 → get_or table.PARTS.now number 0 < 7
+part_within number within = ltb-true _ _ (AllPass-from_list_all (λ n. ltb n 7) table.PARTS.now parts_within number 0 within)

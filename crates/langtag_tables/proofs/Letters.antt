@@ -1,0 +1,111 @@
+-- The numbers of texts of letters tell them apart but for case.
+use Rattle.std.proofs.Common.{◌≡◌, ℕ, zero, suc, ◌+◌, ◌*◌, ◌-◌, ◌<◌, ◌≤◌, true, ◌==◌, List, [], ◌∷◌, length, get_or, map, inl, inr, refl, ap, sym, ◌∙◌, arith}
+use Rattle.std.specs.List.{fold, AllByRecursion}
+use Rattle.std.proofs.lemmas.Bool.{and_parts, false_from_ne_true}
+use Rattle.std.proofs.lemmas.Bool.Decides.{eqb_tells, nat_tests}
+use Rattle.std.proofs.lemmas.List.Folds.{fold-map}
+use Rattle.langtag_scan.specs.Case.{fold_byte, fold_text, are_alike}
+use Rattle.langtag_scan.specs.CaseLaws.{are_alike-decides}
+use Rattle.langtag_scan.specs.Class.{is_letter, are_letters, has_length, is_primary, is_extended}
+use Rattle.langtag_tables.specs.Numbers.{letter, letter_number}
+use Rattle.langtag_scan.proofs.Digits.{IsBase, digits-same}
+
+pub record IsPlace (d : ℕ) : Type 0 where
+  pub some : 1 ≤ d
+  pub most : d ≤ 26
+
+base_26 : IsBase 26 IsPlace
+base_26 = record {
+  some = λ b d. d.some;
+  digit = λ n m x y xd yd same. let xs = xd.some in let xm = xd.most in let ys = yd.some in let ym = yd.most in omega (arith, xs, xm, ys, ym, same);
+  rest = λ n m x y xd yd same. let xs = xd.some in let xm = xd.most in let ys = yd.some in let ym = yd.most in omega (arith, xs, xm, ys, ym, same);
+}
+
+pub letter_place : (b : ℕ) → is_letter b ≡ true → IsPlace (letter b)
+unfolding is_letter fold_byte
+letter_place b h = record { some = grind (arith, nat_tests); most = grind (arith, nat_tests) }
+
+letter_back : (b : ℕ) → is_letter b ≡ true → letter b + 96 ≡ fold_byte b
+unfolding is_letter fold_byte
+letter_back b h = grind (arith, nat_tests)
+
+letter_places : (text : List ℕ) → are_letters text ≡ true → AllByRecursion IsPlace (map letter text)
+letter_places [] h = tt
+letter_places (b ∷ text) h = let k = and_parts (is_letter b) (are_letters text) h in (letter_place b k.0, letter_places text k.1)
+
+letters_back : (text : List ℕ) → are_letters text ≡ true → map (λ d. d + 96) (map letter text) ≡ fold_text text
+letters_back [] h = refl
+letters_back (b ∷ text) h =
+    let k = and_parts (is_letter b) (are_letters text) h in
+    ap (λ d. d ∷ map (λ d. d + 96) (map letter text)) (letter_back b k.0) ∙ ap (λ bs. fold_byte b ∷ bs) (letters_back text k.1)
+
+letter_number-fold : (text : List ℕ) → letter_number text ≡ fold (λ number d. number * 26 + d) 0 (map letter text)
+unfolding letter_number
+letter_number-fold text = sym (fold-map (λ number d. number * 26 + d) letter 0 text)
+
+-- the letters follow from the fold
+number_of_fold : List ℕ → ℕ
+number_of_fold folded = fold (λ number d. number * 26 + d) 0 (map (λ b. b - 96) folded)
+
+letter_number-of_fold : (text : List ℕ) → letter_number text ≡ number_of_fold (fold_text text)
+unfolding letter_number number_of_fold
+letter_number-of_fold text =
+    letter_number-fold text ∙ ap (fold (λ number d. number * 26 + d) 0) (letters-of_fold text)
+  where
+    letters-of_fold : (text : List ℕ) → map letter text ≡ map (λ b. b - 96) (fold_text text)
+    letters-of_fold [] = refl
+    letters-of_fold (b ∷ text) = ap (λ ds. letter b ∷ ds) (letters-of_fold text)
+
+pub letter_number-tells : (a b : List ℕ) → are_letters a ≡ true → are_letters b ≡ true → (letter_number b == letter_number a) ≡ are_alike a b
+letter_number-tells a b al bl =
+    elim (eqb_tells (letter_number b) (letter_number a)) [
+      | inl same ↦
+          let places : map letter a ≡ map letter b = digits-same 26 IsPlace base_26 (map letter a) (map letter b) (letter_places a al) (letter_places b bl)
+          (sym (letter_number-fold a) ∙ sym same.1 ∙ letter_number-fold b) in
+          let texts : fold_text a ≡ fold_text b = sym (letters_back a al) ∙ ap (map (λ d. d + 96)) places ∙ letters_back b bl in
+          same.0 ∙ sym ((are_alike-decides a b).1 texts)
+      | inr other ↦
+          other.0
+          ∙ sym (false_from_ne_true (are_alike a b) (λ yes. other.1 (letter_number-of_fold b ∙ ap number_of_fold (sym ((are_alike-decides a b).0 yes)) ∙ sym (letter_number-of_fold a))))
+    ]
+
+-- the number of a text of two letters, and of three
+pub number_of_two : (text : List ℕ) → length text ≡ 2 → letter_number text ≡ letter (get_or text 0 0) * 26 + letter (get_or text 1 0)
+unfolding letter_number
+number_of_two [] h = absurd (omega (arith, h))
+number_of_two (a ∷ []) h = absurd (omega (arith, h))
+number_of_two (a ∷ b ∷ []) h = omega arith
+number_of_two (a ∷ b ∷ c ∷ text) h = absurd (omega (arith, h))
+
+pub number_of_three :
+    (text : List ℕ) → length text ≡ 3 →
+    letter_number text ≡ (letter (get_or text 0 0) * 26 + letter (get_or text 1 0)) * 26 + letter (get_or text 2 0)
+unfolding letter_number
+number_of_three [] h = absurd (omega (arith, h))
+number_of_three (a ∷ []) h = absurd (omega (arith, h))
+number_of_three (a ∷ b ∷ []) h = absurd (omega (arith, h))
+number_of_three (a ∷ b ∷ c ∷ []) h = omega arith
+number_of_three (a ∷ b ∷ c ∷ d ∷ text) h = absurd (omega (arith, h))
+
+-- ---- primary language subtags
+
+pub primary_letters : (text : List ℕ) → is_primary text ≡ true → are_letters text ≡ true
+unfolding is_primary
+primary_letters text h = (and_parts (has_length 2 8 text) (are_letters text) h).1
+
+pub primary_length : (text : List ℕ) → is_primary text ≡ true → 2 ≤ length text
+unfolding is_primary
+primary_length text h = grind (arith, nat_tests)
+
+letter_of : (text : List ℕ) (k : ℕ) → are_letters text ≡ true → k < length text → is_letter (get_or text k 0) ≡ true
+letter_of [] k h inside = absurd (omega (arith, inside))
+letter_of (b ∷ text) zero h inside = (and_parts (is_letter b) (are_letters text) h).0
+letter_of (b ∷ text) (suc k) h inside = letter_of text k (and_parts (is_letter b) (are_letters text) h).1 (omega (arith, inside))
+
+pub letter_at : (text : List ℕ) (k : ℕ) → is_primary text ≡ true → k < length text → is_letter (get_or text k 0) ≡ true
+letter_at text k h inside = letter_of text k (primary_letters text h) inside
+
+-- an extended subtag could be a primary one
+pub extended_primary : (text : List ℕ) → is_extended text ≡ true → is_primary text ≡ true
+unfolding is_extended is_primary
+extended_primary text h = grind (arith, nat_tests)

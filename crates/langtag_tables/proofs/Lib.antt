@@ -1,0 +1,3 @@
+pub mod AlikeTexts
+pub mod Letters
+pub mod Rising

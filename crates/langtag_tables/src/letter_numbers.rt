@@ -1,0 +1,36 @@
+//! The numbers of texts of letters.
+ghost use Rattle.std.specs.Prelude.{◌≡◌, ◌≤◌, IsTrue, length};
+ghost use Rattle.langtag_scan.specs.Class as class;
+ghost use Rattle.langtag_tables.specs.Numbers.{letter, letter_number};
+
+use langtag_scan::into_smallcase;
+
+/// Returns the letters of a text as the digits of a number in base 26, in any case: 27 of `aa`, 31 of `ae` and `AE`, 18278 of
+/// `zzz`. The number tells texts of two and three letters apart, as languages (RFC 5646 section 2.2.1) mostly have.
+///
+/// The text has to be two or three ASCII letters.
+#[tactic(auto, using(crate::proofs::Letters::primary_length, crate::proofs::Letters::letter_at, crate::proofs::Letters::number_of_two, crate::proofs::Letters::number_of_three))]
+pub fn letter_number(bytes: &[u8]) -> usize
+    requires primary { IsTrue (class.is_primary bytes.now) }
+    requires short { length bytes.now ≤ 3 }
+    ensures number { result ≡ letter_number bytes.now }
+    ensures from_aa { 27 ≤ result }
+    ensures to_zzz { result ≤ 18278 }
+{
+    let number = place(bytes[0]) * 26 + place(bytes[1]);
+    if bytes.len() == 2 {
+        return number;
+    }
+    number * 26 + place(bytes[2])
+}
+
+/// Returns the place of a letter in the alphabet, from 1 on.
+#[tactic(auto, using(crate::proofs::Letters::letter_place))]
+fn place(byte: u8) -> usize
+    requires { IsTrue (class.is_letter byte) }
+    ensures place { result ≡ letter byte }
+    ensures some { 1 ≤ result }
+    ensures most { result ≤ 26 }
+{
+    usize::from(into_smallcase(byte)) - 96
+}

@@ -1,0 +1,8 @@
+//! What tables of subtags rest on: the numbers by which they know texts of letters, as 31 for `ae`. Its definitions and proofs are
+//! about lists of numbers that rise, in which such a number is searched, and about the words of the lists that tables are made of.
+#![tactic(auto)]
+
+mod letter_numbers;
+
+// For langtag_registry and langtag_likely.
+pub use letter_numbers::letter_number;

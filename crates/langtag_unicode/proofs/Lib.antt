@@ -1,0 +1,2 @@
+pub mod SubtagTexts
+pub mod WalkLaws

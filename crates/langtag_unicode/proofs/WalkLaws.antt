@@ -1,0 +1,138 @@
+-- One step of a walk, and what a look-up and a walk have in common.
+use Rattle.std.proofs.Common.{◌≡◌, ℕ, ◌+◌, Bool, true, false, cond, ◌&&◌, ◌==◌, not, List, [], ◌∷◌, ◌++◌, length, take, drop, Option, Some, refl, ap, sym, ◌∙◌}
+use Rattle.std.specs.List.{list_any}
+use Rattle.std.specs.Option.{option_map}
+use Rattle.std.specs.Str.{bytes_eq}
+use Rattle.std.proofs.lemmas.List.{take_more}
+use Rattle.std.proofs.lemmas.List.Folds.{list_any-append}
+use Rattle.std.proofs.lemmas.Map.Steps.{list_any_congr}
+use Rattle.langtag_scan.specs.Case.{fold_text, are_alike, Alike}
+use Rattle.langtag_scan.specs.CaseLaws.{are_alike-decides, on_alike_equiv}
+use Rattle.langtag_scan.specs.Subtags.{join}
+use Rattle.langtag_scan.proofs.CaseLaw.{is_letter-fold, is_digit-fold, length-fold}
+use Rattle.langtag.proofs.RepeatLaws.{IsAt-drop}
+use Rattle.langtag_unicode.specs.Keywords.{Keyword, before_key, value_among, value_of, is_key, is_new_key, keywords_after, keywords_of, first_after}
+use Rattle.langtag_unicode.specs.Transform.{is_field_key}
+
+-- ---- a step
+
+-- those before the next subtag and this one are those before the one after it
+take-turn : (all : List (List ℕ)) (n : ℕ) (s : List ℕ) (rest : List (List ℕ)) → drop n all ≡ s ∷ rest → take n all ++ s ∷ [] ≡ take (n + 1) all
+take-turn all n s rest left =
+    let at = IsAt-drop all n s rest left in
+    ap (λ x. take n all ++ x ∷ []) at.member ∙ sym (take_more all n s at.below)
+
+module _ (test : List ℕ → Bool) where
+  -- a new key
+  pub keywords-new :
+      (all : List (List ℕ)) (n : ℕ) (s : List ℕ) (rest : List (List ℕ)) (value : List ℕ) → drop n all ≡ s ∷ rest → is_new_key test (take n all) s ≡ true →
+      value ≡ join (before_key test rest) →
+      keywords_after test (take n all) (s ∷ rest) ≡ record { key = s; value = value } ∷ keywords_after test (take (n + 1) all) rest
+  keywords-new all n s rest value left new is =
+      ap (λ b. cond b (record { key = s; value = join (before_key test rest) } ∷ keywords_after test (take n all ++ s ∷ []) rest) (keywords_after test (take n all ++ s ∷ []) rest)) new
+      ∙ ap (λ v. record { key = s; value = v } ∷ keywords_after test (take n all ++ s ∷ []) rest) (sym is)
+      ∙ ap (λ before. record { key = s; value = value } ∷ keywords_after test before rest) (take-turn all n s rest left)
+
+  -- another subtag
+  pub keywords-other :
+      (all : List (List ℕ)) (n : ℕ) (s : List ℕ) (rest : List (List ℕ)) → drop n all ≡ s ∷ rest → is_new_key test (take n all) s ≡ false →
+      keywords_after test (take n all) (s ∷ rest) ≡ keywords_after test (take (n + 1) all) rest
+  keywords-other all n s rest left other =
+      ap (λ b. cond b (record { key = s; value = join (before_key test rest) } ∷ keywords_after test (take n all ++ s ∷ []) rest) (keywords_after test (take n all ++ s ∷ []) rest)) other
+      ∙ ap (λ before. keywords_after test before rest) (take-turn all n s rest left)
+
+-- a new attribute
+pub first-new :
+    (all : List (List ℕ)) (n : ℕ) (s : List ℕ) (rest : List (List ℕ)) → drop n all ≡ s ∷ rest → list_any (are_alike s) (take n all) ≡ false →
+    first_after (take n all) (s ∷ rest) ≡ s ∷ first_after (take (n + 1) all) rest
+first-new all n s rest left new =
+    ap (λ b. cond b (first_after (take n all ++ s ∷ []) rest) (s ∷ first_after (take n all ++ s ∷ []) rest)) new
+    ∙ ap (λ before. s ∷ first_after before rest) (take-turn all n s rest left)
+
+-- a repeated one
+pub first-other :
+    (all : List (List ℕ)) (n : ℕ) (s : List ℕ) (rest : List (List ℕ)) → drop n all ≡ s ∷ rest → list_any (are_alike s) (take n all) ≡ true →
+    first_after (take n all) (s ∷ rest) ≡ first_after (take (n + 1) all) rest
+first-other all n s rest left old =
+    ap (λ b. cond b (first_after (take n all ++ s ∷ []) rest) (s ∷ first_after (take n all ++ s ∷ []) rest)) old
+    ∙ ap (λ before. first_after before rest) (take-turn all n s rest left)
+
+-- ---- the case of letters
+
+-- alike subtags are keys alike
+abbrev RespectsCase : (List ℕ → Bool) → Type 0
+RespectsCase test = (a b : List ℕ) → Alike a b → test a ≡ test b
+
+is_key-alike : RespectsCase is_key
+is_key-alike a b same = ap (λ n. n == 2) (sym (length-fold a) ∙ ap length same ∙ length-fold b)
+
+is_field_key-fold : (s : List ℕ) → is_field_key (fold_text s) ≡ is_field_key s
+is_field_key-fold [] = refl
+is_field_key-fold (a ∷ []) = refl
+is_field_key-fold (a ∷ b ∷ []) = rw (is_letter-fold a, is_digit-fold b) refl
+is_field_key-fold (a ∷ b ∷ c ∷ s) = refl
+
+is_field_key-alike : RespectsCase is_field_key
+is_field_key-alike a b same = sym (is_field_key-fold a) ∙ ap is_field_key same ∙ is_field_key-fold b
+
+alike-right : (s k l : List ℕ) → Alike k l → are_alike s k ≡ are_alike s l
+alike-right s k l same = ap (λ t. bytes_eq (fold_text s) t) same
+
+alike-left : (s t k : List ℕ) → Alike s t → are_alike s k ≡ are_alike t k
+alike-left s t k same = ap (λ x. bytes_eq x (fold_text k)) same
+
+-- a key is looked up in any case
+pub value_of-alike : (test : List ℕ → Bool) (k l : List ℕ) (ss : List (List ℕ)) → Alike k l → value_of test k ss ≡ value_of test l ss
+value_of-alike test k l [] same = refl
+value_of-alike test k l (s ∷ ss) same = rw (alike-right s k l same, value_of-alike test k l ss same) refl
+
+-- ---- a look-up and the walk
+
+alike-same : (s key : List ℕ) → are_alike s key ≡ true → Alike s key
+alike-same s key h = (are_alike-decides s key).0 h
+
+-- one more subtag that the key is not alike
+still-none : (key s : List ℕ) (before : List (List ℕ)) → list_any (are_alike key) before ≡ false → are_alike s key ≡ false → list_any (are_alike key) (before ++ s ∷ []) ≡ false
+still-none key s before none apart =
+    let other : are_alike key s ≡ false = (on_alike_equiv (λ t. t)).symm key s ∙ apart in
+    list_any-append (are_alike key) before (s ∷ []) ∙ rw (none, other) refl
+
+module _ (test : List ℕ → Bool) (respects : RespectsCase test) (key : List ℕ) (is : test key ≡ true) where
+  -- a keyword that is listed or not, and the others
+  by_old :
+      (old : Bool) (word : Keyword) (others : List Keyword) (value : Option (List ℕ)) → are_alike word.key key ≡ false → value_among key others ≡ value →
+      value_among key (cond (not old) (word ∷ others) others) ≡ value
+  by_old true word others value apart later = later
+  by_old false word others value apart later = rw apart later
+
+  by_key :
+      (before ss : List (List ℕ)) (s : List ℕ) (others : List Keyword) (opened same : Bool) → test s ≡ opened → are_alike s key ≡ same → list_any (are_alike key) before ≡ false →
+      (are_alike s key ≡ false → value_among key others ≡ option_map join (value_of test key ss)) →
+      value_among key (cond (opened && not (list_any (are_alike s) before)) (record { key = s; value = join (before_key test ss) } ∷ others) others)
+      ≡ option_map join (cond (opened && same) (Some (before_key test ss)) (value_of test key ss))
+  by_key before ss s others true true is_opened e none later =
+      let new : list_any (are_alike s) before ≡ false = list_any_congr (on_alike_equiv (λ t. t)) s key before e ∙ none in
+      rw (new, e) refl
+  by_key before ss s others true false is_opened e none later =
+      by_old (list_any (are_alike s) before) (record { key = s; value = join (before_key test ss) }) others (option_map join (value_of test key ss)) e (later e)
+  by_key before ss s others false true closed e none later =
+      let wrong : false ≡ true = sym closed ∙ respects s key (alike-same s key e) ∙ is in
+      absurd cc
+  by_key before ss s others false false closed e none later = later e
+
+  listed-after : (before ss : List (List ℕ)) → list_any (are_alike key) before ≡ false → value_among key (keywords_after test before ss) ≡ option_map join (value_of test key ss)
+  listed-after before [] none = refl
+  listed-after before (s ∷ ss) none =
+      by_key before ss s (keywords_after test (before ++ s ∷ []) ss) (test s) (are_alike s key) refl refl none (λ apart. listed-after (before ++ s ∷ []) ss (still-none key s before none apart))
+
+  -- the value of a key is that of the keyword that the walk gives
+  value_of-listed : (ss : List (List ℕ)) → value_among key (keywords_of test ss) ≡ option_map join (value_of test key ss)
+  value_of-listed ss = listed-after [] ss refl
+
+pub keyword-listed : (k : List ℕ) (ss : List (List ℕ)) → is_key k ≡ true → value_among k (keywords_of is_key ss) ≡ option_map join (value_of is_key k ss)
+keyword-listed k ss is = value_of-listed is_key is_key-alike k is ss
+
+pub field-listed : (k : List ℕ) (ss : List (List ℕ)) → is_field_key k ≡ true → value_among k (keywords_of is_field_key ss) ≡ option_map join (value_of is_field_key k ss)
+field-listed k ss is = value_of-listed is_field_key is_field_key-alike k is ss
+
+pub ruleset keyword_laws = (value_of-alike, keyword-listed, field-listed)

@@ -1,0 +1,4 @@
+pub mod Keys
+pub mod Keywords
+pub mod Text
+pub mod Transform

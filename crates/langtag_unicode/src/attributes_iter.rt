@@ -1,0 +1,73 @@
+//! The attributes of a tag, one by one.
+ghost use Rattle.std.specs.Prelude.{◌≡◌, ◌<◌, ◌^◌, [], drop, length, ⊤};
+ghost use Rattle.std.specs.Iterator.{YieldsFirstRef, item_count};
+ghost use Rattle.langtag_scan.specs.Subtags.{subtags};
+ghost use Rattle.langtag_unicode.specs.Keywords as spec;
+
+use crate::subtags::is_among_first;
+use langtag::Subtags;
+use std::alloc::AllocError;
+
+/// The attributes of the extension `u` that are still to come, in the order of the tag, each once.
+#[derive(Debug, Drop)]
+pub struct AttributesIter<'a> {
+    text: &'a str,
+    passed: usize,
+    rest: Subtags<'a>,
+    ghost in_step: { rest ≡ drop passed (subtags text.now) },
+    ghost few: { length (subtags text.now) < 2 ^ 64 },
+}
+
+impl<'a> AttributesIter<'a> {
+    ghost use Rattle.langtag_unicode.specs.Text.{attributes_left};
+
+    /// The distinct subtags of a text.
+    #[tactic(auto, using(crate::proofs::SubtagTexts::few_subtags))]
+    pub(crate) fn new(text: &'a str) -> Self
+        ensures { attributes_left result ≡ spec.first_after [] (subtags text.now) }
+    {
+        AttributesIter {
+            text,
+            passed: 0,
+            rest: Subtags::new(text),
+        }
+    }
+}
+
+impl Clone for AttributesIter<'_> {
+    ghost use Rattle.langtag_unicode.specs.Text.{attributes_left};
+
+    ghost is_clone = { λ walk copy. attributes_left copy ≡ attributes_left walk };
+
+    ghost is_infallible = { λ _. ⊤ };
+
+    fn clone(&self) -> Result<Self, AllocError> {
+        let rest = self.rest.clone()?;
+        Ok(AttributesIter {
+            text: self.text,
+            passed: self.passed,
+            rest,
+        })
+    }
+}
+
+impl<'a> Iterator for AttributesIter<'a> {
+    ghost use Rattle.langtag_unicode.specs.Text.{attributes_left};
+
+    type Item = &'a str;
+
+    ghost next_gives = { YieldsFirstRef attributes_left };
+
+    ghost remaining = { item_count attributes_left };
+
+    fn next(&mut self) -> Option<&'a str> {
+        while let Some(attribute) = self.rest.next() {
+            let is_repeated = is_among_first(self.text, self.passed, attribute);
+            self.passed += 1;
+            if !is_repeated {
+                return Some(attribute);
+            }
+        }
+        None
+    }
+}

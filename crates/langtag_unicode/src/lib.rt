@@ -1,0 +1,23 @@
+//! What the extensions of Unicode say: the attributes and keywords of `u` (RFC 6067) and the language and fields of `t` (RFC 6497),
+//! as UTS #35, part 1, has them.
+//!
+//! ```
+//! use langtag::LangTag;
+//! use langtag_unicode::{keyword, transform};
+//!
+//! keyword(LangTag::new("ar-u-ca-islamic-civil-nu-latn")?, "ca"); // Some("islamic-civil")
+//! transform(LangTag::new("und-t-ja-latn-m0-hepburn")?).and_then(|it| it.language()); // Some("ja-latn")
+//! ```
+#![tactic(auto)]
+
+mod attributes_iter;
+mod keys;
+mod keywords_iter;
+mod subtags;
+mod transformation;
+mod unicode_extension;
+
+pub use attributes_iter::AttributesIter;
+pub use keywords_iter::KeywordsIter;
+pub use transformation::{Transformation, transform};
+pub use unicode_extension::{KeyValue, attributes, keyword, keywords};

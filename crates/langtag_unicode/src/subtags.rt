@@ -1,0 +1,117 @@
+//! The subtags of an extension, as one text that is taken apart from its front.
+ghost use Rattle.std.specs.Prelude.{◌≡◌, ◌∷◌, [], take};
+ghost use Rattle.std.specs.List.{list_any};
+ghost use Rattle.std.specs.Option.{option_map};
+ghost use Rattle.langtag.specs.Part.{PartOf};
+ghost use Rattle.langtag.specs.Text.{lang_tag_text};
+ghost use Rattle.langtag_scan.specs.Case.{are_alike};
+ghost use Rattle.langtag_scan.specs.Subtags.{join, segments, segments_left, subtags};
+ghost use Rattle.langtag_extension.specs.Text.{singleton_byte};
+ghost use Rattle.langtag_unicode.specs.Keys.{length_with_hyphens, opens};
+ghost use Rattle.langtag_unicode.specs.Keywords as spec;
+ghost use Rattle.langtag_unicode.specs.Transform.{some_text};
+
+use crate::keys::Keys;
+use langtag::{LangTag, Singleton, Subtags, case_insensitive_eq, segment_end};
+
+/// Returns the subtags of the first extension of a singleton, joined: nothing where there is no such extension.
+pub(crate) fn extension_text<'a>(tag: LangTag<'a>, singleton: Singleton) -> &'a str
+    ensures { PartOf (lang_tag_text tag.entry) (spec.subtags_of (singleton_byte singleton)) [] (subtags result.now) }
+{
+    match tag.extensions().get(singleton) {
+        Some(extension) => &extension.as_str()[2..],
+        None => "",
+    }
+}
+
+/// Returns the subtags of the first extension `u` of a tag, joined.
+pub(crate) fn unicode_text<'a>(tag: LangTag<'a>) -> &'a str
+    ensures { PartOf (lang_tag_text tag.entry) (spec.subtags_of 117) [] (subtags result.now) }
+{
+    match Singleton::new(b'u') {
+        Ok(singleton) => extension_text(tag, singleton),
+        Err(_) => "",
+    }
+}
+
+/// Returns a text that is to be taken apart: none where it has no subtags.
+pub(crate) fn nonempty(text: &str) -> Option<&str>
+    ensures same_text { option_map (λ t. t.now) result ≡ some_text text.now }
+    ensures segments { segments_left result ≡ subtags text.now }
+{
+    if text.is_empty() {
+        return None;
+    }
+    Some(text)
+}
+
+/// Returns the first subtag of a text, and what stands after it and a hyphen, where there is more.
+pub(crate) fn split_first(text: &str) -> (&str, Option<&str>)
+    ensures { segments text.now ≡ result.0.now ∷ segments_left result.1 }
+{
+    let end = segment_end(text.as_bytes(), 0);
+    if end == text.len() {
+        return (text, None);
+    }
+    (&text[..end], Some(&text[end + 1..]))
+}
+
+/// Returns what stands before the first key, as one text.
+#[tactic(auto, using(crate::proofs::SubtagTexts::cut_before_key))]
+pub(crate) fn before_key<'a>(rest: Option<&'a str>, keys: Keys) -> &'a str
+    ensures { result.now ≡ join (spec.before_key (opens keys) (segments_left rest.entry)) }
+{
+    match rest {
+        Some(text) => cut_before_key(text, keys),
+        None => "",
+    }
+}
+
+/// Returns what stands before the first key of a text.
+#[tactic(auto, using(crate::proofs::SubtagTexts::cut_before_key))]
+fn cut_before_key(text: &str, keys: Keys) -> &str
+    ensures { result.now ≡ join (spec.before_key (opens keys) (subtags text.now)) }
+{
+    let len = len_before_key(text, keys);
+    &text[..len.saturating_sub(1)]
+}
+
+/// Returns how many bytes the subtags before the first key take, each with a hyphen after it.
+#[tactic(auto, using(crate::proofs::SubtagTexts::counted_before_key))]
+fn len_before_key(text: &str, keys: Keys) -> usize
+    ensures { result ≡ length_with_hyphens (spec.before_key (opens keys) (subtags text.now)) }
+{
+    let mut len = 0;
+    for subtag in Subtags::new(text) {
+        if keys.has(subtag) {
+            return len;
+        }
+        len += subtag.len() + 1;
+    }
+    len
+}
+
+/// Returns whether a subtag is equal, but for case, to one of the first so many of a text.
+pub(crate) fn is_among_first(text: &str, count: usize, subtag: &str) -> bool
+    ensures { result ≡ list_any (are_alike subtag.now) (take count (subtags text.now)) }
+{
+    Subtags::new(text).take(count).any(|earlier| case_insensitive_eq(
+        subtag.as_bytes(),
+        earlier.as_bytes(),
+    ))
+}
+
+/// Returns the value of a key among subtags.
+pub(crate) fn value_in<'a>(text: &'a str, keys: Keys, key: &str) -> Option<&'a str>
+    ensures { option_map (λ v. v.now) result ≡ option_map join (spec.value_of (opens keys) key.now (subtags text.now)) }
+{
+    let mut rest = nonempty(text);
+    while let Some(text) = rest {
+        let (subtag, after) = split_first(text);
+        if keys.has(subtag) && case_insensitive_eq(subtag.as_bytes(), key.as_bytes()) {
+            return Some(before_key(after, keys));
+        }
+        rest = after;
+    }
+    None
+}

@@ -1,0 +1,76 @@
+//! The extension `t` of a tag: how its text was transformed.
+ghost use Rattle.std.specs.Prelude.{◌≡◌, ℕ, List, None, IsTrue};
+ghost use Rattle.std.specs.Option.{option_map};
+ghost use Rattle.langtag.specs.Part.{PartOf};
+ghost use Rattle.langtag.specs.Text.{lang_tag_text};
+ghost use Rattle.langtag_extension.specs.Spelling.{find_extension};
+ghost use Rattle.langtag_scan.specs.Case.{Alike};
+ghost use Rattle.langtag_scan.specs.Subtags.{join};
+ghost use Rattle.langtag_unicode.specs.Keywords as keywords;
+ghost use Rattle.langtag_unicode.specs.Text.{keywords_left, transformation_subtags};
+ghost use Rattle.langtag_unicode.specs.Transform as spec;
+
+use crate::keys::Keys;
+use crate::keywords_iter::KeywordsIter;
+use crate::subtags::{before_key, extension_text, nonempty, value_in};
+use langtag::{LangTag, Singleton};
+
+/// The extension `t` of a tag (RFC 6497 section 2.2): what the text was before it was transformed, and how it was transformed.
+///
+/// ```
+/// use langtag::LangTag;
+/// use langtag_unicode::transform;
+///
+/// let tag = LangTag::new("und-Cyrl-t-und-latn-m0-ungegn-2007")?;
+/// let transform = transform(tag).ok_or("no such extension")?;
+/// transform.language(); // Some("und-latn")
+/// transform.field("M0"); // Some("ungegn-2007")
+/// transform.field("d0"); // None
+/// ```
+#[derive(Clone, Copy, Debug, Drop)]
+pub struct Transformation<'a> {
+    text: &'a str,
+}
+
+/// Returns the first extension `t` of a tag (RFC 6497 section 2.2), None where there is none.
+pub fn transform<'a>(tag: LangTag<'a>) -> Option<Transformation<'a>>
+    ensures first { PartOf (lang_tag_text tag.entry) (λ r. option_map (λ e. e.subtags) (find_extension 116 r.extensions)) None (option_map transformation_subtags result) }
+
+    ensures cloned { (transformation copy : Transformation) → ⟦<Transformation<'a> as Clone>⟧.is_clone transformation copy → copy ≡ transformation }
+    ensures clone_succeeds { (transformation : Transformation) → ⟦<Transformation<'a> as Clone>⟧.is_infallible transformation }
+{
+    let singleton = Singleton::new(b't').ok()?;
+    let text = nonempty(extension_text(tag, singleton))?;
+    Some(Transformation { text })
+}
+
+impl<'a> Transformation<'a> {
+    /// Returns the language before the first field, a slice of the tag: `ja-latn` of `und-t-ja-latn-m0-hepburn`, and None of
+    /// `und-t-m0-hepburn`. It need not be a tag: `abcd-efgh-ijkl` stands in `und-t-abcd-efgh-ijkl`.
+    pub fn language(&self) -> Option<&'a str>
+        ensures { option_map (λ text. text.now) result ≡ spec.language_of (transformation_subtags self.now) }
+    {
+        nonempty(before_key(nonempty(self.text), Keys::Transform))
+    }
+
+    /// Returns the value of a field, a slice of the tag: `hepburn` of `und-t-ja-m0-hepburn` for `m0`. Keys are compared without regard
+    /// to case, and of a repeated one the first counts. It is None where the field does not stand, and empty where it has no value.
+    #[tactic(auto, using(crate::proofs::WalkLaws::keyword_laws))]
+    pub fn field(&self, key: &str) -> Option<&'a str>
+        ensures value { option_map (λ text. text.now) result ≡ option_map join (keywords.value_of spec.is_field_key key.now (transformation_subtags self.now)) }
+        ensures any_case { (k l : List ℕ) (subtags : List (List ℕ)) → Alike k l → keywords.value_of spec.is_field_key k subtags ≡ keywords.value_of spec.is_field_key l subtags }
+    {
+        value_in(self.text, Keys::Transform, key)
+    }
+
+    /// Returns the fields in the order of the tag, each key once, with its first value: `m0` and `hepburn` of
+    /// `und-t-ja-m0-hepburn`.
+    #[tactic(auto, using(crate::proofs::WalkLaws::keyword_laws))]
+    pub fn fields(&self) -> KeywordsIter<'a>
+        ensures list { keywords_left result ≡ keywords.keywords_of spec.is_field_key (transformation_subtags self.now) }
+        ensures listed { (k : List ℕ) (subtags : List (List ℕ)) → IsTrue (spec.is_field_key k)
+            → keywords.value_among k (keywords.keywords_of spec.is_field_key subtags) ≡ option_map join (keywords.value_of spec.is_field_key k subtags) }
+    {
+        KeywordsIter::new(self.text, Keys::Transform)
+    }
+}

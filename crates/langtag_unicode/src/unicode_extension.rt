@@ -1,0 +1,100 @@
+//! The extension `u` of a tag: what it says of the locale.
+ghost use Rattle.std.specs.Prelude.{◌≡◌, ℕ, List, [], None, IsTrue};
+ghost use Rattle.std.specs.Option.{option_map};
+ghost use Rattle.langtag.specs.Part.{PartOf};
+ghost use Rattle.langtag.specs.Text.{lang_tag_text};
+ghost use Rattle.langtag_scan.specs.Case.{Alike};
+ghost use Rattle.langtag_scan.specs.Subtags.{join};
+ghost use Rattle.langtag_unicode.specs.Keywords as spec;
+ghost use Rattle.langtag_unicode.specs.Text.{attributes_left, keywords_left};
+
+use crate::attributes_iter::AttributesIter;
+use crate::keys::Keys;
+use crate::keywords_iter::KeywordsIter;
+use crate::subtags::{before_key, nonempty, unicode_text, value_in};
+use langtag::LangTag;
+
+/// A keyword of the extension `u` (RFC 6067 section 2.1), or a field of the extension `t` (RFC 6497 section 2.2), as slices of the
+/// tag: the key `ca` and the value `islamic-civil` of `ar-u-ca-islamic-civil`.
+#[derive(Clone, Copy, Debug, Drop)]
+pub struct KeyValue<'a> {
+    /// The key, as it is written.
+    pub key: &'a str,
+    /// The value, with its hyphens. It is empty where the key stands alone, which means `true`.
+    pub value: &'a str,
+}
+
+/// Returns the value of a key of the extension `u` (RFC 6067 section 2.1), a slice of the tag: `islamic-civil` of
+/// `ar-u-ca-islamic-civil-nu-latn` for `ca`. Keys are compared without regard to case.
+///
+/// The value is empty where the key stands alone, as that of `kn` in `de-u-kn`; it means `true`. It is None where the key does not
+/// stand, or is no key, or the tag has no such extension. Of a repeated key the first counts.
+///
+/// ```
+/// use langtag::LangTag;
+/// use langtag_unicode::keyword;
+///
+/// let tag = LangTag::new("ar-EG-u-ca-islamic-civil-kn")?;
+/// keyword(tag, "CA"); // Some("islamic-civil")
+/// keyword(tag, "kn"); // Some("")
+/// keyword(tag, "nu"); // None
+/// ```
+#[tactic(auto, using(crate::proofs::WalkLaws::keyword_laws))]
+pub fn keyword<'a>(tag: LangTag<'a>, key: &str) -> Option<&'a str>
+    ensures value { PartOf (lang_tag_text tag.entry) (λ r. option_map join (spec.value_of spec.is_key key.now (spec.subtags_of 117 r))) None (option_map (λ v. v.now) result) }
+
+    ensures any_case { (k l : List ℕ) (subtags : List (List ℕ)) → Alike k l → spec.value_of spec.is_key k subtags ≡ spec.value_of spec.is_key l subtags }
+{
+    value_in(unicode_text(tag), Keys::Unicode, key)
+}
+
+/// Returns the keywords of the extension `u` (RFC 6067 section 2.1) in the order of the tag, each key once, with its first value.
+/// A tag without that extension has none.
+///
+/// A key is compared with the subtags before it, so all steps together take time with the square of their number.
+///
+/// ```
+/// use langtag::LangTag;
+/// use langtag_unicode::keywords;
+///
+/// let mut walk = keywords(LangTag::new("de-u-kn-ca-buddhist-kn-false")?);
+/// walk.next().map(|keyword| (keyword.key, keyword.value)); // Some(("kn", ""))
+/// walk.next().map(|keyword| (keyword.key, keyword.value)); // Some(("ca", "buddhist"))
+/// walk.next().is_none(); // true
+/// ```
+#[tactic(auto, using(crate::proofs::WalkLaws::keyword_laws))]
+pub fn keywords<'a>(tag: LangTag<'a>) -> KeywordsIter<'a>
+    ensures list { PartOf (lang_tag_text tag.entry) (λ r. spec.keywords_of spec.is_key (spec.subtags_of 117 r)) [] (keywords_left result) }
+    ensures listed { (k : List ℕ) (subtags : List (List ℕ)) → IsTrue (spec.is_key k)
+        → spec.value_among k (spec.keywords_of spec.is_key subtags) ≡ option_map join (spec.value_of spec.is_key k subtags) }
+
+    ensures cloned { (walk copy : KeywordsIter) → ⟦<KeywordsIter<'a> as Clone>⟧.is_clone walk copy → keywords_left copy ≡ keywords_left walk }
+    ensures clone_succeeds { (walk : KeywordsIter) → ⟦<KeywordsIter<'a> as Clone>⟧.is_infallible walk }
+    ensures cloned_pair { (pair copy : KeyValue) → ⟦<KeyValue<'a> as Clone>⟧.is_clone pair copy → copy ≡ pair }
+    ensures clone_succeeds_pair { (pair : KeyValue) → ⟦<KeyValue<'a> as Clone>⟧.is_infallible pair }
+{
+    KeywordsIter::new(unicode_text(tag), Keys::Unicode)
+}
+
+/// Returns the attributes of the extension `u` (RFC 6067 section 2.1), which stand before its first key, in the order of the tag.
+/// Each comes once, whatever its case.
+///
+/// An attribute is compared with those before it, so all steps together take time with the square of their number.
+///
+/// ```
+/// use langtag::LangTag;
+/// use langtag_unicode::attributes;
+///
+/// let mut walk = attributes(LangTag::new("de-u-attr-foo-ATTR-ca-buddhist")?);
+/// walk.next(); // Some("attr")
+/// walk.next(); // Some("foo")
+/// walk.next(); // None
+/// ```
+pub fn attributes<'a>(tag: LangTag<'a>) -> AttributesIter<'a>
+    ensures list { PartOf (lang_tag_text tag.entry) (λ r. spec.attributes_of (spec.subtags_of 117 r)) [] (attributes_left result) }
+
+    ensures cloned { (walk copy : AttributesIter) → ⟦<AttributesIter<'a> as Clone>⟧.is_clone walk copy → attributes_left copy ≡ attributes_left walk }
+    ensures clone_succeeds { (walk : AttributesIter) → ⟦<AttributesIter<'a> as Clone>⟧.is_infallible walk }
+{
+    AttributesIter::new(before_key(nonempty(unicode_text(tag)), Keys::Unicode))
+}

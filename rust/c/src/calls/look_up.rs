@@ -1,0 +1,119 @@
+// Made by rust/erase from crates/langtag_c/src/look_up.rt. Change that file, not this one.
+
+//! The tag that look-up finds for an Accept-Language header (RFC 9110 section 12.5.4, RFC 4647 section 3.4), without memory.
+
+use crate::calls::accepted::number_of;
+use crate::calls::span::Span;
+use crate::calls::spanned_tags::{bytes_in, tag_in, SpannedTags};
+use crate::matching::{element_at, is_empty_element, ElementPart, LanguageRange};
+use crate::scan::case_insensitive_eq;
+
+/// Looks up a tag for an Accept-Language header, among tags that spans of a text are, and refuses a header with a bad element. 0 where
+/// each element is good: then `index` is that of the tag, or the number of the spans where look-up finds none. 2 where the language
+/// range of the first bad element is bad, 3 where its weight is: then `bad` is where it stands between its commas.
+pub fn langtag_tag_for_header(
+    header: &[u8],
+    bytes: &[u8],
+    tags: &[Span],
+    index: &mut usize,
+    bad: &mut Span,
+) -> u32 {
+    if let Some((item, part)) = first_bad(header) {
+        *index = tags.len();
+        *bad = item;
+        return number_of(&part);
+    }
+    *index = langtag_tag_for_header_lenient(header, bytes, tags);
+    *bad = Span {
+        start: header.len(),
+        len: 0,
+    };
+    0
+}
+
+/// Looks up a tag for an Accept-Language header, among tags that spans of a text are, and passes bad elements over. Returns the index of
+/// the tag, or the number of the spans where look-up finds none. A span that is no tag, or reaches out of the text, is passed over.
+#[inline]
+pub fn langtag_tag_for_header_lenient(header: &[u8], bytes: &[u8], tags: &[Span]) -> usize {
+    let spanned = SpannedTags {
+        text: bytes,
+        spans: tags,
+    };
+    heaviest_found(header, &spanned).unwrap_or(tags.len())
+}
+
+/// Returns the index of the tag that the heaviest of those elements finds that find one, and the first of these.
+fn heaviest_found(header: &[u8], tags: &SpannedTags<'_>) -> Option<usize> {
+    let mut found = None;
+    let mut weight = 0;
+    for item in header.split(|byte| is_comma(*byte)) {
+        let Ok(element) = element_at(item) else {
+            continue;
+        };
+        if element.weighted.weight <= weight {
+            continue;
+        }
+        if let Some(index) = tag_for(element.weighted.range, tags) {
+            found = Some(index);
+            weight = element.weighted.weight;
+        }
+    }
+    found
+}
+
+/// Returns the index of the tag that a range finds.
+fn tag_for(range: LanguageRange<'_>, tags: &SpannedTags<'_>) -> Option<usize> {
+    for fallback in range.fallbacks() {
+        if let Some(index) = index_alike(fallback.as_str().as_bytes(), tags) {
+            return Some(index);
+        }
+    }
+    None
+}
+
+/// Returns the index of the first tag that is a text, in any case.
+#[inline]
+fn index_alike(text: &[u8], tags: &SpannedTags<'_>) -> Option<usize> {
+    first_alike(tags.text, tags.spans, text)
+}
+
+/// Returns the index of the first of some spans of a text that is a tag, and another text in any case.
+#[inline]
+fn first_alike(bytes: &[u8], spans: &[Span], text: &[u8]) -> Option<usize> {
+    spans
+        .iter()
+        .position(|span| is_tag_alike(bytes, *span, text))
+}
+
+/// Returns whether what a span is, is a tag, and a text in any case.
+#[inline]
+fn is_tag_alike(bytes: &[u8], span: Span, text: &[u8]) -> bool {
+    case_insensitive_eq(bytes_in(bytes, span), text) && tag_in(bytes, span).is_some()
+}
+
+/// Returns the first bad element of a header, and which part of it is bad.
+fn first_bad(header: &[u8]) -> Option<(Span, ElementPart)> {
+    let mut start = 0;
+    for item in header.split(|byte| is_comma(*byte)) {
+        let len = item.len();
+        if let Some(part) = bad_part(item) {
+            return Some((Span { start, len }, part));
+        }
+        start += len + 1;
+    }
+    None
+}
+
+/// Returns which part of an item is bad: None where it is empty, or an element.
+#[inline]
+fn bad_part(item: &[u8]) -> Option<ElementPart> {
+    match element_at(item) {
+        Err(part) if !is_empty_element(item) => Some(part),
+        _ => None,
+    }
+}
+
+#[inline]
+fn is_comma(byte: u8) -> bool {
+    byte == b','
+}

@@ -1,0 +1,83 @@
+// Made by rust/erase from crates/langtag_choice/src/best.rt. Change that file, not this one.
+
+//! The tag that a reader wants.
+
+use crate::choice::by_ranges::first_by_ranges;
+use crate::choice::by_tags::first_by_tags;
+use crate::choice::candidate::index_of;
+use crate::choice::range_list::RangeList;
+use crate::choice::refused::is_refused;
+use crate::choice::tag_list::{TagList, Tags};
+#[cfg(feature = "alloc")]
+use crate::matching::AcceptLanguage;
+use crate::matching::LanguageRange;
+use crate::tag::LangTag;
+
+/// Returns the index of the tag that the reader wants who sent an Accept-Language header, if one of the tags is anything to
+/// them: 2 for `zh-TW,zh;q=0.9,en;q=0.8` and the tags `en`, `zh-Hans` and `zh-Hant`.
+///
+/// ```
+/// # fn main() -> Result<(), Box<dyn std::error::Error>> {
+/// use langtag::LangTag;
+/// use langtag::choice::best_for_header;
+///
+/// let tags = [LangTag::new("en")?, LangTag::new("zh-Hans")?, LangTag::new("zh-Hant")?];
+/// assert_eq!(best_for_header(b"zh-TW,zh;q=0.9,en;q=0.8", &tags), Some(2));
+/// # Ok(())
+/// # }
+/// ```
+#[inline]
+pub fn best_for_header(header: &[u8], tags: &[LangTag<'_>]) -> Option<usize> {
+    best_among(header, &Tags(tags))
+}
+
+/// Returns the index of the tag that a reader wants, as [`best_for_header`] does, for a header that was read by the letter of
+/// RFC 9110. Ranges of weight 0 are not among those that it accepts, so no tag is refused.
+#[cfg(feature = "alloc")]
+#[inline]
+pub fn best_for_accept_language(
+    accepted: &AcceptLanguage<'_>,
+    tags: &[LangTag<'_>],
+) -> Option<usize> {
+    best_among(accepted.ranges(), &Tags(tags))
+}
+
+/// Returns the index of the tag that a reader wants, as [`best_for_header`] does, who names language ranges of which the first
+/// is wanted most: 1 for `nn` and `de`, and the tags `en` and `nb`. It is meant for basic ranges.
+#[inline]
+pub fn best_for_ranges(ranges: &[LanguageRange<'_>], tags: &[LangTag<'_>]) -> Option<usize> {
+    best_among(ranges, &Tags(tags))
+}
+
+/// Returns the index of the tag that a reader wants, as [`best_for_header`] does, for ranges and among tags that stand
+/// elsewhere than in a header and a slice.
+#[inline]
+pub fn best_among<'a, R: RangeList<'a>, T: TagList>(ranges: R, tags: &T) -> Option<usize> {
+    best(ranges, tags)
+}
+
+/// Returns the index of the tag that is chosen. Where what is first of all is refused or no tag, the tags are gone through one by one.
+fn best<'a, R: RangeList<'a>, T: TagList>(ranges: R, tags: &T) -> Option<usize> {
+    let (first, has_zero) = first_by_ranges(ranges, tags);
+    let Some(found) = first else {
+        return None;
+    };
+    if is_chosen(ranges, tags, found.index, has_zero) {
+        return Some(found.index);
+    }
+    index_of(first_by_tags(ranges, tags))
+}
+
+/// Returns whether a tag stands at an index, which is not refused. Where no range has the weight 0, none is.
+#[inline]
+fn is_chosen<'a, R: RangeList<'a>, T: TagList>(
+    ranges: R,
+    tags: &T,
+    index: usize,
+    has_zero: bool,
+) -> bool {
+    match tags.tag_at(index) {
+        Some(tag) => !has_zero || !is_refused(ranges, tag.as_bytes()),
+        None => false,
+    }
+}

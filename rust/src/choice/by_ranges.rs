@@ -1,0 +1,46 @@
+// Made by rust/erase from crates/langtag_choice/src/by_ranges.rt. Change that file, not this one.
+
+//! The choice range by range, which passes over lighter ranges where a heavier one has a tag.
+
+use crate::choice::candidate::Candidate;
+use crate::choice::improve::{improve, limit};
+use crate::choice::range_list::RangeList;
+use crate::choice::tag_list::TagList;
+use crate::choice::wish::Wish;
+use crate::matching::WantedRange;
+
+/// Returns the first candidate of all, whoever is refused or no tag, and whether a range has the weight 0.
+pub(crate) fn first_by_ranges<'a, 't, R: RangeList<'a>, T: TagList>(
+    ranges: R,
+    tags: &'t T,
+) -> (Option<Candidate<'a, 't>>, bool) {
+    let mut first = None;
+    let mut has_zero = false;
+    let mut place = 0;
+    let mut left = ranges;
+    while let Some((wanted, rest)) = left.split_range() {
+        has_zero = has_zero || wanted.weight == 0;
+        improve_for_range(&mut first, wanted, place, tags);
+        place += 1;
+        left = rest;
+    }
+    (first, has_zero)
+}
+
+/// Puts the first candidate for a range in place of what was found, if it goes before.
+fn improve_for_range<'a, 't, T: TagList>(
+    found: &mut Option<Candidate<'a, 't>>,
+    wanted: WantedRange<'a>,
+    place: usize,
+    tags: &'t T,
+) {
+    if limit(found, wanted.weight, place) == 0 {
+        return;
+    }
+    let Some(wish) = Wish::new(wanted, place) else {
+        return;
+    };
+    for index in 0..tags.count() {
+        improve(found, &wish, tags.bytes_at(index), index);
+    }
+}

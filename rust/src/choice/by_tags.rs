@@ -1,0 +1,78 @@
+// Made by rust/erase from crates/langtag_choice/src/by_tags.rt. Change that file, not this one.
+
+//! The choice tag by tag, which asks of each tag once whether it is one, and whether it is refused.
+
+use crate::choice::candidate::Candidate;
+use crate::choice::improve::{improve, limit};
+use crate::choice::range_list::RangeList;
+use crate::choice::refused::is_refused;
+use crate::choice::tag_list::TagList;
+use crate::choice::wish::Wish;
+use crate::matching::WantedRange;
+
+/// Returns the first candidate among the tags that are not refused.
+#[inline]
+pub(crate) fn first_by_tags<'a, 't, R: RangeList<'a>, T: TagList>(
+    ranges: R,
+    tags: &'t T,
+) -> Option<Candidate<'a, 't>> {
+    let mut first = None;
+    for index in 0..tags.count() {
+        improve_at(&mut first, ranges, tags, index);
+    }
+    first
+}
+
+/// Puts the first candidate that the tag at an index is in place of what was found, if it is not refused and goes before.
+#[inline]
+fn improve_at<'a, 't, R: RangeList<'a>, T: TagList>(
+    found: &mut Option<Candidate<'a, 't>>,
+    ranges: R,
+    tags: &'t T,
+    index: usize,
+) {
+    if is_open(ranges, tags, index) {
+        improve_for_tag(found, ranges, tags.bytes_at(index), index);
+    }
+}
+
+/// Returns whether a tag stands at an index, which is not refused.
+#[inline]
+fn is_open<'a, R: RangeList<'a>, T: TagList>(ranges: R, tags: &T, index: usize) -> bool {
+    match tags.tag_at(index) {
+        Some(tag) => !is_refused(ranges, tag.as_bytes()),
+        None => false,
+    }
+}
+
+/// Puts the first candidate that a tag is in place of what was found, if it goes before.
+fn improve_for_tag<'a, 't, R: RangeList<'a>>(
+    found: &mut Option<Candidate<'a, 't>>,
+    ranges: R,
+    tag: &'t [u8],
+    index: usize,
+) {
+    let mut place = 0;
+    let mut left = ranges;
+    while let Some((wanted, rest)) = left.split_range() {
+        improve_for_pair(found, wanted, place, tag, index);
+        place += 1;
+        left = rest;
+    }
+}
+
+/// Puts the candidate that a tag is for a range in place of what was found, if it goes before.
+fn improve_for_pair<'a, 't>(
+    found: &mut Option<Candidate<'a, 't>>,
+    wanted: WantedRange<'a>,
+    place: usize,
+    tag: &'t [u8],
+    index: usize,
+) {
+    if limit(found, wanted.weight, place) == 0 {
+        return;
+    }
+    if let Some(wish) = Wish::new(wanted, place) {
+        improve(found, &wish, tag, index);
+    }
+}

@@ -1,0 +1,109 @@
+// Made by rust/erase from crates/langtag_choice/src/candidate.rt. Change that file, not this one.
+
+//! A tag that may serve a range.
+
+use crate::choice::likely_region::unlikely;
+use crate::choice::nearness::kept;
+use crate::likely::TagFields;
+use core::cmp::Ordering;
+
+/// How a tag serves a range: it is nearer than 16, or nearer than 50, or look-up alone finds it. The first is the best.
+#[derive(Clone, Copy, PartialEq, Eq, PartialOrd, Ord)]
+pub(crate) enum Service {
+    Near,
+    Acceptable,
+    LookUp,
+}
+
+impl Service {
+    /// Returns how a tag serves a range at a distance, which is 50 if look-up alone finds it.
+    #[inline]
+    pub(crate) fn at(distance: u8) -> Service {
+        if distance < 16 {
+            Service::Near
+        } else if distance < 50 {
+            Service::Acceptable
+        } else {
+            Service::LookUp
+        }
+    }
+
+    /// Returns the least distance at which a tag serves a range so.
+    #[inline]
+    pub(crate) fn least_distance(self) -> u8 {
+        match self {
+            Service::Near => 0,
+            Service::Acceptable => 16,
+            Service::LookUp => 50,
+        }
+    }
+}
+
+/// What is compared first. Of two the lesser is the better, by the first field in which they differ.
+#[derive(Clone, Copy, PartialEq, Eq, PartialOrd, Ord)]
+pub(crate) struct Rank {
+    pub(crate) service: Service,
+    /// What the weight of the range lacks to 1, in thousandths.
+    pub(crate) lack: u32,
+    /// How many ranges stand before it.
+    pub(crate) place: usize,
+    /// How far the tag is from it, and 50 for each tag that look-up alone finds.
+    pub(crate) distance: u8,
+}
+
+impl Rank {
+    /// Returns whether the range is heavier than one at a place, or as heavy and stands before it.
+    #[inline]
+    pub(crate) fn is_wanted_more(self, lack: u32, place: usize) -> bool {
+        self.lack < lack || (self.lack == lack && self.place < place)
+    }
+}
+
+/// A tag that may serve a range, at an index, with its matching form.
+#[derive(Clone, Copy)]
+pub(crate) struct Candidate<'a, 't> {
+    pub(crate) rank: Rank,
+    pub(crate) range: &'a [u8],
+    pub(crate) tag: &'t [u8],
+    pub(crate) form: Option<TagFields<'t>>,
+    pub(crate) index: usize,
+}
+
+impl Candidate<'_, '_> {
+    /// Returns whether this goes before another.
+    pub(crate) fn goes_before(&self, other: &Candidate<'_, '_>) -> bool {
+        match self.rank.cmp(&other.rank) {
+            Ordering::Less => true,
+            Ordering::Greater => false,
+            Ordering::Equal => self.breaks_tie(other),
+        }
+    }
+
+    /// Returns whether this goes before another of the same rank: by what look-up loses, then by the likely region, then by the index.
+    fn breaks_tie(&self, other: &Candidate<'_, '_>) -> bool {
+        let (lost, others_lost) = (self.lost(), other.lost());
+        if lost != others_lost {
+            return lost < others_lost;
+        }
+        let (unlikely, others) = (unlikely(self.form), unlikely(other.form));
+        if unlikely != others {
+            return unlikely < others;
+        }
+        self.index < other.index
+    }
+
+    /// Returns how many bytes look-up takes from the range to find the tag, and all where it does not.
+    #[inline]
+    fn lost(&self) -> usize {
+        self.range.len().saturating_sub(kept(self.range, self.tag))
+    }
+}
+
+/// Returns the index of the tag that was found.
+#[inline]
+pub(crate) fn index_of(found: Option<Candidate<'_, '_>>) -> Option<usize> {
+    match found {
+        Some(found) => Some(found.index),
+        None => None,
+    }
+}

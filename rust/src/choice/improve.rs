@@ -1,0 +1,86 @@
+// Made by rust/erase from crates/langtag_choice/src/improve.rt. Change that file, not this one.
+
+//! What was found, made better by one more tag.
+
+use crate::choice::candidate::{Candidate, Rank, Service};
+use crate::choice::nearness::measured;
+use crate::choice::wish::Wish;
+
+/// Returns the distance below which a tag may be better than what was found, for a range with a weight at a place: 0 where none
+/// is, and 51 where it may be one that look-up alone finds.
+pub(crate) fn limit(found: &Option<Candidate<'_, '_>>, weight: u32, place: usize) -> u8 {
+    match found {
+        Some(found) if found.rank.is_wanted_more(lack(weight), place) => {
+            found.rank.service.least_distance()
+        }
+        _ => 51,
+    }
+}
+
+/// Returns what a weight lacks to 1.
+#[inline]
+fn lack(weight: u32) -> u32 {
+    1000_u32.saturating_sub(weight)
+}
+
+/// Puts the text at an index in place of what was found, if it may serve a range and goes before. That it is a tag is not tested.
+#[inline]
+pub(crate) fn improve<'a, 't>(
+    found: &mut Option<Candidate<'a, 't>>,
+    wish: &Wish<'a>,
+    tag: &'t [u8],
+    index: usize,
+) {
+    if !wish.is_far_from(tag) {
+        improve_near(found, wish, tag, index);
+    }
+}
+
+/// Does the same by the distance. It stands apart, so that the first letters are tested in the loops over tags themselves.
+#[inline(never)]
+fn improve_near<'a, 't>(
+    found: &mut Option<Candidate<'a, 't>>,
+    wish: &Wish<'a>,
+    tag: &'t [u8],
+    index: usize,
+) {
+    let limit = limit(found, wish.weight, wish.place);
+    let Some(next) = as_candidate(limit, wish, tag, index) else {
+        return;
+    };
+    if is_first(&next, found) {
+        *found = Some(next);
+    }
+}
+
+/// Returns whether a candidate goes before what was found.
+#[inline]
+fn is_first(next: &Candidate<'_, '_>, found: &Option<Candidate<'_, '_>>) -> bool {
+    match found {
+        Some(found) => next.goes_before(found),
+        None => true,
+    }
+}
+
+/// Returns the text at an index as a candidate for a range, if it may serve it and is nearer than a limit.
+fn as_candidate<'a, 't>(
+    limit: u8,
+    wish: &Wish<'a>,
+    tag: &'t [u8],
+    index: usize,
+) -> Option<Candidate<'a, 't>> {
+    let near = measured(limit, wish, tag)?;
+    let rank = Rank {
+        service: Service::at(near.distance),
+        lack: lack(wish.weight),
+        place: wish.place,
+        distance: near.distance,
+    };
+    Some(Candidate {
+        rank,
+        range: wish.range,
+        tag,
+        form: near.form,
+        index,
+    })
+}

@@ -1,0 +1,38 @@
+// Made by rust/erase from crates/langtag_choice/src/likely_region.rt. Change that file, not this one.
+
+//! How unlikely the region of a tag is.
+
+use crate::likely::{suffices, TagFields};
+use crate::scan::case_insensitive_eq;
+
+/// Returns 0 for the form of a tag whose region is the likely one of its language and script, 1 for another that stands for many,
+/// and 2 for all others.
+#[inline]
+pub(crate) fn unlikely(form: Option<TagFields<'_>>) -> u32 {
+    match form {
+        Some(form) => unlikely_form(form),
+        None => 2,
+    }
+}
+
+#[inline]
+fn unlikely_form(form: TagFields<'_>) -> u32 {
+    if suffices(form, form.without_region()) {
+        0
+    } else if is_paradigm(form) {
+        1
+    } else {
+        2
+    }
+}
+
+#[inline]
+fn is_paradigm(form: TagFields<'_>) -> bool {
+    is_form(form, b"en", b"GB") || (is_form(form, b"es", b"419") || is_form(form, b"pt", b"PT"))
+}
+
+#[inline]
+fn is_form(form: TagFields<'_>, language: &[u8], region: &[u8]) -> bool {
+    case_insensitive_eq(language, form.language)
+        && (case_insensitive_eq(b"Latn", form.script) && case_insensitive_eq(region, form.region))
+}

@@ -1,0 +1,117 @@
+// Made by rust/erase from crates/langtag_choice/src/nearness.rt. Change that file, not this one.
+
+//! How near a tag is to a range.
+
+use crate::choice::rule_distance::language_distance;
+use crate::choice::tag_distance::places_distance;
+use crate::choice::wish::Wish;
+use crate::likely::{are_alike, completed, hyphened, matching_form, replaced_form, TagFields};
+
+/// How far a tag is from a range, and its matching form.
+#[derive(Clone, Copy)]
+pub(crate) struct Nearness<'t> {
+    pub(crate) distance: u8,
+    pub(crate) form: Option<TagFields<'t>>,
+}
+
+/// Returns how near a tag is to a range that it may serve, if it is nearer than a limit: at the distance 50 where look-up alone finds
+/// it.
+pub(crate) fn measured<'t>(limit: u8, wish: &Wish<'_>, tag: &'t [u8]) -> Option<Nearness<'t>> {
+    if let Some(near) = nearer_than(limit.min(50), wish, tag) {
+        return Some(near);
+    }
+    if limit <= 50 || kept(wish.range, tag) == 0 {
+        return None;
+    }
+    Some(Nearness {
+        distance: 50,
+        form: matching_form(tag),
+    })
+}
+
+/// Returns how near a tag is to a range (UTS #35, Language Matching), if it is nearer than a limit.
+fn nearer_than<'t>(limit: u8, wish: &Wish<'_>, tag: &'t [u8]) -> Option<Nearness<'t>> {
+    match (wish.form, replaced_form(tag)) {
+        (Some(desired), Some(supported)) => nearer_fields(limit, desired, supported),
+        _ => equal_text(limit, wish.range, tag),
+    }
+}
+
+/// Returns how near fields are that are still to be completed. Where the language alone is too far they are not.
+fn nearer_fields<'t>(
+    limit: u8,
+    desired: TagFields<'_>,
+    supported: TagFields<'t>,
+) -> Option<Nearness<'t>> {
+    let language = language_distance(desired, with_language(supported));
+    if language >= limit {
+        return None;
+    }
+    let form = completed(supported);
+    let distance = language + places_distance(desired, form);
+    if distance >= limit {
+        return None;
+    }
+    Some(Nearness {
+        distance,
+        form: Some(form),
+    })
+}
+
+/// Returns fields with the likely language where they have none.
+#[inline]
+fn with_language<'t>(fields: TagFields<'t>) -> TagFields<'t> {
+    if fields.language.is_empty() {
+        completed(fields)
+    } else {
+        fields
+    }
+}
+
+/// Returns how near a tag is to a range where one of them has no matching form.
+#[inline]
+fn equal_text<'t>(limit: u8, range: &[u8], tag: &'t [u8]) -> Option<Nearness<'t>> {
+    if limit == 0 || !are_alike(range, tag) {
+        return None;
+    }
+    Some(Nearness {
+        distance: 0,
+        form: matching_form(tag),
+    })
+}
+
+/// Returns how much of a range look-up keeps where it finds a tag.
+#[inline]
+pub(crate) fn kept(range: &[u8], tag: &[u8]) -> usize {
+    if is_fallback(range, tag) {
+        tag.len()
+    } else {
+        0
+    }
+}
+
+/// Returns whether a tag is a range, or what stands before one of its hyphens and does not end in a single character.
+fn is_fallback(range: &[u8], tag: &[u8]) -> bool {
+    starts(range, tag)
+        && (goes_on(&range[tag.len()..]) && (tag.len() == range.len() || !ends_in_single(tag)))
+}
+
+/// Returns whether a range begins like a tag.
+#[inline]
+fn starts(range: &[u8], tag: &[u8]) -> bool {
+    tag.len() <= range.len() && are_alike(&range[..tag.len()], tag)
+}
+
+/// Returns whether nothing follows, or a hyphen.
+#[inline]
+fn goes_on(rest: &[u8]) -> bool {
+    match rest {
+        [first, ..] => hyphened(*first) == b'-',
+        [] => true,
+    }
+}
+
+#[inline]
+fn ends_in_single(text: &[u8]) -> bool {
+    matches!(text, [_] | [.., b'-', _])
+}

@@ -1,0 +1,56 @@
+// Made by rust/erase from crates/langtag_choice/src/range_list.rt. Change that file, not this one.
+
+//! Language ranges for which a tag is chosen.
+
+use crate::matching::{split_wanted, LanguageRange, WantedRange, WeightedRange};
+
+/// Language ranges with their weights, in the order in which a reader names them: those of an Accept-Language header in a slice
+/// of bytes, and those in a slice of [`WeightedRange`] or of [`LanguageRange`]. A value is a walk over them, and takes no memory.
+///
+/// ```
+/// # fn main() -> Result<(), Box<dyn std::error::Error>> {
+/// use langtag::LangTag;
+/// use langtag::choice::best_for_ranges;
+/// use langtag::matching::LanguageRange;
+///
+/// let tags = [LangTag::new("en")?, LangTag::new("nb")?];
+/// assert_eq!(best_for_ranges(&[LanguageRange::new("nn")?], &tags), Some(1));
+/// # Ok(())
+/// # }
+/// ```
+pub trait RangeList<'a>: Copy {
+    /// Returns the first range and those that follow it, None where there is none left.
+    fn split_range(self) -> Option<(WantedRange<'a>, Self)>;
+}
+
+/// An Accept-Language header, which is read as `langtag::matching::wanted_ranges` reads it.
+impl<'a> RangeList<'a> for &'a [u8] {
+    #[inline]
+    fn split_range(self) -> Option<(WantedRange<'a>, &'a [u8])> {
+        split_wanted(self)
+    }
+}
+
+/// Ranges with their weights.
+impl<'a> RangeList<'a> for &'a [WeightedRange<'a>] {
+    fn split_range(self) -> Option<(WantedRange<'a>, &'a [WeightedRange<'a>])> {
+        let (first, rest) = self.split_first()?;
+        let wanted = WantedRange {
+            bytes: first.range.as_str().as_bytes(),
+            weight: first.weight,
+        };
+        Some((wanted, rest))
+    }
+}
+
+/// Ranges of which the first is wanted most.
+impl<'a> RangeList<'a> for &'a [LanguageRange<'a>] {
+    fn split_range(self) -> Option<(WantedRange<'a>, &'a [LanguageRange<'a>])> {
+        let (first, rest) = self.split_first()?;
+        let wanted = WantedRange {
+            bytes: first.as_str().as_bytes(),
+            weight: 1000,
+        };
+        Some((wanted, rest))
+    }
+}

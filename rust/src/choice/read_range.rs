@@ -1,0 +1,19 @@
+// Made by rust/erase from crates/langtag_choice/src/read_range.rt. Change that file, not this one.
+
+//! Texts of ranges in which `_` is read as `-`.
+
+use crate::likely::are_alike;
+
+/// Returns whether a range is `*`.
+#[inline]
+pub(crate) fn is_star(range: &[u8]) -> bool {
+    matches!(range, [b'*'])
+}
+
+/// Returns whether a tag is a range, or begins so and goes on with a hyphen.
+pub(crate) fn begins(range: &[u8], tag: &[u8]) -> bool {
+    if tag.len() < range.len() || !are_alike(range, &tag[..range.len()]) {
+        return false;
+    }
+    range.len() == tag.len() || tag[range.len()] == b'-'
+}

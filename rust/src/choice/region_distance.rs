@@ -1,0 +1,116 @@
+// Made by rust/erase from crates/langtag_choice/src/region_distance.rt. Change that file, not this one.
+
+//! The distance of regions: for some languages, by the sets in which they lie.
+
+use crate::choice::matching_tables as tables;
+use crate::likely::{index_of, TagFields};
+use crate::scan::case_insensitive_eq;
+
+/// Returns the distance of two regions, each that of a language.
+#[inline]
+pub(crate) fn region_distance(desired: TagFields<'_>, supported: TagFields<'_>) -> u8 {
+    if case_insensitive_eq(desired.region, supported.region) {
+        return 0;
+    }
+    if !case_insensitive_eq(desired.language, supported.language) {
+        return 4;
+    }
+    by_language(desired, supported)
+}
+
+/// Returns the distance of two different regions of one language.
+fn by_language(desired: TagFields<'_>, supported: TagFields<'_>) -> u8 {
+    let language = desired.language;
+    if case_insensitive_eq(b"ar", language) {
+        return by_side(SetName::Maghreb, desired, supported);
+    }
+    if case_insensitive_eq(b"en", language) {
+        return english(desired, supported);
+    }
+    if case_insensitive_eq(b"es", language) || case_insensitive_eq(b"pt", language) {
+        return by_side(SetName::Americas, desired, supported);
+    }
+    if case_insensitive_eq(b"zh", language)
+        && (case_insensitive_eq(b"Hant", desired.script)
+            && case_insensitive_eq(b"Hant", supported.script))
+    {
+        return by_side(SetName::HongKongAndMacao, desired, supported);
+    }
+    4
+}
+
+/// Returns the distance of two regions by the side of a set on which they lie.
+#[inline]
+fn by_side(set: SetName, a: TagFields<'_>, b: TagFields<'_>) -> u8 {
+    if on_one_side(set, a, b) {
+        4
+    } else {
+        5
+    }
+}
+
+/// Returns the distance of two regions of English: what is not as in the United States is nearer to the British.
+#[inline]
+fn english(a: TagFields<'_>, b: TagFields<'_>) -> u8 {
+    if is_british(a, b) || is_british(b, a) {
+        return 3;
+    }
+    by_side(SetName::UnitedStates, a, b)
+}
+
+#[inline]
+fn is_british(a: TagFields<'_>, b: TagFields<'_>) -> bool {
+    case_insensitive_eq(b"GB", a.region) && SetName::UnitedStates.is_outside(b)
+}
+
+/// Returns whether both regions lie in a set, or both in what it leaves.
+#[inline]
+fn on_one_side(set: SetName, a: TagFields<'_>, b: TagFields<'_>) -> bool {
+    (set.is_inside(a) && set.is_inside(b)) || (set.is_outside(a) && set.is_outside(b))
+}
+
+/// The sets of regions that the rules name.
+#[derive(Clone, Copy)]
+pub(crate) enum SetName {
+    Maghreb,
+    UnitedStates,
+    Americas,
+    HongKongAndMacao,
+}
+
+impl SetName {
+    /// Returns the regions of the set, and the groups of which all countries are in it.
+    fn inside(self) -> &'static [u32] {
+        match self {
+            SetName::Maghreb => &tables::MAGHREB_INSIDE,
+            SetName::UnitedStates => &tables::EN_US_INSIDE,
+            SetName::Americas => &tables::AMERICAS_INSIDE,
+            SetName::HongKongAndMacao => &tables::CNSAR_INSIDE,
+        }
+    }
+
+    /// Returns the groups of which some countries are in the set, but not all.
+    fn partly(self) -> &'static [u32] {
+        match self {
+            SetName::Maghreb => &tables::MAGHREB_PARTLY,
+            SetName::UnitedStates => &tables::EN_US_PARTLY,
+            SetName::Americas => &tables::AMERICAS_PARTLY,
+            SetName::HongKongAndMacao => &tables::CNSAR_PARTLY,
+        }
+    }
+
+    #[inline]
+    fn is_inside(self, fields: TagFields<'_>) -> bool {
+        index_of(self.inside(), fields.region).is_some()
+    }
+
+    #[inline]
+    fn is_partly_inside(self, fields: TagFields<'_>) -> bool {
+        index_of(self.partly(), fields.region).is_some()
+    }
+
+    #[inline]
+    fn is_outside(self, fields: TagFields<'_>) -> bool {
+        !self.is_inside(fields) && !self.is_partly_inside(fields)
+    }
+}

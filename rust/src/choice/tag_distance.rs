@@ -1,0 +1,58 @@
+// Made by rust/erase from crates/langtag_choice/src/tag_distance.rt. Change that file, not this one.
+
+//! How far a tag is from another that a reader desires (UTS #35, part 1, section 'Language Matching').
+
+use crate::choice::region_distance::region_distance;
+use crate::choice::rule_distance::{language_distance, script_distance};
+use crate::likely::{matching_form, TagFields};
+use crate::scan::case_insensitive_eq;
+use crate::tag::LangTag;
+
+/// The distance of two different tags where one has no matching form: it is `und` and no more, of private use, or begins with `i-`.
+pub const FORMLESS_DISTANCE: u8 = 255;
+
+/// Returns the distance from a tag that a reader desires to one that there is (UTS #35, Language Matching): 0 from `zh-TW` to
+/// `zh-Hant`, 4 from `de-AT` to `de`, 10 from `yue` to `zh-HK`, 84 from `de` to `en`.
+///
+/// It is the sum of that of the languages (80 where no rule says less), that of the scripts (50) and that of the regions (at most
+/// 5), once what is deprecated is replaced and likely subtags are added. So up to 15 the languages are nearly the same, and below
+/// 50 most readers understand the one who read the other. The case, variants, extensions and private use are of no account, nor is
+/// what else follows the region, as in `en-GB-oed`.
+/// Where a tag has no such form, it is [`FORMLESS_DISTANCE`], or 0 if the tags are equal but for case.
+///
+/// The languages `arb cmn in iw ji jw mo sh tl` are replaced, and deprecated regions; `langtag::registry::canonical` replaces all
+/// that is deprecated.
+#[inline]
+pub fn distance(desired: LangTag<'_>, supported: LangTag<'_>) -> u8 {
+    texts_distance(desired.as_bytes(), supported.as_bytes())
+}
+
+/// Returns the distance of two texts.
+fn texts_distance(desired: &[u8], supported: &[u8]) -> u8 {
+    match (matching_form(desired), matching_form(supported)) {
+        (Some(desired), Some(supported)) => fields_distance(desired, supported),
+        _ => formless_distance(desired, supported),
+    }
+}
+
+/// Returns the distance of two texts of which one has no matching form.
+#[inline]
+fn formless_distance(desired: &[u8], supported: &[u8]) -> u8 {
+    if case_insensitive_eq(desired, supported) {
+        0
+    } else {
+        FORMLESS_DISTANCE
+    }
+}
+
+/// Returns the distance of two matching forms: 0 exactly if they are equal but for case.
+#[inline]
+fn fields_distance(desired: TagFields<'_>, supported: TagFields<'_>) -> u8 {
+    language_distance(desired, supported) + places_distance(desired, supported)
+}
+
+/// Returns the distance of the scripts and the regions of two matching forms.
+#[inline]
+pub(crate) fn places_distance(desired: TagFields<'_>, supported: TagFields<'_>) -> u8 {
+    script_distance(desired, supported) + region_distance(desired, supported)
+}

@@ -1,0 +1,61 @@
+// Made by rust/erase from crates/langtag_choice/src/tag_list.rt. Change that file, not this one.
+
+//! Tags among which one is chosen.
+
+use crate::tag::LangTag;
+
+/// A list of tags, each at an index. What stands at an index need not be a tag, and is then never chosen.
+///
+/// ```
+/// use langtag::LangTag;
+/// use langtag::choice::{TagList, best_among};
+///
+/// struct Texts(&'static [&'static str]);
+///
+/// impl TagList for Texts {
+///     fn count(&self) -> usize {
+///         self.0.len()
+///     }
+///
+///     fn tag_at(&self, index: usize) -> Option<LangTag<'_>> {
+///         LangTag::new(self.0[index]).ok()
+///     }
+///
+///     fn bytes_at(&self, index: usize) -> &[u8] {
+///         self.0[index].as_bytes()
+///     }
+/// }
+///
+/// assert_eq!(best_among(&b"zh-TW"[..], &Texts(&["en", "zh-Hant"])), Some(1));
+/// ```
+pub trait TagList {
+    /// Returns how many there are.
+    fn count(&self) -> usize;
+
+    /// Returns the tag at an index, None where what stands there is none.
+    fn tag_at(&self, index: usize) -> Option<LangTag<'_>>;
+
+    /// Returns the text of the tag at an index. Where what stands there is no tag, it may be any text.
+    fn bytes_at(&self, index: usize) -> &[u8];
+}
+
+/// Tags in a slice.
+#[derive(Clone, Copy)]
+pub(crate) struct Tags<'a, 't>(pub(crate) &'a [LangTag<'t>]);
+
+impl TagList for Tags<'_, '_> {
+    #[inline]
+    fn count(&self) -> usize {
+        self.0.len()
+    }
+
+    #[inline]
+    fn tag_at(&self, index: usize) -> Option<LangTag<'_>> {
+        Some(self.0[index])
+    }
+
+    #[inline]
+    fn bytes_at(&self, index: usize) -> &[u8] {
+        self.0[index].as_bytes()
+    }
+}

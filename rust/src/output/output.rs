@@ -1,0 +1,41 @@
+// Made by rust/erase from crates/langtag_output/src/output.rt. Change that file, not this one.
+
+//! A text that is written into a buffer of the caller's, subtag by subtag.
+
+/// A buffer, and the length of the text that was put into it so far. What does not fit is counted, and not written.
+pub struct Output<'a> {
+    buffer: &'a mut [u8],
+    len: usize,
+}
+
+impl<'a> Output<'a> {
+    /// Returns the output that begins at the start of a buffer.
+    #[inline]
+    pub fn new(buffer: &'a mut [u8]) -> Output<'a> {
+        Output { buffer, len: 0 }
+    }
+
+    /// Returns the length of the text so far, in bytes.
+    #[inline]
+    pub fn len(&self) -> usize {
+        self.len
+    }
+
+    /// Puts a subtag, or some that are joined, at the end, with a hyphen between them and what stands before.
+    #[inline]
+    pub fn push_subtag(&mut self, subtag: &[u8]) {
+        if self.len > 0 {
+            self.push(b"-");
+        }
+        self.push(subtag);
+    }
+
+    /// Puts bytes at the end. The length stays at its greatest where a text has more bytes than that.
+    pub fn push(&mut self, bytes: &[u8]) {
+        let end = self.len.saturating_add(bytes.len());
+        if end <= self.buffer.len() {
+            self.buffer[self.len..end].copy_from_slice(bytes);
+        }
+        self.len = end;
+    }
+}

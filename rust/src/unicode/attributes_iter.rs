@@ -1,0 +1,53 @@
+// Made by rust/erase from crates/langtag_unicode/src/attributes_iter.rt. Change that file, not this one.
+
+//! The attributes of a tag, one by one.
+
+use crate::tag::Subtags;
+use crate::unicode::subtags::is_among_first;
+
+/// The attributes of the extension `u` that are still to come, in the order of the tag, each once.
+#[derive(Debug)]
+pub struct AttributesIter<'a> {
+    text: &'a str,
+    passed: usize,
+    rest: Subtags<'a>,
+}
+
+impl<'a> AttributesIter<'a> {
+    /// The distinct subtags of a text.
+    #[inline]
+    pub(crate) fn new(text: &'a str) -> Self {
+        AttributesIter {
+            text,
+            passed: 0,
+            rest: Subtags::new(text),
+        }
+    }
+}
+
+impl Clone for AttributesIter<'_> {
+    #[inline]
+    fn clone(&self) -> Self {
+        let rest = self.rest.clone();
+        AttributesIter {
+            text: self.text,
+            passed: self.passed,
+            rest,
+        }
+    }
+}
+
+impl<'a> Iterator for AttributesIter<'a> {
+    type Item = &'a str;
+
+    fn next(&mut self) -> Option<&'a str> {
+        while let Some(attribute) = self.rest.next() {
+            let is_repeated = is_among_first(self.text, self.passed, attribute);
+            self.passed += 1;
+            if !is_repeated {
+                return Some(attribute);
+            }
+        }
+        None
+    }
+}

@@ -1,0 +1,32 @@
+// Made by rust/erase from crates/langtag_unicode/src/keys.rt. Change that file, not this one.
+
+//! Which subtags of an extension are keys.
+
+/// The extension whose keys are looked for.
+#[derive(Clone, Copy, Debug)]
+pub(crate) enum Keys {
+    /// `u`, whose keys have two characters (RFC 6067 section 2.1).
+    Unicode,
+    /// `t`, whose keys are a letter and a digit (RFC 6497 section 2.2).
+    Transform,
+}
+
+impl Keys {
+    /// Returns whether a subtag is a key.
+    #[inline]
+    pub(crate) fn has(self, subtag: &str) -> bool {
+        match self {
+            Keys::Unicode => subtag.len() == 2,
+            Keys::Transform => is_field_key(subtag.as_bytes()),
+        }
+    }
+}
+
+/// Returns whether a subtag is a letter and a digit.
+#[inline]
+fn is_field_key(subtag: &[u8]) -> bool {
+    match subtag {
+        [letter, digit] => letter.is_ascii_alphabetic() && digit.is_ascii_digit(),
+        _ => false,
+    }
+}

@@ -1,0 +1,67 @@
+// Made by rust/erase from crates/langtag_unicode/src/keywords_iter.rt. Change that file, not this one.
+
+//! The keywords of a tag, one by one.
+
+use crate::unicode::keys::Keys;
+use crate::unicode::subtags::{before_key, is_among_first, nonempty, split_first};
+use crate::unicode::unicode_extension::KeyValue;
+
+/// The keywords of the extension `u`, or the fields of the extension `t`, that are still to come, in the order of the tag.
+///
+/// Each key comes once, with its first value.
+#[derive(Debug)]
+pub struct KeywordsIter<'a> {
+    text: &'a str,
+    keys: Keys,
+    passed: usize,
+    rest: Option<&'a str>,
+}
+
+impl<'a> KeywordsIter<'a> {
+    /// The keywords among the subtags of a text.
+    #[inline]
+    pub(crate) fn new(text: &'a str, keys: Keys) -> Self {
+        KeywordsIter {
+            text,
+            keys,
+            passed: 0,
+            rest: nonempty(text),
+        }
+    }
+
+    /// Whether the next subtag is a key, and none before it is equal to it.
+    #[inline]
+    fn is_new_key(&self, subtag: &str) -> bool {
+        self.keys.has(subtag) && !is_among_first(self.text, self.passed, subtag)
+    }
+}
+
+impl Clone for KeywordsIter<'_> {
+    #[inline]
+    fn clone(&self) -> Self {
+        KeywordsIter {
+            text: self.text,
+            keys: self.keys,
+            passed: self.passed,
+            rest: self.rest,
+        }
+    }
+}
+
+impl<'a> Iterator for KeywordsIter<'a> {
+    type Item = KeyValue<'a>;
+
+    fn next(&mut self) -> Option<KeyValue<'a>> {
+        while let Some(text) = self.rest {
+            let (key, rest) = split_first(text);
+            let is_new = self.is_new_key(key);
+            self.rest = rest;
+            self.passed += 1;
+            if is_new {
+                let value = before_key(rest, self.keys);
+                return Some(KeyValue { key, value });
+            }
+        }
+        None
+    }
+}

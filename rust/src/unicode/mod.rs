@@ -1,0 +1,27 @@
+// Made by rust/erase from crates/langtag_unicode/src/lib.rt. Change that file, not this one.
+
+//! What the extensions of Unicode say: the attributes and keywords of `u` (RFC 6067) and the language and fields of `t` (RFC 6497),
+//! as UTS #35, part 1, has them.
+//!
+//! ```
+//! # fn main() -> Result<(), Box<dyn std::error::Error>> {
+//! use langtag::LangTag;
+//! use langtag::unicode::{keyword, transform};
+//!
+//! assert_eq!(keyword(LangTag::new("ar-u-ca-islamic-civil-nu-latn")?, "ca"), Some("islamic-civil"));
+//! assert_eq!(transform(LangTag::new("und-t-ja-latn-m0-hepburn")?).and_then(|it| it.language()), Some("ja-latn"));
+//! # Ok(())
+//! # }
+//! ```
+
+mod attributes_iter;
+mod keys;
+mod keywords_iter;
+mod subtags;
+mod transformation;
+mod unicode_extension;
+
+pub use attributes_iter::AttributesIter;
+pub use keywords_iter::KeywordsIter;
+pub use transformation::{transform, Transformation};
+pub use unicode_extension::{attributes, keyword, keywords, KeyValue};

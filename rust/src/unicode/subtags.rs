@@ -1,0 +1,91 @@
+// Made by rust/erase from crates/langtag_unicode/src/subtags.rt. Change that file, not this one.
+
+//! The subtags of an extension, as one text that is taken apart from its front.
+
+use crate::tag::{case_insensitive_eq, segment_end, LangTag, Singleton, Subtags};
+use crate::unicode::keys::Keys;
+
+/// Returns the subtags of the first extension of a singleton, joined: nothing where there is no such extension.
+#[inline]
+pub(crate) fn extension_text<'a>(tag: LangTag<'a>, singleton: Singleton) -> &'a str {
+    match tag.extensions().get(singleton) {
+        Some(extension) => &extension.as_str()[2..],
+        None => "",
+    }
+}
+
+/// Returns the subtags of the first extension `u` of a tag, joined.
+#[inline]
+pub(crate) fn unicode_text<'a>(tag: LangTag<'a>) -> &'a str {
+    match Singleton::new(b'u') {
+        Ok(singleton) => extension_text(tag, singleton),
+        Err(_) => "",
+    }
+}
+
+/// Returns a text that is to be taken apart: none where it has no subtags.
+#[inline]
+pub(crate) fn nonempty(text: &str) -> Option<&str> {
+    if text.is_empty() {
+        return None;
+    }
+    Some(text)
+}
+
+/// Returns the first subtag of a text, and what stands after it and a hyphen, where there is more.
+pub(crate) fn split_first(text: &str) -> (&str, Option<&str>) {
+    let end = segment_end(text.as_bytes(), 0);
+    if end == text.len() {
+        return (text, None);
+    }
+    (&text[..end], Some(&text[end + 1..]))
+}
+
+/// Returns what stands before the first key, as one text.
+#[inline]
+pub(crate) fn before_key<'a>(rest: Option<&'a str>, keys: Keys) -> &'a str {
+    match rest {
+        Some(text) => cut_before_key(text, keys),
+        None => "",
+    }
+}
+
+/// Returns what stands before the first key of a text.
+#[inline]
+fn cut_before_key(text: &str, keys: Keys) -> &str {
+    let len = len_before_key(text, keys);
+    &text[..len.saturating_sub(1)]
+}
+
+/// Returns how many bytes the subtags before the first key take, each with a hyphen after it.
+fn len_before_key(text: &str, keys: Keys) -> usize {
+    let mut len = 0;
+    for subtag in Subtags::new(text) {
+        if keys.has(subtag) {
+            return len;
+        }
+        len += subtag.len() + 1;
+    }
+    len
+}
+
+/// Returns whether a subtag is equal, but for case, to one of the first so many of a text.
+#[inline]
+pub(crate) fn is_among_first(text: &str, count: usize, subtag: &str) -> bool {
+    Subtags::new(text)
+        .take(count)
+        .any(|earlier| case_insensitive_eq(subtag.as_bytes(), earlier.as_bytes()))
+}
+
+/// Returns the value of a key among subtags.
+pub(crate) fn value_in<'a>(text: &'a str, keys: Keys, key: &str) -> Option<&'a str> {
+    let mut rest = nonempty(text);
+    while let Some(text) = rest {
+        let (subtag, after) = split_first(text);
+        if keys.has(subtag) && case_insensitive_eq(subtag.as_bytes(), key.as_bytes()) {
+            return Some(before_key(after, keys));
+        }
+        rest = after;
+    }
+    None
+}

@@ -1,0 +1,59 @@
+// Made by rust/erase from crates/langtag_unicode/src/transformation.rt. Change that file, not this one.
+
+//! The extension `t` of a tag: how its text was transformed.
+
+use crate::tag::{LangTag, Singleton};
+use crate::unicode::keys::Keys;
+use crate::unicode::keywords_iter::KeywordsIter;
+use crate::unicode::subtags::{before_key, extension_text, nonempty, value_in};
+
+/// The extension `t` of a tag (RFC 6497 section 2.2): what the text was before it was transformed, and how it was transformed.
+///
+/// ```
+/// # fn main() -> Result<(), Box<dyn std::error::Error>> {
+/// use langtag::LangTag;
+/// use langtag::unicode::transform;
+///
+/// let tag = LangTag::new("und-Cyrl-t-und-latn-m0-ungegn-2007")?;
+/// let transform = transform(tag).ok_or("no such extension")?;
+/// assert_eq!(transform.language(), Some("und-latn"));
+/// assert_eq!(transform.field("M0"), Some("ungegn-2007"));
+/// assert_eq!(transform.field("d0"), None);
+/// # Ok(())
+/// # }
+/// ```
+#[derive(Clone, Copy, Debug)]
+pub struct Transformation<'a> {
+    text: &'a str,
+}
+
+/// Returns the first extension `t` of a tag (RFC 6497 section 2.2), None where there is none.
+#[inline]
+pub fn transform<'a>(tag: LangTag<'a>) -> Option<Transformation<'a>> {
+    let singleton = Singleton::new(b't').ok()?;
+    let text = nonempty(extension_text(tag, singleton))?;
+    Some(Transformation { text })
+}
+
+impl<'a> Transformation<'a> {
+    /// Returns the language before the first field, a slice of the tag: `ja-latn` of `und-t-ja-latn-m0-hepburn`, and None of
+    /// `und-t-m0-hepburn`. It need not be a tag: `abcd-efgh-ijkl` stands in `und-t-abcd-efgh-ijkl`.
+    #[inline]
+    pub fn language(&self) -> Option<&'a str> {
+        nonempty(before_key(nonempty(self.text), Keys::Transform))
+    }
+
+    /// Returns the value of a field, a slice of the tag: `hepburn` of `und-t-ja-m0-hepburn` for `m0`. Keys are compared without regard
+    /// to case, and of a repeated one the first counts. It is None where the field does not stand, and empty where it has no value.
+    #[inline]
+    pub fn field(&self, key: &str) -> Option<&'a str> {
+        value_in(self.text, Keys::Transform, key)
+    }
+
+    /// Returns the fields in the order of the tag, each key once, with its first value: `m0` and `hepburn` of
+    /// `und-t-ja-m0-hepburn`.
+    #[inline]
+    pub fn fields(&self) -> KeywordsIter<'a> {
+        KeywordsIter::new(self.text, Keys::Transform)
+    }
+}

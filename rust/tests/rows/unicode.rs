@@ -1,0 +1,43 @@
+//! Calls of the extensions `u` and `t`.
+use langtag::unicode::*;
+use langtag::LangTag;
+
+use crate::reader::{list, words};
+
+fn tag(text: &str) -> LangTag<'_> {
+    LangTag::new(text).expect("the row has a tag")
+}
+
+fn written(keywords: KeywordsIter<'_>) -> Vec<String> {
+    keywords
+        .map(|KeyValue { key, value }| format!("{key}={value}"))
+        .collect()
+}
+
+pub fn value(text: &str, key: &str) -> String {
+    words([keyword(tag(text), key)])
+}
+
+pub fn pairs(text: &str) -> String {
+    let pairs = written(keywords(tag(text)));
+    for KeyValue { key, value } in keywords(tag(text)) {
+        assert_eq!(keyword(tag(text), key), Some(value), "{text}");
+    }
+    list(pairs.iter().map(String::as_str))
+}
+
+pub fn distinct(text: &str) -> String {
+    list(attributes(tag(text)))
+}
+
+pub fn transformed(text: &str) -> String {
+    let Some(transformation) = transform(tag(text)) else {
+        return "-".into();
+    };
+    let fields = written(transformation.fields());
+    for KeyValue { key, value } in transformation.fields() {
+        assert_eq!(transformation.field(key), Some(value), "{text}");
+    }
+    let language = words([Some(transformation.language().unwrap_or(""))]);
+    [vec![language], fields].concat().join(" ")
+}

@@ -1,0 +1,73 @@
+#!/usr/bin/env python3
+"""Tests of generate.py: the states follow texts as the grammar does, they are the fewest, and --check sees a file that differs."""
+import contextlib
+import io
+import pathlib
+import shutil
+import tempfile
+import unittest
+
+import generate
+
+STATES = generate.States()
+NORMAL, PRIVATE_USE = "a normal tag", "for private use"
+
+# Texts, and what they are: RFC 5646 sections 2.1 and 2.2.8, and appendix A.
+TEXTS = {
+    "de": NORMAL, "zh-Hant-TW": NORMAL, "sl-rozaj-biske": NORMAL, "de-CH-1901": NORMAL, "zh-cmn-Hans-CN": NORMAL, "zh-min": NORMAL,
+    "en-US-u-islamcal": NORMAL, "az-Arab-x-AZE-derbend": NORMAL, "en-a-myext-b-another": NORMAL, "abcdefgh": NORMAL, "ab-abc-def-ghi": NORMAL,
+    "x-whatever": PRIVATE_USE, "X-a": PRIVATE_USE, "en-GB-oed": 0, "I-AMI": 1, "i-enochian": 4, "sgn-CH-DE": 16,
+    "": None, "a": None, "x": None, "x-": None, "de-419-DE": None, "a-DE": None, "de-x": None, "de-u": None, "abcd-abc": None, "ab-abc-def-ghi-jkl": None,
+    "i-notexist": None, "zh_Hant": None, "abcdefghi": None, "e1": None, "en-": None, "en--US": None, "sgn-CH-D": None,
+}
+
+
+def walk(text):
+    """The state after each byte of a text, and the ends of its parts by their places."""
+    state, ends = STATES.numbers[generate.START], {}
+    for index, char in enumerate(text):
+        state = STATES.after(generate.CLASSES[generate.class_of(ord(char))])[state]
+        ends[generate.part_before(STATES.firsts[state])] = index
+    return state, ends
+
+
+class Generating(unittest.TestCase):
+    def test_texts_are_what_they_are(self):
+        for text, kind in TEXTS.items():
+            number = generate.ending(STATES.firsts[walk(text)[0]])
+            found = {generate.NO_TAG: None, generate.NORMAL: NORMAL, generate.PRIVATE_USE: PRIVATE_USE}.get(number, number - generate.FIRST_IRREGULAR)
+            self.assertEqual(found, kind, text)
+
+    def test_parts_end_at_hyphens(self):
+        _, ends = walk("zh-min-Hant-TW-rozaj-u-co-x-")
+        self.assertEqual([ends[place] for place in range(6)], [6, 11, 14, 20, 25, 27])
+
+    def test_a_state_that_is_dead_stays_so(self):
+        self.assertEqual({STATES.after(byte)[0] for byte in generate.CLASSES}, {0})
+
+    def test_no_two_states_are_alike(self):
+        rows = [STATES.after(byte) for byte in generate.CLASSES]
+        labels = [(generate.ending(p), generate.part_before(p)) for p in STATES.firsts]
+        self.assertEqual(len({(label, *(row[k] for row in rows)) for k, label in enumerate(labels)}), len(STATES.firsts))
+
+    def test_check_names_what_differs(self):
+        with tempfile.TemporaryDirectory() as folder:
+            crate = pathlib.Path(folder) / "crate"
+            for path in generate.written(generate.CRATE):
+                copy = crate / path.relative_to(generate.CRATE)
+                copy.parent.mkdir(parents=True, exist_ok=True)
+                shutil.copy(path, copy)
+            self.assertEqual(self.told("--check", crate), (False, ""))
+            table = crate / "src" / "states.rt"
+            table.write_text(table.read_text(encoding="utf-8").replace("0, 18, 40", "0, 18, 41", 1), encoding="utf-8")
+            self.assertEqual(self.told("--check", crate), (True, "differs: crate/src/states.rt\n"))
+
+    def told(self, word, crate):
+        out = io.StringIO()
+        with contextlib.redirect_stdout(out):
+            status = generate.main([word], crate)
+        return status, out.getvalue()
+
+
+if __name__ == "__main__":
+    unittest.main()
