@@ -224,21 +224,28 @@ export function accepted(header) {
     }
 }
 
-/** The index of the tag that a call chooses for a header, or how many tags there are. */
-function chosen(name, header, tags) {
-    const joined = tags.join("");
-    const at = (header.length + joined.length + 7) & -8;
-    open(at + 16 * tags.length);
-    write(header, texts);
-    write(joined, texts + header.length);
+/** Writes the spans of some texts that stand one behind the other, and returns their address and number. */
+function writeSpans(list, at) {
     let start = 0;
-    for (const [index, tag] of tags.entries()) {
-        writeSpan(texts + at + 16 * index, start, tag.length);
-        start += tag.length;
+    for (const [index, text] of list.entries()) {
+        writeSpan(at + 16 * index, start, text.length);
+        start += text.length;
     }
-    const [second, spans] = [BigInt(texts + header.length), BigInt(texts + at)];
-    return close(Number(calls[name](textsAddress, BigInt(header.length), second, BigInt(start), spans, BigInt(tags.length))));
+    return [BigInt(at), BigInt(list.length)];
+}
+
+/** The index of the tag that a call chooses for a text, or for ranges that stand in it, or how many tags there are. */
+function chosen(name, text, tags, ranges = []) {
+    const joined = tags.join("");
+    const at = (text.length + joined.length + 7) & -8;
+    open(at + 16 * (tags.length + ranges.length));
+    write(text, texts);
+    write(joined, texts + text.length);
+    const offered = [BigInt(texts + text.length), BigInt(joined.length), ...writeSpans(tags, texts + at)];
+    const wanted = name === "langtag_best_for_ranges" ? writeSpans(ranges, texts + at + 16 * tags.length) : [];
+    return close(Number(calls[name](textsAddress, BigInt(text.length), ...wanted, ...offered)));
 }
 
 export const bestForHeader = (header, tags) => chosen("langtag_best_for_header", header, tags);
+export const bestForRanges = (ranges, tags) => chosen("langtag_best_for_ranges", ranges.join(""), tags, ranges);
 export const tagForHeader = (header, tags) => chosen("langtag_tag_for_header_lenient", header, tags);

@@ -250,8 +250,16 @@ def answer_best(header, tags):
     return found
 
 
+def answer_best_ranges(ranges, tags):
+    wanted, texts = ranges.split(), tags.decode().split()
+    found = langtag.best_for_ranges(wanted, texts, DEFAULT)
+    assert langtag.best_for_ranges(map(Range, wanted), map(Tag, texts), DEFAULT) == (found if found == DEFAULT else Tag(found))
+    return found
+
+
 ANSWERS = {
     "refused": answer_refused, "distance": answer_distance, "right-to-left": answer_direction, "posix": answer_posix, "best": answer_best,
+    "best-ranges": answer_best_ranges,
     "maximized": lambda text: likely(text, Tag.maximized), "minimized": lambda text: likely(text, Tag.minimized),
     "tag": answer_tag, "scan": answer_scan, "recommended": answer_recommended, "validity": answer_validity,
     "canonical": answer_canonical, "grandfathered": answer_grandfathered,
@@ -259,7 +267,7 @@ ANSWERS = {
     "order": answer_order, "header": answer_header, "ranges": answer_ranges, "edit": answer_edit,
 }
 FLOORS = {"table.txt": 360, "texts.txt": 710, "negotiation.txt": 102, "edits.txt": 125, "likely.txt": 250,
-          "refused.txt": 60, "distance.txt": 140, "direction.txt": 325, "posix.txt": 80, "choices.txt": 260}
+          "refused.txt": 60, "distance.txt": 140, "direction.txt": 325, "posix.txt": 80, "choices.txt": 260, "lists.txt": 15}
 
 
 class Rows(unittest.TestCase):

@@ -293,6 +293,13 @@ static std::string best_of(const strings &asked) {
     return found_or_default(best);
 }
 
+static std::string best_of_ranges(const strings &asked) {
+    const strings ranges = split(asked[0], " "), texts = split(asked[1], " ");
+    const auto best = langtag::best_for_ranges(ranges, texts);
+    if (langtag::best_for_ranges(ranges, tags_of(texts)) != best) return "another of texts";
+    return found_or_default(best);
+}
+
 using answer = std::string (*)(const strings &asked); /* empty where C++ does not answer */
 static const std::map<std::string, answer> calls = {
     {"tag", tag_of},
@@ -315,6 +322,7 @@ static const std::map<std::string, answer> calls = {
     {"distance", distance_of},
     {"posix", posix_of},
     {"best", best_of},
+    {"best-ranges", best_of_ranges},
 };
 
 /* A line with each {N:piece} written out. */

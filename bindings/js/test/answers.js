@@ -185,6 +185,14 @@ function answerBest(header, list) {
     return found;
 }
 
+function answerBestRanges(ranges, list) {
+    const [wanted, texts] = [ranges, list].map((words) => words.split(" ").filter(Boolean));
+    const found = bestForRanges(wanted, texts, DEFAULT);
+    const again = bestForRanges(wanted.map((text) => LanguageRange.parse(text)), texts.map((text) => LanguageTag.parse(text)), DEFAULT);
+    assert(String(again) === found, "the tag of ranges");
+    return found;
+}
+
 function edited(tag, part, value) {
     try {
         return String(tag.with({ [part]: value }));
@@ -224,6 +232,7 @@ export const answers = {
     "right-to-left": (text) => ({ true: "yes", false: "no", undefined: "-" })[made(LanguageTag, text)?.isRightToLeft],
     distance: answerDistance,
     best: answerBest,
+    "best-ranges": answerBestRanges,
     maximized: (text) => made(LanguageTag, text)?.maximize().toString() ?? "-",
     minimized: (text) => made(LanguageTag, text)?.minimize().toString() ?? "-",
     header: answerHeader,
@@ -231,4 +240,4 @@ export const answers = {
     edit: answerEdit,
 };
 
-export const FLOORS = { "table.txt": 360, "texts.txt": 710, "negotiation.txt": 102, "edits.txt": 125, "likely.txt": 200, "posix.txt": 75, "direction.txt": 300, "distance.txt": 130, "choices.txt": 250, "refused.txt": 60 };
+export const FLOORS = { "table.txt": 360, "texts.txt": 710, "negotiation.txt": 102, "edits.txt": 125, "likely.txt": 200, "posix.txt": 75, "direction.txt": 300, "distance.txt": 130, "choices.txt": 250, "lists.txt": 15, "refused.txt": 60 };

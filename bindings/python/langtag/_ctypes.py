@@ -62,18 +62,30 @@ def elements(text: Text) -> list[tuple[int, int, int, int]]:
     return [(answer, range.start, range.len, weight.value) for answer in answers]
 
 
-def _chosen(choose: Callable[..., int], header: Text, tags: Iterable[Any], default: Any, tag_class: Any) -> Any:
-    listed, start = list(tags), 0
-    texts = [(it if isinstance(it, TagBase) else tag_class(it))._data for it in listed]
-    spans = (Span * max(len(texts), 1))()
+def _joined(texts: list[bytes]) -> tuple[bytes, int, Any, int]:
+    """Returns texts as one, its length, the spans of them in it, and their number."""
+    spans, start = (Span * max(len(texts), 1))(), 0
     for span, text in zip(spans, texts):
         span.start, span.len, start = start, len(text), start + len(text)
-    index = _ask(choose, header, b"".join(texts), start, spans, len(texts))
+    return b"".join(texts), start, spans, len(texts)
+
+
+def _chosen(choose: Callable[..., int], wanted: tuple[Any, ...], tags: Iterable[Any], default: Any, tag_class: Any) -> Any:
+    listed = list(tags)
+    index = choose(*wanted, *_joined([(it if isinstance(it, TagBase) else tag_class(it))._data for it in listed]))
     return listed[index] if index < len(listed) else default
 
 
-best_for_header = functools.partial(_chosen, _c.langtag_best_for_header)
-tag_for_header = functools.partial(_chosen, _c.langtag_tag_for_header_lenient)
+def _for_header(choose: Callable[..., int], header: Text, tags: Iterable[Any], default: Any, tag_class: Any) -> Any:
+    return _chosen(choose, (bytes_of(header), len(bytes_of(header))), tags, default, tag_class)
+
+
+best_for_header = functools.partial(_for_header, _c.langtag_best_for_header)
+tag_for_header = functools.partial(_for_header, _c.langtag_tag_for_header_lenient)
+
+
+def best_for_ranges(ranges: list[bytes], tags: Iterable[Any], default: Any, tag_class: Any) -> Any:
+    return _chosen(_c.langtag_best_for_ranges, _joined(ranges), tags, default, tag_class)
 
 
 @functools.total_ordering

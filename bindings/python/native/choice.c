@@ -1,7 +1,7 @@
-/* The choice among tags for a header: of Tags, or texts of tags, the item itself. */
+/* The choice among tags for a header or for ranges: of Tags, or texts of tags, the item itself. */
 #include "native.h"
 
-/* The texts of the tags to choose from, one behind the other, and their spans; in the room at the end where that is enough. */
+/* The texts of the tags to choose from, or of ranges, one behind the other, and their spans; in the room at the end where that is enough. */
 typedef struct {
     langtag_span *spans;
     char *text;
@@ -72,8 +72,25 @@ static int add_item(Offered *offered, PyObject *item, PyObject *type) {
     return add(offered, &tag->text);
 }
 
+/* What a reader wants: a header, or ranges of which the first is wanted most. */
+typedef struct {
+    Text header;
+    const Offered *ranges; /* NULL: the header */
+    Choose *choose;
+} Wanted;
+
+static size_t choose(const Wanted *wanted, const Offered *offered) {
+    const Offered *ranges = wanted->ranges;
+    if (ranges)
+        return langtag_best_for_ranges(ranges->text, ranges->len, ranges->spans, ranges->count, offered->text, offered->len,
+                                       offered->spans, offered->count);
+    return wanted->choose(wanted->header.data, (size_t)wanted->header.len, offered->text, offered->len, offered->spans, offered->count);
+}
+
+static size_t length(const Wanted *wanted) { return wanted->ranges ? wanted->ranges->len : (size_t)wanted->header.len; }
+
 /* Borrowed from a list or a tuple, which nothing changes meanwhile. */
-static PyObject *chosen(Text header, PyObject *listed, PyObject *otherwise, PyObject *type, Choose *choose) {
+static PyObject *chosen(const Wanted *wanted, PyObject *listed, PyObject *otherwise, PyObject *type) {
     Offered offered;
     PyObject *(*item)(PyObject *, Py_ssize_t) = PyList_Check(listed) ? PyList_GetItem : PyTuple_GetItem;
     size_t count = (size_t)PySequence_Size(listed), index = count;
@@ -81,8 +98,8 @@ static PyObject *chosen(Text header, PyObject *listed, PyObject *otherwise, PyOb
     int status = 0;
     for (size_t i = 0; i < count && !status; i++) status = add_item(&offered, item(listed, (Py_ssize_t)i), type);
     if (!status) {
-        LET_GO(header.len);
-        index = choose(header.data, (size_t)header.len, offered.text, offered.len, offered.spans, count);
+        LET_GO((Py_ssize_t)length(wanted));
+        index = choose(wanted, &offered);
         TAKE_BACK();
     }
     close_offered(&offered);
@@ -90,16 +107,22 @@ static PyObject *chosen(Text header, PyObject *listed, PyObject *otherwise, PyOb
     return index < count ? item(listed, (Py_ssize_t)index) : otherwise;
 }
 
-static PyObject *for_header(PyObject *arguments, Choose *choose) {
-    PyObject *from, *all, *otherwise, *type;
-    Text header;
-    if (!PyArg_UnpackTuple(arguments, "a choice", 4, 4, &from, &all, &otherwise, &type) || lt_text(from, &header)) return NULL;
-    /* The caller's own list, but where others may change it: those that run during a call on a long header. */
-    PyObject *listed = header.len < LONG_TEXT ? PySequence_Fast(all, "the tags are not iterable") : PySequence_Tuple(all);
-    PyObject *found = listed ? chosen(header, listed, otherwise, type, choose) : NULL;
+/* The item of `all` that is chosen, or `otherwise`. */
+static PyObject *chosen_of(const Wanted *wanted, PyObject *all, PyObject *otherwise, PyObject *type) {
+    /* The caller's own list, but where others may change it: those that run during a call on a long text. */
+    PyObject *listed = length(wanted) < LONG_TEXT ? PySequence_Fast(all, "the tags are not iterable") : PySequence_Tuple(all);
+    PyObject *found = listed ? chosen(wanted, listed, otherwise, type) : NULL;
     Py_XINCREF(found);
     Py_XDECREF(listed);
-    Py_DECREF(header.owner);
+    return found;
+}
+
+static PyObject *for_header(PyObject *arguments, Choose *choose) {
+    PyObject *from, *all, *otherwise, *type;
+    Wanted wanted = {.choose = choose};
+    if (!PyArg_UnpackTuple(arguments, "a choice", 4, 4, &from, &all, &otherwise, &type) || lt_text(from, &wanted.header)) return NULL;
+    PyObject *found = chosen_of(&wanted, all, otherwise, type);
+    Py_DECREF(wanted.header.owner);
     return found;
 }
 
@@ -111,4 +134,27 @@ PyObject *lt_best_for_header(PyObject *module, PyObject *arguments) {
 PyObject *lt_tag_for_header(PyObject *module, PyObject *arguments) {
     (void)module;
     return for_header(arguments, langtag_tag_for_header_lenient);
+}
+
+static int add_range(Offered *ranges, PyObject *from) {
+    Text text;
+    if (lt_text(from, &text)) return -1;
+    int status = add(ranges, &text);
+    Py_DECREF(text.owner);
+    return status;
+}
+
+/* Of a list of bytes, the tags, what stands for none, and the class of tags. */
+PyObject *lt_best_for_ranges(PyObject *module, PyObject *arguments) {
+    PyObject *from, *all, *otherwise, *type, *found = NULL;
+    Offered ranges;
+    (void)module;
+    if (!PyArg_ParseTuple(arguments, "O!OOO", &PyList_Type, &from, &all, &otherwise, &type)) return NULL;
+    size_t count = (size_t)PyList_Size(from);
+    if (open_offered(&ranges, count)) return NULL;
+    int status = 0;
+    for (size_t i = 0; i < count && !status; i++) status = add_range(&ranges, PyList_GetItem(from, (Py_ssize_t)i));
+    if (!status) found = chosen_of(&(Wanted){.ranges = &ranges}, all, otherwise, type);
+    close_offered(&ranges);
+    return found;
 }

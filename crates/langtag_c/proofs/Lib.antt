@@ -6,6 +6,7 @@ mod ExtensionSpans
 mod RepeatSpans
 mod ItemLaws
 mod PlaceLaws
+mod RangesAt
 mod ReadingLaws
 mod PartLaws
 mod TagLengths

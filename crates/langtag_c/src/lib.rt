@@ -23,6 +23,7 @@ mod refused;
 mod registry_date;
 mod repeats;
 mod span;
+mod spanned_ranges;
 mod spanned_tags;
 mod tag;
 mod validity;

@@ -11,6 +11,7 @@ use Rattle.langtag_scan.specs.Class.{is_extended, is_primary}
 use Rattle.langtag_tables.proofs.Letters.{primary_length}
 use Rattle.langtag_match.specs.Basic.{ends_subtag}
 use Rattle.langtag_match.specs.Fallback.{ends_in_single}
+use Rattle.langtag_match.specs.Listed.{basic_text}
 use Rattle.langtag_match.specs.Wanted.{hyphened, is_mark}
 use Rattle.langtag_choice.specs.Lone.{head, is_lone, is_related, lone_head}
 use Rattle.langtag_choice.specs.Distance.{distance_of_forms, distance_of_texts, is_among, language_distance}
@@ -25,7 +26,6 @@ use Rattle.langtag_likely.proofs.AlikeFields.{by_options}
 use Rattle.langtag_choice.proofs.AlikeRanges.{matching_form-alike}
 use Rattle.langtag_likely.proofs.AliasTables.{aliases_lead}
 use Rattle.langtag_likely.proofs.CompletedForms.{completed_language}
-use Rattle.langtag_choice.proofs.ReadRanges.{form_read}
 use Rattle.langtag_likely.proofs.TextParts.{all_fields, no_fields}
 use Rattle.langtag_match.proofs.Prefixes.{length-alike}
 
@@ -138,7 +138,7 @@ module _ (one : List ℕ) (letters : ℕ × ℕ) (two : length one ≡ 2) (begin
       (text : List ℕ) → (head text ≡ Some letters → ⊥) → (head text ≡ head (codes "und") → ⊥) → is_among (map (λ row. row.to.language) language_aliases) one ≡ false →
       (form : Fields) → matching_form text ≡ Some form → Alike one form.language → ⊥
   unfolding matching_form
-  form_other text other known_other apart form is = by_und (are_alike (hyphened text) (codes "und")) is
+  form_other text other known_other apart form is = by_und (are_alike (basic_text text) (codes "und")) is
     where
       by_fields : (o : Option Fields) → text_fields (hyphened text) ≡ o → option_map matching_fields o ≡ Some form → Alike one form.language → ⊥
       by_fields None is made = absurd cc
@@ -171,10 +171,10 @@ language_far desired supported apart other =
     ∙ no_rule (language_alone desired) (language_alone supported) 80 language_rules apart
 
 -- what is alike has a form or has none
-form_alone : (range tag : List ℕ) (f : Fields) → matching_form (hyphened range) ≡ Some f → matching_form tag ≡ None → are_alike (hyphened range) tag ≡ false
-form_alone range tag f some none = false_from_ne_true (are_alike (hyphened range) tag) (λ yes.
+form_alone : (range tag : List ℕ) (f : Fields) → matching_form range ≡ Some f → matching_form tag ≡ None → are_alike range tag ≡ false
+form_alone range tag f some none = false_from_ne_true (are_alike range tag) (λ yes.
     by_options (λ a b. a ≡ Some f → b ≡ None → ⊥) (λ is not. cc) (λ a b alike is not. cc) _ _
-    (matching_form-alike (hyphened range) tag ((are_alike-decides (hyphened range) tag).0 yes)) some none)
+    (matching_form-alike range tag ((are_alike-decides range tag).0 yes)) some none)
 
 lone_language : (f : Fields) (letters : ℕ × ℕ) → lone_head (Some f) ≡ Some letters → (is_lone f.language ≡ true) × (head f.language ≡ Some letters)
 lone_language f letters is = by_test (is_lone f.language) is
@@ -185,21 +185,21 @@ lone_language f letters is = by_test (is_lone f.language) is
 
 pub far_from_lone :
     (letters : ℕ × ℕ) (range tag : List ℕ) → lone_head (matching_form range) ≡ Some letters → (head tag ≡ Some letters → ⊥) → (head tag ≡ Some (117, 110) → ⊥) →
-    50 ≤ distance_of_texts (hyphened range) tag
+    50 ≤ distance_of_texts range tag
 unfolding distance_of_texts is_lone fold_byte
 far_from_lone letters range tag lone other known_other = by_form (matching_form range) lone refl
   where
     by_tag :
-        (d : Fields) → matching_form (hyphened range) ≡ Some d → length d.language ≡ 2 → is_among (map (λ rule. rule.desired.language) language_rules) d.language ≡ false →
+        (d : Fields) → matching_form range ≡ Some d → length d.language ≡ 2 → is_among (map (λ rule. rule.desired.language) language_rules) d.language ≡ false →
         is_among (map (λ row. row.to.language) language_aliases) d.language ≡ false → head d.language ≡ Some letters →
-        (o : Option Fields) → matching_form tag ≡ o → 50 ≤ distance_of_forms (hyphened range) tag (Some d) o
+        (o : Option Fields) → matching_form tag ≡ o → 50 ≤ distance_of_forms range tag (Some d) o
     by_tag d is two desired replacing begins None none = rw (form_alone range tag d is none) (omega arith)
     by_tag d is two desired replacing begins (Some form) some = let eighty = language_far d form desired (form_other d.language letters two begins tag other known_other replacing form some) in omega (arith, eighty)
 
-    by_form : (o : Option Fields) → lone_head o ≡ Some letters → matching_form range ≡ o → 50 ≤ distance_of_forms (hyphened range) tag (matching_form (hyphened range)) (matching_form tag)
+    by_form : (o : Option Fields) → lone_head o ≡ Some letters → matching_form range ≡ o → 50 ≤ distance_of_forms range tag (matching_form range) (matching_form tag)
     by_form None lone is = absurd cc
     by_form (Some d) lone is =
-        let form = form_read range ∙ is in
+        let form = is in
         let yes = lone_language d letters lone in
         let parts = and_parts (length d.language == 2) (not (is_related d.language)) yes.0 in
         let aparts = or_parts (is_among (map (λ rule. rule.desired.language) language_rules) d.language) (is_among (map (λ row. row.to.language) language_aliases) d.language) (not-true (is_related d.language) parts.1) in
@@ -222,18 +222,18 @@ fallback_begins range tag is fallback =
 
 pub nothing_kept :
     (letters : ℕ × ℕ) (range tag : List ℕ) → lone_head (matching_form range) ≡ Some letters → is_some (head tag) ≡ true → (head tag ≡ Some letters → ⊥) → (head tag ≡ Some (117, 110) → ⊥) →
-    kept (hyphened range) tag ≡ 0
+    kept range tag ≡ 0
 unfolding kept is_lone fold_byte
-nothing_kept letters range tag lone is other known_other = by_test (is_fallback (hyphened range) tag) refl
+nothing_kept letters range tag lone is other known_other = by_test (is_fallback range tag) refl
   where
-    by_form : (o : Option Fields) → lone_head o ≡ Some letters → matching_form range ≡ o → head (hyphened range) ≡ head tag → ⊥
+    by_form : (o : Option Fields) → lone_head o ≡ Some letters → matching_form range ≡ o → head range ≡ head tag → ⊥
     by_form None lone made same = cc
     by_form (Some d) lone made same =
         let yes = lone_language d letters lone in
         let parts = and_parts (length d.language == 2) (not (is_related d.language)) yes.0 in
         let aparts = or_parts (is_among (map (λ rule. rule.desired.language) language_rules) d.language) (is_among (map (λ row. row.to.language) language_aliases) d.language) (not-true (is_related d.language) parts.1) in
-        form_other d.language letters (eqb-true (length d.language) 2 parts.0) yes.1 (hyphened range) (λ begin. other (sym same ∙ begin)) (λ begin. known_other (sym same ∙ begin)) aparts.1 d (form_read range ∙ made) refl
+        form_other d.language letters (eqb-true (length d.language) 2 parts.0) yes.1 range (λ begin. other (sym same ∙ begin)) (λ begin. known_other (sym same ∙ begin)) aparts.1 d (made) refl
 
-    by_test : (b : Bool) → is_fallback (hyphened range) tag ≡ b → cond (is_fallback (hyphened range) tag) (length tag) 0 ≡ 0
-    by_test true fallback = absurd (by_form (matching_form range) lone refl (fallback_begins (hyphened range) tag is fallback))
+    by_test : (b : Bool) → is_fallback range tag ≡ b → cond (is_fallback range tag) (length tag) 0 ≡ 0
+    by_test true fallback = absurd (by_form (matching_form range) lone refl (fallback_begins range tag is fallback))
     by_test false not = rw not refl

@@ -3,7 +3,7 @@ use Rattle.std.specs.Prelude.{◌≡◌, ◌⊎◌, ℕ, ◌<◌, ◌-◌, true,
 use Rattle.std.specs.List.{slice_get}
 use Rattle.std.specs.Option.{option_map}
 use Rattle.langtag_match.specs.AcceptLanguage.{Element}
-use Rattle.langtag_match.specs.Wanted.{hyphened}
+use Rattle.langtag_match.specs.Listed.{basic_text}
 use Rattle.langtag_choice.specs.Best.{IsAtMost, is_refused, may_serve, rank, reach, serves}
 use Rattle.langtag_likely.specs.Likely.{Fields}
 use Rattle.langtag_likely.specs.Matching.{matching_form}
@@ -17,7 +17,7 @@ use Rattle.langtag_choice.specs.declared.wish.Wish.{Wish}
 
 -- what a range says
 abbrev pub wish_element : Wish → Element
-wish_element wish = record { range = hyphened wish.range.now; weight = wish.weight }
+wish_element wish = record { range = basic_text wish.range.now; weight = wish.weight }
 
 abbrev pub number_of : Service → ℕ
 number_of Near = 0
@@ -27,7 +27,7 @@ number_of LookUp = 2
 abbrev pub rank_of : Candidate → List ℕ
 rank_of c =
     number_of c.rank.service ∷ c.rank.lack ∷ c.rank.place ∷ c.rank.distance ∷
-    (length (hyphened c.range.now) - kept (hyphened c.range.now) c.tag.now) ∷ unlikely c.tag.now ∷ c.index ∷ []
+    (length (basic_text c.range.now) - kept (basic_text c.range.now) c.tag.now) ∷ unlikely c.tag.now ∷ c.index ∷ []
 
 -- what was found has at most a rank
 abbrev pub IsWithin : Option Candidate → List ℕ → Type 0

@@ -1,13 +1,12 @@
 //! The tag that a reader wants.
-ghost use Rattle.std.specs.Prelude.{◌≡◌, ◌<◌, IsTrue, length, map};
+ghost use Rattle.std.specs.Prelude.{◌≡◌, ◌<◌, IsTrue, length};
 ghost use Rattle.std.specs.List.{list_any};
-ghost use Rattle.langtag_match.specs.AcceptLanguage.{reading};
 ghost use Rattle.langtag_match.specs.Text.{accept_language_ranges};
 ghost use Rattle.langtag_match.specs.Wanted.{wanted_elements};
 ghost use Rattle.langtag_choice.specs.Best as spec;
 ghost use Rattle.langtag_choice.specs.ChoiceLaws as laws;
 ghost use Rattle.langtag_choice.specs.Found.{IsOpen};
-ghost use Rattle.langtag_choice.specs.ListTexts.{ordered_elements, tag_texts};
+ghost use Rattle.langtag_choice.specs.ListTexts.{ordered_elements, tag_texts, weighted_elements};
 
 use crate::by_ranges::first_by_ranges;
 use crate::by_tags::first_by_tags;
@@ -41,13 +40,14 @@ pub fn best_for_accept_language(
     accepted: &AcceptLanguage<'_>,
     tags: &[LangTag<'_>],
 ) -> Option<usize>
-    ensures choice { spec.IsChoice (map reading (accept_language_ranges accepted.now)) (tag_texts tags.now) result }
+    ensures choice { spec.IsChoice (weighted_elements (accept_language_ranges accepted.now)) (tag_texts tags.now) result }
 {
     best_among(accepted.ranges(), &Tags(tags))
 }
 
 /// Returns the index of the tag that a reader wants, as [`best_for_header`] does, who names language ranges of which the first
-/// is wanted most: 1 for `nn` and `de`, and the tags `en` and `nb`. It is meant for basic ranges.
+/// is wanted most: 1 for `nn` and `de`, and the tags `en` and `nb`. An extended range counts without its `*`: `zh-*-Hant` as
+/// `zh-Hant`.
 pub fn best_for_ranges(ranges: &[LanguageRange<'_>], tags: &[LangTag<'_>]) -> Option<usize>
     ensures choice { spec.IsChoice (ordered_elements ranges.now) (tag_texts tags.now) result }
 {

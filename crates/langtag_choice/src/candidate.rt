@@ -6,7 +6,7 @@ ghost use Rattle.langtag_likely.specs.Texts.{field_texts};
 
 use crate::likely_region::unlikely;
 use crate::nearness::kept;
-use langtag_likely::TagFields;
+use langtag_likely::{TagFields, basic_len};
 use std::cmp::Ordering;
 
 /// How a tag serves a range: it is nearer than 16, or nearer than 50, or look-up alone finds it. The first is the best.
@@ -85,7 +85,7 @@ impl Candidate<'_, '_> {
     ghost use Rattle.std.specs.Prelude.{◌-◌, drop, length};
     ghost use Rattle.std.specs.Cmp.Lexicographic.{slice_cmp};
     ghost use Rattle.std.specs.Ordering.{is_lt, nat_cmp};
-    ghost use Rattle.langtag_match.specs.Wanted.{hyphened};
+    ghost use Rattle.langtag_match.specs.Listed.{basic_text};
     ghost use Rattle.langtag_choice.specs.Found.{rank_of};
     ghost use Rattle.langtag_choice.specs.Nearness.{kept};
 
@@ -117,11 +117,10 @@ impl Candidate<'_, '_> {
     }
 
     /// Returns how many bytes look-up takes from the range to find the tag, and all where it does not.
-    #[tactic(auto, using(crate::proofs::ReadRanges::length_read))]
     fn lost(&self) -> usize
-        ensures { result ≡ length (hyphened self.now.range.now) - kept (hyphened self.now.range.now) self.now.tag.now }
+        ensures { result ≡ length (basic_text self.now.range.now) - kept (basic_text self.now.range.now) self.now.tag.now }
     {
-        self.range.len().saturating_sub(kept(self.range, self.tag))
+        basic_len(self.range).saturating_sub(kept(self.range, self.tag))
     }
 }
 

@@ -1,25 +1,31 @@
-//! Texts of ranges in which `_` is read as `-`.
+//! Ranges as they are read: `_` as `-`, and without each `-*`.
 ghost use Rattle.std.specs.Prelude.{◌≡◌, ◌&&◌, length, take, drop};
 ghost use Rattle.langtag_scan.specs.Case.{are_alike};
 ghost use Rattle.langtag_match.specs.Basic.{ends_subtag};
 ghost use Rattle.langtag_match.specs.Range.{is_star};
-ghost use Rattle.langtag_match.specs.Wanted.{hyphened};
+ghost use Rattle.langtag_match.specs.Listed.{basic_text};
 
-use langtag_likely::are_alike;
+use langtag_likely::{after_common, are_alike};
 
 /// Returns whether a range is `*`.
+#[tactic(auto, using(crate::proofs::ReadRanges::star_read))]
 pub(crate) fn is_star(range: &[u8]) -> bool
-    ensures { result ≡ is_star (hyphened range.now) }
+    ensures { result ≡ is_star (basic_text range.now) }
 {
-    matches!(range, [b'*'])
+    are_alike(range, b"*")
 }
 
 /// Returns whether a tag is a range, or begins so and goes on with a hyphen.
 pub(crate) fn begins(range: &[u8], tag: &[u8]) -> bool
-    ensures { result ≡ (are_alike (hyphened range.now) (take (length range.now) tag.now) && ends_subtag (drop (length range.now) tag.now)) }
+    ensures { result ≡ (are_alike (basic_text range.now) (take (length (basic_text range.now)) tag.now) && ends_subtag (drop (length (basic_text range.now)) tag.now)) }
 {
-    if tag.len() < range.len() || !are_alike(range, &tag[..range.len()]) {
-        return false;
-    }
-    range.len() == tag.len() || tag[range.len()] == b'-'
+    let (left, rest) = after_common(range, tag);
+    left.is_empty() && ends_subtag(rest)
+}
+
+/// Returns whether nothing follows, or a hyphen.
+pub(crate) fn ends_subtag(rest: &[u8]) -> bool
+    ensures { result ≡ ends_subtag rest.now }
+{
+    matches!(rest, [] | [b'-', ..])
 }

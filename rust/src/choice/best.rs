@@ -43,7 +43,8 @@ pub fn best_for_accept_language(
 }
 
 /// Returns the index of the tag that a reader wants, as [`best_for_header`] does, who names language ranges of which the first
-/// is wanted most: 1 for `nn` and `de`, and the tags `en` and `nb`. It is meant for basic ranges.
+/// is wanted most: 1 for `nn` and `de`, and the tags `en` and `nb`. An extended range counts without its `*`: `zh-*-Hant` as
+/// `zh-Hant`.
 #[inline]
 pub fn best_for_ranges(ranges: &[LanguageRange<'_>], tags: &[LangTag<'_>]) -> Option<usize> {
     best_among(ranges, &Tags(tags))

@@ -19,7 +19,8 @@ use crate::matching::{split_wanted, LanguageRange, WantedRange, WeightedRange};
 /// # }
 /// ```
 pub trait RangeList<'a>: Copy {
-    /// Returns the first range and those that follow it, None where there is none left.
+    /// Returns the first range and those that follow it, None where there is none left. In its bytes `_` means `-`, and each `-*`
+    /// counts for nothing.
     fn split_range(self) -> Option<(WantedRange<'a>, Self)>;
 }
 
