@@ -250,8 +250,19 @@ def answer_best(header, tags):
     return found
 
 
+def answer_best_match(header, tags):
+    texts = tags.decode().split()
+    found = langtag.match_for_header(header, texts)
+    assert found == (found and langtag.match_for_header(header, map(Tag, texts)))
+    if found is None:
+        return "-"
+    assert found.tag is texts[found.index] and found.tag == langtag.best_for_header(header, texts)
+    return f"{found.index} {found.distance} {found.range}"
+
+
 ANSWERS = {
     "refused": answer_refused, "distance": answer_distance, "right-to-left": answer_direction, "posix": answer_posix, "best": answer_best,
+    "best-match": answer_best_match,
     "maximized": lambda text: likely(text, Tag.maximized), "minimized": lambda text: likely(text, Tag.minimized),
     "tag": answer_tag, "scan": answer_scan, "recommended": answer_recommended, "validity": answer_validity,
     "canonical": answer_canonical, "grandfathered": answer_grandfathered,
