@@ -6,8 +6,10 @@ use crate::calls::span::Span;
 use crate::scan::segment_start;
 
 /// Cuts the last subtag off a language range, or off what is left of one, and each single letter, digit or `*` that would
-/// then stand last (RFC 4647 section 3.4). False where nothing is left, or where the span does not lie within the bytes; then
+/// then stand last ([RFC 4647 section 3.4]). False where nothing is left, or where the span does not lie within the bytes; then
 /// it stays as it was.
+///
+/// [RFC 4647 section 3.4]: https://www.rfc-editor.org/rfc/rfc4647#section-3.4
 pub fn langtag_next_fallback(bytes: &[u8], rest: &mut Span) -> bool {
     let Some(range) = rest.of(bytes) else {
         return false;

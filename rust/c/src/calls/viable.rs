@@ -4,8 +4,10 @@
 
 use crate::scan::viable_len;
 
-/// Returns the length in bytes of the longest prefix with which some tag begins (RFC 5646 section 2.1): that of all
+/// Returns the length in bytes of the longest prefix with which some tag begins ([RFC 5646 section 2.1]): that of all
 /// bytes where a tag may still come, as of `zh-`, and 2 of `zh_Hant`.
+///
+/// [RFC 5646 section 2.1]: https://www.rfc-editor.org/rfc/rfc5646#section-2.1
 #[inline]
 pub fn langtag_viable(bytes: &[u8]) -> usize {
     viable_len(bytes)

@@ -17,8 +17,10 @@ pub fn langtag_next_subtag(bytes: &[u8], rest: &mut Span, subtag: &mut Span) -> 
     true
 }
 
-/// Takes the first extension off a span (RFC 5646 section 2.2.6), its singleton and the subtags after it, and the hyphen after
+/// Takes the first extension off a span ([RFC 5646 section 2.2.6]), its singleton and the subtags after it, and the hyphen after
 /// them. False as [`langtag_next_subtag`] returns it.
+///
+/// [RFC 5646 section 2.2.6]: https://www.rfc-editor.org/rfc/rfc5646#section-2.2.6
 #[inline]
 pub fn langtag_next_extension(bytes: &[u8], rest: &mut Span, extension: &mut Span) -> bool {
     let Some(part) = rest.of(bytes) else {
