@@ -1,4 +1,4 @@
-//! The tag that a reader wants, with the range of the header that it serves, and how far it is from that.
+//! The best tag for a reader, with the range that it serves and its distance from that range.
 ghost use Rattle.std.specs.Prelude.{◌≡◌, ◌≤◌, None, IfSome, length, not};
 ghost use Rattle.std.specs.List.{position};
 ghost use Rattle.langtag_match.specs.AcceptLanguage.{is_comma, is_space, items};
@@ -10,20 +10,20 @@ use crate::spanned_tags::SpannedTags;
 use langtag_choice::match_among;
 use langtag_match::split_wanted;
 
-/// What is said of a tag that was chosen, beside its index.
+/// The range that the best tag serves, and how well.
 #[repr(C)]
 #[derive(Clone, Copy)]
 pub struct BestMatch {
     /// Where the range stands in the header.
     pub range: Span,
-    /// How far the tag is from it.
+    /// The distance from the range to the tag.
     pub distance: u32,
 }
 
-/// Returns the index of the tag that the reader wants who sent an Accept-Language header, as `langtag_best_for_header` does, and
-/// says which range of the header the tag serves, and how far it is from that: 1, `gsw` and 8 for `tlh, gsw` and the tags `en`
-/// and `de`. Where the reader wants none of them it is their number, and the range is empty, at the end of the header. All of
-/// `found` is written.
+/// Returns the index of the best tag for an Accept-Language header, as `langtag_best_for_header` does, and writes the range
+/// that the tag serves and its distance from that range: 1, `gsw` and 8 for `tlh, gsw` and the tags `en` and `de`. If no
+/// tag is suitable, it returns the number of tags and writes an empty range at the end of the header. `found` is always
+/// written.
 #[unsafe(no_mangle)]
 pub extern "C" fn langtag_match_for_header(
     header: &[u8],
@@ -57,7 +57,7 @@ pub extern "C" fn langtag_match_for_header(
     chosen.index
 }
 
-/// Returns where the range stands before which a header has so many others.
+/// Returns where a range is in a header, by the number of ranges before it.
 fn range_at(header: &[u8], place: usize) -> Option<Span>
     ensures some { IfSome result (IsRangeAt header.now place) }
     ensures none { result ≡ None → range_count (items header.now) ≤ place }

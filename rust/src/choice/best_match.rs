@@ -1,16 +1,16 @@
 // Made by rust/erase from crates/langtag_choice/src/best_match.rt. Change that file, not this one.
 
-//! What is said of a choice beside the index.
+//! The best tag with the range that it serves.
 
-/// The tag that a reader wants, and which range it serves how well: what `match_for_header` returns.
+/// The best tag for a reader, the range that it serves, and its distance from that range.
 #[derive(Clone, Copy, Debug)]
 pub struct BestMatch<'a> {
     /// The index of the tag.
     pub index: usize,
-    /// The range as the reader named it: `_` may stand in its bytes where a language range has a hyphen.
+    /// The range as the reader wrote it. `_` may be in its bytes instead of a hyphen.
     pub range: &'a [u8],
-    /// How many ranges the reader named before it, those of weight 0 among them.
+    /// The number of ranges before it, including those of weight 0.
     pub place: usize,
-    /// How far the tag is from the range, as `distance` says it of two tags.
+    /// The distance from the range to the tag, as `distance` returns it for two tags.
     pub distance: u8,
 }

@@ -1,6 +1,6 @@
 // Made by rust/erase from crates/langtag_c/src/best_match.rt. Change that file, not this one.
 
-//! The tag that a reader wants, with the range of the header that it serves, and how far it is from that.
+//! The best tag for a reader, with the range that it serves and its distance from that range.
 
 use crate::calls::look_up::is_comma;
 use crate::calls::span::Span;
@@ -8,20 +8,20 @@ use crate::calls::spanned_tags::SpannedTags;
 use crate::choice::match_among;
 use crate::matching::split_wanted;
 
-/// What is said of a tag that was chosen, beside its index.
+/// The range that the best tag serves, and how well.
 #[repr(C)]
 #[derive(Clone, Copy)]
 pub struct BestMatch {
     /// Where the range stands in the header.
     pub range: Span,
-    /// How far the tag is from it.
+    /// The distance from the range to the tag.
     pub distance: u32,
 }
 
-/// Returns the index of the tag that the reader wants who sent an Accept-Language header, as `langtag_best_for_header` does, and
-/// says which range of the header the tag serves, and how far it is from that: 1, `gsw` and 8 for `tlh, gsw` and the tags `en`
-/// and `de`. Where the reader wants none of them it is their number, and the range is empty, at the end of the header. All of
-/// `found` is written.
+/// Returns the index of the best tag for an Accept-Language header, as `langtag_best_for_header` does, and writes the range
+/// that the tag serves and its distance from that range: 1, `gsw` and 8 for `tlh, gsw` and the tags `en` and `de`. If no
+/// tag is suitable, it returns the number of tags and writes an empty range at the end of the header. `found` is always
+/// written.
 pub fn langtag_match_for_header(
     header: &[u8],
     bytes: &[u8],
@@ -50,7 +50,7 @@ pub fn langtag_match_for_header(
     chosen.index
 }
 
-/// Returns where the range stands before which a header has so many others.
+/// Returns where a range is in a header, by the number of ranges before it.
 fn range_at(header: &[u8], place: usize) -> Option<Span> {
     let mut start = 0;
     let mut left = place;
@@ -72,9 +72,13 @@ fn range_at(header: &[u8], place: usize) -> Option<Span> {
 /// Returns how many spaces and tabs an item begins with.
 #[inline]
 fn spaces_before(item: &[u8]) -> usize {
-    item.iter()
-        .position(|byte| !is_space(*byte))
-        .unwrap_or(item.len())
+    first_filled(item).unwrap_or(item.len())
+}
+
+/// Returns the index of the first byte that is neither a space nor a tab.
+#[inline]
+fn first_filled(item: &[u8]) -> Option<usize> {
+    item.iter().position(|byte| !is_space(*byte))
 }
 
 #[inline]
