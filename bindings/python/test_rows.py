@@ -253,9 +253,11 @@ def answer_best(header, tags):
 def answer_best_match(header, tags):
     texts = tags.decode().split()
     found = langtag.match_for_header(header, texts)
-    assert found == (found and langtag.match_for_header(header, map(Tag, texts)))
-    if found is None:
+    again = langtag.match_for_header(header, map(Tag, texts))
+    if found is None or again is None:
+        assert found is again
         return "-"
+    assert again == found._replace(tag=Tag(found.tag))
     assert found.tag is texts[found.index] and found.tag == langtag.best_for_header(header, texts)
     return f"{found.index} {found.distance} {found.range}"
 

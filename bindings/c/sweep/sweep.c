@@ -147,12 +147,13 @@ static size_t choice(size_t header_len) {
     return langtag_best_for_header(text, header_len, "en,de-CH,ja", 11, (langtag_span[]){{0, 2}, {3, 5}, {9, 2}}, 3);
 }
 
-/* The same, with a range of the header that is as far as its distance says. */
+/* The same, with a range of the header that is as far as its distance says. Its first five bytes tell: of these de_CH alone is no tag. */
 static bool is_matched(size_t header_len) {
     langtag_best_match match;
     size_t best = langtag_match_for_header(text, header_len, "en,de-CH,ja", 11, (langtag_span[]){{0, 2}, {3, 5}, {9, 2}}, 3, &match);
-    return best == 1 && match.range.len >= 2 && match.range.start + match.range.len <= header_len && 
-           match.distance == (text[match.range.start] == 'g' || text[match.range.start + 3] == 'L' ? 4 : 0);
+    if (best != 1 || match.range.len < 2 || match.range.start + match.range.len > header_len) return false;
+    uint32_t distance = langtag_distance(text + match.range.start, match.range.len < 5 ? match.range.len : 5, "de-CH", 5);
+    return match.distance == (distance == LANGTAG_NO_DISTANCE ? 0 : distance);
 }
 
 /* Headers that find the second by look-up. */
