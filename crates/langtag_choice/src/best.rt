@@ -87,7 +87,7 @@ pub fn match_among<'a, R: RangeList<'a>, T: TagList>(ranges: R, tags: &T) -> Opt
     }
 }
 
-/// Returns what is said of a candidate that is chosen.
+/// Returns the match that a chosen candidate is.
 fn match_of<'a>(found: Candidate<'a, '_>) -> BestMatch<'a>
     ensures index { result.index ≡ found.entry.index }
     ensures range { result.range.now ≡ found.entry.range.now }
@@ -113,7 +113,7 @@ pub fn best_among<'a, R: RangeList<'a>, T: TagList>(ranges: R, tags: &T) -> Opti
     best_index(ranges, tags)
 }
 
-/// Returns the index of what is chosen.
+/// Returns the index of the chosen tag.
 #[tactic(auto, using(crate::proofs::ChoiceLaws::found_chosen))]
 fn best_index<'a, R: RangeList<'a>, T: TagList>(ranges: R, tags: &T) -> Option<usize>
     ensures { spec.IsChoice (R.elements ranges) (T.texts tags.now) result }
@@ -121,7 +121,7 @@ fn best_index<'a, R: RangeList<'a>, T: TagList>(ranges: R, tags: &T) -> Option<u
     index_of(best(ranges, tags))
 }
 
-/// Returns what is chosen. Where what is first of all is refused or no tag, the tags are gone through one by one.
+/// Returns the chosen candidate. If the first candidate is refused or not a tag, the tags are tried one by one.
 fn best<'a, 't, R: RangeList<'a>, T: TagList>(ranges: R, tags: &'t T) -> Option<Candidate<'a, 't>>
     ensures { IsBestFound (R.elements ranges) (T.texts tags.now) result }
 {
@@ -135,7 +135,7 @@ fn best<'a, 't, R: RangeList<'a>, T: TagList>(ranges: R, tags: &'t T) -> Option<
     first_by_tags(ranges, tags)
 }
 
-/// Returns whether a tag stands at an index, which is not refused. Where no range has the weight 0, none is.
+/// Returns whether the entry at an index is a tag that is not refused. No tag is refused if no range has the weight 0.
 #[tactic(auto, using(crate::proofs::NoneRefused::none_refused))]
 fn is_chosen<'a, R: RangeList<'a>, T: TagList>(
     ranges: R,
