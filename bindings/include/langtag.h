@@ -377,11 +377,11 @@ typedef struct langtag_best_match {
  *     size_t best = langtag_match_for_header(header, strlen(header), have, strlen(have), tags, 2, &match);
  *     printf("%zu, for %.*s at %u\n", best, (int)match.range.len, header + match.range.start, match.distance); // 1, for gsw at 8
  *
- * If no tag is suitable, the range is empty, at the end of the header, and the distance is LANGTAG_NO_DISTANCE. `match` is always
+ * If no tag is suitable, the range is empty, at the end of the header, and the distance is LANGTAG_NO_DISTANCE. `found` is always
  * written.
  */
 size_t langtag_match_for_header(const char *header, size_t header_len, const char *bytes, size_t len,
-                                const langtag_span *tags, size_t tags_len, langtag_best_match *match);
+                                const langtag_span *tags, size_t tags_len, langtag_best_match *found);
 
 /*
  * Writes the tag for the name of a POSIX locale to `buffer` (IEEE Std 1003.1, section 8.2), and returns its length: pt_BR.UTF-8

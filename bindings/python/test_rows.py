@@ -257,7 +257,7 @@ def answer_best_match(header, tags):
     if found is None or again is None:
         assert found is again
         return "-"
-    assert again == found._replace(tag=Tag(found.tag))
+    assert (again.index, again.tag, again.distance, again.range) == (found.index, Tag(found.tag), found.distance, found.range)
     assert found.tag is texts[found.index] and found.tag == langtag.best_for_header(header, texts)
     return f"{found.index} {found.distance} {found.range}"
 
@@ -272,7 +272,7 @@ ANSWERS = {
     "order": answer_order, "header": answer_header, "ranges": answer_ranges, "edit": answer_edit,
 }
 FLOORS = {"table.txt": 360, "texts.txt": 710, "negotiation.txt": 102, "edits.txt": 125, "likely.txt": 250,
-          "refused.txt": 60, "distance.txt": 140, "direction.txt": 325, "posix.txt": 80, "choices.txt": 260}
+          "refused.txt": 60, "distance.txt": 140, "direction.txt": 325, "posix.txt": 80, "choices.txt": 285}
 
 
 class Rows(unittest.TestCase):

@@ -240,4 +240,4 @@ export const answers = {
     edit: answerEdit,
 };
 
-export const FLOORS = { "table.txt": 360, "texts.txt": 710, "negotiation.txt": 102, "edits.txt": 125, "likely.txt": 200, "posix.txt": 75, "direction.txt": 300, "distance.txt": 130, "choices.txt": 250, "refused.txt": 60 };
+export const FLOORS = { "table.txt": 360, "texts.txt": 710, "negotiation.txt": 102, "edits.txt": 125, "likely.txt": 200, "posix.txt": 75, "direction.txt": 300, "distance.txt": 130, "choices.txt": 275, "refused.txt": 60 };

@@ -72,6 +72,8 @@ pub fn best_for_ranges(ranges: &[LanguageRange<'_>], tags: &[LangTag<'_>]) -> Op
 pub fn match_for_header<'a>(header: &'a [u8], tags: &[LangTag<'_>]) -> Option<BestMatch<'a>>
     ensures found { spec.IsMatch (wanted_elements header.now) (tag_texts tags.now) result }
     ensures choice { spec.IsChoice (wanted_elements header.now) (tag_texts tags.now) (option_map (λ found. found.index) result) }
+    ensures cloned { (found copy : BestMatch) → ⟦<BestMatch<'a> as Clone>⟧.is_clone found copy → copy ≡ found }
+    ensures clone_succeeds { (found : BestMatch) → ⟦<BestMatch<'a> as Clone>⟧.is_infallible found }
 {
     match_among(header, &Tags(tags))
 }
