@@ -204,8 +204,8 @@ impl LanguageRangeBuf {
         })
     }
 
-    /// Borrows the range: `as_language_range().is_basic()` of the owned `de` is `true`. It is proved that comparisons
-    /// and hashes of owned ranges ignore case.
+    /// Borrows the range: `LanguageRange::new("de")?.try_to_owned(alloc)?.as_language_range().is_basic()` is `true`. It
+    /// is proved that comparisons and hashes of owned ranges ignore case.
     pub fn as_language_range(&self) -> LanguageRange<'_>
         ensures same_text { language_range_text result ≡ language_range_buf_text self.now }
 
@@ -214,7 +214,8 @@ impl LanguageRangeBuf {
         LanguageRange::from_checked(self.as_str())
     }
 
-    /// Returns the text, in its original case: `as_str()` of the owned `de-ch` is `"de-ch"`.
+    /// Returns the text, in its original case: `LanguageRange::new("de-ch")?.try_to_owned(alloc)?.as_str()` is
+    /// `"de-ch"`.
     pub fn as_str(&self) -> &str
         ensures same_text { result.now ≡ language_range_buf_text self.now }
         ensures in_class { IsTrue (spec.is_language_range result.now) }
@@ -222,7 +223,8 @@ impl LanguageRangeBuf {
         self.text.0.as_str()
     }
 
-    /// Returns the `String`, without copying it: `into_string()` of the owned `de-ch` is the `String` `de-ch`.
+    /// Returns the `String`, without copying it: `LanguageRange::new("de-ch")?.try_to_owned(alloc)?.into_string()` is
+    /// `"de-ch"`.
     pub fn into_string(self) -> String
         ensures same_text { string_bytes result ≡ language_range_buf_text self }
         ensures same_string { result ≡ language_range_buf_string self }

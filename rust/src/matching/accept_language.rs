@@ -36,13 +36,19 @@ pub struct AcceptLanguage<'a> {
 #[cfg(feature = "alloc")]
 impl<'a> AcceptLanguage<'a> {
     /// Parses a header by RFC 9110, and leaves out the ranges of weight 0, which are not acceptable. Ranges of equal
-    /// weight keep their order. Empty elements are skipped: `AcceptLanguage::new(",de,")` is `Ok`.
+    /// weight keep their order. Empty elements are skipped.
     ///
     /// # Errors
     ///
     /// Returns `BadElement` if an element is neither empty nor a basic language range with an optional weight. It
     /// contains the whole header, and the index and offset of the first such element. Returns `Memory` if allocation
     /// fails.
+    ///
+    /// ```
+    /// use langtag::matching::AcceptLanguage;
+    ///
+    /// assert!(AcceptLanguage::new(",de,").is_ok());
+    /// ```
     #[inline]
     pub fn new(header: &'a str) -> Result<AcceptLanguage<'a>, AcceptLanguageError<'a>> {
         let read = elements(header)?;

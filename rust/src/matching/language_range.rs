@@ -56,11 +56,18 @@ pub struct LanguageRange<'a> {
 }
 
 impl<'a> LanguageRange<'a> {
-    /// Parses a text as a range: `LanguageRange::new("de-*-DE")` is `Ok`.
+    /// Parses a text as a range.
     ///
     /// # Errors
     ///
-    /// Returns the text if it is not a range: `LanguageRange::new("de_DE")` is `Err(InvalidLanguageRange("de_DE"))`.
+    /// Returns the text if it is not a range.
+    ///
+    /// ```
+    /// use langtag::matching::{InvalidLanguageRange, LanguageRange};
+    ///
+    /// assert!(LanguageRange::new("de-*-DE").is_ok());
+    /// assert_eq!(LanguageRange::new("de_DE"), Err(InvalidLanguageRange("de_DE")));
+    /// ```
     #[inline]
     pub fn new(text: &'a str) -> Result<LanguageRange<'a>, InvalidLanguageRange<&'a str>> {
         if !is_language_range(text) {
@@ -78,15 +85,32 @@ impl<'a> LanguageRange<'a> {
         }
     }
 
-    /// Returns the text, in its original case: `LanguageRange::new("de-ch")?.as_str()` is `"de-ch"`.
+    /// Returns the text, in its original case.
+    ///
+    /// ```
+    /// # fn main() -> Result<(), Box<dyn std::error::Error>> {
+    /// use langtag::matching::LanguageRange;
+    ///
+    /// assert_eq!(LanguageRange::new("de-ch")?.as_str(), "de-ch");
+    /// # Ok(())
+    /// # }
+    /// ```
     #[inline]
     pub fn as_str(&self) -> &'a str {
         self.text.0
     }
 
-    /// Returns whether another text is equal, ignoring the case of ASCII letters:
-    /// `LanguageRange::new("de-CH")?.eq_str("DE-ch")` is `true`. It is proved that comparisons and hashes also ignore
-    /// case, and that a clone is the same value.
+    /// Returns whether another text is equal, ignoring the case of ASCII letters. It is proved that comparisons and
+    /// hashes also ignore case, and that a clone is the same value.
+    ///
+    /// ```
+    /// # fn main() -> Result<(), Box<dyn std::error::Error>> {
+    /// use langtag::matching::LanguageRange;
+    ///
+    /// assert!(LanguageRange::new("de-CH")?.eq_str("DE-ch"));
+    /// # Ok(())
+    /// # }
+    /// ```
     #[inline]
     pub fn eq_str(&self, other: &str) -> bool {
         self.text == Caseless(other)
@@ -129,11 +153,20 @@ impl<'a> LanguageRange<'a> {
         Fallbacks::new(*self)
     }
 
-    /// Copies the text into an owned value: `LanguageRange::new("de-*")?.try_to_owned()?.as_str()` is `"de-*"`.
+    /// Copies the text into an owned value.
     ///
     /// # Errors
     ///
     /// Returns an error if allocation fails.
+    ///
+    /// ```
+    /// # fn main() -> Result<(), Box<dyn std::error::Error>> {
+    /// use langtag::matching::LanguageRange;
+    ///
+    /// assert_eq!(LanguageRange::new("de-*")?.try_to_owned()?.as_str(), "de-*");
+    /// # Ok(())
+    /// # }
+    /// ```
     #[cfg(feature = "alloc")]
     #[inline]
     pub fn try_to_owned(&self) -> Result<LanguageRangeBuf, AllocError> {
@@ -185,20 +218,46 @@ impl LanguageRangeBuf {
         })
     }
 
-    /// Borrows the range: `as_language_range().is_basic()` of the owned `de` is `true`. It is proved that comparisons
-    /// and hashes of owned ranges ignore case.
+    /// Borrows the range. It is proved that comparisons and hashes of owned ranges ignore case.
+    ///
+    /// ```
+    /// # fn main() -> Result<(), Box<dyn std::error::Error>> {
+    /// use langtag::matching::LanguageRange;
+    ///
+    /// assert!(LanguageRange::new("de")?.try_to_owned()?.as_language_range().is_basic());
+    /// # Ok(())
+    /// # }
+    /// ```
     #[inline]
     pub fn as_language_range(&self) -> LanguageRange<'_> {
         LanguageRange::from_checked(self.as_str())
     }
 
-    /// Returns the text, in its original case: `as_str()` of the owned `de-ch` is `"de-ch"`.
+    /// Returns the text, in its original case.
+    ///
+    /// ```
+    /// # fn main() -> Result<(), Box<dyn std::error::Error>> {
+    /// use langtag::matching::LanguageRange;
+    ///
+    /// assert_eq!(LanguageRange::new("de-ch")?.try_to_owned()?.as_str(), "de-ch");
+    /// # Ok(())
+    /// # }
+    /// ```
     #[inline]
     pub fn as_str(&self) -> &str {
         self.text.0.as_str()
     }
 
-    /// Returns the `String`, without copying it: `into_string()` of the owned `de-ch` is the `String` `de-ch`.
+    /// Returns the `String`, without copying it.
+    ///
+    /// ```
+    /// # fn main() -> Result<(), Box<dyn std::error::Error>> {
+    /// use langtag::matching::LanguageRange;
+    ///
+    /// assert_eq!(LanguageRange::new("de-ch")?.try_to_owned()?.into_string(), "de-ch");
+    /// # Ok(())
+    /// # }
+    /// ```
     #[inline]
     pub fn into_string(self) -> String {
         self.text.0
