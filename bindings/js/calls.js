@@ -234,18 +234,24 @@ function writeSpans(list, at) {
     return [BigInt(at), BigInt(list.length)];
 }
 
-/** The index of the tag that a call chooses for a text, or for ranges that stand in it, or how many tags there are. */
-function chosen(name, text, tags, ranges = []) {
+/** The index of the tag that a call chooses for a text, or for ranges that stand in it, or how many tags there are; and what more it writes. */
+function chosen(name, text, tags, ranges, ...more) {
     const joined = tags.join("");
     const at = (text.length + joined.length + 7) & -8;
-    open(at + 16 * (tags.length + ranges.length));
+    open(at + 16 * (tags.length + (ranges ?? []).length));
     write(text, texts);
     write(joined, texts + text.length);
     const offered = [BigInt(texts + text.length), BigInt(joined.length), ...writeSpans(tags, texts + at)];
-    const wanted = name === "langtag_best_for_ranges" ? writeSpans(ranges, texts + at + 16 * tags.length) : [];
-    return close(Number(calls[name](textsAddress, BigInt(text.length), ...wanted, ...offered)));
+    const wanted = ranges === undefined ? [] : writeSpans(ranges, texts + at + 16 * tags.length);
+    return close(Number(calls[name](textsAddress, BigInt(text.length), ...wanted, ...offered, ...more)));
 }
 
 export const bestForHeader = (header, tags) => chosen("langtag_best_for_header", header, tags);
+/** That index; where the range stands in the header: offset and length; and the distance. */
+export function matchForHeader(header, tags) {
+    const index = chosen("langtag_match_for_header", header, tags, undefined, outAddress);
+    return [index, written(0), written(1), written(2)];
+}
+
 export const bestForRanges = (ranges, tags) => chosen("langtag_best_for_ranges", ranges.join(""), tags, ranges);
 export const tagForHeader = (header, tags) => chosen("langtag_tag_for_header_lenient", header, tags);

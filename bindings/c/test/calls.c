@@ -364,6 +364,24 @@ static void answer_best_ranges(text *to, const text *arguments) {
     if (again != (index < count ? index : count + 1)) put_word(to, " but another beside spans out of the texts");
 }
 
+/* The index, the distance and the range; all is written also where there is none. */
+static void answer_best_match(text *to, const text *arguments) {
+    langtag_span tags[MOST_TAGS];
+    text header = arguments[0], words = arguments[1];
+    size_t count = find_tags(words, tags);
+    langtag_best_match match = {{1, 2}, 3};
+    size_t index = langtag_match_for_header(header.at, header.len, words.at, words.len, tags, count, &match);
+    if (index != langtag_best_for_header(header.at, header.len, words.at, words.len, tags, count)) put_word(to, " another tag");
+    if (index < count) {
+        put_number(to, "", index), put_number(to, "", match.distance);
+        put_word(to, " "), put(to, header.at + match.range.start, match.range.len);
+        return;
+    }
+    put_word(to, " -");
+    if (index != count || match.range.start != header.len || match.range.len != 0 || match.distance != LANGTAG_NO_DISTANCE)
+        put_word(to, " and a match");
+}
+
 call calls[] = {
     {"tag", answer_tag, 0, 0},
     {"validity", answer_validity, 0, 0},
@@ -386,5 +404,6 @@ call calls[] = {
     {"ranges", answer_ranges, 0, 0},
     {"best", answer_best, 0, 0},
     {"best-ranges", answer_best_ranges, 0, 0},
+    {"best-match", answer_best_match, 0, 0},
     {NULL, NULL, 0, 0},
 };

@@ -1,11 +1,11 @@
-"""What langtag._native has and says, by ctypes: for a Python that can't load that module, and a library that LANGTAG_LIBRARY names."""
+"""The functions of langtag._native, over ctypes. Used if Python cannot load that module, or if LANGTAG_LIBRARY names a library."""
 from __future__ import annotations
 
 import ctypes
 import functools
 from typing import Any, Callable, Iterable, Iterator
 
-from ._library import Parts, Repeated, Span, opened
+from ._library import BestMatch, Parts, Repeated, Span, opened
 from ._texts import Text, bytes_of
 
 _c = opened()
@@ -70,22 +70,38 @@ def _joined(texts: list[bytes]) -> tuple[bytes, int, Any, int]:
     return b"".join(texts), start, spans, len(texts)
 
 
+def _index(choose: Callable[..., int], wanted: tuple[Any, ...], listed: list[Any], tag_class: Any, *out: Any) -> int:
+    return choose(*wanted, *_joined([(it if isinstance(it, TagBase) else tag_class(it))._data for it in listed]), *out)
+
+
 def _chosen(choose: Callable[..., int], wanted: tuple[Any, ...], tags: Iterable[Any], default: Any, tag_class: Any) -> Any:
     listed = list(tags)
-    index = choose(*wanted, *_joined([(it if isinstance(it, TagBase) else tag_class(it))._data for it in listed]))
+    index = _index(choose, wanted, listed, tag_class)
     return listed[index] if index < len(listed) else default
 
 
-def _for_header(choose: Callable[..., int], header: Text, tags: Iterable[Any], default: Any, tag_class: Any) -> Any:
-    return _chosen(choose, (bytes_of(header), len(bytes_of(header))), tags, default, tag_class)
+def _header(header: Text) -> tuple[bytes, int]:
+    return bytes_of(header), len(bytes_of(header))
 
 
-best_for_header = functools.partial(_for_header, _c.langtag_best_for_header)
-tag_for_header = functools.partial(_for_header, _c.langtag_tag_for_header_lenient)
+def best_for_header(header: Text, *more: Any) -> Any:
+    return _chosen(_c.langtag_best_for_header, _header(header), *more)
 
 
-def best_for_ranges(ranges: list[bytes], tags: Iterable[Any], default: Any, tag_class: Any) -> Any:
-    return _chosen(_c.langtag_best_for_ranges, _joined(ranges), tags, default, tag_class)
+def tag_for_header(header: Text, *more: Any) -> Any:
+    return _chosen(_c.langtag_tag_for_header_lenient, _header(header), *more)
+
+
+def best_for_ranges(ranges: list[bytes], *more: Any) -> Any:
+    return _chosen(_c.langtag_best_for_ranges, _joined(ranges), *more)
+
+
+def match_for_header(header: Text, tags: Iterable[Any], tag_class: Any) -> tuple[int, Any, int, bytes] | None:
+    listed, match = list(tags), BestMatch()
+    index = _index(_c.langtag_match_for_header, _header(header), listed, tag_class, match)
+    if index == len(listed):
+        return None
+    return index, listed[index], match.distance, bytes_of(header)[match.range.start : match.range.start + match.range.len]
 
 
 @functools.total_ordering

@@ -109,4 +109,5 @@ PyMethodDef lt_functions[] = {
     {"from_posix", lt_from_posix, METH_O, NULL},
     {"best_for_header", lt_best_for_header, METH_VARARGS, NULL},
     {"best_for_ranges", lt_best_for_ranges, METH_VARARGS, NULL},
+    {"match_for_header", lt_match_for_header, METH_VARARGS, NULL},
     {NULL, NULL, 0, NULL}};

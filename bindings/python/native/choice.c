@@ -72,46 +72,59 @@ static int add_item(Offered *offered, PyObject *item, PyObject *type) {
     return add(offered, &tag->text);
 }
 
-/* What a reader wants: a header, or ranges of which the first is wanted most. */
+/* The item of a list or a tuple, borrowed. */
+static PyObject *item_at(PyObject *listed, size_t index) {
+    return (PyList_Check(listed) ? PyList_GetItem : PyTuple_GetItem)(listed, (Py_ssize_t)index);
+}
+
+/* What a reader wants, and the call that chooses for it: for a header, with what is said of the tag if there is room for that, or
+ * for ranges of which the first is wanted most. */
 typedef struct {
     Text header;
-    const Offered *ranges; /* NULL: the header */
     Choose *choose;
+    langtag_best_match *match;
+    const Offered *ranges;
 } Wanted;
-
-static size_t choose(const Wanted *wanted, const Offered *offered) {
-    const Offered *ranges = wanted->ranges;
-    if (ranges)
-        return langtag_best_for_ranges(ranges->text, ranges->len, ranges->spans, ranges->count, offered->text, offered->len,
-                                       offered->spans, offered->count);
-    return wanted->choose(wanted->header.data, (size_t)wanted->header.len, offered->text, offered->len, offered->spans, offered->count);
-}
 
 static size_t length(const Wanted *wanted) { return wanted->ranges ? wanted->ranges->len : (size_t)wanted->header.len; }
 
-/* Borrowed from a list or a tuple, which nothing changes meanwhile. */
-static PyObject *chosen(const Wanted *wanted, PyObject *listed, PyObject *otherwise, PyObject *type) {
+static size_t choose(const Wanted *wanted, const Offered *tags) {
+    const Offered *ranges = wanted->ranges;
+    const char *header = wanted->header.data;
+    const size_t len = (size_t)wanted->header.len;
+    if (ranges)
+        return langtag_best_for_ranges(ranges->text, ranges->len, ranges->spans, ranges->count, tags->text, tags->len, tags->spans, tags->count);
+    if (wanted->match) return langtag_match_for_header(header, len, tags->text, tags->len, tags->spans, tags->count, wanted->match);
+    return wanted->choose(header, len, tags->text, tags->len, tags->spans, tags->count);
+}
+
+/* The index of the tag that is chosen, or `count`: -1 with an exception. */
+static int choose_index(const Wanted *wanted, PyObject *listed, PyObject *type, size_t *index) {
     Offered offered;
-    PyObject *(*item)(PyObject *, Py_ssize_t) = PyList_Check(listed) ? PyList_GetItem : PyTuple_GetItem;
-    size_t count = (size_t)PySequence_Size(listed), index = count;
-    if (open_offered(&offered, count)) return NULL;
+    size_t count = (size_t)PySequence_Size(listed);
+    if (open_offered(&offered, count)) return -1;
     int status = 0;
-    for (size_t i = 0; i < count && !status; i++) status = add_item(&offered, item(listed, (Py_ssize_t)i), type);
+    for (size_t i = 0; i < count && !status; i++) status = add_item(&offered, item_at(listed, i), type);
     if (!status) {
         LET_GO((Py_ssize_t)length(wanted));
-        index = choose(wanted, &offered);
+        *index = choose(wanted, &offered);
         TAKE_BACK();
     }
     close_offered(&offered);
-    if (status) return NULL;
-    return index < count ? item(listed, (Py_ssize_t)index) : otherwise;
+    return status;
+}
+
+/* The caller's own list, but where others may change it: those that run during a call on a long text. */
+static PyObject *listed_for(const Wanted *wanted, PyObject *all) {
+    return length(wanted) < LONG_TEXT ? PySequence_Fast(all, "the tags are not iterable") : PySequence_Tuple(all);
 }
 
 /* The item of `all` that is chosen, or `otherwise`. */
-static PyObject *chosen_of(const Wanted *wanted, PyObject *all, PyObject *otherwise, PyObject *type) {
-    /* The caller's own list, but where others may change it: those that run during a call on a long text. */
-    PyObject *listed = length(wanted) < LONG_TEXT ? PySequence_Fast(all, "the tags are not iterable") : PySequence_Tuple(all);
-    PyObject *found = listed ? chosen(wanted, listed, otherwise, type) : NULL;
+static PyObject *chosen(const Wanted *wanted, PyObject *all, PyObject *otherwise, PyObject *type) {
+    PyObject *listed = listed_for(wanted, all), *found = NULL;
+    size_t index;
+    if (listed && !choose_index(wanted, listed, type, &index))
+        found = index < (size_t)PySequence_Size(listed) ? item_at(listed, index) : otherwise;
     Py_XINCREF(found);
     Py_XDECREF(listed);
     return found;
@@ -121,7 +134,30 @@ static PyObject *for_header(PyObject *arguments, Choose *choose) {
     PyObject *from, *all, *otherwise, *type;
     Wanted wanted = {.choose = choose};
     if (!PyArg_UnpackTuple(arguments, "a choice", 4, 4, &from, &all, &otherwise, &type) || lt_text(from, &wanted.header)) return NULL;
-    PyObject *found = chosen_of(&wanted, all, otherwise, type);
+    PyObject *found = chosen(&wanted, all, otherwise, type);
+    Py_DECREF(wanted.header.owner);
+    return found;
+}
+
+/* What is said of the best tag: (index, the tag as it was given, distance, range of the header); None where there is none. */
+static PyObject *matched(const Wanted *wanted, PyObject *listed, PyObject *type) {
+    const langtag_best_match *match = wanted->match;
+    size_t index;
+    if (choose_index(wanted, listed, type, &index)) return NULL;
+    if (index == (size_t)PySequence_Size(listed)) return lt_none();
+    return Py_BuildValue("nOIy#", (Py_ssize_t)index, item_at(listed, index), (unsigned)match->distance, wanted->header.data + match->range.start,
+                         (Py_ssize_t)match->range.len);
+}
+
+PyObject *lt_match_for_header(PyObject *module, PyObject *arguments) {
+    (void)module;
+    PyObject *from, *all, *type;
+    langtag_best_match match;
+    Wanted wanted = {.match = &match};
+    if (!PyArg_UnpackTuple(arguments, "a choice", 3, 3, &from, &all, &type) || lt_text(from, &wanted.header)) return NULL;
+    PyObject *listed = listed_for(&wanted, all);
+    PyObject *found = listed ? matched(&wanted, listed, type) : NULL;
+    Py_XDECREF(listed);
     Py_DECREF(wanted.header.owner);
     return found;
 }
@@ -154,7 +190,7 @@ PyObject *lt_best_for_ranges(PyObject *module, PyObject *arguments) {
     if (open_offered(&ranges, count)) return NULL;
     int status = 0;
     for (size_t i = 0; i < count && !status; i++) status = add_range(&ranges, PyList_GetItem(from, (Py_ssize_t)i));
-    if (!status) found = chosen_of(&(Wanted){.ranges = &ranges}, all, otherwise, type);
+    if (!status) found = chosen(&(Wanted){.ranges = &ranges}, all, otherwise, type);
     close_offered(&ranges);
     return found;
 }

@@ -15,6 +15,14 @@ pub(crate) fn is_star(range: &[u8]) -> bool
     are_alike(range, b"*")
 }
 
+/// Returns whether a range begins like a tag.
+pub(crate) fn starts(range: &[u8], tag: &[u8]) -> bool
+    ensures { result ≡ are_alike (take (length tag.now) (basic_text range.now)) tag.now }
+{
+    let (_, rest) = after_common(range, tag);
+    rest.is_empty()
+}
+
 /// Returns whether a tag is a range, or begins so and goes on with a hyphen.
 pub(crate) fn begins(range: &[u8], tag: &[u8]) -> bool
     ensures { result ≡ (are_alike (basic_text range.now) (take (length (basic_text range.now)) tag.now) && ends_subtag (drop (length (basic_text range.now)) tag.now)) }

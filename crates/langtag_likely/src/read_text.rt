@@ -8,7 +8,7 @@ ghost use Rattle.langtag_likely.specs.Ranges as spec;
 
 use langtag_scan::into_smallcase;
 
-/// Returns whether a range, as it is read, is a text but for case.
+/// Returns whether a range, read in this way, equals a text, ignoring case.
 pub fn are_alike(range: &[u8], text: &[u8]) -> bool
     ensures { result ≡ are_alike (basic_text range.now) text.now }
 {

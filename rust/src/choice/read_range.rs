@@ -10,6 +10,13 @@ pub(crate) fn is_star(range: &[u8]) -> bool {
     are_alike(range, b"*")
 }
 
+/// Returns whether a range begins like a tag.
+#[inline]
+pub(crate) fn starts(range: &[u8], tag: &[u8]) -> bool {
+    let (_, rest) = after_common(range, tag);
+    rest.is_empty()
+}
+
 /// Returns whether a tag is a range, or begins so and goes on with a hyphen.
 #[inline]
 pub(crate) fn begins(range: &[u8], tag: &[u8]) -> bool {

@@ -4,7 +4,7 @@
 
 use crate::scan::into_smallcase;
 
-/// Returns whether a range, as it is read, is a text but for case.
+/// Returns whether a range, read in this way, equals a text, ignoring case.
 #[inline]
 pub fn are_alike(range: &[u8], text: &[u8]) -> bool {
     let (left, rest) = after_common(range, text);

@@ -7,9 +7,15 @@ use crate::matching::wanted::WantedRange;
 use crate::matching::wanted_element::{is_mark, is_star, trimmed};
 use crate::scan::split_at_either;
 
-/// Returns the language range that a text of a list is, basic or extended: of ` zh_TW.UTF-8` the bytes `zh_TW`, which mean
-/// `zh-TW`. White space around it is left out, and what follows `.` or `@`, as of an element of a header. None where no range is
-/// left, as of `de;q=0`.
+/// Returns the range that a text in a list of ranges is, basic or extended, with the weight 1. As in a header, `_` is read
+/// as `-`, and white space around the range and everything after `.` or `@` are dropped. Returns `None` if the rest is not a
+/// range, such as `de;q=0`.
+///
+/// ```
+/// use langtag::matching::listed_range;
+///
+/// assert_eq!(listed_range(b" zh_TW.UTF-8").map(|range| range.bytes), Some(&b"zh_TW"[..]));
+/// ```
 pub fn listed_range(text: &[u8]) -> Option<WantedRange<'_>> {
     let (bytes, _codeset) = split_at_either(trimmed(text), b'.', b'@');
     if !is_listed_range(bytes) {
