@@ -152,7 +152,7 @@ def tables(likely):
     region = lambda row: likely.regions.index(row[5])
     return "\n".join([
         f"//! Unicode's CLDR {version()} in tables (the notice: likely/LICENSE-UNICODE). Written by likely/generate.py. Do not edit.\n",
-        f"/// The major version of the Unicode CLDR that this crate has, which is {version()}.\n" f'pub const CLDR_VERSION: &str = "{major_version()}";\n',
+        f"/// The major version of Unicode's CLDR in this crate, which is {version()}.\n" f'pub const CLDR_VERSION: &str = "{major_version()}";\n',
         numbers("SCRIPT_KEYS", "The scripts: their lowercase bytes as the digits of a number, in rising order.", 32, map(folded_number, likely.scripts)),
         names("SCRIPT_NAMES", "The same scripts.", likely.scripts),
         numbers("REGION_KEYS", "The regions: their lowercase bytes as the digits of a number, in rising order.", 32, map(folded_number, likely.regions)),

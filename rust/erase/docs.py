@@ -12,7 +12,8 @@ ASSERTED = re.compile(rf"(?P<code>(?!let ).*\S);\s+// (?P<value>{VALUE})(?:[:,.;
 def erase_docs(code, module):
     for token in code.tokens:
         if "///" in token.before or "//!" in token.before:
-            token.before = with_examples(with_names(token.before, module))
+            before = with_examples(with_names(token.before, module))
+            token.before = with_links(before) if token.text in ("pub", "#") and "//!" not in before else before
 
 
 def with_names(text, module):
@@ -24,6 +25,32 @@ def with_names(text, module):
 def name_of(word, module, is_link):
     path = public_path_of(module.crate if word == "crate" else word) or word
     return path.replace("langtag", "crate") if is_link else path
+
+
+SECTION = re.compile(r"(?<![\[`])RFC (\d{4}) section (\d+(?:\.\d+)*)(?![\]`])")
+
+
+def with_links(before):
+    """Links the first mention of each section of an RFC in a doc comment, and names the targets at its end."""
+    out, targets, is_code, indent = [], {}, False, ""
+    for line in [*before.split("\n"), ""]:
+        mark = re.match(r"\s*//[/!]|", line)[0]
+        if not mark and targets:
+            out += [f"{indent}", *(f"{indent} [{name}]: {target}" for name, target in targets.items())]
+            targets = {}
+        is_code ^= line[len(mark) :].strip().startswith("```")
+        if mark and not is_code:
+            indent = mark
+            line = SECTION.sub(lambda it: linked(it, targets), line)
+        out.append(line)
+    return "\n".join(out[:-1])
+
+
+def linked(found, targets):
+    if found[0] in targets:
+        return found[0]
+    targets[found[0]] = f"https://www.rfc-editor.org/rfc/rfc{found[1]}#section-{found[2]}"
+    return f"[{found[0]}]"
 
 
 def with_examples(before):

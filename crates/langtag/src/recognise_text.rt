@@ -9,7 +9,7 @@ use crate::grandfathered::GrandfatheredLangTag;
 use crate::recognised::Recognised;
 use langtag_scan::{Ends, Found, Metered, recognise};
 
-/// What the recogniser finds of bytes; None where they are not a tag.
+/// What the recogniser finds of bytes; `None` if they are not a tag.
 ///
 /// Each constructor of the crate calls this function. It is inlined: the recogniser is one short loop.
 #[inline(always)]
@@ -40,7 +40,7 @@ pub(crate) fn recognise_text(text: &str) -> Option<Recognised>
     recognise_bytes(text.as_bytes())
 }
 
-/// Where the parts of a normal tag end; None where the text is not a normal tag.
+/// Where the parts of a normal tag end; `None` if the text is not a normal tag.
 pub(crate) fn normal_ends(text: &str) -> Option<Ends>
     ensures { MatchOption result (IsNormal text.now → ⊥) (λ ends. HasEnds text.now ends) }
 {

@@ -1,4 +1,4 @@
-//! What a tag keeps of what the recogniser found of its text.
+//! What a tag stores of what the parser found in its text.
 ghost use Rattle.std.specs.Prelude.{◌≡◌};
 ghost use Rattle.langtag_scan.specs.Found.{is_normal, is_private_use, normal_ends};
 ghost use Rattle.langtag.specs.Recognised.{finding_of};
@@ -11,7 +11,7 @@ use langtag_scan::Ends;
 pub(crate) enum Recognised {
     /// A normal tag, and where its parts end.
     Normal(Ends),
-    /// A tag for private use as a whole.
+    /// A private-use tag.
     PrivateUse,
     /// An irregular grandfathered tag.
     Irregular(GrandfatheredLangTag),

@@ -17,7 +17,7 @@ const BLOCK: usize = 8192;
 
 const _: () = prove!(BLOCK == 8192);
 
-/// The index of the first of these variants that is equal, but for case, to an earlier one.
+/// The index of the first of these variants that is equal to an earlier one, ignoring case.
 ///
 /// The variants are gone over once for each block of them. What is kept of a block are its numbers in order, and which of them
 /// were met, so that each variant is looked up in few steps, whatever their order.
@@ -57,8 +57,8 @@ fn fill(block: &mut [u64], rest: &mut VariantsIter<'_>)
     }
 }
 
-/// The index of the first variant up to the end of a block that is equal, but for case, to an earlier one. The block has, in
-/// order, the numbers of the variants from the index `start` on; none of those before them is.
+/// The index of the first variant up to the end of a block that is equal to an earlier one, ignoring case. The block
+/// has, in order, the numbers of the variants from the index `start` on; none of those before them is.
 fn first_met_again(block: &[u64], variants: Variants<'_>, start: usize) -> Option<usize>
     requires room { length block.now ≤ BLOCK }
     requires within { start + length block.now ≤ length (subtags (variants_text variants)) }

@@ -1,4 +1,4 @@
-//! The subtags of an extension, by where they stand in a tag (RFC 5646 section 2.2.6).
+//! Where the subtags of an extension are in a tag (RFC 5646 section 2.2.6).
 ghost use Rattle.std.specs.Prelude.{◌≡◌, ◌∷◌, ◌+◌, ◌<◌, List, [], None, MatchOption, IfSome, drop, length, take};
 ghost use Rattle.std.specs.List.{list_any};
 ghost use Rattle.std.specs.Option.{option_map, option_map_or};
@@ -20,14 +20,14 @@ use langtag_extension::first_extension_end;
 use langtag_scan::{case_insensitive_eq, into_smallcase, segment_end};
 use langtag_unicode::Keys;
 
-/// Where a key stands, and its value.
+/// Where a key is, and its value.
 #[derive(Drop)]
 pub(crate) struct KeyPlace {
     pub key: Span,
     pub value: Span,
 }
 
-/// The subtags of the first extension of a singleton: a span without bytes where there is no such extension.
+/// Returns the subtags of the first extension with a singleton, or an empty span if there is none.
 pub(crate) fn extension_subtags(bytes: &[u8], singleton: u8) -> Span
     ensures subtags { PartOf bytes.now (spec.subtags_of singleton) [] (subtags_in bytes.now result) }
     ensures some { HasSubtags bytes.now result }
@@ -38,7 +38,7 @@ pub(crate) fn extension_subtags(bytes: &[u8], singleton: u8) -> Span
     find_extension(bytes, extensions, singleton)
 }
 
-/// The extensions of the normal tag that the bytes are.
+/// Returns the extensions, if the bytes are a normal tag.
 fn extensions_of(bytes: &[u8]) -> Option<Span>
     ensures none { result ≡ None → IsNormal bytes.now → ⊥ }
     ensures normal { IfSome result (λ _. IsNormal bytes.now) }
@@ -49,7 +49,7 @@ fn extensions_of(bytes: &[u8]) -> Option<Span>
     Some(Span::between(ends.variants, ends.extensions))
 }
 
-/// The subtags of the first of some extensions that has a singleton.
+/// Returns the subtags of the first of several extensions that has a singleton, or an empty span if none has.
 fn find_extension(bytes: &[u8], extensions: Span, singleton: u8) -> Span
     requires within { IsWithin bytes.now extensions }
     requires extensions { IsExtensions (span_text bytes.now extensions) }
@@ -67,7 +67,7 @@ fn find_extension(bytes: &[u8], extensions: Span, singleton: u8) -> Span
     Span { start: 0, len: 0 }
 }
 
-/// The subtags before the first key.
+/// Returns the subtags before the first key.
 pub(crate) fn before_key(bytes: &[u8], subtags: Span, keys: Keys) -> Span
     requires { HasSubtags bytes.now subtags }
     ensures text { span_text bytes.now result ≡ join (spec.before_key (opens keys) (subtags_in bytes.now subtags)) }
@@ -79,7 +79,7 @@ pub(crate) fn before_key(bytes: &[u8], subtags: Span, keys: Keys) -> Span
     }
 }
 
-/// How many bytes the subtags before the first key take, each with a hyphen after it.
+/// Returns the number of bytes of the subtags before the first key, each with a hyphen after it.
 fn len_before_key(bytes: &[u8], subtags: Span, keys: Keys) -> usize
     requires { HasSubtags bytes.now subtags }
     ensures { result ≡ length_with_hyphens (spec.before_key (opens keys) (subtags_in bytes.now subtags)) }
@@ -97,7 +97,7 @@ fn len_before_key(bytes: &[u8], subtags: Span, keys: Keys) -> usize
     len
 }
 
-/// The value of the first key that equals a text, but for case. None where there is no such key.
+/// Returns the value of the first key that equals a text, ignoring case.
 pub(crate) fn value_of(bytes: &[u8], subtags: Span, keys: Keys, key: &[u8]) -> Option<Span>
     requires { HasSubtags bytes.now subtags }
     ensures value { option_map (span_text bytes.now) result ≡ option_map join (spec.value_of (opens keys) key.now (subtags_in bytes.now subtags)) }
@@ -115,7 +115,7 @@ pub(crate) fn value_of(bytes: &[u8], subtags: Span, keys: Keys, key: &[u8]) -> O
     None
 }
 
-/// Whether a subtag equals one of the first so many, but for case.
+/// Returns whether a subtag equals one of the first `count` subtags, ignoring case.
 fn is_among_first(bytes: &[u8], subtags: Span, count: usize, subtag: &[u8]) -> bool
     requires { HasSubtags bytes.now subtags }
     ensures { result ≡ list_any (are_alike subtag.now) (take count (subtags_in bytes.now subtags)) }
@@ -136,7 +136,7 @@ fn is_among_first(bytes: &[u8], subtags: Span, count: usize, subtag: &[u8]) -> b
     false
 }
 
-/// What is left of some subtags after the first so many.
+/// Returns what is left after the first `count` subtags.
 fn after_first(bytes: &[u8], subtags: Span, count: usize) -> Span
     requires { HasSubtags bytes.now subtags }
     ensures left { subtags_in bytes.now result ≡ drop count (subtags_in bytes.now subtags) }
@@ -154,7 +154,7 @@ fn after_first(bytes: &[u8], subtags: Span, count: usize) -> Span
     rest
 }
 
-/// Whether a subtag is a key, and equals none of the first so many, but for case.
+/// Returns whether a subtag is a key that equals none of the first `count` subtags, ignoring case.
 fn is_new_key(bytes: &[u8], subtags: Span, keys: Keys, count: usize, subtag: &[u8]) -> bool
     requires { HasSubtags bytes.now subtags }
     ensures { result ≡ spec.is_new_key (opens keys) (take count (subtags_in bytes.now subtags)) subtag.now }
@@ -162,8 +162,8 @@ fn is_new_key(bytes: &[u8], subtags: Span, keys: Keys, count: usize, subtag: &[u
     keys.has(subtag) && !is_among_first(bytes, subtags, count, subtag)
 }
 
-/// The first key that equals none before it, of some subtags of which so many are passed. It and those before it are passed
-/// then.
+/// Returns the first key after the first `passed` subtags that equals none before it, with its value. `passed` then counts
+/// the subtags up to that key.
 pub(crate) fn next_key(
     bytes: &[u8],
     subtags: Span,

@@ -1,4 +1,4 @@
-//! What the extension `u` of a tag says (RFC 6067 section 2.1), by where it stands.
+//! Where the keywords and attributes of the extension `u` are (RFC 6067 section 2.1).
 ghost use Rattle.std.specs.Prelude.{◌≡◌, ◌↔◌, ◌<◌, ◌∷◌, [], None, IsTrue, false};
 ghost use Rattle.std.specs.Option.{option_map};
 ghost use Rattle.langtag.specs.Part.{PartOf};
@@ -13,10 +13,11 @@ use crate::extension_subtags::{before_key, extension_subtags, next_key, value_of
 use crate::span::Span;
 use langtag_unicode::Keys;
 
-/// Finds the value of a key of the extension `u` (RFC 6067 section 2.1): `islamic-civil` of `ar-u-ca-islamic-civil` for `ca`, in
-/// any case. The value has no bytes where the key stands alone, which means `true`. Of a repeated key the first counts.
+/// Returns whether the extension `u` has a key (RFC 6067 section 2.1), ignoring case, and writes its value: `islamic-civil` for
+/// `ca` in `ar-u-ca-islamic-civil`. The value is empty if the key has none, which means `true`. If a key is repeated, the first
+/// one counts.
 ///
-/// False where the key does not stand, or where the bytes are no tag; the value then stays as it was.
+/// If it returns `false`, `value` is unchanged.
 #[unsafe(no_mangle)]
 pub extern "C" fn langtag_keyword(bytes: &[u8], key: &[u8], value: &mut Span) -> bool
     ensures value { PartOf bytes.now (λ r. option_map join (spec.value_of spec.is_key key.now (spec.subtags_of 117 r))) None (answered result (span_text bytes.now value.new)) }
@@ -31,10 +32,10 @@ pub extern "C" fn langtag_keyword(bytes: &[u8], key: &[u8], value: &mut Span) ->
     true
 }
 
-/// Takes the next keyword of the extension `u` (RFC 6067 section 2.1), of whose subtags so many are passed: 0 at first. Each key
-/// comes once, with its first value. A value has no bytes where its key stands alone.
+/// Writes the next keyword of the extension `u` (RFC 6067 section 2.1). `passed` counts the subtags of `u` that a walk has passed,
+/// and is 0 at the start. Each key comes once, with its first value. The value is empty if the key has none.
 ///
-/// False where no keyword is left, or where the bytes are no tag; then all stays as it was.
+/// Returns `false` and changes nothing if no keyword is left.
 #[unsafe(no_mangle)]
 pub extern "C" fn langtag_next_keyword(
     bytes: &[u8],
@@ -58,10 +59,10 @@ pub extern "C" fn langtag_next_keyword(
     true
 }
 
-/// Finds the attributes of the extension `u` (RFC 6067 section 2.1), which stand before its first key: `attr-foo` of
-/// `de-u-attr-foo-ca-buddhist`. A repeated attribute stands there twice.
+/// Writes where the attributes of the extension `u` are (RFC 6067 section 2.1), before its first key: `attr-foo` in
+/// `de-u-attr-foo-ca-buddhist`. A repeated attribute is there twice.
 ///
-/// False where there are none, or where the bytes are no tag; the span then has no bytes.
+/// Returns `false`, and writes an empty span, if there are none.
 #[unsafe(no_mangle)]
 pub extern "C" fn langtag_attributes(bytes: &[u8], attributes: &mut Span) -> bool
     ensures text { PartOf bytes.now (λ r. join (spec.before_key spec.is_key (spec.subtags_of 117 r))) [] (span_text bytes.now attributes.new) }

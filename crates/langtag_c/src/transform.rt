@@ -1,4 +1,4 @@
-//! What the extension `t` of a tag says (RFC 6497 section 2.2), by where it stands.
+//! Where the language and the fields of the extension `t` are (RFC 6497 section 2.2).
 ghost use Rattle.std.specs.Prelude.{◌≡◌, ◌∷◌, [], None, IsTrue, false};
 ghost use Rattle.std.specs.Option.{option_map};
 ghost use Rattle.langtag.specs.Part.{PartOf};
@@ -15,10 +15,10 @@ use crate::extension_subtags::{before_key, extension_subtags, next_key, value_of
 use crate::span::Span;
 use langtag_unicode::Keys;
 
-/// Finds the language of the extension `t` (RFC 6497 section 2.2), which stands before its first field: `ja-latn` of
-/// `und-t-ja-latn-m0-hepburn`. It has no bytes where there is none, as in `und-t-m0-hepburn`.
+/// Returns whether a tag has the extension `t` (RFC 6497 section 2.2), and writes where its language is, before its first field:
+/// `ja-latn` in `und-t-ja-latn-m0-hepburn`. The language is empty if there is none, as in `und-t-m0-hepburn`.
 ///
-/// False where the tag has no such extension, or where the bytes are no tag; the span then stays as it was.
+/// If it returns `false`, `language` is unchanged.
 #[unsafe(no_mangle)]
 pub extern "C" fn langtag_transform(bytes: &[u8], language: &mut Span) -> bool
     ensures language { PartOf bytes.now (λ r. option_map (λ e. join (spec.before_key is_field_key e.subtags)) (find_extension 116 r.extensions)) None (answered result (span_text bytes.now language.new)) }
@@ -33,10 +33,10 @@ pub extern "C" fn langtag_transform(bytes: &[u8], language: &mut Span) -> bool
     true
 }
 
-/// Finds the value of a field of the extension `t` (RFC 6497 section 2.2): `hepburn` of `und-t-ja-m0-hepburn` for `m0`, in any case.
-/// Of a repeated field the first counts.
+/// Returns whether the extension `t` has a field (RFC 6497 section 2.2), ignoring case, and writes its value: `hepburn` for `m0` in
+/// `und-t-ja-m0-hepburn`. If a field is repeated, the first one counts.
 ///
-/// False where the field does not stand, or where the bytes are no tag; the value then stays as it was.
+/// If it returns `false`, `value` is unchanged.
 #[unsafe(no_mangle)]
 pub extern "C" fn langtag_field(bytes: &[u8], key: &[u8], value: &mut Span) -> bool
     ensures value { PartOf bytes.now (λ r. option_map join (spec.value_of is_field_key key.now (spec.subtags_of 116 r))) None (answered result (span_text bytes.now value.new)) }
@@ -51,10 +51,10 @@ pub extern "C" fn langtag_field(bytes: &[u8], key: &[u8], value: &mut Span) -> b
     true
 }
 
-/// Takes the next field of the extension `t` (RFC 6497 section 2.2), of whose subtags so many are passed: 0 at first. Each key comes
-/// once, with its first value.
+/// Writes the next field of the extension `t` (RFC 6497 section 2.2). `passed` counts the subtags of `t` that a walk has passed, and
+/// is 0 at the start. Each key comes once, with its first value.
 ///
-/// False where no field is left, or where the bytes are no tag; then all stays as it was.
+/// Returns `false` and changes nothing if no field is left.
 #[unsafe(no_mangle)]
 pub extern "C" fn langtag_next_field(
     bytes: &[u8],

@@ -11,7 +11,7 @@ use crate::matching_tables as tables;
 use langtag_likely::{TagFields, language_number};
 use langtag_scan::into_smallcase;
 
-/// Returns the first two bytes of a text, in small letters.
+/// Returns the first two bytes of a text, in lowercase letters.
 pub(crate) fn head(text: &[u8]) -> Option<(u8, u8)>
     ensures { result ≡ spec.head text.now }
 {

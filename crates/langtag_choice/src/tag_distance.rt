@@ -12,17 +12,18 @@ use langtag::LangTag;
 use langtag_likely::{TagFields, matching_form};
 use langtag_scan::case_insensitive_eq;
 
-/// The distance of two different tags where one has no matching form: it is `und` and no more, of private use, or begins with `i-`.
+/// The distance of two different tags of which one has no known language: it is only `und`, or is for private use, or
+/// begins with `i-`.
 pub const FORMLESS_DISTANCE: u8 = 255;
 
-/// Returns the distance from a tag that a reader desires to one that there is (UTS #35, Language Matching): 0 from `zh-TW` to
+/// Returns the distance from a desired tag to a supported tag (UTS #35, Language Matching): 0 from `zh-TW` to
 /// `zh-Hant`, 4 from `de-AT` to `de`, 10 from `yue` to `zh-HK`, 84 from `de` to `en`.
 ///
-/// It is the sum of that of the languages (80 where no rule says less), that of the scripts (50) and that of the regions (at most
-/// 5), once what is deprecated is replaced and likely subtags are added. So up to 15 the languages are nearly the same, and below
-/// 50 most readers understand the one who read the other. The case, variants, extensions and private use are of no account, nor is
-/// what else follows the region, as in `en-GB-oed`.
-/// Where a tag has no such form, it is [`FORMLESS_DISTANCE`], or 0 if the tags are equal but for case.
+/// First, deprecated subtags are replaced and likely subtags are added. The distance is then the sum of the distances
+/// of the languages (80 unless a rule says less), the scripts (50) and the regions (at most 5). Up to 15 the languages
+/// are nearly the same, and below 50 most readers understand the other language. Case, variants, extensions and private
+/// use do not count, nor does anything else after the region, as in `en-GB-oed`. If a tag has no known language, it is
+/// [`FORMLESS_DISTANCE`], or 0 if the tags are equal, ignoring case.
 ///
 /// The languages `arb cmn in iw ji jw mo sh tl` are replaced, and deprecated regions; `langtag_registry::canonical` replaces all
 /// that is deprecated.
@@ -60,7 +61,7 @@ fn formless_distance(desired: &[u8], supported: &[u8]) -> u8
     }
 }
 
-/// Returns the distance of two matching forms: 0 exactly if they are equal but for case.
+/// Returns the distance of two matching forms: 0 exactly if they are equal, ignoring case.
 fn fields_distance(desired: TagFields<'_>, supported: TagFields<'_>) -> u8
     ensures distance { result ≡ spec.fields_distance (field_texts desired.entry) (field_texts supported.entry) }
     ensures most { result ≤ 134 }

@@ -34,7 +34,7 @@ impl<'a> Wish<'a> {
     ghost use Rattle.langtag_choice.specs.Found.{wish_element};
     ghost use Rattle.langtag_choice.specs.Nearness.{kept};
 
-    /// Reads the range at a place: None of `*`, and of one with the weight 0.
+    /// Reads the range at a place: `None` for `*`, and of one with the weight 0.
     #[tactic(auto, unfolding(crate::specs::Best::serves))]
     pub(crate) fn new(wanted: WantedRange<'a>, place: usize) -> Option<Wish<'a>>
         ensures { MatchOption result ((tag : List ℕ) → serves (wanted_element wanted.entry) tag ≡ false)

@@ -90,7 +90,7 @@ impl<'a> TagFields<'a> {
         }
     }
 
-    /// Returns whether the fields are equal but for case.
+    /// Returns whether the fields are equal, ignoring case.
     pub(crate) fn are_alike(self, others: TagFields<'_>) -> bool
         ensures { result ≡ are_alike_fields (field_texts self.entry) (field_texts others.entry) }
     {

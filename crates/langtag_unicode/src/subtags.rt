@@ -91,7 +91,7 @@ fn len_before_key(text: &str, keys: Keys) -> usize
     len
 }
 
-/// Returns whether a subtag is equal, but for case, to one of the first so many of a text.
+/// Returns whether a subtag is equal to one of the first so many of a text, ignoring case.
 pub(crate) fn is_among_first(text: &str, count: usize, subtag: &str) -> bool
     ensures { result ≡ list_any (are_alike subtag.now) (take count (subtags text.now)) }
 {

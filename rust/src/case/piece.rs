@@ -4,8 +4,10 @@
 
 use crate::scan::segment_end;
 
-/// A piece of a text in its recommended case (RFC 5646 section 2.1.1): a subtag, or all that is left of the text from the
+/// A piece of a text in its recommended case ([RFC 5646 section 2.1.1]): a subtag, or all that is left of the text from the
 /// first subtag of a single byte on, which is lowercase.
+///
+/// [RFC 5646 section 2.1.1]: https://www.rfc-editor.org/rfc/rfc5646#section-2.1.1
 #[derive(Clone, Copy, Debug)]
 pub(crate) struct Piece {
     /// Its length in bytes.

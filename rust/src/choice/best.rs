@@ -13,8 +13,8 @@ use crate::matching::AcceptLanguage;
 use crate::matching::LanguageRange;
 use crate::tag::LangTag;
 
-/// Returns the index of the tag that the reader wants who sent an Accept-Language header, if one of the tags is anything to
-/// them: 2 for `zh-TW,zh;q=0.9,en;q=0.8` and the tags `en`, `zh-Hans` and `zh-Hant`.
+/// Returns the index of the best tag for an Accept-Language header ([RFC 9110 section 12.5.4]), or `None` if no tag is
+/// suitable. For `zh-TW,zh;q=0.9,en;q=0.8` and the tags `en`, `zh-Hans` and `zh-Hant` it is 2.
 ///
 /// ```
 /// # fn main() -> Result<(), Box<dyn std::error::Error>> {
@@ -26,13 +26,15 @@ use crate::tag::LangTag;
 /// # Ok(())
 /// # }
 /// ```
+///
+/// [RFC 9110 section 12.5.4]: https://www.rfc-editor.org/rfc/rfc9110#section-12.5.4
 #[inline]
 pub fn best_for_header(header: &[u8], tags: &[LangTag<'_>]) -> Option<usize> {
     best_among(header, &Tags(tags))
 }
 
-/// Returns the index of the tag that a reader wants, as [`best_for_header`] does, for a header that was read by the letter of
-/// RFC 9110. Ranges of weight 0 are not among those that it accepts, so no tag is refused.
+/// Returns the index of the best tag for a parsed header, as [`best_for_header`] does. [`AcceptLanguage`] has no ranges
+/// of weight 0, so it excludes no tag.
 #[cfg(feature = "alloc")]
 #[inline]
 pub fn best_for_accept_language(
@@ -42,15 +44,14 @@ pub fn best_for_accept_language(
     best_among(accepted.ranges(), &Tags(tags))
 }
 
-/// Returns the index of the tag that a reader wants, as [`best_for_header`] does, who names language ranges of which the first
-/// is wanted most: 1 for `nn` and `de`, and the tags `en` and `nb`. It is meant for basic ranges.
+/// Returns the index of the best tag for a list of language ranges, the most wanted first, as [`best_for_header`] does:
+/// 1 for the ranges `nn` and `de`, and the tags `en` and `nb`. It is meant for basic ranges.
 #[inline]
 pub fn best_for_ranges(ranges: &[LanguageRange<'_>], tags: &[LangTag<'_>]) -> Option<usize> {
     best_among(ranges, &Tags(tags))
 }
 
-/// Returns the index of the tag that a reader wants, as [`best_for_header`] does, for ranges and among tags that stand
-/// elsewhere than in a header and a slice.
+/// Returns the index of the best tag, as [`best_for_header`] does, for any list of ranges and any list of tags.
 #[inline]
 pub fn best_among<'a, R: RangeList<'a>, T: TagList>(ranges: R, tags: &T) -> Option<usize> {
     best(ranges, tags)

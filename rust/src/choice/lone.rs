@@ -6,7 +6,7 @@ use crate::choice::matching_tables as tables;
 use crate::likely::{language_number, TagFields};
 use crate::scan::into_smallcase;
 
-/// Returns the first two bytes of a text, in small letters.
+/// Returns the first two bytes of a text, in lowercase letters.
 #[inline]
 pub(crate) fn head(text: &[u8]) -> Option<(u8, u8)> {
     match text {

@@ -19,7 +19,7 @@ pub(crate) struct Wish<'a> {
 }
 
 impl<'a> Wish<'a> {
-    /// Reads the range at a place: None of `*`, and of one with the weight 0.
+    /// Reads the range at a place: `None` for `*`, and of one with the weight 0.
     pub(crate) fn new(wanted: WantedRange<'a>, place: usize) -> Option<Wish<'a>> {
         if wanted.weight == 0 || is_star(wanted.bytes) {
             return None;

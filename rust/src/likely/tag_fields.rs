@@ -74,7 +74,7 @@ impl<'a> TagFields<'a> {
         }
     }
 
-    /// Returns whether the fields are equal but for case.
+    /// Returns whether the fields are equal, ignoring case.
     #[inline]
     pub(crate) fn are_alike(self, others: TagFields<'_>) -> bool {
         case_insensitive_eq(self.language, others.language)

@@ -22,7 +22,7 @@ pub fn len_before(text: &[u8], mark: u8) -> usize {
     first_place(text, mark).unwrap_or(text.len())
 }
 
-/// Returns the index of the first `mark`, None where there is none: `first_place(b"q=1", b'=')` is Some(1).
+/// Returns the index of the first `mark`, `None` if there is none: `first_place(b"q=1", b'=')` is Some(1).
 #[inline]
 pub fn first_place(text: &[u8], mark: u8) -> Option<usize> {
     text.iter().position(|byte| *byte == mark)

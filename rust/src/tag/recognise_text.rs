@@ -6,7 +6,7 @@ use crate::scan::{recognise, Ends, Found, Metered};
 use crate::tag::grandfathered::GrandfatheredLangTag;
 use crate::tag::recognised::Recognised;
 
-/// What the recogniser finds of bytes; None where they are not a tag.
+/// What the recogniser finds of bytes; `None` if they are not a tag.
 ///
 /// Each constructor of the crate calls this function. It is inlined: the recogniser is one short loop.
 #[inline(always)]
@@ -33,7 +33,7 @@ pub(crate) fn recognise_text(text: &str) -> Option<Recognised> {
     recognise_bytes(text.as_bytes())
 }
 
-/// Where the parts of a normal tag end; None where the text is not a normal tag.
+/// Where the parts of a normal tag end; `None` if the text is not a normal tag.
 #[inline]
 pub(crate) fn normal_ends(text: &str) -> Option<Ends> {
     recognise_text(text)?.ends()
