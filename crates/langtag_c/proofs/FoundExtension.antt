@@ -1,8 +1,8 @@
 -- The first extension of a singleton, by where it stands in a tag.
-use Rattle.std.proofs.Common.{◌≡◌, ℕ, zero, suc, slice_index, slice_index_or, inl, inr, ◌+◌, ◌-◌, ◌<◌, ◌≤◌, Bool, true, false, List, [], ◌∷◌, length, take, drop, map, find, Option, None, Some, Bor, refl, ap, sym, subst, cond, ◌∙◌, arith}
+use Rattle.std.proofs.Common.{◌≡◌, ℕ, zero, suc, slice_index, slice_index_or, inl, inr, ◌+◌, ◌-◌, ◌<◌, ◌≤◌, Bool, true, false, List, [], ◌∷◌, length, take, drop, map, find, Option, None, Some, Bor, refl, ap, sym, subst, ◌∙◌, arith}
 use Rattle.std.specs.List.{AllByRecursion}
 use Rattle.std.specs.Option.{option_map, option_map_or}
-use Rattle.std.proofs.lemmas.List.{drop-drop, drop-take, length-take, take-take}
+use Rattle.std.proofs.lemmas.List.{drop-drop, drop-take}
 use Rattle.std.proofs.lemmas.Bool.{cases_lt}
 use Rattle.std.proofs.lemmas.Bool.Decides.{eqb_tells}
 use Rattle.langtag_scan.specs.Case.{fold_byte}
@@ -14,19 +14,18 @@ use Rattle.langtag_scan.specs.Record.{EachRecord, Extension, Record, IsWellForme
 use Rattle.langtag_scan.specs.Subtags.{is_hyphen, join, subtags}
 use Rattle.langtag_scan.specs.Tag.{IsNormal}
 use Rattle.langtag_scan.specs.declared.ends.Ends.{Ends}
-use Rattle.langtag_scan.proofs.Joins.{length-join}
 use Rattle.langtag_scan.proofs.SpelledTexts.{ends_ordered, ends_whole}
 use Rattle.langtag_scan.proofs.SubtagFacts.{IsSubtag, of_extension_subtag}
 use Rattle.langtag_scan.proofs.SubtagLists.{each_subtag}
 use Rattle.langtag_extension.specs.Decided.{opens_alike}
 use Rattle.langtag_extension.specs.ExtensionTexts.{IsFirstExtension, extension_texts}
-use Rattle.langtag_extension.specs.Spelling.{IsExtension, IsExtensions, SpellsExtension, SpellsExtensions, extension_spelling, find_extension}
+use Rattle.langtag_extension.specs.Spelling.{IsExtension, IsExtensions, SpellsExtensions, extension_spelling, find_extension}
 use Rattle.langtag_extension.proofs.ExtensionLookUp.{extension_found, find_spellings, subtags_found, subtags_not_found}
 use Rattle.langtag_extension.proofs.Rules.{extension_texts_spelled}
 use Rattle.langtag.proofs.PartsFound.{extensions_found}
 use Rattle.langtag_unicode.proofs.SubtagTexts.{subtags-after_singleton}
-use Rattle.langtag_c.specs.Keywords.{HasSubtags, subtags_in}
-use Rattle.langtag_c.specs.Spans.{HasBytes, IsWithin, empty_at, end_of, span_between, span_text}
+use Rattle.langtag_c.specs.Keywords.{subtags_in}
+use Rattle.langtag_c.specs.Spans.{HasBytes, IsWithin, end_of, span_between, span_text}
 use Rattle.langtag_c.specs.declared.span.Span.{Span}
 use Rattle.langtag_c.proofs.ExtensionSpans.{extension-taken, length-span, span-first}
 use Rattle.langtag_c.proofs.SpanLaws.{between_text}

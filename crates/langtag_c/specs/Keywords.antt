@@ -1,5 +1,5 @@
 -- What the extensions `u` and `t` say (RFC 6067 section 2.1, RFC 6497 section 2.2), by how many subtags a walk has passed.
-use Rattle.std.specs.Prelude.{◌≤◌, ℕ, Bool, if◌then◌else◌, List, [], Option, None, Some, drop, length, take}
+use Rattle.std.specs.Prelude.{◌≤◌, ℕ, Bool, if◌then◌else◌, List, Option, None, Some, drop, length, take}
 use Rattle.std.specs.List.{AllByRecursion}
 use Rattle.langtag_scan.specs.Subtags.{subtags}
 use Rattle.langtag_unicode.specs.Keywords.{Keyword, keywords_after}

@@ -1,4 +1,4 @@
-use Rattle.std.proofs.Common.{◌≡◌, drop, sym, ap, ◌∙◌, arith}
+use Rattle.std.proofs.Common.{drop, sym, ap, ◌∙◌, arith}
 use Rattle.langtag_c.proofs.SubtagSpans.{drop-passed, span-left, span-subtags}
 use Rattle.langtag_c.proofs.extension_subtags.after_first.Goals as goal
 

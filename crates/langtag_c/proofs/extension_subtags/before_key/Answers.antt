@@ -1,6 +1,6 @@
 use Rattle.langtag_unicode.specs.Keys.{opens}
 use Rattle.langtag_c.proofs.SubtagSpans.{span-before_key}
-use Rattle.std.proofs.Common.{◌≡◌, ◌∙◌, ap, arith}
+use Rattle.std.proofs.Common.{arith}
 use Rattle.langtag_c.proofs.extension_subtags.before_key.Goals as goal
 
 pub returns-clause-text : goal.returns-clause-text

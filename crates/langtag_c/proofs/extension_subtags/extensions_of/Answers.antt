@@ -1,4 +1,4 @@
-use Rattle.std.proofs.Common.{◌≡◌, sym, subst}
+use Rattle.std.proofs.Common.{◌≡◌, subst}
 use Rattle.langtag_scan.specs.Ends.{ends_of}
 use Rattle.langtag_scan.specs.Record.{EachRecord}
 use Rattle.langtag_c.proofs.FoundExtension.{extensions-span}

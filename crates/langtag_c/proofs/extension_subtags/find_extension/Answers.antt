@@ -1,4 +1,4 @@
-use Rattle.std.proofs.Common.{◌≡◌, ◌<◌, find, refl, sym, subst, ap, ◌∙◌, arith}
+use Rattle.std.proofs.Common.{find, refl, sym, subst, ap, ◌∙◌, arith}
 use Rattle.langtag_extension.specs.Decided.{opens_alike}
 use Rattle.langtag_extension.specs.ExtensionTexts.{extension_texts}
 use Rattle.langtag_c.specs.Spans.{end_of, span_text}

@@ -1,7 +1,6 @@
-use Rattle.std.proofs.Common.{◌≡◌, true, false, take, refl, sym, ap, ◌∙◌, arith}
+use Rattle.std.proofs.Common.{take, refl, sym, ap, ◌∙◌, arith}
 use Rattle.std.specs.List.{list_any}
 use Rattle.langtag_scan.specs.Case.{are_alike}
-use Rattle.langtag_c.specs.Keywords.{subtags_in}
 use Rattle.langtag_c.proofs.SubtagSpans.{any-found, any-passed, span-left, span-subtags}
 use Rattle.langtag_c.proofs.extension_subtags.is_among_first.Goals as goal
 

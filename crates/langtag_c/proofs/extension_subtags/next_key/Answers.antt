@@ -1,11 +1,11 @@
-use Rattle.std.proofs.Common.{◌≡◌, ◌+◌, ◌∷◌, length, take, drop, sym, ap, ◌∙◌, arith}
+use Rattle.std.proofs.Common.{◌+◌, ◌∷◌, length, take, sym, ap, ◌∙◌, arith}
 use Rattle.std.proofs.lemmas.List.{length-drop}
 use Rattle.langtag_unicode.specs.Keys.{opens}
 use Rattle.langtag_unicode.specs.Keywords.{keywords_after}
 use Rattle.langtag_unicode.proofs.WalkLaws.{keywords-new, keywords-other}
 use Rattle.langtag_c.specs.Keywords.{subtags_in}
 use Rattle.langtag_c.specs.Spans.{span_text}
-use Rattle.langtag_c.proofs.SubtagSpans.{drop-next, few, length-subtags_in, span-left, span-subtags, span-taken}
+use Rattle.langtag_c.proofs.SubtagSpans.{drop-next, length-subtags_in, span-left, span-subtags, span-taken}
 use Rattle.langtag_c.proofs.extension_subtags.next_key.Goals as goal
 
 pub overflow_add-passed : goal.overflow_add-passed

@@ -1,8 +1,8 @@
-use Rattle.std.proofs.Common.{◌≡◌, true, false, cond, ◌&&◌, Some, refl, sym, ap, ◌∙◌, arith}
+use Rattle.std.proofs.Common.{Some, sym, ap, ◌∙◌}
 use Rattle.std.specs.Option.{option_map}
 use Rattle.langtag_scan.specs.Subtags.{join}
 use Rattle.langtag_unicode.specs.Keys.{opens}
-use Rattle.langtag_unicode.specs.Keywords.{before_key, value_of}
+use Rattle.langtag_unicode.specs.Keywords.{value_of}
 use Rattle.langtag_c.proofs.SubtagSpans.{span-left, span-subtags, value-found, value-passed-key, value-passed-other}
 use Rattle.langtag_c.proofs.extension_subtags.value_of.Goals.{else-has-via-then-has+else-case_insensitive_eq, else-has-via-else-has}
 use Rattle.langtag_c.proofs.extension_subtags.value_of.Goals as goal

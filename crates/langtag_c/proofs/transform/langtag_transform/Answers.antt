@@ -1,9 +1,8 @@
-use Rattle.std.proofs.Common.{◌≡◌, ◌<◌, [], None, Some, length, refl, sym, ap, ◌∙◌, arith}
+use Rattle.std.proofs.Common.{◌≡◌, ◌<◌, [], Some, length, refl, sym, ap, ◌∙◌, arith}
 use Rattle.langtag_scan.specs.Subtags.{join, subtags}
 use Rattle.langtag_unicode.specs.Keywords.{before_key}
 use Rattle.langtag_unicode.specs.Transform.{is_field_key}
 use Rattle.langtag_c.specs.Keywords.{subtags_in}
-use Rattle.langtag_c.specs.Spans.{span_text}
 use Rattle.langtag_c.proofs.FoundExtension.{found-none, found-some, nothing-in, some-in}
 use Rattle.langtag_c.proofs.transform.langtag_transform.Goals as goal
 
