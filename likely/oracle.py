@@ -42,8 +42,7 @@ def lower(texts):
 
 
 LIKELY = {lower(row[:3]): row[3:] for row in rows("likely.txt")}
-# of the aliases of languages these alone
-ALIASES = {row[0]: row[1:] for row in rows("language-alias.txt") if row[0] in "ajp arb cmn gom in iw ji jw mo sh tl".split()}
+ALIASES = {row[0]: row[1:] for row in rows("language-alias.txt")}
 REGION_ALIASES = {row[0].lower(): row[1] for row in rows("region-alias.txt") if len(row[0]) == 2}
 GROUPS = {row[0]: set(row[1:]) for row in rows("region-groups.txt")}
 SETS = {row[0]: set(row[1:]) for row in rows("region-sets.txt")}

@@ -382,9 +382,9 @@ LANGTAG_PURE bool langtag_is_right_to_left(const char *bytes, size_t len);
  * zh-Hant, 4 from de-AT to de, 10 from yue to zh-HK, 84 from de to en, and at most 134.
  *
  * Up to 15 the languages are nearly the same. Below 50 most readers of the desired language understand the supported one.
- * Deprecated regions and the languages arb, cmn, in, iw, ji, jw, mo, sh and tl are replaced first. Variants, extensions and
- * private use do not count, nor does what else follows: en-GB-oed is as far as en-GB. The distance is 255 if either tag is und
- * only, for private use as a whole, or begins with i-, and the two are not equal.
+ * Languages and regions that CLDR replaces count as what replaces them: iw as he, ger and deu as de. Variants, extensions and private
+ * use do not count, nor does what else follows: en-GB-oed is as far as en-GB. The distance is 255 if either tag is und only, for
+ * private use as a whole, or begins with i-, and the two are not equal.
  *
  * Returns LANGTAG_NO_DISTANCE if one of the texts is not a tag.
  */

@@ -13,6 +13,7 @@ ghost use Rattle.langtag_likely.specs.Matching.{completed, matching_form};
 ghost use Rattle.langtag_choice.specs.Nearness as spec;
 ghost use Rattle.langtag_likely.specs.Texts.{field_texts};
 
+use crate::read_range::starts;
 use crate::rule_distance::language_distance;
 use crate::tag_distance::places_distance;
 use crate::wish::Wish;
@@ -125,15 +126,6 @@ fn is_fallback(range: &[u8], tag: &[u8]) -> bool
 {
     starts(range, tag)
         && (goes_on(&range[tag.len()..]) && (tag.len() == range.len() || !ends_in_single(tag)))
-}
-
-/// Returns whether a range begins like a tag.
-#[tactic(auto, using(crate::proofs::ReadRanges::take_read, crate::proofs::ReadRanges::too_short))]
-fn starts(range: &[u8], tag: &[u8]) -> bool
-    ensures test { result ≡ are_alike (take (length tag.now) (hyphened range.now)) tag.now }
-    ensures within { IsTrue result → length tag.now ≤ length range.now }
-{
-    tag.len() <= range.len() && are_alike(&range[..tag.len()], tag)
 }
 
 /// Returns whether nothing follows, or a hyphen.

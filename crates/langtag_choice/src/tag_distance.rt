@@ -25,8 +25,7 @@ pub const FORMLESS_DISTANCE: u8 = 255;
 /// use do not count, nor does anything else after the region, as in `en-GB-oed`. If a tag has no known language, it is
 /// [`FORMLESS_DISTANCE`], or 0 if the tags are equal, ignoring case.
 ///
-/// The languages `arb cmn in iw ji jw mo sh tl` are replaced, and deprecated regions; `langtag_registry::canonical` replaces all
-/// that is deprecated.
+/// A language that CLDR replaces is read as what replaces it, such as `ger`, `deu` and `iw`, and so is a deprecated region.
 pub fn distance(desired: LangTag<'_>, supported: LangTag<'_>) -> u8
     ensures distance { result ≡ spec.distance_of_texts (lang_tag_text desired.entry) (lang_tag_text supported.entry) }
     ensures equal { spec.ZeroIfEqual (lang_tag_text desired.entry) (lang_tag_text supported.entry) result }

@@ -2,6 +2,7 @@
 
 //! How near a tag is to a range.
 
+use crate::choice::read_range::starts;
 use crate::choice::rule_distance::language_distance;
 use crate::choice::tag_distance::places_distance;
 use crate::choice::wish::Wish;
@@ -94,12 +95,6 @@ pub(crate) fn kept(range: &[u8], tag: &[u8]) -> usize {
 fn is_fallback(range: &[u8], tag: &[u8]) -> bool {
     starts(range, tag)
         && (goes_on(&range[tag.len()..]) && (tag.len() == range.len() || !ends_in_single(tag)))
-}
-
-/// Returns whether a range begins like a tag.
-#[inline]
-fn starts(range: &[u8], tag: &[u8]) -> bool {
-    tag.len() <= range.len() && are_alike(&range[..tag.len()], tag)
 }
 
 /// Returns whether nothing follows, or a hyphen.

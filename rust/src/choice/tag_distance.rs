@@ -21,8 +21,7 @@ pub const FORMLESS_DISTANCE: u8 = 255;
 /// use do not count, nor does anything else after the region, as in `en-GB-oed`. If a tag has no known language, it is
 /// [`FORMLESS_DISTANCE`], or 0 if the tags are equal, ignoring case.
 ///
-/// The languages `arb cmn in iw ji jw mo sh tl` are replaced, and deprecated regions; `langtag::registry::canonical` replaces all
-/// that is deprecated.
+/// A language that CLDR replaces is read as what replaces it, such as `ger`, `deu` and `iw`, and so is a deprecated region.
 #[inline]
 pub fn distance(desired: LangTag<'_>, supported: LangTag<'_>) -> u8 {
     texts_distance(desired.as_bytes(), supported.as_bytes())

@@ -2,13 +2,13 @@
 
 //! A range of a header that tags may serve.
 
-use crate::choice::lone::{differs, head, lone_letters};
+use crate::choice::lone::{head, is_short, lone_letters};
 use crate::choice::read_range::is_star;
 use crate::likely::{matching_form, TagFields};
 use crate::matching::WantedRange;
 
 /// A range other than `*`, its weight, which is not 0, how many ranges stand before it, and its matching form, which is made once for
-/// all tags, with the letters of its language where no other is near that.
+/// all tags, with the letters of its language where it begins with them and no other is near that.
 #[derive(Clone, Copy)]
 pub(crate) struct Wish<'a> {
     pub(crate) range: &'a [u8],
@@ -30,17 +30,19 @@ impl<'a> Wish<'a> {
             weight: wanted.weight,
             place,
             form,
-            lone: lone_letters(form),
+            lone: lone_letters(wanted.bytes, form),
         })
     }
 
     /// Returns whether a tag cannot serve the range, where its first letters show it: the range has a language that no other is
-    /// near, and the tag begins with other letters, which are not those of `und`.
+    /// near, and the tag has another one of two letters.
     pub(crate) fn is_far_from(&self, tag: &[u8]) -> bool {
         let Some(letters) = self.lone else {
             return false;
         };
-        let begins = head(tag);
-        differs(begins, letters) && differs(begins, (b'u', b'n'))
+        let Some(begins) = head(tag) else {
+            return false;
+        };
+        begins != letters && is_short(tag)
     }
 }
