@@ -9,7 +9,8 @@ else
     not_run "documents: SQLite" "there is no sqlite3, or its headers are not installed"
 fi
 if [ -d "$work/dist" ]; then
-    check "documents: the commands that install" env LANGTAG_DIST="$work/dist" "$root/.ci/examples" install
+    export LANGTAG_DIST="$work/dist"
+    check "documents: the commands that install" examples_of install
 else
     not_run "documents: the commands that install" "there are no packages"
 fi

@@ -1,4 +1,4 @@
-"""What langtag._native has and says, by ctypes: for a Python that can't load that module, and a library that LANGTAG_LIBRARY names."""
+"""The functions of langtag._native, over ctypes. Used if Python cannot load that module, or if LANGTAG_LIBRARY names a library."""
 from __future__ import annotations
 
 import ctypes

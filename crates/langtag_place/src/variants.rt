@@ -72,7 +72,7 @@ impl<'a> Variants<'a> {
         Ok(Variants::from_checked(text))
     }
 
-    /// Returns the variants with a text that is known to be some, without checking it.
+    /// Returns the variants of a text that is known to be variants, without checking it.
     /// `Variants::from_checked(variants.as_str())` is equal to `variants`.
     pub fn from_checked(text: &'a str) -> Variants<'a>
         requires { IsVariants text.now }

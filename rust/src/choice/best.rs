@@ -57,7 +57,7 @@ pub fn best_among<'a, R: RangeList<'a>, T: TagList>(ranges: R, tags: &T) -> Opti
     best(ranges, tags)
 }
 
-/// Returns the index of the tag that is chosen. Where what is first of all is refused or no tag, the tags are gone through one by one.
+/// Returns the index of the chosen tag. If the first candidate is refused or not a tag, the tags are tried one by one.
 fn best<'a, R: RangeList<'a>, T: TagList>(ranges: R, tags: &T) -> Option<usize> {
     let (first, has_zero) = first_by_ranges(ranges, tags);
     let Some(found) = first else {
@@ -69,7 +69,7 @@ fn best<'a, R: RangeList<'a>, T: TagList>(ranges: R, tags: &T) -> Option<usize> 
     index_of(first_by_tags(ranges, tags))
 }
 
-/// Returns whether a tag stands at an index, which is not refused. Where no range has the weight 0, none is.
+/// Returns whether the entry at an index is a tag that is not refused. No tag is refused if no range has the weight 0.
 #[inline]
 fn is_chosen<'a, R: RangeList<'a>, T: TagList>(
     ranges: R,

@@ -75,7 +75,7 @@ impl<'a> Extensions<'a> {
         Ok(Extensions::from_checked(text))
     }
 
-    /// Returns the extensions of a text that is known to be some, without checking it.
+    /// Returns the extensions of a text that is known to be extensions, without checking it.
     /// `Extensions::from_checked(extensions.as_str())` is equal to `extensions`.
     #[inline]
     pub(crate) fn from_checked(text: &'a str) -> Extensions<'a> {

@@ -69,7 +69,7 @@ impl<'a> LanguageRange<'a> {
         Ok(LanguageRange::from_checked(text))
     }
 
-    /// Returns the range with a text that is known to be one, without checking it.
+    /// Returns the range of a text that is known to be one, without checking it.
     /// `LanguageRange::from_checked(range.as_str())` is equal to `range`.
     #[inline]
     pub(crate) fn from_checked(text: &'a str) -> LanguageRange<'a> {
