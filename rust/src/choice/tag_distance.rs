@@ -4,7 +4,7 @@
 
 use crate::choice::region_distance::region_distance;
 use crate::choice::rule_distance::{language_distance, script_distance};
-use crate::likely::{matching_form, TagFields};
+use crate::likely::{are_alike, matching_form, TagFields};
 use crate::scan::case_insensitive_eq;
 use crate::tag::LangTag;
 
@@ -43,6 +43,24 @@ fn texts_distance(desired: &[u8], supported: &[u8]) -> u8 {
     match (matching_form(desired), matching_form(supported)) {
         (Some(desired), Some(supported)) => fields_distance(desired, supported),
         _ => formless_distance(desired, supported),
+    }
+}
+
+/// Returns the distance from a range, in which `_` is read as `-`, to a tag.
+pub(crate) fn range_distance(range: &[u8], tag: &[u8]) -> u8 {
+    match (matching_form(range), matching_form(tag)) {
+        (Some(wanted), Some(found)) => fields_distance(wanted, found),
+        _ => formless_range_distance(range, tag),
+    }
+}
+
+/// Returns the distance from a range to a tag of which one has no matching form.
+#[inline]
+fn formless_range_distance(range: &[u8], tag: &[u8]) -> u8 {
+    if are_alike(range, tag) {
+        0
+    } else {
+        FORMLESS_DISTANCE
     }
 }
 
