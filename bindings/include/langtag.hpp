@@ -352,7 +352,7 @@ struct best_match {
     std::uint32_t distance; /* from the range to the tag, as distance() returns it; from 50 on the tag was found by look-up only */
 };
 
-/* The tags of a list as the library reads them: their texts, one behind the other, and where each one stands. */
+/* The tags of a list as the library reads them: their texts, one after another, and where each one is. */
 class listed_tags {
 public:
     template <class Tags> explicit listed_tags(const Tags &tags) {
@@ -361,7 +361,7 @@ public:
             spans_.push_back({text_.size(), given_.back().size()});
             text_.append(given_.back());
         }
-        spans_.push_back({0, 0}); /* so that there is one to point at */
+        spans_.push_back({0, 0}); /* so that data() is not null */
     }
 
     using choice = std::size_t (*)(const char *, std::size_t, const char *, std::size_t, const langtag_span *, std::size_t);
@@ -371,7 +371,7 @@ public:
         return at(choose(langtag_bytes(header.data()), header.size(), text_.data(), text_.size(), spans_.data(), given_.size()));
     }
 
-    /* Returns the best tag for a header, with what is said of it, or std::nullopt. */
+    /* Returns the best tag for a header, with its index, range and distance, or std::nullopt. */
     std::optional<best_match> matched(std::string_view header) const {
         langtag_best_match match;
         const std::size_t index = langtag_match_for_header(langtag_bytes(header.data()), header.size(), text_.data(), text_.size(),

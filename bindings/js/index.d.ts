@@ -223,8 +223,8 @@ export interface BestMatch<Tag> {
 }
 
 /**
- * Returns the best tag for a header, as bestForHeader does, with what is known of it, or undefined. The distance tells a language that
- * was found from one that is only near it.
+ * Returns the best tag for a header, as bestForHeader does, with its index, range and distance, or undefined. The distance tells
+ * whether the language was found, or only one that is near it.
  *
  *     matchForHeader("tlh", ["de", "en"]); // { index: 1, tag: "en", distance: 30, range: "tlh" }
  */
