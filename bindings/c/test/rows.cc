@@ -339,6 +339,15 @@ static std::string transform_of(const strings &asked) {
            said_of(one->fields(), [&](std::string_view key) { return one->field(key); });
 }
 
+static std::string best_match_of(const strings &asked) {
+    const strings texts = split(asked[1], " ");
+    const std::string_view header = asked[0];
+    const auto match = langtag::match_for_header(header, texts);
+    if (!match) return langtag::match_for_header(header, tags_of(texts)) ? "one of tags" : "-";
+    if (match->tag.text() != texts[match->index] || match->tag != langtag::best_for_header(header, texts)) return "another tag";
+    return std::to_string(match->index) + ' ' + std::to_string(match->distance) + ' ' + std::string(match->range);
+}
+
 using answer = std::string (*)(const strings &asked); /* empty where C++ does not answer */
 static const std::map<std::string, answer> calls = {
     {"tag", tag_of},
@@ -365,6 +374,7 @@ static const std::map<std::string, answer> calls = {
     {"keywords", keywords_of},
     {"attributes", attributes_of},
     {"transform", transform_of},
+    {"best-match", best_match_of},
 };
 
 /* A line with each {N:piece} written out. */

@@ -10,6 +10,16 @@ use crate::registry::tables::{EXTLANG_PREFIX_KEYS, EXTLANG_PREFIX_VALUES};
 /// `yue`. Returns `None` for extended languages that are not registered. A tag with another language, such as `de-yue`,
 /// may still be valid.
 ///
+/// ```
+/// # fn main() -> Result<(), Box<dyn std::error::Error>> {
+/// use langtag::ExtendedLangTag;
+/// use langtag::registry::extlang_prefix;
+///
+/// assert_eq!(extlang_prefix(ExtendedLangTag::new("yue")?).map(|language| language.as_str()), Some("zh"));
+/// # Ok(())
+/// # }
+/// ```
+///
 /// [RFC 5646 section 3.1.8]: https://www.rfc-editor.org/rfc/rfc5646#section-3.1.8
 #[inline]
 pub fn extlang_prefix(extlang: ExtendedLangTag<'_>) -> Option<PrimaryLanguage<'static>> {

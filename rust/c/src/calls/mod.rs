@@ -7,6 +7,7 @@
 //! than their types say.
 
 pub(crate) mod accepted;
+pub(crate) mod best_match;
 pub(crate) mod canonical;
 pub(crate) mod choice;
 pub(crate) mod compare;
