@@ -15,3 +15,5 @@ mod LikelyForms
 mod DateLaws
 mod TagsAt
 mod LookUps
+mod SubtagSpans
+mod FoundExtension

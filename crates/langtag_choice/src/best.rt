@@ -41,6 +41,16 @@ pub fn best_for_header(header: &[u8], tags: &[LangTag<'_>]) -> Option<usize>
 
 /// Returns the index of the best tag for a parsed header, as [`best_for_header`] does. [`AcceptLanguage`] has no ranges
 /// of weight 0, so it excludes no tag.
+///
+/// ```
+/// use langtag::LangTag;
+/// use langtag_choice::best_for_accept_language;
+/// use langtag_match::AcceptLanguage;
+///
+/// let accepted = AcceptLanguage::lenient(alloc, "zh-TW,zh;q=0.9,en;q=0.8")?;
+/// let tags = [LangTag::new("en")?, LangTag::new("zh-Hant")?];
+/// best_for_accept_language(&accepted, &tags); // Some(1)
+/// ```
 pub fn best_for_accept_language(
     accepted: &AcceptLanguage<'_>,
     tags: &[LangTag<'_>],
@@ -53,6 +63,16 @@ pub fn best_for_accept_language(
 /// Returns the index of the best tag for a list of language ranges, the most wanted first, as [`best_for_header`] does:
 /// 1 for the ranges `nn` and `de`, and the tags `en` and `nb`. An extended range counts without its `*`: `zh-*-Hant`
 /// as `zh-Hant`.
+///
+/// ```
+/// use langtag::LangTag;
+/// use langtag_choice::best_for_ranges;
+/// use langtag_match::LanguageRange;
+///
+/// let ranges = [LanguageRange::new("nn")?, LanguageRange::new("de")?];
+/// let tags = [LangTag::new("en")?, LangTag::new("nb")?];
+/// best_for_ranges(&ranges, &tags); // Some(1)
+/// ```
 pub fn best_for_ranges(ranges: &[LanguageRange<'_>], tags: &[LangTag<'_>]) -> Option<usize>
     ensures choice { spec.IsChoice (ordered_elements ranges.now) (tag_texts tags.now) result }
 {
@@ -90,7 +110,7 @@ pub fn match_among<'a, R: RangeList<'a>, T: TagList>(ranges: R, tags: &T) -> Opt
     }
 }
 
-/// Returns the match that a chosen candidate is.
+/// Returns the match for a chosen candidate.
 fn match_of<'a>(found: Candidate<'a, '_>) -> BestMatch<'a>
     ensures index { result.index ≡ found.entry.index }
     ensures range { result.range.now ≡ found.entry.range.now }

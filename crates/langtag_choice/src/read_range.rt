@@ -23,7 +23,7 @@ pub(crate) fn starts(range: &[u8], tag: &[u8]) -> bool
     rest.is_empty()
 }
 
-/// Returns whether a tag is a range, or begins so and goes on with a hyphen.
+/// Returns whether a tag equals a range, or begins with it and then has a hyphen.
 pub(crate) fn begins(range: &[u8], tag: &[u8]) -> bool
     ensures { result ≡ (are_alike (basic_text range.now) (take (length (basic_text range.now)) tag.now) && ends_subtag (drop (length (basic_text range.now)) tag.now)) }
 {

@@ -29,6 +29,14 @@ pub const FORMLESS_DISTANCE: u8 = 255;
 /// [`FORMLESS_DISTANCE`], or 0 if the tags are equal, ignoring case.
 ///
 /// A language that CLDR replaces is read as what replaces it, such as `ger`, `deu` and `iw`, and so is a deprecated region.
+///
+/// ```
+/// use langtag::LangTag;
+/// use langtag_choice::distance;
+///
+/// distance(LangTag::new("de-AT")?, LangTag::new("de")?); // 4
+/// distance(LangTag::new("de")?, LangTag::new("en")?); // 84
+/// ```
 pub fn distance(desired: LangTag<'_>, supported: LangTag<'_>) -> u8
     ensures distance { result ≡ spec.distance_of_texts (lang_tag_text desired.entry) (lang_tag_text supported.entry) }
     ensures equal { spec.ZeroIfEqual (lang_tag_text desired.entry) (lang_tag_text supported.entry) result }

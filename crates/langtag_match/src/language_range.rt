@@ -104,6 +104,13 @@ impl<'a> LanguageRange<'a> {
     }
 
     /// Returns whether the range is a basic one (RFC 4647 section 2.1): `true` for `de-CH` and `*`, `false` for `*-CH`.
+    ///
+    /// ```
+    /// use langtag_match::LanguageRange;
+    ///
+    /// LanguageRange::new("de-CH")?.is_basic(); // true
+    /// LanguageRange::new("*-CH")?.is_basic(); // false
+    /// ```
     pub fn is_basic(&self) -> bool
         ensures { result ≡ spec.is_basic_range (language_range_text self.now) }
     {
@@ -114,6 +121,15 @@ impl<'a> LanguageRange<'a> {
     /// `de-DE-1996`, but neither `de-Deva` nor `de-Latn-DE`.
     ///
     /// It is meant for basic ranges. In other ranges `*` equals no subtag, so `de-*` matches nothing.
+    ///
+    /// ```
+    /// use langtag::LangTag;
+    /// use langtag_match::LanguageRange;
+    ///
+    /// let range = LanguageRange::new("de-DE")?;
+    /// range.matches_basic(&LangTag::new("de-DE-1996")?); // true
+    /// range.matches_basic(&LangTag::new("de-Latn-DE")?); // false
+    /// ```
     pub fn matches_basic(&self, tag: &LangTag<'_>) -> bool
         ensures matches { IsTrue result ↔ MatchesBasic (language_range_text self.now) (lang_tag_text tag.now) }
         ensures test { result ≡ test_basic (language_range_text self.now) (lang_tag_text tag.now) }
@@ -123,6 +139,15 @@ impl<'a> LanguageRange<'a> {
 
     /// Returns whether the range matches a tag by extended filtering (RFC 4647 section 3.3.2): `de-DE` and `de-*-DE`
     /// match `de-Latn-DE-1996`. They do not match `de-x-DE`, because a singleton is never skipped.
+    ///
+    /// ```
+    /// use langtag::LangTag;
+    /// use langtag_match::LanguageRange;
+    ///
+    /// let range = LanguageRange::new("de-DE")?;
+    /// range.matches_extended(&LangTag::new("de-Latn-DE-1996")?); // true
+    /// range.matches_extended(&LangTag::new("de-x-DE")?); // false
+    /// ```
     pub fn matches_extended(&self, tag: &LangTag<'_>) -> bool
         ensures matches { IsTrue result ↔ MatchesExtended (language_range_text self.now) (lang_tag_text tag.now) }
         ensures test { result ≡ test_extended (language_range_text self.now) (lang_tag_text tag.now) }
@@ -132,6 +157,14 @@ impl<'a> LanguageRange<'a> {
 
     /// Returns an iterator over the range and its fallbacks, the longest first (RFC 4647 section 3.4): `zh-Hant-TW`,
     /// `zh-Hant` and `zh`. [`look_up`](crate::look_up) tries them in this order.
+    ///
+    /// ```
+    /// use langtag_match::LanguageRange;
+    ///
+    /// let mut fallbacks = LanguageRange::new("zh-Hant-TW")?.fallbacks();
+    /// fallbacks.next().map(|range| range.as_str()); // Some("zh-Hant-TW")
+    /// fallbacks.next().map(|range| range.as_str()); // Some("zh-Hant")
+    /// ```
     pub fn fallbacks(&self) -> Fallbacks<'a>
         ensures list { fallbacks_left result ≡ fallbacks (language_range_text self.now) }
         ensures few { length (fallbacks_left result) < 2 ^ 64 }

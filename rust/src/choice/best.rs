@@ -37,6 +37,19 @@ pub fn best_for_header(header: &[u8], tags: &[LangTag<'_>]) -> Option<usize> {
 
 /// Returns the index of the best tag for a parsed header, as [`best_for_header`] does. [`AcceptLanguage`] has no ranges
 /// of weight 0, so it excludes no tag.
+///
+/// ```
+/// # fn main() -> Result<(), Box<dyn std::error::Error>> {
+/// use langtag::LangTag;
+/// use langtag::choice::best_for_accept_language;
+/// use langtag::matching::AcceptLanguage;
+///
+/// let accepted = AcceptLanguage::lenient("zh-TW,zh;q=0.9,en;q=0.8")?;
+/// let tags = [LangTag::new("en")?, LangTag::new("zh-Hant")?];
+/// assert_eq!(best_for_accept_language(&accepted, &tags), Some(1));
+/// # Ok(())
+/// # }
+/// ```
 #[cfg(feature = "alloc")]
 #[inline]
 pub fn best_for_accept_language(
@@ -49,6 +62,19 @@ pub fn best_for_accept_language(
 /// Returns the index of the best tag for a list of language ranges, the most wanted first, as [`best_for_header`] does:
 /// 1 for the ranges `nn` and `de`, and the tags `en` and `nb`. An extended range counts without its `*`: `zh-*-Hant`
 /// as `zh-Hant`.
+///
+/// ```
+/// # fn main() -> Result<(), Box<dyn std::error::Error>> {
+/// use langtag::LangTag;
+/// use langtag::choice::best_for_ranges;
+/// use langtag::matching::LanguageRange;
+///
+/// let ranges = [LanguageRange::new("nn")?, LanguageRange::new("de")?];
+/// let tags = [LangTag::new("en")?, LangTag::new("nb")?];
+/// assert_eq!(best_for_ranges(&ranges, &tags), Some(1));
+/// # Ok(())
+/// # }
+/// ```
 #[inline]
 pub fn best_for_ranges(ranges: &[LanguageRange<'_>], tags: &[LangTag<'_>]) -> Option<usize> {
     best_among(ranges, &Tags(tags))
@@ -82,7 +108,7 @@ pub fn match_among<'a, R: RangeList<'a>, T: TagList>(ranges: R, tags: &T) -> Opt
     }
 }
 
-/// Returns the match that a chosen candidate is.
+/// Returns the match for a chosen candidate.
 #[inline]
 fn match_of<'a>(found: Candidate<'a, '_>) -> BestMatch<'a> {
     BestMatch {

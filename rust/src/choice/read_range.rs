@@ -17,7 +17,7 @@ pub(crate) fn starts(range: &[u8], tag: &[u8]) -> bool {
     rest.is_empty()
 }
 
-/// Returns whether a tag is a range, or begins so and goes on with a hyphen.
+/// Returns whether a tag equals a range, or begins with it and then has a hyphen.
 #[inline]
 pub(crate) fn begins(range: &[u8], tag: &[u8]) -> bool {
     let (left, rest) = after_common(range, tag);

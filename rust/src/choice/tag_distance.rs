@@ -22,6 +22,17 @@ pub const FORMLESS_DISTANCE: u8 = 255;
 /// [`FORMLESS_DISTANCE`], or 0 if the tags are equal, ignoring case.
 ///
 /// A language that CLDR replaces is read as what replaces it, such as `ger`, `deu` and `iw`, and so is a deprecated region.
+///
+/// ```
+/// # fn main() -> Result<(), Box<dyn std::error::Error>> {
+/// use langtag::LangTag;
+/// use langtag::choice::distance;
+///
+/// assert_eq!(distance(LangTag::new("de-AT")?, LangTag::new("de")?), 4);
+/// assert_eq!(distance(LangTag::new("de")?, LangTag::new("en")?), 84);
+/// # Ok(())
+/// # }
+/// ```
 #[inline]
 pub fn distance(desired: LangTag<'_>, supported: LangTag<'_>) -> u8 {
     texts_distance(desired.as_bytes(), supported.as_bytes())

@@ -60,6 +60,16 @@ impl<'a> AcceptLanguage<'a> {
     /// # Errors
     ///
     /// Returns an error if allocation fails.
+    ///
+    /// ```
+    /// # fn main() -> Result<(), Box<dyn std::error::Error>> {
+    /// use langtag::matching::AcceptLanguage;
+    ///
+    /// let accepted = AcceptLanguage::lenient("de_CH, fr;q=0.5, de")?;
+    /// assert_eq!(accepted.ranges().first().map(|first| first.range.as_str()), Some("de"));
+    /// # Ok(())
+    /// # }
+    /// ```
     #[inline]
     pub fn lenient(header: &'a str) -> Result<AcceptLanguage<'a>, AllocError> {
         let read = good_elements(header)?;
@@ -105,6 +115,17 @@ impl<'a> AcceptLanguage<'a> {
 /// # Errors
 ///
 /// Returns the errors of [`AcceptLanguage::new`].
+///
+/// ```
+/// # fn main() -> Result<(), Box<dyn std::error::Error>> {
+/// use langtag::LangTag;
+/// use langtag::matching::tag_for_header;
+///
+/// let tags = [LangTag::new("de-CH")?, LangTag::new("fr")?];
+/// assert_eq!(tag_for_header("fr;q=0.3, DE-ch-1996;q=0.9", &tags, LangTag::new("en")?)?.as_str(), "de-CH");
+/// # Ok(())
+/// # }
+/// ```
 #[cfg(feature = "alloc")]
 #[inline]
 pub fn tag_for_header<'h, 't>(

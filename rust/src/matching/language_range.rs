@@ -118,6 +118,16 @@ impl<'a> LanguageRange<'a> {
 
     /// Returns whether the range is a basic one ([RFC 4647 section 2.1]): `true` for `de-CH` and `*`, `false` for `*-CH`.
     ///
+    /// ```
+    /// # fn main() -> Result<(), Box<dyn std::error::Error>> {
+    /// use langtag::matching::LanguageRange;
+    ///
+    /// assert!(LanguageRange::new("de-CH")?.is_basic());
+    /// assert!(!LanguageRange::new("*-CH")?.is_basic());
+    /// # Ok(())
+    /// # }
+    /// ```
+    ///
     /// [RFC 4647 section 2.1]: https://www.rfc-editor.org/rfc/rfc4647#section-2.1
     #[inline]
     pub fn is_basic(&self) -> bool {
@@ -129,6 +139,18 @@ impl<'a> LanguageRange<'a> {
     ///
     /// It is meant for basic ranges. In other ranges `*` equals no subtag, so `de-*` matches nothing.
     ///
+    /// ```
+    /// # fn main() -> Result<(), Box<dyn std::error::Error>> {
+    /// use langtag::LangTag;
+    /// use langtag::matching::LanguageRange;
+    ///
+    /// let range = LanguageRange::new("de-DE")?;
+    /// assert!(range.matches_basic(&LangTag::new("de-DE-1996")?));
+    /// assert!(!range.matches_basic(&LangTag::new("de-Latn-DE")?));
+    /// # Ok(())
+    /// # }
+    /// ```
+    ///
     /// [RFC 4647 section 3.3.1]: https://www.rfc-editor.org/rfc/rfc4647#section-3.3.1
     #[inline]
     pub fn matches_basic(&self, tag: &LangTag<'_>) -> bool {
@@ -138,6 +160,18 @@ impl<'a> LanguageRange<'a> {
     /// Returns whether the range matches a tag by extended filtering ([RFC 4647 section 3.3.2]): `de-DE` and `de-*-DE`
     /// match `de-Latn-DE-1996`. They do not match `de-x-DE`, because a singleton is never skipped.
     ///
+    /// ```
+    /// # fn main() -> Result<(), Box<dyn std::error::Error>> {
+    /// use langtag::LangTag;
+    /// use langtag::matching::LanguageRange;
+    ///
+    /// let range = LanguageRange::new("de-DE")?;
+    /// assert!(range.matches_extended(&LangTag::new("de-Latn-DE-1996")?));
+    /// assert!(!range.matches_extended(&LangTag::new("de-x-DE")?));
+    /// # Ok(())
+    /// # }
+    /// ```
+    ///
     /// [RFC 4647 section 3.3.2]: https://www.rfc-editor.org/rfc/rfc4647#section-3.3.2
     #[inline]
     pub fn matches_extended(&self, tag: &LangTag<'_>) -> bool {
@@ -146,6 +180,17 @@ impl<'a> LanguageRange<'a> {
 
     /// Returns an iterator over the range and its fallbacks, the longest first ([RFC 4647 section 3.4]): `zh-Hant-TW`,
     /// `zh-Hant` and `zh`. [`look_up`](crate::matching::look_up) tries them in this order.
+    ///
+    /// ```
+    /// # fn main() -> Result<(), Box<dyn std::error::Error>> {
+    /// use langtag::matching::LanguageRange;
+    ///
+    /// let mut fallbacks = LanguageRange::new("zh-Hant-TW")?.fallbacks();
+    /// assert_eq!(fallbacks.next().map(|range| range.as_str()), Some("zh-Hant-TW"));
+    /// assert_eq!(fallbacks.next().map(|range| range.as_str()), Some("zh-Hant"));
+    /// # Ok(())
+    /// # }
+    /// ```
     ///
     /// [RFC 4647 section 3.4]: https://www.rfc-editor.org/rfc/rfc4647#section-3.4
     #[inline]
