@@ -431,13 +431,3 @@ not_good header span part bad =
     let within = slice_get_within (items header) bad.commas item bad.first.there in
     let there = get_or_from_slice_get (items header) bad.commas item item bad.first.there in
     list_all_at is_good (items header) bad.commas item within (ap is_good there ∙ bad.first.bad)
-
--- which part is bad, where one is
-pub none_bad : (item : List ℕ) (e : Element) → element item ≡ Some e → is_good item ≡ true
-none_bad item e some = rw some (or-true (is_ows item))
-
-pub empty_good : (item : List ℕ) → is_ows item ≡ true → is_good item ≡ true
-empty_good item empty = rw empty refl
-
-pub is_not_good : (item : List ℕ) → is_ows item ≡ false → element item ≡ None → is_good item ≡ false
-is_not_good item filled none = rw (filled, none) refl
