@@ -47,7 +47,7 @@ impl<'a> Transformation<'a> {
     /// to case, and of a repeated one the first counts. It is None where the field does not stand, and empty where it has no value.
     #[inline]
     pub fn field(&self, key: &str) -> Option<&'a str> {
-        value_in(self.text, Keys::Transform, key)
+        value_in(self.text, Keys::Transform, key.as_bytes())
     }
 
     /// Returns the fields in the order of the tag, each key once, with its first value: `m0` and `hepburn` of

@@ -38,7 +38,7 @@ pub struct KeyValue<'a> {
 /// ```
 #[inline]
 pub fn keyword<'a>(tag: LangTag<'a>, key: &str) -> Option<&'a str> {
-    value_in(unicode_text(tag), Keys::Unicode, key)
+    value_in(unicode_text(tag), Keys::Unicode, key.as_bytes())
 }
 
 /// Returns the keywords of the extension `u` (RFC 6067 section 2.1) in the order of the tag, each key once, with its first value.
