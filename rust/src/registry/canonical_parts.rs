@@ -1,6 +1,6 @@
 // Made by rust/erase from crates/langtag_registry/src/canonical_parts.rt. Change that file, not this one.
 
-//! The canonical forms of a tag's parts (RFC 5646 section 4.5), put into an output in their order.
+//! The canonical forms of a tag's parts (RFC 5646 section 4.5), written to an output in their order.
 
 use crate::extension::Extensions;
 use crate::language::{ExtendedLangTag, Language, PrimaryLanguage};
@@ -57,7 +57,7 @@ fn push_extlang(out: &mut Output<'_>, extlang: ExtendedLangTag<'_>) {
     }
 }
 
-/// Returns an extended subtag in small letters, as the registry has it.
+/// Returns an extended subtag in lowercase letters, as the registry has it.
 fn in_small_letters(extlang: ExtendedLangTag<'_>) -> [u8; 3] {
     let mut small = [0; 3];
     small.copy_from_slice(extlang.as_bytes());
