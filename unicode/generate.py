@@ -79,12 +79,12 @@ class Aliases:
         each_type("no right side is a left side", lambda row: [*row[:2], row[3]] not in left)
         each_type("rg and sd have subdivisions alone", lambda row: row[1] not in ("rg", "sd"))
         each_type("nothing replaces true", lambda row: row[2] != "true")
-        each_type("a right side is longer by 5 bytes at most", lambda row: len(row[3]) <= len(row[2]) + 5)
+        each_type("a right side is at most twice as long", lambda row: len(row[3]) <= 2 * len(row[2]))
         codes = [old for old, _ in self.subdivisions]
         each_subdivision("codes in lowercase", lambda row: all(SUBDIVISION.fullmatch(code) for code in row))
         each_subdivision("a left side once", lambda row: codes.count(row[0]) == 1)
         each_subdivision("no right side is a left side", lambda row: row[1] not in codes)
-        each_subdivision("a right side is longer by 5 bytes at most", lambda row: len(row[1]) <= len(row[0]) + 5)
+        each_subdivision("a right side is at most twice as long", lambda row: len(row[1]) <= 2 * len(row[0]))
 
 
 def in_lines(items, width=116):

@@ -155,6 +155,7 @@ abbrev pub forms_after : Bool → Bool → List Extension → List Extension
 forms_after after_u after_t [] = []
 forms_after after_u after_t (e ∷ es) = extension_form after_u after_t e ∷ forms_after (after_u || is_of 117 e) (after_t || is_of 116 e) es
 
+-- a record with its extensions in their forms
 unfoldable pub extensions_record : Record → Record
 extensions_record r = record r { extensions = forms_after false false r.extensions }
 
