@@ -105,7 +105,7 @@ files! {
     names: "posix.txt", 80, ["posix"];
     choices: "choices.txt", 285, ["best", "best-match"];
     preferences: "lists.txt", 15, ["best-accepted", "best-ranges"];
-    extensions: "extensions.txt", 640, ["extensions-form"];
+    extensions: "extensions.txt", 630, ["extensions-form"];
     keywords: "unicode.txt", 500, ["keyword", "keywords", "attributes", "transform"];
 }
 

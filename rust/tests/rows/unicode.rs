@@ -50,9 +50,17 @@ pub fn form(text: &str) -> String {
 
     let mut buffer = vec![b'!'; form.as_str().len()];
     let short = buffer.len() - 1;
-    assert_eq!(write_extensions_form(tag(text), &mut buffer[..short]), short + 1, "{text}");
+    assert_eq!(
+        write_extensions_form(tag(text), &mut buffer[..short]),
+        short + 1,
+        "{text}"
+    );
     assert!(buffer.iter().all(|byte| *byte == b'!'), "{text}");
-    assert_eq!(write_extensions_form(tag(text), &mut buffer), short + 1, "{text}");
+    assert_eq!(
+        write_extensions_form(tag(text), &mut buffer),
+        short + 1,
+        "{text}"
+    );
     assert_eq!(buffer, form.as_str().as_bytes(), "{text}");
     form.as_str().into()
 }
