@@ -12,6 +12,11 @@ abbrev pub key_index : List ℕ → ℕ
 key_index (first ∷ second ∷ []) = 36 * digit first + digit second
 key_index text = 0
 
+-- the index of the first letter or digit of a key among all of them
+abbrev pub first_index : List ℕ → ℕ
+first_index (first ∷ second ∷ []) = digit first
+first_index text = 0
+
 -- a key whose place is not marked stands nowhere
-abbrev pub AreMarked : (List ℕ → Bool) → List Bool → List (List ℕ) → Type 0
-AreMarked opens marks ss = (key : List ℕ) → slice_index_or marks (key_index (fold_text key)) false ≡ false → value_of opens key ss ≡ None
+abbrev pub AreMarked : (List ℕ → ℕ) → (List ℕ → Bool) → List Bool → List (List ℕ) → Type 0
+AreMarked index opens marks ss = (key : List ℕ) → slice_index_or marks (index (fold_text key)) false ≡ false → value_of opens key ss ≡ None

@@ -5,7 +5,7 @@ ghost use Rattle.langtag_scan.specs.Case.{fold_byte, fold_text};
 ghost use Rattle.langtag_scan.specs.Subtags.{subtags};
 ghost use Rattle.langtag_unicode.specs.Form as spec;
 ghost use Rattle.langtag_unicode.specs.Keys.{canonical_value_of, opens};
-ghost use Rattle.langtag_unicode.specs.Marks.{AreMarked, digit, key_index};
+ghost use Rattle.langtag_unicode.specs.Marks.{AreMarked, digit, first_index, key_index};
 
 use crate::alias::canonical_value;
 use crate::alphabet::push_each_lowercase;
@@ -22,13 +22,17 @@ const KEY_COUNT: usize = 1296;
 
 /// Puts the keywords of a text, each once, in the order of their keys.
 ///
-/// The text is read once for all keys, and once for each key that stands in it, of which there are 1,296 at most.
+/// The text is read twice for all keys, and once for each key that stands in it, of which there are 1,296 at most.
 pub(crate) fn push_keywords(out: &mut Output<'_>, text: &str, keys: Keys)
     ensures same_buffer { out.new.buffer.ghost_name ≡ out.old.buffer.ghost_name }
     ensures pushed { Pushes (spec.keywords_form (opens keys) (canonical_value_of keys) (subtags text.now)) out.old out.new }
 {
     let marks = marked_keys(text, keys);
+    let firsts = marked_firsts(text, keys);
     for first in LETTERS_AND_DIGITS {
+        if !firsts[digit(first)] {
+            continue;
+        }
         push_keywords_from(out, text, keys, &marks, first);
     }
 }
@@ -41,7 +45,7 @@ fn push_keywords_from(
     marks: &[bool; KEY_COUNT],
     first: u8,
 )
-    requires { AreMarked (opens keys) marks.now (subtags text.now) }
+    requires { AreMarked key_index (opens keys) marks.now (subtags text.now) }
     ensures same_buffer { out.new.buffer.ghost_name ≡ out.old.buffer.ghost_name }
     ensures pushed { Pushes (spec.keywords_from (opens keys) (canonical_value_of keys) (subtags text.now) first) out.old out.new }
 {
@@ -67,15 +71,41 @@ fn push_keyword(out: &mut Output<'_>, text: &str, keys: Keys, key: &[u8])
 
 /// Returns which keys may stand in a text.
 fn marked_keys(text: &str, keys: Keys) -> [bool; KEY_COUNT]
-    ensures { AreMarked (opens keys) result (subtags text.now) }
+    ensures { AreMarked key_index (opens keys) result (subtags text.now) }
 {
     let mut marks = [false; KEY_COUNT];
     for subtag in Subtags::new(text) {
-        if keys.has(subtag) {
-            marks[key_index(subtag.as_bytes())] = true;
+        let key = subtag.as_bytes();
+        if keys.has(key) {
+            marks[key_index(key)] = true;
         }
     }
     marks
+}
+
+/// Returns which letters and digits may begin a key in a text.
+fn marked_firsts(text: &str, keys: Keys) -> [bool; 36]
+    ensures { AreMarked first_index (opens keys) result (subtags text.now) }
+{
+    let mut marks = [false; 36];
+    for subtag in Subtags::new(text) {
+        let key = subtag.as_bytes();
+        if keys.has(key) {
+            marks[first_index(key)] = true;
+        }
+    }
+    marks
+}
+
+/// Returns the index of the first letter or digit of a key among all of them, in any case.
+fn first_index(key: &[u8]) -> usize
+    ensures within { result < 36 }
+    ensures index { result ≡ first_index (fold_text key.now) }
+{
+    match key {
+        [first, _] => digit(*first),
+        _ => 0,
+    }
 }
 
 /// Returns the index of a key among all of them, in any case.

@@ -26,6 +26,7 @@ mod unicode_extension;
 
 pub use attributes_iter::AttributesIter;
 pub use form::{extensions_form, write_extensions_form};
+pub use keys::Keys;
 pub use keywords_iter::KeywordsIter;
 pub use transformation::{Transformation, transform};
 pub use unicode_extension::{KeyValue, attributes, keyword, keywords};

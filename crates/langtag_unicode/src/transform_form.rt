@@ -66,7 +66,7 @@ fn are_fields(text: &str) -> bool
         if !may_follow(in_fields, after_key, subtag) {
             return false;
         }
-        after_key = Keys::Transform.has(subtag);
+        after_key = Keys::Transform.has(subtag.as_bytes());
         in_fields = in_fields || after_key;
     }
     !after_key
@@ -76,7 +76,7 @@ fn are_fields(text: &str) -> bool
 fn may_follow(in_fields: bool, after_key: bool, subtag: &str) -> bool
     ensures { result ≡ spec.may_follow in_fields after_key subtag.now }
 {
-    if Keys::Transform.has(subtag) {
+    if Keys::Transform.has(subtag.as_bytes()) {
         return !after_key;
     }
     !in_fields || subtag.len() >= 3

@@ -17,11 +17,14 @@ const KEY_COUNT: usize = 1296;
 
 /// Puts the keywords of a text, each once, in the order of their keys.
 ///
-/// The text is read once for all keys, and once for each key that stands in it, of which there are 1,296 at most.
-#[inline]
+/// The text is read twice for all keys, and once for each key that stands in it, of which there are 1,296 at most.
 pub(crate) fn push_keywords(out: &mut Output<'_>, text: &str, keys: Keys) {
     let marks = marked_keys(text, keys);
+    let firsts = marked_firsts(text, keys);
     for first in LETTERS_AND_DIGITS {
+        if !firsts[digit(first)] {
+            continue;
+        }
         push_keywords_from(out, text, keys, &marks, first);
     }
 }
@@ -56,11 +59,33 @@ fn push_keyword(out: &mut Output<'_>, text: &str, keys: Keys, key: &[u8]) {
 fn marked_keys(text: &str, keys: Keys) -> [bool; KEY_COUNT] {
     let mut marks = [false; KEY_COUNT];
     for subtag in Subtags::new(text) {
-        if keys.has(subtag) {
-            marks[key_index(subtag.as_bytes())] = true;
+        let key = subtag.as_bytes();
+        if keys.has(key) {
+            marks[key_index(key)] = true;
         }
     }
     marks
+}
+
+/// Returns which letters and digits may begin a key in a text.
+fn marked_firsts(text: &str, keys: Keys) -> [bool; 36] {
+    let mut marks = [false; 36];
+    for subtag in Subtags::new(text) {
+        let key = subtag.as_bytes();
+        if keys.has(key) {
+            marks[first_index(key)] = true;
+        }
+    }
+    marks
+}
+
+/// Returns the index of the first letter or digit of a key among all of them, in any case.
+#[inline]
+fn first_index(key: &[u8]) -> usize {
+    match key {
+        [first, _] => digit(*first),
+        _ => 0,
+    }
 }
 
 /// Returns the index of a key among all of them, in any case.

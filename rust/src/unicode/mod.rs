@@ -32,6 +32,7 @@ pub use attributes_iter::AttributesIter;
 #[cfg(feature = "alloc")]
 pub use form::extensions_form;
 pub use form::write_extensions_form;
+pub use keys::Keys;
 pub use keywords_iter::KeywordsIter;
 pub use transformation::{transform, Transformation};
 pub use unicode_extension::{attributes, keyword, keywords, KeyValue};

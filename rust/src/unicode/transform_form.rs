@@ -48,7 +48,7 @@ fn are_fields(text: &str) -> bool {
         if !may_follow(in_fields, after_key, subtag) {
             return false;
         }
-        after_key = Keys::Transform.has(subtag);
+        after_key = Keys::Transform.has(subtag.as_bytes());
         in_fields = in_fields || after_key;
     }
     !after_key
@@ -57,7 +57,7 @@ fn are_fields(text: &str) -> bool {
 /// Returns whether a subtag may stand after others.
 #[inline]
 fn may_follow(in_fields: bool, after_key: bool, subtag: &str) -> bool {
-    if Keys::Transform.has(subtag) {
+    if Keys::Transform.has(subtag.as_bytes()) {
         return !after_key;
     }
     !in_fields || subtag.len() >= 3

@@ -17,8 +17,8 @@ loop-subtag-preserved-then-has c = record {
   is_finite = tt;
   long = length-set c.loop-subtag.marks c.key_index.result true ∙ c.loop-subtag.invariant.long;
   so_far =
-      marked-key (opens c.args.keys) c.loop-subtag.marks (subtags c.args.text.now) c.loop-subtag.subtag-iterator c.next.new.self c.in-Some.subtag.now c.key_index.result c.in-Some.ensures.steps
-      (c.key_index.ensures.index ∙ ap (λ t. key_index (fold_text t)) c.as_bytes.ensures.value) (omega (arith, c.key_index.ensures.within, c.loop-subtag.invariant.long)) c.loop-subtag.invariant.so_far;
+      marked-key key_index (opens c.args.keys) c.loop-subtag.marks (subtags c.args.text.now) c.loop-subtag.subtag-iterator c.next.new.self c.in-Some.subtag.now c.key_index.result c.in-Some.ensures.steps
+      (c.key_index.ensures.index ∙ ap (λ t. key_index (fold_text t)) c.as_bytes-key.ensures.value) (omega (arith, c.key_index.ensures.within, c.loop-subtag.invariant.long)) c.loop-subtag.invariant.so_far;
 }
 
 pub loop-subtag-preserved : goal.loop-subtag-preserved
@@ -27,8 +27,8 @@ loop-subtag-preserved c = record {
   is_finite = tt;
   long = c.loop-subtag.invariant.long;
   so_far =
-      marked-other (opens c.args.keys) c.loop-subtag.marks (subtags c.args.text.now) c.loop-subtag.subtag-iterator c.next.new.self c.in-Some.subtag.now c.in-Some.ensures.steps
-      (sym c.has.ensures ∙ c.if-has.false) c.loop-subtag.invariant.so_far;
+      marked-other key_index (opens c.args.keys) c.loop-subtag.marks (subtags c.args.text.now) c.loop-subtag.subtag-iterator c.next.new.self c.in-Some.subtag.now c.in-Some.ensures.steps
+      (ap (opens c.args.keys) (sym c.as_bytes-key.ensures.value) ∙ sym c.has.ensures.is_key ∙ c.if-has.false) c.loop-subtag.invariant.so_far;
 }
 
 pub returns : goal.returns
