@@ -18,16 +18,17 @@ use alloc::string::String;
 #[cfg(feature = "alloc")]
 use alloc::vec::Vec;
 
-/// Returns the canonical form of a tag's extensions `u` and `t` (UTS #35, part 1, Annex C): `en-u-ca-gregory-kn-nu-thai` of
-/// `en-u-nu-thai-ca-gregory-kn-true`.
+/// Returns a tag with its extensions `u` and `t` in canonical form (UTS #35, part 1, Annex C): `en-u-nu-thai-ca-gregory-kn-true`
+/// becomes `en-u-ca-gregory-kn-nu-thai`.
 ///
-/// Attributes, keywords and fields stand in alphabetical order, each once, in lowercase; of a repeated one the first counts. A type
-/// or a subdivision that CLDR replaces is replaced, and `true` is left out of `u`. The variants of the language of `t` are sorted.
+/// Attributes, keywords and fields are put in alphabetical order, each once and in lowercase. If one is repeated, the first counts.
+/// Types and subdivisions that CLDR has replaced become their replacements. The value `true` is left out of `u`. The variants in the
+/// language of `t` are put in alphabetical order.
 ///
-/// All other bytes of the tag stay, and so does a tag without these extensions. Only the first `u` and the first `t` have a form, and
-/// a `t` that UTS #35 does not allow, such as `t-m0` or `t-zh-yue`, stays. `langtag::registry::canonical` orders the extensions.
+/// All other bytes of the tag stay, and so does a tag without these extensions. Only the first `u` and the first `t` have a form. A `t`
+/// that UTS #35 does not allow stays, such as `t-m0` or `t-zh-yue`. `langtag::registry::canonical` orders the extensions.
 ///
-/// The time is linear but for the attributes, and for the variants of `t`: it grows with the square of their number.
+/// Attributes, and the variants in the language of `t`, take time with the square of their number.
 ///
 /// # Errors
 ///
@@ -64,9 +65,21 @@ fn form_bytes(tag: LangTag<'_>) -> Result<Vec<u8>, AllocError> {
     Ok(bytes)
 }
 
-/// Writes the canonical form of a tag's extensions `u` and `t`, as [`extensions_form`] returns it, into a buffer, and returns its
-/// length in bytes, which is at most twice that of the tag. If the buffer is too short it stays as it was: the length says how much
-/// room there has to be. No memory is taken.
+/// Writes a tag with its extensions `u` and `t` in canonical form to a buffer, as [`extensions_form`] returns it, and returns its
+/// length in bytes. If the buffer is too short, it stays unchanged, and the length says how much room is needed. A buffer of twice
+/// the length of the tag is always long enough. It does not allocate.
+///
+/// ```
+/// # fn main() -> Result<(), Box<dyn std::error::Error>> {
+/// use langtag::LangTag;
+/// use langtag::unicode::write_extensions_form;
+///
+/// let mut buffer = [0; 16];
+/// let length = write_extensions_form(LangTag::new("de-u-kn-true")?, &mut buffer);
+/// assert_eq!(buffer.get(..length), Some(&b"de-u-kn"[..]));
+/// # Ok(())
+/// # }
+/// ```
 #[inline]
 pub fn write_extensions_form(tag: LangTag<'_>, buffer: &mut [u8]) -> usize {
     match tag.as_normal() {
