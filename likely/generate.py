@@ -8,7 +8,7 @@ usage: generate.py                        writes them from the data whose checks
                                           that would be written otherwise, a list that oracle.py's reading has otherwise
 
 Data that break what the crate rests on are refused: the row that does is named, nothing is written, and the status is 1. So are
-newer data in which a language has lost its row, unless it is one of LANGUAGE or an alias that is followed (`matching.ALIASES`).
+newer data in which a language has lost its row, unless it is one of LANGUAGE or is replaced by another (language-alias.txt).
 """
 from __future__ import annotations
 
@@ -19,7 +19,7 @@ import re
 import sys
 
 import lists as second_reading
-from matching import ALIASES, Matching, folded_number, letter_number
+from matching import Matching, folded_number, letter_number
 
 HERE = pathlib.Path(__file__).resolve().parent
 DATA = HERE / "data"
@@ -152,7 +152,7 @@ def tables(likely):
     region = lambda row: likely.regions.index(row[5])
     return "\n".join([
         f"//! Unicode's CLDR {version()} in tables (the notice: likely/LICENSE-UNICODE). Written by likely/generate.py. Do not edit.\n",
-        f"/// The major version of the Unicode CLDR that this crate has, which is {version()}.\n" f'pub const CLDR_VERSION: &str = "{major_version()}";\n',
+        f"/// The major version of Unicode's CLDR in this crate, which is {version()}.\n" f'pub const CLDR_VERSION: &str = "{major_version()}";\n',
         numbers("SCRIPT_KEYS", "The scripts: their lowercase bytes as the digits of a number, in rising order.", 32, map(folded_number, likely.scripts)),
         names("SCRIPT_NAMES", "The same scripts.", likely.scripts),
         numbers("REGION_KEYS", "The regions: their lowercase bytes as the digits of a number, in rising order.", 32, map(folded_number, likely.regions)),
@@ -173,11 +173,15 @@ def tables(likely):
 
 
 def alias_tables(matching):
+    scripts, regions = (sorted({""} | {row[i] for row in matching.aliases}, key=folded_number) for i in (2, 3))
     return "\n".join([
         f"//! What is deprecated by Unicode's CLDR {version()}, in tables (the notice: likely/LICENSE-UNICODE). Written by likely/generate.py. Do not edit.\n",
         numbers("ALIAS_KEYS", "The languages that are replaced: their letters as the digits of a number, in rising order.", 16, [letter_number(row[0]) for row in matching.aliases]),
         names("ALIAS_LANGUAGES", "What each of them becomes.", [row[1] for row in matching.aliases]),
-        names("ALIAS_SCRIPTS", "The script that this brings.", [row[2] for row in matching.aliases]),
+        names("ALIAS_SCRIPT_NAMES", "No script, and those that this brings.", scripts),
+        numbers("ALIAS_SCRIPTS", "Where the script that it brings stands.", 8, [scripts.index(row[2]) for row in matching.aliases]),
+        names("ALIAS_REGION_NAMES", "No region, and those that this brings.", regions),
+        numbers("ALIAS_REGIONS", "Where the region that it brings stands.", 8, [regions.index(row[3]) for row in matching.aliases]),
         numbers("REGION_ALIAS_KEYS", "The regions that are replaced: their lowercase bytes as the digits of a number, in rising order.", 32,
                 [folded_number(row[0]) for row in matching.region_aliases]),
         names("REGION_ALIAS_NAMES", "What each of them becomes.", [row[1] for row in matching.region_aliases]),
@@ -189,7 +193,7 @@ def matching_tables(matching):
         f"//! What Unicode's CLDR {version()} says of language matching, in tables (the notice: likely/LICENSE-UNICODE). Written by likely/generate.py. Do not edit.\n",
         numbers("LANGUAGE_RULE_KEYS", "A desired and a supported language as one number, in rising order.", 32, map(matching.language_key, matching.languages)),
         numbers("LANGUAGE_RULE_DISTANCES", "The distance of each such pair.", 8, [row[2] for row in matching.languages]),
-        numbers("RELATED_KEYS", "The languages of two letters that a rule desires, or that replace another: their letters as the digits of a number, in rising order.", 16,
+        numbers("RELATED_KEYS", "The languages of two letters that a rule desires, or that replace one of two letters: their letters as the digits of a number, in rising order.", 16,
                 sorted(letter_number(text) for text in matching.related)),
         numbers("SCRIPT_RULE_KEYS", "A desired and a supported language, each with its script, as one number, in rising order.", 64, map(matching.script_key, matching.scripts)),
         numbers("SCRIPT_RULE_DISTANCES", "The distance of each such pair.", 8, [row[2] for row in matching.scripts]),
@@ -302,10 +306,8 @@ def lost(crates, likely, matching, named):
     rules = {text for row in matching.languages for text in row[:2]}
     had_row = {row[0] for row in standing.get("language_rows", [])}
     had_rule = {text for row in standing.get("language_rules", []) for text in row[:2]}
-    aliases = {row[0]: row[1] for row in read("language-alias.txt")}
-    for language in sorted((had_row - rows | had_rule - rows - rules) - set(ALIASES) - set(named)):
-        had = "row" if language in had_row else "rule"
-        yield f"{language}: it had a {had}, and has none now" + (f"; it is an alias of {aliases[language]}" if language in aliases else "")
+    for language in sorted((had_row - rows | had_rule - rows - rules) - {row[0] for row in matching.aliases} - set(named)):
+        yield f"{language}: it had a {'row' if language in had_row else 'rule'}, and has none now"
 
 
 def refuse_unaccepted(crates, likely, matching, accept, named):

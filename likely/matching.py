@@ -1,9 +1,6 @@
 """The data of language matching: aliases, the distances of languages and scripts, and the sets of regions."""
 import sys
 
-# the languages of language-alias.txt that the matching form replaces
-ALIASES = "ajp arb cmn gom in iw ji jw mo sh tl".split()
-
 # the rules of region-distance.txt, as specs/Distance.antt has them: language, script, the set, and what stands between its two sides
 SIDES = [("ar", "*", "maghreb"), ("en", "*", "enUS"), ("es", "*", "americas"), ("pt", "*", "americas"), ("zh", "Hant", "cnsar")]
 
@@ -40,12 +37,11 @@ class Matching:
 
     def __init__(self, read, likely):
         self.likely = likely
-        self.aliases = sorted(([row[0]] + [text.strip("-") for text in row[1:]] for row in read("language-alias.txt") if row[0] in ALIASES),
-                              key=lambda row: letter_number(row[0]))
+        self.aliases = sorted(([row[0]] + [text.strip("-") for text in row[1:]] for row in read("language-alias.txt")), key=lambda row: letter_number(row[0]))
         self.region_aliases = sorted((row for row in read("region-alias.txt") if len(row[0]) == 2), key=lambda row: folded_number(row[0]))
         self.languages = self.both_ways(((d, s), int(n), one_way) for d, s, n, one_way in read("language-distance.txt"))
         self.languages.sort(key=self.language_key)
-        self.related = {text for text in [row[0] for row in self.languages] + [row[1] for row in self.aliases] if len(text) == 2}
+        self.related = {text for text in [row[0] for row in self.languages] + [row[1] for row in self.aliases if len(row[0]) == 2] if len(text) == 2}
         self.scripts = self.both_ways((((d, a), (s, b)), int(n), one_way) for d, a, s, b, n, one_way in read("script-distance.txt"))
         self.scripts.sort(key=self.script_key)
         self.sets = self.region_sets(read("region-sets.txt"), {row[0]: set(row[1:]) for row in read("region-groups.txt")})
@@ -97,9 +93,12 @@ class Matching:
 
     def test(self, read):
         each("language-alias.txt", "a language of two or three letters", lambda row: is_language(row[0]) and is_language(row[1]), self.aliases)
-        each("language-alias.txt", "no target is an alias", lambda row: row[1] not in ALIASES, self.aliases)
+        replaced = {row[0] for row in self.aliases}
+        each("language-alias.txt", "no target is an alias", lambda row: row[1] not in replaced, self.aliases)
+        each("language-alias.txt", "a script and a region of the likely subtags, if any",
+             lambda row: row[2] in ["", *self.likely.scripts] and row[3] in ["", *self.likely.regions], self.aliases)
+        each("likely.txt", "no row is of a language that is replaced", lambda row: row[0] not in replaced and row[3] not in replaced, self.likely.of_languages + self.likely.others)
         once("language-alias.txt", [row[0] for row in self.aliases])
-        each("language-alias.txt", "each is there", lambda name: name in [row[0] for row in self.aliases], ALIASES)
         each("region-alias.txt", "no target is an alias", lambda row: row[1] not in [other[0] for other in self.region_aliases], self.region_aliases)
         each("region-alias.txt", "regions of two letters", lambda row: all(len(text) == 2 and text.isalpha() for text in row), self.region_aliases)
         once("region-alias.txt", [row[0] for row in self.region_aliases])

@@ -37,7 +37,7 @@ def random_tag(rng):
     return text
 
 
-NEAR = [language for pair, _, _ in LANGUAGE_RULES for language in pair] + ["ar", "en", "es", "pt", "zh", "ja", "sr", "ko"] * 40 + list(ALIASES) * 4
+NEAR = [language for pair, _, _ in LANGUAGE_RULES for language in pair] + ["ar", "en", "es", "pt", "zh", "ja", "sr", "ko"] * 40 + list(ALIASES)
 NEAR_REGIONS = (sorted(GROUPS) + sorted(REGION_ALIASES) + ["GB", "US", "HK", "MO", "TW", "MA", "BR", "PT", "MX", "ES", "419", "ZZ", "qq"] * 6
                 + sorted(GROUPS["001"]))
 
@@ -148,6 +148,8 @@ def each():
     beside_und = sorted({row[1] for row in LIKELY.values()} | RIGHT_TO_LEFT) + sorted(REGION_ALIASES)
     for tag in tags + sorted(ALIASES) + ["und-" + subtag for subtag in beside_und]:
         print(f"maximized | {tag}\nminimized | {tag}\nright-to-left | {tag}")
+    for name, to in ALIASES.items():
+        print(f"distance | {name} | {'-'.join(filter(None, to))}\ndistance | en-{to[0]} | en-{name}\nbest | {name} | {to[0]} en {name}")
     for pair, _, _ in LANGUAGE_RULES + SCRIPT_RULES:
         print(f"distance | {pair[0]} | {pair[1]}\ndistance | {pair[1]} | {pair[0]}")
     regions = sorted(set(GROUPS) | set().union(*GROUPS.values()) | set(REGION_ALIASES))

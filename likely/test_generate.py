@@ -105,19 +105,16 @@ class Generating(unittest.TestCase):
         self.edit("likely.txt", "\naaa - - aaa Latn NG\n", "\n")
         self.assert_refused("^aaa: it had a row, and has none now$", "--accept")
         self.assert_refused("^aaa: it had a row", "--accept", "aab")
-        with mock.patch.object(generate, "ALIASES", [*matching.ALIASES, "aaa"]):
-            self.assertEqual(self.run_with("--accept"), (False, []))
+
+    def test_a_language_is_replaced(self):
+        """As gom was, of which data of old had a rule, and newer ones an alias alone."""
+        self.edit("likely.txt", "\naaa - - aaa Latn NG\n", "\n")
+        self.edit("language-alias.txt", "\naam aas", "\naaa aab - -\naam aas")
+        self.assertEqual(self.run_with("--accept"), (False, []))
 
     def test_a_language_is_let_go(self):
         self.edit("likely.txt", "\naaa - - aaa Latn NG\n", "\n")
         self.assertEqual(self.run_with("--accept", "aaa"), (False, []))
-
-    def test_an_alias_loses_its_rule(self):
-        """As gom did, of which data of old had a rule, and newer ones an alias alone."""
-        with mock.patch.object(generate, "ALIASES", [name for name in matching.ALIASES if name != "gom"]):
-            self.put("langtag_choice/specs/MatchingData.antt", "gsw de 4 ", "gsw de 4 gom kok 10 ")
-            self.edit("language-alias.txt", "gom kok", "gom  kok")
-            self.assert_refused("^gom: it had a rule, and has none now; it is an alias of kok$", "--accept")
 
     def test_premises(self):
         for name, old, new, told in (
@@ -128,7 +125,9 @@ class Generating(unittest.TestCase):
             ("likely.txt", "\naa - - aa Latn ET\n", "\nabcd - - abcd Latn ET\n", "at most three letters"),
             ("likely.txt", "\n- - AD ca Latn AD\n", "\n- - AD qqq Latn AD\n", "the language of a right side is a left side"),
             ("language-alias.txt", "\ntl fil - -\n", "\ntl iw - -\n", "no target is an alias"),
-            ("language-alias.txt", "\ntl fil - -\n", "\n", "each is there"),
+            ("language-alias.txt", "\ntl fil - -\n", "\ntl fil - -\ntl id - -\n", "a left side once"),
+            ("language-alias.txt", "\ntl fil - -\n", "\ntl fil Qaaa -\n", "a script and a region of the likely subtags"),
+            ("language-alias.txt", "\ntl fil - -\n", "\naaa fil - -\n", "no row is of a language that is replaced"),
             ("language-distance.txt", "\nda no 8 0\n", "\nda no 81 0\n", "a distance from 1 to 80"),
             ("language-distance.txt", "\nda no 8 0\n", "\nda no 16 0\n", "no distance from 15 to 19"),
             ("region-distance.txt", "\nen * $enUS $enUS 4\n", "\nen * $enUS $enUS 2\n", "other rules than those"),
@@ -177,9 +176,12 @@ class Generating(unittest.TestCase):
         def without_first(self, rows, scripts):
             init(self, rows[1:], scripts)
 
-        init = generate.Likely.__init__
+        def without_alias(self, read, likely):
+            matching_init(self, lambda name: [row for row in read(name) if (name, row[0]) != ("language-alias.txt", "tl")], likely)
+
+        init, matching_init = generate.Likely.__init__, matching.Matching.__init__
         for owner, name, worse, told in (
-            (matching, "ALIASES", [name for name in matching.ALIASES if name != "tl"], ["language_aliases: differs"]),
+            (matching.Matching, "__init__", without_alias, ["language_aliases: differs"]),
             (matching.Matching, "both_ways", staticmethod(one_way), ["language_rules: differs", "script_rules: differs"]),
             (matching.Matching, "both_ways", staticmethod(without_last), ["language_rules: differs", "script_rules: differs"]),
             (matching.Matching, "region_sets", staticmethod(without_groups), [f"{name}_partly: differs" for name in sorted(lists.SETS)]),

@@ -113,7 +113,7 @@ def tables(registry):
         index = letter_number(text) - 27
         bits[index // 64] |= 1 << index % 64
     out = [f"//! The registry in tables. Written by registry/generate.py from the registry of {registry.date}. Do not edit.\n",
-           "/// The File-Date of the registry that this crate has (RFC 5646 section 3.1.1).\n"
+           "/// The File-Date of the registry in this crate (RFC 5646 section 3.1.1).\n"
            f'pub const FILE_DATE: &str = "{registry.date}";\n',
            table("LANGUAGE_BITS", "The languages: a bit for each text of two letters and then of three, in the order of the alphabet, from the lowest\n"
                  "/// bit of the first word on.", "u64", [f"0x{word:016X}" for word in bits])]

@@ -9,7 +9,7 @@
  * Each function is proved to return and write what its comment says, for every input, to end, and to touch only the memory of
  * its arguments. No function allocates, keeps state between calls, calls back, prints, exits or sets errno. So they may be
  * called from any thread, several at once, and from signal handlers. Time grows linearly with the length of the texts, except
- * for langtag_repeats, langtag_best_for_header and langtag_tag_for_header.
+ * for langtag_repeats, langtag_best_for_header, langtag_match_for_header and langtag_tag_for_header.
  *
  * Only langtag_validity, langtag_canonical and langtag_is_canonical depend on what is registered.
  *
@@ -329,9 +329,9 @@ LANGTAG_PURE bool langtag_is_right_to_left(const char *bytes, size_t len);
  * zh-Hant, 4 from de-AT to de, 10 from yue to zh-HK, 84 from de to en, and at most 134.
  *
  * Up to 15 the languages are nearly the same. Below 50 most readers of the desired language understand the supported one.
- * Deprecated regions and the languages arb, cmn, in, iw, ji, jw, mo, sh and tl are replaced first. Variants, extensions and
- * private use do not count, nor does what else follows: en-GB-oed is as far as en-GB. The distance is 255 if either tag is und
- * only, for private use as a whole, or begins with i-, and the two are not equal.
+ * Languages and regions that CLDR replaces count as what replaces them: iw as he, ger and deu as de. Variants, extensions and private
+ * use do not count, nor does what else follows: en-GB-oed is as far as en-GB. The distance is 255 if either tag is und only, for
+ * private use as a whole, or begins with i-, and the two are not equal.
  *
  * Returns LANGTAG_NO_DISTANCE if one of the texts is not a tag.
  */
@@ -360,6 +360,28 @@ LANGTAG_PURE uint32_t langtag_distance(const char *desired, size_t desired_len, 
  */
 LANGTAG_PURE size_t langtag_best_for_header(const char *header, size_t header_len, const char *bytes, size_t len,
                                             const langtag_span *tags, size_t tags_len);
+
+/* Which range of a header the best tag serves, and how well. */
+typedef struct langtag_best_match {
+    langtag_span range; /* in the header, as it is written there: de_CH of "de_CH.UTF-8;q=0.5" */
+    uint32_t distance;  /* from that range to the tag, as langtag_distance returns it */
+} langtag_best_match;
+
+/*
+ * Returns what langtag_best_for_header returns, and writes which range the tag serves and how far the tag is from it (out). A
+ * distance of 50 or more means that the tag was found by look-up only.
+ *
+ *     const char *header = "tlh, gsw;q=0.5", *have = "en de";
+ *     const langtag_span tags[] = {{0, 2}, {3, 2}};
+ *     langtag_best_match match;
+ *     size_t best = langtag_match_for_header(header, strlen(header), have, strlen(have), tags, 2, &match);
+ *     printf("%zu, for %.*s at %u\n", best, (int)match.range.len, header + match.range.start, match.distance); // 1, for gsw at 8
+ *
+ * If no tag is suitable, the range is empty, at the end of the header, and the distance is LANGTAG_NO_DISTANCE. `found` is always
+ * written.
+ */
+size_t langtag_match_for_header(const char *header, size_t header_len, const char *bytes, size_t len,
+                                const langtag_span *tags, size_t tags_len, langtag_best_match *found);
 
 /*
  * Writes the tag for the name of a POSIX locale to `buffer` (IEEE Std 1003.1, section 8.2), and returns its length: pt_BR.UTF-8

@@ -344,6 +344,14 @@ inline std::string_view text_of(std::string_view text) noexcept { return text; }
 inline std::string_view text_of(const tag &tag) noexcept { return tag.text(); }
 inline std::string_view text_of(const owned_tag &tag) noexcept { return tag.text(); }
 
+/* What match_for_header returns. */
+struct best_match {
+    std::size_t index; /* in the list of tags */
+    langtag::tag tag;
+    std::string_view range; /* as it is written in the header, such as de_CH; a view of the header */
+    std::uint32_t distance; /* from the range to the tag, as distance() returns it; from 50 on the tag was found by look-up only */
+};
+
 /* The tags of a list as the library reads them: their texts, one behind the other, and where each one stands. */
 class listed_tags {
 public:
@@ -360,12 +368,24 @@ public:
 
     /* Returns the tag that a call chooses for a header, or std::nullopt. */
     std::optional<tag> chosen(choice choose, std::string_view header) const {
-        const std::size_t index = choose(langtag_bytes(header.data()), header.size(), text_.data(), text_.size(), spans_.data(),
-                                         given_.size());
-        return index < given_.size() ? tag::parse(given_[index]) : std::nullopt;
+        return at(choose(langtag_bytes(header.data()), header.size(), text_.data(), text_.size(), spans_.data(), given_.size()));
+    }
+
+    /* Returns the best tag for a header, with what is said of it, or std::nullopt. */
+    std::optional<best_match> matched(std::string_view header) const {
+        langtag_best_match match;
+        const std::size_t index = langtag_match_for_header(langtag_bytes(header.data()), header.size(), text_.data(), text_.size(),
+                                                           spans_.data(), given_.size(), &match);
+        const std::optional<tag> best = at(index);
+        if (!best) return std::nullopt;
+        return best_match{index, *best, header.substr(match.range.start, match.range.len), match.distance};
     }
 
 private:
+    std::optional<tag> at(std::size_t index) const {
+        return index < given_.size() ? tag::parse(given_[index]) : std::nullopt;
+    }
+
     std::string text_;
     std::vector<langtag_span> spans_;
     std::vector<std::string_view> given_;
@@ -535,6 +555,18 @@ std::optional<tag> best_for_header(std::string_view header, Tags &&tags) {
 inline std::optional<tag> best_for_header(std::string_view header, const std::vector<tag> &tags) {
     return best_for_header<const std::vector<tag> &>(header, tags);
 }
+
+/* Returns the best tag for a header, as best_for_header does, with its index, the range that it serves, and how far it is from that.
+ * A player whose tracks have tags needs the index, and can see by the distance whether a language was found or only one near it. */
+template <class Tags = texts, std::enable_if_t<stays<Tags>, int> = 0>
+std::optional<best_match> match_for_header(std::string_view header, Tags &&tags) {
+    return listed_tags(tags).matched(header);
+}
+inline std::optional<best_match> match_for_header(std::string_view header, const std::vector<tag> &tags) {
+    return match_for_header<const std::vector<tag> &>(header, tags);
+}
+template <class Allocator, class Tags = texts>
+std::optional<best_match> match_for_header(temporary_string<Allocator>, Tags &&) = delete;
 
 /* Returns the best tag for a list of ranges, the most wanted first, as best_for_header does for a header of them. The ranges are a
  * list of range, strings or views. An extended range counts without its *. A text that no element of a header can have, such as

@@ -224,8 +224,8 @@ export function accepted(header) {
     }
 }
 
-/** The index of the tag that a call chooses for a header, or how many tags there are. */
-function chosen(name, header, tags) {
+/** The index of the tag that a call chooses for a header, or how many tags there are; and what more the call writes. */
+function chosen(name, header, tags, ...more) {
     const joined = tags.join("");
     const at = (header.length + joined.length + 7) & -8;
     open(at + 16 * tags.length);
@@ -237,8 +237,15 @@ function chosen(name, header, tags) {
         start += tag.length;
     }
     const [second, spans] = [BigInt(texts + header.length), BigInt(texts + at)];
-    return close(Number(calls[name](textsAddress, BigInt(header.length), second, BigInt(start), spans, BigInt(tags.length))));
+    const length = BigInt(header.length), count = BigInt(tags.length);
+    return close(Number(calls[name](textsAddress, length, second, BigInt(start), spans, count, ...more)));
 }
 
 export const bestForHeader = (header, tags) => chosen("langtag_best_for_header", header, tags);
+/** That index; where the range stands in the header: offset and length; and the distance. */
+export function matchForHeader(header, tags) {
+    const index = chosen("langtag_match_for_header", header, tags, outAddress);
+    return [index, written(0), written(1), written(2)];
+}
+
 export const tagForHeader = (header, tags) => chosen("langtag_tag_for_header_lenient", header, tags);

@@ -210,6 +210,26 @@ export function bestForHeader<Tag extends Text, Otherwise = undefined>(
     header: Header, tags: Iterable<Tag>, otherwise?: Otherwise,
 ): Tag | Otherwise;
 
+/** The best tag for a header: what `matchForHeader` returns. */
+export interface BestMatch<Tag> {
+    /** Its index in the list. */
+    readonly index: number;
+    /** The tag, as it is in the list. */
+    readonly tag: Tag;
+    /** How far it is from the range, as `distance` says it. From 50 on the tag was found by look-up only. */
+    readonly distance: number;
+    /** The range that it serves, as the header has it. */
+    readonly range: string;
+}
+
+/**
+ * Returns the best tag for a header, as bestForHeader does, with what is known of it, or undefined. The distance tells a language that
+ * was found from one that is only near it.
+ *
+ *     matchForHeader("tlh", ["de", "en"]); // { index: 1, tag: "en", distance: 30, range: "tlh" }
+ */
+export function matchForHeader<Tag extends Text>(header: Header, tags: Iterable<Tag>): BestMatch<Tag> | undefined;
+
 /**
  * Returns the best tag for a list of ranges, the most wanted first, such as `navigator.languages`. An extended range counts without its
  * *. A text that no element of a header can have, such as de;q=0, is skipped.

@@ -415,6 +415,12 @@ export function bestForHeader(header, tags, otherwise) {
     return chosen(calls.bestForHeader, header, tags, otherwise);
 }
 
+export function matchForHeader(header, tags) {
+    const list = [...several(tags, "tags")], text = headerText(header);
+    const [index, start, length, distance] = calls.matchForHeader(text, list.map((tag) => tagOf(tag).text));
+    return index < list.length ? { index, tag: list[index], distance, range: text.slice(start, start + length) } : undefined;
+}
+
 export function viableLength(text) {
     return calls.viable(textOf(text));
 }

@@ -353,6 +353,24 @@ static void answer_ranges(text *to, const text *arguments) {
 
 static void answer_best(text *to, const text *arguments) { put_chosen(to, langtag_best_for_header, arguments[0], arguments[1]); }
 
+/* The index, the distance and the range; all is written also where there is none. */
+static void answer_best_match(text *to, const text *arguments) {
+    langtag_span tags[MOST_TAGS];
+    text header = arguments[0], words = arguments[1];
+    size_t count = find_tags(words, tags);
+    langtag_best_match match = {{1, 2}, 3};
+    size_t index = langtag_match_for_header(header.at, header.len, words.at, words.len, tags, count, &match);
+    if (index != langtag_best_for_header(header.at, header.len, words.at, words.len, tags, count)) put_word(to, " another tag");
+    if (index < count) {
+        put_number(to, "", index), put_number(to, "", match.distance);
+        put_word(to, " "), put(to, header.at + match.range.start, match.range.len);
+        return;
+    }
+    put_word(to, " -");
+    if (index != count || match.range.start != header.len || match.range.len != 0 || match.distance != LANGTAG_NO_DISTANCE)
+        put_word(to, " and a match");
+}
+
 call calls[] = {
     {"tag", answer_tag, 0, 0},
     {"validity", answer_validity, 0, 0},
@@ -374,5 +392,6 @@ call calls[] = {
     {"header", answer_header, 0, 0},
     {"ranges", answer_ranges, 0, 0},
     {"best", answer_best, 0, 0},
+    {"best-match", answer_best_match, 0, 0},
     {NULL, NULL, 0, 0},
 };

@@ -293,6 +293,15 @@ static std::string best_of(const strings &asked) {
     return found_or_default(best);
 }
 
+static std::string best_match_of(const strings &asked) {
+    const strings texts = split(asked[1], " ");
+    const std::string_view header = asked[0];
+    const auto match = langtag::match_for_header(header, texts);
+    if (!match) return langtag::match_for_header(header, tags_of(texts)) ? "one of tags" : "-";
+    if (match->tag.text() != texts[match->index] || match->tag != langtag::best_for_header(header, texts)) return "another tag";
+    return std::to_string(match->index) + ' ' + std::to_string(match->distance) + ' ' + std::string(match->range);
+}
+
 using answer = std::string (*)(const strings &asked); /* empty where C++ does not answer */
 static const std::map<std::string, answer> calls = {
     {"tag", tag_of},
@@ -315,6 +324,7 @@ static const std::map<std::string, answer> calls = {
     {"distance", distance_of},
     {"posix", posix_of},
     {"best", best_of},
+    {"best-match", best_match_of},
 };
 
 /* A line with each {N:piece} written out. */

@@ -1,6 +1,6 @@
 /* What the package answers to a row, in the row's words. It runs in Node and in a page. */
 import {
-    AcceptLanguage, AcceptLanguageError, bestForHeader, bestForRanges, distance, EditError, GRANDFATHERED, InvalidRange, InvalidTag,
+    AcceptLanguage, AcceptLanguageError, bestForHeader, bestForRanges, distance, EditError, GRANDFATHERED, InvalidRange, InvalidTag, matchForHeader,
     LanguageRange, LanguageTag, lookUp, stopLength, tagForHeader, tagForHeaderLenient, viableLength,
 } from "../index.js";
 import * as calls from "../calls.js";
@@ -185,6 +185,14 @@ function answerBest(header, list) {
     return found;
 }
 
+function answerBestMatch(header, list) {
+    const texts = list.split(" ").filter(Boolean);
+    const found = matchForHeader(header, texts);
+    assert(matchForHeader(header, texts.map((text) => LanguageTag.parse(text)))?.index === found?.index, "the index of tags");
+    assert(found?.tag === bestForHeader(header, texts), "the best tag");
+    return found === undefined ? "-" : `${found.index} ${found.distance} ${found.range}`;
+}
+
 function edited(tag, part, value) {
     try {
         return String(tag.with({ [part]: value }));
@@ -224,6 +232,7 @@ export const answers = {
     "right-to-left": (text) => ({ true: "yes", false: "no", undefined: "-" })[made(LanguageTag, text)?.isRightToLeft],
     distance: answerDistance,
     best: answerBest,
+    "best-match": answerBestMatch,
     maximized: (text) => made(LanguageTag, text)?.maximize().toString() ?? "-",
     minimized: (text) => made(LanguageTag, text)?.minimize().toString() ?? "-",
     header: answerHeader,
@@ -231,4 +240,4 @@ export const answers = {
     edit: answerEdit,
 };
 
-export const FLOORS = { "table.txt": 360, "texts.txt": 710, "negotiation.txt": 102, "edits.txt": 125, "likely.txt": 200, "posix.txt": 75, "direction.txt": 300, "distance.txt": 130, "choices.txt": 250, "refused.txt": 60 };
+export const FLOORS = { "table.txt": 360, "texts.txt": 710, "negotiation.txt": 102, "edits.txt": 125, "likely.txt": 200, "posix.txt": 75, "direction.txt": 300, "distance.txt": 130, "choices.txt": 275, "refused.txt": 60 };

@@ -67,6 +67,12 @@ def best(asked, names):
             f"best_for_header({others}, asked) AS b FROM (SELECT {tags(names)} AS tags, {text(asked)} AS asked) s) t")
 
 
+def best_match(asked, names):
+    """Asked of tags and of texts; the place of a tag in an array begins at 1."""
+    return (f"SELECT CASE WHEN ((a).index, (a).distance, (a).range) IS NOT DISTINCT FROM ((b).index, (b).distance, (b).range) THEN (a).index - 1 || ' ' || (a).distance || ' ' || (a).range ELSE 'differs as text' END FROM "
+            f"(SELECT match_for_header(tags::langtag[], asked) AS a, match_for_header(tags, asked) AS b FROM (SELECT {texts(names)} AS tags, {text(asked)} AS asked) s) t")
+
+
 def header(asked, names):
     return by_texts("tag_for_header_lenient", asked, names)
 
@@ -107,7 +113,7 @@ QUERIES = {
     "minimized": lambda tag: f"SELECT minimized({text(tag)}::langtag)::text",
     "distance": lambda desired, supported: f"SELECT distance({text(desired)}::langtag, {text(supported)}::langtag)::text",
     "posix": lambda name: f"SELECT from_posix({text(name)})::text",
-    "best": best, "header": header, "ranges": ranges, "edit": edit,
+    "best": best, "best-match": best_match, "header": header, "ranges": ranges, "edit": edit,
 }
 NO_TAG = "22P02"
 HOW = {"t t": "both", "t f": "basic", "f t": "extended", "f f": "neither", NO_TAG: "neither"}
@@ -146,7 +152,7 @@ def adapted(row):
         return "before" if a != b and b.startswith(a) else "after" if a != b and a.startswith(b) else wanted
     if row.call == "header":
         return row.text.split(" | ")[-1].lower()
-    return wanted.lower() if row.call in ("canonical", "posix", "maximized", "minimized", "edit", "ranges", "best") else wanted
+    return wanted.lower() if row.call in ("canonical", "posix", "maximized", "minimized", "edit", "ranges", "best", "best-match") else wanted
 
 
 def query(row):
@@ -179,7 +185,7 @@ class Rows(unittest.TestCase):
                 line = known.get((call, *arguments))
                 if line is None or (call in ("order", "recommended") and line == NO_TAG):
                     return None  # SQL orders tags alone
-                return ANSWERS.get(call, str)(line) if call not in ("header", "ranges", "best") else line.lower()
+                return ANSWERS.get(call, str)(line) if call not in ("header", "ranges", "best", "best-match") else line.lower()
             return of
         asker = rows.Asker({row.call: answer(row.call) for row, _ in asked}, adapted)
         asker.ask(path, floor)
@@ -208,7 +214,7 @@ class Rows(unittest.TestCase):
         self.ask("posix.txt", 70)
 
     def test_choices(self):
-        self.ask("choices.txt", 250)
+        self.ask("choices.txt", 275)
 
 
 class Registry(unittest.TestCase):

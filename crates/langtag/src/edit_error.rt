@@ -5,7 +5,7 @@ ghost use Rattle.langtag.specs.declared.edit_error.EditError.TheVariants.{Memory
 use std::alloc::AllocError;
 use thiserror::Error;
 
-/// Why a part was not put into a tag, or taken out of it. The tag is as it was.
+/// The error of a setter: why a part was neither put into a tag nor removed from it. The tag is unchanged.
 ///
 /// ```
 /// use langtag::{EditError, LangTag};
@@ -15,10 +15,10 @@ use thiserror::Error;
 /// ```
 #[derive(Clone, Copy, Debug, PartialEq, Eq, Error)]
 pub enum EditError {
-    /// The tag is not a normal one, and has no parts (RFC 5646 section 2.1): `x-a` and `i-klingon` are refused so.
+    /// The tag is not a normal one, such as `x-a` or `i-klingon`, and so has no parts (RFC 5646 section 2.1).
     #[error("not a normal language tag")]
     NotNormal,
-    /// Out of memory.
+    /// Allocation failed.
     #[error("out of memory")]
     Memory(AllocError),
 }

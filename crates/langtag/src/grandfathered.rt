@@ -13,7 +13,7 @@ use std::fmt;
 use std::fmt::Debug;
 use thiserror::Error;
 
-/// Bytes that are no grandfathered tag. It hands them back.
+/// The error for bytes that are not a grandfathered tag. It contains the bytes.
 ///
 /// ```
 /// use langtag::GrandfatheredLangTag;
@@ -26,11 +26,11 @@ use thiserror::Error;
 #[error_bound(T: Debug + Drop)]
 pub struct InvalidGrandfatheredTag<T>(pub T);
 
-/// A grandfathered tag: one of the 26 that were registered before the grammar (RFC 5646 section 2.2.8), in the order in
-/// which section 2.1 lists them. The first seventeen are irregular: no rule but their own admits them. The nine regular
+/// A grandfathered tag: one of the 26 tags that were registered before the present grammar (RFC 5646 section 2.2.8), in
+/// the order of section 2.1. The first 17 are irregular: they do not follow the grammar of other tags. The nine regular
 /// ones, from `art-lojban` on, are normal tags too.
 ///
-/// They are compared, ordered and hashed by where they stand in this declaration.
+/// Comparisons and hashes use the position in this declaration.
 ///
 /// ```
 /// use langtag::GrandfatheredLangTag;
@@ -46,7 +46,7 @@ pub enum GrandfatheredLangTag {
     IAmi,
     /// `i-bnn`, Bunun.
     IBnn,
-    /// `i-default`, the language of messages where none is known.
+    /// `i-default`, the language of messages if no language is known.
     IDefault,
     /// `i-enochian`, Enochian.
     IEnochian,
@@ -130,15 +130,15 @@ impl GrandfatheredLangTag {
     ghost use Rattle.langtag.specs.Order.{TagsCompareByIndex};
     ghost use Rattle.langtag.specs.Registered.{index_of, language_of, IsGrandfatheredAt, IsGrandfathered};
 
-    /// Returns the grandfathered tag with these bytes, in any case: `GrandfatheredLangTag::new(b"I-AMI")` is
+    /// Returns the grandfathered tag with these bytes, ignoring case: `GrandfatheredLangTag::new(b"I-AMI")` is
     /// `Ok(GrandfatheredLangTag::IAmi)`.
     ///
-    /// It is proved that no bytes equal two of them, ignoring case, that all of them are tags, that they compare and
-    /// are hashed as their indices, that a clone is the value itself, and that [`GRANDFATHERED`] has each at its index.
+    /// It is proved that no two of them are equal, ignoring case, that all are tags, that they compare and hash as
+    /// their indices do, that a clone is the same value, and that [`GRANDFATHERED`] has each at its index.
     ///
     /// # Errors
     ///
-    /// Bytes that are no such tag come back, the same slice: `b"fr"` does.
+    /// Returns the same slice if it is not a grandfathered tag, such as `b"fr"`.
     #[tactic(auto, using(crate::proofs::RegisteredLaws::one_index, crate::proofs::OrderLaws::tags_compare, crate::proofs::RegisteredLaws::grandfathered_tag))]
     pub fn new(bytes: &[u8]) -> Result<Self, &[u8]>
         ensures accepts { IsTrue (is_ok result) ↔ IsGrandfathered bytes.now }
@@ -202,7 +202,8 @@ impl GrandfatheredLangTag {
         }
     }
 
-    /// Returns the primary language of a regular tag: `zh` of `zh-min-nan`. An irregular one has none: None of `i-lux`.
+    /// Returns the primary language of a regular tag: `zh` for `zh-min-nan`. An irregular one has none: `None` for
+    /// `i-lux`.
     pub fn language(&self) -> Option<Language<'static>>
         ensures { option_map language_text result ≡ language_of self.now }
     {
@@ -210,7 +211,7 @@ impl GrandfatheredLangTag {
         Some(Language::from_checked(language))
     }
 
-    /// Returns the registered spelling: `sgn-BE-FR` of `GrandfatheredLangTag::SgnBeFr`.
+    /// Returns the registered spelling: `sgn-BE-FR` for `GrandfatheredLangTag::SgnBeFr`.
     pub fn as_str(&self) -> &'static str
         ensures { result.now ≡ text_of self.now }
     {
@@ -225,7 +226,7 @@ impl GrandfatheredLangTag {
         LangTag::from_checked(self.as_str())
     }
 
-    /// Returns the bytes of the registered spelling: `b"i-lux"` of `GrandfatheredLangTag::ILux`.
+    /// Returns the bytes of the registered spelling: `b"i-lux"` for `GrandfatheredLangTag::ILux`.
     pub fn as_bytes(&self) -> &'static [u8]
         ensures { result.now ≡ text_of self.now }
     {

@@ -32,7 +32,7 @@ use std::fmt;
 use std::fmt::Debug;
 use thiserror::Error;
 
-/// The error for a text that is not a tag. It hands the text back.
+/// The error for a text that is not a language tag. It contains the text.
 ///
 /// ```
 /// use langtag::LangTag;
@@ -45,11 +45,11 @@ use thiserror::Error;
 #[error_bound(T: Debug + Drop)]
 pub struct InvalidLangTag<T>(pub T);
 
-/// A language tag (RFC 5646 section 2.1): a normal one, as `zh-Hant-TW`, one for private use as a whole, as `x-fr-CH`, or
-/// an irregular grandfathered one, as `i-klingon`.
+/// A language tag (RFC 5646 section 2.1). It is a normal tag, such as `zh-Hant-TW`, a private-use tag, such as
+/// `x-fr-CH`, or an irregular grandfathered tag, such as `i-klingon`.
 ///
-/// It keeps what the recogniser found: which of the three it is, and where the parts of a normal tag end. Two tags are
-/// equal where their texts differ at most in the case of ASCII letters.
+/// It stores its kind, and where the parts of a normal tag end, so no call parses the text again. Two tags are equal if
+/// their texts differ only in the case of ASCII letters.
 ///
 /// ```
 /// use langtag::LangTag;
@@ -77,12 +77,12 @@ impl<'a> LangTag<'a> {
     ghost use Rattle.langtag.specs.Text.{normal_lang_tag_text, lang_tag_text, lang_tag_buf_text};
     ghost use Rattle.langtag.specs.Typed.{IsTypedAs};
 
-    /// Parses a text as a tag: `LangTag::new("zh-Hant-TW")` is Ok, and so are `x-fr-CH` and `I-Klingon`. It is proved
-    /// that no text is of two kinds.
+    /// Parses a text as a language tag. Case does not matter, and the text keeps its case. It is proved that no text is
+    /// of two kinds.
     ///
     /// # Errors
     ///
-    /// A text that is not a tag comes back: `zh_Hant`, and the empty text.
+    /// Returns the text if it is not a tag, such as `zh_Hant` or the empty text.
     ///
     /// ```
     /// use langtag::LangTag;
@@ -107,12 +107,12 @@ impl<'a> LangTag<'a> {
         Ok(LangTag::with_found(text, found))
     }
 
-    /// Parses bytes as a tag: `LangTag::from_bytes(b"zh-Hant-TW")` is Ok. They need not be UTF-8: a tag is ASCII, so what is
-    /// not is no tag, and nothing looks at them before.
+    /// Parses bytes as a language tag. The bytes need not be UTF-8, and nothing checks that first, because each tag is
+    /// ASCII.
     ///
     /// # Errors
     ///
-    /// Bytes that are not a tag come back, the same slice: `b"zh_Hant"`, and `b"fr\xFF"`.
+    /// Returns the same slice if it is not a tag, such as `b"zh_Hant"` or `b"fr\xFF"`.
     ///
     /// ```
     /// use langtag::LangTag;
@@ -134,8 +134,8 @@ impl<'a> LangTag<'a> {
         Ok(LangTag::with_found(ascii, found))
     }
 
-    /// Returns the tag of a text that is known to be one: `LangTag::from_checked(tag.as_str()) == tag` of each tag. The
-    /// recogniser goes over the text once more, for what it finds.
+    /// Returns the tag of a text that is known to be one: `LangTag::from_checked(tag.as_str())` equals `tag`. It parses
+    /// the text again to find the parts.
     pub fn from_checked(text: &'a str) -> LangTag<'a>
         requires { IsTag text.now }
         ensures { lang_tag_text result ≡ text.now }
@@ -146,7 +146,7 @@ impl<'a> LangTag<'a> {
         LangTag::with_found(text, found)
     }
 
-    /// The tag of a text of which this was found: it is not looked at again.
+    /// Returns the tag with a text in which this was found, without parsing it again.
     pub(crate) fn with_found(text: &'a str, found: Recognised) -> LangTag<'a>
         requires { ∥ IsFoundOf text.now (finding_of found) ∥₁ }
         ensures { lang_tag_text result ≡ text.now }
@@ -157,7 +157,7 @@ impl<'a> LangTag<'a> {
         }
     }
 
-    /// Returns the text, with its case: `ZH-hant` of `ZH-hant`.
+    /// Returns the text, in its original case.
     ///
     /// ```
     /// use langtag::LangTag;
@@ -171,7 +171,7 @@ impl<'a> LangTag<'a> {
         self.text.0
     }
 
-    /// Returns the bytes of the text: `b"x-a"` of `x-a`.
+    /// Returns the text as bytes.
     ///
     /// ```
     /// use langtag::LangTag;
@@ -184,8 +184,8 @@ impl<'a> LangTag<'a> {
         self.as_str().as_bytes()
     }
 
-    /// Returns all subtags of the tag, in order and from both ends: `zh`, `Hant` and `TW` of `zh-Hant-TW`, `x` and `a`
-    /// of `x-a`.
+    /// Returns an iterator over all subtags, from either end: `zh`, `Hant` and `TW` for `zh-Hant-TW`, and `x` and `a`
+    /// for `x-a`.
     ///
     /// ```
     /// use langtag::LangTag;
@@ -206,12 +206,11 @@ impl<'a> LangTag<'a> {
         Subtags::new(self.as_str())
     }
 
-    /// Returns whether another text, of any form, is equal but for the case of ASCII letters: true of `zh-Hant` and
-    /// `ZH-hant`. Then it is a tag of the same kind, and, where that is a normal one, has alike parts at the same
-    /// offsets.
+    /// Returns whether another text equals this tag, ignoring the case of ASCII letters. Then the text is a tag of the
+    /// same kind. If that is a normal tag, its parts are at the same offsets and are equal, ignoring case.
     ///
-    /// It is proved that tags are compared, ordered and hashed without regard to case, that a clone is the tag itself,
-    /// and that a tag that begins another is the greater of the two: `zh` comes after `zh-Latn`.
+    /// It is proved that comparisons and hashes of tags also ignore case, and that a clone is the same tag. A tag sorts
+    /// after every longer tag that begins with it: `zh` after `zh-Latn`.
     ///
     /// ```
     /// use langtag::LangTag;
@@ -233,9 +232,8 @@ impl<'a> LangTag<'a> {
         self.text == Caseless(other)
     }
 
-    /// Returns the kind of the tag: `Kind::Normal` of `fr-x-a`, `Kind::PrivateUse` of `x-a`, `Kind::Grandfathered` of
-    /// `i-lux`. The regular grandfathered tags are normal. It is proved that kinds compare and are hashed as they are
-    /// declared, and that a clone of one is the same.
+    /// Returns the kind of the tag. The regular grandfathered tags are normal. It is proved that kinds compare and hash
+    /// in the order of their declaration, and that a clone is the same kind.
     ///
     /// ```
     /// use langtag::{Kind, LangTag};
@@ -253,8 +251,7 @@ impl<'a> LangTag<'a> {
         self.as_typed().kind()
     }
 
-    /// Returns the tag as a value of the type of its kind: `TypedLangTag::PrivateUse(tag)` of `x-a`, where `tag` has
-    /// the same text.
+    /// Returns the tag as an enum with one variant for each kind, to match on. The value inside has the same text.
     ///
     /// ```
     /// use langtag::{GrandfatheredLangTag, LangTag, TypedLangTag};
@@ -276,8 +273,7 @@ impl<'a> LangTag<'a> {
         }
     }
 
-    /// Returns whether the tag is a normal one: true of `zh-Latn`, false of `x-a` and `i-lux`. The regular
-    /// grandfathered ones are.
+    /// Returns whether the tag is a normal one, which is made of parts. The regular grandfathered tags are normal, too.
     ///
     /// ```
     /// use langtag::LangTag;
@@ -291,7 +287,7 @@ impl<'a> LangTag<'a> {
         self.found.is_normal()
     }
 
-    /// Returns whether the tag is for private use as a whole: true of `x-a`, false of `fr-x-a`.
+    /// Returns whether the whole tag is for private use, which means that it begins with `x-`.
     ///
     /// ```
     /// use langtag::LangTag;
@@ -305,11 +301,10 @@ impl<'a> LangTag<'a> {
         self.found.is_private_use()
     }
 
-    /// Returns whether the tag is one of the 26 grandfathered ones, in any case (RFC 5646 section 2.2.8): true of
-    /// `i-lux`.
+    /// Returns whether the tag is one of the 26 grandfathered tags, ignoring case (RFC 5646 section 2.2.8).
     ///
-    /// The regular ones are normal tags too, so this is true of `art-lojban`, whose kind is normal:
-    /// [`as_typed().is_grandfathered()`](TypedLangTag::is_grandfathered) is false of it.
+    /// The regular ones are normal tags, too. For example, this is `true` for `art-lojban`, whose kind is normal, while
+    /// [`as_typed().is_grandfathered()`](TypedLangTag::is_grandfathered) is `false`.
     ///
     /// ```
     /// use langtag::LangTag;
@@ -324,7 +319,7 @@ impl<'a> LangTag<'a> {
         self.as_grandfathered().is_some()
     }
 
-    /// Returns the normal tag, where the tag is one: Some of `zh-Latn` and of `art-lojban`, None of `x-a`.
+    /// Returns the tag as a [`NormalLangTag`] if it is one: `Some` for `zh-Latn` and `art-lojban`, `None` for `x-a`.
     ///
     /// ```
     /// use langtag::LangTag;
@@ -341,7 +336,8 @@ impl<'a> LangTag<'a> {
         Some(NormalLangTag::with_ends(self.text.0, ends))
     }
 
-    /// Returns the tag for private use, where the whole tag is one: Some of `x-a`, None of `fr-x-a`.
+    /// Returns the tag as a [`PrivateUseLangTag`] if the whole tag is for private use: `Some` for `x-a`, `None` for
+    /// `fr-x-a`.
     ///
     /// ```
     /// use langtag::LangTag;
@@ -360,8 +356,8 @@ impl<'a> LangTag<'a> {
         Some(PrivateUse::from_checked(self.text.0))
     }
 
-    /// Returns the grandfathered tag, where the tag is one of the 26, in any case: Some of `I-Lux` and of `art-lojban`,
-    /// None of `fr`.
+    /// Returns the grandfathered tag if the tag is one of the 26, ignoring case: `Some` for `I-Lux` and `art-lojban`,
+    /// `None` for `fr`.
     ///
     /// ```
     /// use langtag::LangTag;
@@ -377,11 +373,11 @@ impl<'a> LangTag<'a> {
         GrandfatheredLangTag::new(self.as_bytes()).ok()
     }
 
-    /// Returns the owned form of the same text: `owned.as_str()` is `zh-Latn` where this is `zh-Latn`.
+    /// Copies the tag into one that owns its text.
     ///
     /// # Errors
     ///
-    /// Out of memory.
+    /// Returns an error if allocation fails.
     ///
     /// ```
     /// use langtag::LangTag;
@@ -396,8 +392,7 @@ impl<'a> LangTag<'a> {
         Ok(LangTagBuf::with_found(text, self.found))
     }
 
-    /// Returns the tag as it reads in the case that RFC 5646 section 2.1.1 recommends, to be displayed: `{}` of
-    /// `tag.in_recommended_case()` prints `mn-Cyrl-MN` of `MN-cYRL-mn`. No memory is taken.
+    /// Returns a value that displays the tag in the case that RFC 5646 section 2.1.1 recommends. It does not allocate.
     ///
     /// ```
     /// use langtag::LangTag;
@@ -412,8 +407,7 @@ impl<'a> LangTag<'a> {
         InRecommendedCase::from_checked(self.as_str())
     }
 
-    /// Returns whether the tag is in the case that RFC 5646 section 2.1.1 recommends: true of `mn-Cyrl-MN`, false of
-    /// `mn-cyrl-MN`.
+    /// Returns whether the tag is in the case that RFC 5646 section 2.1.1 recommends.
     ///
     /// ```
     /// use langtag::LangTag;
@@ -427,12 +421,11 @@ impl<'a> LangTag<'a> {
         is_in_recommended_case(self.as_bytes())
     }
 
-    /// Returns the owned form of the tag in the case that RFC 5646 section 2.1.1 recommends: `mn-Cyrl-MN` of
-    /// `MN-cYRL-mn`.
+    /// Copies the tag into an owned one, in the case that RFC 5646 section 2.1.1 recommends.
     ///
     /// # Errors
     ///
-    /// Out of memory.
+    /// Returns an error if allocation fails.
     ///
     /// ```
     /// use langtag::LangTag;
@@ -459,7 +452,7 @@ impl<'a> LangTag<'a> {
     ghost use Rattle.langtag.specs.Part.{PartOf};
     ghost use Rattle.langtag.specs.Text.{lang_tag_text};
 
-    /// Returns the language of a normal tag: `zh-yue` of `zh-yue-HK`, None of `x-a` and of `i-lux`.
+    /// Returns the language, with its extended subtags: `zh-yue` for `zh-yue-HK`, and `None` for `x-a` and `i-lux`.
     ///
     /// ```
     /// use langtag::LangTag;
@@ -474,7 +467,7 @@ impl<'a> LangTag<'a> {
         Some(self.as_normal()?.language())
     }
 
-    /// Returns the script of a normal tag: `Latn` of `sl-Latn-IT`, None of `sl-IT` and of `x-a`.
+    /// Returns the script, if there is one: `Latn` for `sl-Latn-IT`, `None` for `sl-IT` and `x-a`.
     ///
     /// ```
     /// use langtag::LangTag;
@@ -489,7 +482,7 @@ impl<'a> LangTag<'a> {
         self.as_normal()?.script()
     }
 
-    /// Returns the region of a normal tag: `419` of `es-419`, None of `es` and of `x-a`.
+    /// Returns the region, if there is one: `419` for `es-419`, `None` for `es` and `x-a`.
     ///
     /// ```
     /// use langtag::LangTag;
@@ -504,8 +497,7 @@ impl<'a> LangTag<'a> {
         self.as_normal()?.region()
     }
 
-    /// Returns the variants of a normal tag, none on any other: `rozaj-1994` of `sl-rozaj-1994`, the empty text of
-    /// `x-a`.
+    /// Returns the variants: `rozaj-1994` for `sl-rozaj-1994`, and the empty text for `sl` and `x-a`.
     ///
     /// ```
     /// use langtag::LangTag;
@@ -522,8 +514,7 @@ impl<'a> LangTag<'a> {
         tag.variants()
     }
 
-    /// Returns the extensions of a normal tag, none on any other: `a-bb-u-co` of `en-a-bb-u-co-x-y`, the empty text of
-    /// `x-a`.
+    /// Returns the extensions: `a-bb-u-co` for `en-a-bb-u-co-x-y`, and the empty text for `en` and `x-a`.
     ///
     /// ```
     /// use langtag::LangTag;
@@ -540,8 +531,8 @@ impl<'a> LangTag<'a> {
         tag.extensions()
     }
 
-    /// Returns the private use part of a normal tag: `x-y` of `en-x-y`. A tag for private use as a whole has none, so
-    /// it is None of `x-a`: see [`as_private_use`](LangTag::as_private_use).
+    /// Returns the private use part of a normal tag: `x-y` for `en-x-y`. It is `None` for `x-a`, which is a private-use
+    /// tag and has no parts: see [`as_private_use`](LangTag::as_private_use).
     ///
     /// ```
     /// use langtag::LangTag;
@@ -556,8 +547,8 @@ impl<'a> LangTag<'a> {
         self.as_normal()?.private_use()
     }
 
-    /// Returns the subtags of the private use part of a normal tag, `x` and `y` of `en-x-x-y`; none where there is no
-    /// such part.
+    /// Returns an iterator over the subtags of the private use part: `x` and `y` for `en-x-x-y`, and nothing if there
+    /// is no such part.
     ///
     /// ```
     /// use langtag::LangTag;

@@ -32,7 +32,7 @@ use langtag_scan::Caseless;
 use std::alloc::Global;
 use std::fmt;
 
-/// A tag that owns its text. It keeps what was found of it, as [`LangTag`] does, and lends both.
+/// A language tag that owns its text. Like [`LangTag`], it stores its kind and the ends of its parts.
 ///
 /// ```
 /// use langtag::LangTag;
@@ -56,11 +56,11 @@ impl LangTagBuf {
     ghost use Rattle.langtag.specs.Kinds.{AreOfOneKind};
     ghost use Rattle.langtag.specs.Text.{lang_tag_text, lang_tag_buf_string, lang_tag_buf_text, normal_lang_tag_buf_string, normal_lang_tag_buf_text};
 
-    /// Parses a `String` as a tag, and keeps it, without a copy: `x-a` is Ok.
+    /// Parses a `String` as a language tag and keeps it, without copying.
     ///
     /// # Errors
     ///
-    /// A text that is not a tag comes back, the same `String`: `x-` does.
+    /// Returns the same `String` if it is not a tag, such as `x-`.
     pub fn new(text: String) -> Result<LangTagBuf, InvalidLangTag<String>>
         ensures accepts { IsTrue (is_ok result) ↔ IsTag (string_bytes text) }
         ensures same_text { IfOk result (λ tag. lang_tag_buf_text tag ≡ string_bytes text) }
@@ -73,7 +73,7 @@ impl LangTagBuf {
         Ok(LangTagBuf::with_found(text, found))
     }
 
-    /// The tag of a text of which this was found: it is not looked at again.
+    /// Returns the tag with a text in which this was found, without parsing it again.
     pub(crate) fn with_found(text: String, found: Recognised) -> LangTagBuf
         requires { ∥ IsFoundOf (string_bytes text) (finding_of found) ∥₁ }
         ensures { lang_tag_buf_string result ≡ text }
@@ -84,10 +84,9 @@ impl LangTagBuf {
         }
     }
 
-    /// Borrows the tag, with what was found of it, so that nothing is looked at again:
-    /// `owned.as_lang_tag().kind()` is `Kind::PrivateUse` of `x-a`.
+    /// Borrows the tag, without parsing it again.
     ///
-    /// It is proved that owned tags are compared, ordered and hashed without regard to case.
+    /// It is proved that comparisons and hashes of owned tags ignore case.
     pub fn as_lang_tag(&self) -> LangTag<'_>
         ensures same_text { lang_tag_text result ≡ lang_tag_buf_text self.now }
         ensures compared { LangTagBufsCompareByCase }
@@ -95,7 +94,7 @@ impl LangTagBuf {
         LangTag::with_found(self.as_str(), self.found)
     }
 
-    /// Returns the text, with its case: `X-a` of `X-a`.
+    /// Returns the text, in its original case.
     pub fn as_str(&self) -> &str
         ensures same_text { result.now ≡ lang_tag_buf_text self.now }
         ensures in_class { IsTag result.now }
@@ -103,12 +102,12 @@ impl LangTagBuf {
         self.text.0.as_str()
     }
 
-    /// Returns the same tag as a normal one, over the very `String`: Ok of `zh-TW`. Nothing is looked at again, and
-    /// [`into_lang_tag`](NormalLangTagBuf::into_lang_tag) is the way back.
+    /// Converts the tag into a [`NormalLangTagBuf`] over the same `String`, without parsing it again.
+    /// [`into_lang_tag`](NormalLangTagBuf::into_lang_tag) converts back.
     ///
     /// # Errors
     ///
-    /// A tag of another kind comes back, as `x-a` does.
+    /// Returns the tag if it is of another kind, such as `x-a`.
     pub fn into_normal(self) -> Result<NormalLangTagBuf, LangTagBuf>
         ensures accepts { IsTrue (is_ok result) ↔ IsNormal (lang_tag_buf_text self) }
         ensures same_text { IfOk result (λ tag. normal_lang_tag_buf_text tag ≡ lang_tag_buf_text self) }
@@ -121,7 +120,7 @@ impl LangTagBuf {
         Ok(NormalLangTagBuf::with_ends(self.text.0, ends))
     }
 
-    /// Returns the text itself, without a copy: `x-a` of `x-a`.
+    /// Returns the `String`, without copying it.
     pub fn into_string(self) -> String
         ensures same_text { string_bytes result ≡ lang_tag_buf_text self }
         ensures same_string { result ≡ lang_tag_buf_string self }
@@ -130,11 +129,12 @@ impl LangTagBuf {
         self.text.0
     }
 
-    /// Puts the letters into the case that RFC 5646 section 2.1.1 recommends: `mn-Cyrl-MN` of `MN-cYRL-mn`, and `en-CA-x-ca`.
+    /// Changes the letters to the case that RFC 5646 section 2.1.1 recommends: `MN-cYRL-mn` becomes `mn-Cyrl-MN`, and
+    /// `EN-ca-X-CA` becomes `en-CA-x-ca`.
     ///
-    /// Of a normal tag a script has a capital first and a region has capitals, and all else is small. The tag stays equal
-    /// to what it was, with its parts at the same offsets. No memory is taken, and the recogniser does not run. Tags that
-    /// are equal come out byte for byte the same, so that the text serves as a key where bytes are compared.
+    /// In a normal tag, the script becomes titlecase, the region uppercase, and everything else lowercase. The tag
+    /// still equals the old one, and its parts keep their offsets. It neither allocates nor parses. Equal tags become
+    /// the same bytes, so the text can be a key in a store that compares bytes.
     pub fn make_recommended_case(&mut self)
         ensures case { lang_tag_buf_text self.new ≡ recommended_text (lang_tag_buf_text self.old) }
         ensures same_block { SameBlock (string_vec (lang_tag_buf_string self.old)) (string_vec (lang_tag_buf_string self.new)) }
@@ -153,12 +153,12 @@ impl LangTagBuf {
 impl LangTagBuf {
     ghost use Rattle.langtag.specs.Text.{lang_tag_buf_text};
 
-    /// Puts a language into a normal tag, as [`NormalLangTagBuf::set_language`] does: `zh-yue` put into `sl-IT` makes
-    /// `zh-yue-IT`.
+    /// Sets the language, as [`NormalLangTagBuf::set_language`] does: with `zh-yue`, `sl-IT` becomes `zh-yue-IT`.
     ///
     /// # Errors
     ///
-    /// The tag is not a normal one, as `x-a`, or memory was refused. The tag is as it was.
+    /// Returns `EditError::NotNormal` if the tag is not a normal one, such as `x-a`, and `EditError::Memory` if
+    /// allocation fails. The tag is then unchanged.
     ///
     /// ```
     /// use langtag::{LangTag, Language};
@@ -178,12 +178,12 @@ impl LangTagBuf {
         self.put(alloc, Part::Language(language))
     }
 
-    /// Puts a script into a normal tag, or takes it out, as [`NormalLangTagBuf::set_script`] does: `Latn` put into `sl-IT`
-    /// makes `sl-Latn-IT`.
+    /// Sets or removes the script, as [`NormalLangTagBuf::set_script`] does: with `Latn`, `sl-IT` becomes `sl-Latn-IT`.
     ///
     /// # Errors
     ///
-    /// The tag is not a normal one, as `x-a`, or memory was refused. The tag is as it was.
+    /// Returns `EditError::NotNormal` if the tag is not a normal one, such as `x-a`, and `EditError::Memory` if
+    /// allocation fails. The tag is then unchanged.
     ///
     /// ```
     /// use langtag::{LangTag, Script};
@@ -201,12 +201,13 @@ impl LangTagBuf {
         self.put(alloc, Part::Script(script))
     }
 
-    /// Puts a region into a normal tag, or takes it out, as [`NormalLangTagBuf::set_region`] does: `AT` put into `de-DE-1996`
-    /// makes `de-AT-1996`.
+    /// Sets or removes the region, as [`NormalLangTagBuf::set_region`] does: with `AT`, `de-DE-1996` becomes
+    /// `de-AT-1996`.
     ///
     /// # Errors
     ///
-    /// The tag is not a normal one, as `x-a`, or memory was refused. The tag is as it was.
+    /// Returns `EditError::NotNormal` if the tag is not a normal one, such as `x-a`, and `EditError::Memory` if
+    /// allocation fails. The tag is then unchanged.
     ///
     /// ```
     /// use langtag::{LangTag, Region};
@@ -224,12 +225,13 @@ impl LangTagBuf {
         self.put(alloc, Part::Region(region))
     }
 
-    /// Puts variants into a normal tag, or takes them out, as [`NormalLangTagBuf::set_variants`] does: `1996` put into `de-AT`
-    /// makes `de-AT-1996`.
+    /// Sets or removes the variants, as [`NormalLangTagBuf::set_variants`] does: with `1996`, `de-AT` becomes
+    /// `de-AT-1996`.
     ///
     /// # Errors
     ///
-    /// The tag is not a normal one, as `x-a`, or memory was refused. The tag is as it was.
+    /// Returns `EditError::NotNormal` if the tag is not a normal one, such as `x-a`, and `EditError::Memory` if
+    /// allocation fails. The tag is then unchanged.
     ///
     /// ```
     /// use langtag::{LangTag, Variants};
@@ -247,12 +249,13 @@ impl LangTagBuf {
         self.put(alloc, Part::Variants(variants))
     }
 
-    /// Puts extensions into a normal tag, or takes them out, as [`NormalLangTagBuf::set_extensions`] does: `u-co-eor` put
-    /// into `de-x-a` makes `de-u-co-eor-x-a`.
+    /// Sets or removes the extensions, as [`NormalLangTagBuf::set_extensions`] does: with `u-co-eor`, `de-x-a` becomes
+    /// `de-u-co-eor-x-a`.
     ///
     /// # Errors
     ///
-    /// The tag is not a normal one, as `x-a`, or memory was refused. The tag is as it was.
+    /// Returns `EditError::NotNormal` if the tag is not a normal one, such as `x-a`, and `EditError::Memory` if
+    /// allocation fails. The tag is then unchanged.
     ///
     /// ```
     /// use langtag::{Extensions, LangTag};
@@ -274,12 +277,13 @@ impl LangTagBuf {
         self.put(alloc, Part::Extensions(extensions))
     }
 
-    /// Puts a private use part into a normal tag, or takes it out, as [`NormalLangTagBuf::set_private_use`] does: `x-mine`
-    /// put into `de-x-a` makes `de-x-mine`.
+    /// Sets or removes the private use part, as [`NormalLangTagBuf::set_private_use`] does: with `x-mine`, `de-x-a`
+    /// becomes `de-x-mine`.
     ///
     /// # Errors
     ///
-    /// The tag is not a normal one, as `x-a`, or memory was refused. The tag is as it was.
+    /// Returns `EditError::NotNormal` if the tag is not a normal one, such as `x-a`, and `EditError::Memory` if
+    /// allocation fails. The tag is then unchanged.
     ///
     /// ```
     /// use langtag::{LangTag, PrivateUse};

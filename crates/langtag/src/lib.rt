@@ -1,6 +1,6 @@
-//! Language tags, by RFC 5646 section 2.1: parsed, taken apart, compared without regard to case, and edited.
+//! Language tags (RFC 5646 section 2.1): parses them, takes them apart, compares them ignoring case, and edits them.
 //!
-//! A [`LangTag`] is a tag of any kind: a normal one, one for private use as a whole, or a grandfathered one:
+//! A [`LangTag`] is a tag of any kind: normal, for private use, or grandfathered:
 //!
 //! ```
 //! use langtag::{Kind, LangTag};
@@ -13,7 +13,7 @@
 //! LangTag::new("zh_Hant").err().map(|error| error.0); // Some("zh_Hant")
 //! ```
 //!
-//! A [`NormalLangTag`] is a tag made of parts. It keeps where they end, so that each is cut from the text:
+//! A [`NormalLangTag`] is a tag that is made of parts. It stores where they end, so each part is a slice of the text:
 //!
 //! ```
 //! use langtag::{NormalLangTag, Script};
@@ -30,8 +30,8 @@
 //! owned.as_str();                                   // "sl-Latn-IT-rozaj-x-mine"
 //! ```
 //!
-//! Each part has a type of its own, lent and owned, as [`Script`] and [`ScriptBuf`]. All of them are reached from this
-//! crate, as is what decides over bytes whether they are a tag ([`recognise`]).
+//! Each part has a borrowed and an owned type, such as [`Script`] and [`ScriptBuf`]. This crate exports them all, and
+//! also the parser over bytes, [`recognise`].
 #![tactic(auto)]
 
 mod edit;

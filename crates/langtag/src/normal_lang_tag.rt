@@ -30,7 +30,7 @@ use std::fmt;
 use std::fmt::Debug;
 use thiserror::Error;
 
-/// The error for a text that is not a normal tag. It hands the text back.
+/// The error for a text that is not a normal tag. It contains the text.
 ///
 /// ```
 /// use langtag::NormalLangTag;
@@ -43,11 +43,11 @@ use thiserror::Error;
 #[error_bound(T: Debug + Drop)]
 pub struct InvalidNormalLangTag<T>(pub T);
 
-/// A normal tag (rule `langtag` of RFC 5646 section 2.1): a language, and after it a script, a region, variants,
-/// extensions and a private use part, each of which may be absent, as `sl-Latn-IT-rozaj-u-co-phonebk-x-mine`.
+/// A normal language tag, the rule `langtag` of RFC 5646 section 2.1. It has a language, and may have a script, a
+/// region, variants, extensions and a private use part, as `sl-Latn-IT-rozaj-u-co-phonebk-x-mine` does.
 ///
-/// It keeps where its parts end, so that each is cut from the text. Two tags are equal where their texts differ at most
-/// in the case of ASCII letters.
+/// It stores where its parts end, so each part is a slice of the text. Two tags are equal if their texts differ only in
+/// the case of ASCII letters.
 ///
 /// ```
 /// use langtag::NormalLangTag;
@@ -75,14 +75,14 @@ impl<'a> NormalLangTag<'a> {
     ghost use Rattle.langtag.specs.Compared.{NormalLangTagsCompareByCase};
     ghost use Rattle.langtag.specs.Text.{lang_tag_text, normal_lang_tag_text, normal_lang_tag_buf_text};
 
-    /// Parses a text as a normal tag: `NormalLangTag::new("sl-IT-rozaj")` is Ok.
+    /// Parses a text as a normal tag.
     ///
-    /// It is proved that a normal tag can be divided into its parts in one way only, and that the parts that are there,
-    /// joined by hyphens, are the whole text.
+    /// It is proved that a normal tag splits into its parts in only one way, and that the parts, joined by hyphens, are
+    /// the whole text.
     ///
     /// # Errors
     ///
-    /// A text that is not a normal tag comes back: `sl_IT`, and also `x-a`, which is a tag of another kind.
+    /// Returns the text if it is not a normal tag, such as `sl_IT`, or `x-a`, which is a tag of another kind.
     ///
     /// ```
     /// use langtag::NormalLangTag;
@@ -105,8 +105,8 @@ impl<'a> NormalLangTag<'a> {
         Ok(NormalLangTag::with_ends(text, ends))
     }
 
-    /// Returns the normal tag of a text that is known to be one: `NormalLangTag::from_checked(tag.as_str()) == tag` of
-    /// each normal tag. The recogniser goes over the text once more, for the ends of its parts.
+    /// Returns the normal tag of a text that is known to be one: `NormalLangTag::from_checked(tag.as_str())` equals
+    /// `tag`. It parses the text again to find the parts.
     pub fn from_checked(text: &'a str) -> NormalLangTag<'a>
         requires { IsNormal text.now }
         ensures { normal_lang_tag_text result ≡ text.now }
@@ -117,7 +117,7 @@ impl<'a> NormalLangTag<'a> {
         NormalLangTag::with_ends(text, ends)
     }
 
-    /// The normal tag of a text whose parts are known to end at these offsets: it is not looked at again.
+    /// Returns the normal tag with a text whose parts are known to end at these offsets, without parsing it again.
     pub(crate) fn with_ends(text: &'a str, ends: Ends) -> NormalLangTag<'a>
         requires { ∥ HasEnds text.now ends ∥₁ }
         ensures { normal_lang_tag_text result ≡ text.now }
@@ -128,7 +128,7 @@ impl<'a> NormalLangTag<'a> {
         }
     }
 
-    /// Returns the text, with its case: `SL-it` of `SL-it`.
+    /// Returns the text, in its original case.
     ///
     /// ```
     /// use langtag::NormalLangTag;
@@ -142,7 +142,7 @@ impl<'a> NormalLangTag<'a> {
         self.text.0
     }
 
-    /// Returns the bytes of the text: `b"sl-IT"` of `sl-IT`.
+    /// Returns the text as bytes.
     ///
     /// ```
     /// use langtag::NormalLangTag;
@@ -155,7 +155,7 @@ impl<'a> NormalLangTag<'a> {
         self.as_str().as_bytes()
     }
 
-    /// Returns all subtags of the tag, in order and from both ends: `sl`, `Latn` and `IT` of `sl-Latn-IT`.
+    /// Returns an iterator over all subtags, from either end: `sl`, `Latn` and `IT` for `sl-Latn-IT`.
     ///
     /// ```
     /// use langtag::NormalLangTag;
@@ -174,11 +174,11 @@ impl<'a> NormalLangTag<'a> {
         Subtags::new(self.as_str())
     }
 
-    /// Returns whether another text, of any form, is equal but for the case of ASCII letters: true of `sl-IT` and
-    /// `SL-it`. Then it is a normal tag too, with alike parts at the same offsets.
+    /// Returns whether another text equals this tag, ignoring the case of ASCII letters. Then the text is a normal tag,
+    /// too. Its parts are at the same offsets and are equal, ignoring case.
     ///
-    /// It is proved that normal tags are compared, ordered and hashed without regard to case, that a clone is the tag
-    /// itself, and that a tag that begins another is the greater of the two: `sl` comes after `sl-IT`.
+    /// It is proved that comparisons and hashes of normal tags also ignore case, and that a clone is the same tag. A
+    /// tag sorts after every longer tag that begins with it: `sl` after `sl-IT`.
     ///
     /// ```
     /// use langtag::NormalLangTag;
@@ -198,8 +198,7 @@ impl<'a> NormalLangTag<'a> {
         self.text == Caseless(other)
     }
 
-    /// Returns the same tag as one of any kind, with the ends that are kept: `tag.as_lang_tag().kind()` is
-    /// `Kind::Normal`.
+    /// Returns the tag as a [`LangTag`], without parsing it again.
     ///
     /// ```
     /// use langtag::{Kind, NormalLangTag};
@@ -213,8 +212,8 @@ impl<'a> NormalLangTag<'a> {
         LangTag::with_found(self.as_str(), Recognised::Normal(self.ends))
     }
 
-    /// Returns where the parts end, in bytes from the start of the text: of `sl-IT` the language at 2, and all others
-    /// at 5.
+    /// Returns where the parts end, in bytes from the start of the text. In `sl-IT`, the language ends at 2, and all
+    /// other ends are 5.
     ///
     /// ```
     /// use langtag::NormalLangTag;
@@ -228,7 +227,7 @@ impl<'a> NormalLangTag<'a> {
         self.ends
     }
 
-    /// Returns the language: `zh-min` of `zh-min-Latn-TW`.
+    /// Returns the language: `zh-min` for `zh-min-Latn-TW`.
     ///
     /// ```
     /// use langtag::NormalLangTag;
@@ -241,7 +240,7 @@ impl<'a> NormalLangTag<'a> {
         Language::from_checked(self.language_str())
     }
 
-    /// Returns the script: `Latn` of `zh-min-Latn-TW`, None of `zh-TW`.
+    /// Returns the script, if there is one: `Latn` for `zh-min-Latn-TW`, `None` for `zh-TW`.
     ///
     /// ```
     /// use langtag::NormalLangTag;
@@ -257,7 +256,7 @@ impl<'a> NormalLangTag<'a> {
         Some(Script::from_checked(script))
     }
 
-    /// Returns the region: `TW` of `zh-min-Latn-TW`, None of `zh-Latn`.
+    /// Returns the region, if there is one: `TW` for `zh-min-Latn-TW`, `None` for `zh-Latn`.
     ///
     /// ```
     /// use langtag::NormalLangTag;
@@ -273,7 +272,7 @@ impl<'a> NormalLangTag<'a> {
         Some(Region::from_checked(region))
     }
 
-    /// Returns the variants: `rozaj-1994` of `sl-rozaj-1994`, the empty text of `sl`.
+    /// Returns the variants: `rozaj-1994` for `sl-rozaj-1994`, and the empty text for `sl`.
     ///
     /// ```
     /// use langtag::NormalLangTag;
@@ -287,7 +286,7 @@ impl<'a> NormalLangTag<'a> {
         Variants::from_checked(self.part_or_empty(self.ends.region, self.ends.variants))
     }
 
-    /// Returns the extensions: `a-bb-u-co` of `en-a-bb-u-co-x-y`, the empty text of `en-x-y`.
+    /// Returns the extensions: `a-bb-u-co` for `en-a-bb-u-co-x-y`, and the empty text for `en-x-y`.
     ///
     /// ```
     /// use langtag::NormalLangTag;
@@ -301,7 +300,7 @@ impl<'a> NormalLangTag<'a> {
         Extensions::from_checked(self.part_or_empty(self.ends.variants, self.ends.extensions))
     }
 
-    /// Returns the private use part: `x-y` of `en-a-bb-u-co-x-y`, None of `en-a-bb`.
+    /// Returns the private use part, if there is one: `x-y` for `en-a-bb-u-co-x-y`, `None` for `en-a-bb`.
     ///
     /// ```
     /// use langtag::NormalLangTag;
@@ -317,7 +316,8 @@ impl<'a> NormalLangTag<'a> {
         Some(PrivateUse::from_checked(private_use))
     }
 
-    /// Returns the subtags of the private use part: `x` and `y` of `en-x-x-y`, none where there is no such part.
+    /// Returns an iterator over the subtags of the private use part: `x` and `y` for `en-x-x-y`, and nothing if there
+    /// is no such part.
     ///
     /// ```
     /// use langtag::NormalLangTag;
@@ -335,10 +335,11 @@ impl<'a> NormalLangTag<'a> {
         }
     }
 
-    /// Returns the first variant that is equal, but for case, to an earlier one: the second `1996` of `de-1996-1996`.
+    /// Returns the first variant that equals an earlier one, ignoring case: the second `1996` in `de-1996-1996`.
     ///
-    /// Such a tag is well formed, and is not valid (RFC 5646 section 2.2.5). No memory is taken, and less than 92 kB of the
-    /// stack. Up to 8,192 variants the time grows hardly faster than their number; past them, with its square divided by that.
+    /// A tag with a repeated variant is well formed but not valid (RFC 5646 section 2.2.5). This does not allocate, and
+    /// uses less than 92 kB of stack. Up to 8,192 variants, the time grows little faster than their number; beyond
+    /// that, it is quadratic.
     ///
     /// ```
     /// use langtag::NormalLangTag;
@@ -355,8 +356,8 @@ impl<'a> NormalLangTag<'a> {
         self.variants().iter().nth(index)
     }
 
-    /// Returns which of the variants [`repeated_variant`](NormalLangTag::repeated_variant) returns, counted from 0:
-    /// Some(1) of `de-1996-1996`.
+    /// Returns the index, among the variants, of the one that [`repeated_variant`](NormalLangTag::repeated_variant)
+    /// returns: `Some(1)` for `de-1996-1996`.
     ///
     /// ```
     /// use langtag::NormalLangTag;
@@ -370,10 +371,10 @@ impl<'a> NormalLangTag<'a> {
         first_repeated_variant(self.variants())
     }
 
-    /// Returns the first singleton that is equal, but for case, to an earlier one, with its exact byte: the `A` of
-    /// `fr-a-bb-A-cc`.
+    /// Returns the first singleton that equals an earlier one, ignoring case: the `A` in `fr-a-bb-A-cc`. It has the
+    /// case of the text.
     ///
-    /// Such a tag is well formed, and is not valid (RFC 5646 section 2.2.6). No memory is taken.
+    /// A tag with a repeated singleton is well formed but not valid (RFC 5646 section 2.2.6). This does not allocate.
     ///
     /// ```
     /// use langtag::NormalLangTag;
@@ -390,8 +391,8 @@ impl<'a> NormalLangTag<'a> {
         Some(self.extensions().iter().nth(index)?.singleton())
     }
 
-    /// Returns which of the extensions has the singleton that [`repeated_singleton`](NormalLangTag::repeated_singleton)
-    /// returns, counted from 0: Some(1) of `fr-a-bb-A-cc`.
+    /// Returns the index, among the extensions, of the one whose singleton
+    /// [`repeated_singleton`](NormalLangTag::repeated_singleton) returns: `Some(1)` for `fr-a-bb-A-cc`.
     ///
     /// ```
     /// use langtag::NormalLangTag;
@@ -406,11 +407,11 @@ impl<'a> NormalLangTag<'a> {
         first_repeated_singleton(self.extensions())
     }
 
-    /// Returns the owned form of the same text: `owned.as_str()` is `sl-IT` where this is `sl-IT`.
+    /// Copies the tag into one that owns its text.
     ///
     /// # Errors
     ///
-    /// Out of memory.
+    /// Returns an error if allocation fails.
     ///
     /// ```
     /// use langtag::NormalLangTag;
@@ -425,8 +426,7 @@ impl<'a> NormalLangTag<'a> {
         Ok(NormalLangTagBuf::with_ends(text, self.ends))
     }
 
-    /// Returns the tag as it reads in the case that RFC 5646 section 2.1.1 recommends, to be displayed: `{}` of
-    /// `tag.in_recommended_case()` prints `mn-Cyrl-MN` of `MN-cYRL-mn`. No memory is taken.
+    /// Returns a value that displays the tag in the case that RFC 5646 section 2.1.1 recommends. It does not allocate.
     ///
     /// ```
     /// use langtag::NormalLangTag;
@@ -440,8 +440,7 @@ impl<'a> NormalLangTag<'a> {
         InRecommendedCase::from_checked(self.as_str())
     }
 
-    /// Returns whether the tag is in the case that RFC 5646 section 2.1.1 recommends: true of `mn-Cyrl-MN`, false of
-    /// `mn-cyrl-MN`.
+    /// Returns whether the tag is in the case that RFC 5646 section 2.1.1 recommends.
     ///
     /// ```
     /// use langtag::NormalLangTag;
@@ -455,12 +454,11 @@ impl<'a> NormalLangTag<'a> {
         is_in_recommended_case(self.as_bytes())
     }
 
-    /// Returns the owned form of the tag in the case that RFC 5646 section 2.1.1 recommends: `mn-Cyrl-MN` of
-    /// `MN-cYRL-mn`.
+    /// Copies the tag into an owned one, in the case that RFC 5646 section 2.1.1 recommends.
     ///
     /// # Errors
     ///
-    /// Out of memory.
+    /// Returns an error if allocation fails.
     ///
     /// ```
     /// use langtag::NormalLangTag;
@@ -483,7 +481,7 @@ impl<'a> NormalLangTag<'a> {
         &self.as_str()[..self.ends.language]
     }
 
-    /// What stands between the end of one part and the end of the next, after the hyphen.
+    /// Returns the span between the end of one part and the end of the next, without the hyphen.
     fn part(&self, before: usize, end: usize) -> Option<&'a str>
         requires ordered { before ≤ end }
         requires within { end ≤ length (normal_lang_tag_text self.now) }

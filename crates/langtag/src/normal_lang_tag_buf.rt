@@ -36,7 +36,7 @@ use langtag_scan::{Caseless, Ends};
 use std::alloc::{AllocError, Global};
 use std::fmt;
 
-/// A normal tag that owns its text. It keeps where its parts end, as [`NormalLangTag`] does, and lends them with it.
+/// A normal tag that owns its text. Like [`NormalLangTag`], it stores where its parts end.
 ///
 /// ```
 /// use langtag::NormalLangTag;
@@ -59,11 +59,11 @@ impl NormalLangTagBuf {
     ghost use Rattle.langtag.specs.Compared.{NormalLangTagBufsCompareByCase};
     ghost use Rattle.langtag.specs.Text.{normal_lang_tag_text, normal_lang_tag_buf_string, normal_lang_tag_buf_text, lang_tag_buf_string, lang_tag_buf_text};
 
-    /// Parses a `String` as a normal tag, and keeps it, without a copy: `sl-IT` is Ok.
+    /// Parses a `String` as a normal tag and keeps it, without copying.
     ///
     /// # Errors
     ///
-    /// A text that is not a normal tag comes back, the same `String`: `x-a` does.
+    /// Returns the same `String` if it is not a normal tag, such as `x-a`.
     pub fn new(text: String) -> Result<NormalLangTagBuf, InvalidNormalLangTag<String>>
         ensures accepts { IsTrue (is_ok result) ↔ IsNormal (string_bytes text) }
         ensures same_text { IfOk result (λ tag. normal_lang_tag_buf_text tag ≡ string_bytes text) }
@@ -76,12 +76,12 @@ impl NormalLangTagBuf {
         Ok(NormalLangTagBuf::with_ends(text, ends))
     }
 
-    /// Returns the normal tag of a language, a script and a region, and no other parts: `zh-Hant-TW` of `zh`, `Hant`
-    /// and `TW`, and `zh` of `zh`, None and None. Memory is taken once, and no more than the text needs.
+    /// Returns the normal tag with a language, a script and a region, and no other parts: `zh-Hant-TW` for `zh`, `Hant`
+    /// and `TW`. It allocates once, exactly the length of the text.
     ///
     /// # Errors
     ///
-    /// Out of memory.
+    /// Returns an error if allocation fails.
     ///
     /// ```
     /// use langtag::{Language, NormalLangTagBuf, Script};
@@ -116,7 +116,7 @@ impl NormalLangTagBuf {
         Ok(NormalLangTagBuf::with_ends(whole, ends))
     }
 
-    /// The normal tag of a text whose parts are known to end at these offsets: it is not looked at again.
+    /// Returns the normal tag with a text whose parts are known to end at these offsets, without parsing it again.
     pub(crate) fn with_ends(text: String, ends: Ends) -> NormalLangTagBuf
         requires { ∥ HasEnds (string_bytes text) ends ∥₁ }
         ensures { normal_lang_tag_buf_string result ≡ text }
@@ -127,10 +127,9 @@ impl NormalLangTagBuf {
         }
     }
 
-    /// Borrows the tag, with the ends that are kept, so that nothing is looked at again:
-    /// `owned.as_normal_lang_tag().region()` is `IT` of `sl-IT`.
+    /// Borrows the tag, without parsing it again.
     ///
-    /// It is proved that owned normal tags are compared, ordered and hashed without regard to case.
+    /// It is proved that comparisons and hashes of owned normal tags ignore case.
     pub fn as_normal_lang_tag(&self) -> NormalLangTag<'_>
         ensures same_text { normal_lang_tag_text result ≡ normal_lang_tag_buf_text self.now }
         ensures compared { NormalLangTagBufsCompareByCase }
@@ -138,7 +137,7 @@ impl NormalLangTagBuf {
         NormalLangTag::with_ends(self.as_str(), self.ends)
     }
 
-    /// Returns the text, with its case: `SL-it` of `SL-it`.
+    /// Returns the text, in its original case.
     pub fn as_str(&self) -> &str
         ensures same_text { result.now ≡ normal_lang_tag_buf_text self.now }
         ensures in_class { IsNormal result.now }
@@ -146,8 +145,7 @@ impl NormalLangTagBuf {
         self.text.0.as_str()
     }
 
-    /// Returns the same tag as one of any kind, over the very `String`: `owned.into_lang_tag().kind()` is
-    /// `Kind::Normal`.
+    /// Converts the tag into a [`LangTagBuf`] over the same `String`, without parsing it again.
     pub fn into_lang_tag(self) -> LangTagBuf
         ensures same_text { lang_tag_buf_text result ≡ normal_lang_tag_buf_text self }
         ensures same_string { lang_tag_buf_string result ≡ normal_lang_tag_buf_string self }
@@ -156,7 +154,7 @@ impl NormalLangTagBuf {
         LangTagBuf::with_found(self.text.0, Recognised::Normal(self.ends))
     }
 
-    /// Returns the text itself, without a copy: `sl-IT` of `sl-IT`.
+    /// Returns the `String`, without copying it.
     pub fn into_string(self) -> String
         ensures same_text { string_bytes result ≡ normal_lang_tag_buf_text self }
         ensures same_string { result ≡ normal_lang_tag_buf_string self }
@@ -165,8 +163,8 @@ impl NormalLangTagBuf {
         self.text.0
     }
 
-    /// Puts the letters into the case that RFC 5646 section 2.1.1 recommends, as [`LangTagBuf::make_recommended_case`] does:
-    /// `mn-Cyrl-MN` of `MN-cYRL-mn`. No memory is taken, and nothing is looked for.
+    /// Changes the letters to the case that RFC 5646 section 2.1.1 recommends, as [`LangTagBuf::make_recommended_case`]
+    /// does: `MN-cYRL-mn` becomes `mn-Cyrl-MN`. It does not allocate, and parses nothing.
     pub fn make_recommended_case(&mut self)
         ensures case { normal_lang_tag_buf_text self.new ≡ recommended_text (normal_lang_tag_buf_text self.old) }
         ensures same_block { SameBlock (string_vec (normal_lang_tag_buf_string self.old)) (string_vec (normal_lang_tag_buf_string self.new)) }
@@ -177,14 +175,14 @@ impl NormalLangTagBuf {
         put_recommended_case(&mut self.text.0);
     }
 
-    /// Puts a language in the old one's place (RFC 5646 sections 2.2.1 and 2.2.2), with its extended subtags: `zh-yue` put into
-    /// `sl-IT` makes `zh-yue-IT`.
+    /// Sets the language, with its extended subtags (RFC 5646 sections 2.2.1 and 2.2.2): with `zh-yue`, `sl-IT` becomes
+    /// `zh-yue-IT`.
     ///
-    /// It goes about this as [`set_script`](NormalLangTagBuf::set_script) does.
+    /// It allocates as [`set_script`](NormalLangTagBuf::set_script) does.
     ///
     /// # Errors
     ///
-    /// Out of memory. The tag is as it was.
+    /// Returns an error if allocation fails. The tag is then unchanged.
     ///
     /// ```
     /// use langtag::{Language, NormalLangTag};
@@ -201,15 +199,15 @@ impl NormalLangTagBuf {
         self.put(alloc, Part::Language(language))
     }
 
-    /// Puts a script in the old one's place, or where one would stand (RFC 5646 section 2.2.3): `Latn` put into `sl-IT` makes
-    /// `sl-Latn-IT`. None takes it out.
+    /// Sets the script, or removes it if `None` is given (RFC 5646 section 2.2.3): with `Latn`, `sl-IT` becomes
+    /// `sl-Latn-IT`.
     ///
-    /// The script is put into a new text, and the old one is given up only for the whole new one. None needs no memory.
-    /// The ends of the parts are moved along: the text is not looked at again.
+    /// The new text is complete before the old one is dropped. To remove the script does not allocate. The stored ends
+    /// of the parts are adjusted, so nothing is parsed again.
     ///
     /// # Errors
     ///
-    /// Out of memory. The tag is as it was.
+    /// Returns an error if allocation fails. The tag is then unchanged.
     ///
     /// ```
     /// use langtag::{NormalLangTag, Script};
@@ -231,14 +229,14 @@ impl NormalLangTagBuf {
         self.put(alloc, Part::Script(script))
     }
 
-    /// Puts a region in the old one's place, or where one would stand (RFC 5646 section 2.2.4): `AT` put into `de-DE-1996`
-    /// makes `de-AT-1996`. None takes it out.
+    /// Sets the region, or removes it if `None` is given (RFC 5646 section 2.2.4): with `AT`, `de-DE-1996` becomes
+    /// `de-AT-1996`.
     ///
-    /// It goes about this as [`set_script`](NormalLangTagBuf::set_script) does.
+    /// It allocates as [`set_script`](NormalLangTagBuf::set_script) does.
     ///
     /// # Errors
     ///
-    /// Out of memory. The tag is as it was.
+    /// Returns an error if allocation fails. The tag is then unchanged.
     ///
     /// ```
     /// use langtag::{NormalLangTag, Region};
@@ -260,14 +258,14 @@ impl NormalLangTagBuf {
         self.put(alloc, Part::Region(region))
     }
 
-    /// Puts variants in the old ones' place, or where some would stand (RFC 5646 section 2.2.5): `1996` put into `de-AT-1901`
-    /// makes `de-AT-1996`. [`Variants::EMPTY`] takes them out, which needs no memory.
+    /// Replaces all variants (RFC 5646 section 2.2.5): with `1996`, `de-AT-1901` becomes `de-AT-1996`.
+    /// [`Variants::EMPTY`] removes them, without allocating.
     ///
-    /// It goes about this as [`set_script`](NormalLangTagBuf::set_script) does.
+    /// It allocates as [`set_script`](NormalLangTagBuf::set_script) does.
     ///
     /// # Errors
     ///
-    /// Out of memory. The tag is as it was.
+    /// Returns an error if allocation fails. The tag is then unchanged.
     ///
     /// ```
     /// use langtag::{NormalLangTag, Variants};
@@ -285,14 +283,14 @@ impl NormalLangTagBuf {
         self.put(alloc, Part::Variants(variants))
     }
 
-    /// Puts extensions in the old ones' place, or where some would stand (RFC 5646 section 2.2.6): `u-co-phonebk` put into
-    /// `de-x-mine` makes `de-u-co-phonebk-x-mine`. [`Extensions::EMPTY`] takes them out, which needs no memory.
+    /// Replaces all extensions (RFC 5646 section 2.2.6): with `u-co-phonebk`, `de-x-mine` becomes
+    /// `de-u-co-phonebk-x-mine`. [`Extensions::EMPTY`] removes them, without allocating.
     ///
-    /// It goes about this as [`set_script`](NormalLangTagBuf::set_script) does.
+    /// It allocates as [`set_script`](NormalLangTagBuf::set_script) does.
     ///
     /// # Errors
     ///
-    /// Out of memory. The tag is as it was.
+    /// Returns an error if allocation fails. The tag is then unchanged.
     ///
     /// ```
     /// use langtag::{Extensions, NormalLangTag};
@@ -314,14 +312,14 @@ impl NormalLangTagBuf {
         self.put(alloc, Part::Extensions(extensions))
     }
 
-    /// Puts a private use part in the old one's place, or at the end (RFC 5646 section 2.2.7): `x-mine` put into `de-x-a` makes
-    /// `de-x-mine`. None takes it out.
+    /// Sets the private use part, or removes it if `None` is given (RFC 5646 section 2.2.7): with `x-mine`, `de-x-a`
+    /// becomes `de-x-mine`.
     ///
-    /// It goes about this as [`set_script`](NormalLangTagBuf::set_script) does.
+    /// It allocates as [`set_script`](NormalLangTagBuf::set_script) does.
     ///
     /// # Errors
     ///
-    /// Out of memory. The tag is as it was.
+    /// Returns an error if allocation fails. The tag is then unchanged.
     ///
     /// ```
     /// use langtag::{NormalLangTag, PrivateUse};

@@ -1,7 +1,7 @@
-//! Tags for private use as a whole (RFC 5646 section 2.2.7).
+//! Private-use tags (RFC 5646 section 2.2.7).
 use langtag_private::{PrivateUse, PrivateUseBuf};
 
-/// A tag for private use as a whole, as `x-fr-CH`: the same text as a private use part.
+/// A private-use tag, such as `x-fr-CH`. Its text is that of a private use part.
 ///
 /// ```
 /// use langtag::PrivateUseLangTag;
@@ -10,7 +10,7 @@ use langtag_private::{PrivateUse, PrivateUseBuf};
 /// ```
 pub type PrivateUseLangTag<'a> = PrivateUse<'a>;
 
-/// A tag for private use as a whole that owns its text.
+/// A private-use tag that owns its text.
 ///
 /// ```
 /// use langtag::{PrivateUseLangTag, PrivateUseLangTagBuf};

@@ -1,4 +1,4 @@
-//! What a tag keeps of what the recogniser found of its text.
+//! What a tag stores about its text.
 ghost use Rattle.std.specs.Prelude.{◌≡◌};
 ghost use Rattle.langtag_scan.specs.Found.{is_normal, is_private_use, normal_ends};
 ghost use Rattle.langtag.specs.Recognised.{finding_of};
@@ -6,12 +6,12 @@ ghost use Rattle.langtag.specs.Recognised.{finding_of};
 use crate::grandfathered::GrandfatheredLangTag;
 use langtag_scan::Ends;
 
-/// Of which kind a tag is (RFC 5646 section 2.1), with what is known of one of that kind, so that its text is not read again.
+/// The kind of a tag (RFC 5646 section 2.1), with what was found in its text, so that the text is not parsed again.
 #[derive(Clone, Copy)]
 pub(crate) enum Recognised {
     /// A normal tag, and where its parts end.
     Normal(Ends),
-    /// A tag for private use as a whole.
+    /// A private-use tag.
     PrivateUse,
     /// An irregular grandfathered tag.
     Irregular(GrandfatheredLangTag),

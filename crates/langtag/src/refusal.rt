@@ -1,4 +1,4 @@
-//! Where a text that is not a tag goes wrong (RFC 5646 section 2.1).
+//! Where a text that is not a tag is wrong (RFC 5646 section 2.1).
 ghost use Rattle.std.specs.Prelude.{◌≡◌, ◌↔◌, ◌≤◌, ◌<◌, ◌++◌, ◌∷◌, [], IsTrue, IsNone, IfSome, false, length, take, slice_index};
 ghost use Rattle.std.specs.List.{list_any};
 ghost use Rattle.langtag_scan.specs.Case.{are_alike};
@@ -15,7 +15,7 @@ use crate::grandfathered::{GRANDFATHERED, GrandfatheredLangTag};
 use crate::lang_tag::LangTag;
 use langtag_scan::{case_insensitive_eq, segment_end, segment_start, viable_len_with_hyphen};
 
-/// Why bytes are not a tag (RFC 5646 section 2.1).
+/// The reason why bytes are not a tag (RFC 5646 section 2.1).
 ///
 /// ```
 /// use langtag::{Refusal, RefusalKind};
@@ -24,15 +24,15 @@ use langtag_scan::{case_insensitive_eq, segment_end, segment_start, viable_len_w
 /// ```
 #[derive(Clone, Copy, Debug, PartialEq, Eq)]
 pub enum RefusalKind {
-    /// A subtag does not fit where it stands, or is empty: `DE` of `de-419-DE`.
+    /// A subtag is unexpected in its place, such as `DE` in `de-419-DE`, or empty.
     Subtag,
-    /// A subtag has a byte that is no letter and no digit: `_` of `zh_Hant`.
+    /// A subtag has a byte that is neither a letter nor a digit, such as `_` in `zh_Hant`.
     Byte,
-    /// The bytes end too soon: `en-` and `en-a` may become tags.
+    /// The bytes end where a tag cannot end, as `en-` and `en-a` do.
     End,
 }
 
-/// Where bytes that are not a tag go wrong. The numbers are offsets in bytes.
+/// Where bytes that are not a tag are wrong. Offsets are in bytes.
 ///
 /// ```
 /// use langtag::Refusal;
@@ -42,21 +42,21 @@ pub enum RefusalKind {
 /// ```
 #[derive(Clone, Copy, Debug, PartialEq, Eq)]
 pub struct Refusal {
-    /// Why they are refused.
+    /// The reason why they are refused.
     pub kind: RefusalKind,
-    /// Where the first subtag begins with which they cannot begin a tag: 7 in `de-419-DE`. It is the number of bytes where
-    /// they end too soon.
+    /// The offset of the first subtag with which no tag can go on: 7 in `de-419-DE`. If the bytes end too soon, it is
+    /// their number.
     pub start: usize,
-    /// Where that subtag ends: 9 in `de-419-DE`.
+    /// The offset after that subtag: 9 in `de-419-DE`.
     pub end: usize,
-    /// The offset to point at: `start`, or that of the first byte of the subtag that is no letter and no digit.
+    /// The offset to point at: `start`, or the first byte of the subtag that is neither a letter nor a digit.
     pub offset: usize,
 }
 
 impl Refusal {
-    /// Returns where bytes go wrong that are not a tag, None of a tag. They need not be UTF-8.
+    /// Returns where bytes are wrong, or `None` if they are a tag. The bytes need not be UTF-8.
     ///
-    /// Of `de-419-DE` it is the subtag from 7 to 9, which does not fit there: the tag has a region.
+    /// In `de-419-DE` it is the subtag from 7 to 9, which is unexpected there because the tag already has a region.
     ///
     /// ```
     /// use langtag::{Refusal, RefusalKind};
@@ -194,7 +194,7 @@ fn begin_any(bytes: &[u8], tags: &[GrandfatheredLangTag]) -> bool
     tags.iter().any(|tag| begins(bytes, tag.as_bytes()))
 }
 
-/// Whether the bytes are the beginning of a text, but for the case of letters.
+/// Whether the bytes are the beginning of a text, ignoring the case of letters.
 fn begins(bytes: &[u8], text: &[u8]) -> bool
     ensures { result ≡ are_alike bytes.now (take (length bytes.now) text.now) }
 {

@@ -1,5 +1,4 @@
-//! Variants and singletons that stand in a tag twice. Such a tag is well formed, and is not valid (RFC 5646 section
-//! 2.2.9).
+//! Variants and singletons that a tag has twice. Such a tag is well formed but not valid (RFC 5646 section 2.2.9).
 ghost use Rattle.std.specs.Prelude.{◌≡◌, ◌≤◌, List, length, map, take};
 ghost use Rattle.std.specs.List.{list_any};
 ghost use Rattle.langtag_scan.specs.Case.{are_alike};
@@ -15,10 +14,10 @@ use langtag_extension::Extensions;
 use langtag_place::{Variant, Variants};
 use langtag_scan::into_smallcase;
 
-/// Up to so many bytes of variants, which are 28 variants at most, each is compared to those before it.
+/// Up to this many bytes of variants, which are at most 28 variants, each variant is compared with those before it.
 const FEW: usize = 143;
 
-/// The index of the first of these variants that is equal, but for case, to an earlier one.
+/// Returns the index of the first of these variants that equals an earlier one, ignoring case.
 pub(crate) fn first_repeated_variant(variants: Variants<'_>) -> Option<usize>
     ensures { result ≡ repeat_index are_alike (subtags (variants_text variants.entry)) }
 {
@@ -28,7 +27,7 @@ pub(crate) fn first_repeated_variant(variants: Variants<'_>) -> Option<usize>
     first_repeated_of_few(variants)
 }
 
-/// The same, where each variant is compared to those before it.
+/// Returns the same, by comparing each variant with those before it.
 fn first_repeated_of_few(variants: Variants<'_>) -> Option<usize>
     requires few { length (variants_text variants) ≤ 143 }
     ensures { result ≡ repeat_index are_alike (subtags (variants_text variants.entry)) }
@@ -41,10 +40,10 @@ fn first_repeated_of_few(variants: Variants<'_>) -> Option<usize>
     None
 }
 
-/// Returns whether a variant is equal, but for case, to one of the first so many variants of a list (RFC 5646 section 2.2.5),
-/// or of all where they are fewer.
+/// Returns whether a variant equals one of the first `count` variants of a list, ignoring case
+/// (RFC 5646 section 2.2.5). If the list is shorter, all its variants are compared.
 ///
-/// Of `rozaj-1996-1996` and `1996` it is true with a count of 2, and false with a count of 1.
+/// For `rozaj-1996-1996` and `1996` it is `true` with a count of 2, and `false` with a count of 1.
 pub fn is_among_first(variants: Variants<'_>, count: usize, variant: Variant<'_>) -> bool
     ensures { result ≡ list_any (are_alike (variant_text variant.entry)) (take count (subtags (variants_text variants.entry))) }
 {
@@ -54,7 +53,7 @@ pub fn is_among_first(variants: Variants<'_>, count: usize, variant: Variant<'_>
         .any(|earlier| variant == earlier)
 }
 
-/// The index of the first of these extensions whose singleton is equal, but for case, to that of an earlier one.
+/// Returns the index of the first of these extensions whose singleton equals that of an earlier one, ignoring case.
 pub(crate) fn first_repeated_singleton(extensions: Extensions<'_>) -> Option<usize>
     ensures { (es : List model.Extension) → SpellsExtensions es (extensions_text extensions.entry) →
         result ≡ repeat_index are_alike_bytes (map (λ e. e.singleton) es) }

@@ -7,8 +7,8 @@ use crate::normal_lang_tag::NormalLangTag;
 use crate::private_use_lang_tag::PrivateUseLangTag;
 use langtag_language::Language;
 
-/// A language tag as a value of the type of its kind (RFC 5646 section 2.1), as
-/// [`LangTag::as_typed`](crate::LangTag::as_typed) returns it. Each call looks at the variant alone, and at no text.
+/// A language tag with one variant for each kind (RFC 5646 section 2.1), as
+/// [`LangTag::as_typed`](crate::LangTag::as_typed) returns it. No call reads the text.
 ///
 /// ```
 /// use langtag::{LangTag, TypedLangTag};
@@ -20,11 +20,11 @@ use langtag_language::Language;
 /// ```
 #[derive(Clone, Copy, Debug, PartialEq, Eq)]
 pub enum TypedLangTag<'a> {
-    /// A normal tag. The regular grandfathered tags are normal.
+    /// A normal tag. The regular grandfathered tags are normal, too.
     Normal(NormalLangTag<'a>),
-    /// A tag for private use as a whole.
+    /// A private-use tag.
     PrivateUse(PrivateUseLangTag<'a>),
-    /// A grandfathered tag.
+    /// An irregular grandfathered tag.
     Grandfathered(GrandfatheredLangTag),
 }
 
@@ -32,8 +32,8 @@ impl<'a> TypedLangTag<'a> {
     ghost use Rattle.langtag.specs.Compared.{TypedLangTagsCompareByKind};
     ghost use Rattle.langtag.specs.Typed.{kind_of, normal_of, private_use_of, grandfathered_of, HasLanguage};
 
-    /// Returns the language of a normal tag, or the primary language of a regular grandfathered one: `zh` of `zh-TW`,
-    /// None of `x-a` and of `i-lux`.
+    /// Returns the language of a normal tag, or the primary language of a regular grandfathered one: `zh` for `zh-TW`,
+    /// `None` for `x-a` and `i-lux`.
     pub fn language(&self) -> Option<Language<'a>>
         ensures { HasLanguage self.now result }
     {
@@ -44,8 +44,8 @@ impl<'a> TypedLangTag<'a> {
         }
     }
 
-    /// Returns the kind of the tag: `Kind::PrivateUse` of `x-a`. It is proved that typed tags are equal where they are
-    /// of one kind and their texts are alike, and that a clone is the value itself.
+    /// Returns the kind of the tag: `Kind::PrivateUse` for `x-a`. It is proved that typed tags are equal if they have
+    /// the same kind and their texts are equal, ignoring case, and that a clone is the same value.
     pub fn kind(&self) -> Kind
         ensures kind { result ≡ kind_of self.now }
         ensures compared { TypedLangTagsCompareByKind }
@@ -59,31 +59,31 @@ impl<'a> TypedLangTag<'a> {
         }
     }
 
-    /// Returns whether this is a normal tag: true of `zh-TW` and of `art-lojban`, false of `x-a`.
+    /// Returns whether this is a normal tag: `true` for `zh-TW` and `art-lojban`, `false` for `x-a`.
     pub fn is_normal(&self) -> bool
         ensures { IsTrue result ↔ (kind_of self.now ≡ Kind.Normal) }
     {
         self.kind().is_normal()
     }
 
-    /// Returns whether this is a tag for private use as a whole: true of `x-a`, false of `fr-x-a`.
+    /// Returns whether this is a private-use tag: `true` for `x-a`, `false` for `fr-x-a`.
     pub fn is_private_use(&self) -> bool
         ensures { IsTrue result ↔ (kind_of self.now ≡ Kind.PrivateUse) }
     {
         self.kind().is_private_use()
     }
 
-    /// Returns whether this is a grandfathered tag by its kind: true of `i-lux`.
+    /// Returns whether this is a grandfathered tag by its kind: `true` for `i-lux`.
     ///
-    /// As [`LangTag::as_typed`](crate::LangTag::as_typed) returns it, this is false of `art-lojban`, a regular grandfathered tag
-    /// and so a normal one: [`LangTag::is_grandfathered`](crate::LangTag::is_grandfathered) is true of it.
+    /// For `art-lojban`, a regular grandfathered tag, [`LangTag::as_typed`](crate::LangTag::as_typed) returns a normal
+    /// tag, so this is `false`, while [`LangTag::is_grandfathered`](crate::LangTag::is_grandfathered) is `true`.
     pub fn is_grandfathered(&self) -> bool
         ensures { IsTrue result ↔ (kind_of self.now ≡ Kind.Grandfathered) }
     {
         self.kind().is_grandfathered()
     }
 
-    /// Returns the normal tag, where this is one: Some of `zh-TW`, None of `x-a`.
+    /// Returns the normal tag if this is one: `Some` for `zh-TW`, `None` for `x-a`.
     pub fn as_normal(&self) -> Option<NormalLangTag<'a>>
         ensures { result ≡ normal_of self.now }
     {
@@ -93,7 +93,7 @@ impl<'a> TypedLangTag<'a> {
         }
     }
 
-    /// Returns the tag for private use, where this is one: Some of `x-a`, None of `fr-x-a`.
+    /// Returns the private-use tag if this is one: `Some` for `x-a`, `None` for `fr-x-a`.
     pub fn as_private_use(&self) -> Option<PrivateUseLangTag<'a>>
         ensures { result ≡ private_use_of self.now }
     {
@@ -103,7 +103,7 @@ impl<'a> TypedLangTag<'a> {
         }
     }
 
-    /// Returns the grandfathered tag, where this is one: Some of `i-lux`, None of `art-lojban`, which is normal.
+    /// Returns the grandfathered tag if this is one: `Some` for `i-lux`, `None` for `art-lojban`, which is normal.
     pub fn as_grandfathered(&self) -> Option<GrandfatheredLangTag>
         ensures { result ≡ grandfathered_of self.now }
     {

@@ -15,9 +15,9 @@ use std::io::Write;
 /// Answers a line with whether it is a valid tag, what is wrong with it if not, and its canonical form:
 ///
 /// - `valid canonical=TAG`, where TAG is the canonical form of the tag;
-/// - `invalid WHAT=TEXT canonical=TAG`, where TEXT is the first faulty subtag as it stands in the tag, and WHAT is `language`,
-///   `extlang`, `script`, `region` or `variant` where it is not registered, `second-extlang` for an extended language after
-///   another, and `repeated-variant` or `repeated-singleton` for the later one of two that are equal, but for case;
+/// - `invalid WHAT=TEXT canonical=TAG`, where TEXT is the first invalid subtag, in its original case. WHAT is
+///   `language`, `extlang`, `script`, `region` or `variant` if it is not registered, `second-extlang` for a second
+///   extended language, and `repeated-variant` or `repeated-singleton` if it equals an earlier one, ignoring case;
 /// - `refused` for a line that is not a tag, also for one that is not UTF-8.
 #[derive(Drop)]
 pub struct Check {

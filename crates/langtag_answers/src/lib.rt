@@ -1,5 +1,6 @@
-//! What the programs `langtag_show` and `langtag_check` answer to a line: [`Show`] the kind and the parts of the tag that the line is
-//! (RFC 5646 section 2.1), and [`Check`] whether it is valid (section 2.2.9), with its canonical form (section 4.5).
+//! The answers of the programs `langtag_show` and `langtag_check` to a line. [`Show`] answers the kind and the parts of
+//! a tag (RFC 5646 section 2.1), and [`Check`] whether it is valid (section 2.2.9), with its canonical form (section
+//! 4.5).
 //!
 //! ```
 //! let mut input = b"fr-FR\n".as_slice();

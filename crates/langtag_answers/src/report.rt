@@ -15,8 +15,9 @@ pub use langtag_lines::RunError as ShowError;
 ///
 /// # Errors
 ///
-/// `Memory` if there is not enough memory for a line. `Read` at the first error of the reader, also an interruption, and
-/// if the input has not ended after 2^64 - 1 reads. `Write` if `write_all` or the flush fails.
+/// Returns `Memory` if allocation fails for a line. Returns `Read` at the first error of the reader, which may be an
+/// interruption, and if the input has not ended after 2^64 - 1 reads. Returns `Write` if `write_all` or the flush
+/// fails.
 pub fn run<R: Read, W: Write>(alloc: Global, input: &mut R, output: &mut W) -> Result<(), ShowError>
     ensures report { HasRun IsAnswer result (R.remaining input.old) (R.remaining input.new) (W.contents output.old) (W.contents output.new) }
 {

@@ -3,6 +3,7 @@ mod SpanLaws
 mod StopLaws
 mod RangeLaws
 mod ExtensionSpans
+mod HeaderRanges
 mod RepeatSpans
 mod ItemLaws
 mod PlaceLaws

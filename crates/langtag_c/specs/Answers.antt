@@ -42,6 +42,6 @@ pub record IsMatch (Matches : List ℕ → List ℕ → Type 0) (range tag : Lis
   pub of_tag : IsTag tag
   pub matches : Matches range tag
 
--- the digits of a text, read as one number: 20051016 of 2005-10-16
+-- the digits of a text, read as one number: 20250131 for 2025-01-31
 abbrev pub digits_number : List ℕ → ℕ
 digits_number text = fold (λ number digit. number * 10 + (digit - 48)) 0 (filter is_digit text)

@@ -10,10 +10,10 @@ use crate::span::Span;
 use langtag_match::{ElementPart, element_at, is_empty_element};
 use langtag_scan::len_before;
 
-/// Takes the first element off a header that is not empty, and the comma after it, and says what it is: 1 for a language range
-/// with its weight in thousandths, 2 for an element with a bad language range, 3 for one with a bad weight. Of a bad element the
-/// range is all of it, and the weight 0. 0 where no element is left, or where the span does not lie within the bytes;
-/// then all stays as it was.
+/// Takes the first element that is not empty off a header, with the comma after it. Returns 1 for a language range with
+/// its weight in thousandths, 2 for an element with a malformed language range, and 3 for one with a malformed weight.
+/// For a malformed element, the range is the whole element and the weight is 0. Returns 0 and changes nothing if no
+/// element is left, or if the span reaches beyond the bytes.
 #[tactic(auto, using(crate::proofs::ReadingLaws::same_elements, crate::proofs::ReadingLaws::same_good))]
 #[unsafe(no_mangle)]
 pub extern "C" fn langtag_next_accepted(
@@ -72,7 +72,7 @@ fn next_item(header: &[u8], rest: &mut Span) -> Option<Span>
     None
 }
 
-/// Returns the number that says which part is bad.
+/// Returns the number of the part that is malformed.
 pub(crate) fn number_of(part: &ElementPart) -> u32
     ensures range { result ≡ 2 ↔ part.now ≡ Range }
     ensures weight { result ≡ 3 ↔ part.now ≡ Weight }

@@ -1,4 +1,4 @@
-//! The tag that a reader wants, and how far a tag is from one that they desire (UTS #35, part 1, section 'Language Matching').
+//! The best tag for a reader, and the distance of two tags (UTS #35, part 1, section 'Language Matching').
 ghost use Rattle.std.specs.Prelude.{◌≡◌, ◌↔◌, ◌-◌, ◌^◌, ◌≤◌, length};
 ghost use Rattle.langtag_scan.specs.Tag.{IsTag};
 ghost use Rattle.langtag_choice.specs.Distance.{distance_of_texts};
@@ -12,9 +12,9 @@ use langtag_choice::{best_among, distance};
 /// The distance where one of two texts is not a tag.
 const NO_DISTANCE: u32 = u32::MAX;
 
-/// Returns the distance from a tag that a reader desires to one that there is (UTS #35, Language Matching): 0 from `zh-TW` to
-/// `zh-Hant`, 4 from `de-AT` to `de`, at most 134, and 255 from a tag without a matching form, or to one, that is not equal but
-/// for case. [`NO_DISTANCE`] where one of the texts is not a tag.
+/// Returns the distance from a desired tag to a supported tag (UTS #35, Language Matching): 0 from `zh-TW` to
+/// `zh-Hant`, 4 from `de-AT` to `de`, and at most 134. It is 255 if one of two different tags has no known language,
+/// and [`NO_DISTANCE`] if one of the texts is not a tag.
 #[unsafe(no_mangle)]
 pub extern "C" fn langtag_distance(desired: &[u8], supported: &[u8]) -> u32
     ensures distance { IsTag desired.now → IsTag supported.now → result ≡ distance_of_texts desired.now supported.now }
@@ -26,9 +26,9 @@ pub extern "C" fn langtag_distance(desired: &[u8], supported: &[u8]) -> u32
     }
 }
 
-/// Returns the index of the tag that the reader wants who sent an Accept-Language header, among tags that spans of a text are:
-/// 2 for `zh-TW,zh;q=0.9,en;q=0.8` and `en`, `zh-Hans` and `zh-Hant`. Their number where the reader wants none of them. A span
-/// that is no tag, or reaches out of the text, is passed over.
+/// Returns the index of the best tag for an Accept-Language header, or the number of tags if none is suitable: 2 for
+/// `zh-TW,zh;q=0.9,en;q=0.8` and the tags `en`, `zh-Hans` and `zh-Hant`. The tags are spans of a text. A span that is
+/// not a tag, or reaches beyond the text, is skipped.
 #[unsafe(no_mangle)]
 pub extern "C" fn langtag_best_for_header(header: &[u8], bytes: &[u8], tags: &[Span]) -> usize
     ensures best { IsBest header.now bytes.now tags.now result }

@@ -6,7 +6,7 @@ ghost use Rattle.langtag_c.specs.Answers.{sign, fnv};
 use langtag_scan::{case_insensitive_cmp, case_insensitive_eq, into_smallcase};
 use std::cmp::Ordering;
 
-/// Returns whether two texts are equal but for the case of ASCII letters.
+/// Returns whether two texts are equal, ignoring the case of ASCII letters.
 #[unsafe(no_mangle)]
 pub extern "C" fn langtag_eq(a: &[u8], b: &[u8]) -> bool
     ensures { result ≡ are_alike a.now b.now }
@@ -14,8 +14,8 @@ pub extern "C" fn langtag_eq(a: &[u8], b: &[u8]) -> bool
     case_insensitive_eq(a, b)
 }
 
-/// Returns the order of two texts by their folded bytes: -1, 0 or 1. Of two texts of which one begins the other the
-/// shorter is the greater.
+/// Compares two texts by their lowercase bytes, and returns -1, 0 or 1. If one begins the other, the shorter is
+/// greater.
 #[unsafe(no_mangle)]
 pub extern "C" fn langtag_cmp(a: &[u8], b: &[u8]) -> i32
     ensures { result ≡ sign (case_cmp a.now b.now) }
@@ -27,7 +27,7 @@ pub extern "C" fn langtag_cmp(a: &[u8], b: &[u8]) -> i32
     }
 }
 
-/// Returns the FNV-1a hash, of 64 bits, of the folded bytes, from a state on.
+/// Returns the 64-bit FNV-1a hash of the lowercase bytes, starting from a state.
 #[unsafe(no_mangle)]
 pub extern "C" fn langtag_hash(state: u64, bytes: &[u8]) -> u64
     ensures { result ≡ fnv state bytes.now }
@@ -39,7 +39,7 @@ pub extern "C" fn langtag_hash(state: u64, bytes: &[u8]) -> u64
     hash
 }
 
-/// Makes each capital ASCII letter small, in place: what a text is to be hashed by in another way.
+/// Changes ASCII uppercase letters to lowercase, in place, for example to hash a text in another way.
 #[tactic(auto, unfolding(langtag_scan::specs::Case::fold_byte))]
 #[unsafe(no_mangle)]
 pub extern "C" fn langtag_fold(bytes: &mut [u8])

@@ -6,8 +6,8 @@ ghost use Rattle.langtag_likely.specs.Direction as spec;
 use crate::tag::tag_of;
 use langtag_likely::is_right_to_left;
 
-/// Returns whether the bytes are a tag that is written from right to left: true of `he`, `pa-PK` and `az-Arab`, false of
-/// `ar-Latn`, and of what is not a tag.
+/// Returns whether the bytes are a tag that is written from right to left: `true` for `he`, `pa-PK` and `az-Arab`,
+/// `false` for `ar-Latn`, and for bytes that are not a tag.
 #[unsafe(no_mangle)]
 pub extern "C" fn langtag_is_right_to_left(bytes: &[u8]) -> bool
     ensures tag { IsTag bytes.now → result ≡ spec.is_right_to_left bytes.now }

@@ -1,4 +1,4 @@
-//! What a look-up falls back to from a language range (RFC 4647 section 3.4), without memory.
+//! The fallbacks of a language range in a look-up (RFC 4647 section 3.4), without allocating.
 ghost use Rattle.std.specs.Prelude.{◌≡◌, ◌<◌, ◌∷◌, [], IfSome, IsTrue, false, length, take};
 ghost use Rattle.std.specs.Option.{option_map_or};
 ghost use Rattle.langtag_match.specs.Fallback.{before_hyphens, ends_in_single, fallbacks};
@@ -8,9 +8,9 @@ ghost use Rattle.langtag_c.specs.Spans.{HasBytes, span_text};
 use crate::span::Span;
 use langtag_scan::segment_start;
 
-/// Cuts the last subtag off a language range, or off what is left of one, and each single letter, digit or `*` that would
-/// then stand last (RFC 4647 section 3.4). False where nothing is left, or where the span does not lie within the bytes; then
-/// it stays as it was.
+/// Removes the last subtag of a language range, and each single letter, digit or `*` that would then be last
+/// (RFC 4647 section 3.4). Returns `false` and changes nothing if nothing would be left, or if the span reaches beyond
+/// the bytes.
 #[unsafe(no_mangle)]
 pub extern "C" fn langtag_next_fallback(bytes: &[u8], rest: &mut Span) -> bool
     ensures fallbacks { HasBytes bytes.now rest.old →
@@ -29,7 +29,7 @@ pub extern "C" fn langtag_next_fallback(bytes: &[u8], rest: &mut Span) -> bool
 }
 
 /// Returns how much is left of a range without its last subtag, and without each single character that would stand last
-/// then; None where nothing is.
+/// then; `None` if nothing is.
 fn shortened_len(range: &[u8]) -> Option<usize>
     ensures shorter { IfSome result (λ len. len < length range.now) }
     ensures same { fallbacks range.now ≡ range.now ∷ option_map_or (λ len. fallbacks (take len range.now)) result [] }

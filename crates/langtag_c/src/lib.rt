@@ -1,11 +1,12 @@
-//! Language tags for programs in C, and in languages that call C: a static library over plain bytes, which takes no
-//! memory, keeps no state and calls nothing of the program's. `bindings/include/langtag.h` declares it.
+//! Language tags for C, and for languages that call C: a static library over plain bytes. It does not allocate, keeps
+//! no state, and calls nothing of the program. `bindings/include/langtag.h` declares its functions.
 //!
-//! A slice crosses as a pointer and a length. Bytes need not be UTF-8. No function requires more of its arguments
+//! A slice is passed as a pointer and a length. Bytes need not be UTF-8. No function requires more of its arguments
 //! than their types say.
 #![tactic(auto)]
 
 mod accepted;
+mod best_match;
 mod canonical;
 mod choice;
 mod compare;

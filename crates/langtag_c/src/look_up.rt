@@ -1,4 +1,5 @@
-//! The tag that look-up finds for an Accept-Language header (RFC 9110 section 12.5.4, RFC 4647 section 3.4), without memory.
+//! The tag that look-up finds for an Accept-Language header (RFC 9110 section 12.5.4, RFC 4647 section 3.4), without
+//! allocating.
 ghost use Rattle.std.specs.Prelude.{◌≡◌, ◌↔◌, ◌≤◌, true, false, IsTrue, None, MatchOption, length};
 ghost use Rattle.std.specs.List.{position};
 ghost use Rattle.std.specs.Option.{option_map_or};
@@ -18,9 +19,10 @@ use crate::spanned_tags::{SpannedTags, bytes_in, tag_in};
 use langtag_match::{ElementPart, LanguageRange, element_at, is_empty_element};
 use langtag_scan::case_insensitive_eq;
 
-/// Looks up a tag for an Accept-Language header, among tags that spans of a text are, and refuses a header with a bad element. 0 where
-/// each element is good: then `index` is that of the tag, or the number of the spans where look-up finds none. 2 where the language
-/// range of the first bad element is bad, 3 where its weight is: then `bad` is where it stands between its commas.
+/// Looks up a tag for an Accept-Language header, and refuses a header with a malformed element. The tags are spans of a
+/// text. Returns 0 if no element is malformed: `index` is then that of the tag, or the number of spans if look-up finds
+/// none. Returns 2 if the language range of the first malformed element is malformed, and 3 if its weight is: `bad` is
+/// then the text between its commas.
 #[unsafe(no_mangle)]
 pub extern "C" fn langtag_tag_for_header(
     header: &[u8],
@@ -50,8 +52,9 @@ pub extern "C" fn langtag_tag_for_header(
     0
 }
 
-/// Looks up a tag for an Accept-Language header, among tags that spans of a text are, and passes bad elements over. Returns the index of
-/// the tag, or the number of the spans where look-up finds none. A span that is no tag, or reaches out of the text, is passed over.
+/// Looks up a tag for an Accept-Language header, and skips malformed elements. Returns the index of the tag, or the
+/// number of spans if look-up finds none. The tags are spans of a text. A span that is not a tag, or reaches beyond the
+/// text, is skipped.
 #[tactic(auto, using(crate::proofs::LookUps::is_looked_up, crate::proofs::LookUps::looked_up_within))]
 #[unsafe(no_mangle)]
 pub extern "C" fn langtag_tag_for_header_lenient(
@@ -140,7 +143,7 @@ fn first_bad(header: &[u8]) -> Option<(Span, ElementPart)>
     None
 }
 
-/// Returns which part of an item is bad: None where it is empty, or an element.
+/// Returns which part of an item is bad: `None` if it is empty, or an element.
 fn bad_part(item: &[u8]) -> Option<ElementPart>
     ensures { MatchOption result (is_good item.now ≡ true) (λ part. (is_good item.now ≡ false) × (part ≡ bad_part item.now)) }
 {
@@ -150,7 +153,7 @@ fn bad_part(item: &[u8]) -> Option<ElementPart>
     }
 }
 
-fn is_comma(byte: u8) -> bool
+pub(crate) fn is_comma(byte: u8) -> bool
     ensures { result ≡ is_comma byte }
 {
     byte == b','

@@ -5,11 +5,11 @@ ghost use Rattle.langtag_likely.specs.Posix.{IsTagOfName, NamesTag};
 
 use langtag_likely::write_from_posix;
 
-/// Writes the tag of a POSIX locale's name (IEEE Std 1003.1, section 8.2), and returns its length in bytes: `pt-BR` of
-/// `pt_BR.UTF-8`, `sr-Latn-RS` of `sr_RS@latin`. Where the buffer is too short it stays as it was, and the length says how much
-/// room there has to be.
+/// Writes the tag of a POSIX locale's name (IEEE Std 1003.1, section 8.2), and returns its length in bytes: `pt-BR` for
+/// `pt_BR.UTF-8`, `sr-Latn-RS` for `sr_RS@latin`. If the buffer is too short, it stays unchanged, and the length says
+/// how much room is needed.
 ///
-/// 0 where the name says no tag, as `C` and `POSIX`; the buffer then stays, too.
+/// Returns 0 and writes nothing if the name has no tag, such as `C` and `POSIX`.
 #[tactic(auto, using(crate::proofs::LikelyForms::some_named))]
 #[unsafe(no_mangle)]
 pub extern "C" fn langtag_from_posix(name: &[u8], buffer: &mut [u8]) -> usize

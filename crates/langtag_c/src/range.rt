@@ -9,8 +9,8 @@ ghost use Rattle.langtag_c.specs.Answers.{IsRangeKind, IsMatch};
 use crate::tag::tag_of;
 use langtag_match::LanguageRange;
 
-/// Returns 1 where the bytes are a basic language range (RFC 4647 section 2.1), as `de-CH` and `*`, 2 where they are an
-/// extended one that is not basic (section 2.2), as `de-*-DE`, and 0 where they are not a range.
+/// Returns 1 for a basic language range (RFC 4647 section 2.1), such as `de-CH` and `*`, 2 for an extended range that
+/// is not basic (section 2.2), such as `de-*-DE`, and 0 if the bytes are not a range.
 #[tactic(auto, using(crate::proofs::RangeLaws::range_kinds))]
 #[unsafe(no_mangle)]
 pub extern "C" fn langtag_range_kind(bytes: &[u8]) -> u32
@@ -23,8 +23,8 @@ pub extern "C" fn langtag_range_kind(bytes: &[u8]) -> u32
     }
 }
 
-/// Returns whether a range matches a tag by basic filtering (RFC 4647 section 3.3.1): `de-DE` matches `de-DE-1996`, and
-/// not `de-Latn-DE`. False where the first bytes are not a range, or the second not a tag.
+/// Returns whether a range matches a tag by basic filtering (RFC 4647 section 3.3.1): `de-DE` matches `de-DE-1996`, but
+/// not `de-Latn-DE`. Returns `false` if the first text is not a range, or the second is not a tag.
 #[unsafe(no_mangle)]
 pub extern "C" fn langtag_matches_basic(range: &[u8], tag: &[u8]) -> bool
     ensures { IsTrue result ↔ IsMatch MatchesBasic range.now tag.now }
@@ -36,7 +36,7 @@ pub extern "C" fn langtag_matches_basic(range: &[u8], tag: &[u8]) -> bool
 }
 
 /// Returns whether a range matches a tag by extended filtering (RFC 4647 section 3.3.2): `de-DE` and `de-*-DE` match
-/// `de-Latn-DE`. False where the first bytes are not a range, or the second not a tag.
+/// `de-Latn-DE`. Returns `false` if the first text is not a range, or the second is not a tag.
 #[unsafe(no_mangle)]
 pub extern "C" fn langtag_matches_extended(range: &[u8], tag: &[u8]) -> bool
     ensures { IsTrue result ↔ IsMatch MatchesExtended range.now tag.now }

@@ -1,4 +1,4 @@
-//! Where a text that is not a tag goes wrong (RFC 5646 section 2.1).
+//! Where a text that is not a tag is wrong (RFC 5646 section 2.1).
 ghost use Rattle.std.specs.Prelude.{◌≡◌, ◌↔◌, ◌⊎◌, ◌≤◌, ◌<◌, length};
 ghost use Rattle.langtag_scan.specs.Tag.{IsTag};
 ghost use Rattle.langtag.specs.Refusal.{AlphanumericWithin, EndsTooSoon, IsFirstOther, IsRefusedSubtag};
@@ -7,11 +7,11 @@ ghost use Rattle.langtag_c.specs.Spans.{empty_at, end_of};
 use crate::span::Span;
 use langtag::{Refusal, RefusalKind};
 
-/// Returns 0 where the bytes are a tag, and else what is wrong: 1 for a subtag that does not fit where it stands, as `DE` of
-/// `de-419-DE`, 2 for one with a byte that is no letter and no digit, as `_` of `de_CH`, and 3 where they end too soon, as
-/// `en-` and `en-a`. `subtag` is the first subtag up to whose end the bytes are neither a tag nor, followed by a hyphen,
-/// the beginning of one, and `offset` its first byte, or the one that is no letter and no digit. Where the answer is 0 or 3,
-/// both are at the end of the bytes.
+/// Returns 0 if the bytes are a tag, and otherwise what is wrong. It is 1 for an unexpected subtag, such as `DE` in
+/// `de-419-DE`, 2 for a subtag with a byte that is neither a letter nor a digit, such as `_` in `de_CH`, and 3 if the
+/// bytes end too soon, as `en-` and `en-a` do. `subtag` is the first subtag at whose end the text so far is neither a
+/// tag nor, before a hyphen, the beginning of one. `offset` is its first byte, or its first byte that is neither a
+/// letter nor a digit. If the result is 0 or 3, both are at the end of the bytes.
 #[unsafe(no_mangle)]
 pub extern "C" fn langtag_refused(bytes: &[u8], subtag: &mut Span, offset: &mut usize) -> u32
     ensures few { result ≤ 3 }

@@ -1,4 +1,4 @@
-//! Variants and singletons that stand in a tag twice (RFC 5646 section 2.2.9).
+//! Variants and singletons that a tag has twice (RFC 5646 section 2.2.9).
 ghost use Rattle.std.specs.Prelude.{◌≡◌, Some, is_some, map, unwrap_or};
 ghost use Rattle.langtag_scan.specs.Case.{are_alike};
 ghost use Rattle.langtag_scan.specs.Record.{EachRecord};
@@ -13,8 +13,8 @@ use crate::span::Span;
 use crate::tag::normal_tag_of;
 use langtag::NormalLangTag;
 
-/// Where the first variant and the first singleton stand that are equal, but for case, to an earlier one. What is not there
-/// has no byte.
+/// Where the first variant and the first singleton are that equal an earlier one, ignoring case. An absent one has no
+/// bytes.
 #[repr(C)]
 #[derive(Clone, Copy)]
 pub struct Repeated {
@@ -22,9 +22,9 @@ pub struct Repeated {
     pub singleton: Span,
 }
 
-/// Returns 1 where a variant of a normal tag is equal, but for case, to an earlier one, and 2 more where a singleton is; and
-/// where the first of each stands, as the second `1996` of `de-1996-1996`. Such a tag is well formed, and is not valid.
-/// 0 for what is not a normal tag. All of `repeated` is written.
+/// Returns 1 if a variant of a normal tag equals an earlier one, ignoring case, 2 if a singleton does, and 3 if both
+/// do. Writes where the first of each is, such as the second `1996` in `de-1996-1996`. Such a tag is well formed but
+/// not valid. Returns 0 for any other text. All of `repeated` is written.
 #[tactic(auto, using(langtag_scan::proofs::SpelledTexts::normal_spelled))]
 #[unsafe(no_mangle)]
 pub extern "C" fn langtag_repeats(bytes: &[u8], repeated: &mut Repeated) -> u32
@@ -61,7 +61,7 @@ fn repeated_variant(tag: &NormalLangTag<'_>) -> Option<Span>
     variant_at(tag, tag.repeated_variant_index()?)
 }
 
-/// Where the variant at an index stands in a tag.
+/// Returns where the variant at an index is in a tag.
 pub(crate) fn variant_at(tag: &NormalLangTag<'_>, wanted: usize) -> Option<Span>
     ensures { EachRecord (normal_lang_tag_text tag.now) (λ r. result ≡ member_span (variant_place r) r.variants (Some wanted)) }
 {
@@ -84,7 +84,7 @@ fn repeated_singleton(tag: &NormalLangTag<'_>) -> Option<Span>
     singleton_at(tag, tag.repeated_singleton_index()?)
 }
 
-/// Where the singleton of the extension at an index stands in a tag.
+/// Returns where the singleton of the extension at an index is in a tag.
 pub(crate) fn singleton_at(tag: &NormalLangTag<'_>, wanted: usize) -> Option<Span>
     ensures { EachRecord (normal_lang_tag_text tag.now) (λ r. result ≡ member_span (singleton_place r) r.extensions (Some wanted)) }
 {

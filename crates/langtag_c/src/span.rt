@@ -1,8 +1,8 @@
-//! Where a part of a text stands in it.
+//! Where a part of a text is.
 ghost use Rattle.std.specs.Prelude.{◌≡◌, ◌≤◌, ◌+◌, ◌<◌, ◌^◌, MatchOption};
 ghost use Rattle.langtag_c.specs.Spans.{HasBytes, end_of, span_between, span_text};
 
-/// So many bytes of a text from an index on. A part that is absent has none.
+/// Some bytes of a text: where they start, and how many they are. An absent part has none.
 #[repr(C)]
 #[derive(Clone, Copy)]
 pub struct Span {
@@ -11,7 +11,7 @@ pub struct Span {
 }
 
 impl Span {
-    /// What stands between the end of one part and the end of the next, after the hyphen.
+    /// Returns the span between the end of one part and the end of the next, without the hyphen.
     pub(crate) fn between(before: usize, end: usize) -> Span
         ensures span { before ≤ end → result ≡ span_between before end }
         ensures begins { before ≤ end → before ≤ result.start }
@@ -24,7 +24,7 @@ impl Span {
         }
     }
 
-    /// The bytes, where there are any and they lie within the text.
+    /// Returns the bytes, if there are any and they are within the text.
     pub(crate) fn of<'a>(&self, text: &'a [u8]) -> Option<&'a [u8]>
         ensures { MatchOption result (HasBytes text.now self.now → ⊥)
             (λ bytes. HasBytes text.now self.now × (bytes.now ≡ span_text text.now self.now)) }
@@ -36,7 +36,7 @@ impl Span {
         text.get(self.start..end)
     }
 
-    /// Takes so many bytes off the start, and the hyphen after them.
+    /// Removes a number of bytes from the start, and the hyphen after them.
     pub(crate) fn take_first(&mut self, len: usize) -> Span
         requires few { len ≤ self.old.len }
         requires within { end_of self.old < 2 ^ 64 }

@@ -1,4 +1,4 @@
-//! The tags that spans of a text are.
+//! Tags as spans of a text.
 ghost use Rattle.std.specs.Prelude.{◌≡◌};
 ghost use Rattle.std.specs.Option.{option_map};
 ghost use Rattle.langtag.specs.Text.{lang_tag_text};
@@ -42,7 +42,7 @@ pub(crate) fn tag_in<'a>(text: &'a [u8], span: Span) -> Option<LangTag<'a>>
     tag_of(span.of(text)?)
 }
 
-/// Returns the bytes of a span of a text: none where it has none there.
+/// Returns the bytes of a span of a text, or none if it reaches beyond the text.
 pub(crate) fn bytes_in<'a>(text: &'a [u8], span: Span) -> &'a [u8]
     ensures { HasBytes text.now span → result.now ≡ span_text text.now span }
 {

@@ -1,4 +1,4 @@
-//! Walks over the subtags and the extensions of a part, without memory.
+//! Walks over the subtags and the extensions of a part, without allocating.
 ghost use Rattle.std.specs.Prelude.{◌≡◌, ◌↔◌, ◌∷◌, List, IsTrue, false};
 ghost use Rattle.langtag_scan.specs.Record.{Extension};
 ghost use Rattle.langtag_extension.specs.Spelling.{extension_spelling, SpellsExtensions};
@@ -9,8 +9,8 @@ use crate::span::Span;
 use langtag_extension::first_extension_end;
 use langtag_scan::segment_end;
 
-/// Takes the first subtag off a span, and the hyphen after it. False where nothing is left, or where the span does not lie
-/// within the bytes; then both stay as they were.
+/// Takes the first subtag off a span, with the hyphen after it. Returns `false` and changes nothing if nothing is left,
+/// or if the span reaches beyond the bytes.
 #[unsafe(no_mangle)]
 pub extern "C" fn langtag_next_subtag(bytes: &[u8], rest: &mut Span, subtag: &mut Span) -> bool
     ensures some { IsTrue result ↔ HasBytes bytes.now rest.old }
@@ -24,8 +24,8 @@ pub extern "C" fn langtag_next_subtag(bytes: &[u8], rest: &mut Span, subtag: &mu
     true
 }
 
-/// Takes the first extension off a span (RFC 5646 section 2.2.6), its singleton and the subtags after it, and the hyphen after
-/// them. False as [`langtag_next_subtag`] returns it.
+/// Takes the first extension off a span (RFC 5646 section 2.2.6), which is its singleton and the subtags after it, with
+/// the hyphen after them. Returns `false` as [`langtag_next_subtag`] does.
 #[unsafe(no_mangle)]
 pub extern "C" fn langtag_next_extension(
     bytes: &[u8],

@@ -1,4 +1,4 @@
-//! A tag with another part, in the caller's buffer (RFC 5646 sections 2.2.1 to 2.2.7).
+//! A tag with another part, written to a buffer of the caller (RFC 5646 sections 2.2.1 to 2.2.7).
 ghost use Rattle.std.specs.Prelude.{◌≡◌, ◌↔◌, ◌≤◌, ◌++◌, IfSome, length};
 ghost use Rattle.std.specs.List.{replace_range};
 ghost use Rattle.langtag_output.specs.Writes.{Writes};
@@ -9,12 +9,12 @@ use crate::tag::normal_tag_of;
 use langtag::{Replacement, put_part};
 use langtag_output::write_pieces;
 
-/// Writes a normal tag with one of its parts set to a text, or taken out where that is empty, and returns its length in
-/// bytes. The parts are counted from 0, the language, in the order in which they stand. Where the buffer is too short it
-/// stays as it was, and the answer says how much room there has to be.
+/// Writes a normal tag with one part set to a text, or removed if that is empty, and returns its length in bytes. The
+/// parts are numbered in their order, from 0 for the language. If the buffer is too short, it stays unchanged, and the
+/// length says how much room is needed.
 ///
-/// 0 where the tag is not a normal one, or the text not one of that part, which for a language the empty one is not either;
-/// the buffer then stays, too.
+/// Returns 0 and writes nothing if the tag is not a normal one, or if the text is not such a part. The empty text is
+/// not a language.
 #[unsafe(no_mangle)]
 pub extern "C" fn langtag_with_part(tag: &[u8], part: u32, text: &[u8], buffer: &mut [u8]) -> usize
     ensures set { CanSet part text.now tag.now →

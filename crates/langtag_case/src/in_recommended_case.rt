@@ -7,11 +7,11 @@ use crate::recommended_bytes::RecommendedBytes;
 use crate::recommended_case::is_in_recommended_case;
 use std::fmt;
 
-/// An ASCII text, as each tag is, that is displayed in the case that RFC 5646 section 2.1.1 recommends: `MN-cYRL-mn` is
+/// An ASCII text that is displayed in the case that RFC 5646 section 2.1.1 recommends for tags: `MN-cYRL-mn` is
 /// displayed as `mn-Cyrl-MN`.
 ///
-/// It allocates no memory. A text that is in its recommended case already is written in one piece, and any other text one
-/// byte at a time.
+/// It does not allocate. A text that is already in its recommended case is written at once, and any other text byte by
+/// byte.
 ///
 /// ```
 /// use langtag::LangTag;
@@ -28,7 +28,8 @@ pub struct InRecommendedCase<'a> {
 impl<'a> InRecommendedCase<'a> {
     ghost use Rattle.langtag_case.specs.Text.{in_recommended_case_text};
 
-    /// Displays an ASCII text in its recommended case. It is proved that a clone succeeds and is the same value.
+    /// Returns a value that displays an ASCII text in its recommended case. It is proved that a clone succeeds and is
+    /// the same value.
     pub fn from_checked(text: &'a str) -> Self
         requires { IsAscii text.now }
         ensures shown { in_recommended_case_text result ≡ recommended_text text.now }

@@ -9,14 +9,13 @@ ghost use Rattle.langtag_case.specs.Walk.{cased};
 use crate::piece::Piece;
 use crate::recommended_bytes::RecommendedBytes;
 
-/// Puts the letters of a text into the case that RFC 5646 section 2.1.1 recommends for a tag, as in `mn-Cyrl-MN`,
+/// Changes the letters of a text to the case that RFC 5646 section 2.1.1 recommends for a tag, as in `mn-Cyrl-MN`,
 /// `en-CA-x-ca` and `az-Latn-x-latn`.
 ///
 /// The first subtag, and each subtag after one of a single byte, becomes lowercase. Of the others, those of two bytes become
 /// uppercase, those of four bytes titlecase, and the rest lowercase. A byte that is not an ASCII letter stays as it is.
 ///
-/// Texts that differ in the case of letters alone become the same bytes, so the result can be a key where bytes are
-/// compared.
+/// Texts that differ only in case become the same bytes, so the result can be a key in a store that compares bytes.
 pub fn make_recommended_case(text: &mut [u8])
     ensures case { text.new ≡ recommended_text text.old }
 
@@ -58,8 +57,8 @@ fn capitalise(text: &mut [u8], capitals: usize)
     }
 }
 
-/// Returns `true` if the text is in its recommended case, so that [`make_recommended_case`] would change nothing: true of
-/// `en-CA-x-ca`, false of `en-CA-x-CA`.
+/// Returns whether a text is in its recommended case, so that [`make_recommended_case`] would change nothing: `true`
+/// for `en-CA-x-ca`, `false` for `en-CA-x-CA`.
 pub fn is_in_recommended_case(text: &[u8]) -> bool
     ensures { IsTrue result ↔ (recommended_text text.now ≡ text.now) }
 {

@@ -5,12 +5,13 @@
 //! answers:
 //!
 //! - `valid canonical=TAG`, where TAG is the canonical form of the tag;
-//! - `invalid WHAT=TEXT canonical=TAG`, where TEXT is the first faulty subtag as it stands in the tag, and WHAT is `language`,
-//!   `extlang`, `script`, `region` or `variant` where it is not registered, `second-extlang` for an extended language after
-//!   another, and `repeated-variant` or `repeated-singleton` for the later one of two that are equal, but for case;
+//! - `invalid WHAT=TEXT canonical=TAG`, where TEXT is the first invalid subtag, in its original case. WHAT is
+//!   `language`, `extlang`, `script`, `region` or `variant` if it is not registered, `second-extlang` for a second
+//!   extended language, and `repeated-variant` or `repeated-singleton` if it equals an earlier one, ignoring case;
 //! - `refused` for a line that is not a tag, also for one that is not UTF-8.
 //!
-//! If a read, a write or an allocation fails, the program says so on standard error and by its status.
+//! If a read, a write or an allocation fails, the program prints a message to standard error and exits with a status
+//! other than 0.
 #![tactic(auto)]
 
 use langtag_answers::Check;

@@ -1,18 +1,19 @@
 -- A text that begins otherwise than a lone language, and not as `und` does, is far from it, and is not what it falls back to.
-use Rattle.std.proofs.Common.{◌≡◌, ◌⊎◌, ℕ, ◌<◌, ◌≤◌, Bool, true, false, cond, ltb, not, ◌==◌, List, [], ◌∷◌, length, map, take, drop, zero, suc, Option, Some, None, is_some, option_map, inl, inr, refl, sym, ap, ◌∙◌, arith}
+use Rattle.std.proofs.Common.{◌≡◌, ℕ, ◌<◌, ◌≤◌, Bool, true, false, cond, ltb, not, ◌==◌, List, [], ◌∷◌, get_or, length, length-take, map, take, drop, zero, suc, Option, Some, None, option_map, refl, sym, ap, ◌∙◌, arith}
 use Rattle.std.specs.Prelude.{◌&&◌, ◌||◌, codes}
 use Rattle.std.specs.List.{after_first, before_first, list_all, position_or_len}
 use Rattle.std.specs.Option.{option_map_or}
-use Rattle.std.proofs.lemmas.Bool.{and_parts, both_ways, false_from_ne_true, ltb-true, or_parts, eqb-true, not-true}
+use Rattle.std.proofs.lemmas.Bool.{and_from, and_parts, both_ways, eq-eqb, false_from_ne_true, ltb-true, or_parts, eqb-false, not-true}
 use Rattle.std.proofs.lemmas.Bool.Decides.{nat_tests}
+use Rattle.std.proofs.lemmas.List.Sums.{take_while-cons}
 use Rattle.langtag_scan.specs.Case.{Alike, are_alike, fold_byte, fold_text}
 use Rattle.langtag_scan.specs.CaseLaws.{are_alike-decides}
-use Rattle.langtag_scan.specs.Class.{is_extended, is_primary}
+use Rattle.langtag_scan.specs.Class.{are_letters, is_extended, is_letter, is_primary}
 use Rattle.langtag_tables.proofs.Letters.{primary_length}
 use Rattle.langtag_match.specs.Basic.{ends_subtag}
 use Rattle.langtag_match.specs.Fallback.{ends_in_single}
 use Rattle.langtag_match.specs.Wanted.{hyphened, is_mark}
-use Rattle.langtag_choice.specs.Lone.{head, is_lone, is_related, lone_head}
+use Rattle.langtag_choice.specs.Lone.{IsShort, head, is_lone, is_related, lone_head, replacing}
 use Rattle.langtag_choice.specs.Distance.{distance_of_forms, distance_of_texts, is_among, language_distance}
 use Rattle.langtag_likely.specs.Likely.{Fields, Likely, are_alike_fields, known, language_alone, likely_for}
 use Rattle.langtag_likely.specs.Matching.{language_replaced, matching_fields, matching_form, with_language}
@@ -25,8 +26,9 @@ use Rattle.langtag_likely.proofs.AlikeFields.{by_options}
 use Rattle.langtag_choice.proofs.AlikeRanges.{matching_form-alike}
 use Rattle.langtag_likely.proofs.AliasTables.{aliases_lead}
 use Rattle.langtag_likely.proofs.CompletedForms.{completed_language}
+use Rattle.langtag_likely.proofs.RowsFound.{alike_length}
 use Rattle.langtag_choice.proofs.ReadRanges.{form_read}
-use Rattle.langtag_likely.proofs.TextParts.{all_fields, no_fields}
+use Rattle.langtag_likely.proofs.TextParts.{all_fields, no_fields, stop_language}
 use Rattle.langtag_match.proofs.Prefixes.{length-alike}
 
 -- ---- heads
@@ -51,8 +53,103 @@ head-take (suc (suc n)) [] long = refl
 head-take (suc (suc n)) (a ∷ []) long = refl
 head-take (suc (suc n)) (a ∷ b ∷ text) long = refl
 
+pub apart_letters : (a b : ℕ × ℕ) → not ((a.0 == b.0) && (a.1 == b.1)) ≡ true → Some a ≡ Some b → ⊥
+apart_letters a b apart same =
+    let one : a ≡ b = cc in
+    both_ways _ (not-true _ apart) (and_from (a.0 == b.0) (a.1 == b.1) (eq-eqb a.0 b.0 (ap (λ p. p.0) one)) (eq-eqb a.1 b.1 (ap (λ p. p.1) one)))
+
 head_first : (text : List ℕ) → is_primary (before_first is_mark text) ≡ true → head (before_first is_mark text) ≡ head text
 head_first text primary = head-take (position_or_len is_mark text) text (primary_length (before_first is_mark text) primary)
+
+-- ---- what a text begins with
+
+unmarked : (x : ℕ) (text : List ℕ) → is_mark x ≡ false → before_first is_mark (x ∷ text) ≡ x ∷ before_first is_mark text
+unmarked x text is = take_while-cons (λ b. not (is_mark b)) x text ∙ ap (λ b. cond (not b) (x ∷ before_first is_mark text) []) is
+
+first_letter : (x : ℕ) (text : List ℕ) → is_letter x ≡ false → is_extended (before_first is_mark (x ∷ text)) ≡ false
+unfolding is_extended
+first_letter x text other = by_mark (is_mark x) refl
+  where
+    by_mark : (b : Bool) → is_mark x ≡ b → is_extended (before_first is_mark (x ∷ text)) ≡ false
+    by_mark true is = rw is refl
+    by_mark false is = rw (unmarked x text is) (false_from_ne_true _ (λ yes.
+        let letters = and_parts (length (x ∷ before_first is_mark text) == 3) (are_letters (x ∷ before_first is_mark text)) yes in
+        both_ways (is_letter x) other (and_parts (is_letter x) (are_letters (before_first is_mark text)) letters.1).0))
+
+extended_length : (text : List ℕ) → is_extended text ≡ true → length text ≡ 3
+unfolding is_extended
+extended_length text is = grind (arith, nat_tests)
+
+pub few_extended : (text : List ℕ) → length text ≤ 2 → is_extended (before_first is_mark text) ≡ false
+few_extended text few = false_from_ne_true _ (λ yes.
+    let three = extended_length (before_first is_mark text) yes in
+    let most = length-take (position_or_len is_mark text) text in
+    omega (arith, three, most, few))
+
+-- no mark stands at the third place from 0 on
+longer : (x y z n : ℕ) (text : List ℕ) → is_mark n ≡ false → is_extended (before_first is_mark (x ∷ y ∷ z ∷ n ∷ text)) ≡ false
+unfolding is_extended
+longer x y z n text other = by_marks (is_mark x) (is_mark y) (is_mark z) refl refl refl
+  where
+    by_marks :
+        (a b c : Bool) → is_mark x ≡ a → is_mark y ≡ b → is_mark z ≡ c → is_extended (before_first is_mark (x ∷ y ∷ z ∷ n ∷ text)) ≡ false
+    by_marks true b c first second third = rw first refl
+    by_marks false true c first second third = rw (first, second) refl
+    by_marks false false true first second third = rw (first, second, third) refl
+    by_marks false false false first second third = false_from_ne_true _ (λ yes.
+        let three = extended_length (before_first is_mark (x ∷ y ∷ z ∷ n ∷ text)) yes in
+        let whole : before_first is_mark (x ∷ y ∷ z ∷ n ∷ text) ≡ x ∷ y ∷ z ∷ n ∷ before_first is_mark text =
+        unmarked x (y ∷ z ∷ n ∷ text) first ∙ ap (λ t. x ∷ t) (unmarked y (z ∷ n ∷ text) second ∙ ap (λ t. y ∷ t) (unmarked z (n ∷ text) third ∙ ap (λ t. z ∷ t) (unmarked n text other))) in
+        let four = ap length whole in
+        omega (arith, three, four))
+
+not_primary : (text : List ℕ) → length text ≤ 1 → is_primary text ≡ true → ⊥
+not_primary text few primary = let long = primary_length text primary in omega (arith, few, long)
+
+-- a text of two bytes, and one with a mark after two
+two_short : (a b : ℕ) → IsShort (a ∷ b ∷ [])
+unfolding is_extended
+two_short a b = λ primary. by_marks (is_mark a) (is_mark b) refl refl primary
+  where
+    by_marks :
+        (x y : Bool) → is_mark a ≡ x → is_mark b ≡ y → is_primary (before_first is_mark (a ∷ b ∷ [])) ≡ true →
+        (length (before_first is_mark (a ∷ b ∷ [])) ≡ 2) × (is_extended (before_first is_mark (after_first is_mark (a ∷ b ∷ []))) ≡ false)
+    by_marks true y first second primary = absurd (not_primary (before_first is_mark (a ∷ b ∷ [])) (rw first (omega arith)) primary)
+    by_marks false true first second primary = absurd (not_primary (before_first is_mark (a ∷ b ∷ [])) (rw (first, second) (omega arith)) primary)
+    by_marks false false first second primary = rw (first, second) (refl, refl)
+
+marked_short : (a b m : ℕ) (rest : List ℕ) → is_mark m ≡ true → is_extended (before_first is_mark rest) ≡ false → IsShort (a ∷ b ∷ m ∷ rest)
+marked_short a b m rest mark alone = λ primary. by_marks (is_mark a) (is_mark b) refl refl primary
+  where
+    by_marks :
+        (x y : Bool) → is_mark a ≡ x → is_mark b ≡ y → is_primary (before_first is_mark (a ∷ b ∷ m ∷ rest)) ≡ true →
+        (length (before_first is_mark (a ∷ b ∷ m ∷ rest)) ≡ 2) × (is_extended (before_first is_mark (after_first is_mark (a ∷ b ∷ m ∷ rest))) ≡ false)
+    by_marks true y first second primary = absurd (not_primary (before_first is_mark (a ∷ b ∷ m ∷ rest)) (rw first (omega arith)) primary)
+    by_marks false true first second primary = absurd (not_primary (before_first is_mark (a ∷ b ∷ m ∷ rest)) (rw (first, second) (omega arith)) primary)
+    by_marks false false first second primary = rw (first, second, mark) (refl, alone)
+
+pub short_of_two : (text : List ℕ) → 2 ≤ length text → length text < 3 → IsShort text
+short_of_two [] least most = absurd (omega (arith, least))
+short_of_two (a ∷ []) least most = absurd (omega (arith, least))
+short_of_two (a ∷ b ∷ []) least most = two_short a b
+short_of_two (a ∷ b ∷ m ∷ rest) least most = absurd (omega (arith, most))
+
+pub short_of_more : (text : List ℕ) → 3 ≤ length text → is_mark (get_or text 2 0) ≡ true → is_extended (before_first is_mark (drop 3 text)) ≡ false → IsShort text
+short_of_more [] least mark alone = absurd (omega (arith, least))
+short_of_more (a ∷ []) least mark alone = absurd (omega (arith, least))
+short_of_more (a ∷ b ∷ []) least mark alone = absurd (omega (arith, least))
+short_of_more (a ∷ b ∷ m ∷ rest) least mark alone = marked_short a b m rest mark alone
+
+pub extended_letter : (text : List ℕ) → 1 ≤ length text → is_letter (get_or text 0 0) ≡ false → is_extended (before_first is_mark text) ≡ false
+extended_letter [] some other = absurd (omega (arith, some))
+extended_letter (x ∷ text) some other = first_letter x text other
+
+pub extended_mark : (text : List ℕ) → 4 ≤ length text → is_mark (get_or text 3 0) ≡ false → is_extended (before_first is_mark text) ≡ false
+extended_mark [] long other = absurd (omega (arith, long))
+extended_mark (x ∷ []) long other = absurd (omega (arith, long))
+extended_mark (x ∷ y ∷ []) long other = absurd (omega (arith, long))
+extended_mark (x ∷ y ∷ z ∷ []) long other = absurd (omega (arith, long))
+extended_mark (x ∷ y ∷ z ∷ n ∷ text) long other = longer x y z n text other
 
 -- ---- the language of a text
 
@@ -61,89 +158,76 @@ record IsOther (one language : List ℕ) : Type 0 where
   other : Alike one language → ⊥
   some : 0 < length language
 
-extended_length : (text : List ℕ) → is_extended text ≡ true → length text ≡ 3
-unfolding is_extended
-extended_length text is = grind (arith, nat_tests)
+known_two : (text : List ℕ) → length text ≡ 2 → known (codes "und") text ≡ text
+known_two text two = rw (false_from_ne_true (are_alike (codes "und") text) (λ yes. let same = alike_length (codes "und") text yes in omega (arith, same, two))) refl
 
-same_or_extended : (language : List ℕ) (subtags : List (List ℕ)) → (language_of language subtags ≡ language) ⊎ (length (language_of language subtags) ≡ 3)
-same_or_extended language [] = inl refl
-same_or_extended language (subtag ∷ others) = by_test (is_extended subtag) refl (same_or_extended subtag others)
-  where
-    by_test : (b : Bool) → is_extended subtag ≡ b → (language_of subtag others ≡ subtag) ⊎ (length (language_of subtag others) ≡ 3) → (language_of language (subtag ∷ others) ≡ language) ⊎ (length (language_of language (subtag ∷ others)) ≡ 3)
-    by_test false is later = rw is (inl refl)
-    by_test true is (inl same) = rw is (inr (ap length same ∙ extended_length subtag is))
-    by_test true is (inr three) = rw is (inr three)
+module _ (one : List ℕ) (letters : ℕ × ℕ) (begins : head one ≡ Some letters) where
+  module _ (text : List ℕ) (short : IsShort text) (other : head text ≡ Some letters → ⊥) where
+    language_first : is_primary (before_first is_mark text) ≡ true → language_of (known (codes "und") (before_first is_mark text)) (parts (after_first is_mark text)) ≡ before_first is_mark text
+    language_first primary =
+        stop_language (after_first is_mark text) (known (codes "und") (before_first is_mark text)) (short primary).1 ∙ known_two (before_first is_mark text) (short primary).0
 
-module _ (one : List ℕ) (letters : ℕ × ℕ) (two : length one ≡ 2) (begins : head one ≡ Some letters) where
-  module _ (text : List ℕ) (other : head text ≡ Some letters → ⊥) (known_other : head text ≡ head (codes "und") → ⊥) where
-    first_other : is_primary (before_first is_mark text) ≡ true → IsOther one (known (codes "und") (before_first is_mark text))
-    first_other primary = by_und (are_alike (codes "und") (before_first is_mark text)) refl
-      where
-        by_und : (b : Bool) → are_alike (codes "und") (before_first is_mark text) ≡ b → IsOther one (known (codes "und") (before_first is_mark text))
-        by_und true is = absurd (known_other (sym (head_first text primary) ∙ sym (head-alike (codes "und") (before_first is_mark text) ((are_alike-decides (codes "und") (before_first is_mark text)).0 is))))
-        by_und false is = rw is (record {
-          other = λ alike. other (sym (head_first text primary) ∙ sym (head-alike one (before_first is_mark text) alike) ∙ begins);
-          some = let long = primary_length (before_first is_mark text) primary in omega (arith, long);
-        })
+    first_other : is_primary (before_first is_mark text) ≡ true → Alike one (before_first is_mark text) → ⊥
+    first_other primary = λ alike. other (sym (head_first text primary) ∙ sym (head-alike one (before_first is_mark text) alike) ∙ begins)
 
-    last_other : is_primary (before_first is_mark text) ≡ true → IsOther one (language_of (known (codes "und") (before_first is_mark text)) (parts (after_first is_mark text)))
-    last_other primary = elim (same_or_extended (known (codes "und") (before_first is_mark text)) (parts (after_first is_mark text))) [
-      | inl same ↦ rw same (first_other primary)
-      | inr three ↦ record { other = λ alike. let long = length-alike one _ alike in omega (arith, two, three, long); some = omega (arith, three) }
-    ]
-
-    text_other : (f : Fields) → text_fields (hyphened text) ≡ Some f → IsOther one f.language
+    text_other : (f : Fields) → text_fields (hyphened text) ≡ Some f → (Alike one f.language → ⊥) × (length f.language ≡ 2)
     text_other f is = by_primary (is_primary (before_first is_mark text)) refl
       where
-        by_primary : (b : Bool) → is_primary (before_first is_mark text) ≡ b → IsOther one f.language
+        by_primary : (b : Bool) → is_primary (before_first is_mark text) ≡ b → (Alike one f.language → ⊥) × (length f.language ≡ 2)
         by_primary false not = absurd (let none = no_fields text not ∙ is in cc)
         by_primary true primary =
             let same = all_fields text _ _ _ primary refl refl refl ∙ is in
             let language : language_of (known (codes "und") (before_first is_mark text)) (parts (after_first is_mark text)) ≡ f.language = cc in
-            rw (← language) (last_other primary)
+            rw (← language, language_first primary) (first_other primary, (short primary).0)
 
   -- ---- its replacement
 
-  alias_other : (rows : List Likely) → list_all (λ row. ltb 0 (length row.to.language)) rows ≡ true → is_among (map (λ row. row.to.language) rows) one ≡ false →
-      (key to : Fields) → likely_for rows key ≡ Some to → IsOther one to.language
-  alias_other [] lead apart key to is = absurd cc
-  alias_other (row ∷ rows) lead apart key to is =
+  alias_other : (rows : List Likely) → list_all (λ row. ltb 0 (length row.to.language)) rows ≡ true →
+      (key to : Fields) → length key.language ≡ 2 → likely_for rows key ≡ Some to → is_among (replacing rows) one ≡ false → IsOther one to.language
+  alias_other [] lead key to two is apart = absurd cc
+  alias_other (row ∷ rows) lead key to two is apart =
       let leads = and_parts (ltb 0 (length row.to.language)) (list_all (λ row. ltb 0 (length row.to.language)) rows) lead in
-      let aparts = or_parts (are_alike row.to.language one) (is_among (map (λ row. row.to.language) rows) one) apart in
-      by_test (are_alike_fields row.from key) refl leads aparts (alias_other rows leads.1 aparts.1 key to)
+      by_tests (are_alike_fields row.from key) (length row.from.language == 2) refl refl leads.0 apart (alias_other rows leads.1 key to two)
     where
-      by_test :
-          (b : Bool) → are_alike_fields row.from key ≡ b →
-          (ltb 0 (length row.to.language) ≡ true) × (list_all (λ row. ltb 0 (length row.to.language)) rows ≡ true) →
-          (are_alike row.to.language one ≡ false) × (is_among (map (λ row. row.to.language) rows) one ≡ false) →
-          (likely_for rows key ≡ Some to → IsOther one to.language) → IsOther one to.language
-      by_test true here leads aparts later =
+      later_row : are_alike_fields row.from key ≡ false → likely_for rows key ≡ Some to
+      later_row here = sym (ap (λ b. cond b (Some row.to) (likely_for rows key)) here) ∙ is
+
+      by_tests :
+          (b t : Bool) → are_alike_fields row.from key ≡ b → (length row.from.language == 2) ≡ t → ltb 0 (length row.to.language) ≡ true →
+          is_among (cond t (row.to.language ∷ replacing rows) (replacing rows)) one ≡ false →
+          (likely_for rows key ≡ Some to → is_among (replacing rows) one ≡ false → IsOther one to.language) → IsOther one to.language
+      by_tests false true here from leads apart later = later (later_row here) (or_parts (are_alike row.to.language one) (is_among (replacing rows) one) apart).1
+      by_tests false false here from leads apart later = later (later_row here) apart
+      by_tests true false here from leads apart later =
+          absurd (eqb-false (length row.from.language) 2 from (alike_length row.from.language key.language (and_parts (are_alike row.from.language key.language) _ here).0 ∙ two))
+      by_tests true true here from leads apart later =
           let same : Some row.to ≡ Some to = sym (ap (λ b. cond b (Some row.to) (likely_for rows key)) here) ∙ is in
           let to_is : row.to ≡ to = cc in
           rw (← to_is) (record {
-            other = λ alike. both_ways _ aparts.0 ((are_alike-decides row.to.language one).1 (sym alike));
-            some = ltb-true 0 (length row.to.language) leads.0;
+            other = λ alike. both_ways _ (or_parts (are_alike row.to.language one) (is_among (replacing rows) one) apart).0 ((are_alike-decides row.to.language one).1 (sym alike));
+            some = ltb-true 0 (length row.to.language) leads;
           })
-      by_test false here leads aparts later = later (sym (ap (λ b. cond b (Some row.to) (likely_for rows key)) here) ∙ is)
 
-  replaced_other : (f : Fields) → is_among (map (λ row. row.to.language) language_aliases) one ≡ false → IsOther one f.language → IsOther one (language_replaced f).language
+  replaced_other :
+      (f : Fields) → is_among (replacing language_aliases) one ≡ false → (Alike one f.language → ⊥) → length f.language ≡ 2 → IsOther one (language_replaced f).language
   unfolding language_replaced
-  replaced_other f apart there = by_row (likely_for language_aliases (language_alone f)) refl
+  replaced_other f apart there two = by_row (likely_for language_aliases (language_alone f)) refl
     where
       by_row : (o : Option Fields) → likely_for language_aliases (language_alone f) ≡ o → IsOther one (option_map_or (with_language f) o f).language
-      by_row None is = there
-      by_row (Some to) is = alias_other language_aliases aliases_lead apart (language_alone f) to is
+      by_row None is = record { other = there; some = omega (arith, two) }
+      by_row (Some to) is = alias_other language_aliases aliases_lead (language_alone f) to two is apart
 
   form_other :
-      (text : List ℕ) → (head text ≡ Some letters → ⊥) → (head text ≡ head (codes "und") → ⊥) → is_among (map (λ row. row.to.language) language_aliases) one ≡ false →
+      (text : List ℕ) → IsShort text → (head text ≡ Some letters → ⊥) → is_among (replacing language_aliases) one ≡ false →
       (form : Fields) → matching_form text ≡ Some form → Alike one form.language → ⊥
   unfolding matching_form
-  form_other text other known_other apart form is = by_und (are_alike (hyphened text) (codes "und")) is
+  form_other text short other apart form is = by_und (are_alike (hyphened text) (codes "und")) is
     where
       by_fields : (o : Option Fields) → text_fields (hyphened text) ≡ o → option_map matching_fields o ≡ Some form → Alike one form.language → ⊥
       by_fields None is made = absurd cc
       by_fields (Some f) is made =
-          let replaced = replaced_other f apart (text_other text other known_other f is) in
+          let there = text_other text short other f is in
+          let replaced = replaced_other f apart there.0 there.1 in
           let same : matching_fields f ≡ form = cc in
           let language = completed_language (language_replaced f) replaced.some in
           λ alike. replaced.other (alike ∙ ap fold_text (sym (ap (λ form. form.language) same) ∙ language))
@@ -184,17 +268,17 @@ lone_language f letters is = by_test (is_lone f.language) is
     by_test false is = absurd cc
 
 pub far_from_lone :
-    (letters : ℕ × ℕ) (range tag : List ℕ) → lone_head (matching_form range) ≡ Some letters → (head tag ≡ Some letters → ⊥) → (head tag ≡ Some (117, 110) → ⊥) →
+    (letters : ℕ × ℕ) (range tag : List ℕ) → lone_head (matching_form range) ≡ Some letters → IsShort tag → (head tag ≡ Some letters → ⊥) →
     50 ≤ distance_of_texts (hyphened range) tag
-unfolding distance_of_texts is_lone fold_byte
-far_from_lone letters range tag lone other known_other = by_form (matching_form range) lone refl
+unfolding distance_of_texts is_lone
+far_from_lone letters range tag lone short other = by_form (matching_form range) lone refl
   where
     by_tag :
-        (d : Fields) → matching_form (hyphened range) ≡ Some d → length d.language ≡ 2 → is_among (map (λ rule. rule.desired.language) language_rules) d.language ≡ false →
-        is_among (map (λ row. row.to.language) language_aliases) d.language ≡ false → head d.language ≡ Some letters →
+        (d : Fields) → matching_form (hyphened range) ≡ Some d → is_among (map (λ rule. rule.desired.language) language_rules) d.language ≡ false →
+        is_among (replacing language_aliases) d.language ≡ false → head d.language ≡ Some letters →
         (o : Option Fields) → matching_form tag ≡ o → 50 ≤ distance_of_forms (hyphened range) tag (Some d) o
-    by_tag d is two desired replacing begins None none = rw (form_alone range tag d is none) (omega arith)
-    by_tag d is two desired replacing begins (Some form) some = let eighty = language_far d form desired (form_other d.language letters two begins tag other known_other replacing form some) in omega (arith, eighty)
+    by_tag d is desired replacing begins None none = rw (form_alone range tag d is none) (omega arith)
+    by_tag d is desired replacing begins (Some form) some = let eighty = language_far d form desired (form_other d.language letters begins tag short other replacing form some) in omega (arith, eighty)
 
     by_form : (o : Option Fields) → lone_head o ≡ Some letters → matching_form range ≡ o → 50 ≤ distance_of_forms (hyphened range) tag (matching_form (hyphened range)) (matching_form tag)
     by_form None lone is = absurd cc
@@ -202,38 +286,33 @@ far_from_lone letters range tag lone other known_other = by_form (matching_form 
         let form = form_read range ∙ is in
         let yes = lone_language d letters lone in
         let parts = and_parts (length d.language == 2) (not (is_related d.language)) yes.0 in
-        let aparts = or_parts (is_among (map (λ rule. rule.desired.language) language_rules) d.language) (is_among (map (λ row. row.to.language) language_aliases) d.language) (not-true (is_related d.language) parts.1) in
-        rw form (by_tag d form (eqb-true (length d.language) 2 parts.0) aparts.0 aparts.1 yes.1 (matching_form tag) refl)
+        let aparts = or_parts (is_among (map (λ rule. rule.desired.language) language_rules) d.language) (is_among (replacing language_aliases) d.language) (not-true (is_related d.language) parts.1) in
+        rw form (by_tag d form aparts.0 aparts.1 yes.1 (matching_form tag) refl)
 
 -- ---- what look-up keeps
 
-head_length : (text : List ℕ) → is_some (head text) ≡ true → 2 ≤ length text
-head_length [] is = absurd cc
-head_length (a ∷ []) is = absurd cc
-head_length (a ∷ b ∷ text) is = omega arith
+head_length : (text : List ℕ) (letters : ℕ × ℕ) → head text ≡ Some letters → 2 ≤ length text
+head_length [] letters is = absurd cc
+head_length (a ∷ []) letters is = absurd cc
+head_length (a ∷ b ∷ text) letters is = omega arith
+
+pub starts_alike : (range tag : List ℕ) → 2 ≤ length tag → are_alike (take (length tag) range) tag ≡ true → head range ≡ head tag
+starts_alike range tag long is =
+    let alike = (are_alike-decides (take (length tag) range) tag).0 is in
+    let whole : 2 ≤ length (take (length tag) range) = omega (arith, length-alike (take (length tag) range) tag alike, long) in
+    sym (head-take (length tag) range whole) ∙ head-alike (take (length tag) range) tag alike
 
 -- what a range falls back to begins as the range does
-fallback_begins : (range tag : List ℕ) → is_some (head tag) ≡ true → is_fallback range tag ≡ true → head range ≡ head tag
-fallback_begins range tag is fallback =
+fallback_begins : (range tag : List ℕ) → 2 ≤ length tag → is_fallback range tag ≡ true → head range ≡ head tag
+fallback_begins range tag long fallback =
     let parts = and_parts (are_alike (take (length tag) range) tag) (ends_subtag (drop (length tag) range) && ((length tag == length range) || not (ends_in_single tag))) fallback in
-    let alike = (are_alike-decides (take (length tag) range) tag).0 parts.0 in
-    let long : 2 ≤ length (take (length tag) range) = omega (arith, length-alike (take (length tag) range) tag alike, head_length tag is) in
-    sym (head-take (length tag) range long) ∙ head-alike (take (length tag) range) tag alike
+    starts_alike range tag long parts.0
 
 pub nothing_kept :
-    (letters : ℕ × ℕ) (range tag : List ℕ) → lone_head (matching_form range) ≡ Some letters → is_some (head tag) ≡ true → (head tag ≡ Some letters → ⊥) → (head tag ≡ Some (117, 110) → ⊥) →
-    kept (hyphened range) tag ≡ 0
-unfolding kept is_lone fold_byte
-nothing_kept letters range tag lone is other known_other = by_test (is_fallback (hyphened range) tag) refl
+    (letters begin : ℕ × ℕ) (range tag : List ℕ) → head (hyphened range) ≡ Some letters → head tag ≡ Some begin → (head tag ≡ Some letters → ⊥) → kept (hyphened range) tag ≡ 0
+unfolding kept
+nothing_kept letters begin range tag starts is other = by_test (is_fallback (hyphened range) tag) refl
   where
-    by_form : (o : Option Fields) → lone_head o ≡ Some letters → matching_form range ≡ o → head (hyphened range) ≡ head tag → ⊥
-    by_form None lone made same = cc
-    by_form (Some d) lone made same =
-        let yes = lone_language d letters lone in
-        let parts = and_parts (length d.language == 2) (not (is_related d.language)) yes.0 in
-        let aparts = or_parts (is_among (map (λ rule. rule.desired.language) language_rules) d.language) (is_among (map (λ row. row.to.language) language_aliases) d.language) (not-true (is_related d.language) parts.1) in
-        form_other d.language letters (eqb-true (length d.language) 2 parts.0) yes.1 (hyphened range) (λ begin. other (sym same ∙ begin)) (λ begin. known_other (sym same ∙ begin)) aparts.1 d (form_read range ∙ made) refl
-
     by_test : (b : Bool) → is_fallback (hyphened range) tag ≡ b → cond (is_fallback (hyphened range) tag) (length tag) 0 ≡ 0
-    by_test true fallback = absurd (by_form (matching_form range) lone refl (fallback_begins (hyphened range) tag is fallback))
+    by_test true fallback = absurd (other (sym (fallback_begins (hyphened range) tag (head_length tag begin is) fallback) ∙ starts))
     by_test false not = rw not refl

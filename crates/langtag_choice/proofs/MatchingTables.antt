@@ -1,24 +1,20 @@
 -- The tables of language matching have the rows of the lists: by computation.
 use Rattle.std.proofs.Common.{◌≡◌, true, ltb, length, map, refl}
-use Rattle.std.specs.Prelude.{[]}
 use Rattle.std.specs.List.{list_all}
 use Rattle.langtag_scan.specs.Case.{fold_byte}
-use Rattle.langtag_scan.specs.Class.{is_letter, is_digit, is_primary, is_script, is_region}
+use Rattle.langtag_scan.specs.Class.{is_letter, is_digit}
 use Rattle.langtag_scan.specs.Case.{folded_number}
 use Rattle.langtag_tables.specs.Numbers.{letter_number}
 use Rattle.langtag_choice.specs.declared.matching_tables.TheConstants as table
 use Rattle.langtag_choice.specs.Distance.{maghreb, en_us, americas, cnsar}
-use Rattle.langtag_likely.specs.Good.{is_language_field, is_script_field, is_region_field}
 use Rattle.langtag_likely.specs.Aliases.{language_aliases}
 use Rattle.langtag_choice.specs.MatchingData as list
-use Rattle.langtag_likely.specs.Numbers.{key_number, name_text}
+use Rattle.langtag_likely.specs.Numbers.{key_number}
+use Rattle.langtag_choice.specs.Lone.{replacing}
 use Rattle.langtag_choice.specs.Pairs.{language_pair, script_pair}
 use Rattle.langtag_choice.proofs.RelatedLanguages.{is_listed}
-use Rattle.langtag_likely.proofs.RowLaws.{is_language}
-use Rattle.langtag_likely.proofs.RowsFound.{is_short as is_short_row}
 use Rattle.langtag_choice.proofs.RulesFound.{is_short, distance_of}
 use Rattle.langtag_choice.proofs.PairNumbers.{is_language_rule, is_script_rule}
-use Rattle.langtag_likely.proofs.RegionNumbers.{is_region_alone}
 
 -- ---- rules
 
@@ -80,7 +76,7 @@ pub desired_listed : list_all is_listed (map (λ rule. rule.desired.language) li
 unfolding list.language_rules letter_number is_letter fold_byte
 desired_listed = refl
 
-pub replacing_listed : list_all is_listed (map (λ row. row.to.language) language_aliases) ≡ true
+pub replacing_listed : list_all is_listed (replacing language_aliases) ≡ true
 unfolding language_aliases letter_number is_letter fold_byte
 replacing_listed = refl
 

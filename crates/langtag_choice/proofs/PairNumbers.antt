@@ -1,16 +1,11 @@
 -- The numbers of two languages, and of two with their scripts, tell them apart but for case.
-use Rattle.std.proofs.Common.{◌≡◌, ℕ, ◌+◌, ◌*◌, ◌<◌, true, ◌==◌, Bool, ltb, [], length, inl, inr, sym, ap, ◌∙◌, arith}
+use Rattle.std.proofs.Common.{◌≡◌, ℕ, ◌+◌, ◌*◌, ◌<◌, true, ◌==◌, Bool, ltb, inl, inr, sym, ap, ◌∙◌, arith}
 use Rattle.std.specs.Prelude.{◌&&◌}
 use Rattle.std.proofs.lemmas.Bool.{and_parts, ltb-true, eq-eqb, ne_eqb}
 use Rattle.std.proofs.lemmas.Bool.Decides.{eqb_tells}
-use Rattle.std.proofs.lemmas.List.{nil_from_length}
-use Rattle.langtag_scan.specs.Case.{are_alike}
-use Rattle.langtag_scan.specs.Class.{are_letters, are_alphanumeric}
-use Rattle.langtag_scan.specs.Case.{folded_number}
+use Rattle.langtag_scan.specs.Class.{are_letters}
 use Rattle.langtag_tables.specs.Numbers.{letter_number}
-use Rattle.langtag_scan.proofs.FoldedNumbers.{folded_number-tells}
 use Rattle.langtag_likely.specs.Likely.{Fields, Likely, are_alike_fields, language_alone}
-use Rattle.langtag_likely.specs.Matching.{region_alone}
 use Rattle.langtag_likely.specs.Numbers.{key_number}
 use Rattle.langtag_choice.specs.Pairs.{language_pair, script_pair}
 use Rattle.langtag_choice.specs.Rules.{Rule, fits}

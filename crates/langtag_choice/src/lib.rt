@@ -1,5 +1,5 @@
-//! The choice of the tag that suits a reader best: for an Accept-Language header (RFC 9110, section 12.5.4), or for language ranges
-//! (RFC 4647), by the distance of tags (UTS #35, part 1, section 'Language Matching') and, where none is near, by look-up.
+//! The choice of the best tag for an Accept-Language header (RFC 9110 section 12.5.4) or for language ranges (RFC
+//! 4647). It uses the distance of tags (UTS #35, part 1, section 'Language Matching') and, if no tag is near, look-up.
 //!
 //! ```
 //! use langtag::LangTag;
@@ -12,6 +12,7 @@
 #![tactic(auto)]
 
 mod best;
+mod best_match;
 mod by_ranges;
 mod by_tags;
 mod candidate;
@@ -29,7 +30,11 @@ mod tag_distance;
 mod tag_list;
 mod wish;
 
-pub use best::{best_among, best_for_accept_language, best_for_header, best_for_ranges};
+pub use best::{
+    best_among, best_for_accept_language, best_for_header, best_for_ranges, match_among,
+    match_for_header,
+};
+pub use best_match::BestMatch;
 pub use range_list::RangeList;
 pub use tag_distance::{FORMLESS_DISTANCE, distance};
 pub use tag_list::TagList;

@@ -1,17 +1,21 @@
-//! Languages that no other is near, as the first letters of a tag show.
-ghost use Rattle.std.specs.Prelude.{◌≡◌, IsTrue, Some, false, is_some, length};
+//! Languages to which no other language is near, as the first letters of a tag show.
+ghost use Rattle.std.specs.Prelude.{◌≡◌, IsTrue, Some, false, length};
+ghost use Rattle.std.specs.List.{before_first};
 ghost use Rattle.std.specs.Option.{ForSome, option_map};
+ghost use Rattle.langtag_scan.specs.Class.{is_extended, is_letter};
 ghost use Rattle.langtag_tables.specs.Numbers.{climbs_from};
+ghost use Rattle.langtag_match.specs.Wanted.{hyphened, is_mark};
 ghost use Rattle.langtag_choice.specs.Lone as spec;
 ghost use Rattle.langtag_likely.specs.Good.{is_language_field};
 ghost use Rattle.langtag_likely.specs.Texts.{field_texts};
 ghost use Rattle.langtag_choice.specs.declared.matching_tables.TheConstants.{RELATED_KEYS};
 
 use crate::matching_tables as tables;
-use langtag_likely::{TagFields, language_number};
+use crate::read_range::starts;
+use langtag_likely::{TagFields, hyphened, language_number};
 use langtag_scan::into_smallcase;
 
-/// Returns the first two bytes of a text, in small letters.
+/// Returns the first two bytes of a text, in lowercase letters.
 pub(crate) fn head(text: &[u8]) -> Option<(u8, u8)>
     ensures { result ≡ spec.head text.now }
 {
@@ -21,29 +25,55 @@ pub(crate) fn head(text: &[u8]) -> Option<(u8, u8)>
     }
 }
 
-/// Returns whether a text has two first bytes, and they are not these letters.
-pub(crate) fn differs(begins: Option<(u8, u8)>, letters: (u8, u8)) -> bool
-    ensures some { IsTrue result → IsTrue (is_some begins) }
-    ensures other { IsTrue result → begins ≡ Some letters → ⊥ }
+/// Returns whether a text has a language of two letters and no extended language, if it begins with a language.
+pub(crate) fn is_short(text: &[u8]) -> bool
+    ensures { IsTrue result → spec.IsShort text.now }
 {
-    match begins {
-        Some(begins) => begins != letters,
-        None => false,
+    match text {
+        [_, _] => true,
+        [_, _, mark, rest @ ..] => is_mark(*mark) && !may_be_extended(rest),
+        _ => false,
     }
 }
 
-/// Returns the letters of a form's language where it has two and no other language is near it.
-pub(crate) fn lone_letters(form: Option<TagFields<'_>>) -> Option<(u8, u8)>
-    ensures { ForSome result (λ letters. spec.lone_head (option_map field_texts form.entry) ≡ Some letters) }
+/// Returns whether a text may begin with an extended language. A region of three digits is none.
+fn may_be_extended(text: &[u8]) -> bool
+    ensures { result ≡ false → is_extended (before_first is_mark text.now) ≡ false }
+{
+    match text {
+        [first, _, _] => is_letter(*first),
+        [first, _, _, mark, ..] => is_mark(*mark) && is_letter(*first),
+        _ => false,
+    }
+}
+
+#[tactic(auto, unfolding(langtag_scan::specs::Class::is_letter))]
+fn is_letter(byte: u8) -> bool
+    ensures { result ≡ is_letter byte }
+{
+    byte.is_ascii_alphabetic()
+}
+
+fn is_mark(byte: u8) -> bool
+    ensures { result ≡ is_mark byte }
+{
+    hyphened(byte) == b'-'
+}
+
+/// Returns the letters of a form's language if it has two, the range begins with them, and no other language is near
+/// it.
+pub(crate) fn lone_letters(range: &[u8], form: Option<TagFields<'_>>) -> Option<(u8, u8)>
+    ensures lone { ForSome result (λ letters. spec.lone_head (option_map field_texts form.entry) ≡ Some letters) }
+    ensures begins { ForSome result (λ letters. spec.head (hyphened range.now) ≡ Some letters) }
 {
     let Some(form) = form else { return None };
-    if form.language.len() != 2 || is_related(form.language) {
+    if form.language.len() != 2 || is_related(form.language) || !starts(range, form.language) {
         return None;
     }
     head(form.language)
 }
 
-/// Returns whether a rule desires a language of two letters, or it replaces another.
+/// Returns whether a rule desires a language of two letters, or it replaces one of two letters.
 fn is_related(language: &[u8]) -> bool
     requires two { length language.now ≡ 2 }
     requires in_class { IsTrue (is_language_field language.now) }

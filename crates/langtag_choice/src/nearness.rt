@@ -13,6 +13,7 @@ ghost use Rattle.langtag_likely.specs.Matching.{completed, matching_form};
 ghost use Rattle.langtag_choice.specs.Nearness as spec;
 ghost use Rattle.langtag_likely.specs.Texts.{field_texts};
 
+use crate::read_range::starts;
 use crate::rule_distance::language_distance;
 use crate::tag_distance::places_distance;
 use crate::wish::Wish;
@@ -25,8 +26,8 @@ pub(crate) struct Nearness<'t> {
     pub(crate) form: Option<TagFields<'t>>,
 }
 
-/// Returns how near a tag is to a range that it may serve, if it is nearer than a limit: at the distance 50 where look-up alone finds
-/// it.
+/// Returns how near a tag is to a range that it may serve, if its distance is below a limit. The distance is 50 if only
+/// look-up finds it.
 #[tactic(auto, unfolding(crate::specs::Best::reach))]
 pub(crate) fn measured<'t>(limit: u8, wish: &Wish<'_>, tag: &'t [u8]) -> Option<Nearness<'t>>
     ensures { MatchOption result (IsTrue (may_serve (hyphened wish.now.range.now) tag.now) → limit ≤ reach (hyphened wish.now.range.now) tag.now)
@@ -106,7 +107,7 @@ fn equal_text<'t>(limit: u8, range: &[u8], tag: &'t [u8]) -> Option<Nearness<'t>
     })
 }
 
-/// Returns how much of a range look-up keeps where it finds a tag.
+/// Returns how much of a range look-up keeps, if it finds a tag.
 #[tactic(auto, unfolding(crate::specs::Nearness::kept))]
 pub(crate) fn kept(range: &[u8], tag: &[u8]) -> usize
     ensures { result ≡ spec.kept (hyphened range.now) tag.now }
@@ -125,15 +126,6 @@ fn is_fallback(range: &[u8], tag: &[u8]) -> bool
 {
     starts(range, tag)
         && (goes_on(&range[tag.len()..]) && (tag.len() == range.len() || !ends_in_single(tag)))
-}
-
-/// Returns whether a range begins like a tag.
-#[tactic(auto, using(crate::proofs::ReadRanges::take_read, crate::proofs::ReadRanges::too_short))]
-fn starts(range: &[u8], tag: &[u8]) -> bool
-    ensures test { result ≡ are_alike (take (length tag.now) (hyphened range.now)) tag.now }
-    ensures within { IsTrue result → length tag.now ≤ length range.now }
-{
-    tag.len() <= range.len() && are_alike(&range[..tag.len()], tag)
 }
 
 /// Returns whether nothing follows, or a hyphen.

@@ -7,8 +7,9 @@ ghost use Rattle.langtag_choice.specs.ListTexts.{ordered_elements};
 
 use langtag_match::{LanguageRange, WantedRange, WeightedRange, split_wanted};
 
-/// Language ranges with their weights, in the order in which a reader names them: those of an Accept-Language header in a slice
-/// of bytes, and those in a slice of [`WeightedRange`] or of [`LanguageRange`]. A value is a walk over them, and takes no memory.
+/// Language ranges with their weights, in the reader's order. It is implemented for an Accept-Language header in a
+/// slice of bytes, and for slices of [`WeightedRange`] and of [`LanguageRange`]. A value walks over the ranges, and
+/// does not allocate.
 ///
 /// ```
 /// use langtag::LangTag;
@@ -21,13 +22,13 @@ use langtag_match::{LanguageRange, WantedRange, WeightedRange, split_wanted};
 pub trait RangeList<'a>: Copy {
     ghost elements: { Self → List Element };
 
-    /// Returns the first range and those that follow it, None where there is none left.
+    /// Returns the first range and the ranges after it, or `None` if none is left.
     fn split_range(self) -> Option<(WantedRange<'a>, Self)>
         ensures first { elements self ≡ option_map_or (λ found. wanted_element found.0 ∷ elements found.1) result [] }
         ensures few { length (elements self) < 2 ^ 64 };
 }
 
-/// An Accept-Language header, which is read as `langtag_match::wanted_ranges` reads it.
+/// An Accept-Language header, read as `langtag_match::wanted_ranges` reads it.
 impl<'a> RangeList<'a> for &'a [u8] {
     ghost elements = { λ header. wanted_elements header.now };
 
@@ -51,7 +52,7 @@ impl<'a> RangeList<'a> for &'a [WeightedRange<'a>] {
     }
 }
 
-/// Ranges of which the first is wanted most.
+/// Ranges, the most wanted first.
 #[tactic(auto, using(langtag_match::proofs::PlainRanges::hyphened_range))]
 impl<'a> RangeList<'a> for &'a [LanguageRange<'a>] {
     ghost elements = { λ ranges. ordered_elements ranges.now };

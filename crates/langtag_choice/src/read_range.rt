@@ -1,5 +1,5 @@
 //! Texts of ranges in which `_` is read as `-`.
-ghost use Rattle.std.specs.Prelude.{◌≡◌, ◌&&◌, length, take, drop};
+ghost use Rattle.std.specs.Prelude.{◌≡◌, ◌≤◌, ◌&&◌, IsTrue, length, take, drop};
 ghost use Rattle.langtag_scan.specs.Case.{are_alike};
 ghost use Rattle.langtag_match.specs.Basic.{ends_subtag};
 ghost use Rattle.langtag_match.specs.Range.{is_star};
@@ -12,6 +12,15 @@ pub(crate) fn is_star(range: &[u8]) -> bool
     ensures { result ≡ is_star (hyphened range.now) }
 {
     matches!(range, [b'*'])
+}
+
+/// Returns whether a range begins like a tag.
+#[tactic(auto, using(crate::proofs::ReadRanges::take_read, crate::proofs::ReadRanges::too_short))]
+pub(crate) fn starts(range: &[u8], tag: &[u8]) -> bool
+    ensures test { result ≡ are_alike (take (length tag.now) (hyphened range.now)) tag.now }
+    ensures within { IsTrue result → length tag.now ≤ length range.now }
+{
+    tag.len() <= range.len() && are_alike(&range[..tag.len()], tag)
 }
 
 /// Returns whether a tag is a range, or begins so and goes on with a hyphen.

@@ -1,6 +1,7 @@
 //! How far a tag is from another that a reader desires (UTS #35, part 1, section 'Language Matching').
 ghost use Rattle.std.specs.Prelude.{◌≡◌, ◌+◌, ◌≤◌, ◌⊎◌, ◌==◌, ◌&&◌, false};
 ghost use Rattle.langtag.specs.Text.{lang_tag_text};
+ghost use Rattle.langtag_match.specs.Wanted.{hyphened};
 ghost use Rattle.langtag_scan.specs.Case.{are_alike};
 ghost use Rattle.langtag_choice.specs.Distance as spec;
 ghost use Rattle.langtag_likely.specs.Likely.{are_alike_fields};
@@ -9,23 +10,31 @@ ghost use Rattle.langtag_likely.specs.Texts.{field_texts};
 use crate::region_distance::region_distance;
 use crate::rule_distance::{language_distance, script_distance};
 use langtag::LangTag;
-use langtag_likely::{TagFields, matching_form};
+use langtag_likely::{TagFields, are_alike, matching_form};
 use langtag_scan::case_insensitive_eq;
 
-/// The distance of two different tags where one has no matching form: it is `und` and no more, of private use, or begins with `i-`.
+/// The distance of two different tags of which one has no known language: it is only `und`, or is for private use, or
+/// begins with `i-`.
 pub const FORMLESS_DISTANCE: u8 = 255;
 
-/// Returns the distance from a tag that a reader desires to one that there is (UTS #35, Language Matching): 0 from `zh-TW` to
+/// Returns the distance from a desired tag to a supported tag (UTS #35, Language Matching): 0 from `zh-TW` to
 /// `zh-Hant`, 4 from `de-AT` to `de`, 10 from `yue` to `zh-HK`, 84 from `de` to `en`.
 ///
-/// It is the sum of that of the languages (80 where no rule says less), that of the scripts (50) and that of the regions (at most
-/// 5), once what is deprecated is replaced and likely subtags are added. So up to 15 the languages are nearly the same, and below
-/// 50 most readers understand the one who read the other. The case, variants, extensions and private use are of no account, nor is
-/// what else follows the region, as in `en-GB-oed`.
-/// Where a tag has no such form, it is [`FORMLESS_DISTANCE`], or 0 if the tags are equal but for case.
+/// First, deprecated subtags are replaced and likely subtags are added. The distance is then the sum of the distances
+/// of the languages (80 unless a rule says less), the scripts (50) and the regions (at most 5). Up to 15 the languages
+/// are nearly the same, and below 50 most readers understand the other language. Case, variants, extensions and private
+/// use do not count, nor does anything else after the region, as in `en-GB-oed`. If a tag has no known language, it is
+/// [`FORMLESS_DISTANCE`], or 0 if the tags are equal, ignoring case.
 ///
-/// The languages `arb cmn in iw ji jw mo sh tl` are replaced, and deprecated regions; `langtag_registry::canonical` replaces all
-/// that is deprecated.
+/// A language that CLDR replaces is read as what replaces it, such as `ger`, `deu` and `iw`, and so is a deprecated region.
+///
+/// ```
+/// use langtag::LangTag;
+/// use langtag_choice::distance;
+///
+/// distance(LangTag::new("de-AT")?, LangTag::new("de")?); // 4
+/// distance(LangTag::new("de")?, LangTag::new("en")?); // 84
+/// ```
 pub fn distance(desired: LangTag<'_>, supported: LangTag<'_>) -> u8
     ensures distance { result ≡ spec.distance_of_texts (lang_tag_text desired.entry) (lang_tag_text supported.entry) }
     ensures equal { spec.ZeroIfEqual (lang_tag_text desired.entry) (lang_tag_text supported.entry) result }
@@ -48,6 +57,28 @@ fn texts_distance(desired: &[u8], supported: &[u8]) -> u8
     }
 }
 
+/// Returns the distance from a range, in which `_` is read as `-`, to a tag.
+#[tactic(auto, unfolding(crate::specs::Distance::distance_of_texts), using(crate::proofs::ReadRanges::form_read))]
+pub(crate) fn range_distance(range: &[u8], tag: &[u8]) -> u8
+    ensures { result ≡ spec.distance_of_texts (hyphened range.now) tag.now }
+{
+    match (matching_form(range), matching_form(tag)) {
+        (Some(wanted), Some(found)) => fields_distance(wanted, found),
+        _ => formless_range_distance(range, tag),
+    }
+}
+
+/// Returns the distance from a range to a tag of which one has no matching form.
+fn formless_range_distance(range: &[u8], tag: &[u8]) -> u8
+    ensures { result ≡ spec.formless_distance (hyphened range.now) tag.now }
+{
+    if are_alike(range, tag) {
+        0
+    } else {
+        FORMLESS_DISTANCE
+    }
+}
+
 /// Returns the distance of two texts of which one has no matching form.
 fn formless_distance(desired: &[u8], supported: &[u8]) -> u8
     ensures distance { result ≡ spec.formless_distance desired.now supported.now }
@@ -60,7 +91,7 @@ fn formless_distance(desired: &[u8], supported: &[u8]) -> u8
     }
 }
 
-/// Returns the distance of two matching forms: 0 exactly if they are equal but for case.
+/// Returns the distance of two matching forms: 0 exactly if they are equal, ignoring case.
 fn fields_distance(desired: TagFields<'_>, supported: TagFields<'_>) -> u8
     ensures distance { result ≡ spec.fields_distance (field_texts desired.entry) (field_texts supported.entry) }
     ensures most { result ≤ 134 }

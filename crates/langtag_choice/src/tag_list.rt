@@ -6,7 +6,7 @@ ghost use Rattle.langtag_choice.specs.ListTexts.{tag_texts};
 
 use langtag::LangTag;
 
-/// A list of tags, each at an index. What stands at an index need not be a tag, and is then never chosen.
+/// A list of tags, each at an index. An entry need not be a tag; if it is not, it is never chosen.
 ///
 /// ```
 /// use langtag::LangTag;
@@ -33,16 +33,16 @@ use langtag::LangTag;
 pub trait TagList {
     ghost texts: { Self → List (Option (List ℕ)) };
 
-    /// Returns how many there are.
+    /// Returns the number of entries.
     fn count(&self) -> usize
         ensures { result ≡ length (texts self.now) };
 
-    /// Returns the tag at an index, None where what stands there is none.
+    /// Returns the tag at an index, or `None` if the entry is not a tag.
     fn tag_at(&self, index: usize) -> Option<LangTag<'_>>
         requires { index < length (texts self.now) }
         ensures { option_map lang_tag_text result ≡ slice_index_or (texts self.now) index None };
 
-    /// Returns the text of the tag at an index. Where what stands there is no tag, it may be any text.
+    /// Returns the text of the tag at an index. If the entry is not a tag, any text may be returned.
     fn bytes_at(&self, index: usize) -> &[u8]
         requires { index < length (texts self.now) }
         ensures { ForSome (slice_index_or (texts self.now) index None) (λ text. result.now ≡ text) };

@@ -1,19 +1,20 @@
 //! A range of a header that tags may serve.
 ghost use Rattle.std.specs.Prelude.{◌≡◌, ◌≤◌, ◌==◌, ℕ, IsTrue, List, MatchOption, Some, false};
 ghost use Rattle.std.specs.Option.{ForSome, option_map};
-ghost use Rattle.langtag_choice.specs.Lone.{lone_head};
+ghost use Rattle.langtag_choice.specs.Lone.{head, lone_head};
 ghost use Rattle.langtag_likely.specs.Matching.{matching_form};
 ghost use Rattle.langtag_likely.specs.Texts.{field_texts};
 ghost use Rattle.langtag_match.specs.Range.{is_star};
 ghost use Rattle.langtag_match.specs.Wanted.{hyphened};
 
-use crate::lone::{differs, head, lone_letters};
+use crate::lone::{head, is_short, lone_letters};
 use crate::read_range::is_star;
 use langtag_likely::{TagFields, matching_form};
 use langtag_match::WantedRange;
 
-/// A range other than `*`, its weight, which is not 0, how many ranges stand before it, and its matching form, which is made once for
-/// all tags, with the letters of its language where no other is near that.
+/// A range other than `*`, its weight, which is not 0, and the number of ranges before it. Its matching form is made
+/// once for all tags. The letters of its language are kept if the range begins with them and no other language is near
+/// that.
 #[derive(Clone, Copy)]
 pub(crate) struct Wish<'a> {
     pub(crate) range: &'a [u8],
@@ -25,6 +26,7 @@ pub(crate) struct Wish<'a> {
     ghost no_star: { is_star (hyphened range.now) ≡ false },
     ghost known: { option_map field_texts form ≡ matching_form range.now },
     ghost far: { ForSome lone (λ letters. lone_head (matching_form range.now) ≡ Some letters) },
+    ghost begins: { ForSome lone (λ letters. head (hyphened range.now) ≡ Some letters) },
 }
 
 impl<'a> Wish<'a> {
@@ -34,7 +36,7 @@ impl<'a> Wish<'a> {
     ghost use Rattle.langtag_choice.specs.Found.{wish_element};
     ghost use Rattle.langtag_choice.specs.Nearness.{kept};
 
-    /// Reads the range at a place: None of `*`, and of one with the weight 0.
+    /// Reads the range at a place, or returns `None` if it is `*` or has the weight 0.
     #[tactic(auto, unfolding(crate::specs::Best::serves))]
     pub(crate) fn new(wanted: WantedRange<'a>, place: usize) -> Option<Wish<'a>>
         ensures { MatchOption result ((tag : List ℕ) → serves (wanted_element wanted.entry) tag ≡ false)
@@ -49,12 +51,12 @@ impl<'a> Wish<'a> {
             weight: wanted.weight,
             place,
             form,
-            lone: lone_letters(form),
+            lone: lone_letters(wanted.bytes, form),
         })
     }
 
-    /// Returns whether a tag cannot serve the range, where its first letters show it: the range has a language that no other is
-    /// near, and the tag begins with other letters, which are not those of `und`.
+    /// Returns whether the first letters of a tag show that it cannot serve the range: no other language is near that
+    /// of the range, and the tag has another language of two letters.
     pub(crate) fn is_far_from(&self, tag: &[u8]) -> bool
         ensures far { IsTrue result → 50 ≤ distance_of_texts (hyphened self.now.range.now) tag.now }
         ensures kept { IsTrue result → kept (hyphened self.now.range.now) tag.now ≡ 0 }
@@ -62,7 +64,9 @@ impl<'a> Wish<'a> {
         let Some(letters) = self.lone else {
             return false;
         };
-        let begins = head(tag);
-        differs(begins, letters) && differs(begins, (b'u', b'n'))
+        let Some(begins) = head(tag) else {
+            return false;
+        };
+        begins != letters && is_short(tag)
     }
 }

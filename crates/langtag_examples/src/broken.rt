@@ -1,4 +1,4 @@
-//! Where a text that is not a tag breaks, as an error of the caller's own.
+//! Where a text stops being a tag, as an error of the caller's own.
 ghost use Rattle.std.specs.Prelude.{◌≡◌, ◌↔◌, IsTrue, IfOk, IfErr, is_ok};
 ghost use Rattle.langtag.specs.Tag.{IsTag};
 ghost use Rattle.langtag.specs.Text.{lang_tag_text};
@@ -8,7 +8,7 @@ use langtag::{InvalidLangTag, LangTag, viable_len};
 use std::fmt::Debug;
 use thiserror::Error;
 
-/// A text that is not a tag, and the number of its first bytes that still begin one.
+/// A text that is not a tag, and the length of its longest prefix that begins one.
 #[derive(Debug, Drop, Error)]
 #[error("no language tag can begin with more than the first {begun} bytes of '{text}'")]
 pub struct BrokenTag<'a> {
@@ -16,8 +16,8 @@ pub struct BrokenTag<'a> {
     pub begun: usize,
 }
 
-/// Returns the tag of a text, or where the text breaks: after two bytes of `zh_Hant`, and after all three of `en-`,
-/// which begins a tag and is not one.
+/// Returns the tag of a text, or the length of its longest prefix that begins a tag: 2 for `zh_Hant`, and 3 for `en-`,
+/// which begins a tag but is not one.
 pub fn tag_or_break<'a>(text: &'a str) -> Result<LangTag<'a>, BrokenTag<'a>>
     ensures accepts { IsTrue (is_ok result) ↔ IsTag text.now }
     ensures same_text { IfOk result (λ tag. lang_tag_text tag ≡ text.now) }

@@ -11,9 +11,9 @@ use langtag::LangTagBuf;
 use std::alloc::{AllocError, Global};
 use std::collections::HashMap;
 
-/// A text for each of some language tags, found in whatever case the tag is written.
+/// Texts by language tag. They are found in whatever case the tag is written.
 ///
-/// After `Salut` was put in for `fr`, `find(alloc, "FR")` is `Ok(Some("Salut"))`.
+/// After `Salut` was inserted for `fr`, `find(alloc, "FR")` is `Ok(Some("Salut"))`.
 #[derive(Drop)]
 pub struct Catalogue {
     texts: HashMap<LangTagBuf, String>,
@@ -31,11 +31,11 @@ impl Catalogue {
         }
     }
 
-    /// Puts a text in for a tag, in the place of an older one: `Hoi` for `DE-ch` takes the place of `Grüezi` for `de-CH`.
+    /// Inserts a text for a tag, and replaces an older one: `Hoi` for `DE-ch` replaces `Grüezi` for `de-CH`.
     ///
     /// # Errors
     ///
-    /// Out of memory. The catalogue is as it was.
+    /// Returns an error if allocation fails. The catalogue is then unchanged.
     pub fn put(&mut self, tag: LangTagBuf, text: String) -> Result<(), AllocError>
         ensures put { OnOk result ((other : List ℕ) → IsTrue (are_alike (lang_tag_buf_text tag) other) →
             text_for self.new other ≡ Some (string_bytes text)) }
@@ -47,14 +47,14 @@ impl Catalogue {
         Ok(())
     }
 
-    /// Moves the text for a tag to another tag, in the place of that one's, and returns whether there was one: after
-    /// `rename(&iw, he)` the text for `iw` is that for `he`.
+    /// Moves the text of a tag to another tag, whose text it replaces, and returns whether there was one: after
+    /// `rename(&iw, he)` the text of `iw` is that of `he`.
     ///
-    /// The room comes first: a text that was taken out before it would be lost where there is none.
+    /// It allocates first, because a text that was removed before would be lost if allocation fails.
     ///
     /// # Errors
     ///
-    /// Out of memory. The catalogue is as it was.
+    /// Returns an error if allocation fails. The catalogue is then unchanged.
     pub fn rename(&mut self, tag: &LangTagBuf, new: LangTagBuf) -> Result<bool, AllocError>
         ensures found { IfOk result (λ found. found ≡ is_some (text_for self.old (lang_tag_buf_text tag.now))) }
         ensures moved { OnOk result ((other : LangTagBuf) → IsTrue (are_alike (lang_tag_buf_text new) (lang_tag_buf_text other)) →
@@ -76,7 +76,7 @@ impl Catalogue {
         Ok(true)
     }
 
-    /// Returns the text for a tag: that of `fr` is found by the tag `FR`, and not by `fr-CH`.
+    /// Returns the text of a tag: the tag `FR` finds that of `fr`, but `fr-CH` does not.
     pub fn get(&self, tag: &LangTagBuf) -> Option<&str>
         ensures { option_map (λ text. text.now) result ≡ text_for self.now (lang_tag_buf_text tag.now) }
     {
@@ -84,12 +84,12 @@ impl Catalogue {
         Some(text.as_str())
     }
 
-    /// Returns the text for the tag that is written like this, in any case; None too where this is not a tag, as
-    /// `find(alloc, "de_CH")`.
+    /// Returns the text of a tag that is given as a text, ignoring case. Returns `None` also if that is not a tag, such
+    /// as `de_CH`.
     ///
     /// # Errors
     ///
-    /// Out of memory for the owned tag that the map is asked for.
+    /// Returns an error if allocation fails for the owned tag with which the map is asked.
     pub fn find(&self, alloc: Global, tag: &str) -> Result<Option<&str>, AllocError>
         ensures found { IfOk result (λ text. IsTag tag.now → option_map (λ text. text.now) text ≡ text_for self.now tag.now) }
         ensures none { IfOk result (λ text. (IsTag tag.now → ⊥) → text ≡ None) }

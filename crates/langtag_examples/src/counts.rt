@@ -8,7 +8,7 @@ use langtag::LangTagBuf;
 use std::alloc::{AllocError, Global};
 use std::collections::BTreeMap;
 
-/// How often each of some language tags was seen, in whatever case it was written.
+/// Counts by language tag, in whatever case the tag is written.
 #[derive(Drop)]
 pub struct Counts {
     counts: BTreeMap<LangTagBuf, u32>,
@@ -30,7 +30,7 @@ impl Counts {
     ///
     /// # Errors
     ///
-    /// Out of memory. The counts are as they were.
+    /// Returns an error if allocation fails. The counts are then unchanged.
     pub fn put(&mut self, tag: LangTagBuf, count: u32) -> Result<(), AllocError>
         ensures put { OnOk result ((other : List ℕ) → IsTrue (are_alike (lang_tag_buf_text tag) other) →
             count_for self.new other ≡ Some count) }
@@ -42,7 +42,7 @@ impl Counts {
         Ok(())
     }
 
-    /// Returns the count of a tag, in any case; None of a tag that was not seen.
+    /// Returns the count of a tag, ignoring case, or `None` if the tag was not seen.
     pub fn get(&self, tag: &LangTagBuf) -> Option<u32>
         ensures { result ≡ count_for self.now (lang_tag_buf_text tag.now) }
     {

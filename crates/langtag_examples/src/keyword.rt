@@ -10,7 +10,7 @@ ghost use Rattle.langtag_examples.specs.Keyword as spec;
 
 use langtag::{ExtensionIter, ExtensionSubtag, LangTag, Singleton};
 
-/// The types of a keyword that are still to come, `islamic` and `civil` of `u-ca-islamic-civil`.
+/// The types of a keyword that are still to come, `islamic` and `civil` for `u-ca-islamic-civil`.
 #[derive(Drop)]
 pub struct Types<'a> {
     subtags: ExtensionIter<'a>,
@@ -35,7 +35,7 @@ impl<'a> Iterator for Types<'a> {
     }
 }
 
-/// Returns the types that a tag asks for by a key, as `ca` for the calendar or `co` for the collation; None where it
+/// Returns the types that a tag asks for by a key, as `ca` for the calendar or `co` for the collation; `None` if it
 /// doesn't ask.
 ///
 /// Those of `ca` in `ar-u-ca-islamic-civil-nu-latn` are `islamic` and `civil`.

@@ -1,4 +1,5 @@
-//! What callers of `langtag` and `langtag_match` do with them, proved: a file a use. docs/CALLING.md leads through them.
+//! Proved examples of what programs do with `langtag` and `langtag_match`: one file for each use. docs/CALLING.md lists
+//! them.
 #![tactic(auto)]
 
 mod broken;

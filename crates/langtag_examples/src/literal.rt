@@ -7,19 +7,19 @@ use langtag::LangTag;
 
 /// A text in a language (RDF 1.1 Concepts section 3.3).
 ///
-/// Two literals are the same where their texts are, byte for byte, and their tags but for case. So a set of literals
-/// keeps one of them.
+/// Two literals are the same if their texts are equal, byte for byte, and their tags are equal, ignoring case. So a set
+/// of literals keeps one of them.
 #[derive(Clone, Copy, Debug, PartialEq, Eq, PartialOrd, Ord, Hash)]
 pub struct Literal<'a> {
-    /// The text, as `color`.
+    /// The text, such as `color`.
     pub text: &'a str,
-    /// The tag of its language, as `en-US`.
+    /// The tag of its language, such as `en-US`.
     pub language: LangTag<'a>,
 }
 
 impl<'a> Literal<'a> {
-    /// Returns whether two literals are the same: `color` in `en-US` is `color` in `EN-us`, and neither `Color` nor
-    /// `color` in `en-GB`. The contract also says that there always is a clone, which is the literal itself.
+    /// Returns whether two literals are the same: `color` in `en-US` is `color` in `EN-us`, but neither `Color` nor
+    /// `color` in `en-GB`. It is proved that a clone succeeds and is the same literal.
     pub fn is_same(&self, other: &Literal<'_>) -> bool
         ensures same { IsTrue result ↔ (self.now.text.now ≡ other.now.text.now) × IsTrue (are_alike (lang_tag_text self.now.language) (lang_tag_text other.now.language)) }
 

@@ -11,13 +11,13 @@ use crate::catalogue::Catalogue;
 use langtag::{NormalLangTagBuf, Script, ScriptBuf};
 use std::alloc::{AllocError, Global};
 
-/// Puts another script into a tag, or takes the script out, and returns the old one.
+/// Sets or removes the script of a tag, and returns the old one.
 ///
-/// With `Latn`, `sr-Cyrl-RS` is `sr-Latn-RS` afterwards, and the answer is `Ok(Some(Cyrl))`.
+/// With `Latn`, `sr-Cyrl-RS` becomes `sr-Latn-RS`, and the result is `Ok(Some(Cyrl))`.
 ///
 /// # Errors
 ///
-/// Out of memory. The tag is as it was.
+/// Returns an error if allocation fails. The tag is then unchanged.
 pub fn replace_script(
     tag: &mut NormalLangTagBuf,
     alloc: Global,
@@ -36,15 +36,15 @@ pub fn replace_script(
     Ok(old)
 }
 
-/// Returns the text that a catalogue has for a tag, or else the one that it has for the tag in another script. The tag
-/// has its own script again afterwards.
+/// Returns the text that a catalogue has for a tag, or otherwise for the tag in another script. The tag gets its own
+/// script back.
 ///
-/// For `sr-Cyrl-RS` and the script `Latn` it is the text for `sr-Cyrl-RS`, or else the one for `sr-Latn-RS`.
+/// For `sr-Cyrl-RS` and the script `Latn` it is the text of `sr-Cyrl-RS`, or otherwise that of `sr-Latn-RS`.
 ///
 /// # Errors
 ///
-/// Out of memory. The tag is as it was, or in the other script where none could be had to set it back, which a tag
-/// without a script needs none for.
+/// Returns an error if allocation fails. The tag is then unchanged, or still in the other script if the allocation to
+/// set it back failed. To set back a tag without a script does not allocate.
 pub fn find_in_scripts<'a>(
     catalogue: &'a Catalogue,
     tag: &mut NormalLangTagBuf,

@@ -1,12 +1,12 @@
-//! Of the tags at hand, the one that is the longest prefix of a wanted tag.
+//! The longest of some tags that a wanted tag begins with.
 ghost use Rattle.std.specs.Prelude.{◌↔◌, ℕ, IsTrue, IfSome, All};
 ghost use Rattle.langtag.specs.Text.{lang_tag_text};
 ghost use Rattle.langtag_examples.specs.Prefix.{IsPrefix, IsPrefixAmong, IsNoBetter, IsAsLong, IsFrom};
 
 use langtag::{LangTag, case_insensitive_eq};
 
-/// Returns the longest tag that the wanted one begins with, by whole subtags and in any case: of `de`, `zh` and
-/// `zh-Hant` it is `zh-Hant` for `ZH-hant-TW`, and none for `den`. It takes no memory.
+/// Returns the longest tag that the wanted one begins with, by whole subtags and ignoring case: from `de`, `zh` and
+/// `zh-Hant` it chooses `zh-Hant` for `ZH-hant-TW`, and none for `den`. It does not allocate.
 pub fn longest_prefix<'a>(tags: &[LangTag<'a>], wanted: &LangTag<'_>) -> Option<LangTag<'a>>
     ensures found { IfSome result (IsPrefixAmong tags.now (lang_tag_text wanted.now)) }
     ensures longest { All (IsNoBetter (lang_tag_text wanted.now) result) tags.now }

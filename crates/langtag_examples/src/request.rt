@@ -6,12 +6,12 @@ use langtag::LangTag;
 use langtag_match::{AcceptLanguageError, tag_for_header};
 use std::alloc::{AllocError, Global};
 
-/// Returns the tag to answer a request in: of `en` and `de-CH` it is `de-CH` for the header `fr, de-ch-1996;q=0.9`, and
-/// the default for a request without a header, or with one that cannot be read.
+/// Returns the tag in which to answer a request: from `en` and `de-CH` it chooses `de-CH` for the header
+/// `fr, de-ch-1996;q=0.9`. It returns the default if the request has no header, or a malformed one.
 ///
 /// # Errors
 ///
-/// Out of memory. The server has the header still, and can do with the default.
+/// Returns an error if allocation fails. The server can then use the default.
 pub fn tag_for_request<'t>(
     alloc: Global,
     header: Option<&str>,

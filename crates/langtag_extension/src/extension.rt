@@ -14,7 +14,7 @@ use std::fmt;
 use std::fmt::Debug;
 use thiserror::Error;
 
-/// The error for a text that is not an extension. It hands the text back.
+/// The error for a text that is not an extension. It contains the text.
 ///
 /// ```
 /// use langtag_extension::Extension;
@@ -27,10 +27,10 @@ use thiserror::Error;
 #[error_bound(T: Debug + Drop)]
 pub struct InvalidExtension<T>(pub T);
 
-/// An extension (RFC 5646 section 2.2.6): a singleton and one or more subtags of two to eight letters and digits, as
-/// `u-co-phonebk`.
+/// An extension (RFC 5646 section 2.2.6): a singleton and one or more subtags of two to eight letters and digits, such
+/// as `u-co-phonebk`.
 ///
-/// Two extensions are equal where their texts differ at most in the case of ASCII letters: `u-co` and `U-CO` are.
+/// Two extensions are equal if their texts differ only in the case of ASCII letters, such as `u-co` and `U-CO`.
 ///
 /// ```
 /// use langtag_extension::Extension;
@@ -50,13 +50,12 @@ impl<'a> Extension<'a> {
     ghost use Rattle.langtag_extension.specs.Compared.{ExtensionsCompareByCase};
     ghost use Rattle.langtag_extension.specs.Text.{singleton_byte, extension_text, extension_buf_text, extension_subtags_left};
 
-    /// Parses a text as an extension: `Extension::new("u-co-phonebk")` is Ok.
+    /// Parses a text as an extension: `Extension::new("u-co-phonebk")` is `Ok`.
     ///
     /// # Errors
     ///
-    /// A text that is not one extension comes back: one without a subtag, as `a`, or with two singletons, as
-    /// `a-bb-b-cc`, or with the mark of private use in the singleton's place, as `x-bb`. `Extension::new("a")` is
-    /// `Err(InvalidExtension("a"))`.
+    /// Returns the text if it is not one extension: `Extension::new("a")`, which has no subtag, is
+    /// `Err(InvalidExtension("a"))`. `a-bb-b-cc` has two singletons, and `x-bb` is a private use part.
     pub fn new(text: &'a str) -> Result<Extension<'a>, InvalidExtension<&'a str>>
         ensures accepts { IsTrue (is_ok result) ↔ IsExtension text.now }
         ensures same_text { IfOk result (λ extension. extension_text extension ≡ text.now) }
@@ -68,7 +67,7 @@ impl<'a> Extension<'a> {
         Ok(Extension::from_checked(text))
     }
 
-    /// Returns the extension of a text that is known to be one, without a test.
+    /// Returns the extension of a text that is known to be one, without checking it.
     /// `Extension::from_checked(extension.as_str())` is equal to `extension`.
     pub fn from_checked(text: &'a str) -> Extension<'a>
         requires { IsExtension text.now }
@@ -79,7 +78,7 @@ impl<'a> Extension<'a> {
         }
     }
 
-    /// Returns the text, with its case: `Extension::new("U-CO")?.as_str()` is `"U-CO"`.
+    /// Returns the text, in its original case: `Extension::new("U-CO")?.as_str()` is `"U-CO"`.
     pub fn as_str(&self) -> &'a str
         ensures same_text { result.now ≡ extension_text self.now }
         ensures in_class { IsExtension result.now }
@@ -87,16 +86,16 @@ impl<'a> Extension<'a> {
         self.text.0
     }
 
-    /// Returns the bytes of the text: `Extension::new("U-CO")?.as_bytes()` is `b"U-CO"`.
+    /// Returns the text as bytes: `Extension::new("U-CO")?.as_bytes()` is `b"U-CO"`.
     pub fn as_bytes(&self) -> &'a [u8]
         ensures { result.now ≡ extension_text self.now }
     {
         self.as_str().as_bytes()
     }
 
-    /// Returns whether another text, of any form, is equal but for the case of ASCII letters:
-    /// `Extension::new("u-co")?.eq_str("U-CO")` is true. It is proved that extensions are compared, ordered and hashed
-    /// so, and that a clone is the value itself.
+    /// Returns whether another text is equal, ignoring the case of ASCII letters:
+    /// `Extension::new("u-co")?.eq_str("U-CO")` is `true`. It is proved that comparisons and hashes also ignore case,
+    /// and that a clone is the same value.
     pub fn eq_str(&self, other: &str) -> bool
         ensures test { result ≡ are_alike (extension_text self.now) other.now }
 
@@ -107,11 +106,11 @@ impl<'a> Extension<'a> {
         self.text == Caseless(other)
     }
 
-    /// Returns the owned form of the same text: `Extension::new("U-CO")?.try_to_owned(alloc)?.as_str()` is `"U-CO"`.
+    /// Copies the text into an owned value: `Extension::new("U-CO")?.try_to_owned(alloc)?.as_str()` is `"U-CO"`.
     ///
     /// # Errors
     ///
-    /// Out of memory.
+    /// Returns an error if allocation fails.
     pub fn try_to_owned(&self, alloc: Global) -> Result<ExtensionBuf, AllocError>
         ensures { IfOk result (λ owned. extension_buf_text owned ≡ extension_text self.now) }
     {
@@ -121,7 +120,7 @@ impl<'a> Extension<'a> {
         })
     }
 
-    /// Returns the singleton that opens the extension, with its case: `U` of `U-co-phonebk`.
+    /// Returns the singleton of the extension, in its original case: `U` for `U-co-phonebk`.
     pub fn singleton(&self) -> Singleton
         ensures first_byte { singleton_byte result ≡ slice_index (extension_text self.now) 0 }
         ensures member { (e : model.Extension) → SpellsExtension e (extension_text self.now) → singleton_byte result ≡ e.singleton }
@@ -136,7 +135,7 @@ impl<'a> Extension<'a> {
         into_smallcase(self.singleton().unwrap()) == into_smallcase(singleton.unwrap())
     }
 
-    /// Returns the subtags after the singleton, in order: `co` and `phonebk` of `u-co-phonebk`.
+    /// Returns an iterator over the subtags after the singleton: `co` and `phonebk` for `u-co-phonebk`.
     #[tactic(auto, using(crate::proofs::Rules::subtags_spelled))]
     pub fn iter(&self) -> ExtensionIter<'a>
         ensures list { (e : model.Extension) → SpellsExtension e (extension_text self.now) → extension_subtags_left result ≡ e.subtags }
@@ -178,11 +177,11 @@ impl ExtensionBuf {
     ghost use Rattle.langtag_extension.specs.Compared.{ExtensionBufsCompareByCase};
     ghost use Rattle.langtag_extension.specs.Text.{extension_text, extension_buf_string, extension_buf_text};
 
-    /// Parses a `String` as an extension, and keeps it, without a copy: `u-co` is Ok.
+    /// Parses a `String` as an extension and keeps it, without copying: `u-co` is `Ok`.
     ///
     /// # Errors
     ///
-    /// A text that is not one extension comes back, the same `String`: `a` does.
+    /// Returns the same `String` if it is not one extension, such as `a`.
     pub fn new(text: String) -> Result<ExtensionBuf, InvalidExtension<String>>
         ensures accepts { IsTrue (is_ok result) ↔ IsExtension (string_bytes text) }
         ensures same_text { IfOk result (λ extension. extension_buf_text extension ≡ string_bytes text) }
@@ -197,8 +196,8 @@ impl ExtensionBuf {
         })
     }
 
-    /// Borrows the extension: `as_extension().as_str()` of the owned `U-CO` is `"U-CO"`. It is proved that owned
-    /// extensions are compared, ordered and hashed without regard to case.
+    /// Borrows the extension: `Extension::new("U-CO")?.try_to_owned(alloc)?.as_extension().as_str()` is `"U-CO"`. It is
+    /// proved that comparisons and hashes of owned extensions ignore case.
     pub fn as_extension(&self) -> Extension<'_>
         ensures same_text { extension_text result ≡ extension_buf_text self.now }
 
@@ -207,7 +206,7 @@ impl ExtensionBuf {
         Extension::from_checked(self.as_str())
     }
 
-    /// Returns the text, with its case: `as_str()` of the owned `U-CO` is `"U-CO"`.
+    /// Returns the text, in its original case: `Extension::new("U-CO")?.try_to_owned(alloc)?.as_str()` is `"U-CO"`.
     pub fn as_str(&self) -> &str
         ensures same_text { result.now ≡ extension_buf_text self.now }
         ensures in_class { IsExtension result.now }
@@ -215,7 +214,8 @@ impl ExtensionBuf {
         self.text.0.as_str()
     }
 
-    /// Returns the text itself, without a copy: `into_string()` of the owned `U-CO` is the `String` `U-CO`.
+    /// Returns the `String`, without copying it: `Extension::new("U-CO")?.try_to_owned(alloc)?.into_string()` is
+    /// `"U-CO"`.
     pub fn into_string(self) -> String
         ensures same_text { string_bytes result ≡ extension_buf_text self }
         ensures same_string { result ≡ extension_buf_string self }

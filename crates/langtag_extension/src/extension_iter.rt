@@ -8,8 +8,8 @@ use crate::extension_subtag::ExtensionSubtag;
 use langtag_scan::Subtags;
 use std::alloc::AllocError;
 
-/// The subtags of an extension that are still to come (RFC 5646 section 2.2.6), without the singleton: `co` and
-/// `phonebk` of `Extension::new("u-co-phonebk")?.iter()`.
+/// An iterator over the subtags of an extension (RFC 5646 section 2.2.6), without the singleton: `co` and `phonebk` for
+/// `u-co-phonebk`.
 ///
 /// ```
 /// use langtag_extension::Extension;

@@ -13,7 +13,7 @@ use std::fmt;
 use std::fmt::Debug;
 use thiserror::Error;
 
-/// The error for a text that is not a subtag of an extension. It hands the text back.
+/// The error for a text that is not a subtag of an extension. It contains the text.
 ///
 /// ```
 /// use langtag_extension::ExtensionSubtag;
@@ -26,10 +26,10 @@ use thiserror::Error;
 #[error_bound(T: Debug + Drop)]
 pub struct InvalidExtensionSubtag<T>(pub T);
 
-/// A subtag of an extension (RFC 5646 section 2.2.6): two to eight letters and digits, as `phonebk` in
+/// A subtag of an extension (RFC 5646 section 2.2.6): two to eight letters and digits, such as `phonebk` in
 /// `u-co-phonebk`.
 ///
-/// Two subtags are equal where their texts differ at most in the case of ASCII letters: `co` and `CO` are.
+/// Two subtags are equal if their texts differ only in the case of ASCII letters, such as `co` and `CO`.
 ///
 /// ```
 /// use langtag_extension::ExtensionSubtag;
@@ -48,11 +48,11 @@ impl<'a> ExtensionSubtag<'a> {
     ghost use Rattle.langtag_extension.specs.Compared.{ExtensionSubtagsCompareByCase};
     ghost use Rattle.langtag_extension.specs.Text.{extension_subtag_text, extension_subtag_buf_text};
 
-    /// Parses a text as a subtag: `ExtensionSubtag::new("co")` is Ok.
+    /// Parses a text as a subtag: `ExtensionSubtag::new("co")` is `Ok`.
     ///
     /// # Errors
     ///
-    /// A text that is not two to eight letters and digits comes back: `ExtensionSubtag::new("c")` is
+    /// Returns the text if it is not two to eight letters and digits: `ExtensionSubtag::new("c")` is
     /// `Err(InvalidExtensionSubtag("c"))`.
     #[tactic(auto, using(crate::proofs::Numbers::extension_subtag_numbers))]
     pub fn new(text: &'a str) -> Result<ExtensionSubtag<'a>, InvalidExtensionSubtag<&'a str>>
@@ -68,7 +68,7 @@ impl<'a> ExtensionSubtag<'a> {
         Ok(ExtensionSubtag::from_checked(text))
     }
 
-    /// Returns the subtag of a text that is known to be one, without a test.
+    /// Returns the subtag of a text that is known to be one, without checking it.
     /// `ExtensionSubtag::from_checked(subtag.as_str())` is equal to `subtag`.
     pub fn from_checked(text: &'a str) -> ExtensionSubtag<'a>
         requires { IsTrue (class.is_extension_subtag text.now) }
@@ -79,7 +79,7 @@ impl<'a> ExtensionSubtag<'a> {
         }
     }
 
-    /// Returns the text, with its case: `ExtensionSubtag::new("CO")?.as_str()` is `"CO"`.
+    /// Returns the text, in its original case: `ExtensionSubtag::new("CO")?.as_str()` is `"CO"`.
     pub fn as_str(&self) -> &'a str
         ensures same_text { result.now ≡ extension_subtag_text self.now }
         ensures in_class { IsTrue (class.is_extension_subtag result.now) }
@@ -87,16 +87,16 @@ impl<'a> ExtensionSubtag<'a> {
         self.text.0
     }
 
-    /// Returns the bytes of the text: `ExtensionSubtag::new("CO")?.as_bytes()` is `b"CO"`.
+    /// Returns the text as bytes: `ExtensionSubtag::new("CO")?.as_bytes()` is `b"CO"`.
     pub fn as_bytes(&self) -> &'a [u8]
         ensures { result.now ≡ extension_subtag_text self.now }
     {
         self.as_str().as_bytes()
     }
 
-    /// Returns whether another text, of any form, is equal but for the case of ASCII letters:
-    /// `ExtensionSubtag::new("co")?.eq_str("CO")` is true. It is proved that subtags are compared, ordered and hashed
-    /// so, and that a clone is the value itself.
+    /// Returns whether another text is equal, ignoring the case of ASCII letters:
+    /// `ExtensionSubtag::new("co")?.eq_str("CO")` is `true`. It is proved that comparisons and hashes also ignore case,
+    /// and that a clone is the same value.
     pub fn eq_str(&self, other: &str) -> bool
         ensures test { result ≡ are_alike (extension_subtag_text self.now) other.now }
 
@@ -107,11 +107,11 @@ impl<'a> ExtensionSubtag<'a> {
         self.text == Caseless(other)
     }
 
-    /// Returns the owned form of the same text: `ExtensionSubtag::new("CO")?.try_to_owned(alloc)?.as_str()` is `"CO"`.
+    /// Copies the text into an owned value: `ExtensionSubtag::new("CO")?.try_to_owned(alloc)?.as_str()` is `"CO"`.
     ///
     /// # Errors
     ///
-    /// Out of memory.
+    /// Returns an error if allocation fails.
     pub fn try_to_owned(&self, alloc: Global) -> Result<ExtensionSubtagBuf, AllocError>
         ensures { IfOk result (λ owned. extension_subtag_buf_text owned ≡ extension_subtag_text self.now) }
     {
@@ -151,11 +151,11 @@ impl ExtensionSubtagBuf {
     ghost use Rattle.langtag_extension.specs.Compared.{ExtensionSubtagBufsCompareByCase};
     ghost use Rattle.langtag_extension.specs.Text.{extension_subtag_text, extension_subtag_buf_string, extension_subtag_buf_text};
 
-    /// Parses a `String` as a subtag, and keeps it, without a copy: `co` is Ok.
+    /// Parses a `String` as a subtag and keeps it, without copying: `co` is `Ok`.
     ///
     /// # Errors
     ///
-    /// A text that is not two to eight letters and digits comes back, the same `String`: `c` does.
+    /// Returns the same `String` if it is not two to eight letters and digits, such as `c`.
     pub fn new(text: String) -> Result<ExtensionSubtagBuf, InvalidExtensionSubtag<String>>
         ensures accepts { is_ok result ≡ class.is_extension_subtag (string_bytes text) }
         ensures same_text { IfOk result (λ subtag. extension_subtag_buf_text subtag ≡ string_bytes text) }
@@ -170,8 +170,8 @@ impl ExtensionSubtagBuf {
         })
     }
 
-    /// Borrows the subtag: `as_extension_subtag().as_str()` of the owned `CO` is `"CO"`. It is proved that owned
-    /// subtags are compared, ordered and hashed without regard to case.
+    /// Borrows the subtag: `ExtensionSubtag::new("CO")?.try_to_owned(alloc)?.as_extension_subtag().as_str()` is `"CO"`.
+    /// It is proved that comparisons and hashes of owned subtags ignore case.
     pub fn as_extension_subtag(&self) -> ExtensionSubtag<'_>
         ensures same_text { extension_subtag_text result ≡ extension_subtag_buf_text self.now }
 
@@ -180,7 +180,7 @@ impl ExtensionSubtagBuf {
         ExtensionSubtag::from_checked(self.as_str())
     }
 
-    /// Returns the text, with its case: `as_str()` of the owned `CO` is `"CO"`.
+    /// Returns the text, in its original case: `ExtensionSubtag::new("CO")?.try_to_owned(alloc)?.as_str()` is `"CO"`.
     pub fn as_str(&self) -> &str
         ensures same_text { result.now ≡ extension_subtag_buf_text self.now }
         ensures in_class { IsTrue (class.is_extension_subtag result.now) }
@@ -188,7 +188,8 @@ impl ExtensionSubtagBuf {
         self.text.0.as_str()
     }
 
-    /// Returns the text itself, without a copy: `into_string()` of the owned `CO` is the `String` `CO`.
+    /// Returns the `String`, without copying it: `ExtensionSubtag::new("CO")?.try_to_owned(alloc)?.into_string()` is
+    /// `"CO"`.
     pub fn into_string(self) -> String
         ensures same_text { string_bytes result ≡ extension_subtag_buf_text self }
         ensures same_string { result ≡ extension_subtag_buf_string self }

@@ -71,8 +71,8 @@ fn split_extension<'a>(text: &'a str) -> (&'a str, Option<&'a str>)
     (&text[..end], Some(&text[end + 1..]))
 }
 
-/// Where the first extension of a text ends: at the first hyphen before a subtag of one byte, or at the end. The subtag that the
-/// text begins with is not looked at.
+/// Returns where the first extension of a text ends: at the first hyphen before a subtag of one byte, or at the end.
+/// The first subtag of the text does not count.
 pub fn first_extension_end(text: &[u8]) -> usize
     ensures { IsFirstExtension text.now result }
 {

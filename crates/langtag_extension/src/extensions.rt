@@ -18,7 +18,7 @@ use std::fmt;
 use std::fmt::Debug;
 use thiserror::Error;
 
-/// The error for a text that is not extensions. It hands the text back.
+/// The error for a text that is not extensions. It contains the text.
 ///
 /// ```
 /// use langtag_extension::Extensions;
@@ -31,11 +31,11 @@ use thiserror::Error;
 #[error_bound(T: Debug + Drop)]
 pub struct InvalidExtensions<T>(pub T);
 
-/// The extensions of a tag (RFC 5646 section 2.2.6), joined by hyphens, as `a-ext1-ext2-u-co-phonebk`, or none at
-/// all, which is the empty text.
+/// The extensions of a tag (RFC 5646 section 2.2.6), joined by hyphens, such as `a-ext1-ext2-u-co-phonebk`. The empty
+/// text means no extensions.
 ///
-/// A singleton may come twice: such a tag is well formed, though it is not valid (section 2.2.9). Two lists are equal
-/// where their texts differ at most in the case of ASCII letters: `u-co` and `U-CO` are.
+/// A singleton may occur twice: such a tag is well formed but not valid (section 2.2.9). Two lists are equal if their
+/// texts differ only in the case of ASCII letters, such as `u-co` and `U-CO`.
 ///
 /// ```
 /// use langtag_extension::Extensions;
@@ -59,11 +59,11 @@ impl<'a> Extensions<'a> {
     /// No extensions: `Extensions::EMPTY.as_str()` is `""`.
     pub const EMPTY: Extensions<'static> = Extensions { text: Caseless("") };
 
-    /// Parses a text as extensions: `Extensions::new("a-ext1-u-co")` and `Extensions::new("")` are Ok.
+    /// Parses a text as extensions: `Extensions::new("a-ext1-u-co")` and `Extensions::new("")` are `Ok`.
     ///
     /// # Errors
     ///
-    /// A text that is not extensions joined by hyphens comes back: `Extensions::new("u-")` is
+    /// Returns the text if it is not extensions joined by hyphens: `Extensions::new("u-")` is
     /// `Err(InvalidExtensions("u-"))`.
     pub fn new(text: &'a str) -> Result<Extensions<'a>, InvalidExtensions<&'a str>>
         ensures accepts { IsTrue (is_ok result) ↔ IsExtensions text.now }
@@ -76,7 +76,7 @@ impl<'a> Extensions<'a> {
         Ok(Extensions::from_checked(text))
     }
 
-    /// Returns the extensions of a text that is known to be some, without a test.
+    /// Returns the extensions of a text that is known to be extensions, without checking it.
     /// `Extensions::from_checked(extensions.as_str())` is equal to `extensions`.
     pub fn from_checked(text: &'a str) -> Extensions<'a>
         requires { IsExtensions text.now }
@@ -87,7 +87,7 @@ impl<'a> Extensions<'a> {
         }
     }
 
-    /// Returns the text, with its case: `Extensions::new("U-CO")?.as_str()` is `"U-CO"`.
+    /// Returns the text, in its original case: `Extensions::new("U-CO")?.as_str()` is `"U-CO"`.
     pub fn as_str(&self) -> &'a str
         ensures same_text { result.now ≡ extensions_text self.now }
         ensures in_class { IsExtensions result.now }
@@ -95,16 +95,16 @@ impl<'a> Extensions<'a> {
         self.text.0
     }
 
-    /// Returns the bytes of the text: `Extensions::new("U-CO")?.as_bytes()` is `b"U-CO"`.
+    /// Returns the text as bytes: `Extensions::new("U-CO")?.as_bytes()` is `b"U-CO"`.
     pub fn as_bytes(&self) -> &'a [u8]
         ensures { result.now ≡ extensions_text self.now }
     {
         self.as_str().as_bytes()
     }
 
-    /// Returns whether another text, of any form, is equal but for the case of ASCII letters:
-    /// `Extensions::new("u-co")?.eq_str("U-CO")` is true. It is proved that lists of extensions are compared, ordered
-    /// and hashed so, and that a clone is the value itself.
+    /// Returns whether another text is equal, ignoring the case of ASCII letters:
+    /// `Extensions::new("u-co")?.eq_str("U-CO")` is `true`. It is proved that comparisons and hashes also ignore case,
+    /// and that a clone is the same value.
     pub fn eq_str(&self, other: &str) -> bool
         ensures test { result ≡ are_alike (extensions_text self.now) other.now }
 
@@ -115,11 +115,11 @@ impl<'a> Extensions<'a> {
         self.text == Caseless(other)
     }
 
-    /// Returns the owned form of the same text: `Extensions::new("U-CO")?.try_to_owned(alloc)?.as_str()` is `"U-CO"`.
+    /// Copies the text into an owned value: `Extensions::new("U-CO")?.try_to_owned(alloc)?.as_str()` is `"U-CO"`.
     ///
     /// # Errors
     ///
-    /// Out of memory.
+    /// Returns an error if allocation fails.
     pub fn try_to_owned(&self, alloc: Global) -> Result<ExtensionsBuf, AllocError>
         ensures { IfOk result (λ owned. extensions_buf_text owned ≡ extensions_text self.now) }
     {
@@ -129,7 +129,8 @@ impl<'a> Extensions<'a> {
         })
     }
 
-    /// Returns the extensions in order, those of a repeated singleton too: `a-bb` and `A-cc` of `a-bb-A-cc`.
+    /// Returns an iterator over the extensions, including those with a repeated singleton: `a-bb` and `A-cc` for
+    /// `a-bb-A-cc`.
     #[tactic(auto, using(crate::proofs::Rules::extension_texts_spelled))]
     pub fn iter(&self) -> ExtensionsIter<'a>
         ensures list { (es : List model.Extension) → SpellsExtensions es (extensions_text self.now)
@@ -141,7 +142,7 @@ impl<'a> Extensions<'a> {
         ExtensionsIter::new(self.as_str())
     }
 
-    /// Returns the first extension of the singleton, without regard to case: `A` finds `a-bb` in `a-bb-A-cc`.
+    /// Returns the first extension with the singleton, ignoring case: `A` finds `a-bb` in `a-bb-A-cc`.
     pub fn get(&self, singleton: Singleton) -> Option<Extension<'a>>
         ensures first_match { (es : List model.Extension) → SpellsExtensions es (extensions_text self.now) →
             option_map extension_text result ≡ option_map extension_spelling (find_extension (singleton_byte singleton) es) }
@@ -150,8 +151,8 @@ impl<'a> Extensions<'a> {
             .find(|extension| extension.has_singleton(singleton))
     }
 
-    /// Returns the subtags of the extension that `get` returns, and none where it returns None: for `u`, `co` and
-    /// `phonebk` of `a-bb-u-co-phonebk`.
+    /// Returns an iterator over the subtags of the extension that `get` returns, and over nothing if there is none:
+    /// `co` and `phonebk` for the singleton `u` in `a-bb-u-co-phonebk`.
     #[tactic(auto, using(crate::proofs::ExtensionLookUp::subtags_not_found))]
     pub fn iter_extension(&self, singleton: Singleton) -> ExtensionIter<'a>
         ensures list { (es : List model.Extension) → SpellsExtensions es (extensions_text self.now) →
@@ -184,7 +185,7 @@ impl fmt::Display for Extensions<'_> {
     }
 }
 
-/// The extensions of a tag, or none, that own their text.
+/// The extensions of a tag, which own their text.
 ///
 /// ```
 /// use langtag_extension::Extensions;
@@ -204,11 +205,11 @@ impl ExtensionsBuf {
     ghost use Rattle.langtag_extension.specs.Compared.{ExtensionsBufsCompareByCase};
     ghost use Rattle.langtag_extension.specs.Text.{extensions_text, extensions_buf_string, extensions_buf_text};
 
-    /// Parses a `String` as extensions, and keeps it, without a copy: `a-ext1-u-co` is Ok.
+    /// Parses a `String` as extensions and keeps it, without copying: `a-ext1-u-co` is `Ok`.
     ///
     /// # Errors
     ///
-    /// A text that is not extensions joined by hyphens comes back, the same `String`: `u-` does.
+    /// Returns the same `String` if it is not extensions joined by hyphens, such as `u-`.
     pub fn new(text: String) -> Result<ExtensionsBuf, InvalidExtensions<String>>
         ensures accepts { IsTrue (is_ok result) ↔ IsExtensions (string_bytes text) }
         ensures same_text { IfOk result (λ extensions. extensions_buf_text extensions ≡ string_bytes text) }
@@ -223,8 +224,8 @@ impl ExtensionsBuf {
         })
     }
 
-    /// Borrows the extensions: `as_extensions().as_str()` of the owned `U-CO` is `"U-CO"`. It is proved that owned
-    /// lists of extensions are compared, ordered and hashed without regard to case.
+    /// Borrows the extensions: `Extensions::new("U-CO")?.try_to_owned(alloc)?.as_extensions().as_str()` is `"U-CO"`. It
+    /// is proved that comparisons and hashes of owned lists of extensions ignore case.
     pub fn as_extensions(&self) -> Extensions<'_>
         ensures same_text { extensions_text result ≡ extensions_buf_text self.now }
 
@@ -233,7 +234,7 @@ impl ExtensionsBuf {
         Extensions::from_checked(self.as_str())
     }
 
-    /// Returns the text, with its case: `as_str()` of the owned `U-CO` is `"U-CO"`.
+    /// Returns the text, in its original case: `Extensions::new("U-CO")?.try_to_owned(alloc)?.as_str()` is `"U-CO"`.
     pub fn as_str(&self) -> &str
         ensures same_text { result.now ≡ extensions_buf_text self.now }
         ensures in_class { IsExtensions result.now }
@@ -241,7 +242,8 @@ impl ExtensionsBuf {
         self.text.0.as_str()
     }
 
-    /// Returns the text itself, without a copy: `into_string()` of the owned `U-CO` is the `String` `U-CO`.
+    /// Returns the `String`, without copying it: `Extensions::new("U-CO")?.try_to_owned(alloc)?.into_string()` is
+    /// `"U-CO"`.
     pub fn into_string(self) -> String
         ensures same_text { string_bytes result ≡ extensions_buf_text self }
         ensures same_string { result ≡ extensions_buf_string self }

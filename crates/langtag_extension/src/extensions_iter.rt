@@ -8,8 +8,8 @@ use crate::extension::Extension;
 use crate::extension_texts::ExtensionTexts;
 use std::alloc::AllocError;
 
-/// The extensions that are still to come (RFC 5646 section 2.2.6), in the order in which they are written: `a-ext1`
-/// and `u-co` of `Extensions::new("a-ext1-u-co")?.iter()`.
+/// An iterator over extensions (RFC 5646 section 2.2.6), in the order of the text: `a-ext1` and `u-co` for
+/// `a-ext1-u-co`.
 ///
 /// ```
 /// use langtag_extension::Extensions;

@@ -1,4 +1,4 @@
-//! Extensions of language tags, and the singletons that open them (RFC 5646 section 2.2.6).
+//! Extensions of language tags, and the singletons that begin them (RFC 5646 section 2.2.6).
 //!
 //! ```rust
 //! use langtag_extension::{Extensions, Singleton};

@@ -1,4 +1,4 @@
-//! The singleton, which opens an extension (RFC 5646 section 2.2.6).
+//! The singleton, which begins an extension (RFC 5646 section 2.2.6).
 ghost use Rattle.std.specs.Prelude.{◌≡◌, ◌==◌, ◌&&◌, ◌||◌, ◌∷◌, [], Some, IsTrue, IfOk, IfErr, is_ok, not};
 ghost use Rattle.std.specs.Char.{is_ascii_alphabetic, is_ascii_digit};
 ghost use Rattle.langtag_scan.specs.Class as class;
@@ -10,7 +10,7 @@ use std::fmt;
 use std::fmt::Debug;
 use thiserror::Error;
 
-/// The error for a byte, character or text that is not a singleton. It hands it back.
+/// The error for a byte, character or text that is not a singleton. It contains what was given.
 ///
 /// ```
 /// use langtag_extension::Singleton;
@@ -22,11 +22,11 @@ use thiserror::Error;
 #[error_bound(T: Debug + Drop)]
 pub struct InvalidSingleton<T>(pub T);
 
-/// The letter or digit, other than `x` and `X`, that opens an extension (RFC 5646 section 2.2.6), as the `u` of
+/// The letter or digit, other than `x` and `X`, that begins an extension (RFC 5646 section 2.2.6), such as `u` in
 /// `u-co-phonebk`.
 ///
-/// It keeps its exact byte, and is compared, ordered and hashed by it: `u` and `U` open the same extension, but are
-/// different singletons here.
+/// It stores the exact byte, and compares and hashes by it: `u` and `U` begin the same extension, but are different
+/// singletons.
 ///
 /// ```
 /// use langtag_extension::Singleton;
@@ -44,12 +44,12 @@ impl Singleton {
     ghost use Rattle.langtag_extension.specs.Compared.{SingletonsCompareByByte};
     ghost use Rattle.langtag_extension.specs.Text.{singleton_byte};
 
-    /// Returns the singleton of a byte: `Singleton::new(b'u')` is Ok. It is proved that singletons are compared,
-    /// ordered and hashed by their exact bytes, and that a clone is the value itself.
+    /// Returns the singleton with a byte: `Singleton::new(b'u')` is `Ok`. It is proved that singletons compare and hash
+    /// by their exact bytes, and that a clone is the same value.
     ///
     /// # Errors
     ///
-    /// A byte that is not an ASCII letter or digit, or is `x` or `X`, comes back: `Singleton::new(b'x')` is
+    /// Returns the byte if it is not an ASCII letter or digit, or is `x` or `X`: `Singleton::new(b'x')` is
     /// `Err(InvalidSingleton(b'x'))`.
     #[tactic(auto, using(crate::proofs::Numbers::singleton_numbers))]
     pub fn new(c: u8) -> Result<Self, InvalidSingleton<u8>>
@@ -76,11 +76,11 @@ impl Singleton {
         Singleton { byte }
     }
 
-    /// Returns the singleton of a text of one byte: `Singleton::from_string("u")` is Ok.
+    /// Returns the singleton with a text of one byte: `Singleton::from_string("u")` is `Ok`.
     ///
     /// # Errors
     ///
-    /// A text that is not one byte, or whose byte is not a singleton, comes back: `Singleton::from_string("uu")` is
+    /// Returns the text if it is not one byte, or if that byte is not a singleton: `Singleton::from_string("uu")` is
     /// `Err(InvalidSingleton("uu"))`.
     pub fn from_string(str: &str) -> Result<Self, InvalidSingleton<&str>>
         ensures accepts { is_ok result ≡ is_singleton_text str.now }
@@ -95,7 +95,7 @@ impl Singleton {
         Err(InvalidSingleton(str))
     }
 
-    /// Returns the byte, with its case: `Singleton::new(b'U')?.unwrap()` is `b'U'`.
+    /// Returns the byte, in its original case: `Singleton::new(b'U')?.unwrap()` is `b'U'`.
     pub fn unwrap(self) -> u8
         ensures same_byte { result ≡ singleton_byte self }
         ensures in_class { IsTrue (class.is_singleton result) }

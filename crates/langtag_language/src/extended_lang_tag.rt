@@ -12,7 +12,7 @@ use std::fmt;
 use std::fmt::Debug;
 use thiserror::Error;
 
-/// The error for a text that is not an extended language subtag. It hands the text back.
+/// The error for a text that is not an extended language subtag. It contains the text.
 ///
 /// ```
 /// use langtag_language::ExtendedLangTag;
@@ -25,9 +25,9 @@ use thiserror::Error;
 #[error_bound(T: Debug + Drop)]
 pub struct InvalidExtendedLangTag<T>(pub T);
 
-/// An extended language subtag (RFC 5646 section 2.2.2): three letters, as `yue` in `zh-yue`.
+/// An extended language subtag (RFC 5646 section 2.2.2): three letters, such as `yue` in `zh-yue`.
 ///
-/// Two of them are equal where their texts differ at most in the case of ASCII letters: `yue` and `YUE` are.
+/// Two of them are equal if their texts differ only in the case of ASCII letters, such as `yue` and `YUE`.
 ///
 /// ```
 /// use langtag_language::ExtendedLangTag;
@@ -46,11 +46,11 @@ impl<'a> ExtendedLangTag<'a> {
     ghost use Rattle.langtag_language.specs.Compared.{ExtendedLangTagsCompareByCase};
     ghost use Rattle.langtag_language.specs.Text.{extended_lang_tag_text, extended_lang_tag_buf_text};
 
-    /// Parses a text as an extended language subtag: `ExtendedLangTag::new("yue")` is Ok.
+    /// Parses a text as an extended language subtag: `ExtendedLangTag::new("yue")` is `Ok`.
     ///
     /// # Errors
     ///
-    /// A text that is not three letters comes back: `ExtendedLangTag::new("yu")` is
+    /// Returns the text if it is not three letters: `ExtendedLangTag::new("yu")` is
     /// `Err(InvalidExtendedLangTag("yu"))`.
     #[tactic(auto, using(crate::proofs::Numbers::extended_numbers))]
     pub fn new(text: &'a str) -> Result<ExtendedLangTag<'a>, InvalidExtendedLangTag<&'a str>>
@@ -65,7 +65,7 @@ impl<'a> ExtendedLangTag<'a> {
         Ok(ExtendedLangTag::from_checked(text))
     }
 
-    /// Returns the subtag of a text that is known to be one, without a test.
+    /// Returns the subtag of a text that is known to be one, without checking it.
     /// `ExtendedLangTag::from_checked(extended.as_str())` is equal to `extended`.
     pub fn from_checked(text: &'a str) -> ExtendedLangTag<'a>
         requires { IsTrue (class.is_extended text.now) }
@@ -76,7 +76,7 @@ impl<'a> ExtendedLangTag<'a> {
         }
     }
 
-    /// Returns the text, with its case: `ExtendedLangTag::new("YUE")?.as_str()` is `"YUE"`.
+    /// Returns the text, in its original case: `ExtendedLangTag::new("YUE")?.as_str()` is `"YUE"`.
     pub fn as_str(&self) -> &'a str
         ensures same_text { result.now ≡ extended_lang_tag_text self.now }
         ensures in_class { IsTrue (class.is_extended result.now) }
@@ -84,16 +84,16 @@ impl<'a> ExtendedLangTag<'a> {
         self.text.0
     }
 
-    /// Returns the bytes of the text: `ExtendedLangTag::new("YUE")?.as_bytes()` is `b"YUE"`.
+    /// Returns the text as bytes: `ExtendedLangTag::new("YUE")?.as_bytes()` is `b"YUE"`.
     pub fn as_bytes(&self) -> &'a [u8]
         ensures { result.now ≡ extended_lang_tag_text self.now }
     {
         self.as_str().as_bytes()
     }
 
-    /// Returns whether another text, of any form, is equal but for the case of ASCII letters:
-    /// `ExtendedLangTag::new("yue")?.eq_str("YUE")` is true. It is proved that extended subtags are compared, ordered
-    /// and hashed so, and that a clone is the value itself.
+    /// Returns whether another text is equal, ignoring the case of ASCII letters:
+    /// `ExtendedLangTag::new("yue")?.eq_str("YUE")` is `true`. It is proved that comparisons and hashes also ignore
+    /// case, and that a clone is the same value.
     pub fn eq_str(&self, other: &str) -> bool
         ensures test { result ≡ are_alike (extended_lang_tag_text self.now) other.now }
 
@@ -104,12 +104,11 @@ impl<'a> ExtendedLangTag<'a> {
         self.text == Caseless(other)
     }
 
-    /// Returns the owned form of the same text: `ExtendedLangTag::new("YUE")?.try_to_owned(alloc)?.as_str()` is
-    /// `"YUE"`.
+    /// Copies the text into an owned value: `ExtendedLangTag::new("YUE")?.try_to_owned(alloc)?.as_str()` is `"YUE"`.
     ///
     /// # Errors
     ///
-    /// Out of memory.
+    /// Returns an error if allocation fails.
     pub fn try_to_owned(&self, alloc: Global) -> Result<ExtendedLangTagBuf, AllocError>
         ensures { IfOk result (λ owned. extended_lang_tag_buf_text owned ≡ extended_lang_tag_text self.now) }
     {
@@ -149,11 +148,11 @@ impl ExtendedLangTagBuf {
     ghost use Rattle.langtag_language.specs.Compared.{ExtendedLangTagBufsCompareByCase};
     ghost use Rattle.langtag_language.specs.Text.{extended_lang_tag_text, extended_lang_tag_buf_text, extended_lang_tag_buf_string};
 
-    /// Parses a `String` as a subtag, and keeps it, without a copy: `yue` is Ok.
+    /// Parses a `String` as a subtag and keeps it, without copying: `yue` is `Ok`.
     ///
     /// # Errors
     ///
-    /// A text that is not three letters comes back, the same `String`: `yu` does.
+    /// Returns the same `String` if it is not three letters, such as `yu`.
     pub fn new(text: String) -> Result<ExtendedLangTagBuf, InvalidExtendedLangTag<String>>
         ensures accepts { is_ok result ≡ class.is_extended (string_bytes text) }
         ensures same_text { IfOk result (λ extended. extended_lang_tag_buf_text extended ≡ string_bytes text) }
@@ -168,8 +167,8 @@ impl ExtendedLangTagBuf {
         })
     }
 
-    /// Borrows the subtag: `as_extended_lang_tag().as_str()` of the owned `YUE` is `"YUE"`. It is proved that owned
-    /// extended subtags are compared, ordered and hashed without regard to case.
+    /// Borrows the subtag: `ExtendedLangTag::new("YUE")?.try_to_owned(alloc)?.as_extended_lang_tag().as_str()` is
+    /// `"YUE"`. It is proved that comparisons and hashes of owned extended subtags ignore case.
     pub fn as_extended_lang_tag(&self) -> ExtendedLangTag<'_>
         ensures same_text { extended_lang_tag_text result ≡ extended_lang_tag_buf_text self.now }
 
@@ -178,7 +177,7 @@ impl ExtendedLangTagBuf {
         ExtendedLangTag::from_checked(self.as_str())
     }
 
-    /// Returns the text, with its case: `as_str()` of the owned `YUE` is `"YUE"`.
+    /// Returns the text, in its original case: `ExtendedLangTag::new("YUE")?.try_to_owned(alloc)?.as_str()` is `"YUE"`.
     pub fn as_str(&self) -> &str
         ensures same_text { result.now ≡ extended_lang_tag_buf_text self.now }
         ensures in_class { IsTrue (class.is_extended result.now) }
@@ -186,7 +185,8 @@ impl ExtendedLangTagBuf {
         self.text.0.as_str()
     }
 
-    /// Returns the text itself, without a copy: `into_string()` of the owned `YUE` is the `String` `YUE`.
+    /// Returns the `String`, without copying it: `ExtendedLangTag::new("YUE")?.try_to_owned(alloc)?.into_string()` is
+    /// `"YUE"`.
     pub fn into_string(self) -> String
         ensures same_text { string_bytes result ≡ extended_lang_tag_buf_text self }
         ensures same_string { result ≡ extended_lang_tag_buf_string self }

@@ -17,7 +17,7 @@ use std::fmt;
 use std::fmt::Debug;
 use thiserror::Error;
 
-/// The error for a text that is not a language. It hands the text back.
+/// The error for a text that is not a language. It contains the text.
 ///
 /// ```
 /// use langtag_language::Language;
@@ -30,10 +30,10 @@ use thiserror::Error;
 #[error_bound(T: Debug + Drop)]
 pub struct InvalidLanguage<T>(pub T);
 
-/// The language of a tag: a primary subtag (RFC 5646 section 2.2.1), as `fr`, after which at most three extended
-/// subtags stand (section 2.2.2), as in `zh-min-nan`. They stand after two or three letters alone.
+/// The language of a tag: a primary subtag (RFC 5646 section 2.2.1), such as `fr`, and up to three extended subtags
+/// (section 2.2.2), as in `zh-min-nan`. Extended subtags follow only a primary subtag of two or three letters.
 ///
-/// Two languages are equal where their texts differ at most in the case of ASCII letters: `zh-yue` and `ZH-YUE` are.
+/// Two languages are equal if their texts differ only in the case of ASCII letters, such as `zh-yue` and `ZH-YUE`.
 ///
 /// ```
 /// use langtag_language::Language;
@@ -54,12 +54,11 @@ impl<'a> Language<'a> {
     ghost use Rattle.langtag_language.specs.Text.{language_text, language_buf_text, primary_language_text};
     ghost use Rattle.langtag_language.specs.Text.{language_extension_text, extension_list, extended_subtags_left};
 
-    /// Parses a text as a language: `Language::new("zh-yue")` is Ok.
+    /// Parses a text as a language: `Language::new("zh-yue")` is `Ok`.
     ///
     /// # Errors
     ///
-    /// A text that is not a primary subtag, or one of two or three letters with one to three extended subtags after it,
-    /// comes back: `Language::new("zh-")` is `Err(InvalidLanguage("zh-"))`.
+    /// Returns the text if it is not a language: `Language::new("zh-")` is `Err(InvalidLanguage("zh-"))`.
     pub fn new(text: &'a str) -> Result<Language<'a>, InvalidLanguage<&'a str>>
         ensures accepts { IsTrue (is_ok result) ↔ (IsLanguage text.now) }
         ensures same_text { IfOk result (λ language. language_text language ≡ text.now) }
@@ -71,7 +70,7 @@ impl<'a> Language<'a> {
         Ok(Language::from_checked(text))
     }
 
-    /// Returns the language of a text that is known to be one, without a test.
+    /// Returns the language of a text that is known to be one, without checking it.
     /// `Language::from_checked(language.as_str())` is equal to `language`.
     pub fn from_checked(text: &'a str) -> Language<'a>
         requires { IsLanguage text.now }
@@ -82,7 +81,7 @@ impl<'a> Language<'a> {
         }
     }
 
-    /// Returns the text, with its case: `Language::new("ZH-YUE")?.as_str()` is `"ZH-YUE"`.
+    /// Returns the text, in its original case: `Language::new("ZH-YUE")?.as_str()` is `"ZH-YUE"`.
     pub fn as_str(&self) -> &'a str
         ensures same_text { result.now ≡ language_text self.now }
         ensures in_class { IsLanguage result.now }
@@ -90,16 +89,16 @@ impl<'a> Language<'a> {
         self.text.0
     }
 
-    /// Returns the bytes of the text: `Language::new("ZH-YUE")?.as_bytes()` is `b"ZH-YUE"`.
+    /// Returns the text as bytes: `Language::new("ZH-YUE")?.as_bytes()` is `b"ZH-YUE"`.
     pub fn as_bytes(&self) -> &'a [u8]
         ensures { result.now ≡ language_text self.now }
     {
         self.as_str().as_bytes()
     }
 
-    /// Returns whether another text, of any form, is equal but for the case of ASCII letters:
-    /// `Language::new("zh-yue")?.eq_str("ZH-YUE")` is true. It is proved that languages are compared, ordered and
-    /// hashed so, and that a clone is the value itself.
+    /// Returns whether another text is equal, ignoring the case of ASCII letters:
+    /// `Language::new("zh-yue")?.eq_str("ZH-YUE")` is `true`. It is proved that comparisons and hashes also ignore
+    /// case, and that a clone is the same value.
     pub fn eq_str(&self, other: &str) -> bool
         ensures test { result ≡ are_alike (language_text self.now) other.now }
 
@@ -110,11 +109,11 @@ impl<'a> Language<'a> {
         self.text == Caseless(other)
     }
 
-    /// Returns the owned form of the same text: `Language::new("ZH-YUE")?.try_to_owned(alloc)?.as_str()` is `"ZH-YUE"`.
+    /// Copies the text into an owned value: `Language::new("ZH-YUE")?.try_to_owned(alloc)?.as_str()` is `"ZH-YUE"`.
     ///
     /// # Errors
     ///
-    /// Out of memory.
+    /// Returns an error if allocation fails.
     pub fn try_to_owned(&self, alloc: Global) -> Result<LanguageBuf, AllocError>
         ensures { IfOk result (λ owned. language_buf_text owned ≡ language_text self.now) }
     {
@@ -132,8 +131,7 @@ impl<'a> Language<'a> {
         self.split().0
     }
 
-    /// Returns the extended subtags as one text, None where there is none: `Language::new("zh-min-nan")?.extension()`
-    /// is that of `min-nan`.
+    /// Returns the extended subtags as one text, or `None` if there are none: `min-nan` for `zh-min-nan`.
     pub fn extension(&self) -> Option<LanguageExtension<'a>>
         ensures absent { EachLanguageSpelling (language_text self.now) (λ primary extended. IsNone result ↔ (extended ≡ [])) }
         ensures members { EachLanguageSpelling (language_text self.now) (λ primary extended.
@@ -142,8 +140,8 @@ impl<'a> Language<'a> {
         self.split().1
     }
 
-    /// Returns the extended subtags one by one; none where there is no extension:
-    /// `Language::new("zh-min-nan")?.extension_subtags()` yields `min` and `nan`.
+    /// Returns an iterator over the extended subtags: `Language::new("zh-min-nan")?.extension_subtags()` yields `min`
+    /// and `nan`.
     pub fn extension_subtags(&self) -> LanguageExtensionIter<'a>
         ensures list { extended_subtags_left result ≡ drop 1 (subtags (language_text self.now)) }
         ensures members { EachLanguageSpelling (language_text self.now) (λ primary extended. extended_subtags_left result ≡ extended) }
@@ -212,12 +210,11 @@ impl LanguageBuf {
     ghost use Rattle.langtag_language.specs.Compared.{LanguageBufsCompareByCase};
     ghost use Rattle.langtag_language.specs.Text.{language_text, language_buf_text, language_buf_string};
 
-    /// Parses a `String` as a language, and keeps it, without a copy: `zh-yue` is Ok.
+    /// Parses a `String` as a language and keeps it, without copying: `zh-yue` is `Ok`.
     ///
     /// # Errors
     ///
-    /// A text that is not a primary subtag, or one of two or three letters with one to three extended subtags after it,
-    /// comes back, the same `String`: `zh-` does.
+    /// Returns the same `String` if it is not a language, such as `zh-`.
     pub fn new(text: String) -> Result<LanguageBuf, InvalidLanguage<String>>
         ensures accepts { IsTrue (is_ok result) ↔ (IsLanguage (string_bytes text)) }
         ensures same_text { IfOk result (λ language. language_buf_text language ≡ string_bytes text) }
@@ -232,8 +229,8 @@ impl LanguageBuf {
         })
     }
 
-    /// Borrows the language: `as_language().as_str()` of the owned `ZH-YUE` is `"ZH-YUE"`. It is proved that owned
-    /// languages are compared, ordered and hashed without regard to case.
+    /// Borrows the language: `Language::new("ZH-YUE")?.try_to_owned(alloc)?.as_language().as_str()` is `"ZH-YUE"`. It
+    /// is proved that comparisons and hashes of owned languages ignore case.
     pub fn as_language(&self) -> Language<'_>
         ensures same_text { language_text result ≡ language_buf_text self.now }
 
@@ -242,7 +239,7 @@ impl LanguageBuf {
         Language::from_checked(self.as_str())
     }
 
-    /// Returns the text, with its case: `as_str()` of the owned `ZH-YUE` is `"ZH-YUE"`.
+    /// Returns the text, in its original case: `Language::new("ZH-YUE")?.try_to_owned(alloc)?.as_str()` is `"ZH-YUE"`.
     pub fn as_str(&self) -> &str
         ensures same_text { result.now ≡ language_buf_text self.now }
         ensures in_class { IsLanguage result.now }
@@ -250,7 +247,8 @@ impl LanguageBuf {
         self.text.0.as_str()
     }
 
-    /// Returns the text itself, without a copy: `into_string()` of the owned `ZH-YUE` is the `String` `ZH-YUE`.
+    /// Returns the `String`, without copying it: `Language::new("ZH-YUE")?.try_to_owned(alloc)?.into_string()` is
+    /// `"ZH-YUE"`.
     pub fn into_string(self) -> String
         ensures same_text { string_bytes result ≡ language_buf_text self }
         ensures same_string { result ≡ language_buf_string self }

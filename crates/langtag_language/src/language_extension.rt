@@ -14,7 +14,7 @@ use std::fmt;
 use std::fmt::Debug;
 use thiserror::Error;
 
-/// The error for a text that is not a language extension. It hands the text back.
+/// The error for a text that is not a language extension. It contains the text.
 ///
 /// ```
 /// use langtag_language::LanguageExtension;
@@ -27,9 +27,9 @@ use thiserror::Error;
 #[error_bound(T: Debug + Drop)]
 pub struct InvalidLanguageExtension<T>(pub T);
 
-/// The extended subtags of a language (RFC 5646 section 2.2.2): one to three, joined by hyphens, as `min-nan`.
+/// The extended subtags of a language (RFC 5646 section 2.2.2): one to three, joined by hyphens, such as `min-nan`.
 ///
-/// Two of them are equal where their texts differ at most in the case of ASCII letters: `min-nan` and `MIN-NAN` are.
+/// Two of them are equal if their texts differ only in the case of ASCII letters, such as `min-nan` and `MIN-NAN`.
 ///
 /// ```
 /// use langtag_language::LanguageExtension;
@@ -49,11 +49,11 @@ impl<'a> LanguageExtension<'a> {
     ghost use Rattle.langtag_language.specs.Compared.{LanguageExtensionsCompareByCase};
     ghost use Rattle.langtag_language.specs.Text.{language_extension_text, language_extension_buf_text, extended_subtags_left};
 
-    /// Parses a text as a language extension: `LanguageExtension::new("min-nan")` is Ok.
+    /// Parses a text as a language extension: `LanguageExtension::new("min-nan")` is `Ok`.
     ///
     /// # Errors
     ///
-    /// A text that is not one to three extended subtags with one hyphen between neighbours comes back:
+    /// Returns the text if it is not one to three extended subtags with one hyphen between neighbours:
     /// `LanguageExtension::new("min-")` is `Err(InvalidLanguageExtension("min-"))`.
     pub fn new(text: &'a str) -> Result<LanguageExtension<'a>, InvalidLanguageExtension<&'a str>>
         ensures accepts { IsTrue (is_ok result) ↔ (IsLanguageExtension text.now) }
@@ -66,7 +66,7 @@ impl<'a> LanguageExtension<'a> {
         Ok(LanguageExtension::from_checked(text))
     }
 
-    /// Returns the language extension of a text that is known to be one, without a test.
+    /// Returns the language extension of a text that is known to be one, without checking it.
     /// `LanguageExtension::from_checked(extension.as_str())` is equal to `extension`.
     pub fn from_checked(text: &'a str) -> LanguageExtension<'a>
         requires { IsLanguageExtension text.now }
@@ -77,7 +77,7 @@ impl<'a> LanguageExtension<'a> {
         }
     }
 
-    /// Returns the text, with its case: `LanguageExtension::new("MIN-NAN")?.as_str()` is `"MIN-NAN"`.
+    /// Returns the text, in its original case: `LanguageExtension::new("MIN-NAN")?.as_str()` is `"MIN-NAN"`.
     pub fn as_str(&self) -> &'a str
         ensures same_text { result.now ≡ language_extension_text self.now }
         ensures in_class { IsLanguageExtension result.now }
@@ -85,16 +85,16 @@ impl<'a> LanguageExtension<'a> {
         self.text.0
     }
 
-    /// Returns the bytes of the text: `LanguageExtension::new("MIN-NAN")?.as_bytes()` is `b"MIN-NAN"`.
+    /// Returns the text as bytes: `LanguageExtension::new("MIN-NAN")?.as_bytes()` is `b"MIN-NAN"`.
     pub fn as_bytes(&self) -> &'a [u8]
         ensures { result.now ≡ language_extension_text self.now }
     {
         self.as_str().as_bytes()
     }
 
-    /// Returns whether another text, of any form, is equal but for the case of ASCII letters:
-    /// `LanguageExtension::new("min-nan")?.eq_str("MIN-NAN")` is true. It is proved that language extensions are
-    /// compared, ordered and hashed so, and that a clone is the value itself.
+    /// Returns whether another text is equal, ignoring the case of ASCII letters:
+    /// `LanguageExtension::new("min-nan")?.eq_str("MIN-NAN")` is `true`. It is proved that comparisons and hashes also
+    /// ignore case, and that a clone is the same value.
     pub fn eq_str(&self, other: &str) -> bool
         ensures test { result ≡ are_alike (language_extension_text self.now) other.now }
 
@@ -105,12 +105,12 @@ impl<'a> LanguageExtension<'a> {
         self.text == Caseless(other)
     }
 
-    /// Returns the owned form of the same text: `LanguageExtension::new("MIN-NAN")?.try_to_owned(alloc)?.as_str()` is
+    /// Copies the text into an owned value: `LanguageExtension::new("MIN-NAN")?.try_to_owned(alloc)?.as_str()` is
     /// `"MIN-NAN"`.
     ///
     /// # Errors
     ///
-    /// Out of memory.
+    /// Returns an error if allocation fails.
     pub fn try_to_owned(&self, alloc: Global) -> Result<LanguageExtensionBuf, AllocError>
         ensures { IfOk result (λ owned. language_extension_buf_text owned ≡ language_extension_text self.now) }
     {
@@ -120,7 +120,8 @@ impl<'a> LanguageExtension<'a> {
         })
     }
 
-    /// Returns the extended subtags one by one: `LanguageExtension::new("min-nan")?.iter()` yields `min` and `nan`.
+    /// Returns an iterator over the extended subtags: `LanguageExtension::new("min-nan")?.iter()` yields `min` and
+    /// `nan`.
     pub fn iter(&self) -> LanguageExtensionIter<'a>
         ensures list { extended_subtags_left result ≡ subtags (language_extension_text self.now) }
         ensures spells { SpellsLanguageExtension (extended_subtags_left result) (language_extension_text self.now) }
@@ -169,12 +170,12 @@ impl LanguageExtensionBuf {
     ghost use Rattle.langtag_language.specs.Compared.{LanguageExtensionBufsCompareByCase};
     ghost use Rattle.langtag_language.specs.Text.{language_extension_text, language_extension_buf_text, language_extension_buf_string};
 
-    /// Parses a `String` as a language extension, and keeps it, without a copy: `min-nan` is Ok.
+    /// Parses a `String` as a language extension and keeps it, without copying: `min-nan` is `Ok`.
     ///
     /// # Errors
     ///
-    /// A text that is not one to three extended subtags with one hyphen between neighbours comes back, the same
-    /// `String`: `min-` does.
+    /// Returns the same `String` if it is not one to three extended subtags with one hyphen between neighbours, such as
+    /// `min-`.
     pub fn new(text: String) -> Result<LanguageExtensionBuf, InvalidLanguageExtension<String>>
         ensures accepts { IsTrue (is_ok result) ↔ (IsLanguageExtension (string_bytes text)) }
         ensures same_text { IfOk result (λ extension. language_extension_buf_text extension ≡ string_bytes text) }
@@ -189,8 +190,9 @@ impl LanguageExtensionBuf {
         })
     }
 
-    /// Borrows the language extension: `as_language_extension().as_str()` of the owned `MIN-NAN` is `"MIN-NAN"`. It is
-    /// proved that owned language extensions are compared, ordered and hashed without regard to case.
+    /// Borrows the language extension:
+    /// `LanguageExtension::new("MIN-NAN")?.try_to_owned(alloc)?.as_language_extension().as_str()` is `"MIN-NAN"`. It is
+    /// proved that comparisons and hashes of owned language extensions ignore case.
     pub fn as_language_extension(&self) -> LanguageExtension<'_>
         ensures same_text { language_extension_text result ≡ language_extension_buf_text self.now }
 
@@ -199,7 +201,8 @@ impl LanguageExtensionBuf {
         LanguageExtension::from_checked(self.as_str())
     }
 
-    /// Returns the text, with its case: `as_str()` of the owned `MIN-NAN` is `"MIN-NAN"`.
+    /// Returns the text, in its original case: `LanguageExtension::new("MIN-NAN")?.try_to_owned(alloc)?.as_str()` is
+    /// `"MIN-NAN"`.
     pub fn as_str(&self) -> &str
         ensures same_text { result.now ≡ language_extension_buf_text self.now }
         ensures in_class { IsLanguageExtension result.now }
@@ -207,7 +210,8 @@ impl LanguageExtensionBuf {
         self.text.0.as_str()
     }
 
-    /// Returns the text itself, without a copy: `into_string()` of the owned `MIN-NAN` is the `String` `MIN-NAN`.
+    /// Returns the `String`, without copying it:
+    /// `LanguageExtension::new("MIN-NAN")?.try_to_owned(alloc)?.into_string()` is `"MIN-NAN"`.
     pub fn into_string(self) -> String
         ensures same_text { string_bytes result ≡ language_extension_buf_text self }
         ensures same_string { result ≡ language_extension_buf_string self }

@@ -8,7 +8,7 @@ use crate::extended_lang_tag::ExtendedLangTag;
 use langtag_scan::Subtags;
 use std::alloc::AllocError;
 
-/// The extended subtags that are still to come (RFC 5646 section 2.2.2): `min` and `nan` of `min-nan`.
+/// An iterator over extended subtags (RFC 5646 section 2.2.2): `min` and `nan` for `min-nan`.
 ///
 /// ```
 /// use langtag_language::LanguageExtension;

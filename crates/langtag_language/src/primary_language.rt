@@ -13,7 +13,7 @@ use std::fmt;
 use std::fmt::Debug;
 use thiserror::Error;
 
-/// The error for a text that is not a primary language subtag. It hands the text back.
+/// The error for a text that is not a primary language subtag. It contains the text.
 ///
 /// ```
 /// use langtag_language::PrimaryLanguage;
@@ -26,9 +26,9 @@ use thiserror::Error;
 #[error_bound(T: Debug + Drop)]
 pub struct InvalidPrimaryLanguage<T>(pub T);
 
-/// A primary language subtag (RFC 5646 section 2.2.1): two to eight letters, as `fr`.
+/// A primary language subtag (RFC 5646 section 2.2.1): two to eight letters, such as `fr`.
 ///
-/// Two of them are equal where their texts differ at most in the case of ASCII letters: `fr` and `FR` are.
+/// Two of them are equal if their texts differ only in the case of ASCII letters, such as `fr` and `FR`.
 ///
 /// ```
 /// use langtag_language::PrimaryLanguage;
@@ -47,11 +47,11 @@ impl<'a> PrimaryLanguage<'a> {
     ghost use Rattle.langtag_language.specs.Compared.{PrimaryLanguagesCompareByCase};
     ghost use Rattle.langtag_language.specs.Text.{primary_language_text, primary_language_buf_text};
 
-    /// Parses a text as a primary language subtag: `PrimaryLanguage::new("fr")` is Ok.
+    /// Parses a text as a primary language subtag: `PrimaryLanguage::new("fr")` is `Ok`.
     ///
     /// # Errors
     ///
-    /// A text that is not two to eight letters comes back: `PrimaryLanguage::new("f")` is
+    /// Returns the text if it is not two to eight letters: `PrimaryLanguage::new("f")` is
     /// `Err(InvalidPrimaryLanguage("f"))`.
     #[tactic(auto, using(crate::proofs::Numbers::primary_numbers))]
     pub fn new(text: &'a str) -> Result<PrimaryLanguage<'a>, InvalidPrimaryLanguage<&'a str>>
@@ -66,7 +66,7 @@ impl<'a> PrimaryLanguage<'a> {
         Ok(PrimaryLanguage::from_checked(text))
     }
 
-    /// Returns the subtag of a text that is known to be one, without a test.
+    /// Returns the subtag of a text that is known to be one, without checking it.
     /// `PrimaryLanguage::from_checked(primary.as_str())` is equal to `primary`.
     pub fn from_checked(text: &'a str) -> PrimaryLanguage<'a>
         requires { IsTrue (class.is_primary text.now) }
@@ -77,7 +77,7 @@ impl<'a> PrimaryLanguage<'a> {
         }
     }
 
-    /// Returns the text, with its case: `PrimaryLanguage::new("FR")?.as_str()` is `"FR"`.
+    /// Returns the text, in its original case: `PrimaryLanguage::new("FR")?.as_str()` is `"FR"`.
     pub fn as_str(&self) -> &'a str
         ensures same_text { result.now ≡ primary_language_text self.now }
         ensures in_class { IsTrue (class.is_primary result.now) }
@@ -85,16 +85,16 @@ impl<'a> PrimaryLanguage<'a> {
         self.text.0
     }
 
-    /// Returns the bytes of the text: `PrimaryLanguage::new("FR")?.as_bytes()` is `b"FR"`.
+    /// Returns the text as bytes: `PrimaryLanguage::new("FR")?.as_bytes()` is `b"FR"`.
     pub fn as_bytes(&self) -> &'a [u8]
         ensures { result.now ≡ primary_language_text self.now }
     {
         self.as_str().as_bytes()
     }
 
-    /// Returns whether another text, of any form, is equal but for the case of ASCII letters:
-    /// `PrimaryLanguage::new("fr")?.eq_str("FR")` is true. It is proved that primary languages are compared, ordered
-    /// and hashed so, and that a clone is the value itself.
+    /// Returns whether another text is equal, ignoring the case of ASCII letters:
+    /// `PrimaryLanguage::new("fr")?.eq_str("FR")` is `true`. It is proved that comparisons and hashes also ignore case,
+    /// and that a clone is the same value.
     pub fn eq_str(&self, other: &str) -> bool
         ensures test { result ≡ are_alike (primary_language_text self.now) other.now }
 
@@ -105,11 +105,11 @@ impl<'a> PrimaryLanguage<'a> {
         self.text == Caseless(other)
     }
 
-    /// Returns the owned form of the same text: `PrimaryLanguage::new("FR")?.try_to_owned(alloc)?.as_str()` is `"FR"`.
+    /// Copies the text into an owned value: `PrimaryLanguage::new("FR")?.try_to_owned(alloc)?.as_str()` is `"FR"`.
     ///
     /// # Errors
     ///
-    /// Out of memory.
+    /// Returns an error if allocation fails.
     pub fn try_to_owned(&self, alloc: Global) -> Result<PrimaryLanguageBuf, AllocError>
         ensures { IfOk result (λ owned. primary_language_buf_text owned ≡ primary_language_text self.now) }
     {
@@ -149,11 +149,11 @@ impl PrimaryLanguageBuf {
     ghost use Rattle.langtag_language.specs.Compared.{PrimaryLanguageBufsCompareByCase};
     ghost use Rattle.langtag_language.specs.Text.{primary_language_text, primary_language_buf_text, primary_language_buf_string};
 
-    /// Parses a `String` as a subtag, and keeps it, without a copy: `fr` is Ok.
+    /// Parses a `String` as a subtag and keeps it, without copying: `fr` is `Ok`.
     ///
     /// # Errors
     ///
-    /// A text that is not two to eight letters comes back, the same `String`: `f` does.
+    /// Returns the same `String` if it is not two to eight letters, such as `f`.
     pub fn new(text: String) -> Result<PrimaryLanguageBuf, InvalidPrimaryLanguage<String>>
         ensures accepts { is_ok result ≡ class.is_primary (string_bytes text) }
         ensures same_text { IfOk result (λ primary. primary_language_buf_text primary ≡ string_bytes text) }
@@ -168,8 +168,8 @@ impl PrimaryLanguageBuf {
         })
     }
 
-    /// Borrows the subtag: `as_primary_language().as_str()` of the owned `FR` is `"FR"`. It is proved that owned
-    /// primary languages are compared, ordered and hashed without regard to case.
+    /// Borrows the subtag: `PrimaryLanguage::new("FR")?.try_to_owned(alloc)?.as_primary_language().as_str()` is `"FR"`.
+    /// It is proved that comparisons and hashes of owned primary languages ignore case.
     pub fn as_primary_language(&self) -> PrimaryLanguage<'_>
         ensures same_text { primary_language_text result ≡ primary_language_buf_text self.now }
 
@@ -178,7 +178,7 @@ impl PrimaryLanguageBuf {
         PrimaryLanguage::from_checked(self.as_str())
     }
 
-    /// Returns the text, with its case: `as_str()` of the owned `FR` is `"FR"`.
+    /// Returns the text, in its original case: `PrimaryLanguage::new("FR")?.try_to_owned(alloc)?.as_str()` is `"FR"`.
     pub fn as_str(&self) -> &str
         ensures same_text { result.now ≡ primary_language_buf_text self.now }
         ensures in_class { IsTrue (class.is_primary result.now) }
@@ -186,7 +186,8 @@ impl PrimaryLanguageBuf {
         self.text.0.as_str()
     }
 
-    /// Returns the text itself, without a copy: `into_string()` of the owned `FR` is the `String` `FR`.
+    /// Returns the `String`, without copying it: `PrimaryLanguage::new("FR")?.try_to_owned(alloc)?.into_string()` is
+    /// `"FR"`.
     pub fn into_string(self) -> String
         ensures same_text { string_bytes result ≡ primary_language_buf_text self }
         ensures same_string { result ≡ primary_language_buf_string self }

@@ -4,7 +4,7 @@ use Rattle.std.proofs.lemmas.List.{get_or-map}
 use Rattle.langtag_scan.specs.Class.{are_letters, are_alphanumeric}
 use Rattle.langtag_scan.specs.Case.{folded_number}
 use Rattle.langtag_tables.specs.Numbers.{letter_number}
-use Rattle.langtag_likely.specs.declared.alias_tables.TheConstants.{ALIAS_LANGUAGES, ALIAS_SCRIPTS, REGION_ALIAS_NAMES}
+use Rattle.langtag_likely.specs.declared.alias_tables.TheConstants.{ALIAS_LANGUAGES, ALIAS_SCRIPT_NAMES, ALIAS_SCRIPTS, ALIAS_REGION_NAMES, ALIAS_REGIONS, REGION_ALIAS_NAMES}
 use Rattle.langtag_likely.specs.Likely.{Fields, Likely, likely_for, language_alone}
 use Rattle.langtag_likely.specs.Matching.{region_alone}
 use Rattle.langtag_likely.specs.Aliases.{language_aliases, region_aliases}
@@ -38,13 +38,14 @@ alias_found f keys number o letters keys_are number_is is =
     ∙ found_by_number language_number is_language (language_alone f) (language-tells f.language letters) language_aliases aliases_alone
 
 pub alias_at :
-    (i : ℕ) (language script : List ℕ) → i < length language_aliases → language ≡ name_at ALIAS_LANGUAGES i → script ≡ name_at ALIAS_SCRIPTS i →
-    record { language = language; script = script; region = [] } ≡ (get_or language_aliases i no_row).to
-alias_at i language script inside language_is script_is =
+    (i : ℕ) (language script region : List ℕ) → i < length language_aliases →
+    language ≡ name_at ALIAS_LANGUAGES i → script ≡ get_or (map (name_at ALIAS_SCRIPT_NAMES) ALIAS_SCRIPTS) i [] → region ≡ get_or (map (name_at ALIAS_REGION_NAMES) ALIAS_REGIONS) i [] →
+    record { language = language; script = script; region = region } ≡ (get_or language_aliases i no_row).to
+alias_at i language script region inside language_is script_is region_is =
     let row = get_or language_aliases i no_row in
-    ap (λ l. record { language = l; script = script; region = [] }) (language_is ∙ at_index language_aliases _ (λ row. row.to.language) i alias_languages inside)
-    ∙ ap (λ s. record { language = row.to.language; script = s; region = [] }) (script_is ∙ at_index language_aliases _ (λ row. row.to.script) i alias_scripts inside)
-    ∙ ap (λ r. record { language = row.to.language; script = row.to.script; region = r }) (none_at language_aliases (λ row. row.to.region) i alias_regions inside)
+    ap (λ l. record { language = l; script = script; region = region }) (language_is ∙ at_index language_aliases _ (λ row. row.to.language) i alias_languages inside)
+    ∙ ap (λ s. record { language = row.to.language; script = s; region = region }) (script_is ∙ at_index language_aliases _ (λ row. row.to.script) i alias_scripts inside)
+    ∙ ap (λ r. record { language = row.to.language; script = row.to.script; region = r }) (region_is ∙ at_index language_aliases _ (λ row. row.to.region) i alias_regions inside)
 
 -- ---- regions
 

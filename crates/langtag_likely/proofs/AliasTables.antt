@@ -9,7 +9,7 @@ use Rattle.langtag_tables.specs.Numbers.{letter_number}
 use Rattle.langtag_likely.specs.declared.alias_tables.TheConstants as table
 use Rattle.langtag_likely.specs.Aliases as list
 use Rattle.langtag_likely.specs.Good.{is_language_field, is_script_field, is_region_field}
-use Rattle.langtag_likely.specs.Numbers.{name_text}
+use Rattle.langtag_likely.specs.Numbers.{name_at, name_text}
 use Rattle.langtag_likely.proofs.RegionNumbers.{is_region_alone}
 use Rattle.langtag_likely.proofs.RowLaws.{is_language}
 use Rattle.langtag_likely.proofs.RowsFound.{is_short as is_short_row}
@@ -22,11 +22,11 @@ pub alias_languages : map name_text table.ALIAS_LANGUAGES ≡ map (λ row. row.t
 unfolding list.language_aliases fold_byte
 alias_languages = refl
 
-pub alias_scripts : map name_text table.ALIAS_SCRIPTS ≡ map (λ row. row.to.script) list.language_aliases
+pub alias_scripts : map (name_at table.ALIAS_SCRIPT_NAMES) table.ALIAS_SCRIPTS ≡ map (λ row. row.to.script) list.language_aliases
 unfolding list.language_aliases fold_byte
 alias_scripts = refl
 
-pub alias_regions : map (λ row. row.to.region) list.language_aliases ≡ map (λ row. []) list.language_aliases
+pub alias_regions : map (name_at table.ALIAS_REGION_NAMES) table.ALIAS_REGIONS ≡ map (λ row. row.to.region) list.language_aliases
 unfolding list.language_aliases fold_byte
 alias_regions = refl
 
@@ -51,9 +51,13 @@ pub alias_languages_good : list_all (λ name. is_language_field (name_text name)
 unfolding is_primary is_letter
 alias_languages_good = refl
 
-pub alias_scripts_good : list_all (λ name. is_script_field (name_text name)) table.ALIAS_SCRIPTS ≡ true
+pub alias_scripts_good : list_all (λ name. is_script_field (name_text name)) table.ALIAS_SCRIPT_NAMES ≡ true
 unfolding is_script is_letter
 alias_scripts_good = refl
+
+pub alias_regions_good : list_all (λ name. is_region_field (name_text name)) table.ALIAS_REGION_NAMES ≡ true
+unfolding is_region is_letter is_digit
+alias_regions_good = refl
 
 pub region_alias_numbers : table.REGION_ALIAS_KEYS ≡ map (λ row. folded_number row.from.region) list.region_aliases
 unfolding list.region_aliases folded_number fold_byte

@@ -12,11 +12,11 @@ ghost use Rattle.langtag_likely.specs.declared.alias_tables.TheConstants.{ALIAS_
 use crate::alias_tables as tables;
 use crate::fields::or_other;
 use crate::keys::index_of;
-use crate::names::name_at;
+use crate::names::{name_at, name_in};
 use crate::rows::language_number;
 use crate::tag_fields::TagFields;
 
-/// Returns fields with another language in place of one that is deprecated, and with the script that it brings.
+/// Returns fields with another language in place of one that CLDR replaces, and with the script or the region that it brings.
 #[tactic(auto, unfolding(crate::specs::Matching::language_replaced))]
 pub(crate) fn language_replaced<'a>(fields: TagFields<'a>) -> TagFields<'a>
     ensures { field_texts result ≡ spec.language_replaced (field_texts fields.entry) }
@@ -48,9 +48,9 @@ fn language_alias(fields: TagFields<'_>) -> Option<TagFields<'static>>
     let number = language_number(fields.language) as u16;
     let index = alias_keys().binary_search(&number).ok()?;
     Some(TagFields {
-        language: name_at(&tables::ALIAS_LANGUAGES, index as u8),
-        script: name_at(&tables::ALIAS_SCRIPTS, index as u8),
-        region: b"",
+        language: name_at(&tables::ALIAS_LANGUAGES, index),
+        script: name_in(&tables::ALIAS_SCRIPT_NAMES, &tables::ALIAS_SCRIPTS, index),
+        region: name_in(&tables::ALIAS_REGION_NAMES, &tables::ALIAS_REGIONS, index),
     })
 }
 
@@ -63,7 +63,7 @@ fn region_alias(fields: TagFields<'_>) -> Option<TagFields<'static>>
     Some(TagFields {
         language: b"",
         script: b"",
-        region: name_at(&tables::REGION_ALIAS_NAMES, index as u8),
+        region: name_at(&tables::REGION_ALIAS_NAMES, index),
     })
 }
 

@@ -8,10 +8,20 @@ use crate::matching::matching_form;
 use crate::tables;
 use langtag::{LangTag, case_insensitive_eq};
 
-/// Returns whether a tag is written from right to left: true of `he`, `pa-PK`, `az-Arab` and `und-Thaa`, false of `ar-Latn`.
+/// Returns whether a tag's language is written from right to left: `true` for `he`, `pa-PK`, `az-Arab` and `und-Thaa`,
+/// `false` for `ar-Latn`.
 ///
-/// By the script of the tag and, where it names none, by the one that its language and its region have most likely; what is
-/// deprecated is read as what replaces it (`iw`). A tag for private use, an irregular one and `und` are not.
+/// It depends on the script of the tag. If the tag has none, the most likely script of its language and region is used.
+/// Deprecated subtags such as `iw` count as their replacements. It is `false` for private-use tags, irregular tags and
+/// `und`.
+///
+/// ```
+/// use langtag::LangTag;
+/// use langtag_likely::is_right_to_left;
+///
+/// is_right_to_left(LangTag::new("az-IR")?); // true
+/// is_right_to_left(LangTag::new("az")?); // false
+/// ```
 pub fn is_right_to_left(tag: LangTag<'_>) -> bool
     ensures { result ≡ spec.is_right_to_left (lang_tag_text tag.entry) }
 {

@@ -1,5 +1,6 @@
-//! Likely subtags (UTS #35, part 1, section 'Likely Subtags') over Unicode's CLDR: the script and the region that a language has
-//! most likely, added to a tag or taken out of it; whether a tag is written from right to left; and the tags of POSIX locales' names.
+//! Likely subtags (UTS #35, part 1, section 'Likely Subtags') from Unicode's CLDR. They are the most likely script and
+//! region of a language, which can be added to a tag or removed from it. Also the direction of writing, and the tags of
+//! POSIX locale names.
 //!
 //! ```
 //! use langtag::LangTag;

@@ -8,7 +8,7 @@ ghost use Rattle.langtag_likely.specs.Texts.{field_texts};
 use crate::rows::likely_for;
 use crate::tag_fields::TagFields;
 
-/// Returns the fields with what is likely in place of each that is empty; None where nothing is known.
+/// Returns the fields with what is likely in place of each that is empty; `None` if nothing is known.
 pub(crate) fn add_likely<'a>(fields: TagFields<'a>) -> Option<TagFields<'a>>
     ensures { option_map field_texts result ≡ add_likely likely_subtags (field_texts fields.entry) }
 {
@@ -35,7 +35,7 @@ fn looked_up(fields: TagFields<'_>) -> Option<TagFields<'static>>
     likely_for(fields.language_alone())
 }
 
-/// Returns the fewest fields that have the same maximal form; None where nothing is known.
+/// Returns the fewest fields that have the same maximal form; `None` if nothing is known.
 pub(crate) fn remove_likely<'a>(fields: TagFields<'a>) -> Option<TagFields<'a>>
     ensures { option_map field_texts result ≡ remove_likely likely_subtags (field_texts fields.entry) }
 {

@@ -4,11 +4,11 @@ ghost use Rattle.std.specs.List.{list_all};
 ghost use Rattle.langtag_likely.specs.Numbers.{name_at, name_length};
 
 /// Returns the name at an index.
-pub(crate) fn name_at(names: &'static [[u8; 4]], index: u8) -> &'static [u8]
+pub(crate) fn name_at(names: &'static [[u8; 4]], index: usize) -> &'static [u8]
     requires { index < length names.now }
     ensures { result.now ≡ name_at names.now index }
 {
-    let name = &names[usize::from(index)];
+    let name = &names[index];
     &name[..name_length(name)]
 }
 
@@ -22,7 +22,7 @@ pub(crate) fn name_in(
     requires named { IsTrue (list_all (λ i. nat_lt i (length names.now)) column.now) }
     ensures { result.now ≡ slice_index_or (map (name_at names.now) column.now) index [] }
 {
-    name_at(names, column[index])
+    name_at(names, usize::from(column[index]))
 }
 
 /// Returns how many letters a name has before the zeros that fill it up.

@@ -21,17 +21,26 @@ use std::alloc::{AllocError, Global};
 /// The greatest length of a language and a territory, in bytes.
 const MOST: usize = 255;
 
-/// Returns the tag of a POSIX locale's name (IEEE Std 1003.1, section 8.2), `language[_territory][.codeset][@modifier]`: `pt-BR` of
-/// `pt_BR.UTF-8`, `sr-Latn-RS` of `sr_RS@latin`, `ca-ES-valencia` of `ca_ES.UTF-8@valencia`.
+/// Returns the tag of a POSIX locale's name (IEEE Std 1003.1, section 8.2),
+/// `language[_territory][.codeset][@modifier]`: `pt-BR` for `pt_BR.UTF-8`, `sr-Latn-RS` for `sr_RS@latin`,
+/// `ca-ES-valencia` for `ca_ES.UTF-8@valencia`.
 ///
-/// The codeset is dropped. Of the modifiers `latin`, `cyrillic` and `devanagari` say a script and `valencia` a variant, in any
-/// case; another one, as `euro` or `phonebook`, says how to sort or to pay, and nothing of the language. Each `_` is read as a
-/// hyphen, and all else is left to the caller: case stays, and so does what is deprecated.
+/// The codeset is dropped. The modifiers `latin`, `cyrillic` and `devanagari` name a script, and `valencia` a variant,
+/// ignoring case. Other modifiers, such as `euro` or `phonebook`, are dropped, because they do not name a language.
+/// Each `_` is read as a hyphen. Case and deprecated subtags stay as they are.
 ///
 /// # Errors
 ///
-/// A name comes back where its language and territory are no tag, as of `C`, `en_` and the empty text, or are `POSIX`, in any
-/// case, or have more than 255 bytes, which no system's names have. Out of memory.
+/// Returns `NoTag` with the name if its language and territory are not a tag, as in `C`, `en_` and the empty text, or
+/// are `POSIX`, ignoring case, or have more than 255 bytes, which no system's names have. Returns `Memory` if
+/// allocation fails.
+///
+/// ```
+/// use langtag_likely::from_posix;
+///
+/// from_posix(alloc, "sr_RS@latin")?.as_str(); // "sr-Latn-RS"
+/// from_posix(alloc, "C").is_err(); // true
+/// ```
 pub fn from_posix(alloc: Global, name: &str) -> Result<LangTagBuf, PosixError<'_>>
     ensures accepts { IfOk result (λ tag. NamesTag name.now × IsTagOfName name.now (lang_tag_buf_text tag)) }
     ensures one { IfOk result (λ tag. (form : List ℕ) → IsTagOfName name.now form → form ≡ lang_tag_buf_text tag) }
@@ -57,9 +66,9 @@ fn bytes_of(alloc: Global, name: &[u8]) -> Result<Option<Vec<u8>>, AllocError>
     Ok(Some(bytes))
 }
 
-/// Writes the tag of a POSIX locale's name, as [`from_posix`] returns it, into a buffer, and returns its length in bytes; None
-/// of a name that says none. Where the buffer is too short it stays as it was: the length says how much room there has to be.
-/// No memory is taken.
+/// Writes the tag of a POSIX locale's name to a buffer, as [`from_posix`] returns it, and returns its length in bytes,
+/// or `None` if the name has no tag. If the buffer is too short, it stays unchanged, and the length says how much room
+/// is needed. It does not allocate.
 pub fn write_from_posix(name: &[u8], buffer: &mut [u8]) -> Option<usize>
     ensures written { MatchOption result (NamesTag name.now → ⊥)
         (λ len. NamesTag name.now × Writes (IsTagOfName name.now) buffer.old buffer.new len) }

@@ -5,7 +5,7 @@ ghost use Rattle.langtag_likely.specs.declared.posix_error.PosixError.TheVariant
 use std::alloc::AllocError;
 use thiserror::Error;
 
-/// Why there is no tag of a POSIX locale's name.
+/// The error for a POSIX locale's name: why it has no tag.
 ///
 /// ```
 /// use langtag_likely::{PosixError, from_posix};
@@ -14,10 +14,10 @@ use thiserror::Error;
 /// ```
 #[derive(Debug, Drop, Error)]
 pub enum PosixError<'a> {
-    /// The name says no language, and comes back: `C`, `POSIX`, the empty text, and what is no tag, as `en_`.
+    /// The name, which has no language: `C`, `POSIX`, the empty text, or a text that is not a tag, such as `en_`.
     #[error("no locale's name that says a language: {0}")]
     NoTag(&'a str),
-    /// Out of memory.
+    /// Allocation failed.
     #[error("out of memory")]
     Memory(AllocError),
 }

@@ -1,6 +1,6 @@
 //! Unicode's CLDR 48.2 in tables (the notice: likely/LICENSE-UNICODE). Written by likely/generate.py. Do not edit.
 
-/// The major version of the Unicode CLDR that this crate has, which is 48.2.
+/// The major version of Unicode's CLDR in this crate, which is 48.2.
 pub const CLDR_VERSION: &str = "48";
 
 /// The scripts: their lowercase bytes as the digits of a number, in rising order.

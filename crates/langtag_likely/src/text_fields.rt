@@ -13,7 +13,7 @@ use crate::tag_fields::TagFields;
 use langtag_scan::{is_extended, is_primary, is_region, is_script, split_at_either};
 
 impl<'a> TagFields<'a> {
-    /// Returns the fields of a text in which `_` is read as `-`: None where it does not begin with a language.
+    /// Returns the fields of a text in which `_` is read as `-`: `None` if it does not begin with a language.
     #[tactic(auto, using(crate::proofs::FieldClasses::known_language, crate::proofs::FieldClasses::known_script, crate::proofs::FieldClasses::known_region, crate::proofs::FieldClasses::from_primary, crate::proofs::TextParts::no_fields, crate::proofs::TextParts::all_fields))]
     pub(crate) fn of_text(text: &'a [u8]) -> Option<TagFields<'a>>
         ensures { option_map field_texts result ≡ spec.text_fields (hyphened text.now) }

@@ -7,7 +7,8 @@ use crate::page::Page;
 use crate::run_error::RunError;
 use std::io::Write;
 
-/// What answers a line: the text that [`answer_lines`](crate::answer_lines) writes for it, which the line alone determines.
+/// What answers a line: the text that [`answer_lines`](crate::answer_lines) writes for it, which depends only on the
+/// line.
 pub trait Answerer {
     /// Whether a text is the answer to a line.
     ghost is_answer: { List ℕ → List ℕ → Type 0 };

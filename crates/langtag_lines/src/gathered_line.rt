@@ -3,8 +3,8 @@ ghost use Rattle.std.specs.Prelude.{◌≡◌, ℕ, List, [], ◌++◌, OnOk};
 
 use std::alloc::AllocError;
 
-/// The bytes of a line so far: a `Vec`, or what a caller of [`answer_lines_in`](crate::answer_lines_in) gathers them in, as
-/// an array that refuses longer lines.
+/// The bytes of a line so far: a `Vec`, or another type of the caller of [`answer_lines_in`](crate::answer_lines_in),
+/// such as an array that refuses longer lines.
 pub trait GatheredLine {
     /// What has been added since the line was last cleared.
     ghost bytes: { Self → List ℕ };

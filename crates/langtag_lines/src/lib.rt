@@ -1,7 +1,7 @@
 //! Lines of an input, and what answers them: reads each line, and writes its answer in order.
 //!
-//! A line ends at LF. A last line without LF is answered if it is not empty. CR is an ordinary byte. What the answer to a
-//! line is, is up to an [`Answerer`]:
+//! A line ends at LF. A last line without LF is answered if it is not empty. CR is an ordinary byte. An [`Answerer`]
+//! decides what the answer to a line is:
 //!
 //! ```
 //! use langtag_lines::{Answerer, Page, RunError, answer_lines, conclude};
@@ -25,7 +25,7 @@
 //! conclude(ended, &mut rt.stderr()) // the exit status
 //! ```
 //!
-//! That the page gains the answer is proved by the lemma `Answers-one` of `proofs/Written`, once for each `put_line`.
+//! That the page gains the answer is proved by the lemma `Answers-one` for `proofs/Written`, once for each `put_line`.
 #![tactic(auto)]
 
 mod answerer;

@@ -1,4 +1,4 @@
-//! A page: the buffer that answers are gathered in before they are written.
+//! A page: the buffer in which answers are collected before they are written.
 ghost use Rattle.std.specs.Prelude.{◌≡◌, ◌+◌, ◌≤◌, List, ℕ, [], ◌++◌, length, take, OnOk, IsOkUnless};
 ghost use Rattle.std.specs.Io.KnownBytes.{Appends, append_known};
 ghost use Rattle.std.specs.List.{flat_map};
@@ -14,8 +14,8 @@ const PAGE_LEN: usize = 16_384;
 
 /// The answers that are not written yet, so that one write serves many lines.
 ///
-/// It allocates no memory. It is written out before the next read, so that no answer waits for input. Answers longer than
-/// a page are written in several writes, whole and in order.
+/// It does not allocate. It is written before the next read, so no answer waits for input. Answers longer than a page
+/// are written in several writes, complete and in order.
 #[derive(Drop)]
 pub struct Page {
     bytes: [u8; PAGE_LEN],

@@ -19,14 +19,14 @@ const LINE_FEED: u8 = b'\n';
 
 /// Writes the answer to each line of the input, each followed by LF, and flushes once at the end.
 ///
-/// Answers are gathered on a page, which is written out when it is full and before the next read. The page and the buffer
-/// for reads have fixed sizes. Memory is allocated only for a line that does not lie within one read, its LF too, as a last
-/// line without LF, and by the answerer.
+/// Answers are collected on a page, which is written when it is full and before the next read. The page and the buffer
+/// for reads have fixed sizes. Only the answerer allocates, and a line that does not lie within one read with its LF.
 ///
 /// # Errors
 ///
-/// `Memory` if there is not enough memory for such a line, or for an answer. `Read` at the first error of the reader, also
-/// an interruption, and if the input has not ended after 2^64 - 1 reads. `Write` if `write_all` or the flush fails.
+/// Returns `Memory` if allocation fails for such a line or for an answer. Returns `Read` at the first error of the
+/// reader, which may be an interruption, and if the input has not ended after 2^64 - 1 reads. Returns `Write` if
+/// `write_all` or the flush fails.
 pub fn answer_lines<A: Answerer, R: Read, W: Write>(
     alloc: Global,
     answerer: &A,
@@ -46,12 +46,12 @@ pub fn answer_lines<A: Answerer, R: Read, W: Write>(
     answer_lines_in(answerer, Vec::new(alloc), input, output)
 }
 
-/// Does the same, and gathers a line that does not lie within one read in the given one: for a caller who bounds the length
-/// of such lines, or has memory for them. What the line has at the start is lost.
+/// Does the same, and collects a line that does not lie within one read in the given `line`. Use it to limit the length
+/// of such lines, or to provide their memory. The previous content of `line` is lost.
 ///
 /// # Errors
 ///
-/// As [`answer_lines`], and `Memory` if the line refuses bytes.
+/// Returns the errors of [`answer_lines`], and `Memory` if the line refuses bytes.
 pub fn answer_lines_in<A: Answerer, L: GatheredLine + Drop, R: Read, W: Write>(
     answerer: &A,
     mut line: L,

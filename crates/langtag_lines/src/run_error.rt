@@ -4,8 +4,8 @@ ghost use Rattle.std.specs.Prelude.{◌≡◌, ◌↔◌, IsTrue};
 /// An error that ended a run.
 #[derive(Clone, Copy, Debug, PartialEq, Eq)]
 pub enum RunError {
-    /// There was not enough memory for a line, or for its answer. The answers to the complete lines before it are written: to
-    /// all that ended before the last read, and to the first ones that it brought.
+    /// Allocation failed for a line or for its answer. The complete lines before it are answered: all that ended before
+    /// the last read, and the first ones of that read.
     Memory,
     /// A read failed, or the input had not ended after 2^64 - 1 reads. The answers to all complete lines that were read
     /// are written.
@@ -18,8 +18,8 @@ impl RunError {
     ghost use Rattle.langtag_lines.specs.RunError.{message_of, status_of};
     ghost use Rattle.langtag_lines.specs.declared.run_error.RunError.{RunError};
 
-    /// Returns the text that the program writes to standard error, without the LF. The contract also says that errors are
-    /// equal where they are the same, and that there always is a clone, which is the error itself.
+    /// Returns the text that the program writes to standard error, without the LF. It is proved that errors are equal
+    /// exactly if they are the same, and that a clone succeeds and is the same error.
     pub fn text(&self) -> &'static str
         ensures message { result.now ≡ message_of self.now }
 

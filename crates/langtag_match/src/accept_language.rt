@@ -12,7 +12,7 @@ use langtag::LangTag;
 use std::alloc::{AllocError, Global};
 use std::cmp::Reverse;
 
-/// The ranges that a header accepts, those of the greatest weight first: of `fr;q=0.5, de, *;q=0` they are `de` with the
+/// The ranges that a header accepts, the greatest weight first. For `fr;q=0.5, de, *;q=0` these are `de` with the
 /// weight 1000 and `fr` with 500.
 ///
 /// ```
@@ -31,13 +31,14 @@ impl<'a> AcceptLanguage<'a> {
     ghost use Rattle.langtag_match.specs.Compared.{WeightedRangesCompareByBoth};
     ghost use Rattle.langtag_match.specs.Text.{accept_language_ranges};
 
-    /// Reads a header, and leaves out the ranges of weight 0, which are not acceptable. Ranges of one weight keep their
-    /// order, and empty elements are passed over: `AcceptLanguage::new(alloc, ",de,")` is Ok.
+    /// Parses a header by RFC 9110, and leaves out the ranges of weight 0, which are not acceptable. Ranges of equal
+    /// weight keep their order. Empty elements are skipped: `AcceptLanguage::new(alloc, ",de,")` is `Ok`.
     ///
     /// # Errors
     ///
-    /// Refuses a whole header for one element that is neither empty nor a basic language range with or without a weight, and
-    /// returns it with the offset of the first such element; or out of memory.
+    /// Returns `BadElement` if an element is neither empty nor a basic language range with an optional weight. It
+    /// contains the whole header, and the index and offset of the first such element. Returns `Memory` if allocation
+    /// fails.
     pub fn new(
         alloc: Global,
         header: &'a str,
@@ -51,11 +52,18 @@ impl<'a> AcceptLanguage<'a> {
         Ok(AcceptLanguage::by_weight(read)?)
     }
 
-    /// Reads a header as [`AcceptLanguage::new`] does, and passes bad elements over: of `de, *-CH` it takes `de`.
+    /// Parses a header as [`AcceptLanguage::new`] does, but skips malformed elements: `de, *-CH` has the range `de`.
     ///
     /// # Errors
     ///
-    /// Out of memory.
+    /// Returns an error if allocation fails.
+    ///
+    /// ```
+    /// use langtag_match::AcceptLanguage;
+    ///
+    /// let accepted = AcceptLanguage::lenient(alloc, "de_CH, fr;q=0.5, de")?;
+    /// accepted.ranges().first().map(|first| first.range.as_str()); // Some("de")
+    /// ```
     pub fn lenient(alloc: Global, header: &'a str) -> Result<AcceptLanguage<'a>, AllocError>
         ensures { IfOk result (λ accepted. spec.AreElements header.now (accept_language_ranges accepted)) }
     {
@@ -73,8 +81,8 @@ impl<'a> AcceptLanguage<'a> {
         Ok(AcceptLanguage { ranges })
     }
 
-    /// Returns the ranges, those of the greatest weight first: `ranges()[0].range.as_str()` is `"de"` for
-    /// `fr;q=0.5, de`. It is proved which of them are equal, and that a clone of one is the same.
+    /// Returns the ranges, the greatest weight first: `ranges()[0].range.as_str()` is `"de"` for `fr;q=0.5, de`. It is
+    /// proved which ranges are equal, and that a clone is the same value.
     pub fn ranges(&self) -> &[WeightedRange<'a>]
         ensures list { result.now ≡ accept_language_ranges self.now }
 
@@ -85,8 +93,8 @@ impl<'a> AcceptLanguage<'a> {
         self.ranges.as_slice()
     }
 
-    /// Looks up a tag for the ranges, or returns the default, as [`look_up`](crate::look_up) does: `de-CH` for
-    /// `fr;q=0.3, DE-ch-1996;q=0.9` and the tags `de-CH` and `fr`.
+    /// Returns the tag that look-up finds for the ranges, or the default, as [`look_up`](crate::look_up) does: `de-CH`
+    /// for `fr;q=0.3, DE-ch-1996;q=0.9` and the tags `de-CH` and `fr`.
     pub fn look_up<'t>(&self, tags: &[LangTag<'t>], default: LangTag<'t>) -> LangTag<'t>
         ensures { result ≡ choice tags.now default.entry (spec.range_texts (accept_language_ranges self.now)) }
     {
@@ -99,15 +107,25 @@ impl<'a> AcceptLanguage<'a> {
     }
 }
 
-/// Looks up a tag for a header: `AcceptLanguage::new` and `look_up` in one call.
+/// Returns the tag that look-up finds for a header, or the default: [`AcceptLanguage::new`] and
+/// [`AcceptLanguage::look_up`] in one call.
 ///
-/// For `fr;q=0.3, DE-ch-1996;q=0.9` and the tags `de-CH` and `fr` it is `de-CH`.
+/// For `fr;q=0.3, DE-ch-1996;q=0.9` and the tags `de-CH` and `fr` it returns `de-CH`.
 ///
-/// This is RFC 4647 to the letter: `zh-TW` finds no `zh-Hant`. What a site wants is `langtag_choice::best_for_header`.
+/// This follows RFC 4647 to the letter, so `zh-TW` does not find `zh-Hant`. Most sites want
+/// `langtag_choice::best_for_header`.
 ///
 /// # Errors
 ///
-/// Those of [`AcceptLanguage::new`].
+/// Returns the errors of [`AcceptLanguage::new`].
+///
+/// ```
+/// use langtag::LangTag;
+/// use langtag_match::tag_for_header;
+///
+/// let tags = [LangTag::new("de-CH")?, LangTag::new("fr")?];
+/// tag_for_header(alloc, "fr;q=0.3, DE-ch-1996;q=0.9", &tags, LangTag::new("en")?)?.as_str(); // "de-CH"
+/// ```
 pub fn tag_for_header<'h, 't>(
     alloc: Global,
     header: &'h str,

@@ -6,7 +6,8 @@ use std::alloc::AllocError;
 use std::fmt;
 use thiserror::Error;
 
-/// The part of an element that is bad: of `de-` its language range, of `de;q=2` its weight. Where both are, it is the range.
+/// The part of an element that is malformed: the language range in `de-`, the weight in `de;q=2`. If both are
+/// malformed, it is the range.
 ///
 /// ```
 /// use langtag_match::ElementPart;
@@ -15,9 +16,9 @@ use thiserror::Error;
 /// ```
 #[derive(Debug, Drop)]
 pub enum ElementPart {
-    /// What stands before the `;`, or the whole element without one, is not a basic language range.
+    /// The text before the `;`, or the whole element if it has no `;`, is not a basic language range.
     Range,
-    /// What stands after the `;` is not a weight.
+    /// The text after the `;` is not a weight.
     Weight,
 }
 
@@ -30,7 +31,8 @@ impl fmt::Display for ElementPart {
     }
 }
 
-/// Why a header was refused: `de, *-CH` is a `BadElement` with the index 1, the offset 3 and [`ElementPart::Range`].
+/// The error for an Accept-Language header. For `de, *-CH` it is a `BadElement` with the index 1, the offset 3 and
+/// [`ElementPart::Range`].
 ///
 /// ```
 /// use langtag_match::{AcceptLanguage, AcceptLanguageError};
@@ -40,19 +42,19 @@ impl fmt::Display for ElementPart {
 /// ```
 #[derive(Debug, Drop, Error)]
 pub enum AcceptLanguageError<'a> {
-    /// The first element that is bad.
+    /// The first malformed element.
     #[error("element {index} has a bad {part}")]
     BadElement {
         /// The header.
         header: &'a str,
-        /// The index of the element: how many commas stand before it.
+        /// The index of the element, which is the number of commas before it.
         index: usize,
-        /// The offset in bytes just after the last of these commas.
+        /// The offset in bytes just after the last of those commas.
         offset: usize,
-        /// The part that is bad.
+        /// The part that is malformed.
         part: ElementPart,
     },
-    /// Out of memory for the list. The caller has the header still.
+    /// Allocation failed for the list of ranges.
     #[error("out of memory")]
     Memory(AllocError),
 }

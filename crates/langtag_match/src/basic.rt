@@ -4,7 +4,7 @@ ghost use Rattle.langtag_match.specs.Basic as spec;
 
 use langtag::case_insensitive_eq;
 
-/// Returns whether a range is `*`, or a tag is equal to it but for case, or begins so and goes on with a hyphen.
+/// Returns whether a range is `*`, or equals a tag, or equals the beginning of a tag before a hyphen. Case is ignored.
 pub(crate) fn matches_basic(range: &str, tag: &str) -> bool
     ensures { IsTrue result ↔ spec.MatchesBasic range.now tag.now }
 {

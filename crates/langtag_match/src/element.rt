@@ -12,7 +12,7 @@ use crate::weight::weight_of;
 use crate::weighted_range::WeightedRange;
 use langtag_scan::len_before;
 
-/// An element of a header, and where its range stands.
+/// An element of a header, and the offset of its range.
 ///
 /// ```
 /// use langtag_match::element_at;
@@ -22,19 +22,26 @@ use langtag_scan::len_before;
 /// ```
 #[derive(Debug, Drop)]
 pub struct Element<'a> {
-    /// The number of bytes before the range: spaces and tabs.
+    /// The number of bytes before the range, which are spaces and tabs.
     pub start: usize,
     /// The range and its weight.
     pub weighted: WeightedRange<'a>,
 }
 
-/// Reads what stands between two commas of an Accept-Language header (RFC 9110 section 12.5.4), which need not be UTF-8: of
-/// ` fr;q=0.5` the range is `fr`, which begins at 1, and the weight 500. Without a weight it is 1000.
+/// Parses the text between two commas of an Accept-Language header (RFC 9110 section 12.5.4). In ` fr;q=0.5` the range
+/// is `fr`, which begins at 1, and the weight is 500. The default weight is 1000. The bytes need not be UTF-8.
 ///
 /// # Errors
 ///
-/// Returns the part that is bad where it is not an element: of `fr_FR` the range, of `fr;q=2` the weight, and the range where
-/// both are. It is the range too where nothing stands there, or white space alone, which [`is_empty_element`] tells.
+/// Returns the part that is malformed if the text is not an element: the range in `fr_FR`, the weight in `fr;q=2`. If
+/// both are malformed, or if the text is empty or only white space, it is the range. See [`is_empty_element`].
+///
+/// ```
+/// use langtag_match::element_at;
+///
+/// let element = element_at(b" fr;q=0.5").ok();
+/// element.map(|it| (it.start, it.weighted.range.as_str(), it.weighted.weight)); // Some((1, "fr", 500))
+/// ```
 #[tactic(auto, unfolding(crate::specs::AcceptLanguage::element, crate::specs::AcceptLanguage::bad_part))]
 pub fn element_at(item: &[u8]) -> Result<Element<'_>, ElementPart>
     ensures read { IfOk result (λ found. spec.element item.now ≡ Some (spec.reading found.weighted)) }
@@ -55,8 +62,8 @@ pub fn element_at(item: &[u8]) -> Result<Element<'_>, ElementPart>
     Ok(Element { start, weighted })
 }
 
-/// Returns whether what stands between two commas of a header is empty, but for spaces and tabs: such an element is to be
-/// passed over (RFC 9110 section 5.6.1.2).
+/// Returns whether the text between two commas of a header is empty except for spaces and tabs. Such an element must be
+/// skipped (RFC 9110 section 5.6.1.2).
 pub fn is_empty_element(item: &[u8]) -> bool
     ensures { result ≡ spec.is_ows item.now }
 {

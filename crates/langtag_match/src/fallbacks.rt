@@ -9,11 +9,11 @@ ghost use Rattle.langtag_match.specs.Text.{language_range_text, fallbacks_left};
 use crate::language_range::LanguageRange;
 use langtag::segment_start;
 
-/// What is left of a range when subtags are taken away from its end, the longest first and the range itself before all:
-/// `zh-Hant-TW`, `zh-Hant` and `zh` (RFC 4647 section 3.4).
+/// An iterator over a range and its fallbacks, the longest first: `zh-Hant-TW`, `zh-Hant` and `zh`
+/// (RFC 4647 section 3.4).
 ///
-/// A single letter or digit goes with the subtag after it, and so does `*`: `de-CH-x-a` is followed by `de-CH`, and
-/// `de-*-DE` by `de`.
+/// A single letter or digit is removed together with the subtag after it, and so is `*`: `de-CH` follows `de-CH-x-a`,
+/// and `de` follows `de-*-DE`.
 ///
 /// ```
 /// use langtag_match::LanguageRange;

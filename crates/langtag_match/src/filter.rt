@@ -10,14 +10,25 @@ use crate::filter_rule::FilterRule;
 use crate::language_range::LanguageRange;
 use langtag::LangTag;
 
-/// Iterates over the tags that basic filtering finds for a language priority list (RFC 4647 sections 3.3 and 3.3.1): those
-/// of the first range in their order, and then, for each later range, those that no range before it matches.
+/// Returns an iterator over the tags that basic filtering finds for a language priority list (RFC 4647 sections 3.3 and
+/// 3.3.1). The tags of the first range come first, and then, for each later range, those that no earlier range matches.
 ///
-/// For the ranges `de-CH` and `de` and the tags `en`, `de-AT` and `de-CH-1996` these are `de-CH-1996` and `de-AT`. A tag is
-/// found as often as it stands in the list.
+/// For the ranges `de-CH` and `de` and the tags `en`, `de-AT` and `de-CH-1996` these are `de-CH-1996` and `de-AT`. A
+/// tag that is in the list twice is found twice.
 ///
-/// Each tag is compared with each range, and with those before it once more for each range that matches it: where many
-/// ranges match one tag the time grows with the square of their number.
+/// Each tag is compared with each range. For each range that matches, it is compared again with the earlier ranges. So
+/// if many ranges match one tag, the time is quadratic in their number.
+///
+/// ```
+/// use langtag::LangTag;
+/// use langtag_match::{filter_basic, LanguageRange};
+///
+/// let ranges = [LanguageRange::new("de-CH")?, LanguageRange::new("de")?];
+/// let tags = [LangTag::new("en")?, LangTag::new("de-AT")?, LangTag::new("de-CH-1996")?];
+/// let mut found = filter_basic(&ranges, &tags);
+/// found.next().map(|tag| tag.as_str()); // Some("de-CH-1996")
+/// found.next().map(|tag| tag.as_str()); // Some("de-AT")
+/// ```
 pub fn filter_basic<'a, 't>(
     ranges: &'a [LanguageRange<'a>],
     tags: &'a [LangTag<'t>],
@@ -32,8 +43,17 @@ pub fn filter_basic<'a, 't>(
     Filtered::new(FilterRule::Basic, ranges, tags)
 }
 
-/// Does the same by extended filtering (section 3.3.2), at the same cost: for `*-CH` and the tags `de-AT` and `de-Latn-CH`
-/// it is `de-Latn-CH`.
+/// Returns an iterator over the tags that extended filtering finds (RFC 4647 section 3.3.2), in the same order and time
+/// as [`filter_basic`]: for `*-CH` and the tags `de-AT` and `de-Latn-CH` it is `de-Latn-CH`.
+///
+/// ```
+/// use langtag::LangTag;
+/// use langtag_match::{filter_extended, LanguageRange};
+///
+/// let ranges = [LanguageRange::new("*-CH")?];
+/// let tags = [LangTag::new("de-AT")?, LangTag::new("de-Latn-CH")?];
+/// filter_extended(&ranges, &tags).next().map(|tag| tag.as_str()); // Some("de-Latn-CH")
+/// ```
 pub fn filter_extended<'a, 't>(
     ranges: &'a [LanguageRange<'a>],
     tags: &'a [LangTag<'t>],
@@ -46,7 +66,7 @@ pub fn filter_extended<'a, 't>(
     Filtered::new(FilterRule::Extended, ranges, tags)
 }
 
-/// The tags that [`filter_basic`] or [`filter_extended`] finds and that are still to come. It takes no memory.
+/// The iterator that [`filter_basic`] and [`filter_extended`] return. It does not allocate.
 ///
 /// ```
 /// use langtag::LangTag;

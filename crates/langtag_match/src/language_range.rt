@@ -19,7 +19,7 @@ use std::fmt;
 use std::fmt::Debug;
 use thiserror::Error;
 
-/// The error for a text that is not a language range. It holds the text.
+/// The error for a text that is not a language range. It contains the text.
 ///
 /// ```
 /// use langtag_match::LanguageRange;
@@ -33,9 +33,9 @@ pub struct InvalidLanguageRange<T>(pub T);
 
 /// A language range, basic or extended (RFC 4647 sections 2.1 and 2.2): `de-CH`, `*`, `*-CH`, `de-*-DE`.
 ///
-/// It is one or more subtags of up to eight letters or digits, the first of letters alone, and in the place of each may
-/// stand `*`. A range need not be a tag: `de-x` and `a-1` are ranges. Two ranges are equal where their texts differ at most
-/// in the case of ASCII letters.
+/// A range has one or more subtags, each of which is `*` or up to eight letters and digits. The first has letters only.
+/// A range need not be a tag: `de-x` and `a-1` are ranges. Two ranges are equal if their texts differ only in the case
+/// of ASCII letters.
 ///
 /// ```
 /// use langtag::LangTag;
@@ -55,11 +55,11 @@ impl<'a> LanguageRange<'a> {
     ghost use Rattle.langtag_match.specs.Compared.{LanguageRangesCompareByCase};
     ghost use Rattle.langtag_match.specs.Text.{language_range_text, language_range_buf_text, fallbacks_left};
 
-    /// Reads a text as a range: `LanguageRange::new("de-*-DE")` is Ok.
+    /// Parses a text as a range: `LanguageRange::new("de-*-DE")` is `Ok`.
     ///
     /// # Errors
     ///
-    /// Returns the text where it is not a range: `LanguageRange::new("de_DE")` is `Err(InvalidLanguageRange("de_DE"))`.
+    /// Returns the text if it is not a range: `LanguageRange::new("de_DE")` is `Err(InvalidLanguageRange("de_DE"))`.
     pub fn new(text: &'a str) -> Result<LanguageRange<'a>, InvalidLanguageRange<&'a str>>
         ensures accepts { is_ok result ≡ spec.is_language_range text.now }
         ensures same_text { IfOk result (λ range. language_range_text range ≡ text.now) }
@@ -71,7 +71,7 @@ impl<'a> LanguageRange<'a> {
         Ok(LanguageRange::from_checked(text))
     }
 
-    /// Makes a range of a text that is known to be one, and does not read it again.
+    /// Returns the range of a text that is known to be one, without checking it.
     /// `LanguageRange::from_checked(range.as_str())` is equal to `range`.
     pub fn from_checked(text: &'a str) -> LanguageRange<'a>
         requires { IsTrue (spec.is_language_range text.now) }
@@ -82,7 +82,7 @@ impl<'a> LanguageRange<'a> {
         }
     }
 
-    /// Returns the text, with its case: `LanguageRange::new("de-ch")?.as_str()` is `"de-ch"`.
+    /// Returns the text, in its original case: `LanguageRange::new("de-ch")?.as_str()` is `"de-ch"`.
     pub fn as_str(&self) -> &'a str
         ensures same_text { result.now ≡ language_range_text self.now }
         ensures in_class { IsTrue (spec.is_language_range result.now) }
@@ -90,9 +90,9 @@ impl<'a> LanguageRange<'a> {
         self.text.0
     }
 
-    /// Returns whether any text is equal but for the case of ASCII letters:
-    /// `LanguageRange::new("de-CH")?.eq_str("DE-ch")` is true. It is proved that ranges compare and hash so, and that a
-    /// clone is the range itself.
+    /// Returns whether another text is equal, ignoring the case of ASCII letters:
+    /// `LanguageRange::new("de-CH")?.eq_str("DE-ch")` is `true`. It is proved that comparisons and hashes also ignore
+    /// case, and that a clone is the same value.
     pub fn eq_str(&self, other: &str) -> bool
         ensures test { result ≡ are_alike (language_range_text self.now) other.now }
 
@@ -103,17 +103,33 @@ impl<'a> LanguageRange<'a> {
         self.text == Caseless(other)
     }
 
-    /// Returns whether the range is a basic one (RFC 4647 section 2.1): true of `de-CH` and of `*`, false of `*-CH`.
+    /// Returns whether the range is a basic one (RFC 4647 section 2.1): `true` for `de-CH` and `*`, `false` for `*-CH`.
+    ///
+    /// ```
+    /// use langtag_match::LanguageRange;
+    ///
+    /// LanguageRange::new("de-CH")?.is_basic(); // true
+    /// LanguageRange::new("*-CH")?.is_basic(); // false
+    /// ```
     pub fn is_basic(&self) -> bool
         ensures { result ≡ spec.is_basic_range (language_range_text self.now) }
     {
         is_basic_range(self.as_str())
     }
 
-    /// Returns whether the range matches a tag by basic filtering (RFC 4647 section 3.3.1): `de-DE` matches `de-DE-1996`, and
-    /// neither `de-Deva` nor `de-Latn-DE`.
+    /// Returns whether the range matches a tag by basic filtering (RFC 4647 section 3.3.1): `de-DE` matches
+    /// `de-DE-1996`, but neither `de-Deva` nor `de-Latn-DE`.
     ///
-    /// It is meant for basic ranges. A `*` beside other subtags equals no subtag of a tag, so `de-*` matches nothing.
+    /// It is meant for basic ranges. In other ranges `*` equals no subtag, so `de-*` matches nothing.
+    ///
+    /// ```
+    /// use langtag::LangTag;
+    /// use langtag_match::LanguageRange;
+    ///
+    /// let range = LanguageRange::new("de-DE")?;
+    /// range.matches_basic(&LangTag::new("de-DE-1996")?); // true
+    /// range.matches_basic(&LangTag::new("de-Latn-DE")?); // false
+    /// ```
     pub fn matches_basic(&self, tag: &LangTag<'_>) -> bool
         ensures matches { IsTrue result ↔ MatchesBasic (language_range_text self.now) (lang_tag_text tag.now) }
         ensures test { result ≡ test_basic (language_range_text self.now) (lang_tag_text tag.now) }
@@ -121,8 +137,17 @@ impl<'a> LanguageRange<'a> {
         matches_basic(self.as_str(), tag.as_str())
     }
 
-    /// Returns whether the range matches a tag by extended filtering (RFC 4647 section 3.3.2): `de-DE` and `de-*-DE` match
-    /// `de-Latn-DE-1996`, and not `de-x-DE`, where a singleton would be left out.
+    /// Returns whether the range matches a tag by extended filtering (RFC 4647 section 3.3.2): `de-DE` and `de-*-DE`
+    /// match `de-Latn-DE-1996`. They do not match `de-x-DE`, because a singleton is never skipped.
+    ///
+    /// ```
+    /// use langtag::LangTag;
+    /// use langtag_match::LanguageRange;
+    ///
+    /// let range = LanguageRange::new("de-DE")?;
+    /// range.matches_extended(&LangTag::new("de-Latn-DE-1996")?); // true
+    /// range.matches_extended(&LangTag::new("de-x-DE")?); // false
+    /// ```
     pub fn matches_extended(&self, tag: &LangTag<'_>) -> bool
         ensures matches { IsTrue result ↔ MatchesExtended (language_range_text self.now) (lang_tag_text tag.now) }
         ensures test { result ≡ test_extended (language_range_text self.now) (lang_tag_text tag.now) }
@@ -130,8 +155,16 @@ impl<'a> LanguageRange<'a> {
         matches_extended(self.as_str(), tag.as_str())
     }
 
-    /// Iterates over the range and what is left of it when subtags are taken away from its end, the longest first (RFC 4647
-    /// section 3.4): `zh-Hant-TW`, `zh-Hant` and `zh`. [`look_up`](crate::look_up) looks for these.
+    /// Returns an iterator over the range and its fallbacks, the longest first (RFC 4647 section 3.4): `zh-Hant-TW`,
+    /// `zh-Hant` and `zh`. [`look_up`](crate::look_up) tries them in this order.
+    ///
+    /// ```
+    /// use langtag_match::LanguageRange;
+    ///
+    /// let mut fallbacks = LanguageRange::new("zh-Hant-TW")?.fallbacks();
+    /// fallbacks.next().map(|range| range.as_str()); // Some("zh-Hant-TW")
+    /// fallbacks.next().map(|range| range.as_str()); // Some("zh-Hant")
+    /// ```
     pub fn fallbacks(&self) -> Fallbacks<'a>
         ensures list { fallbacks_left result ≡ fallbacks (language_range_text self.now) }
         ensures few { length (fallbacks_left result) < 2 ^ 64 }
@@ -142,11 +175,11 @@ impl<'a> LanguageRange<'a> {
         Fallbacks::new(*self)
     }
 
-    /// Copies the text into an owned range: `LanguageRange::new("de-*")?.try_to_owned(alloc)?.as_str()` is `"de-*"`.
+    /// Copies the text into an owned value: `LanguageRange::new("de-*")?.try_to_owned(alloc)?.as_str()` is `"de-*"`.
     ///
     /// # Errors
     ///
-    /// Out of memory.
+    /// Returns an error if allocation fails.
     pub fn try_to_owned(&self, alloc: Global) -> Result<LanguageRangeBuf, AllocError>
         ensures { IfOk result (λ owned. language_range_buf_text owned ≡ language_range_text self.now) }
     {
@@ -185,11 +218,11 @@ impl LanguageRangeBuf {
     ghost use Rattle.langtag_match.specs.Compared.{LanguageRangeBufsCompareByCase};
     ghost use Rattle.langtag_match.specs.Text.{language_range_text, language_range_buf_string, language_range_buf_text};
 
-    /// Reads a text as a range, and neither copies it nor moves it in memory: of the `String` `de-*` it is Ok.
+    /// Parses a `String` as a range and keeps it, without copying: `de-*` is `Ok`.
     ///
     /// # Errors
     ///
-    /// Returns the same `String` where it is not a range, as `de-`.
+    /// Returns the same `String` if it is not a range, such as `de-`.
     pub fn new(text: String) -> Result<LanguageRangeBuf, InvalidLanguageRange<String>>
         ensures accepts { is_ok result ≡ spec.is_language_range (string_bytes text) }
         ensures same_text { IfOk result (λ range. language_range_buf_text range ≡ string_bytes text) }
@@ -204,8 +237,8 @@ impl LanguageRangeBuf {
         })
     }
 
-    /// Borrows the range: `as_language_range().is_basic()` of the owned `de` is true. It is proved that owned ranges
-    /// compare and hash without regard to case.
+    /// Borrows the range: `LanguageRange::new("de")?.try_to_owned(alloc)?.as_language_range().is_basic()` is `true`. It
+    /// is proved that comparisons and hashes of owned ranges ignore case.
     pub fn as_language_range(&self) -> LanguageRange<'_>
         ensures same_text { language_range_text result ≡ language_range_buf_text self.now }
 
@@ -214,7 +247,8 @@ impl LanguageRangeBuf {
         LanguageRange::from_checked(self.as_str())
     }
 
-    /// Returns the text, with its case: `as_str()` of the owned `de-ch` is `"de-ch"`.
+    /// Returns the text, in its original case: `LanguageRange::new("de-ch")?.try_to_owned(alloc)?.as_str()` is
+    /// `"de-ch"`.
     pub fn as_str(&self) -> &str
         ensures same_text { result.now ≡ language_range_buf_text self.now }
         ensures in_class { IsTrue (spec.is_language_range result.now) }
@@ -222,7 +256,8 @@ impl LanguageRangeBuf {
         self.text.0.as_str()
     }
 
-    /// Returns the text itself, which is not copied: `into_string()` of the owned `de-ch` is the `String` `de-ch`.
+    /// Returns the `String`, without copying it: `LanguageRange::new("de-ch")?.try_to_owned(alloc)?.into_string()` is
+    /// `"de-ch"`.
     pub fn into_string(self) -> String
         ensures same_text { string_bytes result ≡ language_range_buf_text self }
         ensures same_string { result ≡ language_range_buf_string self }

@@ -8,14 +8,23 @@ ghost use Rattle.langtag_match.specs.Text.{language_range_text};
 use crate::language_range::LanguageRange;
 use langtag::LangTag;
 
-/// Returns the tag of the first range that finds one, or the default (RFC 4647 section 3.4). A range finds the tag that is
-/// equal to it, or else to the first of its [`fallbacks`](LanguageRange::fallbacks) that is one of the tags.
+/// Returns the tag of the first range that finds one, or the default (RFC 4647 section 3.4). A range finds the tag that
+/// equals it, or else the longest of its [`fallbacks`](LanguageRange::fallbacks).
 ///
-/// For the ranges `nl` and `zh-Hant-CN` it is `nl` where the tags have it, else `zh-Hant-CN`, `zh-Hant` or `zh`, and else
+/// For the ranges `nl` and `zh-Hant-CN` it tries `nl`, `zh-Hant-CN`, `zh-Hant` and `zh` in this order, and then returns
 /// the default.
 ///
-/// An extended range is looked up as the basic one without its `*` (section 3.2): `de-*-DE` as `de-DE`. A range that begins
-/// with `*` finds no tag, so that the next range is looked up.
+/// An extended range is looked up without its `*` (section 3.2): `de-*-DE` as `de-DE`. A range that begins with `*`
+/// finds no tag, and the next range is tried.
+///
+/// ```
+/// use langtag::LangTag;
+/// use langtag_match::{look_up, LanguageRange};
+///
+/// let ranges = [LanguageRange::new("nl")?, LanguageRange::new("zh-Hant-CN")?];
+/// let tags = [LangTag::new("zh")?, LangTag::new("zh-Hant")?];
+/// look_up(&ranges, &tags, LangTag::new("en")?).as_str(); // "zh-Hant"
+/// ```
 pub fn look_up<'a>(
     ranges: &[LanguageRange<'_>],
     tags: &[LangTag<'a>],

@@ -1,4 +1,4 @@
-//! The language ranges of a header of which nothing is refused.
+//! The language ranges of a header, read leniently.
 ghost use Rattle.std.specs.Prelude.{◌≡◌, ◌<◌, ◌^◌, ◌∷◌, [], length};
 ghost use Rattle.std.specs.Iterator.{YieldsFirstBy, item_count};
 ghost use Rattle.std.specs.Option.{option_map_or};
@@ -7,7 +7,7 @@ ghost use Rattle.langtag_match.specs.Wanted as spec;
 use crate::wanted_element::wanted_at;
 use langtag_scan::split_at_byte;
 
-/// A language range of a header, and its weight. `_` may stand in its bytes where a language range has a hyphen.
+/// A language range of a header, and its weight. Its bytes may have `_` in place of a hyphen.
 ///
 /// ```
 /// use langtag_match::wanted_ranges;
@@ -19,11 +19,11 @@ use langtag_scan::split_at_byte;
 pub struct WantedRange<'a> {
     /// The text, in which `_` means `-`: `de_CH` is the range `de-CH`.
     pub bytes: &'a [u8],
-    /// The weight in thousandths, from 0 to 1000. What has the weight 0 is not acceptable.
+    /// The weight in thousandths, from 0 to 1000. A range of weight 0 is not acceptable.
     pub weight: u32,
 }
 
-/// The language ranges of a header that are still to come. It takes no memory.
+/// The iterator that [`wanted_ranges`] returns. It does not allocate.
 ///
 /// ```
 /// use langtag_match::wanted_ranges;
@@ -35,15 +35,24 @@ pub struct WantedRanges<'a> {
     rest: &'a [u8],
 }
 
-/// Iterates over the language ranges of an Accept-Language header, in its order and with those of weight 0, and refuses
-/// nothing: of `de_CH, zh_CN.UTF-8;q=1.5, german language;q=0.3, en;level=1;Q=.5` they are `de-CH` and `zh-CN`, of the weight
-/// 1000, and `en`, of 500.
+/// Returns an iterator over the language ranges of an Accept-Language header, in its order. It includes those of weight
+/// 0, and accepts any header. For `de_CH, zh_CN.UTF-8;q=1.5, german language;q=0.3, en;level=1;Q=.5` the ranges are
+/// `de-CH` and `zh-CN`, of weight 1000, and `en`, of weight 500.
 ///
-/// In a range `_` is read as `-`, and what follows `.` or `@` is dropped; what is no range then is passed over. Parameters
-/// other than `q` count for nothing, a weight that is no number is 1, and so is one above 1. A weight may have a decimal
-/// comma: `fr;q=0,8` has the weight 800. [`AcceptLanguage`] reads a header by the letter of RFC 9110.
+/// In a range, `_` is read as `-`, and everything after `.` or `@` is dropped. If the rest is not a range, the element
+/// is skipped. Parameters other than `q` are ignored. A weight that is not a number, or is above 1, counts as 1. A
+/// weight may have a decimal comma: `fr;q=0,8` has the weight 800. [`AcceptLanguage`] reads a header by the letter of
+/// RFC 9110.
 ///
 /// [`AcceptLanguage`]: crate::AcceptLanguage
+///
+/// ```
+/// use langtag_match::wanted_ranges;
+///
+/// let mut ranges = wanted_ranges(b"de_CH, en;q=.5");
+/// ranges.next().map(|it| (it.bytes, it.weight)); // Some((&b"de_CH"[..], 1000))
+/// ranges.next().map(|it| (it.bytes, it.weight)); // Some((&b"en"[..], 500))
+/// ```
 pub fn wanted_ranges<'a>(header: &'a [u8]) -> WantedRanges<'a>
     ensures list { spec.wanted_left result ≡ spec.wanted_elements header.now }
     ensures case { spec.IgnoresCase header.now (spec.wanted_left result) }
@@ -72,8 +81,8 @@ impl<'a> Iterator for WantedRanges<'a> {
     }
 }
 
-/// Returns the first range of a header, as [`wanted_ranges`] reads it, and what stands after its comma: `de` and `en` for
-/// `de,en`. None where there is none. Whoever keeps what follows walks over the ranges by a `Copy` value.
+/// Returns the first range of a header, as [`wanted_ranges`] reads it, and the text after its comma: `de` and `en` for
+/// `de,en`. Returns `None` if there is no range. Use it to walk over the ranges with a `Copy` value.
 #[tactic(auto, using(crate::proofs::WantedTexts::elements_at, crate::proofs::WantedTexts::nothing_wanted, crate::proofs::WantedTexts::shorter, crate::proofs::WantedTexts::few_wanted))]
 pub fn split_wanted(header: &[u8]) -> Option<(WantedRange<'_>, &[u8])>
     ensures first { spec.wanted_elements header.now

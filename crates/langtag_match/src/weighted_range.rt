@@ -1,8 +1,8 @@
 //! A language range with its weight (RFC 9110 section 12.5.4).
 use crate::language_range::LanguageRange;
 
-/// A language range and its weight: `fr;q=0.25` in a header is the range `fr` with the weight 250.
-/// Two of them are equal where the weights are, and the ranges are equal without regard to case.
+/// A language range and its weight: `fr;q=0.25` in a header is the range `fr` with the weight 250. Two of them are
+/// equal if their weights are equal, and their ranges are equal, ignoring case.
 ///
 /// ```
 /// use langtag_match::AcceptLanguage;
@@ -12,10 +12,10 @@ use crate::language_range::LanguageRange;
 /// ```
 #[derive(Clone, Copy, Debug, PartialEq, Eq)]
 pub struct WeightedRange<'a> {
-    /// The range: one of [`AcceptLanguage::ranges`](crate::AcceptLanguage::ranges) is a basic one, with the case that it has
-    /// in the header.
+    /// The range, in the case of the header. In [`AcceptLanguage::ranges`](crate::AcceptLanguage::ranges) it is a basic
+    /// range.
     pub range: LanguageRange<'a>,
-    /// The weight in thousandths: of a range of [`AcceptLanguage::ranges`](crate::AcceptLanguage::ranges) it is from 1 to
-    /// 1000, since ranges of the weight 0 are left out.
+    /// The weight in thousandths. In [`AcceptLanguage::ranges`](crate::AcceptLanguage::ranges) it is from 1 to 1000,
+    /// because ranges of weight 0 are left out.
     pub weight: u32,
 }

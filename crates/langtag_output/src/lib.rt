@@ -1,4 +1,5 @@
-//! Texts that are put piece by piece into a buffer of the caller's: 5 bytes for the pieces `en`, `-` and `MM`. No memory is taken.
+//! Texts that are written piece by piece into a buffer of the caller: 5 bytes for the pieces `en`, `-` and `MM`. It
+//! does not allocate.
 #![tactic(auto)]
 
 mod output;

@@ -1,4 +1,4 @@
-//! Pieces of a text that are written into a buffer of the caller's.
+//! Pieces of a text that are written into a buffer of the caller.
 ghost use Rattle.std.specs.Prelude.{◌≡◌, ◌<◌, ◌≤◌, ◌-◌, ◌^◌, length};
 ghost use Rattle.std.specs.List.{flat_map};
 ghost use Rattle.langtag_output.specs.Output.{IsCounted};
@@ -6,12 +6,11 @@ ghost use Rattle.langtag_output.specs.Writes.{Writes};
 
 use crate::output::Output;
 
-/// Writes the pieces of a text one after the other into a buffer, and returns the length of that text in bytes: 5 for `en`,
-/// `-` and `MM`. Where the buffer is too short it stays as it was: the length says how much room there has to be. No memory is
-/// taken.
+/// Writes pieces of text one after another to a buffer, and returns their total length in bytes: 5 for `en`, `-` and
+/// `MM`. If the buffer is too short, it stays unchanged, and the length says how much room is needed. It does not
+/// allocate.
 ///
-/// A text of more than `usize::MAX` bytes, which pieces that lie over one another can have, is given that length, for which
-/// no buffer has the room.
+/// The length is at most `usize::MAX`, even if overlapping pieces have more bytes in all.
 pub fn write_pieces(pieces: &[&[u8]], buffer: &mut [u8]) -> usize
     ensures written { let text = flat_map (λ piece. piece.now) pieces.now in
         length text < 2 ^ 64 → Writes (λ new. new ≡ text) buffer.old buffer.new result }

@@ -1,4 +1,4 @@
-//! What may stand after the language of a tag: script, region and variants (RFC 5646 sections 2.2.3 to 2.2.5).
+//! The parts that may follow the language of a tag: script, region and variants (RFC 5646 sections 2.2.3 to 2.2.5).
 //!
 //! ```rust
 //! use langtag_place::{Region, Variants};

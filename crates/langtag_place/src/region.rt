@@ -12,7 +12,7 @@ use std::fmt;
 use std::fmt::Debug;
 use thiserror::Error;
 
-/// The error for a text that is not a region. It hands the text back.
+/// The error for a text that is not a region. It contains the text.
 ///
 /// ```
 /// use langtag_place::Region;
@@ -25,9 +25,9 @@ use thiserror::Error;
 #[error_bound(T: Debug + Drop)]
 pub struct InvalidRegion<T>(pub T);
 
-/// A region subtag (RFC 5646 section 2.2.4): two letters, as `FR`, or three digits, as `419`.
+/// A region subtag (RFC 5646 section 2.2.4): two letters, such as `FR`, or three digits, such as `419`.
 ///
-/// Two regions are equal where their texts differ at most in the case of ASCII letters: `fr` and `FR` are.
+/// Two regions are equal if their texts differ only in the case of ASCII letters, such as `fr` and `FR`.
 ///
 /// ```
 /// use langtag_place::Region;
@@ -46,11 +46,11 @@ impl<'a> Region<'a> {
     ghost use Rattle.langtag_place.specs.Compared.{RegionsCompareByCase};
     ghost use Rattle.langtag_place.specs.Text.{region_text, region_buf_text};
 
-    /// Parses a text as a region: `Region::new("fr")` is Ok.
+    /// Parses a text as a region: `Region::new("fr")` is `Ok`.
     ///
     /// # Errors
     ///
-    /// A text that is neither two letters nor three digits comes back: `Region::new("FR1")` is
+    /// Returns the text if it is neither two letters nor three digits: `Region::new("FR1")` is
     /// `Err(InvalidRegion("FR1"))`.
     #[tactic(auto, using(crate::proofs::Numbers::region_numbers))]
     pub fn new(text: &'a str) -> Result<Region<'a>, InvalidRegion<&'a str>>
@@ -67,8 +67,8 @@ impl<'a> Region<'a> {
         Ok(Region::from_checked(text))
     }
 
-    /// Returns the region of a text that is known to be one, without a test. `Region::from_checked(region.as_str())` is
-    /// equal to `region`.
+    /// Returns the region of a text that is known to be one, without checking it.
+    /// `Region::from_checked(region.as_str())` is equal to `region`.
     pub fn from_checked(text: &'a str) -> Region<'a>
         requires { IsTrue (class.is_region text.now) }
         ensures { region_text result ≡ text.now }
@@ -78,7 +78,7 @@ impl<'a> Region<'a> {
         }
     }
 
-    /// Returns the text, with its case: `Region::new("FR")?.as_str()` is `"FR"`.
+    /// Returns the text, in its original case: `Region::new("FR")?.as_str()` is `"FR"`.
     pub fn as_str(&self) -> &'a str
         ensures same_text { result.now ≡ region_text self.now }
         ensures in_class { IsTrue (class.is_region result.now) }
@@ -86,16 +86,15 @@ impl<'a> Region<'a> {
         self.text.0
     }
 
-    /// Returns the bytes of the text: `Region::new("FR")?.as_bytes()` is `b"FR"`.
+    /// Returns the text as bytes: `Region::new("FR")?.as_bytes()` is `b"FR"`.
     pub fn as_bytes(&self) -> &'a [u8]
         ensures { result.now ≡ region_text self.now }
     {
         self.as_str().as_bytes()
     }
 
-    /// Returns whether another text, of any form, is equal but for the case of ASCII letters:
-    /// `Region::new("fr")?.eq_str("FR")` is true. It is proved that regions are compared, ordered and hashed so, and
-    /// that a clone is the value itself.
+    /// Returns whether another text is equal, ignoring the case of ASCII letters: `Region::new("fr")?.eq_str("FR")` is
+    /// `true`. It is proved that comparisons and hashes also ignore case, and that a clone is the same value.
     pub fn eq_str(&self, other: &str) -> bool
         ensures test { result ≡ are_alike (region_text self.now) other.now }
 
@@ -106,11 +105,11 @@ impl<'a> Region<'a> {
         self.text == Caseless(other)
     }
 
-    /// Returns the owned form of the same text: `Region::new("FR")?.try_to_owned(alloc)?.as_str()` is `"FR"`.
+    /// Copies the text into an owned value: `Region::new("FR")?.try_to_owned(alloc)?.as_str()` is `"FR"`.
     ///
     /// # Errors
     ///
-    /// Out of memory.
+    /// Returns an error if allocation fails.
     pub fn try_to_owned(&self, alloc: Global) -> Result<RegionBuf, AllocError>
         ensures { IfOk result (λ owned. region_buf_text owned ≡ region_text self.now) }
     {
@@ -150,11 +149,11 @@ impl RegionBuf {
     ghost use Rattle.langtag_place.specs.Compared.{RegionBufsCompareByCase};
     ghost use Rattle.langtag_place.specs.Text.{region_text, region_buf_string, region_buf_text};
 
-    /// Parses a `String` as a region, and keeps it, without a copy: `fr` is Ok.
+    /// Parses a `String` as a region and keeps it, without copying: `fr` is `Ok`.
     ///
     /// # Errors
     ///
-    /// A text that is neither two letters nor three digits comes back, the same `String`: `FR1` does.
+    /// Returns the same `String` if it is neither two letters nor three digits, such as `FR1`.
     pub fn new(text: String) -> Result<RegionBuf, InvalidRegion<String>>
         ensures accepts { is_ok result ≡ class.is_region (string_bytes text) }
         ensures same_text { IfOk result (λ region. region_buf_text region ≡ string_bytes text) }
@@ -169,8 +168,8 @@ impl RegionBuf {
         })
     }
 
-    /// Borrows the region: `as_region().as_str()` of the owned `FR` is `"FR"`. It is proved that owned regions are
-    /// compared, ordered and hashed without regard to case.
+    /// Borrows the region: `Region::new("FR")?.try_to_owned(alloc)?.as_region().as_str()` is `"FR"`. It is proved that
+    /// comparisons and hashes of owned regions ignore case.
     pub fn as_region(&self) -> Region<'_>
         ensures same_text { region_text result ≡ region_buf_text self.now }
 
@@ -179,7 +178,7 @@ impl RegionBuf {
         Region::from_checked(self.as_str())
     }
 
-    /// Returns the text, with its case: `as_str()` of the owned `FR` is `"FR"`.
+    /// Returns the text, in its original case: `Region::new("FR")?.try_to_owned(alloc)?.as_str()` is `"FR"`.
     pub fn as_str(&self) -> &str
         ensures same_text { result.now ≡ region_buf_text self.now }
         ensures in_class { IsTrue (class.is_region result.now) }
@@ -187,7 +186,7 @@ impl RegionBuf {
         self.text.0.as_str()
     }
 
-    /// Returns the text itself, without a copy: `into_string()` of the owned `FR` is the `String` `FR`.
+    /// Returns the `String`, without copying it: `Region::new("FR")?.try_to_owned(alloc)?.into_string()` is `"FR"`.
     pub fn into_string(self) -> String
         ensures same_text { string_bytes result ≡ region_buf_text self }
         ensures same_string { result ≡ region_buf_string self }

@@ -12,7 +12,7 @@ use std::fmt;
 use std::fmt::Debug;
 use thiserror::Error;
 
-/// The error for a text that is not a script. It hands the text back.
+/// The error for a text that is not a script. It contains the text.
 ///
 /// ```
 /// use langtag_place::Script;
@@ -25,9 +25,9 @@ use thiserror::Error;
 #[error_bound(T: Debug + Drop)]
 pub struct InvalidScript<T>(pub T);
 
-/// A script subtag (RFC 5646 section 2.2.3): four letters, as `Latn`.
+/// A script subtag (RFC 5646 section 2.2.3): four letters, such as `Latn`.
 ///
-/// Two scripts are equal where their texts differ at most in the case of ASCII letters: `Latn` and `LATN` are.
+/// Two scripts are equal if their texts differ only in the case of ASCII letters, such as `Latn` and `LATN`.
 ///
 /// ```
 /// use langtag_place::Script;
@@ -46,11 +46,11 @@ impl<'a> Script<'a> {
     ghost use Rattle.langtag_place.specs.Compared.{ScriptsCompareByCase};
     ghost use Rattle.langtag_place.specs.Text.{script_text, script_buf_text};
 
-    /// Parses a text as a script: `Script::new("Latn")` is Ok.
+    /// Parses a text as a script: `Script::new("Latn")` is `Ok`.
     ///
     /// # Errors
     ///
-    /// A text that is not four letters comes back: `Script::new("Lat")` is `Err(InvalidScript("Lat"))`.
+    /// Returns the text if it is not four letters: `Script::new("Lat")` is `Err(InvalidScript("Lat"))`.
     #[tactic(auto, using(crate::proofs::Numbers::script_numbers))]
     pub fn new(text: &'a str) -> Result<Script<'a>, InvalidScript<&'a str>>
         ensures accepts { is_ok result ≡ class.is_script text.now }
@@ -64,8 +64,8 @@ impl<'a> Script<'a> {
         Ok(Script::from_checked(text))
     }
 
-    /// Returns the script of a text that is known to be one, without a test. `Script::from_checked(script.as_str())` is
-    /// equal to `script`.
+    /// Returns the script of a text that is known to be one, without checking it.
+    /// `Script::from_checked(script.as_str())` is equal to `script`.
     pub fn from_checked(text: &'a str) -> Script<'a>
         requires { IsTrue (class.is_script text.now) }
         ensures { script_text result ≡ text.now }
@@ -75,7 +75,7 @@ impl<'a> Script<'a> {
         }
     }
 
-    /// Returns the text, with its case: `Script::new("LATN")?.as_str()` is `"LATN"`.
+    /// Returns the text, in its original case: `Script::new("LATN")?.as_str()` is `"LATN"`.
     pub fn as_str(&self) -> &'a str
         ensures same_text { result.now ≡ script_text self.now }
         ensures in_class { IsTrue (class.is_script result.now) }
@@ -83,16 +83,15 @@ impl<'a> Script<'a> {
         self.text.0
     }
 
-    /// Returns the bytes of the text: `Script::new("LATN")?.as_bytes()` is `b"LATN"`.
+    /// Returns the text as bytes: `Script::new("LATN")?.as_bytes()` is `b"LATN"`.
     pub fn as_bytes(&self) -> &'a [u8]
         ensures { result.now ≡ script_text self.now }
     {
         self.as_str().as_bytes()
     }
 
-    /// Returns whether another text, of any form, is equal but for the case of ASCII letters:
-    /// `Script::new("Latn")?.eq_str("LATN")` is true. It is proved that scripts are compared, ordered and hashed so,
-    /// and that a clone is the value itself.
+    /// Returns whether another text is equal, ignoring the case of ASCII letters: `Script::new("Latn")?.eq_str("LATN")`
+    /// is `true`. It is proved that comparisons and hashes also ignore case, and that a clone is the same value.
     pub fn eq_str(&self, other: &str) -> bool
         ensures test { result ≡ are_alike (script_text self.now) other.now }
 
@@ -103,11 +102,11 @@ impl<'a> Script<'a> {
         self.text == Caseless(other)
     }
 
-    /// Returns the owned form of the same text: `Script::new("LATN")?.try_to_owned(alloc)?.as_str()` is `"LATN"`.
+    /// Copies the text into an owned value: `Script::new("LATN")?.try_to_owned(alloc)?.as_str()` is `"LATN"`.
     ///
     /// # Errors
     ///
-    /// Out of memory.
+    /// Returns an error if allocation fails.
     pub fn try_to_owned(&self, alloc: Global) -> Result<ScriptBuf, AllocError>
         ensures { IfOk result (λ owned. script_buf_text owned ≡ script_text self.now) }
     {
@@ -147,11 +146,11 @@ impl ScriptBuf {
     ghost use Rattle.langtag_place.specs.Compared.{ScriptBufsCompareByCase};
     ghost use Rattle.langtag_place.specs.Text.{script_text, script_buf_string, script_buf_text};
 
-    /// Parses a `String` as a script, and keeps it, without a copy: `Latn` is Ok.
+    /// Parses a `String` as a script and keeps it, without copying: `Latn` is `Ok`.
     ///
     /// # Errors
     ///
-    /// A text that is not four letters comes back, the same `String`: `Lat` does.
+    /// Returns the same `String` if it is not four letters, such as `Lat`.
     pub fn new(text: String) -> Result<ScriptBuf, InvalidScript<String>>
         ensures accepts { is_ok result ≡ class.is_script (string_bytes text) }
         ensures same_text { IfOk result (λ script. script_buf_text script ≡ string_bytes text) }
@@ -166,8 +165,8 @@ impl ScriptBuf {
         })
     }
 
-    /// Borrows the script: `as_script().as_str()` of the owned `LATN` is `"LATN"`. It is proved that owned scripts are
-    /// compared, ordered and hashed without regard to case.
+    /// Borrows the script: `Script::new("LATN")?.try_to_owned(alloc)?.as_script().as_str()` is `"LATN"`. It is proved
+    /// that comparisons and hashes of owned scripts ignore case.
     pub fn as_script(&self) -> Script<'_>
         ensures same_text { script_text result ≡ script_buf_text self.now }
 
@@ -176,7 +175,7 @@ impl ScriptBuf {
         Script::from_checked(self.as_str())
     }
 
-    /// Returns the text, with its case: `as_str()` of the owned `LATN` is `"LATN"`.
+    /// Returns the text, in its original case: `Script::new("LATN")?.try_to_owned(alloc)?.as_str()` is `"LATN"`.
     pub fn as_str(&self) -> &str
         ensures same_text { result.now ≡ script_buf_text self.now }
         ensures in_class { IsTrue (class.is_script result.now) }
@@ -184,7 +183,7 @@ impl ScriptBuf {
         self.text.0.as_str()
     }
 
-    /// Returns the text itself, without a copy: `into_string()` of the owned `LATN` is the `String` `LATN`.
+    /// Returns the `String`, without copying it: `Script::new("LATN")?.try_to_owned(alloc)?.into_string()` is `"LATN"`.
     pub fn into_string(self) -> String
         ensures same_text { string_bytes result ≡ script_buf_text self }
         ensures same_string { result ≡ script_buf_string self }

@@ -13,7 +13,7 @@ use std::fmt;
 use std::fmt::Debug;
 use thiserror::Error;
 
-/// The error for a text that is not a variant. It hands the text back.
+/// The error for a text that is not a variant. It contains the text.
 ///
 /// ```
 /// use langtag_place::Variant;
@@ -26,10 +26,10 @@ use thiserror::Error;
 #[error_bound(T: Debug + Drop)]
 pub struct InvalidVariant<T>(pub T);
 
-/// A variant subtag (RFC 5646 section 2.2.5): five to eight letters and digits, as `rozaj`, or four of which the
-/// first is a digit, as `1996`.
+/// A variant subtag (RFC 5646 section 2.2.5): five to eight letters and digits, such as `rozaj`, or four of which the
+/// first is a digit, such as `1996`.
 ///
-/// Two variants are equal where their texts differ at most in the case of ASCII letters: `rozaj` and `ROZAJ` are.
+/// Two variants are equal if their texts differ only in the case of ASCII letters, such as `rozaj` and `ROZAJ`.
 ///
 /// ```
 /// use langtag_place::Variant;
@@ -48,12 +48,12 @@ impl<'a> Variant<'a> {
     ghost use Rattle.langtag_place.specs.Compared.{VariantsCompareByCase};
     ghost use Rattle.langtag_place.specs.Text.{variant_text, variant_buf_text};
 
-    /// Parses a text as a variant: `Variant::new("rozaj")` is Ok.
+    /// Parses a text as a variant: `Variant::new("rozaj")` is `Ok`.
     ///
     /// # Errors
     ///
-    /// A text that is neither five to eight letters and digits nor four of which the first is a digit
-    /// comes back: `Variant::new("roza")` is `Err(InvalidVariant("roza"))`.
+    /// Returns the text if it is neither five to eight letters and digits nor four of which the first is a digit:
+    /// `Variant::new("roza")` is `Err(InvalidVariant("roza"))`.
     #[tactic(auto, using(crate::proofs::Numbers::variant_numbers))]
     pub fn new(text: &'a str) -> Result<Variant<'a>, InvalidVariant<&'a str>>
         ensures accepts { is_ok result ≡ class.is_variant text.now }
@@ -70,8 +70,8 @@ impl<'a> Variant<'a> {
         Ok(Variant::from_checked(text))
     }
 
-    /// Returns the variant of a text that is known to be one, without a test. `Variant::from_checked(variant.as_str())`
-    /// is equal to `variant`.
+    /// Returns the variant of a text that is known to be one, without checking it.
+    /// `Variant::from_checked(variant.as_str())` is equal to `variant`.
     pub fn from_checked(text: &'a str) -> Variant<'a>
         requires { IsTrue (class.is_variant text.now) }
         ensures { variant_text result ≡ text.now }
@@ -81,7 +81,7 @@ impl<'a> Variant<'a> {
         }
     }
 
-    /// Returns the text, with its case: `Variant::new("ROZAJ")?.as_str()` is `"ROZAJ"`.
+    /// Returns the text, in its original case: `Variant::new("ROZAJ")?.as_str()` is `"ROZAJ"`.
     pub fn as_str(&self) -> &'a str
         ensures same_text { result.now ≡ variant_text self.now }
         ensures in_class { IsTrue (class.is_variant result.now) }
@@ -89,16 +89,16 @@ impl<'a> Variant<'a> {
         self.text.0
     }
 
-    /// Returns the bytes of the text: `Variant::new("ROZAJ")?.as_bytes()` is `b"ROZAJ"`.
+    /// Returns the text as bytes: `Variant::new("ROZAJ")?.as_bytes()` is `b"ROZAJ"`.
     pub fn as_bytes(&self) -> &'a [u8]
         ensures { result.now ≡ variant_text self.now }
     {
         self.as_str().as_bytes()
     }
 
-    /// Returns whether another text, of any form, is equal but for the case of ASCII letters:
-    /// `Variant::new("rozaj")?.eq_str("ROZAJ")` is true. It is proved that variants are compared, ordered and hashed
-    /// so, and that a clone is the value itself.
+    /// Returns whether another text is equal, ignoring the case of ASCII letters:
+    /// `Variant::new("rozaj")?.eq_str("ROZAJ")` is `true`. It is proved that comparisons and hashes also ignore case,
+    /// and that a clone is the same value.
     pub fn eq_str(&self, other: &str) -> bool
         ensures test { result ≡ are_alike (variant_text self.now) other.now }
 
@@ -109,11 +109,11 @@ impl<'a> Variant<'a> {
         self.text == Caseless(other)
     }
 
-    /// Returns the owned form of the same text: `Variant::new("ROZAJ")?.try_to_owned(alloc)?.as_str()` is `"ROZAJ"`.
+    /// Copies the text into an owned value: `Variant::new("ROZAJ")?.try_to_owned(alloc)?.as_str()` is `"ROZAJ"`.
     ///
     /// # Errors
     ///
-    /// Out of memory.
+    /// Returns an error if allocation fails.
     pub fn try_to_owned(&self, alloc: Global) -> Result<VariantBuf, AllocError>
         ensures { IfOk result (λ owned. variant_buf_text owned ≡ variant_text self.now) }
     {
@@ -153,12 +153,12 @@ impl VariantBuf {
     ghost use Rattle.langtag_place.specs.Compared.{VariantBufsCompareByCase};
     ghost use Rattle.langtag_place.specs.Text.{variant_text, variant_buf_string, variant_buf_text};
 
-    /// Parses a `String` as a variant, and keeps it, without a copy: `rozaj` is Ok.
+    /// Parses a `String` as a variant and keeps it, without copying: `rozaj` is `Ok`.
     ///
     /// # Errors
     ///
-    /// A text that is neither five to eight letters and digits nor four of which the first is a digit
-    /// comes back, the same `String`: `roza` does.
+    /// Returns the same `String` if it is neither five to eight letters and digits nor four of which the first is a
+    /// digit, such as `roza`.
     pub fn new(text: String) -> Result<VariantBuf, InvalidVariant<String>>
         ensures accepts { is_ok result ≡ class.is_variant (string_bytes text) }
         ensures same_text { IfOk result (λ variant. variant_buf_text variant ≡ string_bytes text) }
@@ -173,8 +173,8 @@ impl VariantBuf {
         })
     }
 
-    /// Borrows the variant: `as_variant().as_str()` of the owned `ROZAJ` is `"ROZAJ"`. It is proved that owned variants
-    /// are compared, ordered and hashed without regard to case.
+    /// Borrows the variant: `Variant::new("ROZAJ")?.try_to_owned(alloc)?.as_variant().as_str()` is `"ROZAJ"`. It is
+    /// proved that comparisons and hashes of owned variants ignore case.
     pub fn as_variant(&self) -> Variant<'_>
         ensures same_text { variant_text result ≡ variant_buf_text self.now }
 
@@ -183,7 +183,7 @@ impl VariantBuf {
         Variant::from_checked(self.as_str())
     }
 
-    /// Returns the text, with its case: `as_str()` of the owned `ROZAJ` is `"ROZAJ"`.
+    /// Returns the text, in its original case: `Variant::new("ROZAJ")?.try_to_owned(alloc)?.as_str()` is `"ROZAJ"`.
     pub fn as_str(&self) -> &str
         ensures same_text { result.now ≡ variant_buf_text self.now }
         ensures in_class { IsTrue (class.is_variant result.now) }
@@ -191,7 +191,8 @@ impl VariantBuf {
         self.text.0.as_str()
     }
 
-    /// Returns the text itself, without a copy: `into_string()` of the owned `ROZAJ` is the `String` `ROZAJ`.
+    /// Returns the `String`, without copying it: `Variant::new("ROZAJ")?.try_to_owned(alloc)?.into_string()` is
+    /// `"ROZAJ"`.
     pub fn into_string(self) -> String
         ensures same_text { string_bytes result ≡ variant_buf_text self }
         ensures same_string { result ≡ variant_buf_string self }

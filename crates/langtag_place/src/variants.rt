@@ -15,7 +15,7 @@ use std::fmt;
 use std::fmt::Debug;
 use thiserror::Error;
 
-/// The error for a text that no list of variants spells. It hands the text back.
+/// The error for a text that is not variants. It contains the text.
 ///
 /// ```
 /// use langtag_place::Variants;
@@ -28,10 +28,11 @@ use thiserror::Error;
 #[error_bound(T: Debug + Drop)]
 pub struct InvalidVariants<T>(pub T);
 
-/// The variants of a tag, joined by hyphens, or nothing (RFC 5646 section 2.2.5), as `rozaj-1994`.
+/// The variants of a tag, joined by hyphens (RFC 5646 section 2.2.5), such as `rozaj-1994`. The empty text means no
+/// variants.
 ///
-/// A variant may stand twice: that makes a tag invalid, and leaves it well formed (section 2.2.9).
-/// Two lists are equal where their texts differ at most in the case of ASCII letters: `rozaj` and `ROZAJ` are.
+/// A variant may occur twice: such a tag is well formed but not valid (section 2.2.9). Two lists are equal if their
+/// texts differ only in the case of ASCII letters, such as `rozaj` and `ROZAJ`.
 ///
 /// ```
 /// use langtag_place::Variants;
@@ -54,12 +55,12 @@ impl<'a> Variants<'a> {
     /// No variants: `Variants::EMPTY.as_str()` is `""`.
     pub const EMPTY: Variants<'static> = Variants { text: Caseless("") };
 
-    /// Parses a text as variants: `Variants::new("rozaj-1994")` and `Variants::new("")` are Ok.
+    /// Parses a text as variants: `Variants::new("rozaj-1994")` and `Variants::new("")` are `Ok`.
     ///
     /// # Errors
     ///
-    /// A text that holds anything else than variants with one hyphen between neighbours comes back:
-    /// `Variants::new("rozaj-")` is `Err(InvalidVariants("rozaj-"))`.
+    /// Returns the text if it is not variants with one hyphen between neighbours: `Variants::new("rozaj-")` is
+    /// `Err(InvalidVariants("rozaj-"))`.
     pub fn new(text: &'a str) -> Result<Variants<'a>, InvalidVariants<&'a str>>
         ensures accepts { IsTrue (is_ok result) ↔ (IsVariants text.now) }
         ensures same_text { IfOk result (λ variants. variants_text variants ≡ text.now) }
@@ -71,7 +72,7 @@ impl<'a> Variants<'a> {
         Ok(Variants::from_checked(text))
     }
 
-    /// Returns the variants of a text that is known to be spelled by a list of them, without a test.
+    /// Returns the variants of a text that is known to be variants, without checking it.
     /// `Variants::from_checked(variants.as_str())` is equal to `variants`.
     pub fn from_checked(text: &'a str) -> Variants<'a>
         requires { IsVariants text.now }
@@ -82,7 +83,7 @@ impl<'a> Variants<'a> {
         }
     }
 
-    /// Returns the text, with its case: `Variants::new("ROZAJ-1994")?.as_str()` is `"ROZAJ-1994"`.
+    /// Returns the text, in its original case: `Variants::new("ROZAJ-1994")?.as_str()` is `"ROZAJ-1994"`.
     pub fn as_str(&self) -> &'a str
         ensures same_text { result.now ≡ variants_text self.now }
         ensures in_class { IsVariants result.now }
@@ -90,16 +91,16 @@ impl<'a> Variants<'a> {
         self.text.0
     }
 
-    /// Returns the bytes of the text: `Variants::new("ROZAJ-1994")?.as_bytes()` is `b"ROZAJ-1994"`.
+    /// Returns the text as bytes: `Variants::new("ROZAJ-1994")?.as_bytes()` is `b"ROZAJ-1994"`.
     pub fn as_bytes(&self) -> &'a [u8]
         ensures { result.now ≡ variants_text self.now }
     {
         self.as_str().as_bytes()
     }
 
-    /// Returns whether another text, of any form, is equal but for the case of ASCII letters:
-    /// `Variants::new("rozaj")?.eq_str("ROZAJ")` is true. It is proved that lists of variants are compared, ordered and
-    /// hashed so, and that a clone is the value itself.
+    /// Returns whether another text is equal, ignoring the case of ASCII letters:
+    /// `Variants::new("rozaj")?.eq_str("ROZAJ")` is `true`. It is proved that comparisons and hashes also ignore case,
+    /// and that a clone is the same value.
     pub fn eq_str(&self, other: &str) -> bool
         ensures test { result ≡ are_alike (variants_text self.now) other.now }
 
@@ -110,11 +111,11 @@ impl<'a> Variants<'a> {
         self.text == Caseless(other)
     }
 
-    /// Returns the owned form of the same text: `Variants::new("ROZAJ")?.try_to_owned(alloc)?.as_str()` is `"ROZAJ"`.
+    /// Copies the text into an owned value: `Variants::new("ROZAJ")?.try_to_owned(alloc)?.as_str()` is `"ROZAJ"`.
     ///
     /// # Errors
     ///
-    /// Out of memory.
+    /// Returns an error if allocation fails.
     pub fn try_to_owned(&self, alloc: Global) -> Result<VariantsBuf, AllocError>
         ensures { IfOk result (λ owned. variants_buf_text owned ≡ variants_text self.now) }
     {
@@ -124,7 +125,7 @@ impl<'a> Variants<'a> {
         })
     }
 
-    /// Returns the variants one by one, from either end: `rozaj` and `1994` of `rozaj-1994`.
+    /// Returns an iterator over the variants, from either end: `rozaj` and `1994` for `rozaj-1994`.
     pub fn iter(&self) -> VariantsIter<'a>
         ensures list { variants_left result ≡ subtags (variants_text self.now) }
         ensures spells { SpellsVariants (variants_left result) (variants_text self.now) }
@@ -135,7 +136,7 @@ impl<'a> Variants<'a> {
         VariantsIter::new(self.as_str())
     }
 
-    /// Returns the first variant, if there is one: `rozaj` of `rozaj-1994`, and None of the empty text.
+    /// Returns the first variant, if there is one: `rozaj` for `rozaj-1994`, `None` for the empty text.
     pub fn first(&self) -> Option<Variant<'a>>
         ensures member { (variants : List (List ℕ)) → SpellsVariants variants (variants_text self.now)
             → option_map variant_text result ≡ slice_get variants 0 }
@@ -143,7 +144,7 @@ impl<'a> Variants<'a> {
         self.iter().next()
     }
 
-    /// Returns the last variant, if there is one: `1994` of `rozaj-1994`, and `rozaj` of `rozaj`.
+    /// Returns the last variant, if there is one: `1994` for `rozaj-1994`.
     pub fn last(&self) -> Option<Variant<'a>>
         ensures member { (variants : List (List ℕ)) → SpellsVariants variants (variants_text self.now)
             → option_map variant_text result ≡ slice_get variants (length variants - 1) }
@@ -192,12 +193,11 @@ impl VariantsBuf {
     ghost use Rattle.langtag_place.specs.Compared.{VariantsBufsCompareByCase};
     ghost use Rattle.langtag_place.specs.Text.{variants_text, variants_buf_string, variants_buf_text};
 
-    /// Parses a `String` as variants, and keeps it, without a copy: `rozaj-1994` is Ok.
+    /// Parses a `String` as variants and keeps it, without copying: `rozaj-1994` is `Ok`.
     ///
     /// # Errors
     ///
-    /// A text that holds anything else than variants with one hyphen between neighbours comes back, the same
-    /// `String`: `rozaj-` does.
+    /// Returns the same `String` if it is not variants with one hyphen between neighbours, such as `rozaj-`.
     pub fn new(text: String) -> Result<VariantsBuf, InvalidVariants<String>>
         ensures accepts { IsTrue (is_ok result) ↔ (IsVariants (string_bytes text)) }
         ensures same_text { IfOk result (λ variants. variants_buf_text variants ≡ string_bytes text) }
@@ -212,8 +212,8 @@ impl VariantsBuf {
         })
     }
 
-    /// Borrows the variants: `as_variants().as_str()` of the owned `ROZAJ` is `"ROZAJ"`. It is proved that owned lists
-    /// of variants are compared, ordered and hashed without regard to case.
+    /// Borrows the variants: `Variants::new("ROZAJ")?.try_to_owned(alloc)?.as_variants().as_str()` is `"ROZAJ"`. It is
+    /// proved that comparisons and hashes of owned lists of variants ignore case.
     pub fn as_variants(&self) -> Variants<'_>
         ensures same_text { variants_text result ≡ variants_buf_text self.now }
 
@@ -222,7 +222,7 @@ impl VariantsBuf {
         Variants::from_checked(self.as_str())
     }
 
-    /// Returns the text, with its case: `as_str()` of the owned `ROZAJ` is `"ROZAJ"`.
+    /// Returns the text, in its original case: `Variants::new("ROZAJ")?.try_to_owned(alloc)?.as_str()` is `"ROZAJ"`.
     pub fn as_str(&self) -> &str
         ensures same_text { result.now ≡ variants_buf_text self.now }
         ensures in_class { IsVariants result.now }
@@ -230,7 +230,8 @@ impl VariantsBuf {
         self.text.0.as_str()
     }
 
-    /// Returns the text itself, without a copy: `into_string()` of the owned `ROZAJ` is the `String` `ROZAJ`.
+    /// Returns the `String`, without copying it: `Variants::new("ROZAJ")?.try_to_owned(alloc)?.into_string()` is
+    /// `"ROZAJ"`.
     pub fn into_string(self) -> String
         ensures same_text { string_bytes result ≡ variants_buf_text self }
         ensures same_string { result ≡ variants_buf_string self }

@@ -9,8 +9,8 @@ use crate::variants::Variants;
 use langtag_scan::Subtags;
 use std::alloc::AllocError;
 
-/// The variants of a tag that are still to come, in the order in which they are written (RFC 5646 section 2.2.5),
-/// from either end: `rozaj` and `1994` of `Variants::new("rozaj-1994")?.iter()`.
+/// An iterator over variants (RFC 5646 section 2.2.5), in the order of the text and from either end: `rozaj` and `1994`
+/// for `rozaj-1994`.
 ///
 /// ```
 /// use langtag_place::Variants;
@@ -30,7 +30,7 @@ pub struct VariantsIter<'a> {
 impl<'a> VariantsIter<'a> {
     ghost use Rattle.langtag_place.specs.Text.{variants_left};
 
-    /// Returns the walk over no variants: `VariantsIter::empty().count()` is 0.
+    /// Returns an iterator over no variants: `VariantsIter::empty().count()` is 0.
     pub fn empty() -> Self
         ensures { variants_left result ≡ [] }
     {

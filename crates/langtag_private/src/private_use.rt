@@ -13,7 +13,7 @@ use std::fmt;
 use std::fmt::Debug;
 use thiserror::Error;
 
-/// The error for a text that is not a private use part. It hands the text back.
+/// The error for a text that is not a private use part. It contains the text.
 ///
 /// ```
 /// use langtag_private::PrivateUse;
@@ -26,10 +26,10 @@ use thiserror::Error;
 #[error_bound(T: Debug + Drop)]
 pub struct InvalidPrivateUse<T>(pub T);
 
-/// A private use part (RFC 5646 section 2.2.7): the mark `x`, in either case, and one subtag or more after it, joined
-/// by hyphens, as `x-twain`. It may stand at the end of a tag, and alone as a tag of its own.
+/// A private use part (RFC 5646 section 2.2.7): `x` or `X`, and one or more subtags after it, joined by hyphens, such
+/// as `x-twain`. It may be the end of a tag, or a whole tag.
 ///
-/// Two of them are equal where their texts differ at most in the case of ASCII letters: `x-twain` and `X-TWAIN` are.
+/// Two of them are equal if their texts differ only in the case of ASCII letters, such as `x-twain` and `X-TWAIN`.
 ///
 /// ```
 /// use langtag_private::PrivateUse;
@@ -49,12 +49,11 @@ impl<'a> PrivateUse<'a> {
     ghost use Rattle.langtag_private.specs.Compared.{PrivateUsesCompareByCase};
     ghost use Rattle.langtag_private.specs.Text.{private_use_text, private_use_buf_text, private_use_subtags_left};
 
-    /// Parses a text as a private use part: `PrivateUse::new("x-twain")` is Ok.
+    /// Parses a text as a private use part: `PrivateUse::new("x-twain")` is `Ok`.
     ///
     /// # Errors
     ///
-    /// A text that is not a mark and private use subtags with one hyphen between neighbours comes back:
-    /// `PrivateUse::new("x")` is `Err(InvalidPrivateUse("x"))`.
+    /// Returns the text if it is not a private use part: `PrivateUse::new("x")` is `Err(InvalidPrivateUse("x"))`.
     pub fn new(text: &'a str) -> Result<PrivateUse<'a>, InvalidPrivateUse<&'a str>>
         ensures accepts { IsTrue (is_ok result) ↔ (IsPrivateUse text.now) }
         ensures same_text { IfOk result (λ private_use. private_use_text private_use ≡ text.now) }
@@ -66,7 +65,7 @@ impl<'a> PrivateUse<'a> {
         Ok(PrivateUse::from_checked(text))
     }
 
-    /// Returns the private use part of a text that is known to be one, without a test.
+    /// Returns the private use part of a text that is known to be one, without checking it.
     /// `PrivateUse::from_checked(private_use.as_str())` is equal to `private_use`.
     pub fn from_checked(text: &'a str) -> PrivateUse<'a>
         requires { IsPrivateUse text.now }
@@ -77,7 +76,7 @@ impl<'a> PrivateUse<'a> {
         }
     }
 
-    /// Returns the text, with its case: `PrivateUse::new("X-TWAIN")?.as_str()` is `"X-TWAIN"`.
+    /// Returns the text, in its original case: `PrivateUse::new("X-TWAIN")?.as_str()` is `"X-TWAIN"`.
     pub fn as_str(&self) -> &'a str
         ensures same_text { result.now ≡ private_use_text self.now }
         ensures in_class { IsPrivateUse result.now }
@@ -85,16 +84,16 @@ impl<'a> PrivateUse<'a> {
         self.text.0
     }
 
-    /// Returns the bytes of the text: `PrivateUse::new("X-TWAIN")?.as_bytes()` is `b"X-TWAIN"`.
+    /// Returns the text as bytes: `PrivateUse::new("X-TWAIN")?.as_bytes()` is `b"X-TWAIN"`.
     pub fn as_bytes(&self) -> &'a [u8]
         ensures { result.now ≡ private_use_text self.now }
     {
         self.as_str().as_bytes()
     }
 
-    /// Returns whether another text, of any form, is equal but for the case of ASCII letters:
-    /// `PrivateUse::new("x-twain")?.eq_str("X-TWAIN")` is true. It is proved that private use parts are compared,
-    /// ordered and hashed so, and that a clone is the value itself.
+    /// Returns whether another text is equal, ignoring the case of ASCII letters:
+    /// `PrivateUse::new("x-twain")?.eq_str("X-TWAIN")` is `true`. It is proved that comparisons and hashes also ignore
+    /// case, and that a clone is the same value.
     pub fn eq_str(&self, other: &str) -> bool
         ensures test { result ≡ are_alike (private_use_text self.now) other.now }
 
@@ -105,12 +104,11 @@ impl<'a> PrivateUse<'a> {
         self.text == Caseless(other)
     }
 
-    /// Returns the owned form of the same text: `PrivateUse::new("X-TWAIN")?.try_to_owned(alloc)?.as_str()` is
-    /// `"X-TWAIN"`.
+    /// Copies the text into an owned value: `PrivateUse::new("X-TWAIN")?.try_to_owned(alloc)?.as_str()` is `"X-TWAIN"`.
     ///
     /// # Errors
     ///
-    /// Out of memory.
+    /// Returns an error if allocation fails.
     pub fn try_to_owned(&self, alloc: Global) -> Result<PrivateUseBuf, AllocError>
         ensures { IfOk result (λ owned. private_use_buf_text owned ≡ private_use_text self.now) }
     {
@@ -120,7 +118,7 @@ impl<'a> PrivateUse<'a> {
         })
     }
 
-    /// Returns the subtags one by one, without the mark: `PrivateUse::new("x-a-x")?.iter()` yields `a` and `x`.
+    /// Returns an iterator over the subtags after the first `x`: `PrivateUse::new("x-a-x")?.iter()` yields `a` and `x`.
     pub fn iter(&self) -> PrivateUseIter<'a>
         ensures list { private_use_subtags_left result ≡ drop 1 (subtags (private_use_text self.now)) }
         ensures members { EachPrivateUseSpelling (private_use_text self.now) (λ members. private_use_subtags_left result ≡ members) }
@@ -193,12 +191,11 @@ impl PrivateUseBuf {
     ghost use Rattle.langtag_private.specs.Compared.{PrivateUseBufsCompareByCase};
     ghost use Rattle.langtag_private.specs.Text.{private_use_text, private_use_buf_text, private_use_buf_string};
 
-    /// Parses a `String` as a private use part, and keeps it, without a copy: `x-twain` is Ok.
+    /// Parses a `String` as a private use part and keeps it, without copying: `x-twain` is `Ok`.
     ///
     /// # Errors
     ///
-    /// A text that is not a mark and private use subtags with one hyphen between neighbours comes back, the same
-    /// `String`: `x` does.
+    /// Returns the same `String` if it is not a private use part, such as `x`.
     pub fn new(text: String) -> Result<PrivateUseBuf, InvalidPrivateUse<String>>
         ensures accepts { IsTrue (is_ok result) ↔ (IsPrivateUse (string_bytes text)) }
         ensures same_text { IfOk result (λ private_use. private_use_buf_text private_use ≡ string_bytes text) }
@@ -213,8 +210,8 @@ impl PrivateUseBuf {
         })
     }
 
-    /// Borrows the private use part: `as_private_use().as_str()` of the owned `X-TWAIN` is `"X-TWAIN"`. It is proved
-    /// that owned private use parts are compared, ordered and hashed without regard to case.
+    /// Borrows the private use part: `PrivateUse::new("X-TWAIN")?.try_to_owned(alloc)?.as_private_use().as_str()` is
+    /// `"X-TWAIN"`. It is proved that comparisons and hashes of owned private use parts ignore case.
     pub fn as_private_use(&self) -> PrivateUse<'_>
         ensures same_text { private_use_text result ≡ private_use_buf_text self.now }
 
@@ -223,7 +220,8 @@ impl PrivateUseBuf {
         PrivateUse::from_checked(self.as_str())
     }
 
-    /// Returns the text, with its case: `as_str()` of the owned `X-TWAIN` is `"X-TWAIN"`.
+    /// Returns the text, in its original case: `PrivateUse::new("X-TWAIN")?.try_to_owned(alloc)?.as_str()` is
+    /// `"X-TWAIN"`.
     pub fn as_str(&self) -> &str
         ensures same_text { result.now ≡ private_use_buf_text self.now }
         ensures in_class { IsPrivateUse result.now }
@@ -231,7 +229,8 @@ impl PrivateUseBuf {
         self.text.0.as_str()
     }
 
-    /// Returns the text itself, without a copy: `into_string()` of the owned `X-TWAIN` is the `String` `X-TWAIN`.
+    /// Returns the `String`, without copying it: `PrivateUse::new("X-TWAIN")?.try_to_owned(alloc)?.into_string()` is
+    /// `"X-TWAIN"`.
     pub fn into_string(self) -> String
         ensures same_text { string_bytes result ≡ private_use_buf_text self }
         ensures same_string { result ≡ private_use_buf_string self }

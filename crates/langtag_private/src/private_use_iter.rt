@@ -8,7 +8,7 @@ use crate::private_use_subtag::PrivateUseSubtag;
 use langtag_scan::Subtags;
 use std::alloc::AllocError;
 
-/// The private use subtags that are still to come (RFC 5646 section 2.2.7): `a` and `b` of `x-a-b`.
+/// An iterator over private use subtags (RFC 5646 section 2.2.7): `a` and `b` for `x-a-b`.
 ///
 /// ```
 /// use langtag_private::PrivateUse;

@@ -13,7 +13,7 @@ use std::fmt;
 use std::fmt::Debug;
 use thiserror::Error;
 
-/// The error for a text that is not a private use subtag. It hands the text back.
+/// The error for a text that is not a private use subtag. It contains the text.
 ///
 /// ```
 /// use langtag_private::PrivateUseSubtag;
@@ -26,9 +26,9 @@ use thiserror::Error;
 #[error_bound(T: Debug + Drop)]
 pub struct InvalidPrivateUseSubtag<T>(pub T);
 
-/// A private use subtag (RFC 5646 section 2.2.7): one to eight letters and digits, as `twain` in `en-x-twain`.
+/// A private use subtag (RFC 5646 section 2.2.7): one to eight letters and digits, such as `twain` in `en-x-twain`.
 ///
-/// Two of them are equal where their texts differ at most in the case of ASCII letters: `twain` and `TWAIN` are.
+/// Two of them are equal if their texts differ only in the case of ASCII letters, such as `twain` and `TWAIN`.
 ///
 /// ```
 /// use langtag_private::PrivateUseSubtag;
@@ -47,11 +47,11 @@ impl<'a> PrivateUseSubtag<'a> {
     ghost use Rattle.langtag_private.specs.Compared.{PrivateUseSubtagsCompareByCase};
     ghost use Rattle.langtag_private.specs.Text.{private_use_subtag_text, private_use_subtag_buf_text};
 
-    /// Parses a text as a private use subtag: `PrivateUseSubtag::new("twain")` is Ok.
+    /// Parses a text as a private use subtag: `PrivateUseSubtag::new("twain")` is `Ok`.
     ///
     /// # Errors
     ///
-    /// A text that is not one to eight letters and digits comes back: `PrivateUseSubtag::new("a-b")` is
+    /// Returns the text if it is not one to eight letters and digits: `PrivateUseSubtag::new("a-b")` is
     /// `Err(InvalidPrivateUseSubtag("a-b"))`.
     #[tactic(auto, using(crate::proofs::Numbers::private_subtag_numbers))]
     pub fn new(text: &'a str) -> Result<PrivateUseSubtag<'a>, InvalidPrivateUseSubtag<&'a str>>
@@ -67,7 +67,7 @@ impl<'a> PrivateUseSubtag<'a> {
         Ok(PrivateUseSubtag::from_checked(text))
     }
 
-    /// Returns the subtag of a text that is known to be one, without a test.
+    /// Returns the subtag of a text that is known to be one, without checking it.
     /// `PrivateUseSubtag::from_checked(subtag.as_str())` is equal to `subtag`.
     pub fn from_checked(text: &'a str) -> PrivateUseSubtag<'a>
         requires { IsTrue (class.is_private_subtag text.now) }
@@ -78,7 +78,7 @@ impl<'a> PrivateUseSubtag<'a> {
         }
     }
 
-    /// Returns the text, with its case: `PrivateUseSubtag::new("TWAIN")?.as_str()` is `"TWAIN"`.
+    /// Returns the text, in its original case: `PrivateUseSubtag::new("TWAIN")?.as_str()` is `"TWAIN"`.
     pub fn as_str(&self) -> &'a str
         ensures same_text { result.now ≡ private_use_subtag_text self.now }
         ensures in_class { IsTrue (class.is_private_subtag result.now) }
@@ -86,16 +86,16 @@ impl<'a> PrivateUseSubtag<'a> {
         self.text.0
     }
 
-    /// Returns the bytes of the text: `PrivateUseSubtag::new("TWAIN")?.as_bytes()` is `b"TWAIN"`.
+    /// Returns the text as bytes: `PrivateUseSubtag::new("TWAIN")?.as_bytes()` is `b"TWAIN"`.
     pub fn as_bytes(&self) -> &'a [u8]
         ensures { result.now ≡ private_use_subtag_text self.now }
     {
         self.as_str().as_bytes()
     }
 
-    /// Returns whether another text, of any form, is equal but for the case of ASCII letters:
-    /// `PrivateUseSubtag::new("twain")?.eq_str("TWAIN")` is true. It is proved that private use subtags are compared,
-    /// ordered and hashed so, and that a clone is the value itself.
+    /// Returns whether another text is equal, ignoring the case of ASCII letters:
+    /// `PrivateUseSubtag::new("twain")?.eq_str("TWAIN")` is `true`. It is proved that comparisons and hashes also
+    /// ignore case, and that a clone is the same value.
     pub fn eq_str(&self, other: &str) -> bool
         ensures test { result ≡ are_alike (private_use_subtag_text self.now) other.now }
 
@@ -106,12 +106,12 @@ impl<'a> PrivateUseSubtag<'a> {
         self.text == Caseless(other)
     }
 
-    /// Returns the owned form of the same text: `PrivateUseSubtag::new("TWAIN")?.try_to_owned(alloc)?.as_str()` is
+    /// Copies the text into an owned value: `PrivateUseSubtag::new("TWAIN")?.try_to_owned(alloc)?.as_str()` is
     /// `"TWAIN"`.
     ///
     /// # Errors
     ///
-    /// Out of memory.
+    /// Returns an error if allocation fails.
     pub fn try_to_owned(&self, alloc: Global) -> Result<PrivateUseSubtagBuf, AllocError>
         ensures { IfOk result (λ owned. private_use_subtag_buf_text owned ≡ private_use_subtag_text self.now) }
     {
@@ -151,11 +151,11 @@ impl PrivateUseSubtagBuf {
     ghost use Rattle.langtag_private.specs.Compared.{PrivateUseSubtagBufsCompareByCase};
     ghost use Rattle.langtag_private.specs.Text.{private_use_subtag_text, private_use_subtag_buf_text, private_use_subtag_buf_string};
 
-    /// Parses a `String` as a subtag, and keeps it, without a copy: `twain` is Ok.
+    /// Parses a `String` as a subtag and keeps it, without copying: `twain` is `Ok`.
     ///
     /// # Errors
     ///
-    /// A text that is not one to eight letters and digits comes back, the same `String`: `a-b` does.
+    /// Returns the same `String` if it is not one to eight letters and digits, such as `a-b`.
     pub fn new(text: String) -> Result<PrivateUseSubtagBuf, InvalidPrivateUseSubtag<String>>
         ensures accepts { is_ok result ≡ class.is_private_subtag (string_bytes text) }
         ensures same_text { IfOk result (λ subtag. private_use_subtag_buf_text subtag ≡ string_bytes text) }
@@ -170,8 +170,8 @@ impl PrivateUseSubtagBuf {
         })
     }
 
-    /// Borrows the subtag: `as_private_use_subtag().as_str()` of the owned `TWAIN` is `"TWAIN"`. It is proved that
-    /// owned private use subtags are compared, ordered and hashed without regard to case.
+    /// Borrows the subtag: `PrivateUseSubtag::new("TWAIN")?.try_to_owned(alloc)?.as_private_use_subtag().as_str()` is
+    /// `"TWAIN"`. It is proved that comparisons and hashes of owned private use subtags ignore case.
     pub fn as_private_use_subtag(&self) -> PrivateUseSubtag<'_>
         ensures same_text { private_use_subtag_text result ≡ private_use_subtag_buf_text self.now }
 
@@ -180,7 +180,8 @@ impl PrivateUseSubtagBuf {
         PrivateUseSubtag::from_checked(self.as_str())
     }
 
-    /// Returns the text, with its case: `as_str()` of the owned `TWAIN` is `"TWAIN"`.
+    /// Returns the text, in its original case: `PrivateUseSubtag::new("TWAIN")?.try_to_owned(alloc)?.as_str()` is
+    /// `"TWAIN"`.
     pub fn as_str(&self) -> &str
         ensures same_text { result.now ≡ private_use_subtag_buf_text self.now }
         ensures in_class { IsTrue (class.is_private_subtag result.now) }
@@ -188,7 +189,8 @@ impl PrivateUseSubtagBuf {
         self.text.0.as_str()
     }
 
-    /// Returns the text itself, without a copy: `into_string()` of the owned `TWAIN` is the `String` `TWAIN`.
+    /// Returns the `String`, without copying it: `PrivateUseSubtag::new("TWAIN")?.try_to_owned(alloc)?.into_string()`
+    /// is `"TWAIN"`.
     pub fn into_string(self) -> String
         ensures same_text { string_bytes result ≡ private_use_subtag_buf_text self }
         ensures same_string { result ≡ private_use_subtag_buf_string self }

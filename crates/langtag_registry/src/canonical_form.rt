@@ -22,20 +22,21 @@ const LONGEST_REPLACED: usize = 16;
 /// No text that replaces a whole one has more bytes.
 const LONGEST_PREFERRED: usize = 14;
 
-/// Returns the canonical form of a tag (RFC 5646 section 4.5): `he` of `iw`, `yue` of `zh-yue`, `en-MM` of `en-BU`,
-/// `jbo` of `art-lojban`, `en-a-aaa-b-ccc` of `en-b-ccc-a-aaa`, and `fr-FR` of `fr-FR`.
+/// Returns the canonical form of a tag (RFC 5646 section 4.5): `he` for `iw`, `yue` for `zh-yue`, `en-MM` for `en-BU`,
+/// `jbo` for `art-lojban`, and `en-a-aaa-b-ccc` for `en-b-ccc-a-aaa`.
 ///
-/// What is put in has the registry's case; all else keeps its own, and the variants keep their order. Step 2 is taken again
-/// after step 3, and an extended language that becomes the language is replaced as one, too, so that a form is its own:
-/// `gsg` of `sgn-DD`, `apc` of `ar-ajp`. A tag need not be valid: a subtag that is not registered stays, as do two extended
-/// languages, and the language before them. This is RFC 5646's form, and not that of CLDR, which replaces more.
+/// Replacements have the case of the registry, and everything else keeps its case. Variants keep their order. The tag
+/// need not be valid: subtags that are not registered stay, and so do two extended languages with the language before
+/// them. This is the form of RFC 5646, while Unicode's CLDR replaces more. The form of a form is itself: step 2 is
+/// repeated after step 3 (`sgn-DD` becomes `gsg`), and an extended language is replaced repeatedly (`ar-ajp` becomes
+/// `apc`).
 ///
-/// The form of a valid tag is valid, unless two variants become the same, as those of `ja-heploc-alalc97` do. It has no
-/// extended language, unless it is `zh-min`.
+/// The form of a valid tag is valid, unless two variants become the same, as in `ja-heploc-alalc97`. It has no extended
+/// language, unless it is `zh-min`.
 ///
 /// # Errors
 ///
-/// Out of memory.
+/// Returns an error if allocation fails.
 ///
 /// ```
 /// use langtag::LangTag;
@@ -62,8 +63,16 @@ pub fn canonical(alloc: Global, tag: LangTag<'_>) -> Result<LangTagBuf, AllocErr
     Ok(form)
 }
 
-/// Returns whether a tag is its own canonical form (RFC 5646 section 4.5): true of `he`, `zh-min` and `x-iw`,
-/// false of `iw` and of `en-b-ccc-a-aaa`. The case of letters changes nothing: true of `HE`. No memory is taken.
+/// Returns whether a tag is its own canonical form (RFC 5646 section 4.5): `true` for `he`, `zh-min` and `x-iw`,
+/// `false` for `iw` and `en-b-ccc-a-aaa`. Case is ignored, so it is `true` for `HE`. It does not allocate.
+///
+/// ```
+/// use langtag::LangTag;
+/// use langtag_registry::is_canonical;
+///
+/// is_canonical(LangTag::new("HE")?); // true
+/// is_canonical(LangTag::new("iw")?); // false
+/// ```
 #[tactic(auto, using(crate::proofs::CanonicalCase::canonical_in_any_case))]
 pub fn is_canonical(tag: LangTag<'_>) -> bool
     ensures canonical { (result ≡ true) ↔ IsCanonicalForm (lang_tag_text tag.entry) (lang_tag_text tag.entry) }
@@ -72,9 +81,18 @@ pub fn is_canonical(tag: LangTag<'_>) -> bool
     matches!(form_of(tag), Form::Same)
 }
 
-/// Writes the canonical form of a tag (RFC 5646 section 4.5), as [`canonical`] returns it, into a buffer, and returns its
-/// length in bytes. Where the buffer is too short it stays as it was: the length says how much room there has to be. A buffer
-/// of [`canonical_bound`] bytes always has the room. No memory is taken.
+/// Writes the canonical form of a tag to a buffer, as [`canonical`] returns it, and returns its length in bytes. If the
+/// buffer is too short, it stays unchanged, and the length says how much room is needed. A buffer of
+/// [`canonical_bound`] bytes is always long enough. It does not allocate.
+///
+/// ```
+/// use langtag::LangTag;
+/// use langtag_registry::write_canonical;
+///
+/// let mut buffer = [0; 16];
+/// let length = write_canonical(LangTag::new("en-BU")?, &mut buffer);
+/// buffer.get(..length); // Some(&b"en-MM"[..])
+/// ```
 #[tactic(auto, using(crate::proofs::FormLengths::form_bounded))]
 pub fn write_canonical(tag: LangTag<'_>, buffer: &mut [u8]) -> usize
     ensures canonical { Writes (IsCanonicalForm (lang_tag_text tag.entry)) buffer.old buffer.new result }
@@ -87,8 +105,8 @@ pub fn write_canonical(tag: LangTag<'_>, buffer: &mut [u8]) -> usize
     }
 }
 
-/// Returns how many bytes the canonical form of a tag of this length may have at most, so that a caller makes room for it
-/// before [`write_canonical`]: twice as many, and 14 more.
+/// Returns the greatest length in bytes of the canonical form of a tag of a given length, as the size of a buffer for
+/// [`write_canonical`]. It is twice the length plus 14.
 pub fn canonical_bound(tag_len: usize) -> usize
     ensures { result ≡ min (form.canonical_bound tag_len) (2 ^ 64 - 1) }
 {

@@ -8,8 +8,8 @@ use crate::language_fields::preferred_language;
 use crate::subtags::is_registered_extlang;
 use langtag_language::Language;
 
-/// Returns whether a language is its own canonical form: true of `he`, `zh-fra` and `zh-cmn-yue`, false of `iw`, `iw-fra`
-/// and `zh-yue`.
+/// Returns whether a language is its own canonical form: `true` for `he`, `zh-fra` and `zh-cmn-yue`, `false` for `iw`,
+/// `iw-fra` and `zh-yue`.
 #[tactic(auto, using(crate::proofs::CanonicalLanguages::alone_stays, crate::proofs::CanonicalLanguages::other_stays, crate::proofs::PreferredValues::stays_without, crate::proofs::ReplacedSubtags::language_settled))]
 pub(crate) fn is_canonical_language(language: Language<'_>) -> bool
     ensures { EachLanguageSpelling (language_text language.entry) (λ primary extended.

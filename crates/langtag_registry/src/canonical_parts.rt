@@ -82,7 +82,7 @@ fn push_extlang(out: &mut Output<'_>, extlang: ExtendedLangTag<'_>)
     }
 }
 
-/// Returns an extended subtag in small letters, as the registry has it.
+/// Returns an extended subtag in lowercase letters, as the registry has it.
 #[tactic(auto, unfolding(langtag_scan::specs::Case::fold_byte))]
 fn in_small_letters(extlang: ExtendedLangTag<'_>) -> [u8; 3]
     ensures { result ≡ fold_text (extended_lang_tag_text extlang.entry) }

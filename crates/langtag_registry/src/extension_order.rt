@@ -27,7 +27,7 @@ pub(crate) fn are_in_order(extensions: Extensions<'_>) -> bool
     true
 }
 
-/// Returns which bytes are singletons of extensions, as small letters.
+/// Returns which bytes are singletons of extensions, as lowercase letters.
 pub(crate) fn singletons_of(extensions: Extensions<'_>) -> [bool; 256]
     ensures { (es : List model.Extension) → SpellsExtensions es (extensions_text extensions.entry) → AreNoted result (map extension_spelling es) }
 {
@@ -38,7 +38,7 @@ pub(crate) fn singletons_of(extensions: Extensions<'_>) -> [bool; 256]
     present
 }
 
-/// Returns the singleton of an extension as a small letter.
+/// Returns the singleton of an extension as a lowercase letter.
 pub(crate) fn folded_singleton(extension: Extension<'_>) -> u8
     ensures { result ≡ small_singleton (extension_text extension.entry) }
 {

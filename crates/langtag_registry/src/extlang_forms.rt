@@ -14,13 +14,20 @@ use langtag::{LangTag, LangTagBuf, NormalLangTagBuf};
 use langtag_language::Language;
 use std::alloc::{AllocError, Global};
 
-/// Returns the extlang form of a tag (RFC 5646 section 4.5): the canonical form, and before a language that is registered
-/// as an extended one, too, its prefix: `zh-hak-CN` of `hak-CN` and of `zh-hak-CN`, `he` of `iw`. A language with three
-/// extended subtags, which no valid tag has, stays.
+/// Returns the extlang form of a tag (RFC 5646 section 4.5). It is the canonical form, with the prefix before a
+/// language that is also an extended language: `zh-hak-CN` for `hak-CN` and `zh-hak-CN`, `he` for `iw`. A language with
+/// three extended subtags, which no valid tag has, stays.
 ///
 /// # Errors
 ///
-/// Out of memory.
+/// Returns an error if allocation fails.
+///
+/// ```
+/// use langtag::LangTag;
+/// use langtag_registry::extlang_form;
+///
+/// extlang_form(alloc, LangTag::new("hak-CN")?)?.as_str(); // "zh-hak-CN"
+/// ```
 #[tactic(auto, using(crate::proofs::ExtlangForms::other_form))]
 pub fn extlang_form(alloc: Global, tag: LangTag<'_>) -> Result<LangTagBuf, AllocError>
     ensures { IfOk result (λ form. IsExtlangForm (lang_tag_text tag.entry) (lang_tag_buf_text form)) }
@@ -42,7 +49,7 @@ fn with_prefix(alloc: Global, mut form: NormalLangTagBuf) -> Result<NormalLangTa
     Ok(form)
 }
 
-/// Returns the text of a language after its prefix, where it is an extended one, too: `zh-hak` of `hak`.
+/// Returns the text of a language after its prefix, where it is an extended one, too: `zh-hak` for `hak`.
 fn prefixed_language(alloc: Global, language: Language<'_>) -> Result<Option<String>, AllocError>
     ensures in_class { IfOk result (λ text. IfSome text (λ new. IsLanguage (string_bytes new))) }
     ensures stays { IfOk result (λ text. IsNone text → EachLanguageSpelling (language_text language.entry)

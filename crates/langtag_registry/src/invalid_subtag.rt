@@ -4,11 +4,11 @@ use langtag_language::{ExtendedLangTag, PrimaryLanguage};
 use langtag_place::{Region, Script, Variant};
 use thiserror::Error;
 
-/// Why a tag is not valid: its first subtag that is not registered, is a second extended language, or repeats an earlier
-/// one.
+/// The error for a tag that is not valid: its first subtag that is not registered, is a second extended language, or
+/// repeats an earlier one.
 ///
-/// A subtag is a slice of the tag, with its case. Two values are equal where they are of one kind and their subtags
-/// are equal.
+/// The subtag is a slice of the tag, in its original case. Two values are equal if they have the same kind and their
+/// subtags are equal.
 ///
 /// ```
 /// use langtag::LangTag;
@@ -19,28 +19,28 @@ use thiserror::Error;
 /// ```
 #[derive(Clone, Copy, Debug, PartialEq, Eq, Hash, Error)]
 pub enum InvalidSubtag<'a> {
-    /// A language that is not registered: `qt` of `qt-FR`.
+    /// A language that is not registered: `qt` in `qt-FR`.
     #[error("language {0} is not registered")]
     Language(PrimaryLanguage<'a>),
-    /// An extended language that is not registered: `fra` of `zh-fra`.
+    /// An extended language that is not registered: `fra` in `zh-fra`.
     #[error("extended language {0} is not registered")]
     Extlang(ExtendedLangTag<'a>),
-    /// An extended language after another, which no valid tag has (section 2.2.2): `yue` of `zh-cmn-yue`.
+    /// A second extended language, which no valid tag has (section 2.2.2): `yue` in `zh-cmn-yue`.
     #[error("extended language {0} is the second")]
     SecondExtlang(ExtendedLangTag<'a>),
-    /// A script that is not registered: `Abcd` of `fr-Abcd`.
+    /// A script that is not registered: `Abcd` in `fr-Abcd`.
     #[error("script {0} is not registered")]
     Script(Script<'a>),
-    /// A region that is not registered: `FQ` of `fr-FQ`.
+    /// A region that is not registered: `FQ` in `fr-FQ`.
     #[error("region {0} is not registered")]
     Region(Region<'a>),
-    /// A variant that is not registered: `1997` of `de-1997`.
+    /// A variant that is not registered: `1997` in `de-1997`.
     #[error("variant {0} is not registered")]
     Variant(Variant<'a>),
-    /// A variant that is equal to an earlier one: the second `1996` of `de-1996-1996`.
+    /// A variant that equals an earlier one, ignoring case: the second `1996` in `de-1996-1996`.
     #[error("variant {0} is repeated")]
     RepeatedVariant(Variant<'a>),
-    /// A singleton that is equal, but for case, to an earlier one: the `A` of `fr-a-bb-A-cc`.
+    /// A singleton that equals an earlier one, ignoring case: the `A` in `fr-a-bb-A-cc`.
     #[error("singleton {0} is repeated")]
     RepeatedSingleton(Singleton),
 }

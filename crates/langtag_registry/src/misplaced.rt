@@ -20,12 +20,21 @@ use langtag_match::LanguageRange;
 use langtag_place::Variant;
 use langtag_scan::folded_number;
 
-/// Returns the first variant of a tag that stands after none of its prefixes (the field Prefix, RFC 5646 section 3.1.8):
-/// `nedis` of `fr-nedis`, as it goes with `sl`, and `1994` of `sl-1994-rozaj`, as it goes with `sl-rozaj`. None of
-/// `sl-IT-nedis`, and of `fr-fonipa`, as `fonipa` goes with every language.
+/// Returns the first variant of a tag that follows none of its prefixes (the field Prefix, RFC 5646 section 3.1.8):
+/// `nedis` in `fr-nedis`, because its prefix is `sl`, and `1994` in `sl-1994-rozaj`, because its prefix is `sl-rozaj`.
+/// Returns `None` for `sl-IT-nedis`, and for `fr-fonipa`, because `fonipa` has no prefix.
 ///
-/// A prefix matches what stands before the variant by extended filtering (RFC 4647 section 3.3.2). The RFC recommends that
-/// one does, and a tag is valid without. No memory is taken. The time may grow with the square of the number of variants.
+/// A prefix is compared with the subtags before the variant by extended filtering (RFC 4647 section 3.3.2). The RFC
+/// only recommends prefixes, so a tag without them is valid. It does not allocate. The time may be quadratic in the
+/// number of variants.
+///
+/// ```
+/// use langtag::NormalLangTag;
+/// use langtag_registry::misplaced_variant;
+///
+/// misplaced_variant(NormalLangTag::new("fr-nedis")?).map(|variant| variant.as_str()); // Some("nedis")
+/// misplaced_variant(NormalLangTag::new("sl-IT-nedis")?).is_none(); // true
+/// ```
 pub fn misplaced_variant<'a>(tag: NormalLangTag<'a>) -> Option<Variant<'a>>
     ensures { EachRecord (normal_lang_tag_text tag.entry) (λ r. option_map variant_text result ≡ spec.misplaced r) }
 {
@@ -39,10 +48,18 @@ pub fn misplaced_variant<'a>(tag: NormalLangTag<'a>) -> Option<Variant<'a>>
     None
 }
 
-/// Returns the extended language of a tag that stands after another language than its prefix (the field Prefix, RFC 5646
-/// section 3.1.8): `yue` of `de-yue`, as it goes with `zh`. None of `zh-yue`, and of `zh-fra`, as `fra` is not registered.
+/// Returns the extended language of a tag if it follows a language other than its prefix (the field Prefix,
+/// RFC 5646 section 3.1.8): `yue` in `de-yue`, because its prefix is `zh`. Returns `None` for `zh-yue`, and for
+/// `zh-fra`, because `fra` is not registered.
 ///
-/// A tag is valid without its prefix. A second extended language, which no valid tag has, is not looked at.
+/// A tag is valid without its prefix. A second extended language, which no valid tag has, is ignored.
+///
+/// ```
+/// use langtag::NormalLangTag;
+/// use langtag_registry::misplaced_extlang;
+///
+/// misplaced_extlang(NormalLangTag::new("de-yue")?).map(|extended| extended.as_str()); // Some("yue")
+/// ```
 pub fn misplaced_extlang<'a>(tag: NormalLangTag<'a>) -> Option<ExtendedLangTag<'a>>
     ensures { EachRecord (normal_lang_tag_text tag.entry) (λ r. option_map extended_lang_tag_text result ≡ spec.misplaced_extlang r.primary r.extended) }
 {

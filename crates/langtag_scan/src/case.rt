@@ -1,5 +1,5 @@
-//! The case of ASCII letters, to which tags are indifferent (RFC 5646 section 2.1.1): texts are compared and hashed by
-//! their folded bytes, in which each capital letter is small. Nothing else is folded, so `[` and `{` stay apart.
+//! The case of ASCII letters, which tags ignore (RFC 5646 section 2.1.1). Texts are compared and hashed by their folded
+//! bytes, in which each ASCII letter is lowercase. Nothing else is folded, so `[` and `{` differ.
 ghost use Rattle.std.specs.Prelude.{◌≡◌, ◌↔◌, ◌≤◌, ℕ, List, ◌==◌, IsTrue, fold, length};
 ghost use Rattle.langtag_scan.specs.Case.{fold_byte, Alike, are_alike, case_cmp, EndsFirst, case_writes, folded_number};
 ghost use Rattle.langtag_scan.specs.Class.{are_alphanumeric};
@@ -7,8 +7,7 @@ ghost use Rattle.langtag_scan.specs.Class.{are_alphanumeric};
 use std::cmp::Ordering;
 use std::hash::Hasher;
 
-/// Returns the fold of a byte (RFC 5646 section 2.1.1): the small letter of an ASCII capital, and any other byte as it
-/// stands.
+/// Returns a byte in lowercase if it is an ASCII letter, and any other byte unchanged (RFC 5646 section 2.1.1).
 ///
 /// `into_smallcase(b'L')` is `b'l'`, and `into_smallcase(b'[')` is `b'['`.
 #[tactic(auto, unfolding(crate::specs::Case::fold_byte))]
@@ -18,9 +17,9 @@ pub fn into_smallcase(c: u8) -> u8
     c.to_ascii_lowercase()
 }
 
-/// Returns whether two texts are equal but for the case of ASCII letters (RFC 5646 section 2.1.1).
+/// Returns whether two texts are equal, ignoring the case of ASCII letters (RFC 5646 section 2.1.1).
 ///
-/// `case_insensitive_eq(b"zh-Latn", b"ZH-LATN")` is true.
+/// `case_insensitive_eq(b"zh-Latn", b"ZH-LATN")` is `true`.
 #[tactic(auto, unfolding(crate::specs::Case::fold_byte))]
 pub fn case_insensitive_eq(a: &[u8], b: &[u8]) -> bool
     ensures test { result ≡ are_alike a.now b.now }
@@ -29,8 +28,8 @@ pub fn case_insensitive_eq(a: &[u8], b: &[u8]) -> bool
     a.eq_ignore_ascii_case(b)
 }
 
-/// Compares two texts by their folded bytes (RFC 5646 section 2.1.1). Where one begins the other, the shorter is the
-/// greater: `case_insensitive_cmp(b"zh", b"zh-Latn")` is Greater.
+/// Compares two texts by their lowercase bytes (RFC 5646 section 2.1.1). If one begins the other, the shorter is
+/// greater: `case_insensitive_cmp(b"zh", b"zh-Latn")` is `Greater`.
 pub fn case_insensitive_cmp(a: &[u8], b: &[u8]) -> Ordering
     ensures order { result ≡ case_cmp a.now b.now }
     ensures ends_first { EndsFirst a.now b.now → result ≡ Ordering.Greater }
@@ -44,10 +43,10 @@ pub fn case_insensitive_cmp(a: &[u8], b: &[u8]) -> Ordering
     b.len().cmp(&a.len())
 }
 
-/// Feeds a hasher the folded bytes (RFC 5646 section 2.1.1), each by a write of its own, and nothing else: neither how
-/// many there are nor that they have ended.
+/// Feeds a hasher the lowercase bytes (RFC 5646 section 2.1.1), each in a separate write, and nothing else: neither
+/// their number nor an end.
 ///
-/// Of `b"FR"` it is fed `b'f'`, then `b'r'`.
+/// For `b"FR"` it writes `b'f'` and then `b'r'`.
 pub fn case_insensitive_hash<H: Hasher>(bytes: &[u8], hasher: &mut H)
     ensures { hasher.new ≡ fold H.write hasher.old (case_writes bytes.now) }
 {
@@ -56,11 +55,11 @@ pub fn case_insensitive_hash<H: Hasher>(bytes: &[u8], hasher: &mut H)
     }
 }
 
-/// Returns the folded bytes (RFC 5646 section 2.1.1) of a text of at most eight as the digits of one number, in base 256:
-/// `folded_number(b"FR")` is 26,226, which is 256 times `b'f'` and `b'r'`.
+/// Returns the lowercase bytes (RFC 5646 section 2.1.1) of a text of at most eight bytes as the digits of a number in
+/// base 256: `folded_number(b"FR")` is 26,226, which is 256 times `b'f'` plus `b'r'`.
 ///
-/// It is proved that of two texts of letters and digits, as subtags are, the numbers are equal where the texts are but
-/// for the case of letters.
+/// It is proved that the numbers of two texts of letters and digits, such as subtags, are equal if the texts are equal,
+/// ignoring case.
 pub fn folded_number(bytes: &[u8]) -> u64
     requires { length bytes.now ≤ 8 }
     ensures number { result ≡ folded_number bytes.now }

@@ -5,11 +5,10 @@ ghost use Rattle.langtag_scan.specs.Found.{finding, is_normal, is_private_use, i
 use crate::ends::Ends;
 use crate::finding::Finding;
 
-/// What a recogniser found of a text that is a tag (RFC 5646 section 2.1): which of the three kinds it is, with
-/// the ends of the parts of a normal tag, and the index in the table of an irregular one.
+/// What [`recognise`](crate::recognise) finds in a tag (RFC 5646 section 2.1): its kind, with the ends of the parts of
+/// a normal tag, or the index of an irregular one.
 ///
-/// `recognise(&mut Metered::new("x-a"))` is Some of one whose `is_private_use()` is true. It holds no text: a type that keeps
-/// both, as the tag types do, has to know that they belong together.
+/// For `x-a`, `is_private_use()` is `true`. It does not contain the text.
 ///
 /// ```
 /// use langtag_scan::{Metered, recognise};
@@ -23,24 +22,22 @@ pub struct Found {
 }
 
 impl Found {
-    /// Returns whether the text is a normal tag. The regular grandfathered tags are: true of `zh-min`, false of `i-lux`
-    /// and `x-a`.
+    /// Returns whether the text is a normal tag: `true` for `zh-min`, which is regular, `false` for `i-lux` and `x-a`.
     pub fn is_normal(&self) -> bool
         ensures { result ≡ is_normal (finding self.now) }
     {
         matches!(self.finding, Finding::Normal(_))
     }
 
-    /// Returns whether the text is a private use tag (section 2.2.7), which has a mark and private use subtags alone:
-    /// true of `x-a`, false of `fr-x-a`.
+    /// Returns whether the text is a private-use tag (section 2.2.7): `true` for `x-a`, `false` for `fr-x-a`.
     pub fn is_private_use(&self) -> bool
         ensures { result ≡ is_private_use (finding self.now) }
     {
         matches!(self.finding, Finding::PrivateUse)
     }
 
-    /// Returns the index in the table of an irregular grandfathered tag (section 2.2.8): 0 to 16, in the order in which
-    /// section 2.1 lists them. It is Some(1) of `i-AMI`, and None of `zh-min`, which is regular.
+    /// Returns the index of an irregular grandfathered tag (section 2.2.8), from 0 to 16 in the order of section 2.1:
+    /// `Some(1)` for `i-AMI`, and `None` for `zh-min`, which is regular.
     pub fn irregular(&self) -> Option<usize>
         ensures { result ≡ irregular_index (finding self.now) }
     {
@@ -50,8 +47,8 @@ impl Found {
         }
     }
 
-    /// Returns the ends of the parts of a normal tag (section 2.1): of `fr-FR`, language 2 and all others 5. It is None
-    /// of `x-a`. It is proved that a clone of ends, and of a `Found`, is the value itself.
+    /// Returns the ends of the parts of a normal tag (section 2.1): in `fr-FR`, the language ends at 2, and all other
+    /// ends are 5. Returns `None` for `x-a`. It is proved that a clone of the ends, or of a `Found`, is the same value.
     pub fn ends(&self) -> Option<Ends>
         ensures ends { result ≡ normal_ends (finding self.now) }
 

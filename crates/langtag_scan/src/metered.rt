@@ -3,8 +3,8 @@ ghost use Rattle.std.specs.Prelude.{◌≡◌, ◌≤◌, ◌++◌, length};
 
 use crate::source::ByteSource;
 
-/// The bytes of a text, or any others, with a count of the reads, to show how much of them is read to recognise a tag (RFC
-/// 5646 section 2.1). There is no other way to them.
+/// Bytes with a count of the reads, which shows how much of a text [`recognise`](crate::recognise) reads. They can be
+/// read only through [`ByteSource`].
 ///
 /// ```
 /// use langtag_scan::{ByteSource, Metered, recognise};
@@ -24,7 +24,7 @@ pub struct Metered<'a> {
 }
 
 impl<'a> Metered<'a> {
-    /// Returns the bytes of a text, of which none was read yet: `Metered::new("fr").reads()` is 0.
+    /// Returns the bytes of a text, with no reads yet: `Metered::new("fr").reads()` is 0.
     pub fn new(text: &'a str) -> Self
         ensures bytes { ⟦<Metered<'a> as ByteSource>⟧.bytes result ≡ text.now }
         ensures reads { ⟦<Metered<'a> as ByteSource>⟧.reads result ≡ 0 }
@@ -33,7 +33,8 @@ impl<'a> Metered<'a> {
         Metered::of_bytes(text.as_bytes())
     }
 
-    /// Returns bytes that need not be UTF-8, of which none was read yet: `Metered::of_bytes(b"fr\xFF").len()` is 3.
+    /// Returns a source over bytes, which need not be UTF-8, with no reads yet: `Metered::of_bytes(b"fr\xFF").len()` is
+    /// 3.
     pub fn of_bytes(bytes: &'a [u8]) -> Self
         ensures bytes { ⟦<Metered<'a> as ByteSource>⟧.bytes result ≡ bytes.now }
         ensures reads { ⟦<Metered<'a> as ByteSource>⟧.reads result ≡ 0 }

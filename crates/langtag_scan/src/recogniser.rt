@@ -11,12 +11,12 @@ use crate::found::Found;
 use crate::source::ByteSource;
 use crate::state::{Ending, State};
 
-/// Decides whether the bytes of a source are a tag (RFC 5646 section 2.1), and of which kind. None says that they
-/// are none.
+/// Decides whether the bytes of a source are a tag (RFC 5646 section 2.1), and of which kind. Returns `None` if they
+/// are not a tag.
 ///
-/// It asks for the bytes in order, each once, up to the first one after which no tag can follow, and takes no memory:
-/// `recognise(&mut Metered::new("i-notexist"))` is None after four reads. It is proved that no other answer would be
-/// right.
+/// It reads each byte once, in order, and stops after the first byte with which no tag can go on:
+/// `recognise(&mut Metered::new("i-notexist"))` is `None` after four reads. It does not allocate. It is proved that it
+/// accepts exactly the tags.
 #[inline(always)]
 #[tactic(auto, using(crate::proofs::OneKind::normal_no_private, crate::proofs::OneKind::normal_no_irregular, crate::proofs::OneKind::private_no_irregular, crate::proofs::IrregularTexts::irregular_once, crate::proofs::FillLaw::viable_fill))]
 pub fn recognise<S: ByteSource>(source: &mut S) -> Option<Found>
@@ -39,17 +39,14 @@ pub fn recognise<S: ByteSource>(source: &mut S) -> Option<Found>
     let mut marks = Marks::new();
     let mut index = 0;
     while index < len {
-        state = state.after(source.byte(index));
-        if state.is_dead() {
-            return None;
-        }
+        state = state.after(source.byte(index))?;
         marks.set(state.part_before(), index);
         index += 1;
     }
     let finding = match state.ending() {
         Ending::NoTag => return None,
-        Ending::Normal => {
-            marks.set(state.last_part(), len);
+        Ending::Normal(last) => {
+            marks.set(last, len);
             Finding::Normal(marks.ends(len))
         }
         Ending::PrivateUse => Finding::PrivateUse,
@@ -59,9 +56,9 @@ pub fn recognise<S: ByteSource>(source: &mut S) -> Option<Found>
 }
 
 /// Decides whether the bytes of a source are a normal tag (rule `langtag` of RFC 5646 section 2.1), as [`recognise`]
-/// does. It is proved that a normal tag can be divided into its parts in one way only.
+/// does. It is proved that a normal tag splits into its parts in only one way.
 ///
-/// `recognise_normal(&mut Metered::new("zh-min"))` is Some, and that of `x-a` and of `i-lux` is None.
+/// `recognise_normal(&mut Metered::new("zh-min"))` is `Some`. For `x-a` and `i-lux` it is `None`.
 #[tactic(auto, using(crate::proofs::FoundLaws::normal_found, crate::proofs::TagLaws::tag_normal))]
 pub fn recognise_normal<S: ByteSource>(source: &mut S) -> Option<Found>
     requires { S.reads source.old ≤ 2 ^ 126 }

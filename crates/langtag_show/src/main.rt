@@ -9,7 +9,8 @@
 //! - `irregular` and the tag as it is registered;
 //! - `refused`, also for a line that is not UTF-8.
 //!
-//! If a read, a write or an allocation fails, the program says so on standard error and by its status.
+//! If a read, a write or an allocation fails, the program prints a message to standard error and exits with a status
+//! other than 0.
 #![tactic(auto)]
 
 pub use langtag_answers::{ShowError, run};

@@ -8,7 +8,7 @@ use crate::subtags::is_among_first;
 use langtag::Subtags;
 use std::alloc::AllocError;
 
-/// The attributes of the extension `u` that are still to come, in the order of the tag, each once.
+/// The iterator that `attributes` returns: the attributes of the extension `u`, in the order of the tag, each once.
 #[derive(Debug, Drop)]
 pub struct AttributesIter<'a> {
     text: &'a str,

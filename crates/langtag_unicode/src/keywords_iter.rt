@@ -10,7 +10,7 @@ use crate::subtags::{before_key, is_among_first, nonempty, split_first};
 use crate::unicode_extension::KeyValue;
 use std::alloc::AllocError;
 
-/// The keywords of the extension `u`, or the fields of the extension `t`, that are still to come, in the order of the tag.
+/// An iterator over the keywords of the extension `u`, or the fields of the extension `t`, in the order of the tag.
 ///
 /// Each key comes once, with its first value.
 #[derive(Debug, Drop)]

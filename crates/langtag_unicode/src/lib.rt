@@ -1,5 +1,5 @@
-//! What the extensions of Unicode say: the attributes and keywords of `u` (RFC 6067) and the language and fields of `t` (RFC 6497),
-//! as UTS #35, part 1, has them.
+//! Unicode's extensions of language tags: the attributes and keywords of `u` (RFC 6067), and the language and fields of
+//! `t` (RFC 6497). UTS #35, part 1, defines both.
 //!
 //! ```
 //! use langtag::LangTag;

@@ -32,7 +32,7 @@ pub struct Transformation<'a> {
     text: &'a str,
 }
 
-/// Returns the first extension `t` of a tag (RFC 6497 section 2.2), None where there is none.
+/// Returns the first extension `t` of a tag (RFC 6497 section 2.2), or `None` if there is none.
 pub fn transform<'a>(tag: LangTag<'a>) -> Option<Transformation<'a>>
     ensures first { PartOf (lang_tag_text tag.entry) (λ r. option_map (λ e. e.subtags) (find_extension 116 r.extensions)) None (option_map transformation_subtags result) }
 
@@ -45,16 +45,17 @@ pub fn transform<'a>(tag: LangTag<'a>) -> Option<Transformation<'a>>
 }
 
 impl<'a> Transformation<'a> {
-    /// Returns the language before the first field, a slice of the tag: `ja-latn` of `und-t-ja-latn-m0-hepburn`, and None of
-    /// `und-t-m0-hepburn`. It need not be a tag: `abcd-efgh-ijkl` stands in `und-t-abcd-efgh-ijkl`.
+    /// Returns the language of the source text, as a slice of the tag: `ja-latn` for `und-t-ja-latn-m0-hepburn`, `None`
+    /// for `und-t-m0-hepburn`. It need not be a tag: for `und-t-abcd-efgh-ijkl` it is `abcd-efgh-ijkl`.
     pub fn language(&self) -> Option<&'a str>
         ensures { option_map (λ text. text.now) result ≡ spec.language_of (transformation_subtags self.now) }
     {
         nonempty(before_key(nonempty(self.text), Keys::Transform))
     }
 
-    /// Returns the value of a field, a slice of the tag: `hepburn` of `und-t-ja-m0-hepburn` for `m0`. Keys are compared without regard
-    /// to case, and of a repeated one the first counts. It is None where the field does not stand, and empty where it has no value.
+    /// Returns the value of a field, as a slice of the tag: in `und-t-ja-m0-hepburn` the field `m0` has the value
+    /// `hepburn`. Case is ignored, and the first of repeated keys counts. Returns `None` if the field is absent, and
+    /// the empty text if it has no value.
     #[tactic(auto, using(crate::proofs::WalkLaws::keyword_laws))]
     pub fn field(&self, key: &str) -> Option<&'a str>
         ensures value { option_map (λ text. text.now) result ≡ option_map join (keywords.value_of spec.is_field_key key.now (transformation_subtags self.now)) }
@@ -63,8 +64,8 @@ impl<'a> Transformation<'a> {
         value_in(self.text, Keys::Transform, key)
     }
 
-    /// Returns the fields in the order of the tag, each key once, with its first value: `m0` and `hepburn` of
-    /// `und-t-ja-m0-hepburn`.
+    /// Returns an iterator over the fields, in the order of the tag, each key once with its first value: `m0` with
+    /// `hepburn` for `und-t-ja-m0-hepburn`.
     #[tactic(auto, using(crate::proofs::WalkLaws::keyword_laws))]
     pub fn fields(&self) -> KeywordsIter<'a>
         ensures list { keywords_left result ≡ keywords.keywords_of spec.is_field_key (transformation_subtags self.now) }

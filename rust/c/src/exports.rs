@@ -7,11 +7,12 @@
 #![warn(clippy::all)]
 #![allow(clippy::missing_safety_doc)]
 
+use crate::calls::best_match::BestMatch;
 use crate::calls::parse::Parts;
 use crate::calls::repeats::Repeated;
 use crate::calls::span::Span;
 use crate::calls::{
-    accepted, canonical, choice, compare, direction, fallback, grandfathered, likely, look_up,
+    accepted, best_match, canonical, choice, compare, direction, fallback, grandfathered, likely, look_up,
     parse, posix, range as ranges, recommend, refused, registry_date, repeats, validity, viable,
     walk, with_part,
 };
@@ -247,6 +248,30 @@ pub unsafe extern "C" fn langtag_best_for_header(
         lent(bytes, len),
         lent(tags, tags_len),
     )
+}
+
+#[no_mangle]
+pub unsafe extern "C" fn langtag_match_for_header(
+    header: *const u8,
+    header_len: usize,
+    bytes: *const u8,
+    len: usize,
+    tags: *const Span,
+    tags_len: usize,
+    found: *mut BestMatch,
+) -> usize {
+    let mut written = BestMatch {
+        range: NO_SPAN,
+        distance: 0,
+    };
+    let index = best_match::langtag_match_for_header(
+        lent(header, header_len),
+        lent(bytes, len),
+        lent(tags, tags_len),
+        &mut written,
+    );
+    found.write(written);
+    index
 }
 
 #[no_mangle]

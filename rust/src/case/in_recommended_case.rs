@@ -7,11 +7,11 @@ use crate::case::recommended_case::is_in_recommended_case;
 use core::fmt;
 use core::fmt::Write as _;
 
-/// An ASCII text, as each tag is, that is displayed in the case that RFC 5646 section 2.1.1 recommends: `MN-cYRL-mn` is
+/// An ASCII text that is displayed in the case that [RFC 5646 section 2.1.1] recommends for tags: `MN-cYRL-mn` is
 /// displayed as `mn-Cyrl-MN`.
 ///
-/// It allocates no memory. A text that is in its recommended case already is written in one piece, and any other text one
-/// byte at a time.
+/// It does not allocate. A text that is already in its recommended case is written at once, and any other text byte by
+/// byte.
 ///
 /// ```
 /// # fn main() -> Result<(), Box<dyn std::error::Error>> {
@@ -22,13 +22,16 @@ use core::fmt::Write as _;
 /// # Ok(())
 /// # }
 /// ```
+///
+/// [RFC 5646 section 2.1.1]: https://www.rfc-editor.org/rfc/rfc5646#section-2.1.1
 #[derive(Clone, Copy, Debug)]
 pub struct InRecommendedCase<'a> {
     text: &'a str,
 }
 
 impl<'a> InRecommendedCase<'a> {
-    /// Displays an ASCII text in its recommended case. It is proved that a clone succeeds and is the same value.
+    /// Returns a value that displays an ASCII text in its recommended case. It is proved that a clone succeeds and is
+    /// the same value.
     #[inline]
     pub(crate) fn from_checked(text: &'a str) -> Self {
         InRecommendedCase { text }

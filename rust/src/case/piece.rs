@@ -4,8 +4,10 @@
 
 use crate::scan::segment_end;
 
-/// A piece of a text in its recommended case (RFC 5646 section 2.1.1): a subtag, or all that is left of the text from the
+/// A piece of a text in its recommended case ([RFC 5646 section 2.1.1]): a subtag, or all that is left of the text from the
 /// first subtag of a single byte on, which is lowercase.
+///
+/// [RFC 5646 section 2.1.1]: https://www.rfc-editor.org/rfc/rfc5646#section-2.1.1
 #[derive(Clone, Copy, Debug)]
 pub(crate) struct Piece {
     /// Its length in bytes.
@@ -24,7 +26,7 @@ impl Piece {
         }
     }
 
-    /// The piece at the start of what is left of a text after a hyphen, where no subtag before it is of a single byte.
+    /// Returns the piece at the start of the rest of a text after a hyphen, if no subtag before it has a single byte.
     pub(crate) fn later(text: &[u8]) -> Piece {
         match segment_end(text, 0) {
             1 => Piece {

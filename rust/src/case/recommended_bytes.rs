@@ -4,8 +4,10 @@
 
 use crate::case::piece::Piece;
 
-/// An iterator over the bytes of a text in its recommended case (RFC 5646 section 2.1.1): `m`, `n`, `-`, `M`, `N` for
+/// An iterator over the bytes of a text in its recommended case ([RFC 5646 section 2.1.1]): `m`, `n`, `-`, `M`, `N` for
 /// `MN-mn`.
+///
+/// [RFC 5646 section 2.1.1]: https://www.rfc-editor.org/rfc/rfc5646#section-2.1.1
 pub(crate) struct RecommendedBytes<'a> {
     /// What is left of the current piece.
     piece: &'a [u8],

@@ -2,19 +2,21 @@
 
 //! The tag that a reader wants.
 
+use crate::choice::best_match::BestMatch;
 use crate::choice::by_ranges::first_by_ranges;
 use crate::choice::by_tags::first_by_tags;
-use crate::choice::candidate::index_of;
+use crate::choice::candidate::{index_of, Candidate};
 use crate::choice::range_list::RangeList;
 use crate::choice::refused::is_refused;
+use crate::choice::tag_distance::range_distance;
 use crate::choice::tag_list::{TagList, Tags};
 #[cfg(feature = "alloc")]
 use crate::matching::AcceptLanguage;
 use crate::matching::LanguageRange;
 use crate::tag::LangTag;
 
-/// Returns the index of the tag that the reader wants who sent an Accept-Language header, if one of the tags is anything to
-/// them: 2 for `zh-TW,zh;q=0.9,en;q=0.8` and the tags `en`, `zh-Hans` and `zh-Hant`.
+/// Returns the index of the best tag for an Accept-Language header ([RFC 9110 section 12.5.4]), or `None` if no tag is
+/// suitable. For `zh-TW,zh;q=0.9,en;q=0.8` and the tags `en`, `zh-Hans` and `zh-Hant` it is 2.
 ///
 /// ```
 /// # fn main() -> Result<(), Box<dyn std::error::Error>> {
@@ -26,13 +28,28 @@ use crate::tag::LangTag;
 /// # Ok(())
 /// # }
 /// ```
+///
+/// [RFC 9110 section 12.5.4]: https://www.rfc-editor.org/rfc/rfc9110#section-12.5.4
 #[inline]
 pub fn best_for_header(header: &[u8], tags: &[LangTag<'_>]) -> Option<usize> {
     best_among(header, &Tags(tags))
 }
 
-/// Returns the index of the tag that a reader wants, as [`best_for_header`] does, for a header that was read by the letter of
-/// RFC 9110. Ranges of weight 0 are not among those that it accepts, so no tag is refused.
+/// Returns the index of the best tag for a parsed header, as [`best_for_header`] does. [`AcceptLanguage`] has no ranges
+/// of weight 0, so it excludes no tag.
+///
+/// ```
+/// # fn main() -> Result<(), Box<dyn std::error::Error>> {
+/// use langtag::LangTag;
+/// use langtag::choice::best_for_accept_language;
+/// use langtag::matching::AcceptLanguage;
+///
+/// let accepted = AcceptLanguage::lenient("zh-TW,zh;q=0.9,en;q=0.8")?;
+/// let tags = [LangTag::new("en")?, LangTag::new("zh-Hant")?];
+/// assert_eq!(best_for_accept_language(&accepted, &tags), Some(1));
+/// # Ok(())
+/// # }
+/// ```
 #[cfg(feature = "alloc")]
 #[inline]
 pub fn best_for_accept_language(
@@ -42,33 +59,90 @@ pub fn best_for_accept_language(
     best_among(accepted.ranges(), &Tags(tags))
 }
 
-/// Returns the index of the tag that a reader wants, as [`best_for_header`] does, who names language ranges of which the first
-/// is wanted most: 1 for `nn` and `de`, and the tags `en` and `nb`. It is meant for basic ranges.
+/// Returns the index of the best tag for a list of language ranges, the most wanted first, as [`best_for_header`] does:
+/// 1 for the ranges `nn` and `de`, and the tags `en` and `nb`. It is meant for basic ranges.
+///
+/// ```
+/// # fn main() -> Result<(), Box<dyn std::error::Error>> {
+/// use langtag::LangTag;
+/// use langtag::choice::best_for_ranges;
+/// use langtag::matching::LanguageRange;
+///
+/// let ranges = [LanguageRange::new("nn")?, LanguageRange::new("de")?];
+/// let tags = [LangTag::new("en")?, LangTag::new("nb")?];
+/// assert_eq!(best_for_ranges(&ranges, &tags), Some(1));
+/// # Ok(())
+/// # }
+/// ```
 #[inline]
 pub fn best_for_ranges(ranges: &[LanguageRange<'_>], tags: &[LangTag<'_>]) -> Option<usize> {
     best_among(ranges, &Tags(tags))
 }
 
-/// Returns the index of the tag that a reader wants, as [`best_for_header`] does, for ranges and among tags that stand
-/// elsewhere than in a header and a slice.
+/// Returns the best tag for an Accept-Language header, as [`best_for_header`] chooses it, with the range that it serves and its
+/// distance from that range. If the distance is 50 or more, only look-up (RFC 4647, section 3.4) finds the tag.
+///
+/// ```
+/// # fn main() -> Result<(), Box<dyn std::error::Error>> {
+/// use langtag::LangTag;
+/// use langtag::choice::match_for_header;
+///
+/// let tags = [LangTag::new("en")?, LangTag::new("de")?];
+/// let found = match_for_header(b"tlh, gsw", &tags);
+/// assert_eq!(found.map(|found| (found.index, found.range, found.distance)), Some((1, &b"gsw"[..], 8)));
+/// # Ok(())
+/// # }
+/// ```
 #[inline]
-pub fn best_among<'a, R: RangeList<'a>, T: TagList>(ranges: R, tags: &T) -> Option<usize> {
-    best(ranges, tags)
+pub fn match_for_header<'a>(header: &'a [u8], tags: &[LangTag<'_>]) -> Option<BestMatch<'a>> {
+    match_among(header, &Tags(tags))
 }
 
-/// Returns the index of the tag that is chosen. Where what is first of all is refused or no tag, the tags are gone through one by one.
-fn best<'a, R: RangeList<'a>, T: TagList>(ranges: R, tags: &T) -> Option<usize> {
+/// Returns the best tag with the range that it serves, as [`match_for_header`] does, for any list of ranges and any list of tags.
+#[inline]
+pub fn match_among<'a, R: RangeList<'a>, T: TagList>(ranges: R, tags: &T) -> Option<BestMatch<'a>> {
+    match best(ranges, tags) {
+        Some(found) => Some(match_of(found)),
+        None => None,
+    }
+}
+
+/// Returns the match that a chosen candidate is.
+#[inline]
+fn match_of<'a>(found: Candidate<'a, '_>) -> BestMatch<'a> {
+    BestMatch {
+        index: found.index,
+        range: found.range,
+        place: found.rank.place,
+        distance: range_distance(found.range, found.tag),
+    }
+}
+
+/// Returns the index of the best tag, as [`best_for_header`] does, for any list of ranges and any list of tags.
+#[inline]
+pub fn best_among<'a, R: RangeList<'a>, T: TagList>(ranges: R, tags: &T) -> Option<usize> {
+    best_index(ranges, tags)
+}
+
+/// Returns the index of the chosen tag.
+#[inline]
+fn best_index<'a, R: RangeList<'a>, T: TagList>(ranges: R, tags: &T) -> Option<usize> {
+    index_of(best(ranges, tags))
+}
+
+/// Returns the chosen candidate. If the first candidate is refused or not a tag, the tags are tried one by one.
+fn best<'a, 't, R: RangeList<'a>, T: TagList>(ranges: R, tags: &'t T) -> Option<Candidate<'a, 't>> {
     let (first, has_zero) = first_by_ranges(ranges, tags);
     let Some(found) = first else {
         return None;
     };
     if is_chosen(ranges, tags, found.index, has_zero) {
-        return Some(found.index);
+        return Some(found);
     }
-    index_of(first_by_tags(ranges, tags))
+    first_by_tags(ranges, tags)
 }
 
-/// Returns whether a tag stands at an index, which is not refused. Where no range has the weight 0, none is.
+/// Returns whether the entry at an index is a tag that is not refused. No tag is refused if no range has the weight 0.
 #[inline]
 fn is_chosen<'a, R: RangeList<'a>, T: TagList>(
     ranges: R,

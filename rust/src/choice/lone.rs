@@ -1,12 +1,13 @@
 // Made by rust/erase from crates/langtag_choice/src/lone.rt. Change that file, not this one.
 
-//! Languages that no other is near, as the first letters of a tag show.
+//! Languages to which no other language is near, as the first letters of a tag show.
 
 use crate::choice::matching_tables as tables;
-use crate::likely::{language_number, TagFields};
+use crate::choice::read_range::starts;
+use crate::likely::{hyphened, language_number, TagFields};
 use crate::scan::into_smallcase;
 
-/// Returns the first two bytes of a text, in small letters.
+/// Returns the first two bytes of a text, in lowercase letters.
 #[inline]
 pub(crate) fn head(text: &[u8]) -> Option<(u8, u8)> {
     match text {
@@ -15,25 +16,45 @@ pub(crate) fn head(text: &[u8]) -> Option<(u8, u8)> {
     }
 }
 
-/// Returns whether a text has two first bytes, and they are not these letters.
-#[inline]
-pub(crate) fn differs(begins: Option<(u8, u8)>, letters: (u8, u8)) -> bool {
-    match begins {
-        Some(begins) => begins != letters,
-        None => false,
+/// Returns whether a text has a language of two letters and no extended language, if it begins with a language.
+pub(crate) fn is_short(text: &[u8]) -> bool {
+    match text {
+        [_, _] => true,
+        [_, _, mark, rest @ ..] => is_mark(*mark) && !may_be_extended(rest),
+        _ => false,
     }
 }
 
-/// Returns the letters of a form's language where it has two and no other language is near it.
-pub(crate) fn lone_letters(form: Option<TagFields<'_>>) -> Option<(u8, u8)> {
+/// Returns whether a text may begin with an extended language. A region of three digits is none.
+fn may_be_extended(text: &[u8]) -> bool {
+    match text {
+        [first, _, _] => is_letter(*first),
+        [first, _, _, mark, ..] => is_mark(*mark) && is_letter(*first),
+        _ => false,
+    }
+}
+
+#[inline]
+fn is_letter(byte: u8) -> bool {
+    byte.is_ascii_alphabetic()
+}
+
+#[inline]
+fn is_mark(byte: u8) -> bool {
+    hyphened(byte) == b'-'
+}
+
+/// Returns the letters of a form's language if it has two, the range begins with them, and no other language is near
+/// it.
+pub(crate) fn lone_letters(range: &[u8], form: Option<TagFields<'_>>) -> Option<(u8, u8)> {
     let Some(form) = form else { return None };
-    if form.language.len() != 2 || is_related(form.language) {
+    if form.language.len() != 2 || is_related(form.language) || !starts(range, form.language) {
         return None;
     }
     head(form.language)
 }
 
-/// Returns whether a rule desires a language of two letters, or it replaces another.
+/// Returns whether a rule desires a language of two letters, or it replaces one of two letters.
 #[inline]
 fn is_related(language: &[u8]) -> bool {
     let number = language_number(language) as u16;

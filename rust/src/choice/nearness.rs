@@ -2,6 +2,7 @@
 
 //! How near a tag is to a range.
 
+use crate::choice::read_range::starts;
 use crate::choice::rule_distance::language_distance;
 use crate::choice::tag_distance::places_distance;
 use crate::choice::wish::Wish;
@@ -14,8 +15,8 @@ pub(crate) struct Nearness<'t> {
     pub(crate) form: Option<TagFields<'t>>,
 }
 
-/// Returns how near a tag is to a range that it may serve, if it is nearer than a limit: at the distance 50 where look-up alone finds
-/// it.
+/// Returns how near a tag is to a range that it may serve, if its distance is below a limit. The distance is 50 if only
+/// look-up finds it.
 pub(crate) fn measured<'t>(limit: u8, wish: &Wish<'_>, tag: &'t [u8]) -> Option<Nearness<'t>> {
     if let Some(near) = nearer_than(limit.min(50), wish, tag) {
         return Some(near);
@@ -80,7 +81,7 @@ fn equal_text<'t>(limit: u8, range: &[u8], tag: &'t [u8]) -> Option<Nearness<'t>
     })
 }
 
-/// Returns how much of a range look-up keeps where it finds a tag.
+/// Returns how much of a range look-up keeps, if it finds a tag.
 #[inline]
 pub(crate) fn kept(range: &[u8], tag: &[u8]) -> usize {
     if is_fallback(range, tag) {
@@ -94,12 +95,6 @@ pub(crate) fn kept(range: &[u8], tag: &[u8]) -> usize {
 fn is_fallback(range: &[u8], tag: &[u8]) -> bool {
     starts(range, tag)
         && (goes_on(&range[tag.len()..]) && (tag.len() == range.len() || !ends_in_single(tag)))
-}
-
-/// Returns whether a range begins like a tag.
-#[inline]
-fn starts(range: &[u8], tag: &[u8]) -> bool {
-    tag.len() <= range.len() && are_alike(&range[..tag.len()], tag)
 }
 
 /// Returns whether nothing follows, or a hyphen.

@@ -4,8 +4,9 @@
 
 use crate::matching::{split_wanted, LanguageRange, WantedRange, WeightedRange};
 
-/// Language ranges with their weights, in the order in which a reader names them: those of an Accept-Language header in a slice
-/// of bytes, and those in a slice of [`WeightedRange`] or of [`LanguageRange`]. A value is a walk over them, and takes no memory.
+/// Language ranges with their weights, in the reader's order. It is implemented for an Accept-Language header in a
+/// slice of bytes, and for slices of [`WeightedRange`] and of [`LanguageRange`]. A value walks over the ranges, and
+/// does not allocate.
 ///
 /// ```
 /// # fn main() -> Result<(), Box<dyn std::error::Error>> {
@@ -19,11 +20,11 @@ use crate::matching::{split_wanted, LanguageRange, WantedRange, WeightedRange};
 /// # }
 /// ```
 pub trait RangeList<'a>: Copy {
-    /// Returns the first range and those that follow it, None where there is none left.
+    /// Returns the first range and the ranges after it, or `None` if none is left.
     fn split_range(self) -> Option<(WantedRange<'a>, Self)>;
 }
 
-/// An Accept-Language header, which is read as `langtag::matching::wanted_ranges` reads it.
+/// An Accept-Language header, read as `langtag::matching::wanted_ranges` reads it.
 impl<'a> RangeList<'a> for &'a [u8] {
     #[inline]
     fn split_range(self) -> Option<(WantedRange<'a>, &'a [u8])> {
@@ -43,7 +44,7 @@ impl<'a> RangeList<'a> for &'a [WeightedRange<'a>] {
     }
 }
 
-/// Ranges of which the first is wanted most.
+/// Ranges, the most wanted first.
 impl<'a> RangeList<'a> for &'a [LanguageRange<'a>] {
     fn split_range(self) -> Option<(WantedRange<'a>, &'a [LanguageRange<'a>])> {
         let (first, rest) = self.split_first()?;

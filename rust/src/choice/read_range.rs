@@ -10,6 +10,12 @@ pub(crate) fn is_star(range: &[u8]) -> bool {
     matches!(range, [b'*'])
 }
 
+/// Returns whether a range begins like a tag.
+#[inline]
+pub(crate) fn starts(range: &[u8], tag: &[u8]) -> bool {
+    tag.len() <= range.len() && are_alike(&range[..tag.len()], tag)
+}
+
 /// Returns whether a tag is a range, or begins so and goes on with a hyphen.
 pub(crate) fn begins(range: &[u8], tag: &[u8]) -> bool {
     if tag.len() < range.len() || !are_alike(range, &tag[..range.len()]) {

@@ -4,24 +4,35 @@
 
 use crate::choice::region_distance::region_distance;
 use crate::choice::rule_distance::{language_distance, script_distance};
-use crate::likely::{matching_form, TagFields};
+use crate::likely::{are_alike, matching_form, TagFields};
 use crate::scan::case_insensitive_eq;
 use crate::tag::LangTag;
 
-/// The distance of two different tags where one has no matching form: it is `und` and no more, of private use, or begins with `i-`.
+/// The distance of two different tags of which one has no known language: it is only `und`, or is for private use, or
+/// begins with `i-`.
 pub const FORMLESS_DISTANCE: u8 = 255;
 
-/// Returns the distance from a tag that a reader desires to one that there is (UTS #35, Language Matching): 0 from `zh-TW` to
+/// Returns the distance from a desired tag to a supported tag (UTS #35, Language Matching): 0 from `zh-TW` to
 /// `zh-Hant`, 4 from `de-AT` to `de`, 10 from `yue` to `zh-HK`, 84 from `de` to `en`.
 ///
-/// It is the sum of that of the languages (80 where no rule says less), that of the scripts (50) and that of the regions (at most
-/// 5), once what is deprecated is replaced and likely subtags are added. So up to 15 the languages are nearly the same, and below
-/// 50 most readers understand the one who read the other. The case, variants, extensions and private use are of no account, nor is
-/// what else follows the region, as in `en-GB-oed`.
-/// Where a tag has no such form, it is [`FORMLESS_DISTANCE`], or 0 if the tags are equal but for case.
+/// First, deprecated subtags are replaced and likely subtags are added. The distance is then the sum of the distances
+/// of the languages (80 unless a rule says less), the scripts (50) and the regions (at most 5). Up to 15 the languages
+/// are nearly the same, and below 50 most readers understand the other language. Case, variants, extensions and private
+/// use do not count, nor does anything else after the region, as in `en-GB-oed`. If a tag has no known language, it is
+/// [`FORMLESS_DISTANCE`], or 0 if the tags are equal, ignoring case.
 ///
-/// The languages `arb cmn in iw ji jw mo sh tl` are replaced, and deprecated regions; `langtag::registry::canonical` replaces all
-/// that is deprecated.
+/// A language that CLDR replaces is read as what replaces it, such as `ger`, `deu` and `iw`, and so is a deprecated region.
+///
+/// ```
+/// # fn main() -> Result<(), Box<dyn std::error::Error>> {
+/// use langtag::LangTag;
+/// use langtag::choice::distance;
+///
+/// assert_eq!(distance(LangTag::new("de-AT")?, LangTag::new("de")?), 4);
+/// assert_eq!(distance(LangTag::new("de")?, LangTag::new("en")?), 84);
+/// # Ok(())
+/// # }
+/// ```
 #[inline]
 pub fn distance(desired: LangTag<'_>, supported: LangTag<'_>) -> u8 {
     texts_distance(desired.as_bytes(), supported.as_bytes())
@@ -35,6 +46,24 @@ fn texts_distance(desired: &[u8], supported: &[u8]) -> u8 {
     }
 }
 
+/// Returns the distance from a range, in which `_` is read as `-`, to a tag.
+pub(crate) fn range_distance(range: &[u8], tag: &[u8]) -> u8 {
+    match (matching_form(range), matching_form(tag)) {
+        (Some(wanted), Some(found)) => fields_distance(wanted, found),
+        _ => formless_range_distance(range, tag),
+    }
+}
+
+/// Returns the distance from a range to a tag of which one has no matching form.
+#[inline]
+fn formless_range_distance(range: &[u8], tag: &[u8]) -> u8 {
+    if are_alike(range, tag) {
+        0
+    } else {
+        FORMLESS_DISTANCE
+    }
+}
+
 /// Returns the distance of two texts of which one has no matching form.
 #[inline]
 fn formless_distance(desired: &[u8], supported: &[u8]) -> u8 {
@@ -45,7 +74,7 @@ fn formless_distance(desired: &[u8], supported: &[u8]) -> u8 {
     }
 }
 
-/// Returns the distance of two matching forms: 0 exactly if they are equal but for case.
+/// Returns the distance of two matching forms: 0 exactly if they are equal, ignoring case.
 #[inline]
 fn fields_distance(desired: TagFields<'_>, supported: TagFields<'_>) -> u8 {
     language_distance(desired, supported) + places_distance(desired, supported)

@@ -4,7 +4,7 @@
 
 use crate::tag::LangTag;
 
-/// A list of tags, each at an index. What stands at an index need not be a tag, and is then never chosen.
+/// A list of tags, each at an index. An entry need not be a tag; if it is not, it is never chosen.
 ///
 /// ```
 /// use langtag::LangTag;
@@ -29,13 +29,13 @@ use crate::tag::LangTag;
 /// assert_eq!(best_among(&b"zh-TW"[..], &Texts(&["en", "zh-Hant"])), Some(1));
 /// ```
 pub trait TagList {
-    /// Returns how many there are.
+    /// Returns the number of entries.
     fn count(&self) -> usize;
 
-    /// Returns the tag at an index, None where what stands there is none.
+    /// Returns the tag at an index, or `None` if the entry is not a tag.
     fn tag_at(&self, index: usize) -> Option<LangTag<'_>>;
 
-    /// Returns the text of the tag at an index. Where what stands there is no tag, it may be any text.
+    /// Returns the text of the tag at an index. If the entry is not a tag, any text may be returned.
     fn bytes_at(&self, index: usize) -> &[u8];
 }
 

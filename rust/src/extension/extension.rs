@@ -11,7 +11,7 @@ use crate::shim::{try_string, AllocError};
 use alloc::string::String;
 use core::fmt;
 
-/// The error for a text that is not an extension. It hands the text back.
+/// The error for a text that is not an extension. It contains the text.
 ///
 /// ```
 /// use langtag::Extension;
@@ -31,10 +31,10 @@ impl<T> fmt::Display for InvalidExtension<T> {
 
 impl<T: fmt::Debug> core::error::Error for InvalidExtension<T> {}
 
-/// An extension (RFC 5646 section 2.2.6): a singleton and one or more subtags of two to eight letters and digits, as
-/// `u-co-phonebk`.
+/// An extension ([RFC 5646 section 2.2.6]): a singleton and one or more subtags of two to eight letters and digits, such
+/// as `u-co-phonebk`.
 ///
-/// Two extensions are equal where their texts differ at most in the case of ASCII letters: `u-co` and `U-CO` are.
+/// Two extensions are equal if their texts differ only in the case of ASCII letters, such as `u-co` and `U-CO`.
 ///
 /// ```
 /// # fn main() -> Result<(), Box<dyn std::error::Error>> {
@@ -46,19 +46,26 @@ impl<T: fmt::Debug> core::error::Error for InvalidExtension<T> {}
 /// # Ok(())
 /// # }
 /// ```
+///
+/// [RFC 5646 section 2.2.6]: https://www.rfc-editor.org/rfc/rfc5646#section-2.2.6
 #[derive(Clone, Copy, Debug, PartialEq, Eq, PartialOrd, Ord, Hash)]
 pub struct Extension<'a> {
     text: Caseless<&'a str>,
 }
 
 impl<'a> Extension<'a> {
-    /// Parses a text as an extension: `Extension::new("u-co-phonebk")` is Ok.
+    /// Parses a text as an extension.
     ///
     /// # Errors
     ///
-    /// A text that is not one extension comes back: one without a subtag, as `a`, or with two singletons, as
-    /// `a-bb-b-cc`, or with the mark of private use in the singleton's place, as `x-bb`. `Extension::new("a")` is
-    /// `Err(InvalidExtension("a"))`.
+    /// Returns the text if it is not one extension: `Extension::new("a")`, which has no subtag, is
+    /// `Err(InvalidExtension("a"))`. `a-bb-b-cc` has two singletons, and `x-bb` is a private use part.
+    ///
+    /// ```
+    /// use langtag::Extension;
+    ///
+    /// assert!(Extension::new("u-co-phonebk").is_ok());
+    /// ```
     #[inline]
     pub fn new(text: &'a str) -> Result<Extension<'a>, InvalidExtension<&'a str>> {
         if !is_extension(text) {
@@ -67,7 +74,7 @@ impl<'a> Extension<'a> {
         Ok(Extension::from_checked(text))
     }
 
-    /// Returns the extension of a text that is known to be one, without a test.
+    /// Returns the extension of a text that is known to be one, without checking it.
     /// `Extension::from_checked(extension.as_str())` is equal to `extension`.
     #[inline]
     pub(crate) fn from_checked(text: &'a str) -> Extension<'a> {
@@ -76,31 +83,66 @@ impl<'a> Extension<'a> {
         }
     }
 
-    /// Returns the text, with its case: `Extension::new("U-CO")?.as_str()` is `"U-CO"`.
+    /// Returns the text, in its original case.
+    ///
+    /// ```
+    /// # fn main() -> Result<(), Box<dyn std::error::Error>> {
+    /// use langtag::Extension;
+    ///
+    /// assert_eq!(Extension::new("U-CO")?.as_str(), "U-CO");
+    /// # Ok(())
+    /// # }
+    /// ```
     #[inline]
     pub fn as_str(&self) -> &'a str {
         self.text.0
     }
 
-    /// Returns the bytes of the text: `Extension::new("U-CO")?.as_bytes()` is `b"U-CO"`.
+    /// Returns the text as bytes.
+    ///
+    /// ```
+    /// # fn main() -> Result<(), Box<dyn std::error::Error>> {
+    /// use langtag::Extension;
+    ///
+    /// assert_eq!(Extension::new("U-CO")?.as_bytes(), b"U-CO");
+    /// # Ok(())
+    /// # }
+    /// ```
     #[inline]
     pub fn as_bytes(&self) -> &'a [u8] {
         self.as_str().as_bytes()
     }
 
-    /// Returns whether another text, of any form, is equal but for the case of ASCII letters:
-    /// `Extension::new("u-co")?.eq_str("U-CO")` is true. It is proved that extensions are compared, ordered and hashed
-    /// so, and that a clone is the value itself.
+    /// Returns whether another text is equal, ignoring the case of ASCII letters. It is proved that comparisons and
+    /// hashes also ignore case, and that a clone is the same value.
+    ///
+    /// ```
+    /// # fn main() -> Result<(), Box<dyn std::error::Error>> {
+    /// use langtag::Extension;
+    ///
+    /// assert!(Extension::new("u-co")?.eq_str("U-CO"));
+    /// # Ok(())
+    /// # }
+    /// ```
     #[inline]
     pub fn eq_str(&self, other: &str) -> bool {
         self.text == Caseless(other)
     }
 
-    /// Returns the owned form of the same text: `Extension::new("U-CO")?.try_to_owned()?.as_str()` is `"U-CO"`.
+    /// Copies the text into an owned value.
     ///
     /// # Errors
     ///
-    /// Out of memory.
+    /// Returns an error if allocation fails.
+    ///
+    /// ```
+    /// # fn main() -> Result<(), Box<dyn std::error::Error>> {
+    /// use langtag::Extension;
+    ///
+    /// assert_eq!(Extension::new("U-CO")?.try_to_owned()?.as_str(), "U-CO");
+    /// # Ok(())
+    /// # }
+    /// ```
     #[cfg(feature = "alloc")]
     #[inline]
     pub fn try_to_owned(&self) -> Result<ExtensionBuf, AllocError> {
@@ -110,7 +152,7 @@ impl<'a> Extension<'a> {
         })
     }
 
-    /// Returns the singleton that opens the extension, with its case: `U` of `U-co-phonebk`.
+    /// Returns the singleton of the extension, in its original case: `U` for `U-co-phonebk`.
     #[inline]
     pub fn singleton(&self) -> Singleton {
         Singleton::from_checked(self.as_bytes()[0])
@@ -122,7 +164,7 @@ impl<'a> Extension<'a> {
         into_smallcase(self.singleton().unwrap()) == into_smallcase(singleton.unwrap())
     }
 
-    /// Returns the subtags after the singleton, in order: `co` and `phonebk` of `u-co-phonebk`.
+    /// Returns an iterator over the subtags after the singleton: `co` and `phonebk` for `u-co-phonebk`.
     #[inline]
     pub fn iter(&self) -> ExtensionIter<'a> {
         ExtensionIter::new(self.as_str())
@@ -156,11 +198,11 @@ pub struct ExtensionBuf {
 
 #[cfg(feature = "alloc")]
 impl ExtensionBuf {
-    /// Parses a `String` as an extension, and keeps it, without a copy: `u-co` is Ok.
+    /// Parses a `String` as an extension and keeps it, without copying: `u-co` is `Ok`.
     ///
     /// # Errors
     ///
-    /// A text that is not one extension comes back, the same `String`: `a` does.
+    /// Returns the same `String` if it is not one extension, such as `a`.
     #[inline]
     pub fn new(text: String) -> Result<ExtensionBuf, InvalidExtension<String>> {
         if !is_extension(text.as_str()) {
@@ -171,20 +213,46 @@ impl ExtensionBuf {
         })
     }
 
-    /// Borrows the extension: `as_extension().as_str()` of the owned `U-CO` is `"U-CO"`. It is proved that owned
-    /// extensions are compared, ordered and hashed without regard to case.
+    /// Borrows the extension. It is proved that comparisons and hashes of owned extensions ignore case.
+    ///
+    /// ```
+    /// # fn main() -> Result<(), Box<dyn std::error::Error>> {
+    /// use langtag::Extension;
+    ///
+    /// assert_eq!(Extension::new("U-CO")?.try_to_owned()?.as_extension().as_str(), "U-CO");
+    /// # Ok(())
+    /// # }
+    /// ```
     #[inline]
     pub fn as_extension(&self) -> Extension<'_> {
         Extension::from_checked(self.as_str())
     }
 
-    /// Returns the text, with its case: `as_str()` of the owned `U-CO` is `"U-CO"`.
+    /// Returns the text, in its original case.
+    ///
+    /// ```
+    /// # fn main() -> Result<(), Box<dyn std::error::Error>> {
+    /// use langtag::Extension;
+    ///
+    /// assert_eq!(Extension::new("U-CO")?.try_to_owned()?.as_str(), "U-CO");
+    /// # Ok(())
+    /// # }
+    /// ```
     #[inline]
     pub fn as_str(&self) -> &str {
         self.text.0.as_str()
     }
 
-    /// Returns the text itself, without a copy: `into_string()` of the owned `U-CO` is the `String` `U-CO`.
+    /// Returns the `String`, without copying it.
+    ///
+    /// ```
+    /// # fn main() -> Result<(), Box<dyn std::error::Error>> {
+    /// use langtag::Extension;
+    ///
+    /// assert_eq!(Extension::new("U-CO")?.try_to_owned()?.into_string(), "U-CO");
+    /// # Ok(())
+    /// # }
+    /// ```
     #[inline]
     pub fn into_string(self) -> String {
         self.text.0

@@ -5,8 +5,8 @@
 use crate::extension::extension_subtag::ExtensionSubtag;
 use crate::scan::Subtags;
 
-/// The subtags of an extension that are still to come (RFC 5646 section 2.2.6), without the singleton: `co` and
-/// `phonebk` of `Extension::new("u-co-phonebk")?.iter()`.
+/// An iterator over the subtags of an extension ([RFC 5646 section 2.2.6]), without the singleton: `co` and `phonebk` for
+/// `u-co-phonebk`.
 ///
 /// ```
 /// # fn main() -> Result<(), Box<dyn std::error::Error>> {
@@ -19,6 +19,8 @@ use crate::scan::Subtags;
 /// # Ok(())
 /// # }
 /// ```
+///
+/// [RFC 5646 section 2.2.6]: https://www.rfc-editor.org/rfc/rfc5646#section-2.2.6
 #[derive(Debug)]
 pub struct ExtensionIter<'a> {
     rest: Subtags<'a>,

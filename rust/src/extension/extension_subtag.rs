@@ -9,7 +9,7 @@ use crate::shim::{try_string, AllocError};
 use alloc::string::String;
 use core::fmt;
 
-/// The error for a text that is not a subtag of an extension. It hands the text back.
+/// The error for a text that is not a subtag of an extension. It contains the text.
 ///
 /// ```
 /// use langtag::ExtensionSubtag;
@@ -29,10 +29,10 @@ impl<T> fmt::Display for InvalidExtensionSubtag<T> {
 
 impl<T: fmt::Debug> core::error::Error for InvalidExtensionSubtag<T> {}
 
-/// A subtag of an extension (RFC 5646 section 2.2.6): two to eight letters and digits, as `phonebk` in
+/// A subtag of an extension ([RFC 5646 section 2.2.6]): two to eight letters and digits, such as `phonebk` in
 /// `u-co-phonebk`.
 ///
-/// Two subtags are equal where their texts differ at most in the case of ASCII letters: `co` and `CO` are.
+/// Two subtags are equal if their texts differ only in the case of ASCII letters, such as `co` and `CO`.
 ///
 /// ```
 /// # fn main() -> Result<(), Box<dyn std::error::Error>> {
@@ -44,18 +44,26 @@ impl<T: fmt::Debug> core::error::Error for InvalidExtensionSubtag<T> {}
 /// # Ok(())
 /// # }
 /// ```
+///
+/// [RFC 5646 section 2.2.6]: https://www.rfc-editor.org/rfc/rfc5646#section-2.2.6
 #[derive(Clone, Copy, Debug, PartialEq, Eq, PartialOrd, Ord, Hash)]
 pub struct ExtensionSubtag<'a> {
     text: Caseless<&'a str>,
 }
 
 impl<'a> ExtensionSubtag<'a> {
-    /// Parses a text as a subtag: `ExtensionSubtag::new("co")` is Ok.
+    /// Parses a text as a subtag.
     ///
     /// # Errors
     ///
-    /// A text that is not two to eight letters and digits comes back: `ExtensionSubtag::new("c")` is
-    /// `Err(InvalidExtensionSubtag("c"))`.
+    /// Returns the text if it is not two to eight letters and digits.
+    ///
+    /// ```
+    /// use langtag::{ExtensionSubtag, InvalidExtensionSubtag};
+    ///
+    /// assert!(ExtensionSubtag::new("co").is_ok());
+    /// assert_eq!(ExtensionSubtag::new("c"), Err(InvalidExtensionSubtag("c")));
+    /// ```
     #[inline]
     pub fn new(text: &'a str) -> Result<ExtensionSubtag<'a>, InvalidExtensionSubtag<&'a str>> {
         if !is_extension_subtag(text.as_bytes()) {
@@ -64,7 +72,7 @@ impl<'a> ExtensionSubtag<'a> {
         Ok(ExtensionSubtag::from_checked(text))
     }
 
-    /// Returns the subtag of a text that is known to be one, without a test.
+    /// Returns the subtag of a text that is known to be one, without checking it.
     /// `ExtensionSubtag::from_checked(subtag.as_str())` is equal to `subtag`.
     #[inline]
     pub(crate) fn from_checked(text: &'a str) -> ExtensionSubtag<'a> {
@@ -73,31 +81,66 @@ impl<'a> ExtensionSubtag<'a> {
         }
     }
 
-    /// Returns the text, with its case: `ExtensionSubtag::new("CO")?.as_str()` is `"CO"`.
+    /// Returns the text, in its original case.
+    ///
+    /// ```
+    /// # fn main() -> Result<(), Box<dyn std::error::Error>> {
+    /// use langtag::ExtensionSubtag;
+    ///
+    /// assert_eq!(ExtensionSubtag::new("CO")?.as_str(), "CO");
+    /// # Ok(())
+    /// # }
+    /// ```
     #[inline]
     pub fn as_str(&self) -> &'a str {
         self.text.0
     }
 
-    /// Returns the bytes of the text: `ExtensionSubtag::new("CO")?.as_bytes()` is `b"CO"`.
+    /// Returns the text as bytes.
+    ///
+    /// ```
+    /// # fn main() -> Result<(), Box<dyn std::error::Error>> {
+    /// use langtag::ExtensionSubtag;
+    ///
+    /// assert_eq!(ExtensionSubtag::new("CO")?.as_bytes(), b"CO");
+    /// # Ok(())
+    /// # }
+    /// ```
     #[inline]
     pub fn as_bytes(&self) -> &'a [u8] {
         self.as_str().as_bytes()
     }
 
-    /// Returns whether another text, of any form, is equal but for the case of ASCII letters:
-    /// `ExtensionSubtag::new("co")?.eq_str("CO")` is true. It is proved that subtags are compared, ordered and hashed
-    /// so, and that a clone is the value itself.
+    /// Returns whether another text is equal, ignoring the case of ASCII letters. It is proved that comparisons and
+    /// hashes also ignore case, and that a clone is the same value.
+    ///
+    /// ```
+    /// # fn main() -> Result<(), Box<dyn std::error::Error>> {
+    /// use langtag::ExtensionSubtag;
+    ///
+    /// assert!(ExtensionSubtag::new("co")?.eq_str("CO"));
+    /// # Ok(())
+    /// # }
+    /// ```
     #[inline]
     pub fn eq_str(&self, other: &str) -> bool {
         self.text == Caseless(other)
     }
 
-    /// Returns the owned form of the same text: `ExtensionSubtag::new("CO")?.try_to_owned()?.as_str()` is `"CO"`.
+    /// Copies the text into an owned value.
     ///
     /// # Errors
     ///
-    /// Out of memory.
+    /// Returns an error if allocation fails.
+    ///
+    /// ```
+    /// # fn main() -> Result<(), Box<dyn std::error::Error>> {
+    /// use langtag::ExtensionSubtag;
+    ///
+    /// assert_eq!(ExtensionSubtag::new("CO")?.try_to_owned()?.as_str(), "CO");
+    /// # Ok(())
+    /// # }
+    /// ```
     #[cfg(feature = "alloc")]
     #[inline]
     pub fn try_to_owned(&self) -> Result<ExtensionSubtagBuf, AllocError> {
@@ -135,11 +178,11 @@ pub struct ExtensionSubtagBuf {
 
 #[cfg(feature = "alloc")]
 impl ExtensionSubtagBuf {
-    /// Parses a `String` as a subtag, and keeps it, without a copy: `co` is Ok.
+    /// Parses a `String` as a subtag and keeps it, without copying: `co` is `Ok`.
     ///
     /// # Errors
     ///
-    /// A text that is not two to eight letters and digits comes back, the same `String`: `c` does.
+    /// Returns the same `String` if it is not two to eight letters and digits, such as `c`.
     #[inline]
     pub fn new(text: String) -> Result<ExtensionSubtagBuf, InvalidExtensionSubtag<String>> {
         if !is_extension_subtag(text.as_bytes()) {
@@ -150,20 +193,46 @@ impl ExtensionSubtagBuf {
         })
     }
 
-    /// Borrows the subtag: `as_extension_subtag().as_str()` of the owned `CO` is `"CO"`. It is proved that owned
-    /// subtags are compared, ordered and hashed without regard to case.
+    /// Borrows the subtag. It is proved that comparisons and hashes of owned subtags ignore case.
+    ///
+    /// ```
+    /// # fn main() -> Result<(), Box<dyn std::error::Error>> {
+    /// use langtag::ExtensionSubtag;
+    ///
+    /// assert_eq!(ExtensionSubtag::new("CO")?.try_to_owned()?.as_extension_subtag().as_str(), "CO");
+    /// # Ok(())
+    /// # }
+    /// ```
     #[inline]
     pub fn as_extension_subtag(&self) -> ExtensionSubtag<'_> {
         ExtensionSubtag::from_checked(self.as_str())
     }
 
-    /// Returns the text, with its case: `as_str()` of the owned `CO` is `"CO"`.
+    /// Returns the text, in its original case.
+    ///
+    /// ```
+    /// # fn main() -> Result<(), Box<dyn std::error::Error>> {
+    /// use langtag::ExtensionSubtag;
+    ///
+    /// assert_eq!(ExtensionSubtag::new("CO")?.try_to_owned()?.as_str(), "CO");
+    /// # Ok(())
+    /// # }
+    /// ```
     #[inline]
     pub fn as_str(&self) -> &str {
         self.text.0.as_str()
     }
 
-    /// Returns the text itself, without a copy: `into_string()` of the owned `CO` is the `String` `CO`.
+    /// Returns the `String`, without copying it.
+    ///
+    /// ```
+    /// # fn main() -> Result<(), Box<dyn std::error::Error>> {
+    /// use langtag::ExtensionSubtag;
+    ///
+    /// assert_eq!(ExtensionSubtag::new("CO")?.try_to_owned()?.into_string(), "CO");
+    /// # Ok(())
+    /// # }
+    /// ```
     #[inline]
     pub fn into_string(self) -> String {
         self.text.0

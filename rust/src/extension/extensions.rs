@@ -14,7 +14,7 @@ use crate::shim::{try_string, AllocError};
 use alloc::string::String;
 use core::fmt;
 
-/// The error for a text that is not extensions. It hands the text back.
+/// The error for a text that is not extensions. It contains the text.
 ///
 /// ```
 /// use langtag::Extensions;
@@ -34,11 +34,11 @@ impl<T> fmt::Display for InvalidExtensions<T> {
 
 impl<T: fmt::Debug> core::error::Error for InvalidExtensions<T> {}
 
-/// The extensions of a tag (RFC 5646 section 2.2.6), joined by hyphens, as `a-ext1-ext2-u-co-phonebk`, or none at
-/// all, which is the empty text.
+/// The extensions of a tag ([RFC 5646 section 2.2.6]), joined by hyphens, such as `a-ext1-ext2-u-co-phonebk`. The empty
+/// text means no extensions.
 ///
-/// A singleton may come twice: such a tag is well formed, though it is not valid (section 2.2.9). Two lists are equal
-/// where their texts differ at most in the case of ASCII letters: `u-co` and `U-CO` are.
+/// A singleton may occur twice: such a tag is well formed but not valid (section 2.2.9). Two lists are equal if their
+/// texts differ only in the case of ASCII letters, such as `u-co` and `U-CO`.
 ///
 /// ```
 /// # fn main() -> Result<(), Box<dyn std::error::Error>> {
@@ -50,21 +50,34 @@ impl<T: fmt::Debug> core::error::Error for InvalidExtensions<T> {}
 /// # Ok(())
 /// # }
 /// ```
+///
+/// [RFC 5646 section 2.2.6]: https://www.rfc-editor.org/rfc/rfc5646#section-2.2.6
 #[derive(Clone, Copy, Debug, PartialEq, Eq, PartialOrd, Ord, Hash)]
 pub struct Extensions<'a> {
     text: Caseless<&'a str>,
 }
 
 impl<'a> Extensions<'a> {
-    /// No extensions: `Extensions::EMPTY.as_str()` is `""`.
+    /// No extensions.
+    ///
+    /// ```
+    /// use langtag::Extensions;
+    ///
+    /// assert_eq!(Extensions::EMPTY.as_str(), "");
+    /// ```
     pub const EMPTY: Extensions<'static> = Extensions { text: Caseless("") };
 
-    /// Parses a text as extensions: `Extensions::new("a-ext1-u-co")` and `Extensions::new("")` are Ok.
+    /// Parses a text as extensions: `Extensions::new("a-ext1-u-co")` and `Extensions::new("")` are `Ok`.
     ///
     /// # Errors
     ///
-    /// A text that is not extensions joined by hyphens comes back: `Extensions::new("u-")` is
-    /// `Err(InvalidExtensions("u-"))`.
+    /// Returns the text if it is not extensions joined by hyphens.
+    ///
+    /// ```
+    /// use langtag::{Extensions, InvalidExtensions};
+    ///
+    /// assert_eq!(Extensions::new("u-"), Err(InvalidExtensions("u-")));
+    /// ```
     #[inline]
     pub fn new(text: &'a str) -> Result<Extensions<'a>, InvalidExtensions<&'a str>> {
         if !are_extensions(text) {
@@ -73,7 +86,7 @@ impl<'a> Extensions<'a> {
         Ok(Extensions::from_checked(text))
     }
 
-    /// Returns the extensions of a text that is known to be some, without a test.
+    /// Returns the extensions of a text that is known to be extensions, without checking it.
     /// `Extensions::from_checked(extensions.as_str())` is equal to `extensions`.
     #[inline]
     pub(crate) fn from_checked(text: &'a str) -> Extensions<'a> {
@@ -82,31 +95,66 @@ impl<'a> Extensions<'a> {
         }
     }
 
-    /// Returns the text, with its case: `Extensions::new("U-CO")?.as_str()` is `"U-CO"`.
+    /// Returns the text, in its original case.
+    ///
+    /// ```
+    /// # fn main() -> Result<(), Box<dyn std::error::Error>> {
+    /// use langtag::Extensions;
+    ///
+    /// assert_eq!(Extensions::new("U-CO")?.as_str(), "U-CO");
+    /// # Ok(())
+    /// # }
+    /// ```
     #[inline]
     pub fn as_str(&self) -> &'a str {
         self.text.0
     }
 
-    /// Returns the bytes of the text: `Extensions::new("U-CO")?.as_bytes()` is `b"U-CO"`.
+    /// Returns the text as bytes.
+    ///
+    /// ```
+    /// # fn main() -> Result<(), Box<dyn std::error::Error>> {
+    /// use langtag::Extensions;
+    ///
+    /// assert_eq!(Extensions::new("U-CO")?.as_bytes(), b"U-CO");
+    /// # Ok(())
+    /// # }
+    /// ```
     #[inline]
     pub fn as_bytes(&self) -> &'a [u8] {
         self.as_str().as_bytes()
     }
 
-    /// Returns whether another text, of any form, is equal but for the case of ASCII letters:
-    /// `Extensions::new("u-co")?.eq_str("U-CO")` is true. It is proved that lists of extensions are compared, ordered
-    /// and hashed so, and that a clone is the value itself.
+    /// Returns whether another text is equal, ignoring the case of ASCII letters. It is proved that comparisons and
+    /// hashes also ignore case, and that a clone is the same value.
+    ///
+    /// ```
+    /// # fn main() -> Result<(), Box<dyn std::error::Error>> {
+    /// use langtag::Extensions;
+    ///
+    /// assert!(Extensions::new("u-co")?.eq_str("U-CO"));
+    /// # Ok(())
+    /// # }
+    /// ```
     #[inline]
     pub fn eq_str(&self, other: &str) -> bool {
         self.text == Caseless(other)
     }
 
-    /// Returns the owned form of the same text: `Extensions::new("U-CO")?.try_to_owned()?.as_str()` is `"U-CO"`.
+    /// Copies the text into an owned value.
     ///
     /// # Errors
     ///
-    /// Out of memory.
+    /// Returns an error if allocation fails.
+    ///
+    /// ```
+    /// # fn main() -> Result<(), Box<dyn std::error::Error>> {
+    /// use langtag::Extensions;
+    ///
+    /// assert_eq!(Extensions::new("U-CO")?.try_to_owned()?.as_str(), "U-CO");
+    /// # Ok(())
+    /// # }
+    /// ```
     #[cfg(feature = "alloc")]
     #[inline]
     pub fn try_to_owned(&self) -> Result<ExtensionsBuf, AllocError> {
@@ -116,21 +164,22 @@ impl<'a> Extensions<'a> {
         })
     }
 
-    /// Returns the extensions in order, those of a repeated singleton too: `a-bb` and `A-cc` of `a-bb-A-cc`.
+    /// Returns an iterator over the extensions, including those with a repeated singleton: `a-bb` and `A-cc` for
+    /// `a-bb-A-cc`.
     #[inline]
     pub fn iter(&self) -> ExtensionsIter<'a> {
         ExtensionsIter::new(self.as_str())
     }
 
-    /// Returns the first extension of the singleton, without regard to case: `A` finds `a-bb` in `a-bb-A-cc`.
+    /// Returns the first extension with the singleton, ignoring case: `A` finds `a-bb` in `a-bb-A-cc`.
     #[inline]
     pub fn get(&self, singleton: Singleton) -> Option<Extension<'a>> {
         self.iter()
             .find(|extension| extension.has_singleton(singleton))
     }
 
-    /// Returns the subtags of the extension that `get` returns, and none where it returns None: for `u`, `co` and
-    /// `phonebk` of `a-bb-u-co-phonebk`.
+    /// Returns an iterator over the subtags of the extension that `get` returns, and over nothing if there is none:
+    /// `co` and `phonebk` for the singleton `u` in `a-bb-u-co-phonebk`.
     #[inline]
     pub fn iter_extension(&self, singleton: Singleton) -> ExtensionIter<'a> {
         let Some(extension) = self.get(singleton) else {
@@ -154,7 +203,7 @@ impl fmt::Display for Extensions<'_> {
     }
 }
 
-/// The extensions of a tag, or none, that own their text.
+/// The extensions of a tag, which own their text.
 ///
 /// ```
 /// # fn main() -> Result<(), Box<dyn std::error::Error>> {
@@ -174,11 +223,11 @@ pub struct ExtensionsBuf {
 
 #[cfg(feature = "alloc")]
 impl ExtensionsBuf {
-    /// Parses a `String` as extensions, and keeps it, without a copy: `a-ext1-u-co` is Ok.
+    /// Parses a `String` as extensions and keeps it, without copying: `a-ext1-u-co` is `Ok`.
     ///
     /// # Errors
     ///
-    /// A text that is not extensions joined by hyphens comes back, the same `String`: `u-` does.
+    /// Returns the same `String` if it is not extensions joined by hyphens, such as `u-`.
     #[inline]
     pub fn new(text: String) -> Result<ExtensionsBuf, InvalidExtensions<String>> {
         if !are_extensions(text.as_str()) {
@@ -189,20 +238,46 @@ impl ExtensionsBuf {
         })
     }
 
-    /// Borrows the extensions: `as_extensions().as_str()` of the owned `U-CO` is `"U-CO"`. It is proved that owned
-    /// lists of extensions are compared, ordered and hashed without regard to case.
+    /// Borrows the extensions. It is proved that comparisons and hashes of owned lists of extensions ignore case.
+    ///
+    /// ```
+    /// # fn main() -> Result<(), Box<dyn std::error::Error>> {
+    /// use langtag::Extensions;
+    ///
+    /// assert_eq!(Extensions::new("U-CO")?.try_to_owned()?.as_extensions().as_str(), "U-CO");
+    /// # Ok(())
+    /// # }
+    /// ```
     #[inline]
     pub fn as_extensions(&self) -> Extensions<'_> {
         Extensions::from_checked(self.as_str())
     }
 
-    /// Returns the text, with its case: `as_str()` of the owned `U-CO` is `"U-CO"`.
+    /// Returns the text, in its original case.
+    ///
+    /// ```
+    /// # fn main() -> Result<(), Box<dyn std::error::Error>> {
+    /// use langtag::Extensions;
+    ///
+    /// assert_eq!(Extensions::new("U-CO")?.try_to_owned()?.as_str(), "U-CO");
+    /// # Ok(())
+    /// # }
+    /// ```
     #[inline]
     pub fn as_str(&self) -> &str {
         self.text.0.as_str()
     }
 
-    /// Returns the text itself, without a copy: `into_string()` of the owned `U-CO` is the `String` `U-CO`.
+    /// Returns the `String`, without copying it.
+    ///
+    /// ```
+    /// # fn main() -> Result<(), Box<dyn std::error::Error>> {
+    /// use langtag::Extensions;
+    ///
+    /// assert_eq!(Extensions::new("U-CO")?.try_to_owned()?.into_string(), "U-CO");
+    /// # Ok(())
+    /// # }
+    /// ```
     #[inline]
     pub fn into_string(self) -> String {
         self.text.0

@@ -5,8 +5,8 @@
 use crate::extension::extension::Extension;
 use crate::extension::extension_texts::ExtensionTexts;
 
-/// The extensions that are still to come (RFC 5646 section 2.2.6), in the order in which they are written: `a-ext1`
-/// and `u-co` of `Extensions::new("a-ext1-u-co")?.iter()`.
+/// An iterator over extensions ([RFC 5646 section 2.2.6]), in the order of the text: `a-ext1` and `u-co` for
+/// `a-ext1-u-co`.
 ///
 /// ```
 /// # fn main() -> Result<(), Box<dyn std::error::Error>> {
@@ -19,6 +19,8 @@ use crate::extension::extension_texts::ExtensionTexts;
 /// # Ok(())
 /// # }
 /// ```
+///
+/// [RFC 5646 section 2.2.6]: https://www.rfc-editor.org/rfc/rfc5646#section-2.2.6
 #[derive(Debug)]
 pub struct ExtensionsIter<'a> {
     rest: ExtensionTexts<'a>,

@@ -1,6 +1,6 @@
 // Made by rust/erase from crates/langtag_extension/src/lib.rt. Change that file, not this one.
 
-//! Extensions of language tags, and the singletons that open them (RFC 5646 section 2.2.6).
+//! Extensions of language tags, and the singletons that begin them (RFC 5646 section 2.2.6).
 //!
 //! ```rust
 //! # fn main() -> Result<(), Box<dyn std::error::Error>> {

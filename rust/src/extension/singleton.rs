@@ -1,12 +1,12 @@
 // Made by rust/erase from crates/langtag_extension/src/singleton.rt. Change that file, not this one.
 
-//! The singleton, which opens an extension (RFC 5646 section 2.2.6).
+//! The singleton, which begins an extension (RFC 5646 section 2.2.6).
 
 use crate::scan::is_singleton;
 use core::fmt;
 use core::fmt::Write as _;
 
-/// The error for a byte, character or text that is not a singleton. It hands it back.
+/// The error for a byte, character or text that is not a singleton. It contains what was given.
 ///
 /// ```
 /// use langtag::Singleton;
@@ -25,11 +25,11 @@ impl<T> fmt::Display for InvalidSingleton<T> {
 
 impl<T: fmt::Debug> core::error::Error for InvalidSingleton<T> {}
 
-/// The letter or digit, other than `x` and `X`, that opens an extension (RFC 5646 section 2.2.6), as the `u` of
+/// The letter or digit, other than `x` and `X`, that begins an extension ([RFC 5646 section 2.2.6]), such as `u` in
 /// `u-co-phonebk`.
 ///
-/// It keeps its exact byte, and is compared, ordered and hashed by it: `u` and `U` open the same extension, but are
-/// different singletons here.
+/// It stores the exact byte, and compares and hashes by it: `u` and `U` begin the same extension, but are different
+/// singletons.
 ///
 /// ```
 /// # fn main() -> Result<(), Box<dyn std::error::Error>> {
@@ -40,19 +40,27 @@ impl<T: fmt::Debug> core::error::Error for InvalidSingleton<T> {}
 /// # Ok(())
 /// # }
 /// ```
+///
+/// [RFC 5646 section 2.2.6]: https://www.rfc-editor.org/rfc/rfc5646#section-2.2.6
 #[derive(Clone, Copy, Debug, PartialEq, Eq, PartialOrd, Ord, Hash)]
 pub struct Singleton {
     byte: u8,
 }
 
 impl Singleton {
-    /// Returns the singleton of a byte: `Singleton::new(b'u')` is Ok. It is proved that singletons are compared,
-    /// ordered and hashed by their exact bytes, and that a clone is the value itself.
+    /// Returns the singleton with a byte. It is proved that singletons compare and hash by their exact bytes, and
+    /// that a clone is the same value.
     ///
     /// # Errors
     ///
-    /// A byte that is not an ASCII letter or digit, or is `x` or `X`, comes back: `Singleton::new(b'x')` is
-    /// `Err(InvalidSingleton(b'x'))`.
+    /// Returns the byte if it is not an ASCII letter or digit, or is `x` or `X`.
+    ///
+    /// ```
+    /// use langtag::{InvalidSingleton, Singleton};
+    ///
+    /// assert!(Singleton::new(b'u').is_ok());
+    /// assert_eq!(Singleton::new(b'x'), Err(InvalidSingleton(b'x')));
+    /// ```
     #[inline]
     pub fn new(c: u8) -> Result<Self, InvalidSingleton<u8>> {
         if !is_singleton(c) {
@@ -67,12 +75,18 @@ impl Singleton {
         Singleton { byte }
     }
 
-    /// Returns the singleton of a text of one byte: `Singleton::from_string("u")` is Ok.
+    /// Returns the singleton with a text of one byte.
     ///
     /// # Errors
     ///
-    /// A text that is not one byte, or whose byte is not a singleton, comes back: `Singleton::from_string("uu")` is
-    /// `Err(InvalidSingleton("uu"))`.
+    /// Returns the text if it is not one byte, or if that byte is not a singleton.
+    ///
+    /// ```
+    /// use langtag::{InvalidSingleton, Singleton};
+    ///
+    /// assert!(Singleton::from_string("u").is_ok());
+    /// assert_eq!(Singleton::from_string("uu"), Err(InvalidSingleton("uu")));
+    /// ```
     pub fn from_string(str: &str) -> Result<Self, InvalidSingleton<&str>> {
         if let [c] = str.as_bytes() {
             if let Ok(singleton) = Singleton::new(*c) {
@@ -82,7 +96,16 @@ impl Singleton {
         Err(InvalidSingleton(str))
     }
 
-    /// Returns the byte, with its case: `Singleton::new(b'U')?.unwrap()` is `b'U'`.
+    /// Returns the byte, in its original case.
+    ///
+    /// ```
+    /// # fn main() -> Result<(), Box<dyn std::error::Error>> {
+    /// use langtag::Singleton;
+    ///
+    /// assert_eq!(Singleton::new(b'U')?.unwrap(), b'U');
+    /// # Ok(())
+    /// # }
+    /// ```
     #[inline]
     pub fn unwrap(self) -> u8 {
         self.byte

@@ -9,7 +9,7 @@ use crate::shim::{try_string, AllocError};
 use alloc::string::String;
 use core::fmt;
 
-/// The error for a text that is not an extended language subtag. It hands the text back.
+/// The error for a text that is not an extended language subtag. It contains the text.
 ///
 /// ```
 /// use langtag::ExtendedLangTag;
@@ -29,9 +29,9 @@ impl<T> fmt::Display for InvalidExtendedLangTag<T> {
 
 impl<T: fmt::Debug> core::error::Error for InvalidExtendedLangTag<T> {}
 
-/// An extended language subtag (RFC 5646 section 2.2.2): three letters, as `yue` in `zh-yue`.
+/// An extended language subtag ([RFC 5646 section 2.2.2]): three letters, such as `yue` in `zh-yue`.
 ///
-/// Two of them are equal where their texts differ at most in the case of ASCII letters: `yue` and `YUE` are.
+/// Two of them are equal if their texts differ only in the case of ASCII letters, such as `yue` and `YUE`.
 ///
 /// ```
 /// # fn main() -> Result<(), Box<dyn std::error::Error>> {
@@ -43,18 +43,26 @@ impl<T: fmt::Debug> core::error::Error for InvalidExtendedLangTag<T> {}
 /// # Ok(())
 /// # }
 /// ```
+///
+/// [RFC 5646 section 2.2.2]: https://www.rfc-editor.org/rfc/rfc5646#section-2.2.2
 #[derive(Clone, Copy, Debug, PartialEq, Eq, PartialOrd, Ord, Hash)]
 pub struct ExtendedLangTag<'a> {
     text: Caseless<&'a str>,
 }
 
 impl<'a> ExtendedLangTag<'a> {
-    /// Parses a text as an extended language subtag: `ExtendedLangTag::new("yue")` is Ok.
+    /// Parses a text as an extended language subtag.
     ///
     /// # Errors
     ///
-    /// A text that is not three letters comes back: `ExtendedLangTag::new("yu")` is
-    /// `Err(InvalidExtendedLangTag("yu"))`.
+    /// Returns the text if it is not three letters.
+    ///
+    /// ```
+    /// use langtag::{ExtendedLangTag, InvalidExtendedLangTag};
+    ///
+    /// assert!(ExtendedLangTag::new("yue").is_ok());
+    /// assert_eq!(ExtendedLangTag::new("yu"), Err(InvalidExtendedLangTag("yu")));
+    /// ```
     #[inline]
     pub fn new(text: &'a str) -> Result<ExtendedLangTag<'a>, InvalidExtendedLangTag<&'a str>> {
         if !is_extended(text.as_bytes()) {
@@ -63,7 +71,7 @@ impl<'a> ExtendedLangTag<'a> {
         Ok(ExtendedLangTag::from_checked(text))
     }
 
-    /// Returns the subtag of a text that is known to be one, without a test.
+    /// Returns the subtag of a text that is known to be one, without checking it.
     /// `ExtendedLangTag::from_checked(extended.as_str())` is equal to `extended`.
     #[inline]
     pub(crate) fn from_checked(text: &'a str) -> ExtendedLangTag<'a> {
@@ -72,32 +80,66 @@ impl<'a> ExtendedLangTag<'a> {
         }
     }
 
-    /// Returns the text, with its case: `ExtendedLangTag::new("YUE")?.as_str()` is `"YUE"`.
+    /// Returns the text, in its original case.
+    ///
+    /// ```
+    /// # fn main() -> Result<(), Box<dyn std::error::Error>> {
+    /// use langtag::ExtendedLangTag;
+    ///
+    /// assert_eq!(ExtendedLangTag::new("YUE")?.as_str(), "YUE");
+    /// # Ok(())
+    /// # }
+    /// ```
     #[inline]
     pub fn as_str(&self) -> &'a str {
         self.text.0
     }
 
-    /// Returns the bytes of the text: `ExtendedLangTag::new("YUE")?.as_bytes()` is `b"YUE"`.
+    /// Returns the text as bytes.
+    ///
+    /// ```
+    /// # fn main() -> Result<(), Box<dyn std::error::Error>> {
+    /// use langtag::ExtendedLangTag;
+    ///
+    /// assert_eq!(ExtendedLangTag::new("YUE")?.as_bytes(), b"YUE");
+    /// # Ok(())
+    /// # }
+    /// ```
     #[inline]
     pub fn as_bytes(&self) -> &'a [u8] {
         self.as_str().as_bytes()
     }
 
-    /// Returns whether another text, of any form, is equal but for the case of ASCII letters:
-    /// `ExtendedLangTag::new("yue")?.eq_str("YUE")` is true. It is proved that extended subtags are compared, ordered
-    /// and hashed so, and that a clone is the value itself.
+    /// Returns whether another text is equal, ignoring the case of ASCII letters. It is proved that comparisons and
+    /// hashes also ignore case, and that a clone is the same value.
+    ///
+    /// ```
+    /// # fn main() -> Result<(), Box<dyn std::error::Error>> {
+    /// use langtag::ExtendedLangTag;
+    ///
+    /// assert!(ExtendedLangTag::new("yue")?.eq_str("YUE"));
+    /// # Ok(())
+    /// # }
+    /// ```
     #[inline]
     pub fn eq_str(&self, other: &str) -> bool {
         self.text == Caseless(other)
     }
 
-    /// Returns the owned form of the same text: `ExtendedLangTag::new("YUE")?.try_to_owned()?.as_str()` is
-    /// `"YUE"`.
+    /// Copies the text into an owned value.
     ///
     /// # Errors
     ///
-    /// Out of memory.
+    /// Returns an error if allocation fails.
+    ///
+    /// ```
+    /// # fn main() -> Result<(), Box<dyn std::error::Error>> {
+    /// use langtag::ExtendedLangTag;
+    ///
+    /// assert_eq!(ExtendedLangTag::new("YUE")?.try_to_owned()?.as_str(), "YUE");
+    /// # Ok(())
+    /// # }
+    /// ```
     #[cfg(feature = "alloc")]
     #[inline]
     pub fn try_to_owned(&self) -> Result<ExtendedLangTagBuf, AllocError> {
@@ -135,11 +177,11 @@ pub struct ExtendedLangTagBuf {
 
 #[cfg(feature = "alloc")]
 impl ExtendedLangTagBuf {
-    /// Parses a `String` as a subtag, and keeps it, without a copy: `yue` is Ok.
+    /// Parses a `String` as a subtag and keeps it, without copying: `yue` is `Ok`.
     ///
     /// # Errors
     ///
-    /// A text that is not three letters comes back, the same `String`: `yu` does.
+    /// Returns the same `String` if it is not three letters, such as `yu`.
     #[inline]
     pub fn new(text: String) -> Result<ExtendedLangTagBuf, InvalidExtendedLangTag<String>> {
         if !is_extended(text.as_bytes()) {
@@ -150,20 +192,46 @@ impl ExtendedLangTagBuf {
         })
     }
 
-    /// Borrows the subtag: `as_extended_lang_tag().as_str()` of the owned `YUE` is `"YUE"`. It is proved that owned
-    /// extended subtags are compared, ordered and hashed without regard to case.
+    /// Borrows the subtag. It is proved that comparisons and hashes of owned extended subtags ignore case.
+    ///
+    /// ```
+    /// # fn main() -> Result<(), Box<dyn std::error::Error>> {
+    /// use langtag::ExtendedLangTag;
+    ///
+    /// assert_eq!(ExtendedLangTag::new("YUE")?.try_to_owned()?.as_extended_lang_tag().as_str(), "YUE");
+    /// # Ok(())
+    /// # }
+    /// ```
     #[inline]
     pub fn as_extended_lang_tag(&self) -> ExtendedLangTag<'_> {
         ExtendedLangTag::from_checked(self.as_str())
     }
 
-    /// Returns the text, with its case: `as_str()` of the owned `YUE` is `"YUE"`.
+    /// Returns the text, in its original case.
+    ///
+    /// ```
+    /// # fn main() -> Result<(), Box<dyn std::error::Error>> {
+    /// use langtag::ExtendedLangTag;
+    ///
+    /// assert_eq!(ExtendedLangTag::new("YUE")?.try_to_owned()?.as_str(), "YUE");
+    /// # Ok(())
+    /// # }
+    /// ```
     #[inline]
     pub fn as_str(&self) -> &str {
         self.text.0.as_str()
     }
 
-    /// Returns the text itself, without a copy: `into_string()` of the owned `YUE` is the `String` `YUE`.
+    /// Returns the `String`, without copying it.
+    ///
+    /// ```
+    /// # fn main() -> Result<(), Box<dyn std::error::Error>> {
+    /// use langtag::ExtendedLangTag;
+    ///
+    /// assert_eq!(ExtendedLangTag::new("YUE")?.try_to_owned()?.into_string(), "YUE");
+    /// # Ok(())
+    /// # }
+    /// ```
     #[inline]
     pub fn into_string(self) -> String {
         self.text.0

@@ -11,7 +11,7 @@ use crate::shim::{try_string, AllocError};
 use alloc::string::String;
 use core::fmt;
 
-/// The error for a text that is not a language extension. It hands the text back.
+/// The error for a text that is not a language extension. It contains the text.
 ///
 /// ```
 /// use langtag::LanguageExtension;
@@ -31,9 +31,9 @@ impl<T> fmt::Display for InvalidLanguageExtension<T> {
 
 impl<T: fmt::Debug> core::error::Error for InvalidLanguageExtension<T> {}
 
-/// The extended subtags of a language (RFC 5646 section 2.2.2): one to three, joined by hyphens, as `min-nan`.
+/// The extended subtags of a language ([RFC 5646 section 2.2.2]): one to three, joined by hyphens, such as `min-nan`.
 ///
-/// Two of them are equal where their texts differ at most in the case of ASCII letters: `min-nan` and `MIN-NAN` are.
+/// Two of them are equal if their texts differ only in the case of ASCII letters, such as `min-nan` and `MIN-NAN`.
 ///
 /// ```
 /// # fn main() -> Result<(), Box<dyn std::error::Error>> {
@@ -45,18 +45,26 @@ impl<T: fmt::Debug> core::error::Error for InvalidLanguageExtension<T> {}
 /// # Ok(())
 /// # }
 /// ```
+///
+/// [RFC 5646 section 2.2.2]: https://www.rfc-editor.org/rfc/rfc5646#section-2.2.2
 #[derive(Clone, Copy, Debug, PartialEq, Eq, PartialOrd, Ord, Hash)]
 pub struct LanguageExtension<'a> {
     text: Caseless<&'a str>,
 }
 
 impl<'a> LanguageExtension<'a> {
-    /// Parses a text as a language extension: `LanguageExtension::new("min-nan")` is Ok.
+    /// Parses a text as a language extension.
     ///
     /// # Errors
     ///
-    /// A text that is not one to three extended subtags with one hyphen between neighbours comes back:
-    /// `LanguageExtension::new("min-")` is `Err(InvalidLanguageExtension("min-"))`.
+    /// Returns the text if it is not one to three extended subtags with one hyphen between neighbours.
+    ///
+    /// ```
+    /// use langtag::{InvalidLanguageExtension, LanguageExtension};
+    ///
+    /// assert!(LanguageExtension::new("min-nan").is_ok());
+    /// assert_eq!(LanguageExtension::new("min-"), Err(InvalidLanguageExtension("min-")));
+    /// ```
     #[inline]
     pub fn new(text: &'a str) -> Result<LanguageExtension<'a>, InvalidLanguageExtension<&'a str>> {
         if !is_language_extension(text) {
@@ -65,7 +73,7 @@ impl<'a> LanguageExtension<'a> {
         Ok(LanguageExtension::from_checked(text))
     }
 
-    /// Returns the language extension of a text that is known to be one, without a test.
+    /// Returns the language extension of a text that is known to be one, without checking it.
     /// `LanguageExtension::from_checked(extension.as_str())` is equal to `extension`.
     #[inline]
     pub(crate) fn from_checked(text: &'a str) -> LanguageExtension<'a> {
@@ -74,32 +82,66 @@ impl<'a> LanguageExtension<'a> {
         }
     }
 
-    /// Returns the text, with its case: `LanguageExtension::new("MIN-NAN")?.as_str()` is `"MIN-NAN"`.
+    /// Returns the text, in its original case.
+    ///
+    /// ```
+    /// # fn main() -> Result<(), Box<dyn std::error::Error>> {
+    /// use langtag::LanguageExtension;
+    ///
+    /// assert_eq!(LanguageExtension::new("MIN-NAN")?.as_str(), "MIN-NAN");
+    /// # Ok(())
+    /// # }
+    /// ```
     #[inline]
     pub fn as_str(&self) -> &'a str {
         self.text.0
     }
 
-    /// Returns the bytes of the text: `LanguageExtension::new("MIN-NAN")?.as_bytes()` is `b"MIN-NAN"`.
+    /// Returns the text as bytes.
+    ///
+    /// ```
+    /// # fn main() -> Result<(), Box<dyn std::error::Error>> {
+    /// use langtag::LanguageExtension;
+    ///
+    /// assert_eq!(LanguageExtension::new("MIN-NAN")?.as_bytes(), b"MIN-NAN");
+    /// # Ok(())
+    /// # }
+    /// ```
     #[inline]
     pub fn as_bytes(&self) -> &'a [u8] {
         self.as_str().as_bytes()
     }
 
-    /// Returns whether another text, of any form, is equal but for the case of ASCII letters:
-    /// `LanguageExtension::new("min-nan")?.eq_str("MIN-NAN")` is true. It is proved that language extensions are
-    /// compared, ordered and hashed so, and that a clone is the value itself.
+    /// Returns whether another text is equal, ignoring the case of ASCII letters. It is proved that comparisons and
+    /// hashes also ignore case, and that a clone is the same value.
+    ///
+    /// ```
+    /// # fn main() -> Result<(), Box<dyn std::error::Error>> {
+    /// use langtag::LanguageExtension;
+    ///
+    /// assert!(LanguageExtension::new("min-nan")?.eq_str("MIN-NAN"));
+    /// # Ok(())
+    /// # }
+    /// ```
     #[inline]
     pub fn eq_str(&self, other: &str) -> bool {
         self.text == Caseless(other)
     }
 
-    /// Returns the owned form of the same text: `LanguageExtension::new("MIN-NAN")?.try_to_owned()?.as_str()` is
-    /// `"MIN-NAN"`.
+    /// Copies the text into an owned value.
     ///
     /// # Errors
     ///
-    /// Out of memory.
+    /// Returns an error if allocation fails.
+    ///
+    /// ```
+    /// # fn main() -> Result<(), Box<dyn std::error::Error>> {
+    /// use langtag::LanguageExtension;
+    ///
+    /// assert_eq!(LanguageExtension::new("MIN-NAN")?.try_to_owned()?.as_str(), "MIN-NAN");
+    /// # Ok(())
+    /// # }
+    /// ```
     #[cfg(feature = "alloc")]
     #[inline]
     pub fn try_to_owned(&self) -> Result<LanguageExtensionBuf, AllocError> {
@@ -109,7 +151,8 @@ impl<'a> LanguageExtension<'a> {
         })
     }
 
-    /// Returns the extended subtags one by one: `LanguageExtension::new("min-nan")?.iter()` yields `min` and `nan`.
+    /// Returns an iterator over the extended subtags: `LanguageExtension::new("min-nan")?.iter()` yields `min` and
+    /// `nan`.
     #[inline]
     pub fn iter(&self) -> LanguageExtensionIter<'a> {
         LanguageExtensionIter::new(self.as_str())
@@ -149,12 +192,12 @@ pub struct LanguageExtensionBuf {
 
 #[cfg(feature = "alloc")]
 impl LanguageExtensionBuf {
-    /// Parses a `String` as a language extension, and keeps it, without a copy: `min-nan` is Ok.
+    /// Parses a `String` as a language extension and keeps it, without copying: `min-nan` is `Ok`.
     ///
     /// # Errors
     ///
-    /// A text that is not one to three extended subtags with one hyphen between neighbours comes back, the same
-    /// `String`: `min-` does.
+    /// Returns the same `String` if it is not one to three extended subtags with one hyphen between neighbours, such as
+    /// `min-`.
     #[inline]
     pub fn new(text: String) -> Result<LanguageExtensionBuf, InvalidLanguageExtension<String>> {
         if !is_language_extension(text.as_str()) {
@@ -165,20 +208,47 @@ impl LanguageExtensionBuf {
         })
     }
 
-    /// Borrows the language extension: `as_language_extension().as_str()` of the owned `MIN-NAN` is `"MIN-NAN"`. It is
-    /// proved that owned language extensions are compared, ordered and hashed without regard to case.
+    /// Borrows the language extension. It is proved that comparisons and hashes of owned language extensions ignore
+    /// case.
+    ///
+    /// ```
+    /// # fn main() -> Result<(), Box<dyn std::error::Error>> {
+    /// use langtag::LanguageExtension;
+    ///
+    /// assert_eq!(LanguageExtension::new("MIN-NAN")?.try_to_owned()?.as_language_extension().as_str(), "MIN-NAN");
+    /// # Ok(())
+    /// # }
+    /// ```
     #[inline]
     pub fn as_language_extension(&self) -> LanguageExtension<'_> {
         LanguageExtension::from_checked(self.as_str())
     }
 
-    /// Returns the text, with its case: `as_str()` of the owned `MIN-NAN` is `"MIN-NAN"`.
+    /// Returns the text, in its original case.
+    ///
+    /// ```
+    /// # fn main() -> Result<(), Box<dyn std::error::Error>> {
+    /// use langtag::LanguageExtension;
+    ///
+    /// assert_eq!(LanguageExtension::new("MIN-NAN")?.try_to_owned()?.as_str(), "MIN-NAN");
+    /// # Ok(())
+    /// # }
+    /// ```
     #[inline]
     pub fn as_str(&self) -> &str {
         self.text.0.as_str()
     }
 
-    /// Returns the text itself, without a copy: `into_string()` of the owned `MIN-NAN` is the `String` `MIN-NAN`.
+    /// Returns the `String`, without copying it.
+    ///
+    /// ```
+    /// # fn main() -> Result<(), Box<dyn std::error::Error>> {
+    /// use langtag::LanguageExtension;
+    ///
+    /// assert_eq!(LanguageExtension::new("MIN-NAN")?.try_to_owned()?.into_string(), "MIN-NAN");
+    /// # Ok(())
+    /// # }
+    /// ```
     #[inline]
     pub fn into_string(self) -> String {
         self.text.0

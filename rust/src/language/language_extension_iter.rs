@@ -5,7 +5,7 @@
 use crate::language::extended_lang_tag::ExtendedLangTag;
 use crate::scan::Subtags;
 
-/// The extended subtags that are still to come (RFC 5646 section 2.2.2): `min` and `nan` of `min-nan`.
+/// An iterator over extended subtags ([RFC 5646 section 2.2.2]): `min` and `nan` for `min-nan`.
 ///
 /// ```
 /// # fn main() -> Result<(), Box<dyn std::error::Error>> {
@@ -18,6 +18,8 @@ use crate::scan::Subtags;
 /// # Ok(())
 /// # }
 /// ```
+///
+/// [RFC 5646 section 2.2.2]: https://www.rfc-editor.org/rfc/rfc5646#section-2.2.2
 #[derive(Debug)]
 pub struct LanguageExtensionIter<'a> {
     rest: Subtags<'a>,

@@ -2,9 +2,8 @@
 
 //! The language of a tag: its primary subtag and its extended subtags (RFC 5646 sections 2.2.1 and 2.2.2).
 //!
-//! Of `zh-min-nan` the [`PrimaryLanguage`] is `zh`, the [`LanguageExtension`] is `min-nan`, whose subtags are the
-//! [`ExtendedLangTag`]s `min` and `nan`, and the whole is a [`Language`]. Each type has an owned form, as
-//! [`LanguageBuf`].
+//! `zh-min-nan` is a [`Language`]. Its [`PrimaryLanguage`] is `zh`, and its [`LanguageExtension`] is `min-nan`, with
+//! the [`ExtendedLangTag`]s `min` and `nan`. Each type has an owned form, such as [`LanguageBuf`].
 //!
 //! ```rust
 //! # fn main() -> Result<(), Box<dyn std::error::Error>> {
@@ -18,8 +17,8 @@
 //! # }
 //! ```
 //!
-//! A returned part has the bytes of that part of the text and lives as long as the text. Both are proved; that it
-//! stands at the same address is not.
+//! A returned part has the bytes of its part of the text, and borrows the text. It is proved that the bytes are those,
+//! but not that the address is.
 
 mod extended_lang_tag;
 mod extended_subtags;

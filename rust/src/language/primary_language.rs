@@ -9,7 +9,7 @@ use crate::shim::{try_string, AllocError};
 use alloc::string::String;
 use core::fmt;
 
-/// The error for a text that is not a primary language subtag. It hands the text back.
+/// The error for a text that is not a primary language subtag. It contains the text.
 ///
 /// ```
 /// use langtag::PrimaryLanguage;
@@ -29,9 +29,9 @@ impl<T> fmt::Display for InvalidPrimaryLanguage<T> {
 
 impl<T: fmt::Debug> core::error::Error for InvalidPrimaryLanguage<T> {}
 
-/// A primary language subtag (RFC 5646 section 2.2.1): two to eight letters, as `fr`.
+/// A primary language subtag ([RFC 5646 section 2.2.1]): two to eight letters, such as `fr`.
 ///
-/// Two of them are equal where their texts differ at most in the case of ASCII letters: `fr` and `FR` are.
+/// Two of them are equal if their texts differ only in the case of ASCII letters, such as `fr` and `FR`.
 ///
 /// ```
 /// # fn main() -> Result<(), Box<dyn std::error::Error>> {
@@ -43,18 +43,26 @@ impl<T: fmt::Debug> core::error::Error for InvalidPrimaryLanguage<T> {}
 /// # Ok(())
 /// # }
 /// ```
+///
+/// [RFC 5646 section 2.2.1]: https://www.rfc-editor.org/rfc/rfc5646#section-2.2.1
 #[derive(Clone, Copy, Debug, PartialEq, Eq, PartialOrd, Ord, Hash)]
 pub struct PrimaryLanguage<'a> {
     text: Caseless<&'a str>,
 }
 
 impl<'a> PrimaryLanguage<'a> {
-    /// Parses a text as a primary language subtag: `PrimaryLanguage::new("fr")` is Ok.
+    /// Parses a text as a primary language subtag.
     ///
     /// # Errors
     ///
-    /// A text that is not two to eight letters comes back: `PrimaryLanguage::new("f")` is
-    /// `Err(InvalidPrimaryLanguage("f"))`.
+    /// Returns the text if it is not two to eight letters.
+    ///
+    /// ```
+    /// use langtag::{InvalidPrimaryLanguage, PrimaryLanguage};
+    ///
+    /// assert!(PrimaryLanguage::new("fr").is_ok());
+    /// assert_eq!(PrimaryLanguage::new("f"), Err(InvalidPrimaryLanguage("f")));
+    /// ```
     #[inline]
     pub fn new(text: &'a str) -> Result<PrimaryLanguage<'a>, InvalidPrimaryLanguage<&'a str>> {
         if !is_primary(text.as_bytes()) {
@@ -63,7 +71,7 @@ impl<'a> PrimaryLanguage<'a> {
         Ok(PrimaryLanguage::from_checked(text))
     }
 
-    /// Returns the subtag of a text that is known to be one, without a test.
+    /// Returns the subtag of a text that is known to be one, without checking it.
     /// `PrimaryLanguage::from_checked(primary.as_str())` is equal to `primary`.
     #[inline]
     pub(crate) fn from_checked(text: &'a str) -> PrimaryLanguage<'a> {
@@ -72,31 +80,66 @@ impl<'a> PrimaryLanguage<'a> {
         }
     }
 
-    /// Returns the text, with its case: `PrimaryLanguage::new("FR")?.as_str()` is `"FR"`.
+    /// Returns the text, in its original case.
+    ///
+    /// ```
+    /// # fn main() -> Result<(), Box<dyn std::error::Error>> {
+    /// use langtag::PrimaryLanguage;
+    ///
+    /// assert_eq!(PrimaryLanguage::new("FR")?.as_str(), "FR");
+    /// # Ok(())
+    /// # }
+    /// ```
     #[inline]
     pub fn as_str(&self) -> &'a str {
         self.text.0
     }
 
-    /// Returns the bytes of the text: `PrimaryLanguage::new("FR")?.as_bytes()` is `b"FR"`.
+    /// Returns the text as bytes.
+    ///
+    /// ```
+    /// # fn main() -> Result<(), Box<dyn std::error::Error>> {
+    /// use langtag::PrimaryLanguage;
+    ///
+    /// assert_eq!(PrimaryLanguage::new("FR")?.as_bytes(), b"FR");
+    /// # Ok(())
+    /// # }
+    /// ```
     #[inline]
     pub fn as_bytes(&self) -> &'a [u8] {
         self.as_str().as_bytes()
     }
 
-    /// Returns whether another text, of any form, is equal but for the case of ASCII letters:
-    /// `PrimaryLanguage::new("fr")?.eq_str("FR")` is true. It is proved that primary languages are compared, ordered
-    /// and hashed so, and that a clone is the value itself.
+    /// Returns whether another text is equal, ignoring the case of ASCII letters. It is proved that comparisons and
+    /// hashes also ignore case, and that a clone is the same value.
+    ///
+    /// ```
+    /// # fn main() -> Result<(), Box<dyn std::error::Error>> {
+    /// use langtag::PrimaryLanguage;
+    ///
+    /// assert!(PrimaryLanguage::new("fr")?.eq_str("FR"));
+    /// # Ok(())
+    /// # }
+    /// ```
     #[inline]
     pub fn eq_str(&self, other: &str) -> bool {
         self.text == Caseless(other)
     }
 
-    /// Returns the owned form of the same text: `PrimaryLanguage::new("FR")?.try_to_owned()?.as_str()` is `"FR"`.
+    /// Copies the text into an owned value.
     ///
     /// # Errors
     ///
-    /// Out of memory.
+    /// Returns an error if allocation fails.
+    ///
+    /// ```
+    /// # fn main() -> Result<(), Box<dyn std::error::Error>> {
+    /// use langtag::PrimaryLanguage;
+    ///
+    /// assert_eq!(PrimaryLanguage::new("FR")?.try_to_owned()?.as_str(), "FR");
+    /// # Ok(())
+    /// # }
+    /// ```
     #[cfg(feature = "alloc")]
     #[inline]
     pub fn try_to_owned(&self) -> Result<PrimaryLanguageBuf, AllocError> {
@@ -134,11 +177,11 @@ pub struct PrimaryLanguageBuf {
 
 #[cfg(feature = "alloc")]
 impl PrimaryLanguageBuf {
-    /// Parses a `String` as a subtag, and keeps it, without a copy: `fr` is Ok.
+    /// Parses a `String` as a subtag and keeps it, without copying: `fr` is `Ok`.
     ///
     /// # Errors
     ///
-    /// A text that is not two to eight letters comes back, the same `String`: `f` does.
+    /// Returns the same `String` if it is not two to eight letters, such as `f`.
     #[inline]
     pub fn new(text: String) -> Result<PrimaryLanguageBuf, InvalidPrimaryLanguage<String>> {
         if !is_primary(text.as_bytes()) {
@@ -149,20 +192,46 @@ impl PrimaryLanguageBuf {
         })
     }
 
-    /// Borrows the subtag: `as_primary_language().as_str()` of the owned `FR` is `"FR"`. It is proved that owned
-    /// primary languages are compared, ordered and hashed without regard to case.
+    /// Borrows the subtag. It is proved that comparisons and hashes of owned primary languages ignore case.
+    ///
+    /// ```
+    /// # fn main() -> Result<(), Box<dyn std::error::Error>> {
+    /// use langtag::PrimaryLanguage;
+    ///
+    /// assert_eq!(PrimaryLanguage::new("FR")?.try_to_owned()?.as_primary_language().as_str(), "FR");
+    /// # Ok(())
+    /// # }
+    /// ```
     #[inline]
     pub fn as_primary_language(&self) -> PrimaryLanguage<'_> {
         PrimaryLanguage::from_checked(self.as_str())
     }
 
-    /// Returns the text, with its case: `as_str()` of the owned `FR` is `"FR"`.
+    /// Returns the text, in its original case.
+    ///
+    /// ```
+    /// # fn main() -> Result<(), Box<dyn std::error::Error>> {
+    /// use langtag::PrimaryLanguage;
+    ///
+    /// assert_eq!(PrimaryLanguage::new("FR")?.try_to_owned()?.as_str(), "FR");
+    /// # Ok(())
+    /// # }
+    /// ```
     #[inline]
     pub fn as_str(&self) -> &str {
         self.text.0.as_str()
     }
 
-    /// Returns the text itself, without a copy: `into_string()` of the owned `FR` is the `String` `FR`.
+    /// Returns the `String`, without copying it.
+    ///
+    /// ```
+    /// # fn main() -> Result<(), Box<dyn std::error::Error>> {
+    /// use langtag::PrimaryLanguage;
+    ///
+    /// assert_eq!(PrimaryLanguage::new("FR")?.try_to_owned()?.into_string(), "FR");
+    /// # Ok(())
+    /// # }
+    /// ```
     #[inline]
     pub fn into_string(self) -> String {
         self.text.0

@@ -5,11 +5,11 @@
 use crate::likely::alias_tables as tables;
 use crate::likely::fields::or_other;
 use crate::likely::keys::index_of;
-use crate::likely::names::name_at;
+use crate::likely::names::{name_at, name_in};
 use crate::likely::rows::language_number;
 use crate::likely::tag_fields::TagFields;
 
-/// Returns fields with another language in place of one that is deprecated, and with the script that it brings.
+/// Returns fields with another language in place of one that CLDR replaces, and with the script or the region that it brings.
 #[inline]
 pub(crate) fn language_replaced<'a>(fields: TagFields<'a>) -> TagFields<'a> {
     match language_alias(fields) {
@@ -35,9 +35,9 @@ fn language_alias(fields: TagFields<'_>) -> Option<TagFields<'static>> {
     let number = language_number(fields.language) as u16;
     let index = alias_keys().binary_search(&number).ok()?;
     Some(TagFields {
-        language: name_at(&tables::ALIAS_LANGUAGES, index as u8),
-        script: name_at(&tables::ALIAS_SCRIPTS, index as u8),
-        region: b"",
+        language: name_at(&tables::ALIAS_LANGUAGES, index),
+        script: name_in(&tables::ALIAS_SCRIPT_NAMES, &tables::ALIAS_SCRIPTS, index),
+        region: name_in(&tables::ALIAS_REGION_NAMES, &tables::ALIAS_REGIONS, index),
     })
 }
 
@@ -47,7 +47,7 @@ fn region_alias(fields: TagFields<'_>) -> Option<TagFields<'static>> {
     Some(TagFields {
         language: b"",
         script: b"",
-        region: name_at(&tables::REGION_ALIAS_NAMES, index as u8),
+        region: name_at(&tables::REGION_ALIAS_NAMES, index),
     })
 }
 

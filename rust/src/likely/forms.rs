@@ -15,36 +15,68 @@ use alloc::string::String;
 #[cfg(feature = "alloc")]
 use alloc::vec::Vec;
 
-/// Returns a tag with its likely subtags (UTS #35, Add Likely Subtags): `zh-Hant-TW` of `zh-TW`, `en-Latn-US` of `en` and of
-/// `und`, `de-Latn-DE-1996` of `de-1996`.
+/// Adds the likely subtags to a tag (UTS #35, Add Likely Subtags): `zh-TW` becomes `zh-Hant-TW`, `en` and `und` become
+/// `en-Latn-US`, and `de-1996` becomes `de-Latn-DE-1996`.
 ///
-/// Each subtag that the tag has stays, and so does its case, but for `und`, `Zzzz` and `ZZ`, for which something better may be
-/// known. What is deprecated stays too: `langtag::registry::canonical` first replaces it. Variants, extensions and private use
-/// stay as they are, and so does a tag of which nothing is known, as `x-a` and `qaa`.
+/// Subtags of the tag stay, with their case, except `und`, `Zzzz` and `ZZ`, which mean that something is unknown.
+/// Deprecated subtags stay, too: to replace them, call `langtag::registry::canonical` first. Variants, extensions and
+/// private use stay. A tag about which nothing is known, such as `x-a` or `qaa`, stays as it is.
 ///
 /// # Errors
 ///
-/// Out of memory.
+/// Returns an error if allocation fails.
+///
+/// ```
+/// # fn main() -> Result<(), Box<dyn std::error::Error>> {
+/// use langtag::LangTag;
+/// use langtag::likely::maximized;
+///
+/// assert_eq!(maximized(LangTag::new("zh-TW")?)?.as_str(), "zh-Hant-TW");
+/// # Ok(())
+/// # }
+/// ```
 #[cfg(feature = "alloc")]
 #[inline]
 pub fn maximized(tag: LangTag<'_>) -> Result<LangTagBuf, AllocError> {
     Ok(tag_of(maximal_bytes(tag)?))
 }
 
-/// Returns a tag without the subtags that are likely anyway (UTS #35, Remove Likely Subtags): `zh-TW` of `zh-Hant-TW`, `en` of
-/// `en-Latn-US`. Where either the script or the region says the other, the region stays.
+/// Removes the likely subtags from a tag (UTS #35, Remove Likely Subtags): `zh-Hant-TW` becomes `zh-TW`, and
+/// `en-Latn-US` becomes `en`. If either the script or the region would be enough, the region is kept.
 ///
 /// # Errors
 ///
-/// Out of memory.
+/// Returns an error if allocation fails.
+///
+/// ```
+/// # fn main() -> Result<(), Box<dyn std::error::Error>> {
+/// use langtag::LangTag;
+/// use langtag::likely::minimized;
+///
+/// assert_eq!(minimized(LangTag::new("zh-Hant-TW")?)?.as_str(), "zh-TW");
+/// # Ok(())
+/// # }
+/// ```
 #[cfg(feature = "alloc")]
 #[inline]
 pub fn minimized(tag: LangTag<'_>) -> Result<LangTagBuf, AllocError> {
     Ok(tag_of(minimal_bytes(tag)?))
 }
 
-/// Writes a tag with its likely subtags, as [`maximized`] returns it, into a buffer, and returns its length in bytes. Where the
-/// buffer is too short it stays as it was: the length says how much room there has to be. No memory is taken.
+/// Writes a tag with its likely subtags to a buffer, as [`maximized`] returns it, and returns its length in bytes. If
+/// the buffer is too short, it stays unchanged, and the length says how much room is needed. It does not allocate.
+///
+/// ```
+/// # fn main() -> Result<(), Box<dyn std::error::Error>> {
+/// use langtag::LangTag;
+/// use langtag::likely::write_maximized;
+///
+/// let mut buffer = [0; 16];
+/// let length = write_maximized(LangTag::new("zh-TW")?, &mut buffer);
+/// assert_eq!(buffer.get(..length), Some(&b"zh-Hant-TW"[..]));
+/// # Ok(())
+/// # }
+/// ```
 pub fn write_maximized(tag: LangTag<'_>, buffer: &mut [u8]) -> usize {
     let Some(normal) = tag.as_normal() else {
         return write_text(tag.as_bytes(), buffer);
@@ -52,8 +84,8 @@ pub fn write_maximized(tag: LangTag<'_>, buffer: &mut [u8]) -> usize {
     write_changed(normal, add_likely(TagFields::of(normal)), buffer)
 }
 
-/// Writes a tag without its likely subtags, as [`minimized`] returns it, into a buffer, and returns its length in bytes. Where
-/// the buffer is too short it stays as it was. No memory is taken.
+/// Writes a tag without its likely subtags to a buffer, as [`minimized`] returns it, and returns its length in bytes.
+/// If the buffer is too short, it stays unchanged. It does not allocate.
 pub fn write_minimized(tag: LangTag<'_>, buffer: &mut [u8]) -> usize {
     let Some(normal) = tag.as_normal() else {
         return write_text(tag.as_bytes(), buffer);

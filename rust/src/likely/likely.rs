@@ -5,7 +5,7 @@
 use crate::likely::rows::likely_for;
 use crate::likely::tag_fields::TagFields;
 
-/// Returns the fields with what is likely in place of each that is empty; None where nothing is known.
+/// Returns the fields with what is likely in place of each that is empty; `None` if nothing is known.
 #[inline]
 pub(crate) fn add_likely<'a>(fields: TagFields<'a>) -> Option<TagFields<'a>> {
     match looked_up(fields) {
@@ -28,7 +28,7 @@ fn looked_up(fields: TagFields<'_>) -> Option<TagFields<'static>> {
     likely_for(fields.language_alone())
 }
 
-/// Returns the fewest fields that have the same maximal form; None where nothing is known.
+/// Returns the fewest fields that have the same maximal form; `None` if nothing is known.
 #[inline]
 pub(crate) fn remove_likely<'a>(fields: TagFields<'a>) -> Option<TagFields<'a>> {
     match add_likely(fields) {

@@ -3,8 +3,8 @@
 //! The names of languages, scripts and regions, by their places in the tables.
 
 /// Returns the name at an index.
-pub(crate) fn name_at(names: &'static [[u8; 4]], index: u8) -> &'static [u8] {
-    let name = &names[usize::from(index)];
+pub(crate) fn name_at(names: &'static [[u8; 4]], index: usize) -> &'static [u8] {
+    let name = &names[index];
     &name[..name_length(name)]
 }
 
@@ -14,7 +14,7 @@ pub(crate) fn name_in(
     column: &'static [u8],
     index: usize,
 ) -> &'static [u8] {
-    name_at(names, column[index])
+    name_at(names, usize::from(column[index]))
 }
 
 /// Returns how many letters a name has before the zeros that fill it up.

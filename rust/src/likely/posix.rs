@@ -21,17 +21,29 @@ use alloc::vec::Vec;
 /// The greatest length of a language and a territory, in bytes.
 const MOST: usize = 255;
 
-/// Returns the tag of a POSIX locale's name (IEEE Std 1003.1, section 8.2), `language[_territory][.codeset][@modifier]`: `pt-BR` of
-/// `pt_BR.UTF-8`, `sr-Latn-RS` of `sr_RS@latin`, `ca-ES-valencia` of `ca_ES.UTF-8@valencia`.
+/// Returns the tag of a POSIX locale's name (IEEE Std 1003.1, section 8.2),
+/// `language[_territory][.codeset][@modifier]`: `pt-BR` for `pt_BR.UTF-8`, `sr-Latn-RS` for `sr_RS@latin`,
+/// `ca-ES-valencia` for `ca_ES.UTF-8@valencia`.
 ///
-/// The codeset is dropped. Of the modifiers `latin`, `cyrillic` and `devanagari` say a script and `valencia` a variant, in any
-/// case; another one, as `euro` or `phonebook`, says how to sort or to pay, and nothing of the language. Each `_` is read as a
-/// hyphen, and all else is left to the caller: case stays, and so does what is deprecated.
+/// The codeset is dropped. The modifiers `latin`, `cyrillic` and `devanagari` name a script, and `valencia` a variant,
+/// ignoring case. Other modifiers, such as `euro` or `phonebook`, are dropped, because they do not name a language.
+/// Each `_` is read as a hyphen. Case and deprecated subtags stay as they are.
 ///
 /// # Errors
 ///
-/// A name comes back where its language and territory are no tag, as of `C`, `en_` and the empty text, or are `POSIX`, in any
-/// case, or have more than 255 bytes, which no system's names have. Out of memory.
+/// Returns `NoTag` with the name if its language and territory are not a tag, as in `C`, `en_` and the empty text, or
+/// are `POSIX`, ignoring case, or have more than 255 bytes, which no system's names have. Returns `Memory` if
+/// allocation fails.
+///
+/// ```
+/// # fn main() -> Result<(), Box<dyn std::error::Error>> {
+/// use langtag::likely::from_posix;
+///
+/// assert_eq!(from_posix("sr_RS@latin")?.as_str(), "sr-Latn-RS");
+/// assert!(from_posix("C").is_err());
+/// # Ok(())
+/// # }
+/// ```
 #[cfg(feature = "alloc")]
 pub fn from_posix(name: &str) -> Result<LangTagBuf, PosixError<'_>> {
     match bytes_of(name.as_bytes())? {
@@ -51,9 +63,9 @@ fn bytes_of(name: &[u8]) -> Result<Option<Vec<u8>>, AllocError> {
     Ok(Some(bytes))
 }
 
-/// Writes the tag of a POSIX locale's name, as [`from_posix`] returns it, into a buffer, and returns its length in bytes; None
-/// of a name that says none. Where the buffer is too short it stays as it was: the length says how much room there has to be.
-/// No memory is taken.
+/// Writes the tag of a POSIX locale's name to a buffer, as [`from_posix`] returns it, and returns its length in bytes,
+/// or `None` if the name has no tag. If the buffer is too short, it stays unchanged, and the length says how much room
+/// is needed. It does not allocate.
 pub fn write_from_posix(name: &[u8], buffer: &mut [u8]) -> Option<usize> {
     let (place_and_codeset, modifier) = split_at_byte(name, b'@');
     let (place, _codeset) = split_at_byte(place_and_codeset, b'.');

@@ -6,7 +6,7 @@
 use crate::shim::AllocError;
 use core::fmt;
 
-/// Why there is no tag of a POSIX locale's name.
+/// The error for a POSIX locale's name: why it has no tag.
 ///
 /// ```
 /// use langtag::likely::{PosixError, from_posix};
@@ -16,9 +16,9 @@ use core::fmt;
 #[cfg(feature = "alloc")]
 #[derive(Debug)]
 pub enum PosixError<'a> {
-    /// The name says no language, and comes back: `C`, `POSIX`, the empty text, and what is no tag, as `en_`.
+    /// The name, which has no language: `C`, `POSIX`, the empty text, or a text that is not a tag, such as `en_`.
     NoTag(&'a str),
-    /// Out of memory.
+    /// Allocation failed.
     Memory(AllocError),
 }
 

@@ -7,7 +7,7 @@ use crate::likely::tag_fields::TagFields;
 use crate::scan::{is_extended, is_primary, is_region, is_script, split_at_either};
 
 impl<'a> TagFields<'a> {
-    /// Returns the fields of a text in which `_` is read as `-`: None where it does not begin with a language.
+    /// Returns the fields of a text in which `_` is read as `-`: `None` if it does not begin with a language.
     pub(crate) fn of_text(text: &'a [u8]) -> Option<TagFields<'a>> {
         let (first, rest) = first_subtag(text);
         if !is_primary(first) {

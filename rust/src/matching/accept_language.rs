@@ -14,7 +14,7 @@ use crate::tag::LangTag;
 use alloc::vec::Vec;
 use core::cmp::Reverse;
 
-/// The ranges that a header accepts, those of the greatest weight first: of `fr;q=0.5, de, *;q=0` they are `de` with the
+/// The ranges that a header accepts, the greatest weight first. For `fr;q=0.5, de, *;q=0` these are `de` with the
 /// weight 1000 and `fr` with 500.
 ///
 /// ```
@@ -35,24 +35,41 @@ pub struct AcceptLanguage<'a> {
 
 #[cfg(feature = "alloc")]
 impl<'a> AcceptLanguage<'a> {
-    /// Reads a header, and leaves out the ranges of weight 0, which are not acceptable. Ranges of one weight keep their
-    /// order, and empty elements are passed over: `AcceptLanguage::new(",de,")` is Ok.
+    /// Parses a header by RFC 9110, and leaves out the ranges of weight 0, which are not acceptable. Ranges of equal
+    /// weight keep their order. Empty elements are skipped.
     ///
     /// # Errors
     ///
-    /// Refuses a whole header for one element that is neither empty nor a basic language range with or without a weight, and
-    /// returns it with the offset of the first such element; or out of memory.
+    /// Returns `BadElement` if an element is neither empty nor a basic language range with an optional weight. It
+    /// contains the whole header, and the index and offset of the first such element. Returns `Memory` if allocation
+    /// fails.
+    ///
+    /// ```
+    /// use langtag::matching::AcceptLanguage;
+    ///
+    /// assert!(AcceptLanguage::new(",de,").is_ok());
+    /// ```
     #[inline]
     pub fn new(header: &'a str) -> Result<AcceptLanguage<'a>, AcceptLanguageError<'a>> {
         let read = elements(header)?;
         Ok(AcceptLanguage::by_weight(read)?)
     }
 
-    /// Reads a header as [`AcceptLanguage::new`] does, and passes bad elements over: of `de, *-CH` it takes `de`.
+    /// Parses a header as [`AcceptLanguage::new`] does, but skips malformed elements: `de, *-CH` has the range `de`.
     ///
     /// # Errors
     ///
-    /// Out of memory.
+    /// Returns an error if allocation fails.
+    ///
+    /// ```
+    /// # fn main() -> Result<(), Box<dyn std::error::Error>> {
+    /// use langtag::matching::AcceptLanguage;
+    ///
+    /// let accepted = AcceptLanguage::lenient("de_CH, fr;q=0.5, de")?;
+    /// assert_eq!(accepted.ranges().first().map(|first| first.range.as_str()), Some("de"));
+    /// # Ok(())
+    /// # }
+    /// ```
     #[inline]
     pub fn lenient(header: &'a str) -> Result<AcceptLanguage<'a>, AllocError> {
         let read = good_elements(header)?;
@@ -67,15 +84,15 @@ impl<'a> AcceptLanguage<'a> {
         Ok(AcceptLanguage { ranges })
     }
 
-    /// Returns the ranges, those of the greatest weight first: `ranges()[0].range.as_str()` is `"de"` for
-    /// `fr;q=0.5, de`. It is proved which of them are equal, and that a clone of one is the same.
+    /// Returns the ranges, the greatest weight first: `ranges()[0].range.as_str()` is `"de"` for `fr;q=0.5, de`. It is
+    /// proved which ranges are equal, and that a clone is the same value.
     #[inline]
     pub fn ranges(&self) -> &[WeightedRange<'a>] {
         self.ranges.as_slice()
     }
 
-    /// Looks up a tag for the ranges, or returns the default, as [`look_up`](crate::matching::look_up) does: `de-CH` for
-    /// `fr;q=0.3, DE-ch-1996;q=0.9` and the tags `de-CH` and `fr`.
+    /// Returns the tag that look-up finds for the ranges, or the default, as [`look_up`](crate::matching::look_up) does: `de-CH`
+    /// for `fr;q=0.3, DE-ch-1996;q=0.9` and the tags `de-CH` and `fr`.
     #[inline]
     pub fn look_up<'t>(&self, tags: &[LangTag<'t>], default: LangTag<'t>) -> LangTag<'t> {
         for weighted in self.ranges() {
@@ -87,15 +104,28 @@ impl<'a> AcceptLanguage<'a> {
     }
 }
 
-/// Looks up a tag for a header: `AcceptLanguage::new` and `look_up` in one call.
+/// Returns the tag that look-up finds for a header, or the default: [`AcceptLanguage::new`] and
+/// [`AcceptLanguage::look_up`] in one call.
 ///
-/// For `fr;q=0.3, DE-ch-1996;q=0.9` and the tags `de-CH` and `fr` it is `de-CH`.
+/// For `fr;q=0.3, DE-ch-1996;q=0.9` and the tags `de-CH` and `fr` it returns `de-CH`.
 ///
-/// This is RFC 4647 to the letter: `zh-TW` finds no `zh-Hant`. What a site wants is `langtag::choice::best_for_header`.
+/// This follows RFC 4647 to the letter, so `zh-TW` does not find `zh-Hant`. Most sites want
+/// `langtag::choice::best_for_header`.
 ///
 /// # Errors
 ///
-/// Those of [`AcceptLanguage::new`].
+/// Returns the errors of [`AcceptLanguage::new`].
+///
+/// ```
+/// # fn main() -> Result<(), Box<dyn std::error::Error>> {
+/// use langtag::LangTag;
+/// use langtag::matching::tag_for_header;
+///
+/// let tags = [LangTag::new("de-CH")?, LangTag::new("fr")?];
+/// assert_eq!(tag_for_header("fr;q=0.3, DE-ch-1996;q=0.9", &tags, LangTag::new("en")?)?.as_str(), "de-CH");
+/// # Ok(())
+/// # }
+/// ```
 #[cfg(feature = "alloc")]
 #[inline]
 pub fn tag_for_header<'h, 't>(

@@ -4,7 +4,7 @@
 
 use crate::tag::case_insensitive_eq;
 
-/// Returns whether a range is `*`, or a tag is equal to it but for case, or begins so and goes on with a hyphen.
+/// Returns whether a range is `*`, or equals a tag, or equals the beginning of a tag before a hyphen. Case is ignored.
 #[inline]
 pub(crate) fn matches_basic(range: &str, tag: &str) -> bool {
     range == "*" || begins_with(tag.as_bytes(), range.as_bytes())

@@ -9,7 +9,7 @@ use crate::matching::weight::weight_of;
 use crate::matching::weighted_range::WeightedRange;
 use crate::scan::len_before;
 
-/// An element of a header, and where its range stands.
+/// An element of a header, and the offset of its range.
 ///
 /// ```
 /// use langtag::matching::element_at;
@@ -19,19 +19,28 @@ use crate::scan::len_before;
 /// ```
 #[derive(Debug)]
 pub struct Element<'a> {
-    /// The number of bytes before the range: spaces and tabs.
+    /// The number of bytes before the range, which are spaces and tabs.
     pub start: usize,
     /// The range and its weight.
     pub weighted: WeightedRange<'a>,
 }
 
-/// Reads what stands between two commas of an Accept-Language header (RFC 9110 section 12.5.4), which need not be UTF-8: of
-/// ` fr;q=0.5` the range is `fr`, which begins at 1, and the weight 500. Without a weight it is 1000.
+/// Parses the text between two commas of an Accept-Language header ([RFC 9110 section 12.5.4]). In ` fr;q=0.5` the range
+/// is `fr`, which begins at 1, and the weight is 500. The default weight is 1000. The bytes need not be UTF-8.
 ///
 /// # Errors
 ///
-/// Returns the part that is bad where it is not an element: of `fr_FR` the range, of `fr;q=2` the weight, and the range where
-/// both are. It is the range too where nothing stands there, or white space alone, which [`is_empty_element`] tells.
+/// Returns the part that is malformed if the text is not an element: the range in `fr_FR`, the weight in `fr;q=2`. If
+/// both are malformed, or if the text is empty or only white space, it is the range. See [`is_empty_element`].
+///
+/// ```
+/// use langtag::matching::element_at;
+///
+/// let element = element_at(b" fr;q=0.5").ok();
+/// assert_eq!(element.map(|it| (it.start, it.weighted.range.as_str(), it.weighted.weight)), Some((1, "fr", 500)));
+/// ```
+///
+/// [RFC 9110 section 12.5.4]: https://www.rfc-editor.org/rfc/rfc9110#section-12.5.4
 pub fn element_at(item: &[u8]) -> Result<Element<'_>, ElementPart> {
     let end = len_before(item, b';');
     let before = &item[..end];
@@ -46,8 +55,10 @@ pub fn element_at(item: &[u8]) -> Result<Element<'_>, ElementPart> {
     Ok(Element { start, weighted })
 }
 
-/// Returns whether what stands between two commas of a header is empty, but for spaces and tabs: such an element is to be
-/// passed over (RFC 9110 section 5.6.1.2).
+/// Returns whether the text between two commas of a header is empty except for spaces and tabs. Such an element must be
+/// skipped ([RFC 9110 section 5.6.1.2]).
+///
+/// [RFC 9110 section 5.6.1.2]: https://www.rfc-editor.org/rfc/rfc9110#section-5.6.1.2
 #[inline]
 pub fn is_empty_element(item: &[u8]) -> bool {
     item.iter().all(|byte| is_space(*byte))

@@ -5,11 +5,11 @@
 use crate::matching::language_range::LanguageRange;
 use crate::tag::segment_start;
 
-/// What is left of a range when subtags are taken away from its end, the longest first and the range itself before all:
-/// `zh-Hant-TW`, `zh-Hant` and `zh` (RFC 4647 section 3.4).
+/// An iterator over a range and its fallbacks, the longest first: `zh-Hant-TW`, `zh-Hant` and `zh`
+/// ([RFC 4647 section 3.4]).
 ///
-/// A single letter or digit goes with the subtag after it, and so does `*`: `de-CH-x-a` is followed by `de-CH`, and
-/// `de-*-DE` by `de`.
+/// A single letter or digit is removed together with the subtag after it, and so is `*`: `de-CH` follows `de-CH-x-a`,
+/// and `de` follows `de-*-DE`.
 ///
 /// ```
 /// # fn main() -> Result<(), Box<dyn std::error::Error>> {
@@ -22,6 +22,8 @@ use crate::tag::segment_start;
 /// # Ok(())
 /// # }
 /// ```
+///
+/// [RFC 4647 section 3.4]: https://www.rfc-editor.org/rfc/rfc4647#section-3.4
 #[derive(Clone, Debug)]
 pub struct Fallbacks<'a> {
     rest: Option<LanguageRange<'a>>,

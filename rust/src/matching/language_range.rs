@@ -14,7 +14,7 @@ use crate::tag::LangTag;
 use alloc::string::String;
 use core::fmt;
 
-/// The error for a text that is not a language range. It holds the text.
+/// The error for a text that is not a language range. It contains the text.
 ///
 /// ```
 /// use langtag::matching::LanguageRange;
@@ -35,9 +35,9 @@ impl<T: fmt::Debug> core::error::Error for InvalidLanguageRange<T> {}
 
 /// A language range, basic or extended (RFC 4647 sections 2.1 and 2.2): `de-CH`, `*`, `*-CH`, `de-*-DE`.
 ///
-/// It is one or more subtags of up to eight letters or digits, the first of letters alone, and in the place of each may
-/// stand `*`. A range need not be a tag: `de-x` and `a-1` are ranges. Two ranges are equal where their texts differ at most
-/// in the case of ASCII letters.
+/// A range has one or more subtags, each of which is `*` or up to eight letters and digits. The first has letters only.
+/// A range need not be a tag: `de-x` and `a-1` are ranges. Two ranges are equal if their texts differ only in the case
+/// of ASCII letters.
 ///
 /// ```
 /// # fn main() -> Result<(), Box<dyn std::error::Error>> {
@@ -56,11 +56,18 @@ pub struct LanguageRange<'a> {
 }
 
 impl<'a> LanguageRange<'a> {
-    /// Reads a text as a range: `LanguageRange::new("de-*-DE")` is Ok.
+    /// Parses a text as a range.
     ///
     /// # Errors
     ///
-    /// Returns the text where it is not a range: `LanguageRange::new("de_DE")` is `Err(InvalidLanguageRange("de_DE"))`.
+    /// Returns the text if it is not a range.
+    ///
+    /// ```
+    /// use langtag::matching::{InvalidLanguageRange, LanguageRange};
+    ///
+    /// assert!(LanguageRange::new("de-*-DE").is_ok());
+    /// assert_eq!(LanguageRange::new("de_DE"), Err(InvalidLanguageRange("de_DE")));
+    /// ```
     #[inline]
     pub fn new(text: &'a str) -> Result<LanguageRange<'a>, InvalidLanguageRange<&'a str>> {
         if !is_language_range(text) {
@@ -69,7 +76,7 @@ impl<'a> LanguageRange<'a> {
         Ok(LanguageRange::from_checked(text))
     }
 
-    /// Makes a range of a text that is known to be one, and does not read it again.
+    /// Returns the range of a text that is known to be one, without checking it.
     /// `LanguageRange::from_checked(range.as_str())` is equal to `range`.
     #[inline]
     pub(crate) fn from_checked(text: &'a str) -> LanguageRange<'a> {
@@ -78,54 +85,133 @@ impl<'a> LanguageRange<'a> {
         }
     }
 
-    /// Returns the text, with its case: `LanguageRange::new("de-ch")?.as_str()` is `"de-ch"`.
+    /// Returns the text, in its original case.
+    ///
+    /// ```
+    /// # fn main() -> Result<(), Box<dyn std::error::Error>> {
+    /// use langtag::matching::LanguageRange;
+    ///
+    /// assert_eq!(LanguageRange::new("de-ch")?.as_str(), "de-ch");
+    /// # Ok(())
+    /// # }
+    /// ```
     #[inline]
     pub fn as_str(&self) -> &'a str {
         self.text.0
     }
 
-    /// Returns whether any text is equal but for the case of ASCII letters:
-    /// `LanguageRange::new("de-CH")?.eq_str("DE-ch")` is true. It is proved that ranges compare and hash so, and that a
-    /// clone is the range itself.
+    /// Returns whether another text is equal, ignoring the case of ASCII letters. It is proved that comparisons and
+    /// hashes also ignore case, and that a clone is the same value.
+    ///
+    /// ```
+    /// # fn main() -> Result<(), Box<dyn std::error::Error>> {
+    /// use langtag::matching::LanguageRange;
+    ///
+    /// assert!(LanguageRange::new("de-CH")?.eq_str("DE-ch"));
+    /// # Ok(())
+    /// # }
+    /// ```
     #[inline]
     pub fn eq_str(&self, other: &str) -> bool {
         self.text == Caseless(other)
     }
 
-    /// Returns whether the range is a basic one (RFC 4647 section 2.1): true of `de-CH` and of `*`, false of `*-CH`.
+    /// Returns whether the range is a basic one ([RFC 4647 section 2.1]): `true` for `de-CH` and `*`, `false` for `*-CH`.
+    ///
+    /// ```
+    /// # fn main() -> Result<(), Box<dyn std::error::Error>> {
+    /// use langtag::matching::LanguageRange;
+    ///
+    /// assert!(LanguageRange::new("de-CH")?.is_basic());
+    /// assert!(!LanguageRange::new("*-CH")?.is_basic());
+    /// # Ok(())
+    /// # }
+    /// ```
+    ///
+    /// [RFC 4647 section 2.1]: https://www.rfc-editor.org/rfc/rfc4647#section-2.1
     #[inline]
     pub fn is_basic(&self) -> bool {
         is_basic_range(self.as_str())
     }
 
-    /// Returns whether the range matches a tag by basic filtering (RFC 4647 section 3.3.1): `de-DE` matches `de-DE-1996`, and
-    /// neither `de-Deva` nor `de-Latn-DE`.
+    /// Returns whether the range matches a tag by basic filtering ([RFC 4647 section 3.3.1]): `de-DE` matches
+    /// `de-DE-1996`, but neither `de-Deva` nor `de-Latn-DE`.
     ///
-    /// It is meant for basic ranges. A `*` beside other subtags equals no subtag of a tag, so `de-*` matches nothing.
+    /// It is meant for basic ranges. In other ranges `*` equals no subtag, so `de-*` matches nothing.
+    ///
+    /// ```
+    /// # fn main() -> Result<(), Box<dyn std::error::Error>> {
+    /// use langtag::LangTag;
+    /// use langtag::matching::LanguageRange;
+    ///
+    /// let range = LanguageRange::new("de-DE")?;
+    /// assert!(range.matches_basic(&LangTag::new("de-DE-1996")?));
+    /// assert!(!range.matches_basic(&LangTag::new("de-Latn-DE")?));
+    /// # Ok(())
+    /// # }
+    /// ```
+    ///
+    /// [RFC 4647 section 3.3.1]: https://www.rfc-editor.org/rfc/rfc4647#section-3.3.1
     #[inline]
     pub fn matches_basic(&self, tag: &LangTag<'_>) -> bool {
         matches_basic(self.as_str(), tag.as_str())
     }
 
-    /// Returns whether the range matches a tag by extended filtering (RFC 4647 section 3.3.2): `de-DE` and `de-*-DE` match
-    /// `de-Latn-DE-1996`, and not `de-x-DE`, where a singleton would be left out.
+    /// Returns whether the range matches a tag by extended filtering ([RFC 4647 section 3.3.2]): `de-DE` and `de-*-DE`
+    /// match `de-Latn-DE-1996`. They do not match `de-x-DE`, because a singleton is never skipped.
+    ///
+    /// ```
+    /// # fn main() -> Result<(), Box<dyn std::error::Error>> {
+    /// use langtag::LangTag;
+    /// use langtag::matching::LanguageRange;
+    ///
+    /// let range = LanguageRange::new("de-DE")?;
+    /// assert!(range.matches_extended(&LangTag::new("de-Latn-DE-1996")?));
+    /// assert!(!range.matches_extended(&LangTag::new("de-x-DE")?));
+    /// # Ok(())
+    /// # }
+    /// ```
+    ///
+    /// [RFC 4647 section 3.3.2]: https://www.rfc-editor.org/rfc/rfc4647#section-3.3.2
     #[inline]
     pub fn matches_extended(&self, tag: &LangTag<'_>) -> bool {
         matches_extended(self.as_str(), tag.as_str())
     }
 
-    /// Iterates over the range and what is left of it when subtags are taken away from its end, the longest first (RFC 4647
-    /// section 3.4): `zh-Hant-TW`, `zh-Hant` and `zh`. [`look_up`](crate::matching::look_up) looks for these.
+    /// Returns an iterator over the range and its fallbacks, the longest first ([RFC 4647 section 3.4]): `zh-Hant-TW`,
+    /// `zh-Hant` and `zh`. [`look_up`](crate::matching::look_up) tries them in this order.
+    ///
+    /// ```
+    /// # fn main() -> Result<(), Box<dyn std::error::Error>> {
+    /// use langtag::matching::LanguageRange;
+    ///
+    /// let mut fallbacks = LanguageRange::new("zh-Hant-TW")?.fallbacks();
+    /// assert_eq!(fallbacks.next().map(|range| range.as_str()), Some("zh-Hant-TW"));
+    /// assert_eq!(fallbacks.next().map(|range| range.as_str()), Some("zh-Hant"));
+    /// # Ok(())
+    /// # }
+    /// ```
+    ///
+    /// [RFC 4647 section 3.4]: https://www.rfc-editor.org/rfc/rfc4647#section-3.4
     #[inline]
     pub fn fallbacks(&self) -> Fallbacks<'a> {
         Fallbacks::new(*self)
     }
 
-    /// Copies the text into an owned range: `LanguageRange::new("de-*")?.try_to_owned()?.as_str()` is `"de-*"`.
+    /// Copies the text into an owned value.
     ///
     /// # Errors
     ///
-    /// Out of memory.
+    /// Returns an error if allocation fails.
+    ///
+    /// ```
+    /// # fn main() -> Result<(), Box<dyn std::error::Error>> {
+    /// use langtag::matching::LanguageRange;
+    ///
+    /// assert_eq!(LanguageRange::new("de-*")?.try_to_owned()?.as_str(), "de-*");
+    /// # Ok(())
+    /// # }
+    /// ```
     #[cfg(feature = "alloc")]
     #[inline]
     pub fn try_to_owned(&self) -> Result<LanguageRangeBuf, AllocError> {
@@ -162,11 +248,11 @@ pub struct LanguageRangeBuf {
 
 #[cfg(feature = "alloc")]
 impl LanguageRangeBuf {
-    /// Reads a text as a range, and neither copies it nor moves it in memory: of the `String` `de-*` it is Ok.
+    /// Parses a `String` as a range and keeps it, without copying: `de-*` is `Ok`.
     ///
     /// # Errors
     ///
-    /// Returns the same `String` where it is not a range, as `de-`.
+    /// Returns the same `String` if it is not a range, such as `de-`.
     #[inline]
     pub fn new(text: String) -> Result<LanguageRangeBuf, InvalidLanguageRange<String>> {
         if !is_language_range(text.as_str()) {
@@ -177,20 +263,46 @@ impl LanguageRangeBuf {
         })
     }
 
-    /// Borrows the range: `as_language_range().is_basic()` of the owned `de` is true. It is proved that owned ranges
-    /// compare and hash without regard to case.
+    /// Borrows the range. It is proved that comparisons and hashes of owned ranges ignore case.
+    ///
+    /// ```
+    /// # fn main() -> Result<(), Box<dyn std::error::Error>> {
+    /// use langtag::matching::LanguageRange;
+    ///
+    /// assert!(LanguageRange::new("de")?.try_to_owned()?.as_language_range().is_basic());
+    /// # Ok(())
+    /// # }
+    /// ```
     #[inline]
     pub fn as_language_range(&self) -> LanguageRange<'_> {
         LanguageRange::from_checked(self.as_str())
     }
 
-    /// Returns the text, with its case: `as_str()` of the owned `de-ch` is `"de-ch"`.
+    /// Returns the text, in its original case.
+    ///
+    /// ```
+    /// # fn main() -> Result<(), Box<dyn std::error::Error>> {
+    /// use langtag::matching::LanguageRange;
+    ///
+    /// assert_eq!(LanguageRange::new("de-ch")?.try_to_owned()?.as_str(), "de-ch");
+    /// # Ok(())
+    /// # }
+    /// ```
     #[inline]
     pub fn as_str(&self) -> &str {
         self.text.0.as_str()
     }
 
-    /// Returns the text itself, which is not copied: `into_string()` of the owned `de-ch` is the `String` `de-ch`.
+    /// Returns the `String`, without copying it.
+    ///
+    /// ```
+    /// # fn main() -> Result<(), Box<dyn std::error::Error>> {
+    /// use langtag::matching::LanguageRange;
+    ///
+    /// assert_eq!(LanguageRange::new("de-ch")?.try_to_owned()?.into_string(), "de-ch");
+    /// # Ok(())
+    /// # }
+    /// ```
     #[inline]
     pub fn into_string(self) -> String {
         self.text.0

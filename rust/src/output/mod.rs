@@ -1,6 +1,7 @@
 // Made by rust/erase from crates/langtag_output/src/lib.rt. Change that file, not this one.
 
-//! Texts that are put piece by piece into a buffer of the caller's: 5 bytes for the pieces `en`, `-` and `MM`. No memory is taken.
+//! Texts that are written piece by piece into a buffer of the caller: 5 bytes for the pieces `en`, `-` and `MM`. It
+//! does not allocate.
 
 mod output;
 mod write;

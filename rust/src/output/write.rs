@@ -1,15 +1,14 @@
 // Made by rust/erase from crates/langtag_output/src/write.rt. Change that file, not this one.
 
-//! Pieces of a text that are written into a buffer of the caller's.
+//! Pieces of a text that are written into a buffer of the caller.
 
 use crate::output::output::Output;
 
-/// Writes the pieces of a text one after the other into a buffer, and returns the length of that text in bytes: 5 for `en`,
-/// `-` and `MM`. Where the buffer is too short it stays as it was: the length says how much room there has to be. No memory is
-/// taken.
+/// Writes pieces of text one after another to a buffer, and returns their total length in bytes: 5 for `en`, `-` and
+/// `MM`. If the buffer is too short, it stays unchanged, and the length says how much room is needed. It does not
+/// allocate.
 ///
-/// A text of more than `usize::MAX` bytes, which pieces that lie over one another can have, is given that length, for which
-/// no buffer has the room.
+/// The length is at most `usize::MAX`, even if overlapping pieces have more bytes in all.
 #[inline]
 pub fn write_pieces(pieces: &[&[u8]], buffer: &mut [u8]) -> usize {
     let len = put_pieces(pieces, &mut []);

@@ -1,6 +1,6 @@
 // Made by rust/erase from crates/langtag_place/src/lib.rt. Change that file, not this one.
 
-//! What may stand after the language of a tag: script, region and variants (RFC 5646 sections 2.2.3 to 2.2.5).
+//! The parts that may follow the language of a tag: script, region and variants (RFC 5646 sections 2.2.3 to 2.2.5).
 //!
 //! ```rust
 //! # fn main() -> Result<(), Box<dyn std::error::Error>> {

@@ -9,7 +9,7 @@ use crate::shim::{try_string, AllocError};
 use alloc::string::String;
 use core::fmt;
 
-/// The error for a text that is not a region. It hands the text back.
+/// The error for a text that is not a region. It contains the text.
 ///
 /// ```
 /// use langtag::Region;
@@ -29,9 +29,9 @@ impl<T> fmt::Display for InvalidRegion<T> {
 
 impl<T: fmt::Debug> core::error::Error for InvalidRegion<T> {}
 
-/// A region subtag (RFC 5646 section 2.2.4): two letters, as `FR`, or three digits, as `419`.
+/// A region subtag ([RFC 5646 section 2.2.4]): two letters, such as `FR`, or three digits, such as `419`.
 ///
-/// Two regions are equal where their texts differ at most in the case of ASCII letters: `fr` and `FR` are.
+/// Two regions are equal if their texts differ only in the case of ASCII letters, such as `fr` and `FR`.
 ///
 /// ```
 /// # fn main() -> Result<(), Box<dyn std::error::Error>> {
@@ -43,18 +43,26 @@ impl<T: fmt::Debug> core::error::Error for InvalidRegion<T> {}
 /// # Ok(())
 /// # }
 /// ```
+///
+/// [RFC 5646 section 2.2.4]: https://www.rfc-editor.org/rfc/rfc5646#section-2.2.4
 #[derive(Clone, Copy, Debug, PartialEq, Eq, PartialOrd, Ord, Hash)]
 pub struct Region<'a> {
     text: Caseless<&'a str>,
 }
 
 impl<'a> Region<'a> {
-    /// Parses a text as a region: `Region::new("fr")` is Ok.
+    /// Parses a text as a region.
     ///
     /// # Errors
     ///
-    /// A text that is neither two letters nor three digits comes back: `Region::new("FR1")` is
-    /// `Err(InvalidRegion("FR1"))`.
+    /// Returns the text if it is neither two letters nor three digits.
+    ///
+    /// ```
+    /// use langtag::{InvalidRegion, Region};
+    ///
+    /// assert!(Region::new("fr").is_ok());
+    /// assert_eq!(Region::new("FR1"), Err(InvalidRegion("FR1")));
+    /// ```
     #[inline]
     pub fn new(text: &'a str) -> Result<Region<'a>, InvalidRegion<&'a str>> {
         if !is_region(text.as_bytes()) {
@@ -63,8 +71,8 @@ impl<'a> Region<'a> {
         Ok(Region::from_checked(text))
     }
 
-    /// Returns the region of a text that is known to be one, without a test. `Region::from_checked(region.as_str())` is
-    /// equal to `region`.
+    /// Returns the region of a text that is known to be one, without checking it.
+    /// `Region::from_checked(region.as_str())` is equal to `region`.
     #[inline]
     pub(crate) fn from_checked(text: &'a str) -> Region<'a> {
         Region {
@@ -72,31 +80,66 @@ impl<'a> Region<'a> {
         }
     }
 
-    /// Returns the text, with its case: `Region::new("FR")?.as_str()` is `"FR"`.
+    /// Returns the text, in its original case.
+    ///
+    /// ```
+    /// # fn main() -> Result<(), Box<dyn std::error::Error>> {
+    /// use langtag::Region;
+    ///
+    /// assert_eq!(Region::new("FR")?.as_str(), "FR");
+    /// # Ok(())
+    /// # }
+    /// ```
     #[inline]
     pub fn as_str(&self) -> &'a str {
         self.text.0
     }
 
-    /// Returns the bytes of the text: `Region::new("FR")?.as_bytes()` is `b"FR"`.
+    /// Returns the text as bytes.
+    ///
+    /// ```
+    /// # fn main() -> Result<(), Box<dyn std::error::Error>> {
+    /// use langtag::Region;
+    ///
+    /// assert_eq!(Region::new("FR")?.as_bytes(), b"FR");
+    /// # Ok(())
+    /// # }
+    /// ```
     #[inline]
     pub fn as_bytes(&self) -> &'a [u8] {
         self.as_str().as_bytes()
     }
 
-    /// Returns whether another text, of any form, is equal but for the case of ASCII letters:
-    /// `Region::new("fr")?.eq_str("FR")` is true. It is proved that regions are compared, ordered and hashed so, and
-    /// that a clone is the value itself.
+    /// Returns whether another text is equal, ignoring the case of ASCII letters. It is proved that comparisons and
+    /// hashes also ignore case, and that a clone is the same value.
+    ///
+    /// ```
+    /// # fn main() -> Result<(), Box<dyn std::error::Error>> {
+    /// use langtag::Region;
+    ///
+    /// assert!(Region::new("fr")?.eq_str("FR"));
+    /// # Ok(())
+    /// # }
+    /// ```
     #[inline]
     pub fn eq_str(&self, other: &str) -> bool {
         self.text == Caseless(other)
     }
 
-    /// Returns the owned form of the same text: `Region::new("FR")?.try_to_owned()?.as_str()` is `"FR"`.
+    /// Copies the text into an owned value.
     ///
     /// # Errors
     ///
-    /// Out of memory.
+    /// Returns an error if allocation fails.
+    ///
+    /// ```
+    /// # fn main() -> Result<(), Box<dyn std::error::Error>> {
+    /// use langtag::Region;
+    ///
+    /// assert_eq!(Region::new("FR")?.try_to_owned()?.as_str(), "FR");
+    /// # Ok(())
+    /// # }
+    /// ```
     #[cfg(feature = "alloc")]
     #[inline]
     pub fn try_to_owned(&self) -> Result<RegionBuf, AllocError> {
@@ -134,11 +177,11 @@ pub struct RegionBuf {
 
 #[cfg(feature = "alloc")]
 impl RegionBuf {
-    /// Parses a `String` as a region, and keeps it, without a copy: `fr` is Ok.
+    /// Parses a `String` as a region and keeps it, without copying: `fr` is `Ok`.
     ///
     /// # Errors
     ///
-    /// A text that is neither two letters nor three digits comes back, the same `String`: `FR1` does.
+    /// Returns the same `String` if it is neither two letters nor three digits, such as `FR1`.
     #[inline]
     pub fn new(text: String) -> Result<RegionBuf, InvalidRegion<String>> {
         if !is_region(text.as_bytes()) {
@@ -149,20 +192,46 @@ impl RegionBuf {
         })
     }
 
-    /// Borrows the region: `as_region().as_str()` of the owned `FR` is `"FR"`. It is proved that owned regions are
-    /// compared, ordered and hashed without regard to case.
+    /// Borrows the region. It is proved that comparisons and hashes of owned regions ignore case.
+    ///
+    /// ```
+    /// # fn main() -> Result<(), Box<dyn std::error::Error>> {
+    /// use langtag::Region;
+    ///
+    /// assert_eq!(Region::new("FR")?.try_to_owned()?.as_region().as_str(), "FR");
+    /// # Ok(())
+    /// # }
+    /// ```
     #[inline]
     pub fn as_region(&self) -> Region<'_> {
         Region::from_checked(self.as_str())
     }
 
-    /// Returns the text, with its case: `as_str()` of the owned `FR` is `"FR"`.
+    /// Returns the text, in its original case.
+    ///
+    /// ```
+    /// # fn main() -> Result<(), Box<dyn std::error::Error>> {
+    /// use langtag::Region;
+    ///
+    /// assert_eq!(Region::new("FR")?.try_to_owned()?.as_str(), "FR");
+    /// # Ok(())
+    /// # }
+    /// ```
     #[inline]
     pub fn as_str(&self) -> &str {
         self.text.0.as_str()
     }
 
-    /// Returns the text itself, without a copy: `into_string()` of the owned `FR` is the `String` `FR`.
+    /// Returns the `String`, without copying it.
+    ///
+    /// ```
+    /// # fn main() -> Result<(), Box<dyn std::error::Error>> {
+    /// use langtag::Region;
+    ///
+    /// assert_eq!(Region::new("FR")?.try_to_owned()?.into_string(), "FR");
+    /// # Ok(())
+    /// # }
+    /// ```
     #[inline]
     pub fn into_string(self) -> String {
         self.text.0

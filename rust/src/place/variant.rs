@@ -9,7 +9,7 @@ use crate::shim::{try_string, AllocError};
 use alloc::string::String;
 use core::fmt;
 
-/// The error for a text that is not a variant. It hands the text back.
+/// The error for a text that is not a variant. It contains the text.
 ///
 /// ```
 /// use langtag::Variant;
@@ -29,10 +29,10 @@ impl<T> fmt::Display for InvalidVariant<T> {
 
 impl<T: fmt::Debug> core::error::Error for InvalidVariant<T> {}
 
-/// A variant subtag (RFC 5646 section 2.2.5): five to eight letters and digits, as `rozaj`, or four of which the
-/// first is a digit, as `1996`.
+/// A variant subtag ([RFC 5646 section 2.2.5]): five to eight letters and digits, such as `rozaj`, or four of which the
+/// first is a digit, such as `1996`.
 ///
-/// Two variants are equal where their texts differ at most in the case of ASCII letters: `rozaj` and `ROZAJ` are.
+/// Two variants are equal if their texts differ only in the case of ASCII letters, such as `rozaj` and `ROZAJ`.
 ///
 /// ```
 /// # fn main() -> Result<(), Box<dyn std::error::Error>> {
@@ -44,18 +44,26 @@ impl<T: fmt::Debug> core::error::Error for InvalidVariant<T> {}
 /// # Ok(())
 /// # }
 /// ```
+///
+/// [RFC 5646 section 2.2.5]: https://www.rfc-editor.org/rfc/rfc5646#section-2.2.5
 #[derive(Clone, Copy, Debug, PartialEq, Eq, PartialOrd, Ord, Hash)]
 pub struct Variant<'a> {
     text: Caseless<&'a str>,
 }
 
 impl<'a> Variant<'a> {
-    /// Parses a text as a variant: `Variant::new("rozaj")` is Ok.
+    /// Parses a text as a variant.
     ///
     /// # Errors
     ///
-    /// A text that is neither five to eight letters and digits nor four of which the first is a digit
-    /// comes back: `Variant::new("roza")` is `Err(InvalidVariant("roza"))`.
+    /// Returns the text if it is neither five to eight letters and digits nor four of which the first is a digit.
+    ///
+    /// ```
+    /// use langtag::{InvalidVariant, Variant};
+    ///
+    /// assert!(Variant::new("rozaj").is_ok());
+    /// assert_eq!(Variant::new("roza"), Err(InvalidVariant("roza")));
+    /// ```
     #[inline]
     pub fn new(text: &'a str) -> Result<Variant<'a>, InvalidVariant<&'a str>> {
         if !is_variant(text.as_bytes()) {
@@ -64,8 +72,8 @@ impl<'a> Variant<'a> {
         Ok(Variant::from_checked(text))
     }
 
-    /// Returns the variant of a text that is known to be one, without a test. `Variant::from_checked(variant.as_str())`
-    /// is equal to `variant`.
+    /// Returns the variant of a text that is known to be one, without checking it.
+    /// `Variant::from_checked(variant.as_str())` is equal to `variant`.
     #[inline]
     pub(crate) fn from_checked(text: &'a str) -> Variant<'a> {
         Variant {
@@ -73,31 +81,66 @@ impl<'a> Variant<'a> {
         }
     }
 
-    /// Returns the text, with its case: `Variant::new("ROZAJ")?.as_str()` is `"ROZAJ"`.
+    /// Returns the text, in its original case.
+    ///
+    /// ```
+    /// # fn main() -> Result<(), Box<dyn std::error::Error>> {
+    /// use langtag::Variant;
+    ///
+    /// assert_eq!(Variant::new("ROZAJ")?.as_str(), "ROZAJ");
+    /// # Ok(())
+    /// # }
+    /// ```
     #[inline]
     pub fn as_str(&self) -> &'a str {
         self.text.0
     }
 
-    /// Returns the bytes of the text: `Variant::new("ROZAJ")?.as_bytes()` is `b"ROZAJ"`.
+    /// Returns the text as bytes.
+    ///
+    /// ```
+    /// # fn main() -> Result<(), Box<dyn std::error::Error>> {
+    /// use langtag::Variant;
+    ///
+    /// assert_eq!(Variant::new("ROZAJ")?.as_bytes(), b"ROZAJ");
+    /// # Ok(())
+    /// # }
+    /// ```
     #[inline]
     pub fn as_bytes(&self) -> &'a [u8] {
         self.as_str().as_bytes()
     }
 
-    /// Returns whether another text, of any form, is equal but for the case of ASCII letters:
-    /// `Variant::new("rozaj")?.eq_str("ROZAJ")` is true. It is proved that variants are compared, ordered and hashed
-    /// so, and that a clone is the value itself.
+    /// Returns whether another text is equal, ignoring the case of ASCII letters. It is proved that comparisons and
+    /// hashes also ignore case, and that a clone is the same value.
+    ///
+    /// ```
+    /// # fn main() -> Result<(), Box<dyn std::error::Error>> {
+    /// use langtag::Variant;
+    ///
+    /// assert!(Variant::new("rozaj")?.eq_str("ROZAJ"));
+    /// # Ok(())
+    /// # }
+    /// ```
     #[inline]
     pub fn eq_str(&self, other: &str) -> bool {
         self.text == Caseless(other)
     }
 
-    /// Returns the owned form of the same text: `Variant::new("ROZAJ")?.try_to_owned()?.as_str()` is `"ROZAJ"`.
+    /// Copies the text into an owned value.
     ///
     /// # Errors
     ///
-    /// Out of memory.
+    /// Returns an error if allocation fails.
+    ///
+    /// ```
+    /// # fn main() -> Result<(), Box<dyn std::error::Error>> {
+    /// use langtag::Variant;
+    ///
+    /// assert_eq!(Variant::new("ROZAJ")?.try_to_owned()?.as_str(), "ROZAJ");
+    /// # Ok(())
+    /// # }
+    /// ```
     #[cfg(feature = "alloc")]
     #[inline]
     pub fn try_to_owned(&self) -> Result<VariantBuf, AllocError> {
@@ -135,12 +178,12 @@ pub struct VariantBuf {
 
 #[cfg(feature = "alloc")]
 impl VariantBuf {
-    /// Parses a `String` as a variant, and keeps it, without a copy: `rozaj` is Ok.
+    /// Parses a `String` as a variant and keeps it, without copying: `rozaj` is `Ok`.
     ///
     /// # Errors
     ///
-    /// A text that is neither five to eight letters and digits nor four of which the first is a digit
-    /// comes back, the same `String`: `roza` does.
+    /// Returns the same `String` if it is neither five to eight letters and digits nor four of which the first is a
+    /// digit, such as `roza`.
     #[inline]
     pub fn new(text: String) -> Result<VariantBuf, InvalidVariant<String>> {
         if !is_variant(text.as_bytes()) {
@@ -151,20 +194,46 @@ impl VariantBuf {
         })
     }
 
-    /// Borrows the variant: `as_variant().as_str()` of the owned `ROZAJ` is `"ROZAJ"`. It is proved that owned variants
-    /// are compared, ordered and hashed without regard to case.
+    /// Borrows the variant. It is proved that comparisons and hashes of owned variants ignore case.
+    ///
+    /// ```
+    /// # fn main() -> Result<(), Box<dyn std::error::Error>> {
+    /// use langtag::Variant;
+    ///
+    /// assert_eq!(Variant::new("ROZAJ")?.try_to_owned()?.as_variant().as_str(), "ROZAJ");
+    /// # Ok(())
+    /// # }
+    /// ```
     #[inline]
     pub fn as_variant(&self) -> Variant<'_> {
         Variant::from_checked(self.as_str())
     }
 
-    /// Returns the text, with its case: `as_str()` of the owned `ROZAJ` is `"ROZAJ"`.
+    /// Returns the text, in its original case.
+    ///
+    /// ```
+    /// # fn main() -> Result<(), Box<dyn std::error::Error>> {
+    /// use langtag::Variant;
+    ///
+    /// assert_eq!(Variant::new("ROZAJ")?.try_to_owned()?.as_str(), "ROZAJ");
+    /// # Ok(())
+    /// # }
+    /// ```
     #[inline]
     pub fn as_str(&self) -> &str {
         self.text.0.as_str()
     }
 
-    /// Returns the text itself, without a copy: `into_string()` of the owned `ROZAJ` is the `String` `ROZAJ`.
+    /// Returns the `String`, without copying it.
+    ///
+    /// ```
+    /// # fn main() -> Result<(), Box<dyn std::error::Error>> {
+    /// use langtag::Variant;
+    ///
+    /// assert_eq!(Variant::new("ROZAJ")?.try_to_owned()?.into_string(), "ROZAJ");
+    /// # Ok(())
+    /// # }
+    /// ```
     #[inline]
     pub fn into_string(self) -> String {
         self.text.0

@@ -11,7 +11,7 @@ use crate::shim::{try_string, AllocError};
 use alloc::string::String;
 use core::fmt;
 
-/// The error for a text that no list of variants spells. It hands the text back.
+/// The error for a text that is not variants. It contains the text.
 ///
 /// ```
 /// use langtag::Variants;
@@ -31,10 +31,11 @@ impl<T> fmt::Display for InvalidVariants<T> {
 
 impl<T: fmt::Debug> core::error::Error for InvalidVariants<T> {}
 
-/// The variants of a tag, joined by hyphens, or nothing (RFC 5646 section 2.2.5), as `rozaj-1994`.
+/// The variants of a tag, joined by hyphens ([RFC 5646 section 2.2.5]), such as `rozaj-1994`. The empty text means no
+/// variants.
 ///
-/// A variant may stand twice: that makes a tag invalid, and leaves it well formed (section 2.2.9).
-/// Two lists are equal where their texts differ at most in the case of ASCII letters: `rozaj` and `ROZAJ` are.
+/// A variant may occur twice: such a tag is well formed but not valid (section 2.2.9). Two lists are equal if their
+/// texts differ only in the case of ASCII letters, such as `rozaj` and `ROZAJ`.
 ///
 /// ```
 /// # fn main() -> Result<(), Box<dyn std::error::Error>> {
@@ -46,21 +47,34 @@ impl<T: fmt::Debug> core::error::Error for InvalidVariants<T> {}
 /// # Ok(())
 /// # }
 /// ```
+///
+/// [RFC 5646 section 2.2.5]: https://www.rfc-editor.org/rfc/rfc5646#section-2.2.5
 #[derive(Clone, Copy, Debug, PartialEq, Eq, PartialOrd, Ord, Hash)]
 pub struct Variants<'a> {
     text: Caseless<&'a str>,
 }
 
 impl<'a> Variants<'a> {
-    /// No variants: `Variants::EMPTY.as_str()` is `""`.
+    /// No variants.
+    ///
+    /// ```
+    /// use langtag::Variants;
+    ///
+    /// assert_eq!(Variants::EMPTY.as_str(), "");
+    /// ```
     pub const EMPTY: Variants<'static> = Variants { text: Caseless("") };
 
-    /// Parses a text as variants: `Variants::new("rozaj-1994")` and `Variants::new("")` are Ok.
+    /// Parses a text as variants: `Variants::new("rozaj-1994")` and `Variants::new("")` are `Ok`.
     ///
     /// # Errors
     ///
-    /// A text that holds anything else than variants with one hyphen between neighbours comes back:
-    /// `Variants::new("rozaj-")` is `Err(InvalidVariants("rozaj-"))`.
+    /// Returns the text if it is not variants with one hyphen between neighbours.
+    ///
+    /// ```
+    /// use langtag::{InvalidVariants, Variants};
+    ///
+    /// assert_eq!(Variants::new("rozaj-"), Err(InvalidVariants("rozaj-")));
+    /// ```
     #[inline]
     pub fn new(text: &'a str) -> Result<Variants<'a>, InvalidVariants<&'a str>> {
         if !all_variants(text) {
@@ -69,7 +83,7 @@ impl<'a> Variants<'a> {
         Ok(Variants::from_checked(text))
     }
 
-    /// Returns the variants of a text that is known to be spelled by a list of them, without a test.
+    /// Returns the variants of a text that is known to be variants, without checking it.
     /// `Variants::from_checked(variants.as_str())` is equal to `variants`.
     #[inline]
     pub(crate) fn from_checked(text: &'a str) -> Variants<'a> {
@@ -78,31 +92,66 @@ impl<'a> Variants<'a> {
         }
     }
 
-    /// Returns the text, with its case: `Variants::new("ROZAJ-1994")?.as_str()` is `"ROZAJ-1994"`.
+    /// Returns the text, in its original case.
+    ///
+    /// ```
+    /// # fn main() -> Result<(), Box<dyn std::error::Error>> {
+    /// use langtag::Variants;
+    ///
+    /// assert_eq!(Variants::new("ROZAJ-1994")?.as_str(), "ROZAJ-1994");
+    /// # Ok(())
+    /// # }
+    /// ```
     #[inline]
     pub fn as_str(&self) -> &'a str {
         self.text.0
     }
 
-    /// Returns the bytes of the text: `Variants::new("ROZAJ-1994")?.as_bytes()` is `b"ROZAJ-1994"`.
+    /// Returns the text as bytes.
+    ///
+    /// ```
+    /// # fn main() -> Result<(), Box<dyn std::error::Error>> {
+    /// use langtag::Variants;
+    ///
+    /// assert_eq!(Variants::new("ROZAJ-1994")?.as_bytes(), b"ROZAJ-1994");
+    /// # Ok(())
+    /// # }
+    /// ```
     #[inline]
     pub fn as_bytes(&self) -> &'a [u8] {
         self.as_str().as_bytes()
     }
 
-    /// Returns whether another text, of any form, is equal but for the case of ASCII letters:
-    /// `Variants::new("rozaj")?.eq_str("ROZAJ")` is true. It is proved that lists of variants are compared, ordered and
-    /// hashed so, and that a clone is the value itself.
+    /// Returns whether another text is equal, ignoring the case of ASCII letters. It is proved that comparisons and
+    /// hashes also ignore case, and that a clone is the same value.
+    ///
+    /// ```
+    /// # fn main() -> Result<(), Box<dyn std::error::Error>> {
+    /// use langtag::Variants;
+    ///
+    /// assert!(Variants::new("rozaj")?.eq_str("ROZAJ"));
+    /// # Ok(())
+    /// # }
+    /// ```
     #[inline]
     pub fn eq_str(&self, other: &str) -> bool {
         self.text == Caseless(other)
     }
 
-    /// Returns the owned form of the same text: `Variants::new("ROZAJ")?.try_to_owned()?.as_str()` is `"ROZAJ"`.
+    /// Copies the text into an owned value.
     ///
     /// # Errors
     ///
-    /// Out of memory.
+    /// Returns an error if allocation fails.
+    ///
+    /// ```
+    /// # fn main() -> Result<(), Box<dyn std::error::Error>> {
+    /// use langtag::Variants;
+    ///
+    /// assert_eq!(Variants::new("ROZAJ")?.try_to_owned()?.as_str(), "ROZAJ");
+    /// # Ok(())
+    /// # }
+    /// ```
     #[cfg(feature = "alloc")]
     #[inline]
     pub fn try_to_owned(&self) -> Result<VariantsBuf, AllocError> {
@@ -112,19 +161,19 @@ impl<'a> Variants<'a> {
         })
     }
 
-    /// Returns the variants one by one, from either end: `rozaj` and `1994` of `rozaj-1994`.
+    /// Returns an iterator over the variants, from either end: `rozaj` and `1994` for `rozaj-1994`.
     #[inline]
     pub fn iter(&self) -> VariantsIter<'a> {
         VariantsIter::new(self.as_str())
     }
 
-    /// Returns the first variant, if there is one: `rozaj` of `rozaj-1994`, and None of the empty text.
+    /// Returns the first variant, if there is one: `rozaj` for `rozaj-1994`, `None` for the empty text.
     #[inline]
     pub fn first(&self) -> Option<Variant<'a>> {
         self.iter().next()
     }
 
-    /// Returns the last variant, if there is one: `1994` of `rozaj-1994`, and `rozaj` of `rozaj`.
+    /// Returns the last variant, if there is one: `1994` for `rozaj-1994`.
     #[inline]
     pub fn last(&self) -> Option<Variant<'a>> {
         self.iter().next_back()
@@ -165,12 +214,11 @@ pub struct VariantsBuf {
 
 #[cfg(feature = "alloc")]
 impl VariantsBuf {
-    /// Parses a `String` as variants, and keeps it, without a copy: `rozaj-1994` is Ok.
+    /// Parses a `String` as variants and keeps it, without copying: `rozaj-1994` is `Ok`.
     ///
     /// # Errors
     ///
-    /// A text that holds anything else than variants with one hyphen between neighbours comes back, the same
-    /// `String`: `rozaj-` does.
+    /// Returns the same `String` if it is not variants with one hyphen between neighbours, such as `rozaj-`.
     #[inline]
     pub fn new(text: String) -> Result<VariantsBuf, InvalidVariants<String>> {
         if !all_variants(text.as_str()) {
@@ -181,20 +229,46 @@ impl VariantsBuf {
         })
     }
 
-    /// Borrows the variants: `as_variants().as_str()` of the owned `ROZAJ` is `"ROZAJ"`. It is proved that owned lists
-    /// of variants are compared, ordered and hashed without regard to case.
+    /// Borrows the variants. It is proved that comparisons and hashes of owned lists of variants ignore case.
+    ///
+    /// ```
+    /// # fn main() -> Result<(), Box<dyn std::error::Error>> {
+    /// use langtag::Variants;
+    ///
+    /// assert_eq!(Variants::new("ROZAJ")?.try_to_owned()?.as_variants().as_str(), "ROZAJ");
+    /// # Ok(())
+    /// # }
+    /// ```
     #[inline]
     pub fn as_variants(&self) -> Variants<'_> {
         Variants::from_checked(self.as_str())
     }
 
-    /// Returns the text, with its case: `as_str()` of the owned `ROZAJ` is `"ROZAJ"`.
+    /// Returns the text, in its original case.
+    ///
+    /// ```
+    /// # fn main() -> Result<(), Box<dyn std::error::Error>> {
+    /// use langtag::Variants;
+    ///
+    /// assert_eq!(Variants::new("ROZAJ")?.try_to_owned()?.as_str(), "ROZAJ");
+    /// # Ok(())
+    /// # }
+    /// ```
     #[inline]
     pub fn as_str(&self) -> &str {
         self.text.0.as_str()
     }
 
-    /// Returns the text itself, without a copy: `into_string()` of the owned `ROZAJ` is the `String` `ROZAJ`.
+    /// Returns the `String`, without copying it.
+    ///
+    /// ```
+    /// # fn main() -> Result<(), Box<dyn std::error::Error>> {
+    /// use langtag::Variants;
+    ///
+    /// assert_eq!(Variants::new("ROZAJ")?.try_to_owned()?.into_string(), "ROZAJ");
+    /// # Ok(())
+    /// # }
+    /// ```
     #[inline]
     pub fn into_string(self) -> String {
         self.text.0

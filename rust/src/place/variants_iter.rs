@@ -6,8 +6,8 @@ use crate::place::variant::Variant;
 use crate::place::variants::Variants;
 use crate::scan::Subtags;
 
-/// The variants of a tag that are still to come, in the order in which they are written (RFC 5646 section 2.2.5),
-/// from either end: `rozaj` and `1994` of `Variants::new("rozaj-1994")?.iter()`.
+/// An iterator over variants ([RFC 5646 section 2.2.5]), in the order of the text and from either end: `rozaj` and `1994`
+/// for `rozaj-1994`.
 ///
 /// ```
 /// # fn main() -> Result<(), Box<dyn std::error::Error>> {
@@ -20,13 +20,15 @@ use crate::scan::Subtags;
 /// # Ok(())
 /// # }
 /// ```
+///
+/// [RFC 5646 section 2.2.5]: https://www.rfc-editor.org/rfc/rfc5646#section-2.2.5
 #[derive(Debug)]
 pub struct VariantsIter<'a> {
     rest: Subtags<'a>,
 }
 
 impl<'a> VariantsIter<'a> {
-    /// Returns the walk over no variants: `VariantsIter::empty().count()` is 0.
+    /// Returns an iterator over no variants: `VariantsIter::empty().count()` is 0.
     #[inline]
     pub fn empty() -> Self {
         Variants::EMPTY.iter()

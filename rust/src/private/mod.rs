@@ -2,8 +2,8 @@
 
 //! The private use part of a tag (RFC 5646 section 2.2.7), which may also be a tag of its own.
 //!
-//! `x-a-x-b` is a [`PrivateUse`] with the [`PrivateUseSubtag`]s `a`, `x` and `b`. Both have an owned form, as
-//! [`PrivateUseBuf`].
+//! `x-a-x-b` is a [`PrivateUse`] with the [`PrivateUseSubtag`]s `a`, `x` and `b`. Both types have an owned form, such
+//! as [`PrivateUseBuf`].
 //!
 //! ```rust
 //! # fn main() -> Result<(), Box<dyn std::error::Error>> {
@@ -17,8 +17,8 @@
 //! # }
 //! ```
 //!
-//! A returned subtag has its bytes of the text and lives as long as the text. Both are proved; that it stands at the
-//! same address is not.
+//! A returned subtag has the bytes of its part of the text, and borrows the text. It is proved that the bytes are
+//! those, but not that the address is.
 
 mod private_use;
 mod private_use_iter;

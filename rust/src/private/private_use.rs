@@ -10,7 +10,7 @@ use crate::shim::{try_string, AllocError};
 use alloc::string::String;
 use core::fmt;
 
-/// The error for a text that is not a private use part. It hands the text back.
+/// The error for a text that is not a private use part. It contains the text.
 ///
 /// ```
 /// use langtag::PrivateUse;
@@ -30,10 +30,10 @@ impl<T> fmt::Display for InvalidPrivateUse<T> {
 
 impl<T: fmt::Debug> core::error::Error for InvalidPrivateUse<T> {}
 
-/// A private use part (RFC 5646 section 2.2.7): the mark `x`, in either case, and one subtag or more after it, joined
-/// by hyphens, as `x-twain`. It may stand at the end of a tag, and alone as a tag of its own.
+/// A private use part ([RFC 5646 section 2.2.7]): `x` or `X`, and one or more subtags after it, joined by hyphens, such
+/// as `x-twain`. It may be the end of a tag, or a whole tag.
 ///
-/// Two of them are equal where their texts differ at most in the case of ASCII letters: `x-twain` and `X-TWAIN` are.
+/// Two of them are equal if their texts differ only in the case of ASCII letters, such as `x-twain` and `X-TWAIN`.
 ///
 /// ```
 /// # fn main() -> Result<(), Box<dyn std::error::Error>> {
@@ -45,18 +45,26 @@ impl<T: fmt::Debug> core::error::Error for InvalidPrivateUse<T> {}
 /// # Ok(())
 /// # }
 /// ```
+///
+/// [RFC 5646 section 2.2.7]: https://www.rfc-editor.org/rfc/rfc5646#section-2.2.7
 #[derive(Clone, Copy, Debug, PartialEq, Eq, PartialOrd, Ord, Hash)]
 pub struct PrivateUse<'a> {
     text: Caseless<&'a str>,
 }
 
 impl<'a> PrivateUse<'a> {
-    /// Parses a text as a private use part: `PrivateUse::new("x-twain")` is Ok.
+    /// Parses a text as a private use part.
     ///
     /// # Errors
     ///
-    /// A text that is not a mark and private use subtags with one hyphen between neighbours comes back:
-    /// `PrivateUse::new("x")` is `Err(InvalidPrivateUse("x"))`.
+    /// Returns the text if it is not a private use part.
+    ///
+    /// ```
+    /// use langtag::{InvalidPrivateUse, PrivateUse};
+    ///
+    /// assert!(PrivateUse::new("x-twain").is_ok());
+    /// assert_eq!(PrivateUse::new("x"), Err(InvalidPrivateUse("x")));
+    /// ```
     #[inline]
     pub fn new(text: &'a str) -> Result<PrivateUse<'a>, InvalidPrivateUse<&'a str>> {
         if !is_private_use(text) {
@@ -65,7 +73,7 @@ impl<'a> PrivateUse<'a> {
         Ok(PrivateUse::from_checked(text))
     }
 
-    /// Returns the private use part of a text that is known to be one, without a test.
+    /// Returns the private use part of a text that is known to be one, without checking it.
     /// `PrivateUse::from_checked(private_use.as_str())` is equal to `private_use`.
     #[inline]
     pub(crate) fn from_checked(text: &'a str) -> PrivateUse<'a> {
@@ -74,32 +82,66 @@ impl<'a> PrivateUse<'a> {
         }
     }
 
-    /// Returns the text, with its case: `PrivateUse::new("X-TWAIN")?.as_str()` is `"X-TWAIN"`.
+    /// Returns the text, in its original case.
+    ///
+    /// ```
+    /// # fn main() -> Result<(), Box<dyn std::error::Error>> {
+    /// use langtag::PrivateUse;
+    ///
+    /// assert_eq!(PrivateUse::new("X-TWAIN")?.as_str(), "X-TWAIN");
+    /// # Ok(())
+    /// # }
+    /// ```
     #[inline]
     pub fn as_str(&self) -> &'a str {
         self.text.0
     }
 
-    /// Returns the bytes of the text: `PrivateUse::new("X-TWAIN")?.as_bytes()` is `b"X-TWAIN"`.
+    /// Returns the text as bytes.
+    ///
+    /// ```
+    /// # fn main() -> Result<(), Box<dyn std::error::Error>> {
+    /// use langtag::PrivateUse;
+    ///
+    /// assert_eq!(PrivateUse::new("X-TWAIN")?.as_bytes(), b"X-TWAIN");
+    /// # Ok(())
+    /// # }
+    /// ```
     #[inline]
     pub fn as_bytes(&self) -> &'a [u8] {
         self.as_str().as_bytes()
     }
 
-    /// Returns whether another text, of any form, is equal but for the case of ASCII letters:
-    /// `PrivateUse::new("x-twain")?.eq_str("X-TWAIN")` is true. It is proved that private use parts are compared,
-    /// ordered and hashed so, and that a clone is the value itself.
+    /// Returns whether another text is equal, ignoring the case of ASCII letters. It is proved that comparisons and
+    /// hashes also ignore case, and that a clone is the same value.
+    ///
+    /// ```
+    /// # fn main() -> Result<(), Box<dyn std::error::Error>> {
+    /// use langtag::PrivateUse;
+    ///
+    /// assert!(PrivateUse::new("x-twain")?.eq_str("X-TWAIN"));
+    /// # Ok(())
+    /// # }
+    /// ```
     #[inline]
     pub fn eq_str(&self, other: &str) -> bool {
         self.text == Caseless(other)
     }
 
-    /// Returns the owned form of the same text: `PrivateUse::new("X-TWAIN")?.try_to_owned()?.as_str()` is
-    /// `"X-TWAIN"`.
+    /// Copies the text into an owned value.
     ///
     /// # Errors
     ///
-    /// Out of memory.
+    /// Returns an error if allocation fails.
+    ///
+    /// ```
+    /// # fn main() -> Result<(), Box<dyn std::error::Error>> {
+    /// use langtag::PrivateUse;
+    ///
+    /// assert_eq!(PrivateUse::new("X-TWAIN")?.try_to_owned()?.as_str(), "X-TWAIN");
+    /// # Ok(())
+    /// # }
+    /// ```
     #[cfg(feature = "alloc")]
     #[inline]
     pub fn try_to_owned(&self) -> Result<PrivateUseBuf, AllocError> {
@@ -109,7 +151,7 @@ impl<'a> PrivateUse<'a> {
         })
     }
 
-    /// Returns the subtags one by one, without the mark: `PrivateUse::new("x-a-x")?.iter()` yields `a` and `x`.
+    /// Returns an iterator over the subtags after the first `x`: `PrivateUse::new("x-a-x")?.iter()` yields `a` and `x`.
     #[inline]
     pub fn iter(&self) -> PrivateUseIter<'a> {
         PrivateUseIter::new(self.as_str())
@@ -170,12 +212,11 @@ pub struct PrivateUseBuf {
 
 #[cfg(feature = "alloc")]
 impl PrivateUseBuf {
-    /// Parses a `String` as a private use part, and keeps it, without a copy: `x-twain` is Ok.
+    /// Parses a `String` as a private use part and keeps it, without copying: `x-twain` is `Ok`.
     ///
     /// # Errors
     ///
-    /// A text that is not a mark and private use subtags with one hyphen between neighbours comes back, the same
-    /// `String`: `x` does.
+    /// Returns the same `String` if it is not a private use part, such as `x`.
     #[inline]
     pub fn new(text: String) -> Result<PrivateUseBuf, InvalidPrivateUse<String>> {
         if !is_private_use(text.as_str()) {
@@ -186,20 +227,47 @@ impl PrivateUseBuf {
         })
     }
 
-    /// Borrows the private use part: `as_private_use().as_str()` of the owned `X-TWAIN` is `"X-TWAIN"`. It is proved
-    /// that owned private use parts are compared, ordered and hashed without regard to case.
+    /// Borrows the private use part. It is proved that comparisons and hashes of owned private use parts ignore
+    /// case.
+    ///
+    /// ```
+    /// # fn main() -> Result<(), Box<dyn std::error::Error>> {
+    /// use langtag::PrivateUse;
+    ///
+    /// assert_eq!(PrivateUse::new("X-TWAIN")?.try_to_owned()?.as_private_use().as_str(), "X-TWAIN");
+    /// # Ok(())
+    /// # }
+    /// ```
     #[inline]
     pub fn as_private_use(&self) -> PrivateUse<'_> {
         PrivateUse::from_checked(self.as_str())
     }
 
-    /// Returns the text, with its case: `as_str()` of the owned `X-TWAIN` is `"X-TWAIN"`.
+    /// Returns the text, in its original case.
+    ///
+    /// ```
+    /// # fn main() -> Result<(), Box<dyn std::error::Error>> {
+    /// use langtag::PrivateUse;
+    ///
+    /// assert_eq!(PrivateUse::new("X-TWAIN")?.try_to_owned()?.as_str(), "X-TWAIN");
+    /// # Ok(())
+    /// # }
+    /// ```
     #[inline]
     pub fn as_str(&self) -> &str {
         self.text.0.as_str()
     }
 
-    /// Returns the text itself, without a copy: `into_string()` of the owned `X-TWAIN` is the `String` `X-TWAIN`.
+    /// Returns the `String`, without copying it.
+    ///
+    /// ```
+    /// # fn main() -> Result<(), Box<dyn std::error::Error>> {
+    /// use langtag::PrivateUse;
+    ///
+    /// assert_eq!(PrivateUse::new("X-TWAIN")?.try_to_owned()?.into_string(), "X-TWAIN");
+    /// # Ok(())
+    /// # }
+    /// ```
     #[inline]
     pub fn into_string(self) -> String {
         self.text.0

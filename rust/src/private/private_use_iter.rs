@@ -5,7 +5,7 @@
 use crate::private::private_use_subtag::PrivateUseSubtag;
 use crate::scan::Subtags;
 
-/// The private use subtags that are still to come (RFC 5646 section 2.2.7): `a` and `b` of `x-a-b`.
+/// An iterator over private use subtags ([RFC 5646 section 2.2.7]): `a` and `b` for `x-a-b`.
 ///
 /// ```
 /// # fn main() -> Result<(), Box<dyn std::error::Error>> {
@@ -18,6 +18,8 @@ use crate::scan::Subtags;
 /// # Ok(())
 /// # }
 /// ```
+///
+/// [RFC 5646 section 2.2.7]: https://www.rfc-editor.org/rfc/rfc5646#section-2.2.7
 #[derive(Debug)]
 pub struct PrivateUseIter<'a> {
     rest: Subtags<'a>,

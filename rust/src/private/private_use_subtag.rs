@@ -9,7 +9,7 @@ use crate::shim::{try_string, AllocError};
 use alloc::string::String;
 use core::fmt;
 
-/// The error for a text that is not a private use subtag. It hands the text back.
+/// The error for a text that is not a private use subtag. It contains the text.
 ///
 /// ```
 /// use langtag::PrivateUseSubtag;
@@ -29,9 +29,9 @@ impl<T> fmt::Display for InvalidPrivateUseSubtag<T> {
 
 impl<T: fmt::Debug> core::error::Error for InvalidPrivateUseSubtag<T> {}
 
-/// A private use subtag (RFC 5646 section 2.2.7): one to eight letters and digits, as `twain` in `en-x-twain`.
+/// A private use subtag ([RFC 5646 section 2.2.7]): one to eight letters and digits, such as `twain` in `en-x-twain`.
 ///
-/// Two of them are equal where their texts differ at most in the case of ASCII letters: `twain` and `TWAIN` are.
+/// Two of them are equal if their texts differ only in the case of ASCII letters, such as `twain` and `TWAIN`.
 ///
 /// ```
 /// # fn main() -> Result<(), Box<dyn std::error::Error>> {
@@ -43,18 +43,26 @@ impl<T: fmt::Debug> core::error::Error for InvalidPrivateUseSubtag<T> {}
 /// # Ok(())
 /// # }
 /// ```
+///
+/// [RFC 5646 section 2.2.7]: https://www.rfc-editor.org/rfc/rfc5646#section-2.2.7
 #[derive(Clone, Copy, Debug, PartialEq, Eq, PartialOrd, Ord, Hash)]
 pub struct PrivateUseSubtag<'a> {
     text: Caseless<&'a str>,
 }
 
 impl<'a> PrivateUseSubtag<'a> {
-    /// Parses a text as a private use subtag: `PrivateUseSubtag::new("twain")` is Ok.
+    /// Parses a text as a private use subtag.
     ///
     /// # Errors
     ///
-    /// A text that is not one to eight letters and digits comes back: `PrivateUseSubtag::new("a-b")` is
-    /// `Err(InvalidPrivateUseSubtag("a-b"))`.
+    /// Returns the text if it is not one to eight letters and digits.
+    ///
+    /// ```
+    /// use langtag::{InvalidPrivateUseSubtag, PrivateUseSubtag};
+    ///
+    /// assert!(PrivateUseSubtag::new("twain").is_ok());
+    /// assert_eq!(PrivateUseSubtag::new("a-b"), Err(InvalidPrivateUseSubtag("a-b")));
+    /// ```
     #[inline]
     pub fn new(text: &'a str) -> Result<PrivateUseSubtag<'a>, InvalidPrivateUseSubtag<&'a str>> {
         if !is_private_subtag(text.as_bytes()) {
@@ -63,7 +71,7 @@ impl<'a> PrivateUseSubtag<'a> {
         Ok(PrivateUseSubtag::from_checked(text))
     }
 
-    /// Returns the subtag of a text that is known to be one, without a test.
+    /// Returns the subtag of a text that is known to be one, without checking it.
     /// `PrivateUseSubtag::from_checked(subtag.as_str())` is equal to `subtag`.
     #[inline]
     pub(crate) fn from_checked(text: &'a str) -> PrivateUseSubtag<'a> {
@@ -72,32 +80,66 @@ impl<'a> PrivateUseSubtag<'a> {
         }
     }
 
-    /// Returns the text, with its case: `PrivateUseSubtag::new("TWAIN")?.as_str()` is `"TWAIN"`.
+    /// Returns the text, in its original case.
+    ///
+    /// ```
+    /// # fn main() -> Result<(), Box<dyn std::error::Error>> {
+    /// use langtag::PrivateUseSubtag;
+    ///
+    /// assert_eq!(PrivateUseSubtag::new("TWAIN")?.as_str(), "TWAIN");
+    /// # Ok(())
+    /// # }
+    /// ```
     #[inline]
     pub fn as_str(&self) -> &'a str {
         self.text.0
     }
 
-    /// Returns the bytes of the text: `PrivateUseSubtag::new("TWAIN")?.as_bytes()` is `b"TWAIN"`.
+    /// Returns the text as bytes.
+    ///
+    /// ```
+    /// # fn main() -> Result<(), Box<dyn std::error::Error>> {
+    /// use langtag::PrivateUseSubtag;
+    ///
+    /// assert_eq!(PrivateUseSubtag::new("TWAIN")?.as_bytes(), b"TWAIN");
+    /// # Ok(())
+    /// # }
+    /// ```
     #[inline]
     pub fn as_bytes(&self) -> &'a [u8] {
         self.as_str().as_bytes()
     }
 
-    /// Returns whether another text, of any form, is equal but for the case of ASCII letters:
-    /// `PrivateUseSubtag::new("twain")?.eq_str("TWAIN")` is true. It is proved that private use subtags are compared,
-    /// ordered and hashed so, and that a clone is the value itself.
+    /// Returns whether another text is equal, ignoring the case of ASCII letters. It is proved that comparisons and
+    /// hashes also ignore case, and that a clone is the same value.
+    ///
+    /// ```
+    /// # fn main() -> Result<(), Box<dyn std::error::Error>> {
+    /// use langtag::PrivateUseSubtag;
+    ///
+    /// assert!(PrivateUseSubtag::new("twain")?.eq_str("TWAIN"));
+    /// # Ok(())
+    /// # }
+    /// ```
     #[inline]
     pub fn eq_str(&self, other: &str) -> bool {
         self.text == Caseless(other)
     }
 
-    /// Returns the owned form of the same text: `PrivateUseSubtag::new("TWAIN")?.try_to_owned()?.as_str()` is
-    /// `"TWAIN"`.
+    /// Copies the text into an owned value.
     ///
     /// # Errors
     ///
-    /// Out of memory.
+    /// Returns an error if allocation fails.
+    ///
+    /// ```
+    /// # fn main() -> Result<(), Box<dyn std::error::Error>> {
+    /// use langtag::PrivateUseSubtag;
+    ///
+    /// assert_eq!(PrivateUseSubtag::new("TWAIN")?.try_to_owned()?.as_str(), "TWAIN");
+    /// # Ok(())
+    /// # }
+    /// ```
     #[cfg(feature = "alloc")]
     #[inline]
     pub fn try_to_owned(&self) -> Result<PrivateUseSubtagBuf, AllocError> {
@@ -135,11 +177,11 @@ pub struct PrivateUseSubtagBuf {
 
 #[cfg(feature = "alloc")]
 impl PrivateUseSubtagBuf {
-    /// Parses a `String` as a subtag, and keeps it, without a copy: `twain` is Ok.
+    /// Parses a `String` as a subtag and keeps it, without copying: `twain` is `Ok`.
     ///
     /// # Errors
     ///
-    /// A text that is not one to eight letters and digits comes back, the same `String`: `a-b` does.
+    /// Returns the same `String` if it is not one to eight letters and digits, such as `a-b`.
     #[inline]
     pub fn new(text: String) -> Result<PrivateUseSubtagBuf, InvalidPrivateUseSubtag<String>> {
         if !is_private_subtag(text.as_bytes()) {
@@ -150,20 +192,46 @@ impl PrivateUseSubtagBuf {
         })
     }
 
-    /// Borrows the subtag: `as_private_use_subtag().as_str()` of the owned `TWAIN` is `"TWAIN"`. It is proved that
-    /// owned private use subtags are compared, ordered and hashed without regard to case.
+    /// Borrows the subtag. It is proved that comparisons and hashes of owned private use subtags ignore case.
+    ///
+    /// ```
+    /// # fn main() -> Result<(), Box<dyn std::error::Error>> {
+    /// use langtag::PrivateUseSubtag;
+    ///
+    /// assert_eq!(PrivateUseSubtag::new("TWAIN")?.try_to_owned()?.as_private_use_subtag().as_str(), "TWAIN");
+    /// # Ok(())
+    /// # }
+    /// ```
     #[inline]
     pub fn as_private_use_subtag(&self) -> PrivateUseSubtag<'_> {
         PrivateUseSubtag::from_checked(self.as_str())
     }
 
-    /// Returns the text, with its case: `as_str()` of the owned `TWAIN` is `"TWAIN"`.
+    /// Returns the text, in its original case.
+    ///
+    /// ```
+    /// # fn main() -> Result<(), Box<dyn std::error::Error>> {
+    /// use langtag::PrivateUseSubtag;
+    ///
+    /// assert_eq!(PrivateUseSubtag::new("TWAIN")?.try_to_owned()?.as_str(), "TWAIN");
+    /// # Ok(())
+    /// # }
+    /// ```
     #[inline]
     pub fn as_str(&self) -> &str {
         self.text.0.as_str()
     }
 
-    /// Returns the text itself, without a copy: `into_string()` of the owned `TWAIN` is the `String` `TWAIN`.
+    /// Returns the `String`, without copying it.
+    ///
+    /// ```
+    /// # fn main() -> Result<(), Box<dyn std::error::Error>> {
+    /// use langtag::PrivateUseSubtag;
+    ///
+    /// assert_eq!(PrivateUseSubtag::new("TWAIN")?.try_to_owned()?.into_string(), "TWAIN");
+    /// # Ok(())
+    /// # }
+    /// ```
     #[inline]
     pub fn into_string(self) -> String {
         self.text.0

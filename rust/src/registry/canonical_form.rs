@@ -22,20 +22,21 @@ const LONGEST_REPLACED: usize = 16;
 /// No text that replaces a whole one has more bytes.
 const LONGEST_PREFERRED: usize = 14;
 
-/// Returns the canonical form of a tag (RFC 5646 section 4.5): `he` of `iw`, `yue` of `zh-yue`, `en-MM` of `en-BU`,
-/// `jbo` of `art-lojban`, `en-a-aaa-b-ccc` of `en-b-ccc-a-aaa`, and `fr-FR` of `fr-FR`.
+/// Returns the canonical form of a tag ([RFC 5646 section 4.5]): `he` for `iw`, `yue` for `zh-yue`, `en-MM` for `en-BU`,
+/// `jbo` for `art-lojban`, and `en-a-aaa-b-ccc` for `en-b-ccc-a-aaa`.
 ///
-/// What is put in has the registry's case; all else keeps its own, and the variants keep their order. Step 2 is taken again
-/// after step 3, and an extended language that becomes the language is replaced as one, too, so that a form is its own:
-/// `gsg` of `sgn-DD`, `apc` of `ar-ajp`. A tag need not be valid: a subtag that is not registered stays, as do two extended
-/// languages, and the language before them. This is RFC 5646's form, and not that of CLDR, which replaces more.
+/// Replacements have the case of the registry, and everything else keeps its case. Variants keep their order. The tag
+/// need not be valid: subtags that are not registered stay, and so do two extended languages with the language before
+/// them. This is the form of RFC 5646, while Unicode's CLDR replaces more. The form of a form is itself: step 2 is
+/// repeated after step 3 (`sgn-DD` becomes `gsg`), and an extended language is replaced repeatedly (`ar-ajp` becomes
+/// `apc`).
 ///
-/// The form of a valid tag is valid, unless two variants become the same, as those of `ja-heploc-alalc97` do. It has no
-/// extended language, unless it is `zh-min`.
+/// The form of a valid tag is valid, unless two variants become the same, as in `ja-heploc-alalc97`. It has no extended
+/// language, unless it is `zh-min`.
 ///
 /// # Errors
 ///
-/// Out of memory.
+/// Returns an error if allocation fails.
 ///
 /// ```
 /// # fn main() -> Result<(), Box<dyn std::error::Error>> {
@@ -47,6 +48,8 @@ const LONGEST_PREFERRED: usize = 14;
 /// # Ok(())
 /// # }
 /// ```
+///
+/// [RFC 5646 section 4.5]: https://www.rfc-editor.org/rfc/rfc5646#section-4.5
 #[cfg(feature = "alloc")]
 pub fn canonical(tag: LangTag<'_>) -> Result<LangTagBuf, AllocError> {
     let Ok(text) = String::from_utf8(canonical_bytes(tag)?) else {
@@ -58,16 +61,41 @@ pub fn canonical(tag: LangTag<'_>) -> Result<LangTagBuf, AllocError> {
     Ok(form)
 }
 
-/// Returns whether a tag is its own canonical form (RFC 5646 section 4.5): true of `he`, `zh-min` and `x-iw`,
-/// false of `iw` and of `en-b-ccc-a-aaa`. The case of letters changes nothing: true of `HE`. No memory is taken.
+/// Returns whether a tag is its own canonical form ([RFC 5646 section 4.5]): `true` for `he`, `zh-min` and `x-iw`,
+/// `false` for `iw` and `en-b-ccc-a-aaa`. Case is ignored, so it is `true` for `HE`. It does not allocate.
+///
+/// ```
+/// # fn main() -> Result<(), Box<dyn std::error::Error>> {
+/// use langtag::LangTag;
+/// use langtag::registry::is_canonical;
+///
+/// assert!(is_canonical(LangTag::new("HE")?));
+/// assert!(!is_canonical(LangTag::new("iw")?));
+/// # Ok(())
+/// # }
+/// ```
+///
+/// [RFC 5646 section 4.5]: https://www.rfc-editor.org/rfc/rfc5646#section-4.5
 #[inline]
 pub fn is_canonical(tag: LangTag<'_>) -> bool {
     matches!(form_of(tag), Form::Same)
 }
 
-/// Writes the canonical form of a tag (RFC 5646 section 4.5), as [`canonical`] returns it, into a buffer, and returns its
-/// length in bytes. Where the buffer is too short it stays as it was: the length says how much room there has to be. A buffer
-/// of [`canonical_bound`] bytes always has the room. No memory is taken.
+/// Writes the canonical form of a tag to a buffer, as [`canonical`] returns it, and returns its length in bytes. If the
+/// buffer is too short, it stays unchanged, and the length says how much room is needed. A buffer of
+/// [`canonical_bound`] bytes is always long enough. It does not allocate.
+///
+/// ```
+/// # fn main() -> Result<(), Box<dyn std::error::Error>> {
+/// use langtag::LangTag;
+/// use langtag::registry::write_canonical;
+///
+/// let mut buffer = [0; 16];
+/// let length = write_canonical(LangTag::new("en-BU")?, &mut buffer);
+/// assert_eq!(buffer.get(..length), Some(&b"en-MM"[..]));
+/// # Ok(())
+/// # }
+/// ```
 pub fn write_canonical(tag: LangTag<'_>, buffer: &mut [u8]) -> usize {
     match form_of(tag) {
         Form::Same => write_text(tag.as_bytes(), buffer),
@@ -76,8 +104,8 @@ pub fn write_canonical(tag: LangTag<'_>, buffer: &mut [u8]) -> usize {
     }
 }
 
-/// Returns how many bytes the canonical form of a tag of this length may have at most, so that a caller makes room for it
-/// before [`write_canonical`]: twice as many, and 14 more.
+/// Returns the greatest length in bytes of the canonical form of a tag of a given length, as the size of a buffer for
+/// [`write_canonical`]. It is twice the length plus 14.
 #[inline]
 pub fn canonical_bound(tag_len: usize) -> usize {
     tag_len.saturating_mul(2).saturating_add(LONGEST_PREFERRED)

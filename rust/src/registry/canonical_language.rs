@@ -6,8 +6,8 @@ use crate::language::Language;
 use crate::registry::language_fields::preferred_language;
 use crate::registry::subtags::is_registered_extlang;
 
-/// Returns whether a language is its own canonical form: true of `he`, `zh-fra` and `zh-cmn-yue`, false of `iw`, `iw-fra`
-/// and `zh-yue`.
+/// Returns whether a language is its own canonical form: `true` for `he`, `zh-fra` and `zh-cmn-yue`, `false` for `iw`,
+/// `iw-fra` and `zh-yue`.
 pub(crate) fn is_canonical_language(language: Language<'_>) -> bool {
     let mut extlangs = language.extension_subtags();
     let Some(extlang) = extlangs.next() else {

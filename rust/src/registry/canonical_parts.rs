@@ -57,7 +57,7 @@ fn push_extlang(out: &mut Output<'_>, extlang: ExtendedLangTag<'_>) {
     }
 }
 
-/// Returns an extended subtag in small letters, as the registry has it.
+/// Returns an extended subtag in lowercase letters, as the registry has it.
 fn in_small_letters(extlang: ExtendedLangTag<'_>) -> [u8; 3] {
     let mut small = [0; 3];
     small.copy_from_slice(extlang.as_bytes());

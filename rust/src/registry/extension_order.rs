@@ -5,7 +5,9 @@
 use crate::extension::{Extension, Extensions};
 use crate::scan::into_smallcase;
 
-/// All singletons (RFC 5646 section 2.2.6) in order.
+/// All singletons ([RFC 5646 section 2.2.6]) in order.
+///
+/// [RFC 5646 section 2.2.6]: https://www.rfc-editor.org/rfc/rfc5646#section-2.2.6
 pub(crate) const SINGLETONS: [u8; 35] = *b"0123456789abcdefghijklmnopqrstuvwyz";
 
 /// Returns whether extensions stand in order: each singleton is at least the one before it.
@@ -22,7 +24,7 @@ pub(crate) fn are_in_order(extensions: Extensions<'_>) -> bool {
     true
 }
 
-/// Returns which bytes are singletons of extensions, as small letters.
+/// Returns which bytes are singletons of extensions, as lowercase letters.
 pub(crate) fn singletons_of(extensions: Extensions<'_>) -> [bool; 256] {
     let mut present = [false; 256];
     for extension in extensions.iter() {
@@ -31,7 +33,7 @@ pub(crate) fn singletons_of(extensions: Extensions<'_>) -> [bool; 256] {
     present
 }
 
-/// Returns the singleton of an extension as a small letter.
+/// Returns the singleton of an extension as a lowercase letter.
 #[inline]
 pub(crate) fn folded_singleton(extension: Extension<'_>) -> u8 {
     into_smallcase(extension.singleton().unwrap())

@@ -14,13 +14,25 @@ use crate::tag::{LangTagBuf, NormalLangTagBuf};
 #[cfg(feature = "alloc")]
 use alloc::string::String;
 
-/// Returns the extlang form of a tag (RFC 5646 section 4.5): the canonical form, and before a language that is registered
-/// as an extended one, too, its prefix: `zh-hak-CN` of `hak-CN` and of `zh-hak-CN`, `he` of `iw`. A language with three
-/// extended subtags, which no valid tag has, stays.
+/// Returns the extlang form of a tag ([RFC 5646 section 4.5]). It is the canonical form, with the prefix before a
+/// language that is also an extended language: `zh-hak-CN` for `hak-CN` and `zh-hak-CN`, `he` for `iw`. A language with
+/// three extended subtags, which no valid tag has, stays.
 ///
 /// # Errors
 ///
-/// Out of memory.
+/// Returns an error if allocation fails.
+///
+/// ```
+/// # fn main() -> Result<(), Box<dyn std::error::Error>> {
+/// use langtag::LangTag;
+/// use langtag::registry::extlang_form;
+///
+/// assert_eq!(extlang_form(LangTag::new("hak-CN")?)?.as_str(), "zh-hak-CN");
+/// # Ok(())
+/// # }
+/// ```
+///
+/// [RFC 5646 section 4.5]: https://www.rfc-editor.org/rfc/rfc5646#section-4.5
 #[cfg(feature = "alloc")]
 pub fn extlang_form(tag: LangTag<'_>) -> Result<LangTagBuf, AllocError> {
     match canonical(tag)?.into_normal() {
@@ -39,7 +51,7 @@ fn with_prefix(mut form: NormalLangTagBuf) -> Result<NormalLangTagBuf, AllocErro
     Ok(form)
 }
 
-/// Returns the text of a language after its prefix, where it is an extended one, too: `zh-hak` of `hak`.
+/// Returns the text of a language after its prefix, where it is an extended one, too: `zh-hak` for `hak`.
 #[cfg(feature = "alloc")]
 fn prefixed_language(language: Language<'_>) -> Result<Option<String>, AllocError> {
     if is_full(language) {

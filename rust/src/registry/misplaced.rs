@@ -10,12 +10,27 @@ use crate::registry::tables::VARIANT_PREFIXES;
 use crate::scan::folded_number;
 use crate::tag::{LangTag, NormalLangTag};
 
-/// Returns the first variant of a tag that stands after none of its prefixes (the field Prefix, RFC 5646 section 3.1.8):
-/// `nedis` of `fr-nedis`, as it goes with `sl`, and `1994` of `sl-1994-rozaj`, as it goes with `sl-rozaj`. None of
-/// `sl-IT-nedis`, and of `fr-fonipa`, as `fonipa` goes with every language.
+/// Returns the first variant of a tag that follows none of its prefixes (the field Prefix, [RFC 5646 section 3.1.8]):
+/// `nedis` in `fr-nedis`, because its prefix is `sl`, and `1994` in `sl-1994-rozaj`, because its prefix is `sl-rozaj`.
+/// Returns `None` for `sl-IT-nedis`, and for `fr-fonipa`, because `fonipa` has no prefix.
 ///
-/// A prefix matches what stands before the variant by extended filtering (RFC 4647 section 3.3.2). The RFC recommends that
-/// one does, and a tag is valid without. No memory is taken. The time may grow with the square of the number of variants.
+/// A prefix is compared with the subtags before the variant by extended filtering ([RFC 4647 section 3.3.2]). The RFC
+/// only recommends prefixes, so a tag without them is valid. It does not allocate. The time may be quadratic in the
+/// number of variants.
+///
+/// ```
+/// # fn main() -> Result<(), Box<dyn std::error::Error>> {
+/// use langtag::NormalLangTag;
+/// use langtag::registry::misplaced_variant;
+///
+/// assert_eq!(misplaced_variant(NormalLangTag::new("fr-nedis")?).map(|variant| variant.as_str()), Some("nedis"));
+/// assert!(misplaced_variant(NormalLangTag::new("sl-IT-nedis")?).is_none());
+/// # Ok(())
+/// # }
+/// ```
+///
+/// [RFC 5646 section 3.1.8]: https://www.rfc-editor.org/rfc/rfc5646#section-3.1.8
+/// [RFC 4647 section 3.3.2]: https://www.rfc-editor.org/rfc/rfc4647#section-3.3.2
 pub fn misplaced_variant<'a>(tag: NormalLangTag<'a>) -> Option<Variant<'a>> {
     let mut end = tag.ends().region;
     for variant in tag.variants().iter() {
@@ -27,10 +42,23 @@ pub fn misplaced_variant<'a>(tag: NormalLangTag<'a>) -> Option<Variant<'a>> {
     None
 }
 
-/// Returns the extended language of a tag that stands after another language than its prefix (the field Prefix, RFC 5646
-/// section 3.1.8): `yue` of `de-yue`, as it goes with `zh`. None of `zh-yue`, and of `zh-fra`, as `fra` is not registered.
+/// Returns the extended language of a tag if it follows a language other than its prefix (the field Prefix,
+/// [RFC 5646 section 3.1.8]): `yue` in `de-yue`, because its prefix is `zh`. Returns `None` for `zh-yue`, and for
+/// `zh-fra`, because `fra` is not registered.
 ///
-/// A tag is valid without its prefix. A second extended language, which no valid tag has, is not looked at.
+/// A tag is valid without its prefix. A second extended language, which no valid tag has, is ignored.
+///
+/// ```
+/// # fn main() -> Result<(), Box<dyn std::error::Error>> {
+/// use langtag::NormalLangTag;
+/// use langtag::registry::misplaced_extlang;
+///
+/// assert_eq!(misplaced_extlang(NormalLangTag::new("de-yue")?).map(|extended| extended.as_str()), Some("yue"));
+/// # Ok(())
+/// # }
+/// ```
+///
+/// [RFC 5646 section 3.1.8]: https://www.rfc-editor.org/rfc/rfc5646#section-3.1.8
 pub fn misplaced_extlang<'a>(tag: NormalLangTag<'a>) -> Option<ExtendedLangTag<'a>> {
     let language = tag.language();
     let mut extlangs = language.extension_subtags();

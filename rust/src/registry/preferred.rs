@@ -11,8 +11,20 @@ use crate::registry::tables::{
 use crate::scan::{case_insensitive_eq, folded_number};
 use crate::tag::LangTag;
 
-/// Returns the region that stands for another today (its Preferred-Value, RFC 5646 section 3.1.7): `MM` for `BU`. None for
-/// `MM`, and for what is not registered.
+/// Returns the region that replaces a deprecated one (the field Preferred-Value, [RFC 5646 section 3.1.7]): `MM` for
+/// `BU`. Returns `None` for `MM`, and for regions that are not registered.
+///
+/// ```
+/// # fn main() -> Result<(), Box<dyn std::error::Error>> {
+/// use langtag::Region;
+/// use langtag::registry::preferred_region;
+///
+/// assert_eq!(preferred_region(Region::new("BU")?).map(|region| region.as_str()), Some("MM"));
+/// # Ok(())
+/// # }
+/// ```
+///
+/// [RFC 5646 section 3.1.7]: https://www.rfc-editor.org/rfc/rfc5646#section-3.1.7
 pub fn preferred_region(region: Region<'_>) -> Option<Region<'static>> {
     match value_of(
         &PREFERRED_REGION_KEYS,
@@ -24,8 +36,20 @@ pub fn preferred_region(region: Region<'_>) -> Option<Region<'static>> {
     }
 }
 
-/// Returns the variant that stands for another today (its Preferred-Value, RFC 5646 section 3.1.7): `alalc97` for `heploc`.
-/// None for `alalc97`, and for what is not registered.
+/// Returns the variant that replaces a deprecated one (the field Preferred-Value, [RFC 5646 section 3.1.7]): `alalc97`
+/// for `heploc`. Returns `None` for `alalc97`, and for variants that are not registered.
+///
+/// ```
+/// # fn main() -> Result<(), Box<dyn std::error::Error>> {
+/// use langtag::Variant;
+/// use langtag::registry::preferred_variant;
+///
+/// assert_eq!(preferred_variant(Variant::new("heploc")?).map(|variant| variant.as_str()), Some("alalc97"));
+/// # Ok(())
+/// # }
+/// ```
+///
+/// [RFC 5646 section 3.1.7]: https://www.rfc-editor.org/rfc/rfc5646#section-3.1.7
 pub fn preferred_variant(variant: Variant<'_>) -> Option<Variant<'static>> {
     match value_of(
         &PREFERRED_VARIANT_KEYS,
@@ -37,9 +61,21 @@ pub fn preferred_variant(variant: Variant<'_>) -> Option<Variant<'static>> {
     }
 }
 
-/// Returns the tag that stands for a grandfathered or redundant tag as a whole today (its Preferred-Value, RFC 5646 section
-/// 3.1.7): `jbo` for `art-lojban`, `gsg` for `sgn-DE`. None for `zh-min`, which has no Preferred-Value, and for what is not
-/// registered as a whole, as `sgn-DE-x-a`.
+/// Returns the tag that replaces a whole grandfathered or redundant tag (the field Preferred-Value,
+/// [RFC 5646 section 3.1.7]): `jbo` for `art-lojban`, `gsg` for `sgn-DE`. Returns `None` for `zh-min`, which has no
+/// Preferred-Value, and for tags that are not registered as a whole, such as `sgn-DE-x-a`.
+///
+/// ```
+/// # fn main() -> Result<(), Box<dyn std::error::Error>> {
+/// use langtag::LangTag;
+/// use langtag::registry::preferred_tag;
+///
+/// assert_eq!(preferred_tag(LangTag::new("art-lojban")?).map(|tag| tag.as_str()), Some("jbo"));
+/// # Ok(())
+/// # }
+/// ```
+///
+/// [RFC 5646 section 3.1.7]: https://www.rfc-editor.org/rfc/rfc5646#section-3.1.7
 #[inline]
 pub fn preferred_tag(tag: LangTag<'_>) -> Option<LangTag<'static>> {
     preferred_for(tag.as_bytes())

@@ -2,7 +2,7 @@
 
 //! The registry in tables. Written by registry/generate.py from the registry of 2025-08-25. Do not edit.
 
-/// The File-Date of the registry that this crate has (RFC 5646 section 3.1.1).
+/// The File-Date of the registry in this crate (RFC 5646 section 3.1.1).
 pub const FILE_DATE: &str = "2025-08-25";
 
 /// The languages: a bit for each text of two letters and then of three, in the order of the alphabet, from the lowest

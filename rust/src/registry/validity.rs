@@ -11,14 +11,14 @@ use crate::registry::subtags::{
 };
 use crate::tag::{is_among_first, LangTag, NormalLangTag};
 
-/// Returns whether a tag is valid by the registry (RFC 5646 section 2.2.9): well-formed, and either grandfathered, or
-/// with a registered language, script, region and variants, at most one extended language, which is registered too, and
-/// no variant or singleton twice. `fr-FR`, the grandfathered `zh-min` and `x-qt` are Ok. Whether a variant stands after
-/// one of its prefixes is not asked. It is proved which faults are equal, and that a clone of one is the same.
+/// Checks whether a tag is valid by the registry ([RFC 5646 section 2.2.9]). All its subtags must be registered. It must
+/// have at most one extended language, and no variant or singleton twice. Grandfathered and private-use tags are valid:
+/// `fr-FR`, `zh-min` and `x-qt` are `Ok`. Prefixes of variants do not matter. It is proved which errors are equal, and
+/// that a clone is the same value.
 ///
 /// # Errors
 ///
-/// The first invalid subtag by its place in the tag: the language `qt` of `qt-FQ`.
+/// Returns the first invalid subtag of the tag: the language `qt` in `qt-FQ`.
 ///
 /// ```
 /// # fn main() -> Result<(), Box<dyn std::error::Error>> {
@@ -30,6 +30,8 @@ use crate::tag::{is_among_first, LangTag, NormalLangTag};
 /// # Ok(())
 /// # }
 /// ```
+///
+/// [RFC 5646 section 2.2.9]: https://www.rfc-editor.org/rfc/rfc5646#section-2.2.9
 #[inline]
 pub fn validate<'a>(tag: LangTag<'a>) -> Result<(), InvalidSubtag<'a>> {
     match fault_at(tag) {
@@ -38,9 +40,20 @@ pub fn validate<'a>(tag: LangTag<'a>) -> Result<(), InvalidSubtag<'a>> {
     }
 }
 
-/// Returns the fault for which [`validate`] refuses a tag, and where it stands among its like: which of the variants it is,
-/// or which of the extensions has the repeated singleton, counted from 0, as the variant `1996` and 1 of `de-1996-1996`; and
-/// 0 with a subtag of another kind. None of a valid tag. No memory is taken.
+/// Returns the error that [`validate`] would return, and an index, or `None` for a valid tag. The index counts from 0
+/// among the variants, or among the extensions for a repeated singleton: for `de-1996-1996` it is 1. For other subtags
+/// it is 0. It does not allocate.
+///
+/// ```
+/// # fn main() -> Result<(), Box<dyn std::error::Error>> {
+/// use langtag::LangTag;
+/// use langtag::registry::fault_at;
+///
+/// assert_eq!(fault_at(LangTag::new("de-1996-1996")?).map(|(_, index)| index), Some(1));
+/// assert!(fault_at(LangTag::new("de-1996")?).is_none());
+/// # Ok(())
+/// # }
+/// ```
 pub fn fault_at<'a>(tag: LangTag<'a>) -> Option<(InvalidSubtag<'a>, usize)> {
     let Some(normal) = tag.as_normal() else {
         return None;

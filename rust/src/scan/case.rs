@@ -1,30 +1,35 @@
 // Made by rust/erase from crates/langtag_scan/src/case.rt. Change that file, not this one.
 
-//! The case of ASCII letters, to which tags are indifferent (RFC 5646 section 2.1.1): texts are compared and hashed by
-//! their folded bytes, in which each capital letter is small. Nothing else is folded, so `[` and `{` stay apart.
+//! The case of ASCII letters, which tags ignore (RFC 5646 section 2.1.1). Texts are compared and hashed by their folded
+//! bytes, in which each ASCII letter is lowercase. Nothing else is folded, so `[` and `{` differ.
 
 use core::cmp::Ordering;
 use core::hash::Hasher;
 
-/// Returns the fold of a byte (RFC 5646 section 2.1.1): the small letter of an ASCII capital, and any other byte as it
-/// stands.
+/// Returns a byte in lowercase if it is an ASCII letter, and any other byte unchanged ([RFC 5646 section 2.1.1]).
 ///
 /// `into_smallcase(b'L')` is `b'l'`, and `into_smallcase(b'[')` is `b'['`.
+///
+/// [RFC 5646 section 2.1.1]: https://www.rfc-editor.org/rfc/rfc5646#section-2.1.1
 #[inline]
 pub fn into_smallcase(c: u8) -> u8 {
     c.to_ascii_lowercase()
 }
 
-/// Returns whether two texts are equal but for the case of ASCII letters (RFC 5646 section 2.1.1).
+/// Returns whether two texts are equal, ignoring the case of ASCII letters ([RFC 5646 section 2.1.1]).
 ///
-/// `case_insensitive_eq(b"zh-Latn", b"ZH-LATN")` is true.
+/// `case_insensitive_eq(b"zh-Latn", b"ZH-LATN")` is `true`.
+///
+/// [RFC 5646 section 2.1.1]: https://www.rfc-editor.org/rfc/rfc5646#section-2.1.1
 #[inline]
 pub fn case_insensitive_eq(a: &[u8], b: &[u8]) -> bool {
     a.eq_ignore_ascii_case(b)
 }
 
-/// Compares two texts by their folded bytes (RFC 5646 section 2.1.1). Where one begins the other, the shorter is the
-/// greater: `case_insensitive_cmp(b"zh", b"zh-Latn")` is Greater.
+/// Compares two texts by their lowercase bytes ([RFC 5646 section 2.1.1]). If one begins the other, the shorter is
+/// greater: `case_insensitive_cmp(b"zh", b"zh-Latn")` is `Greater`.
+///
+/// [RFC 5646 section 2.1.1]: https://www.rfc-editor.org/rfc/rfc5646#section-2.1.1
 pub fn case_insensitive_cmp(a: &[u8], b: &[u8]) -> Ordering {
     for (x, y) in a.iter().zip(b) {
         let order = into_smallcase(*x).cmp(&into_smallcase(*y));
@@ -35,10 +40,12 @@ pub fn case_insensitive_cmp(a: &[u8], b: &[u8]) -> Ordering {
     b.len().cmp(&a.len())
 }
 
-/// Feeds a hasher the folded bytes (RFC 5646 section 2.1.1), each by a write of its own, and nothing else: neither how
-/// many there are nor that they have ended.
+/// Feeds a hasher the lowercase bytes ([RFC 5646 section 2.1.1]), each in a separate write, and nothing else: neither
+/// their number nor an end.
 ///
-/// Of `b"FR"` it is fed `b'f'`, then `b'r'`.
+/// For `b"FR"` it writes `b'f'` and then `b'r'`.
+///
+/// [RFC 5646 section 2.1.1]: https://www.rfc-editor.org/rfc/rfc5646#section-2.1.1
 #[inline]
 pub fn case_insensitive_hash<H: Hasher>(bytes: &[u8], hasher: &mut H) {
     for byte in bytes {
@@ -46,11 +53,13 @@ pub fn case_insensitive_hash<H: Hasher>(bytes: &[u8], hasher: &mut H) {
     }
 }
 
-/// Returns the folded bytes (RFC 5646 section 2.1.1) of a text of at most eight as the digits of one number, in base 256:
-/// `folded_number(b"FR")` is 26,226, which is 256 times `b'f'` and `b'r'`.
+/// Returns the lowercase bytes ([RFC 5646 section 2.1.1]) of a text of at most eight bytes as the digits of a number in
+/// base 256: `folded_number(b"FR")` is 26,226, which is 256 times `b'f'` plus `b'r'`.
 ///
-/// It is proved that of two texts of letters and digits, as subtags are, the numbers are equal where the texts are but
-/// for the case of letters.
+/// It is proved that the numbers of two texts of letters and digits, such as subtags, are equal if the texts are equal,
+/// ignoring case.
+///
+/// [RFC 5646 section 2.1.1]: https://www.rfc-editor.org/rfc/rfc5646#section-2.1.1
 #[inline]
 pub fn folded_number(bytes: &[u8]) -> u64 {
     let mut number = 0;

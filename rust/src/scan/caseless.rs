@@ -7,11 +7,13 @@ use crate::shim::AsStr;
 use core::cmp::Ordering;
 use core::hash::{Hash, Hasher};
 
-/// A text, lent (`&str`) or owned (`String`), whose `==`, order and hash ignore the case of ASCII letters (RFC 5646
-/// section 2.1.1) by the functions of this crate of like name: `Caseless("zh-Latn") == Caseless("ZH-LATN")`.
+/// A text, borrowed (`&str`) or owned (`String`), whose comparisons and hash ignore the case of ASCII letters
+/// ([RFC 5646 section 2.1.1]): `Caseless("zh-Latn") == Caseless("ZH-LATN")`.
 ///
 /// The text keeps its case. A type that holds one derives `PartialEq`, `Eq`, `PartialOrd`, `Ord` and `Hash` over it, as
 /// each text type of the crates above does.
+///
+/// [RFC 5646 section 2.1.1]: https://www.rfc-editor.org/rfc/rfc5646#section-2.1.1
 #[derive(Clone, Copy)]
 pub struct Caseless<T>(pub T);
 

@@ -17,9 +17,9 @@ pub(crate) fn is_alphanumeric(byte: u8) -> bool {
     is_letter(byte) || is_digit(byte)
 }
 
-/// Returns whether each byte is a letter; of no bytes it is true.
+/// Returns whether each byte is an ASCII letter. It is `true` for no bytes.
 ///
-/// `are_letters(b"zh")` is true, and `are_letters(b"z4")` is false.
+/// `are_letters(b"zh")` is `true`, and `are_letters(b"z4")` is `false`.
 #[inline]
 pub fn are_letters(bytes: &[u8]) -> bool {
     bytes.iter().all(|byte| is_letter(*byte))
@@ -45,7 +45,7 @@ fn starts_with_digit(bytes: &[u8]) -> bool {
 
 /// Returns whether the bytes are a primary language subtag (section 2.2.1): two to eight letters.
 ///
-/// `is_primary(b"zh")` is true, and `is_primary(b"z")` and `is_primary(b"z4")` are false.
+/// `is_primary(b"zh")` is `true`, and `is_primary(b"z")` and `is_primary(b"z4")` are `false`.
 #[inline]
 pub fn is_primary(bytes: &[u8]) -> bool {
     bytes.len() >= 2 && bytes.len() <= 8 && are_letters(bytes)
@@ -53,7 +53,7 @@ pub fn is_primary(bytes: &[u8]) -> bool {
 
 /// Returns whether the bytes are an extended language subtag (section 2.2.2): three letters.
 ///
-/// `is_extended(b"min")` is true, and `is_extended(b"419")` is false.
+/// `is_extended(b"min")` is `true`, and `is_extended(b"419")` is `false`.
 #[inline]
 pub fn is_extended(bytes: &[u8]) -> bool {
     bytes.len() == 3 && are_letters(bytes)
@@ -61,7 +61,7 @@ pub fn is_extended(bytes: &[u8]) -> bool {
 
 /// Returns whether the bytes are a script subtag (section 2.2.3): four letters.
 ///
-/// `is_script(b"Latn")` is true, and `is_script(b"1694")` is false.
+/// `is_script(b"Latn")` is `true`, and `is_script(b"1694")` is `false`.
 #[inline]
 pub fn is_script(bytes: &[u8]) -> bool {
     bytes.len() == 4 && are_letters(bytes)
@@ -69,7 +69,7 @@ pub fn is_script(bytes: &[u8]) -> bool {
 
 /// Returns whether the bytes are a region subtag (section 2.2.4): two letters, or three digits.
 ///
-/// `is_region(b"FR")` and `is_region(b"419")` are true, and `is_region(b"4F")` is false.
+/// `is_region(b"FR")` and `is_region(b"419")` are `true`, and `is_region(b"4F")` is `false`.
 #[inline]
 pub fn is_region(bytes: &[u8]) -> bool {
     (bytes.len() == 2 && are_letters(bytes)) || (bytes.len() == 3 && are_digits(bytes))
@@ -78,7 +78,7 @@ pub fn is_region(bytes: &[u8]) -> bool {
 /// Returns whether the bytes are a variant subtag (section 2.2.5): five to eight letters and digits, or four of which
 /// the first is a digit.
 ///
-/// `is_variant(b"rozaj")` and `is_variant(b"1694")` are true, and `is_variant(b"Latn")` is false.
+/// `is_variant(b"rozaj")` and `is_variant(b"1694")` are `true`, and `is_variant(b"Latn")` is `false`.
 pub fn is_variant(bytes: &[u8]) -> bool {
     (bytes.len() >= 5 && bytes.len() <= 8 && are_alphanumeric(bytes))
         || (bytes.len() == 4 && are_alphanumeric(bytes) && starts_with_digit(bytes))
@@ -86,7 +86,7 @@ pub fn is_variant(bytes: &[u8]) -> bool {
 
 /// Returns whether the bytes are a subtag of an extension (section 2.2.6): two to eight letters and digits.
 ///
-/// `is_extension_subtag(b"co")` is true, and `is_extension_subtag(b"c")` is false.
+/// `is_extension_subtag(b"co")` is `true`, and `is_extension_subtag(b"c")` is `false`.
 #[inline]
 pub fn is_extension_subtag(bytes: &[u8]) -> bool {
     bytes.len() >= 2 && bytes.len() <= 8 && are_alphanumeric(bytes)
@@ -94,24 +94,24 @@ pub fn is_extension_subtag(bytes: &[u8]) -> bool {
 
 /// Returns whether the bytes are a private use subtag (section 2.2.7): one to eight letters and digits.
 ///
-/// `is_private_subtag(b"a")` is true, and `is_private_subtag(b"")` is false.
+/// `is_private_subtag(b"a")` is `true`, and `is_private_subtag(b"")` is `false`.
 #[inline]
 pub fn is_private_subtag(bytes: &[u8]) -> bool {
     !bytes.is_empty() && bytes.len() <= 8 && are_alphanumeric(bytes)
 }
 
-/// Returns whether the byte opens a private use part (section 2.2.7): `x` or `X`.
+/// Returns whether the byte begins a private use part (section 2.2.7): `x` or `X`.
 ///
-/// `is_mark(b'X')` is true, and `is_mark(b'u')` is false.
+/// `is_mark(b'X')` is `true`, and `is_mark(b'u')` is `false`.
 #[inline]
 pub fn is_mark(byte: u8) -> bool {
     byte == b'x' || byte == b'X'
 }
 
-/// Returns whether the byte is a singleton (section 2.2.6), which opens an extension: a letter or digit other than `x`
+/// Returns whether the byte is a singleton (section 2.2.6), which begins an extension: a letter or digit other than `x`
 /// and `X`.
 ///
-/// `is_singleton(b'u')` and `is_singleton(b'1')` are true, and `is_singleton(b'X')` is false.
+/// `is_singleton(b'u')` and `is_singleton(b'1')` are `true`, and `is_singleton(b'X')` is `false`.
 #[inline]
 pub fn is_singleton(byte: u8) -> bool {
     is_alphanumeric(byte) && !is_mark(byte)

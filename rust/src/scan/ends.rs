@@ -2,11 +2,11 @@
 
 //! Where the parts of a normal tag end.
 
-/// The end of each part of a normal tag, or, where a part is absent, of the part before: offsets in bytes from
-/// the start of the text, each one past the last byte (RFC 5646 section 2.1).
+/// The end of each part of a normal tag (RFC 5646 section 2.1). Each is an offset in bytes from the start of the text,
+/// just after the part. If a part is absent, its end is that of the part before.
 ///
-/// The language begins at 0. Any other part that is there begins one past the end of the part before, after a
-/// hyphen. In `en-Latn-x-a` the ends are 2, 7, 7, 7, 7 and 11, in the order of the fields.
+/// The language begins at 0. Any other part begins after the hyphen that follows the part before. In `en-Latn-x-a` the
+/// ends are 2, 7, 7, 7, 7 and 11, in the order of the fields.
 ///
 /// ```
 /// use langtag::{Metered, recognise};
@@ -26,21 +26,21 @@ pub struct Ends {
     pub variants: usize,
     /// The end of the last extension: 10 in `de-u-co-eo-x-a`, and 2 in `de-x-a`.
     pub extensions: usize,
-    /// The length of the text, which is the end of the private use part where there is one: 6 in `de-x-a`.
+    /// The length of the text, which is also the end of the private use part: 6 in `de-x-a`.
     pub whole: usize,
 }
 
 /// Where each part of a tag has ended so far, in the order of [`Ends`]: 0 if it has not.
 pub(crate) struct Marks {
-    /// The last place takes what is no end, so that each byte sets one, without a test.
-    places: [usize; 7],
+    /// The last place takes what is no end, and that of private use, so that each byte sets one, without a test.
+    places: [usize; 6],
 }
 
 impl Marks {
     /// Before the first byte.
     #[inline(always)]
     pub(crate) fn new() -> Self {
-        Marks { places: [0; 7] }
+        Marks { places: [0; 6] }
     }
 
     /// Sets the end of a part.

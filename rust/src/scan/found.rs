@@ -5,11 +5,10 @@
 use crate::scan::ends::Ends;
 use crate::scan::finding::Finding;
 
-/// What a recogniser found of a text that is a tag (RFC 5646 section 2.1): which of the three kinds it is, with
-/// the ends of the parts of a normal tag, and the index in the table of an irregular one.
+/// What [`recognise`](crate::recognise) finds in a tag ([RFC 5646 section 2.1]): its kind, with the ends of the parts of
+/// a normal tag, or the index of an irregular one.
 ///
-/// `recognise(&mut Metered::new("x-a"))` is Some of one whose `is_private_use()` is true. It holds no text: a type that keeps
-/// both, as the tag types do, has to know that they belong together.
+/// For `x-a`, `is_private_use()` is `true`. It does not contain the text.
 ///
 /// ```
 /// use langtag::{Metered, recognise};
@@ -17,28 +16,28 @@ use crate::scan::finding::Finding;
 /// let found = recognise(&mut Metered::new("x-a"));
 /// assert!(found.is_some_and(|found| found.is_private_use()));
 /// ```
+///
+/// [RFC 5646 section 2.1]: https://www.rfc-editor.org/rfc/rfc5646#section-2.1
 #[derive(Clone, Copy)]
 pub struct Found {
     pub(crate) finding: Finding,
 }
 
 impl Found {
-    /// Returns whether the text is a normal tag. The regular grandfathered tags are: true of `zh-min`, false of `i-lux`
-    /// and `x-a`.
+    /// Returns whether the text is a normal tag: `true` for `zh-min`, which is regular, `false` for `i-lux` and `x-a`.
     #[inline]
     pub fn is_normal(&self) -> bool {
         matches!(self.finding, Finding::Normal(_))
     }
 
-    /// Returns whether the text is a private use tag (section 2.2.7), which has a mark and private use subtags alone:
-    /// true of `x-a`, false of `fr-x-a`.
+    /// Returns whether the text is a private-use tag (section 2.2.7): `true` for `x-a`, `false` for `fr-x-a`.
     #[inline]
     pub fn is_private_use(&self) -> bool {
         matches!(self.finding, Finding::PrivateUse)
     }
 
-    /// Returns the index in the table of an irregular grandfathered tag (section 2.2.8): 0 to 16, in the order in which
-    /// section 2.1 lists them. It is Some(1) of `i-AMI`, and None of `zh-min`, which is regular.
+    /// Returns the index of an irregular grandfathered tag (section 2.2.8), from 0 to 16 in the order of section 2.1:
+    /// `Some(1)` for `i-AMI`, and `None` for `zh-min`, which is regular.
     #[inline]
     pub fn irregular(&self) -> Option<usize> {
         match self.finding {
@@ -47,8 +46,8 @@ impl Found {
         }
     }
 
-    /// Returns the ends of the parts of a normal tag (section 2.1): of `fr-FR`, language 2 and all others 5. It is None
-    /// of `x-a`. It is proved that a clone of ends, and of a `Found`, is the value itself.
+    /// Returns the ends of the parts of a normal tag (section 2.1): in `fr-FR`, the language ends at 2, and all other
+    /// ends are 5. Returns `None` for `x-a`. It is proved that a clone of the ends, or of a `Found`, is the same value.
     #[inline]
     pub fn ends(&self) -> Option<Ends> {
         match self.finding {

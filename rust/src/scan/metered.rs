@@ -4,8 +4,8 @@
 
 use crate::scan::source::ByteSource;
 
-/// The bytes of a text, or any others, with a count of the reads, to show how much of them is read to recognise a tag (RFC
-/// 5646 section 2.1). There is no other way to them.
+/// Bytes with a count of the reads, which shows how much of a text [`recognise`](crate::recognise) reads. They can be
+/// read only through [`ByteSource`].
 ///
 /// ```
 /// use langtag::{ByteSource, Metered, recognise};
@@ -23,13 +23,14 @@ pub struct Metered<'a> {
 }
 
 impl<'a> Metered<'a> {
-    /// Returns the bytes of a text, of which none was read yet: `Metered::new("fr").reads()` is 0.
+    /// Returns the bytes of a text, with no reads yet: `Metered::new("fr").reads()` is 0.
     #[inline]
     pub fn new(text: &'a str) -> Self {
         Metered::of_bytes(text.as_bytes())
     }
 
-    /// Returns bytes that need not be UTF-8, of which none was read yet: `Metered::of_bytes(b"fr\xFF").len()` is 3.
+    /// Returns a source over bytes, which need not be UTF-8, with no reads yet: `Metered::of_bytes(b"fr\xFF").len()` is
+    /// 3.
     #[inline]
     pub fn of_bytes(bytes: &'a [u8]) -> Self {
         Metered::followed(bytes, b"")

@@ -2,8 +2,8 @@
 
 //! Where a recogniser reads its bytes from, one by one, with a count of the reads.
 
-/// A list of bytes that are read one at a time, by index. It counts the reads and how far they reached, so that one can
-/// prove that no byte too many was read.
+/// A source of bytes, read one at a time by index. It counts the reads and how far they reached, to prove that no byte
+/// is read without need.
 ///
 /// Indices are counted in bytes from 0. A source may hold its bytes, or compute them.
 ///

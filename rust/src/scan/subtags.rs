@@ -4,10 +4,10 @@
 
 use crate::scan::segment::{segment_end, segment_start};
 
-/// The subtags of a text that are still to come, from either end: slices of the text, none of which holds a hyphen.
+/// An iterator over the subtags of a text, from either end. Each is a slice of the text without hyphens.
 ///
-/// Beside a hyphen at an end of the text, and between two hyphens in a row, stands an empty subtag, which is returned
-/// like any other: `a--b-` has the subtags `a`, the empty one, `b` and the empty one again.
+/// A hyphen at an end of the text, and two hyphens in a row, give an empty subtag: `a--b-` has `a`, an empty subtag,
+/// `b` and another empty one.
 ///
 /// ```
 /// # fn main() -> Result<(), Box<dyn std::error::Error>> {
@@ -25,7 +25,7 @@ pub struct Subtags<'a> {
 }
 
 impl<'a> Subtags<'a> {
-    /// Returns all subtags of a text. `Subtags::new("fr-FR")` has `fr` and `FR`, and `Subtags::new("")` has none.
+    /// Returns an iterator over all subtags of a text: `fr` and `FR` for `fr-FR`, and nothing for the empty text.
     #[inline]
     pub fn new(text: &'a str) -> Self {
         if text.is_empty() {

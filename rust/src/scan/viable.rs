@@ -6,16 +6,19 @@ use crate::scan::metered::Metered;
 use crate::scan::recogniser::recognise;
 use crate::scan::source::ByteSource;
 
-/// Returns the length in bytes of the longest prefix with which some tag begins (RFC 5646 section 2.1).
+/// Returns the length in bytes of the longest prefix with which some tag begins ([RFC 5646 section 2.1]), for example to
+/// complete what a user types.
 ///
-/// In bytes that are no tag, it is the index of the first wrong byte, or their number where they end too soon: of `zh_Hant`
-/// it is 2, of `i-notexist` 3, of `de-x` 4 and of nothing 0. Of a tag it is the length. It takes no memory.
+/// For a tag it is the whole length. Otherwise it is the index of the first wrong byte, or the length if the bytes end
+/// too soon: 2 for `zh_Hant`, 3 for `i-notexist`, 4 for `de-x` and 0 for no bytes. It does not allocate.
+///
+/// [RFC 5646 section 2.1]: https://www.rfc-editor.org/rfc/rfc5646#section-2.1
 #[inline]
 pub fn viable_len(bytes: &[u8]) -> usize {
     len_before_stop(&mut Metered::followed(bytes, b"\xFF"))
 }
 
-/// Returns the same of the bytes and a hyphen after them, which shows whether another subtag may follow: of `zh` it is 3.
+/// Returns the same for the bytes followed by a hyphen, which shows whether another subtag may follow: 3 for `zh`.
 #[inline]
 pub fn viable_len_with_hyphen(bytes: &[u8]) -> usize {
     len_before_stop(&mut Metered::followed(bytes, b"-\xFF"))

@@ -6,7 +6,7 @@
 use crate::shim::AllocError;
 use core::fmt;
 
-/// Why a part was not put into a tag, or taken out of it. The tag is as it was.
+/// The error of a setter: why a part was neither put into a tag nor removed from it. The tag is unchanged.
 ///
 /// ```
 /// # fn main() -> Result<(), Box<dyn std::error::Error>> {
@@ -20,9 +20,9 @@ use core::fmt;
 #[cfg(feature = "alloc")]
 #[derive(Clone, Copy, Debug, PartialEq, Eq)]
 pub enum EditError {
-    /// The tag is not a normal one, and has no parts (RFC 5646 section 2.1): `x-a` and `i-klingon` are refused so.
+    /// The tag is not a normal one, such as `x-a` or `i-klingon`, and so has no parts (RFC 5646 section 2.1).
     NotNormal,
-    /// Out of memory.
+    /// Allocation failed.
     Memory(AllocError),
 }
 

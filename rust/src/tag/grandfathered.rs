@@ -7,7 +7,7 @@ use crate::scan::case_insensitive_eq;
 use crate::tag::lang_tag::LangTag;
 use core::fmt;
 
-/// Bytes that are no grandfathered tag. It hands them back.
+/// The error for bytes that are not a grandfathered tag. It contains the bytes.
 ///
 /// ```
 /// use langtag::GrandfatheredLangTag;
@@ -27,11 +27,11 @@ impl<T> fmt::Display for InvalidGrandfatheredTag<T> {
 
 impl<T: fmt::Debug> core::error::Error for InvalidGrandfatheredTag<T> {}
 
-/// A grandfathered tag: one of the 26 that were registered before the grammar (RFC 5646 section 2.2.8), in the order in
-/// which section 2.1 lists them. The first seventeen are irregular: no rule but their own admits them. The nine regular
+/// A grandfathered tag: one of the 26 tags that were registered before the present grammar ([RFC 5646 section 2.2.8]), in
+/// the order of section 2.1. The first 17 are irregular: they do not follow the grammar of other tags. The nine regular
 /// ones, from `art-lojban` on, are normal tags too.
 ///
-/// They are compared, ordered and hashed by where they stand in this declaration.
+/// Comparisons and hashes use the position in this declaration.
 ///
 /// ```
 /// use langtag::GrandfatheredLangTag;
@@ -39,6 +39,8 @@ impl<T: fmt::Debug> core::error::Error for InvalidGrandfatheredTag<T> {}
 /// let tag = GrandfatheredLangTag::new(b"I-KLINGON");
 /// assert_eq!(tag.map(|tag| tag.as_str()), Ok("i-klingon"));
 /// ```
+///
+/// [RFC 5646 section 2.2.8]: https://www.rfc-editor.org/rfc/rfc5646#section-2.2.8
 #[derive(Clone, Copy, Debug, PartialEq, Eq, PartialOrd, Ord, Hash)]
 pub enum GrandfatheredLangTag {
     /// `en-GB-oed`, English, by the spelling of the Oxford English Dictionary.
@@ -47,7 +49,7 @@ pub enum GrandfatheredLangTag {
     IAmi,
     /// `i-bnn`, Bunun.
     IBnn,
-    /// `i-default`, the language of messages where none is known.
+    /// `i-default`, the language of messages if no language is known.
     IDefault,
     /// `i-enochian`, Enochian.
     IEnochian,
@@ -126,15 +128,20 @@ pub const GRANDFATHERED: [GrandfatheredLangTag; 26] = [
 ];
 
 impl GrandfatheredLangTag {
-    /// Returns the grandfathered tag with these bytes, in any case: `GrandfatheredLangTag::new(b"I-AMI")` is
-    /// `Ok(GrandfatheredLangTag::IAmi)`.
+    /// Returns the grandfathered tag with these bytes, ignoring case.
     ///
-    /// It is proved that no bytes equal two of them, ignoring case, that all of them are tags, that they compare and
-    /// are hashed as their indices, that a clone is the value itself, and that [`GRANDFATHERED`] has each at its index.
+    /// It is proved that no two of them are equal, ignoring case, that all are tags, that they compare and hash as
+    /// their indices do, that a clone is the same value, and that [`GRANDFATHERED`] has each at its index.
     ///
     /// # Errors
     ///
-    /// Bytes that are no such tag come back, the same slice: `b"fr"` does.
+    /// Returns the same slice if it is not a grandfathered tag, such as `b"fr"`.
+    ///
+    /// ```
+    /// use langtag::GrandfatheredLangTag;
+    ///
+    /// assert_eq!(GrandfatheredLangTag::new(b"I-AMI"), Ok(GrandfatheredLangTag::IAmi));
+    /// ```
     #[inline]
     pub fn new(bytes: &[u8]) -> Result<Self, &[u8]> {
         match first_alike(&GRANDFATHERED, bytes) {
@@ -181,27 +188,33 @@ impl GrandfatheredLangTag {
         }
     }
 
-    /// Returns the primary language of a regular tag: `zh` of `zh-min-nan`. An irregular one has none: None of `i-lux`.
+    /// Returns the primary language of a regular tag: `zh` for `zh-min-nan`. An irregular one has none: `None` for
+    /// `i-lux`.
     #[inline]
     pub fn language(&self) -> Option<Language<'static>> {
         let language = self.registered().1?;
         Some(Language::from_checked(language))
     }
 
-    /// Returns the registered spelling: `sgn-BE-FR` of `GrandfatheredLangTag::SgnBeFr`.
+    /// Returns the registered spelling: `sgn-BE-FR` for `GrandfatheredLangTag::SgnBeFr`.
     #[inline]
     pub fn as_str(&self) -> &'static str {
         self.registered().0
     }
 
-    /// Returns the tag with the registered spelling: `GrandfatheredLangTag::ILux.as_lang_tag().kind()` is
-    /// `Kind::Grandfathered`.
+    /// Returns the tag with the registered spelling.
+    ///
+    /// ```
+    /// use langtag::{GrandfatheredLangTag, Kind};
+    ///
+    /// assert_eq!(GrandfatheredLangTag::ILux.as_lang_tag().kind(), Kind::Grandfathered);
+    /// ```
     #[inline]
     pub fn as_lang_tag(&self) -> LangTag<'static> {
         LangTag::from_checked(self.as_str())
     }
 
-    /// Returns the bytes of the registered spelling: `b"i-lux"` of `GrandfatheredLangTag::ILux`.
+    /// Returns the bytes of the registered spelling: `b"i-lux"` for `GrandfatheredLangTag::ILux`.
     #[inline]
     pub fn as_bytes(&self) -> &'static [u8] {
         self.as_str().as_bytes()

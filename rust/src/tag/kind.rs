@@ -2,9 +2,9 @@
 
 //! The kinds of language tags.
 
-/// The kind of a language tag: the three cases of the rule `Language-Tag` (RFC 5646 section 2.1).
+/// The kind of a language tag: one of the three cases of the rule `Language-Tag` (RFC 5646 section 2.1).
 ///
-/// Kinds are compared, ordered and hashed by where they stand in this declaration.
+/// Comparisons and hashes use the position in this declaration.
 ///
 /// ```
 /// use langtag::Kind;
@@ -14,30 +14,46 @@
 /// ```
 #[derive(Clone, Copy, Debug, PartialEq, Eq, PartialOrd, Ord, Hash)]
 pub enum Kind {
-    /// A tag that is made of parts, which the regular grandfathered tags are too.
+    /// A tag that is made of parts. The regular grandfathered tags are made of parts, too.
     Normal,
-    /// A tag that is a private use part as a whole (section 2.2.7).
+    /// A tag that consists of a private use part only (section 2.2.7).
     PrivateUse,
-    /// An irregular grandfathered tag (section 2.2.8), which no other rule admits.
+    /// An irregular grandfathered tag (section 2.2.8), which does not follow the grammar of other tags.
     Grandfathered,
 }
 
 impl Kind {
-    /// Returns whether this is the kind of a tag that is made of parts: `Kind::Normal.is_normal()` is true.
+    /// Returns whether this is the kind of a tag that is made of parts.
+    ///
+    /// ```
+    /// use langtag::Kind;
+    ///
+    /// assert!(Kind::Normal.is_normal());
+    /// ```
     #[inline]
     pub fn is_normal(&self) -> bool {
         matches!(self, Kind::Normal)
     }
 
-    /// Returns whether this is the kind of a tag for private use as a whole: `Kind::PrivateUse.is_private_use()` is
-    /// true.
+    /// Returns whether this is the kind of a private-use tag.
+    ///
+    /// ```
+    /// use langtag::Kind;
+    ///
+    /// assert!(Kind::PrivateUse.is_private_use());
+    /// ```
     #[inline]
     pub fn is_private_use(&self) -> bool {
         matches!(self, Kind::PrivateUse)
     }
 
-    /// Returns whether this is the kind of an irregular grandfathered tag: `Kind::Grandfathered.is_grandfathered()` is
-    /// true.
+    /// Returns whether this is the kind of an irregular grandfathered tag.
+    ///
+    /// ```
+    /// use langtag::Kind;
+    ///
+    /// assert!(Kind::Grandfathered.is_grandfathered());
+    /// ```
     #[inline]
     pub fn is_grandfathered(&self) -> bool {
         matches!(self, Kind::Grandfathered)

@@ -21,7 +21,7 @@ use crate::tag::recognised::Recognised;
 use crate::tag::typed_lang_tag::TypedLangTag;
 use core::fmt;
 
-/// The error for a text that is not a tag. It hands the text back.
+/// The error for a text that is not a language tag. It contains the text.
 ///
 /// ```
 /// use langtag::LangTag;
@@ -41,11 +41,11 @@ impl<T> fmt::Display for InvalidLangTag<T> {
 
 impl<T: fmt::Debug> core::error::Error for InvalidLangTag<T> {}
 
-/// A language tag (RFC 5646 section 2.1): a normal one, as `zh-Hant-TW`, one for private use as a whole, as `x-fr-CH`, or
-/// an irregular grandfathered one, as `i-klingon`.
+/// A language tag ([RFC 5646 section 2.1]). It is a normal tag, such as `zh-Hant-TW`, a private-use tag, such as
+/// `x-fr-CH`, or an irregular grandfathered tag, such as `i-klingon`.
 ///
-/// It keeps what the recogniser found: which of the three it is, and where the parts of a normal tag end. Two tags are
-/// equal where their texts differ at most in the case of ASCII letters.
+/// It stores its kind, and where the parts of a normal tag end, so no call parses the text again. Two tags are equal if
+/// their texts differ only in the case of ASCII letters.
 ///
 /// ```
 /// # fn main() -> Result<(), Box<dyn std::error::Error>> {
@@ -57,6 +57,8 @@ impl<T: fmt::Debug> core::error::Error for InvalidLangTag<T> {}
 /// # Ok(())
 /// # }
 /// ```
+///
+/// [RFC 5646 section 2.1]: https://www.rfc-editor.org/rfc/rfc5646#section-2.1
 #[derive(Clone, Copy)]
 pub struct LangTag<'a> {
     text: Caseless<&'a str>,
@@ -66,12 +68,12 @@ pub struct LangTag<'a> {
 by_text!(LangTag<'_>);
 
 impl<'a> LangTag<'a> {
-    /// Parses a text as a tag: `LangTag::new("zh-Hant-TW")` is Ok, and so are `x-fr-CH` and `I-Klingon`. It is proved
-    /// that no text is of two kinds.
+    /// Parses a text as a language tag. Case does not matter, and the text keeps its case. It is proved that no text is
+    /// of two kinds.
     ///
     /// # Errors
     ///
-    /// A text that is not a tag comes back: `zh_Hant`, and the empty text.
+    /// Returns the text if it is not a tag, such as `zh_Hant` or the empty text.
     ///
     /// ```
     /// use langtag::LangTag;
@@ -88,12 +90,12 @@ impl<'a> LangTag<'a> {
         Ok(LangTag::with_found(text, found))
     }
 
-    /// Parses bytes as a tag: `LangTag::from_bytes(b"zh-Hant-TW")` is Ok. They need not be UTF-8: a tag is ASCII, so what is
-    /// not is no tag, and nothing looks at them before.
+    /// Parses bytes as a language tag. The bytes need not be UTF-8, and nothing checks that first, because each tag is
+    /// ASCII.
     ///
     /// # Errors
     ///
-    /// Bytes that are not a tag come back, the same slice: `b"zh_Hant"`, and `b"fr\xFF"`.
+    /// Returns the same slice if it is not a tag, such as `b"zh_Hant"` or `b"fr\xFF"`.
     ///
     /// ```
     /// # fn main() -> Result<(), Box<dyn std::error::Error>> {
@@ -114,8 +116,8 @@ impl<'a> LangTag<'a> {
         Ok(LangTag::with_found(ascii, found))
     }
 
-    /// Returns the tag of a text that is known to be one: `LangTag::from_checked(tag.as_str()) == tag` of each tag. The
-    /// recogniser goes over the text once more, for what it finds.
+    /// Returns the tag of a text that is known to be one: `LangTag::from_checked(tag.as_str())` equals `tag`. It parses
+    /// the text again to find the parts.
     #[inline]
     pub(crate) fn from_checked(text: &'a str) -> LangTag<'a> {
         let Some(found) = recognise_text(text) else {
@@ -124,7 +126,7 @@ impl<'a> LangTag<'a> {
         LangTag::with_found(text, found)
     }
 
-    /// The tag of a text of which this was found: it is not looked at again.
+    /// Returns the tag with a text in which this was found, without parsing it again.
     #[inline]
     pub(crate) fn with_found(text: &'a str, found: Recognised) -> LangTag<'a> {
         LangTag {
@@ -133,7 +135,7 @@ impl<'a> LangTag<'a> {
         }
     }
 
-    /// Returns the text, with its case: `ZH-hant` of `ZH-hant`.
+    /// Returns the text, in its original case.
     ///
     /// ```
     /// # fn main() -> Result<(), Box<dyn std::error::Error>> {
@@ -148,7 +150,7 @@ impl<'a> LangTag<'a> {
         self.text.0
     }
 
-    /// Returns the bytes of the text: `b"x-a"` of `x-a`.
+    /// Returns the text as bytes.
     ///
     /// ```
     /// # fn main() -> Result<(), Box<dyn std::error::Error>> {
@@ -163,8 +165,8 @@ impl<'a> LangTag<'a> {
         self.as_str().as_bytes()
     }
 
-    /// Returns all subtags of the tag, in order and from both ends: `zh`, `Hant` and `TW` of `zh-Hant-TW`, `x` and `a`
-    /// of `x-a`.
+    /// Returns an iterator over all subtags, from either end: `zh`, `Hant` and `TW` for `zh-Hant-TW`, and `x` and `a`
+    /// for `x-a`.
     ///
     /// ```
     /// # fn main() -> Result<(), Box<dyn std::error::Error>> {
@@ -184,12 +186,11 @@ impl<'a> LangTag<'a> {
         Subtags::new(self.as_str())
     }
 
-    /// Returns whether another text, of any form, is equal but for the case of ASCII letters: true of `zh-Hant` and
-    /// `ZH-hant`. Then it is a tag of the same kind, and, where that is a normal one, has alike parts at the same
-    /// offsets.
+    /// Returns whether another text equals this tag, ignoring the case of ASCII letters. Then the text is a tag of the
+    /// same kind. If that is a normal tag, its parts are at the same offsets and are equal, ignoring case.
     ///
-    /// It is proved that tags are compared, ordered and hashed without regard to case, that a clone is the tag itself,
-    /// and that a tag that begins another is the greater of the two: `zh` comes after `zh-Latn`.
+    /// It is proved that comparisons and hashes of tags also ignore case, and that a clone is the same tag. A tag sorts
+    /// after every longer tag that begins with it: `zh` after `zh-Latn`.
     ///
     /// ```
     /// # fn main() -> Result<(), Box<dyn std::error::Error>> {
@@ -205,9 +206,8 @@ impl<'a> LangTag<'a> {
         self.text == Caseless(other)
     }
 
-    /// Returns the kind of the tag: `Kind::Normal` of `fr-x-a`, `Kind::PrivateUse` of `x-a`, `Kind::Grandfathered` of
-    /// `i-lux`. The regular grandfathered tags are normal. It is proved that kinds compare and are hashed as they are
-    /// declared, and that a clone of one is the same.
+    /// Returns the kind of the tag. The regular grandfathered tags are normal. It is proved that kinds compare and hash
+    /// in the order of their declaration, and that a clone is the same kind.
     ///
     /// ```
     /// # fn main() -> Result<(), Box<dyn std::error::Error>> {
@@ -224,8 +224,7 @@ impl<'a> LangTag<'a> {
         self.as_typed().kind()
     }
 
-    /// Returns the tag as a value of the type of its kind: `TypedLangTag::PrivateUse(tag)` of `x-a`, where `tag` has
-    /// the same text.
+    /// Returns the tag as an enum with one variant for each kind, to match on. The value inside has the same text.
     ///
     /// ```
     /// # fn main() -> Result<(), Box<dyn std::error::Error>> {
@@ -248,8 +247,7 @@ impl<'a> LangTag<'a> {
         }
     }
 
-    /// Returns whether the tag is a normal one: true of `zh-Latn`, false of `x-a` and `i-lux`. The regular
-    /// grandfathered ones are.
+    /// Returns whether the tag is a normal one, which is made of parts. The regular grandfathered tags are normal, too.
     ///
     /// ```
     /// # fn main() -> Result<(), Box<dyn std::error::Error>> {
@@ -265,7 +263,7 @@ impl<'a> LangTag<'a> {
         self.found.is_normal()
     }
 
-    /// Returns whether the tag is for private use as a whole: true of `x-a`, false of `fr-x-a`.
+    /// Returns whether the whole tag is for private use, which means that it begins with `x-`.
     ///
     /// ```
     /// # fn main() -> Result<(), Box<dyn std::error::Error>> {
@@ -281,11 +279,10 @@ impl<'a> LangTag<'a> {
         self.found.is_private_use()
     }
 
-    /// Returns whether the tag is one of the 26 grandfathered ones, in any case (RFC 5646 section 2.2.8): true of
-    /// `i-lux`.
+    /// Returns whether the tag is one of the 26 grandfathered tags, ignoring case ([RFC 5646 section 2.2.8]).
     ///
-    /// The regular ones are normal tags too, so this is true of `art-lojban`, whose kind is normal:
-    /// [`as_typed().is_grandfathered()`](TypedLangTag::is_grandfathered) is false of it.
+    /// The regular ones are normal tags, too. For example, this is `true` for `art-lojban`, whose kind is normal, while
+    /// [`as_typed().is_grandfathered()`](TypedLangTag::is_grandfathered) is `false`.
     ///
     /// ```
     /// # fn main() -> Result<(), Box<dyn std::error::Error>> {
@@ -297,12 +294,14 @@ impl<'a> LangTag<'a> {
     /// # Ok(())
     /// # }
     /// ```
+    ///
+    /// [RFC 5646 section 2.2.8]: https://www.rfc-editor.org/rfc/rfc5646#section-2.2.8
     #[inline]
     pub fn is_grandfathered(&self) -> bool {
         self.as_grandfathered().is_some()
     }
 
-    /// Returns the normal tag, where the tag is one: Some of `zh-Latn` and of `art-lojban`, None of `x-a`.
+    /// Returns the tag as a [`NormalLangTag`] if it is one: `Some` for `zh-Latn` and `art-lojban`, `None` for `x-a`.
     ///
     /// ```
     /// # fn main() -> Result<(), Box<dyn std::error::Error>> {
@@ -320,7 +319,8 @@ impl<'a> LangTag<'a> {
         Some(NormalLangTag::with_ends(self.text.0, ends))
     }
 
-    /// Returns the tag for private use, where the whole tag is one: Some of `x-a`, None of `fr-x-a`.
+    /// Returns the tag as a [`PrivateUseLangTag`] if the whole tag is for private use: `Some` for `x-a`, `None` for
+    /// `fr-x-a`.
     ///
     /// ```
     /// # fn main() -> Result<(), Box<dyn std::error::Error>> {
@@ -340,8 +340,8 @@ impl<'a> LangTag<'a> {
         Some(PrivateUse::from_checked(self.text.0))
     }
 
-    /// Returns the grandfathered tag, where the tag is one of the 26, in any case: Some of `I-Lux` and of `art-lojban`,
-    /// None of `fr`.
+    /// Returns the grandfathered tag if the tag is one of the 26, ignoring case: `Some` for `I-Lux` and `art-lojban`,
+    /// `None` for `fr`.
     ///
     /// ```
     /// # fn main() -> Result<(), Box<dyn std::error::Error>> {
@@ -358,11 +358,11 @@ impl<'a> LangTag<'a> {
         GrandfatheredLangTag::new(self.as_bytes()).ok()
     }
 
-    /// Returns the owned form of the same text: `owned.as_str()` is `zh-Latn` where this is `zh-Latn`.
+    /// Copies the tag into one that owns its text.
     ///
     /// # Errors
     ///
-    /// Out of memory.
+    /// Returns an error if allocation fails.
     ///
     /// ```
     /// # fn main() -> Result<(), Box<dyn std::error::Error>> {
@@ -380,8 +380,7 @@ impl<'a> LangTag<'a> {
         Ok(LangTagBuf::with_found(text, self.found))
     }
 
-    /// Returns the tag as it reads in the case that RFC 5646 section 2.1.1 recommends, to be displayed: `{}` of
-    /// `tag.in_recommended_case()` prints `mn-Cyrl-MN` of `MN-cYRL-mn`. No memory is taken.
+    /// Returns a value that displays the tag in the case that [RFC 5646 section 2.1.1] recommends. It does not allocate.
     ///
     /// ```
     /// # fn main() -> Result<(), Box<dyn std::error::Error>> {
@@ -392,13 +391,14 @@ impl<'a> LangTag<'a> {
     /// # Ok(())
     /// # }
     /// ```
+    ///
+    /// [RFC 5646 section 2.1.1]: https://www.rfc-editor.org/rfc/rfc5646#section-2.1.1
     #[inline]
     pub fn in_recommended_case(&self) -> InRecommendedCase<'a> {
         InRecommendedCase::from_checked(self.as_str())
     }
 
-    /// Returns whether the tag is in the case that RFC 5646 section 2.1.1 recommends: true of `mn-Cyrl-MN`, false of
-    /// `mn-cyrl-MN`.
+    /// Returns whether the tag is in the case that [RFC 5646 section 2.1.1] recommends.
     ///
     /// ```
     /// # fn main() -> Result<(), Box<dyn std::error::Error>> {
@@ -409,17 +409,18 @@ impl<'a> LangTag<'a> {
     /// # Ok(())
     /// # }
     /// ```
+    ///
+    /// [RFC 5646 section 2.1.1]: https://www.rfc-editor.org/rfc/rfc5646#section-2.1.1
     #[inline]
     pub fn is_in_recommended_case(&self) -> bool {
         is_in_recommended_case(self.as_bytes())
     }
 
-    /// Returns the owned form of the tag in the case that RFC 5646 section 2.1.1 recommends: `mn-Cyrl-MN` of
-    /// `MN-cYRL-mn`.
+    /// Copies the tag into an owned one, in the case that [RFC 5646 section 2.1.1] recommends.
     ///
     /// # Errors
     ///
-    /// Out of memory.
+    /// Returns an error if allocation fails.
     ///
     /// ```
     /// # fn main() -> Result<(), Box<dyn std::error::Error>> {
@@ -430,6 +431,8 @@ impl<'a> LangTag<'a> {
     /// # Ok(())
     /// # }
     /// ```
+    ///
+    /// [RFC 5646 section 2.1.1]: https://www.rfc-editor.org/rfc/rfc5646#section-2.1.1
     #[cfg(feature = "alloc")]
     #[inline]
     pub fn try_to_recommended_case(&self) -> Result<LangTagBuf, AllocError> {
@@ -441,7 +444,7 @@ impl<'a> LangTag<'a> {
 
 /// The parts of a normal tag; a tag of another kind has none.
 impl<'a> LangTag<'a> {
-    /// Returns the language of a normal tag: `zh-yue` of `zh-yue-HK`, None of `x-a` and of `i-lux`.
+    /// Returns the language, with its extended subtags: `zh-yue` for `zh-yue-HK`, and `None` for `x-a` and `i-lux`.
     ///
     /// ```
     /// # fn main() -> Result<(), Box<dyn std::error::Error>> {
@@ -458,7 +461,7 @@ impl<'a> LangTag<'a> {
         Some(self.as_normal()?.language())
     }
 
-    /// Returns the script of a normal tag: `Latn` of `sl-Latn-IT`, None of `sl-IT` and of `x-a`.
+    /// Returns the script, if there is one: `Latn` for `sl-Latn-IT`, `None` for `sl-IT` and `x-a`.
     ///
     /// ```
     /// # fn main() -> Result<(), Box<dyn std::error::Error>> {
@@ -475,7 +478,7 @@ impl<'a> LangTag<'a> {
         self.as_normal()?.script()
     }
 
-    /// Returns the region of a normal tag: `419` of `es-419`, None of `es` and of `x-a`.
+    /// Returns the region, if there is one: `419` for `es-419`, `None` for `es` and `x-a`.
     ///
     /// ```
     /// # fn main() -> Result<(), Box<dyn std::error::Error>> {
@@ -492,8 +495,7 @@ impl<'a> LangTag<'a> {
         self.as_normal()?.region()
     }
 
-    /// Returns the variants of a normal tag, none on any other: `rozaj-1994` of `sl-rozaj-1994`, the empty text of
-    /// `x-a`.
+    /// Returns the variants: `rozaj-1994` for `sl-rozaj-1994`, and the empty text for `sl` and `x-a`.
     ///
     /// ```
     /// # fn main() -> Result<(), Box<dyn std::error::Error>> {
@@ -512,8 +514,7 @@ impl<'a> LangTag<'a> {
         tag.variants()
     }
 
-    /// Returns the extensions of a normal tag, none on any other: `a-bb-u-co` of `en-a-bb-u-co-x-y`, the empty text of
-    /// `x-a`.
+    /// Returns the extensions: `a-bb-u-co` for `en-a-bb-u-co-x-y`, and the empty text for `en` and `x-a`.
     ///
     /// ```
     /// # fn main() -> Result<(), Box<dyn std::error::Error>> {
@@ -532,8 +533,8 @@ impl<'a> LangTag<'a> {
         tag.extensions()
     }
 
-    /// Returns the private use part of a normal tag: `x-y` of `en-x-y`. A tag for private use as a whole has none, so
-    /// it is None of `x-a`: see [`as_private_use`](LangTag::as_private_use).
+    /// Returns the private use part of a normal tag: `x-y` for `en-x-y`. It is `None` for `x-a`, which is a private-use
+    /// tag and has no parts: see [`as_private_use`](LangTag::as_private_use).
     ///
     /// ```
     /// # fn main() -> Result<(), Box<dyn std::error::Error>> {
@@ -550,8 +551,8 @@ impl<'a> LangTag<'a> {
         self.as_normal()?.private_use()
     }
 
-    /// Returns the subtags of the private use part of a normal tag, `x` and `y` of `en-x-x-y`; none where there is no
-    /// such part.
+    /// Returns an iterator over the subtags of the private use part: `x` and `y` for `en-x-x-y`, and nothing if there
+    /// is no such part.
     ///
     /// ```
     /// # fn main() -> Result<(), Box<dyn std::error::Error>> {

@@ -25,7 +25,7 @@ use crate::tag::recommended_case::put_recommended_case;
 use alloc::string::String;
 use core::fmt;
 
-/// A tag that owns its text. It keeps what was found of it, as [`LangTag`] does, and lends both.
+/// A language tag that owns its text. Like [`LangTag`], it stores its kind and the ends of its parts.
 ///
 /// ```
 /// # fn main() -> Result<(), Box<dyn std::error::Error>> {
@@ -48,11 +48,11 @@ by_text!(LangTagBuf);
 
 #[cfg(feature = "alloc")]
 impl LangTagBuf {
-    /// Parses a `String` as a tag, and keeps it, without a copy: `x-a` is Ok.
+    /// Parses a `String` as a language tag and keeps it, without copying.
     ///
     /// # Errors
     ///
-    /// A text that is not a tag comes back, the same `String`: `x-` does.
+    /// Returns the same `String` if it is not a tag, such as `x-`.
     #[inline]
     pub fn new(text: String) -> Result<LangTagBuf, InvalidLangTag<String>> {
         let Some(found) = recognise_text(text.as_str()) else {
@@ -61,7 +61,7 @@ impl LangTagBuf {
         Ok(LangTagBuf::with_found(text, found))
     }
 
-    /// The tag of a text of which this was found: it is not looked at again.
+    /// Returns the tag with a text in which this was found, without parsing it again.
     #[inline]
     pub(crate) fn with_found(text: String, found: Recognised) -> LangTagBuf {
         LangTagBuf {
@@ -70,27 +70,26 @@ impl LangTagBuf {
         }
     }
 
-    /// Borrows the tag, with what was found of it, so that nothing is looked at again:
-    /// `owned.as_lang_tag().kind()` is `Kind::PrivateUse` of `x-a`.
+    /// Borrows the tag, without parsing it again.
     ///
-    /// It is proved that owned tags are compared, ordered and hashed without regard to case.
+    /// It is proved that comparisons and hashes of owned tags ignore case.
     #[inline]
     pub fn as_lang_tag(&self) -> LangTag<'_> {
         LangTag::with_found(self.as_str(), self.found)
     }
 
-    /// Returns the text, with its case: `X-a` of `X-a`.
+    /// Returns the text, in its original case.
     #[inline]
     pub fn as_str(&self) -> &str {
         self.text.0.as_str()
     }
 
-    /// Returns the same tag as a normal one, over the very `String`: Ok of `zh-TW`. Nothing is looked at again, and
-    /// [`into_lang_tag`](NormalLangTagBuf::into_lang_tag) is the way back.
+    /// Converts the tag into a [`NormalLangTagBuf`] over the same `String`, without parsing it again.
+    /// [`into_lang_tag`](NormalLangTagBuf::into_lang_tag) converts back.
     ///
     /// # Errors
     ///
-    /// A tag of another kind comes back, as `x-a` does.
+    /// Returns the tag if it is of another kind, such as `x-a`.
     #[inline]
     pub fn into_normal(self) -> Result<NormalLangTagBuf, LangTagBuf> {
         let Some(ends) = self.found.ends() else {
@@ -99,17 +98,20 @@ impl LangTagBuf {
         Ok(NormalLangTagBuf::with_ends(self.text.0, ends))
     }
 
-    /// Returns the text itself, without a copy: `x-a` of `x-a`.
+    /// Returns the `String`, without copying it.
     #[inline]
     pub fn into_string(self) -> String {
         self.text.0
     }
 
-    /// Puts the letters into the case that RFC 5646 section 2.1.1 recommends: `mn-Cyrl-MN` of `MN-cYRL-mn`, and `en-CA-x-ca`.
+    /// Changes the letters to the case that [RFC 5646 section 2.1.1] recommends: `MN-cYRL-mn` becomes `mn-Cyrl-MN`, and
+    /// `EN-ca-X-CA` becomes `en-CA-x-ca`.
     ///
-    /// Of a normal tag a script has a capital first and a region has capitals, and all else is small. The tag stays equal
-    /// to what it was, with its parts at the same offsets. No memory is taken, and the recogniser does not run. Tags that
-    /// are equal come out byte for byte the same, so that the text serves as a key where bytes are compared.
+    /// In a normal tag, the script becomes titlecase, the region uppercase, and everything else lowercase. The tag
+    /// still equals the old one, and its parts keep their offsets. It neither allocates nor parses. Equal tags become
+    /// the same bytes, so the text can be a key in a store that compares bytes.
+    ///
+    /// [RFC 5646 section 2.1.1]: https://www.rfc-editor.org/rfc/rfc5646#section-2.1.1
     #[inline]
     pub fn make_recommended_case(&mut self) {
         put_recommended_case(&mut self.text.0);
@@ -118,12 +120,12 @@ impl LangTagBuf {
 
 #[cfg(feature = "alloc")]
 impl LangTagBuf {
-    /// Puts a language into a normal tag, as [`NormalLangTagBuf::set_language`] does: `zh-yue` put into `sl-IT` makes
-    /// `zh-yue-IT`.
+    /// Sets the language, as [`NormalLangTagBuf::set_language`] does: with `zh-yue`, `sl-IT` becomes `zh-yue-IT`.
     ///
     /// # Errors
     ///
-    /// The tag is not a normal one, as `x-a`, or memory was refused. The tag is as it was.
+    /// Returns `EditError::NotNormal` if the tag is not a normal one, such as `x-a`, and `EditError::Memory` if
+    /// allocation fails. The tag is then unchanged.
     ///
     /// ```
     /// # fn main() -> Result<(), Box<dyn std::error::Error>> {
@@ -140,12 +142,12 @@ impl LangTagBuf {
         self.put(Part::Language(language))
     }
 
-    /// Puts a script into a normal tag, or takes it out, as [`NormalLangTagBuf::set_script`] does: `Latn` put into `sl-IT`
-    /// makes `sl-Latn-IT`.
+    /// Sets or removes the script, as [`NormalLangTagBuf::set_script`] does: with `Latn`, `sl-IT` becomes `sl-Latn-IT`.
     ///
     /// # Errors
     ///
-    /// The tag is not a normal one, as `x-a`, or memory was refused. The tag is as it was.
+    /// Returns `EditError::NotNormal` if the tag is not a normal one, such as `x-a`, and `EditError::Memory` if
+    /// allocation fails. The tag is then unchanged.
     ///
     /// ```
     /// # fn main() -> Result<(), Box<dyn std::error::Error>> {
@@ -162,12 +164,13 @@ impl LangTagBuf {
         self.put(Part::Script(script))
     }
 
-    /// Puts a region into a normal tag, or takes it out, as [`NormalLangTagBuf::set_region`] does: `AT` put into `de-DE-1996`
-    /// makes `de-AT-1996`.
+    /// Sets or removes the region, as [`NormalLangTagBuf::set_region`] does: with `AT`, `de-DE-1996` becomes
+    /// `de-AT-1996`.
     ///
     /// # Errors
     ///
-    /// The tag is not a normal one, as `x-a`, or memory was refused. The tag is as it was.
+    /// Returns `EditError::NotNormal` if the tag is not a normal one, such as `x-a`, and `EditError::Memory` if
+    /// allocation fails. The tag is then unchanged.
     ///
     /// ```
     /// # fn main() -> Result<(), Box<dyn std::error::Error>> {
@@ -184,12 +187,13 @@ impl LangTagBuf {
         self.put(Part::Region(region))
     }
 
-    /// Puts variants into a normal tag, or takes them out, as [`NormalLangTagBuf::set_variants`] does: `1996` put into `de-AT`
-    /// makes `de-AT-1996`.
+    /// Sets or removes the variants, as [`NormalLangTagBuf::set_variants`] does: with `1996`, `de-AT` becomes
+    /// `de-AT-1996`.
     ///
     /// # Errors
     ///
-    /// The tag is not a normal one, as `x-a`, or memory was refused. The tag is as it was.
+    /// Returns `EditError::NotNormal` if the tag is not a normal one, such as `x-a`, and `EditError::Memory` if
+    /// allocation fails. The tag is then unchanged.
     ///
     /// ```
     /// # fn main() -> Result<(), Box<dyn std::error::Error>> {
@@ -206,12 +210,13 @@ impl LangTagBuf {
         self.put(Part::Variants(variants))
     }
 
-    /// Puts extensions into a normal tag, or takes them out, as [`NormalLangTagBuf::set_extensions`] does: `u-co-eor` put
-    /// into `de-x-a` makes `de-u-co-eor-x-a`.
+    /// Sets or removes the extensions, as [`NormalLangTagBuf::set_extensions`] does: with `u-co-eor`, `de-x-a` becomes
+    /// `de-u-co-eor-x-a`.
     ///
     /// # Errors
     ///
-    /// The tag is not a normal one, as `x-a`, or memory was refused. The tag is as it was.
+    /// Returns `EditError::NotNormal` if the tag is not a normal one, such as `x-a`, and `EditError::Memory` if
+    /// allocation fails. The tag is then unchanged.
     ///
     /// ```
     /// # fn main() -> Result<(), Box<dyn std::error::Error>> {
@@ -228,12 +233,13 @@ impl LangTagBuf {
         self.put(Part::Extensions(extensions))
     }
 
-    /// Puts a private use part into a normal tag, or takes it out, as [`NormalLangTagBuf::set_private_use`] does: `x-mine`
-    /// put into `de-x-a` makes `de-x-mine`.
+    /// Sets or removes the private use part, as [`NormalLangTagBuf::set_private_use`] does: with `x-mine`, `de-x-a`
+    /// becomes `de-x-mine`.
     ///
     /// # Errors
     ///
-    /// The tag is not a normal one, as `x-a`, or memory was refused. The tag is as it was.
+    /// Returns `EditError::NotNormal` if the tag is not a normal one, such as `x-a`, and `EditError::Memory` if
+    /// allocation fails. The tag is then unchanged.
     ///
     /// ```
     /// # fn main() -> Result<(), Box<dyn std::error::Error>> {

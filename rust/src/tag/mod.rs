@@ -1,8 +1,8 @@
 // Made by rust/erase from crates/langtag/src/lib.rt. Change that file, not this one.
 
-//! Language tags, by RFC 5646 section 2.1: parsed, taken apart, compared without regard to case, and edited.
+//! Language tags (RFC 5646 section 2.1): parses them, takes them apart, compares them ignoring case, and edits them.
 //!
-//! A [`LangTag`] is a tag of any kind: a normal one, one for private use as a whole, or a grandfathered one:
+//! A [`LangTag`] is a tag of any kind: normal, for private use, or grandfathered:
 //!
 //! ```
 //! # fn main() -> Result<(), Box<dyn std::error::Error>> {
@@ -18,7 +18,7 @@
 //! # }
 //! ```
 //!
-//! A [`NormalLangTag`] is a tag made of parts. It keeps where they end, so that each is cut from the text:
+//! A [`NormalLangTag`] is a tag that is made of parts. It stores where they end, so each part is a slice of the text:
 //!
 //! ```
 //! # fn main() -> Result<(), Box<dyn std::error::Error>> {
@@ -38,8 +38,8 @@
 //! # }
 //! ```
 //!
-//! Each part has a type of its own, lent and owned, as [`Script`] and [`ScriptBuf`]. All of them are reached from this
-//! crate, as is what decides over bytes whether they are a tag ([`recognise`]).
+//! Each part has a borrowed and an owned type, such as [`Script`] and [`ScriptBuf`]. This crate exports them all, and
+//! also the parser over bytes, [`recognise`].
 
 mod edit;
 mod edit_error;

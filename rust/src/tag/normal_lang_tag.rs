@@ -18,7 +18,7 @@ use crate::tag::recognised::Recognised;
 use crate::tag::repeats::{first_repeated_singleton, first_repeated_variant};
 use core::fmt;
 
-/// The error for a text that is not a normal tag. It hands the text back.
+/// The error for a text that is not a normal tag. It contains the text.
 ///
 /// ```
 /// use langtag::NormalLangTag;
@@ -38,11 +38,11 @@ impl<T> fmt::Display for InvalidNormalLangTag<T> {
 
 impl<T: fmt::Debug> core::error::Error for InvalidNormalLangTag<T> {}
 
-/// A normal tag (rule `langtag` of RFC 5646 section 2.1): a language, and after it a script, a region, variants,
-/// extensions and a private use part, each of which may be absent, as `sl-Latn-IT-rozaj-u-co-phonebk-x-mine`.
+/// A normal language tag, the rule `langtag` of [RFC 5646 section 2.1]. It has a language, and may have a script, a
+/// region, variants, extensions and a private use part, as `sl-Latn-IT-rozaj-u-co-phonebk-x-mine` does.
 ///
-/// It keeps where its parts end, so that each is cut from the text. Two tags are equal where their texts differ at most
-/// in the case of ASCII letters.
+/// It stores where its parts end, so each part is a slice of the text. Two tags are equal if their texts differ only in
+/// the case of ASCII letters.
 ///
 /// ```
 /// # fn main() -> Result<(), Box<dyn std::error::Error>> {
@@ -55,6 +55,8 @@ impl<T: fmt::Debug> core::error::Error for InvalidNormalLangTag<T> {}
 /// # Ok(())
 /// # }
 /// ```
+///
+/// [RFC 5646 section 2.1]: https://www.rfc-editor.org/rfc/rfc5646#section-2.1
 #[derive(Clone, Copy)]
 pub struct NormalLangTag<'a> {
     text: Caseless<&'a str>,
@@ -64,14 +66,14 @@ pub struct NormalLangTag<'a> {
 by_text!(NormalLangTag<'_>);
 
 impl<'a> NormalLangTag<'a> {
-    /// Parses a text as a normal tag: `NormalLangTag::new("sl-IT-rozaj")` is Ok.
+    /// Parses a text as a normal tag.
     ///
-    /// It is proved that a normal tag can be divided into its parts in one way only, and that the parts that are there,
-    /// joined by hyphens, are the whole text.
+    /// It is proved that a normal tag splits into its parts in only one way, and that the parts, joined by hyphens, are
+    /// the whole text.
     ///
     /// # Errors
     ///
-    /// A text that is not a normal tag comes back: `sl_IT`, and also `x-a`, which is a tag of another kind.
+    /// Returns the text if it is not a normal tag, such as `sl_IT`, or `x-a`, which is a tag of another kind.
     ///
     /// ```
     /// use langtag::NormalLangTag;
@@ -87,8 +89,8 @@ impl<'a> NormalLangTag<'a> {
         Ok(NormalLangTag::with_ends(text, ends))
     }
 
-    /// Returns the normal tag of a text that is known to be one: `NormalLangTag::from_checked(tag.as_str()) == tag` of
-    /// each normal tag. The recogniser goes over the text once more, for the ends of its parts.
+    /// Returns the normal tag of a text that is known to be one: `NormalLangTag::from_checked(tag.as_str())` equals
+    /// `tag`. It parses the text again to find the parts.
     #[inline]
     pub(crate) fn from_checked(text: &'a str) -> NormalLangTag<'a> {
         let Some(ends) = normal_ends(text) else {
@@ -97,7 +99,7 @@ impl<'a> NormalLangTag<'a> {
         NormalLangTag::with_ends(text, ends)
     }
 
-    /// The normal tag of a text whose parts are known to end at these offsets: it is not looked at again.
+    /// Returns the normal tag with a text whose parts are known to end at these offsets, without parsing it again.
     #[inline]
     pub(crate) fn with_ends(text: &'a str, ends: Ends) -> NormalLangTag<'a> {
         NormalLangTag {
@@ -106,7 +108,7 @@ impl<'a> NormalLangTag<'a> {
         }
     }
 
-    /// Returns the text, with its case: `SL-it` of `SL-it`.
+    /// Returns the text, in its original case.
     ///
     /// ```
     /// # fn main() -> Result<(), Box<dyn std::error::Error>> {
@@ -121,7 +123,7 @@ impl<'a> NormalLangTag<'a> {
         self.text.0
     }
 
-    /// Returns the bytes of the text: `b"sl-IT"` of `sl-IT`.
+    /// Returns the text as bytes.
     ///
     /// ```
     /// # fn main() -> Result<(), Box<dyn std::error::Error>> {
@@ -136,7 +138,7 @@ impl<'a> NormalLangTag<'a> {
         self.as_str().as_bytes()
     }
 
-    /// Returns all subtags of the tag, in order and from both ends: `sl`, `Latn` and `IT` of `sl-Latn-IT`.
+    /// Returns an iterator over all subtags, from either end: `sl`, `Latn` and `IT` for `sl-Latn-IT`.
     ///
     /// ```
     /// # fn main() -> Result<(), Box<dyn std::error::Error>> {
@@ -154,11 +156,11 @@ impl<'a> NormalLangTag<'a> {
         Subtags::new(self.as_str())
     }
 
-    /// Returns whether another text, of any form, is equal but for the case of ASCII letters: true of `sl-IT` and
-    /// `SL-it`. Then it is a normal tag too, with alike parts at the same offsets.
+    /// Returns whether another text equals this tag, ignoring the case of ASCII letters. Then the text is a normal tag,
+    /// too. Its parts are at the same offsets and are equal, ignoring case.
     ///
-    /// It is proved that normal tags are compared, ordered and hashed without regard to case, that a clone is the tag
-    /// itself, and that a tag that begins another is the greater of the two: `sl` comes after `sl-IT`.
+    /// It is proved that comparisons and hashes of normal tags also ignore case, and that a clone is the same tag. A
+    /// tag sorts after every longer tag that begins with it: `sl` after `sl-IT`.
     ///
     /// ```
     /// # fn main() -> Result<(), Box<dyn std::error::Error>> {
@@ -173,8 +175,7 @@ impl<'a> NormalLangTag<'a> {
         self.text == Caseless(other)
     }
 
-    /// Returns the same tag as one of any kind, with the ends that are kept: `tag.as_lang_tag().kind()` is
-    /// `Kind::Normal`.
+    /// Returns the tag as a [`LangTag`], without parsing it again.
     ///
     /// ```
     /// # fn main() -> Result<(), Box<dyn std::error::Error>> {
@@ -189,8 +190,8 @@ impl<'a> NormalLangTag<'a> {
         LangTag::with_found(self.as_str(), Recognised::Normal(self.ends))
     }
 
-    /// Returns where the parts end, in bytes from the start of the text: of `sl-IT` the language at 2, and all others
-    /// at 5.
+    /// Returns where the parts end, in bytes from the start of the text. In `sl-IT`, the language ends at 2, and all
+    /// other ends are 5.
     ///
     /// ```
     /// # fn main() -> Result<(), Box<dyn std::error::Error>> {
@@ -206,7 +207,7 @@ impl<'a> NormalLangTag<'a> {
         self.ends
     }
 
-    /// Returns the language: `zh-min` of `zh-min-Latn-TW`.
+    /// Returns the language: `zh-min` for `zh-min-Latn-TW`.
     ///
     /// ```
     /// # fn main() -> Result<(), Box<dyn std::error::Error>> {
@@ -221,7 +222,7 @@ impl<'a> NormalLangTag<'a> {
         Language::from_checked(self.language_str())
     }
 
-    /// Returns the script: `Latn` of `zh-min-Latn-TW`, None of `zh-TW`.
+    /// Returns the script, if there is one: `Latn` for `zh-min-Latn-TW`, `None` for `zh-TW`.
     ///
     /// ```
     /// # fn main() -> Result<(), Box<dyn std::error::Error>> {
@@ -239,7 +240,7 @@ impl<'a> NormalLangTag<'a> {
         Some(Script::from_checked(script))
     }
 
-    /// Returns the region: `TW` of `zh-min-Latn-TW`, None of `zh-Latn`.
+    /// Returns the region, if there is one: `TW` for `zh-min-Latn-TW`, `None` for `zh-Latn`.
     ///
     /// ```
     /// # fn main() -> Result<(), Box<dyn std::error::Error>> {
@@ -257,7 +258,7 @@ impl<'a> NormalLangTag<'a> {
         Some(Region::from_checked(region))
     }
 
-    /// Returns the variants: `rozaj-1994` of `sl-rozaj-1994`, the empty text of `sl`.
+    /// Returns the variants: `rozaj-1994` for `sl-rozaj-1994`, and the empty text for `sl`.
     ///
     /// ```
     /// # fn main() -> Result<(), Box<dyn std::error::Error>> {
@@ -273,7 +274,7 @@ impl<'a> NormalLangTag<'a> {
         Variants::from_checked(self.part_or_empty(self.ends.region, self.ends.variants))
     }
 
-    /// Returns the extensions: `a-bb-u-co` of `en-a-bb-u-co-x-y`, the empty text of `en-x-y`.
+    /// Returns the extensions: `a-bb-u-co` for `en-a-bb-u-co-x-y`, and the empty text for `en-x-y`.
     ///
     /// ```
     /// # fn main() -> Result<(), Box<dyn std::error::Error>> {
@@ -289,7 +290,7 @@ impl<'a> NormalLangTag<'a> {
         Extensions::from_checked(self.part_or_empty(self.ends.variants, self.ends.extensions))
     }
 
-    /// Returns the private use part: `x-y` of `en-a-bb-u-co-x-y`, None of `en-a-bb`.
+    /// Returns the private use part, if there is one: `x-y` for `en-a-bb-u-co-x-y`, `None` for `en-a-bb`.
     ///
     /// ```
     /// # fn main() -> Result<(), Box<dyn std::error::Error>> {
@@ -307,7 +308,8 @@ impl<'a> NormalLangTag<'a> {
         Some(PrivateUse::from_checked(private_use))
     }
 
-    /// Returns the subtags of the private use part: `x` and `y` of `en-x-x-y`, none where there is no such part.
+    /// Returns an iterator over the subtags of the private use part: `x` and `y` for `en-x-x-y`, and nothing if there
+    /// is no such part.
     ///
     /// ```
     /// # fn main() -> Result<(), Box<dyn std::error::Error>> {
@@ -327,10 +329,11 @@ impl<'a> NormalLangTag<'a> {
         }
     }
 
-    /// Returns the first variant that is equal, but for case, to an earlier one: the second `1996` of `de-1996-1996`.
+    /// Returns the first variant that equals an earlier one, ignoring case: the second `1996` in `de-1996-1996`.
     ///
-    /// Such a tag is well formed, and is not valid (RFC 5646 section 2.2.5). No memory is taken, and less than 92 kB of the
-    /// stack. Up to 8,192 variants the time grows hardly faster than their number; past them, with its square divided by that.
+    /// A tag with a repeated variant is well formed but not valid ([RFC 5646 section 2.2.5]). This does not allocate, and
+    /// uses less than 92 kB of stack. Up to 8,192 variants, the time grows little faster than their number; beyond
+    /// that, it is quadratic.
     ///
     /// ```
     /// # fn main() -> Result<(), Box<dyn std::error::Error>> {
@@ -342,14 +345,16 @@ impl<'a> NormalLangTag<'a> {
     /// # Ok(())
     /// # }
     /// ```
+    ///
+    /// [RFC 5646 section 2.2.5]: https://www.rfc-editor.org/rfc/rfc5646#section-2.2.5
     #[inline]
     pub fn repeated_variant(&self) -> Option<Variant<'a>> {
         let index = self.repeated_variant_index()?;
         self.variants().iter().nth(index)
     }
 
-    /// Returns which of the variants [`repeated_variant`](NormalLangTag::repeated_variant) returns, counted from 0:
-    /// Some(1) of `de-1996-1996`.
+    /// Returns the index, among the variants, of the one that [`repeated_variant`](NormalLangTag::repeated_variant)
+    /// returns: `Some(1)` for `de-1996-1996`.
     ///
     /// ```
     /// # fn main() -> Result<(), Box<dyn std::error::Error>> {
@@ -364,10 +369,10 @@ impl<'a> NormalLangTag<'a> {
         first_repeated_variant(self.variants())
     }
 
-    /// Returns the first singleton that is equal, but for case, to an earlier one, with its exact byte: the `A` of
-    /// `fr-a-bb-A-cc`.
+    /// Returns the first singleton that equals an earlier one, ignoring case: the `A` in `fr-a-bb-A-cc`. It has the
+    /// case of the text.
     ///
-    /// Such a tag is well formed, and is not valid (RFC 5646 section 2.2.6). No memory is taken.
+    /// A tag with a repeated singleton is well formed but not valid ([RFC 5646 section 2.2.6]). This does not allocate.
     ///
     /// ```
     /// # fn main() -> Result<(), Box<dyn std::error::Error>> {
@@ -378,14 +383,16 @@ impl<'a> NormalLangTag<'a> {
     /// # Ok(())
     /// # }
     /// ```
+    ///
+    /// [RFC 5646 section 2.2.6]: https://www.rfc-editor.org/rfc/rfc5646#section-2.2.6
     #[inline]
     pub fn repeated_singleton(&self) -> Option<Singleton> {
         let index = self.repeated_singleton_index()?;
         Some(self.extensions().iter().nth(index)?.singleton())
     }
 
-    /// Returns which of the extensions has the singleton that [`repeated_singleton`](NormalLangTag::repeated_singleton)
-    /// returns, counted from 0: Some(1) of `fr-a-bb-A-cc`.
+    /// Returns the index, among the extensions, of the one whose singleton
+    /// [`repeated_singleton`](NormalLangTag::repeated_singleton) returns: `Some(1)` for `fr-a-bb-A-cc`.
     ///
     /// ```
     /// # fn main() -> Result<(), Box<dyn std::error::Error>> {
@@ -400,11 +407,11 @@ impl<'a> NormalLangTag<'a> {
         first_repeated_singleton(self.extensions())
     }
 
-    /// Returns the owned form of the same text: `owned.as_str()` is `sl-IT` where this is `sl-IT`.
+    /// Copies the tag into one that owns its text.
     ///
     /// # Errors
     ///
-    /// Out of memory.
+    /// Returns an error if allocation fails.
     ///
     /// ```
     /// # fn main() -> Result<(), Box<dyn std::error::Error>> {
@@ -422,8 +429,7 @@ impl<'a> NormalLangTag<'a> {
         Ok(NormalLangTagBuf::with_ends(text, self.ends))
     }
 
-    /// Returns the tag as it reads in the case that RFC 5646 section 2.1.1 recommends, to be displayed: `{}` of
-    /// `tag.in_recommended_case()` prints `mn-Cyrl-MN` of `MN-cYRL-mn`. No memory is taken.
+    /// Returns a value that displays the tag in the case that [RFC 5646 section 2.1.1] recommends. It does not allocate.
     ///
     /// ```
     /// # fn main() -> Result<(), Box<dyn std::error::Error>> {
@@ -434,13 +440,14 @@ impl<'a> NormalLangTag<'a> {
     /// # Ok(())
     /// # }
     /// ```
+    ///
+    /// [RFC 5646 section 2.1.1]: https://www.rfc-editor.org/rfc/rfc5646#section-2.1.1
     #[inline]
     pub fn in_recommended_case(&self) -> InRecommendedCase<'a> {
         InRecommendedCase::from_checked(self.as_str())
     }
 
-    /// Returns whether the tag is in the case that RFC 5646 section 2.1.1 recommends: true of `mn-Cyrl-MN`, false of
-    /// `mn-cyrl-MN`.
+    /// Returns whether the tag is in the case that [RFC 5646 section 2.1.1] recommends.
     ///
     /// ```
     /// # fn main() -> Result<(), Box<dyn std::error::Error>> {
@@ -451,17 +458,18 @@ impl<'a> NormalLangTag<'a> {
     /// # Ok(())
     /// # }
     /// ```
+    ///
+    /// [RFC 5646 section 2.1.1]: https://www.rfc-editor.org/rfc/rfc5646#section-2.1.1
     #[inline]
     pub fn is_in_recommended_case(&self) -> bool {
         is_in_recommended_case(self.as_bytes())
     }
 
-    /// Returns the owned form of the tag in the case that RFC 5646 section 2.1.1 recommends: `mn-Cyrl-MN` of
-    /// `MN-cYRL-mn`.
+    /// Copies the tag into an owned one, in the case that [RFC 5646 section 2.1.1] recommends.
     ///
     /// # Errors
     ///
-    /// Out of memory.
+    /// Returns an error if allocation fails.
     ///
     /// ```
     /// # fn main() -> Result<(), Box<dyn std::error::Error>> {
@@ -472,6 +480,8 @@ impl<'a> NormalLangTag<'a> {
     /// # Ok(())
     /// # }
     /// ```
+    ///
+    /// [RFC 5646 section 2.1.1]: https://www.rfc-editor.org/rfc/rfc5646#section-2.1.1
     #[cfg(feature = "alloc")]
     #[inline]
     pub fn try_to_recommended_case(&self) -> Result<NormalLangTagBuf, AllocError> {
@@ -486,7 +496,7 @@ impl<'a> NormalLangTag<'a> {
         &self.as_str()[..self.ends.language]
     }
 
-    /// What stands between the end of one part and the end of the next, after the hyphen.
+    /// Returns the span between the end of one part and the end of the next, without the hyphen.
     #[inline]
     fn part(&self, before: usize, end: usize) -> Option<&'a str> {
         if before == end {

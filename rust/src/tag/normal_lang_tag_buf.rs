@@ -26,7 +26,7 @@ use crate::tag::text_of_parts::join_parts;
 use alloc::string::String;
 use core::fmt;
 
-/// A normal tag that owns its text. It keeps where its parts end, as [`NormalLangTag`] does, and lends them with it.
+/// A normal tag that owns its text. Like [`NormalLangTag`], it stores where its parts end.
 ///
 /// ```
 /// # fn main() -> Result<(), Box<dyn std::error::Error>> {
@@ -49,11 +49,11 @@ by_text!(NormalLangTagBuf);
 
 #[cfg(feature = "alloc")]
 impl NormalLangTagBuf {
-    /// Parses a `String` as a normal tag, and keeps it, without a copy: `sl-IT` is Ok.
+    /// Parses a `String` as a normal tag and keeps it, without copying.
     ///
     /// # Errors
     ///
-    /// A text that is not a normal tag comes back, the same `String`: `x-a` does.
+    /// Returns the same `String` if it is not a normal tag, such as `x-a`.
     #[inline]
     pub fn new(text: String) -> Result<NormalLangTagBuf, InvalidNormalLangTag<String>> {
         let Some(ends) = normal_ends(text.as_str()) else {
@@ -62,12 +62,12 @@ impl NormalLangTagBuf {
         Ok(NormalLangTagBuf::with_ends(text, ends))
     }
 
-    /// Returns the normal tag of a language, a script and a region, and no other parts: `zh-Hant-TW` of `zh`, `Hant`
-    /// and `TW`, and `zh` of `zh`, None and None. Memory is taken once, and no more than the text needs.
+    /// Returns the normal tag with a language, a script and a region, and no other parts: `zh-Hant-TW` for `zh`, `Hant`
+    /// and `TW`. It allocates once, exactly the length of the text.
     ///
     /// # Errors
     ///
-    /// Out of memory.
+    /// Returns an error if allocation fails.
     ///
     /// ```
     /// # fn main() -> Result<(), Box<dyn std::error::Error>> {
@@ -100,7 +100,7 @@ impl NormalLangTagBuf {
         Ok(NormalLangTagBuf::with_ends(whole, ends))
     }
 
-    /// The normal tag of a text whose parts are known to end at these offsets: it is not looked at again.
+    /// Returns the normal tag with a text whose parts are known to end at these offsets, without parsing it again.
     #[inline]
     pub(crate) fn with_ends(text: String, ends: Ends) -> NormalLangTagBuf {
         NormalLangTagBuf {
@@ -109,49 +109,49 @@ impl NormalLangTagBuf {
         }
     }
 
-    /// Borrows the tag, with the ends that are kept, so that nothing is looked at again:
-    /// `owned.as_normal_lang_tag().region()` is `IT` of `sl-IT`.
+    /// Borrows the tag, without parsing it again.
     ///
-    /// It is proved that owned normal tags are compared, ordered and hashed without regard to case.
+    /// It is proved that comparisons and hashes of owned normal tags ignore case.
     #[inline]
     pub fn as_normal_lang_tag(&self) -> NormalLangTag<'_> {
         NormalLangTag::with_ends(self.as_str(), self.ends)
     }
 
-    /// Returns the text, with its case: `SL-it` of `SL-it`.
+    /// Returns the text, in its original case.
     #[inline]
     pub fn as_str(&self) -> &str {
         self.text.0.as_str()
     }
 
-    /// Returns the same tag as one of any kind, over the very `String`: `owned.into_lang_tag().kind()` is
-    /// `Kind::Normal`.
+    /// Converts the tag into a [`LangTagBuf`] over the same `String`, without parsing it again.
     #[inline]
     pub fn into_lang_tag(self) -> LangTagBuf {
         LangTagBuf::with_found(self.text.0, Recognised::Normal(self.ends))
     }
 
-    /// Returns the text itself, without a copy: `sl-IT` of `sl-IT`.
+    /// Returns the `String`, without copying it.
     #[inline]
     pub fn into_string(self) -> String {
         self.text.0
     }
 
-    /// Puts the letters into the case that RFC 5646 section 2.1.1 recommends, as [`LangTagBuf::make_recommended_case`] does:
-    /// `mn-Cyrl-MN` of `MN-cYRL-mn`. No memory is taken, and nothing is looked for.
+    /// Changes the letters to the case that [RFC 5646 section 2.1.1] recommends, as [`LangTagBuf::make_recommended_case`]
+    /// does: `MN-cYRL-mn` becomes `mn-Cyrl-MN`. It does not allocate, and parses nothing.
+    ///
+    /// [RFC 5646 section 2.1.1]: https://www.rfc-editor.org/rfc/rfc5646#section-2.1.1
     #[inline]
     pub fn make_recommended_case(&mut self) {
         put_recommended_case(&mut self.text.0);
     }
 
-    /// Puts a language in the old one's place (RFC 5646 sections 2.2.1 and 2.2.2), with its extended subtags: `zh-yue` put into
-    /// `sl-IT` makes `zh-yue-IT`.
+    /// Sets the language, with its extended subtags (RFC 5646 sections 2.2.1 and 2.2.2): with `zh-yue`, `sl-IT` becomes
+    /// `zh-yue-IT`.
     ///
-    /// It goes about this as [`set_script`](NormalLangTagBuf::set_script) does.
+    /// It allocates as [`set_script`](NormalLangTagBuf::set_script) does.
     ///
     /// # Errors
     ///
-    /// Out of memory. The tag is as it was.
+    /// Returns an error if allocation fails. The tag is then unchanged.
     ///
     /// ```
     /// # fn main() -> Result<(), Box<dyn std::error::Error>> {
@@ -168,15 +168,15 @@ impl NormalLangTagBuf {
         self.put(Part::Language(language))
     }
 
-    /// Puts a script in the old one's place, or where one would stand (RFC 5646 section 2.2.3): `Latn` put into `sl-IT` makes
-    /// `sl-Latn-IT`. None takes it out.
+    /// Sets the script, or removes it if `None` is given ([RFC 5646 section 2.2.3]): with `Latn`, `sl-IT` becomes
+    /// `sl-Latn-IT`.
     ///
-    /// The script is put into a new text, and the old one is given up only for the whole new one. None needs no memory.
-    /// The ends of the parts are moved along: the text is not looked at again.
+    /// The new text is complete before the old one is dropped. To remove the script does not allocate. The stored ends
+    /// of the parts are adjusted, so nothing is parsed again.
     ///
     /// # Errors
     ///
-    /// Out of memory. The tag is as it was.
+    /// Returns an error if allocation fails. The tag is then unchanged.
     ///
     /// ```
     /// # fn main() -> Result<(), Box<dyn std::error::Error>> {
@@ -188,19 +188,21 @@ impl NormalLangTagBuf {
     /// # Ok(())
     /// # }
     /// ```
+    ///
+    /// [RFC 5646 section 2.2.3]: https://www.rfc-editor.org/rfc/rfc5646#section-2.2.3
     #[inline]
     pub fn set_script(&mut self, script: Option<Script<'_>>) -> Result<(), AllocError> {
         self.put(Part::Script(script))
     }
 
-    /// Puts a region in the old one's place, or where one would stand (RFC 5646 section 2.2.4): `AT` put into `de-DE-1996`
-    /// makes `de-AT-1996`. None takes it out.
+    /// Sets the region, or removes it if `None` is given ([RFC 5646 section 2.2.4]): with `AT`, `de-DE-1996` becomes
+    /// `de-AT-1996`.
     ///
-    /// It goes about this as [`set_script`](NormalLangTagBuf::set_script) does.
+    /// It allocates as [`set_script`](NormalLangTagBuf::set_script) does.
     ///
     /// # Errors
     ///
-    /// Out of memory. The tag is as it was.
+    /// Returns an error if allocation fails. The tag is then unchanged.
     ///
     /// ```
     /// # fn main() -> Result<(), Box<dyn std::error::Error>> {
@@ -212,19 +214,21 @@ impl NormalLangTagBuf {
     /// # Ok(())
     /// # }
     /// ```
+    ///
+    /// [RFC 5646 section 2.2.4]: https://www.rfc-editor.org/rfc/rfc5646#section-2.2.4
     #[inline]
     pub fn set_region(&mut self, region: Option<Region<'_>>) -> Result<(), AllocError> {
         self.put(Part::Region(region))
     }
 
-    /// Puts variants in the old ones' place, or where some would stand (RFC 5646 section 2.2.5): `1996` put into `de-AT-1901`
-    /// makes `de-AT-1996`. [`Variants::EMPTY`] takes them out, which needs no memory.
+    /// Replaces all variants ([RFC 5646 section 2.2.5]): with `1996`, `de-AT-1901` becomes `de-AT-1996`.
+    /// [`Variants::EMPTY`] removes them, without allocating.
     ///
-    /// It goes about this as [`set_script`](NormalLangTagBuf::set_script) does.
+    /// It allocates as [`set_script`](NormalLangTagBuf::set_script) does.
     ///
     /// # Errors
     ///
-    /// Out of memory. The tag is as it was.
+    /// Returns an error if allocation fails. The tag is then unchanged.
     ///
     /// ```
     /// # fn main() -> Result<(), Box<dyn std::error::Error>> {
@@ -236,19 +240,21 @@ impl NormalLangTagBuf {
     /// # Ok(())
     /// # }
     /// ```
+    ///
+    /// [RFC 5646 section 2.2.5]: https://www.rfc-editor.org/rfc/rfc5646#section-2.2.5
     #[inline]
     pub fn set_variants(&mut self, variants: Variants<'_>) -> Result<(), AllocError> {
         self.put(Part::Variants(variants))
     }
 
-    /// Puts extensions in the old ones' place, or where some would stand (RFC 5646 section 2.2.6): `u-co-phonebk` put into
-    /// `de-x-mine` makes `de-u-co-phonebk-x-mine`. [`Extensions::EMPTY`] takes them out, which needs no memory.
+    /// Replaces all extensions ([RFC 5646 section 2.2.6]): with `u-co-phonebk`, `de-x-mine` becomes
+    /// `de-u-co-phonebk-x-mine`. [`Extensions::EMPTY`] removes them, without allocating.
     ///
-    /// It goes about this as [`set_script`](NormalLangTagBuf::set_script) does.
+    /// It allocates as [`set_script`](NormalLangTagBuf::set_script) does.
     ///
     /// # Errors
     ///
-    /// Out of memory. The tag is as it was.
+    /// Returns an error if allocation fails. The tag is then unchanged.
     ///
     /// ```
     /// # fn main() -> Result<(), Box<dyn std::error::Error>> {
@@ -260,19 +266,21 @@ impl NormalLangTagBuf {
     /// # Ok(())
     /// # }
     /// ```
+    ///
+    /// [RFC 5646 section 2.2.6]: https://www.rfc-editor.org/rfc/rfc5646#section-2.2.6
     #[inline]
     pub fn set_extensions(&mut self, extensions: Extensions<'_>) -> Result<(), AllocError> {
         self.put(Part::Extensions(extensions))
     }
 
-    /// Puts a private use part in the old one's place, or at the end (RFC 5646 section 2.2.7): `x-mine` put into `de-x-a` makes
-    /// `de-x-mine`. None takes it out.
+    /// Sets the private use part, or removes it if `None` is given ([RFC 5646 section 2.2.7]): with `x-mine`, `de-x-a`
+    /// becomes `de-x-mine`.
     ///
-    /// It goes about this as [`set_script`](NormalLangTagBuf::set_script) does.
+    /// It allocates as [`set_script`](NormalLangTagBuf::set_script) does.
     ///
     /// # Errors
     ///
-    /// Out of memory. The tag is as it was.
+    /// Returns an error if allocation fails. The tag is then unchanged.
     ///
     /// ```
     /// # fn main() -> Result<(), Box<dyn std::error::Error>> {
@@ -284,6 +292,8 @@ impl NormalLangTagBuf {
     /// # Ok(())
     /// # }
     /// ```
+    ///
+    /// [RFC 5646 section 2.2.7]: https://www.rfc-editor.org/rfc/rfc5646#section-2.2.7
     #[inline]
     pub fn set_private_use(
         &mut self,

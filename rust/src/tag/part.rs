@@ -9,10 +9,10 @@ use crate::private::PrivateUse;
 use crate::scan::Ends;
 use crate::tag::normal_lang_tag::NormalLangTag;
 
-/// A part of a normal tag (RFC 5646 section 2.1), as [`put_part`] puts it into one.
+/// A part of a normal tag ([RFC 5646 section 2.1]), as an argument of [`put_part`].
 ///
-/// None and the empty text, as [`Variants::EMPTY`], stand for a part that is absent, and take the old one out. There is no tag
-/// without a language.
+/// `None`, [`Variants::EMPTY`] and [`Extensions::EMPTY`] mean that the part is absent, and remove the old one. Every
+/// tag has a language.
 ///
 /// ```
 /// # fn main() -> Result<(), Box<dyn std::error::Error>> {
@@ -23,6 +23,8 @@ use crate::tag::normal_lang_tag::NormalLangTag;
 /// # Ok(())
 /// # }
 /// ```
+///
+/// [RFC 5646 section 2.1]: https://www.rfc-editor.org/rfc/rfc5646#section-2.1
 #[derive(Clone, Copy, Debug)]
 pub enum Part<'a> {
     /// The language, with its extended subtags (section 2.2.1): `zh-yue`.
@@ -39,7 +41,7 @@ pub enum Part<'a> {
     PrivateUse(Option<PrivateUse<'a>>),
 }
 
-/// What stands in place of some bytes of a tag's text once a part is put into it: offsets in bytes, a hyphen and the part.
+/// A change of a tag's text, as [`put_part`] returns it: which bytes to replace, and by what. Offsets are in bytes.
 ///
 /// ```
 /// # fn main() -> Result<(), Box<dyn std::error::Error>> {
@@ -52,30 +54,29 @@ pub enum Part<'a> {
 /// ```
 #[derive(Debug)]
 pub struct Replacement<'a> {
-    /// Where the bytes begin that go: 2 in `de-x-a`, for a private use part.
+    /// The offset of the first byte to replace: 2 in `de-x-a`, for a private use part.
     pub start: usize,
-    /// Where they end: 6 in `de-x-a`. It is `start` where the tag has no such part.
+    /// The offset after the last byte to replace: 6 in `de-x-a`. It equals `start` if the tag has no such part.
     pub end: usize,
-    /// The hyphen before the part; empty before a language, and where the part is taken out.
+    /// The hyphen before the part. It is empty for a language, and if the part is removed.
     pub hyphen: &'static str,
-    /// The text of the part, empty where it is taken out.
+    /// The text of the part, which is empty if the part is removed.
     pub part: &'a str,
 }
 
-/// Returns what has to be replaced in the text of a normal tag so that it has this part in the old one's place, or where one would
-/// stand (RFC 5646 sections 2.2.1 to 2.2.7). It takes no memory: the caller joins the bytes before, the hyphen, the part and
-/// the bytes after.
+/// Returns which bytes of a normal tag's text to replace, and by what, to give it this part (RFC 5646 sections 2.2.1 to
+/// 2.2.7). It does not allocate: the caller joins the bytes before, the hyphen, the part and the bytes after.
 ///
-/// Of `de-DE-1996` and `Part::Region(Region::new("AT").ok())` the bytes from 2 to 5 go, and a hyphen and `AT` come. It
-/// is proved that a clone of a part is the part itself.
+/// To put the region `AT` into `de-DE-1996`, replace the bytes from 2 to 5 by a hyphen and `AT`. It is proved that a
+/// clone of a part is the same part.
 #[inline]
 pub fn put_part<'a>(tag: NormalLangTag<'_>, part: Part<'a>) -> Replacement<'a> {
     part.replacement(&tag.ends())
 }
 
 impl<'a> Part<'a> {
-    /// Returns the text of the part: `Latn` of `Part::Script(Script::new("Latn").ok())`, and the empty one of a part that is
-    /// absent.
+    /// Returns the text of the part: `Latn` for `Part::Script(Script::new("Latn").ok())`, and the empty text for an
+    /// absent part.
     pub fn as_str(&self) -> &'a str {
         match self {
             Part::Language(language) => language.as_str(),
@@ -89,7 +90,7 @@ impl<'a> Part<'a> {
         }
     }
 
-    /// What stands in place of the old part, where the parts end at these offsets.
+    /// Returns how the old part is replaced, if the parts end at these offsets.
     pub(crate) fn replacement(&self, ends: &Ends) -> Replacement<'a> {
         let part = self.as_str();
         let (start, end) = self.place(ends);
@@ -101,7 +102,7 @@ impl<'a> Part<'a> {
         }
     }
 
-    /// Where the part before this one ends, and where this one does.
+    /// Returns where the part before this one ends, and where this one ends.
     fn place(&self, ends: &Ends) -> (usize, usize) {
         match self {
             Part::Language(_) => (0, ends.language),
@@ -113,7 +114,7 @@ impl<'a> Part<'a> {
         }
     }
 
-    /// The hyphen that stands before a text of this part, if one does.
+    /// Returns the hyphen before a text of this part, or nothing if it has none.
     #[inline]
     fn hyphen_before(&self, text: &str) -> &'static str {
         if text.is_empty() || matches!(self, Part::Language(_)) {

@@ -1,11 +1,11 @@
 // Made by rust/erase from crates/langtag/src/private_use_lang_tag.rt. Change that file, not this one.
 
-//! Tags for private use as a whole (RFC 5646 section 2.2.7).
+//! Private-use tags (RFC 5646 section 2.2.7).
 use crate::private::PrivateUse;
 #[cfg(feature = "alloc")]
 use crate::private::PrivateUseBuf;
 
-/// A tag for private use as a whole, as `x-fr-CH`: the same text as a private use part.
+/// A private-use tag, such as `x-fr-CH`. Its text is that of a private use part.
 ///
 /// ```
 /// # fn main() -> Result<(), Box<dyn std::error::Error>> {
@@ -17,7 +17,7 @@ use crate::private::PrivateUseBuf;
 /// ```
 pub type PrivateUseLangTag<'a> = PrivateUse<'a>;
 
-/// A tag for private use as a whole that owns its text.
+/// A private-use tag that owns its text.
 ///
 /// ```
 /// # fn main() -> Result<(), Box<dyn std::error::Error>> {

@@ -1,16 +1,18 @@
 // Made by rust/erase from crates/langtag/src/recognised.rt. Change that file, not this one.
 
-//! What a tag keeps of what the recogniser found of its text.
+//! What a tag stores about its text.
 
 use crate::scan::Ends;
 use crate::tag::grandfathered::GrandfatheredLangTag;
 
-/// Of which kind a tag is (RFC 5646 section 2.1), with what is known of one of that kind, so that its text is not read again.
+/// The kind of a tag ([RFC 5646 section 2.1]), with what was found in its text, so that the text is not parsed again.
+///
+/// [RFC 5646 section 2.1]: https://www.rfc-editor.org/rfc/rfc5646#section-2.1
 #[derive(Clone, Copy)]
 pub(crate) enum Recognised {
     /// A normal tag, and where its parts end.
     Normal(Ends),
-    /// A tag for private use as a whole.
+    /// A private-use tag.
     PrivateUse,
     /// An irregular grandfathered tag.
     Irregular(GrandfatheredLangTag),

@@ -1,17 +1,16 @@
 // Made by rust/erase from crates/langtag/src/repeats.rt. Change that file, not this one.
 
-//! Variants and singletons that stand in a tag twice. Such a tag is well formed, and is not valid (RFC 5646 section
-//! 2.2.9).
+//! Variants and singletons that a tag has twice. Such a tag is well formed but not valid (RFC 5646 section 2.2.9).
 
 use crate::extension::Extensions;
 use crate::place::{Variant, Variants};
 use crate::scan::into_smallcase;
 use crate::tag::variant_blocks::first_repeated_of_many;
 
-/// Up to so many bytes of variants, which are 28 variants at most, each is compared to those before it.
+/// Up to this many bytes of variants, which are at most 28 variants, each variant is compared with those before it.
 const FEW: usize = 143;
 
-/// The index of the first of these variants that is equal, but for case, to an earlier one.
+/// Returns the index of the first of these variants that equals an earlier one, ignoring case.
 #[inline]
 pub(crate) fn first_repeated_variant(variants: Variants<'_>) -> Option<usize> {
     if variants.as_str().len() > FEW {
@@ -20,7 +19,7 @@ pub(crate) fn first_repeated_variant(variants: Variants<'_>) -> Option<usize> {
     first_repeated_of_few(variants)
 }
 
-/// The same, where each variant is compared to those before it.
+/// Returns the same, by comparing each variant with those before it.
 #[inline]
 fn first_repeated_of_few(variants: Variants<'_>) -> Option<usize> {
     for (index, variant) in variants.iter().enumerate() {
@@ -31,10 +30,12 @@ fn first_repeated_of_few(variants: Variants<'_>) -> Option<usize> {
     None
 }
 
-/// Returns whether a variant is equal, but for case, to one of the first so many variants of a list (RFC 5646 section 2.2.5),
-/// or of all where they are fewer.
+/// Returns whether a variant equals one of the first `count` variants of a list, ignoring case
+/// ([RFC 5646 section 2.2.5]). If the list is shorter, all its variants are compared.
 ///
-/// Of `rozaj-1996-1996` and `1996` it is true with a count of 2, and false with a count of 1.
+/// For `rozaj-1996-1996` and `1996` it is `true` with a count of 2, and `false` with a count of 1.
+///
+/// [RFC 5646 section 2.2.5]: https://www.rfc-editor.org/rfc/rfc5646#section-2.2.5
 #[inline]
 pub fn is_among_first(variants: Variants<'_>, count: usize, variant: Variant<'_>) -> bool {
     variants
@@ -43,7 +44,7 @@ pub fn is_among_first(variants: Variants<'_>, count: usize, variant: Variant<'_>
         .any(|earlier| variant == earlier)
 }
 
-/// The index of the first of these extensions whose singleton is equal, but for case, to that of an earlier one.
+/// Returns the index of the first of these extensions whose singleton equals that of an earlier one, ignoring case.
 pub(crate) fn first_repeated_singleton(extensions: Extensions<'_>) -> Option<usize> {
     let mut seen = [false; 128];
     for (index, extension) in extensions.iter().enumerate() {

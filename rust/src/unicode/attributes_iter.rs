@@ -5,7 +5,7 @@
 use crate::tag::Subtags;
 use crate::unicode::subtags::is_among_first;
 
-/// The attributes of the extension `u` that are still to come, in the order of the tag, each once.
+/// The iterator that `attributes` returns: the attributes of the extension `u`, in the order of the tag, each once.
 #[derive(Debug)]
 pub struct AttributesIter<'a> {
     text: &'a str,

@@ -7,7 +7,7 @@ use crate::unicode::keys::Keys;
 use crate::unicode::keywords_iter::KeywordsIter;
 use crate::unicode::subtags::{before_key, extension_text, nonempty, value_in};
 
-/// The extension `t` of a tag (RFC 6497 section 2.2): what the text was before it was transformed, and how it was transformed.
+/// The extension `t` of a tag ([RFC 6497 section 2.2]): what the text was before it was transformed, and how it was transformed.
 ///
 /// ```
 /// # fn main() -> Result<(), Box<dyn std::error::Error>> {
@@ -22,12 +22,16 @@ use crate::unicode::subtags::{before_key, extension_text, nonempty, value_in};
 /// # Ok(())
 /// # }
 /// ```
+///
+/// [RFC 6497 section 2.2]: https://www.rfc-editor.org/rfc/rfc6497#section-2.2
 #[derive(Clone, Copy, Debug)]
 pub struct Transformation<'a> {
     text: &'a str,
 }
 
-/// Returns the first extension `t` of a tag (RFC 6497 section 2.2), None where there is none.
+/// Returns the first extension `t` of a tag ([RFC 6497 section 2.2]), or `None` if there is none.
+///
+/// [RFC 6497 section 2.2]: https://www.rfc-editor.org/rfc/rfc6497#section-2.2
 #[inline]
 pub fn transform<'a>(tag: LangTag<'a>) -> Option<Transformation<'a>> {
     let singleton = Singleton::new(b't').ok()?;
@@ -36,22 +40,23 @@ pub fn transform<'a>(tag: LangTag<'a>) -> Option<Transformation<'a>> {
 }
 
 impl<'a> Transformation<'a> {
-    /// Returns the language before the first field, a slice of the tag: `ja-latn` of `und-t-ja-latn-m0-hepburn`, and None of
-    /// `und-t-m0-hepburn`. It need not be a tag: `abcd-efgh-ijkl` stands in `und-t-abcd-efgh-ijkl`.
+    /// Returns the language of the source text, as a slice of the tag: `ja-latn` for `und-t-ja-latn-m0-hepburn`, `None`
+    /// for `und-t-m0-hepburn`. It need not be a tag: for `und-t-abcd-efgh-ijkl` it is `abcd-efgh-ijkl`.
     #[inline]
     pub fn language(&self) -> Option<&'a str> {
         nonempty(before_key(nonempty(self.text), Keys::Transform))
     }
 
-    /// Returns the value of a field, a slice of the tag: `hepburn` of `und-t-ja-m0-hepburn` for `m0`. Keys are compared without regard
-    /// to case, and of a repeated one the first counts. It is None where the field does not stand, and empty where it has no value.
+    /// Returns the value of a field, as a slice of the tag: in `und-t-ja-m0-hepburn` the field `m0` has the value
+    /// `hepburn`. Case is ignored, and the first of repeated keys counts. Returns `None` if the field is absent, and
+    /// the empty text if it has no value.
     #[inline]
     pub fn field(&self, key: &str) -> Option<&'a str> {
         value_in(self.text, Keys::Transform, key)
     }
 
-    /// Returns the fields in the order of the tag, each key once, with its first value: `m0` and `hepburn` of
-    /// `und-t-ja-m0-hepburn`.
+    /// Returns an iterator over the fields, in the order of the tag, each key once with its first value: `m0` with
+    /// `hepburn` for `und-t-ja-m0-hepburn`.
     #[inline]
     pub fn fields(&self) -> KeywordsIter<'a> {
         KeywordsIter::new(self.text, Keys::Transform)

@@ -8,21 +8,24 @@ use crate::unicode::keys::Keys;
 use crate::unicode::keywords_iter::KeywordsIter;
 use crate::unicode::subtags::{before_key, nonempty, unicode_text, value_in};
 
-/// A keyword of the extension `u` (RFC 6067 section 2.1), or a field of the extension `t` (RFC 6497 section 2.2), as slices of the
-/// tag: the key `ca` and the value `islamic-civil` of `ar-u-ca-islamic-civil`.
+/// A keyword of the extension `u` ([RFC 6067 section 2.1]), or a field of the extension `t` ([RFC 6497 section 2.2]), as
+/// slices of the tag: the key `ca` with the value `islamic-civil` in `ar-u-ca-islamic-civil`.
+///
+/// [RFC 6067 section 2.1]: https://www.rfc-editor.org/rfc/rfc6067#section-2.1
+/// [RFC 6497 section 2.2]: https://www.rfc-editor.org/rfc/rfc6497#section-2.2
 #[derive(Clone, Copy, Debug)]
 pub struct KeyValue<'a> {
     /// The key, as it is written.
     pub key: &'a str,
-    /// The value, with its hyphens. It is empty where the key stands alone, which means `true`.
+    /// The value, with its hyphens. It is empty if the key has no value, which means `true`.
     pub value: &'a str,
 }
 
-/// Returns the value of a key of the extension `u` (RFC 6067 section 2.1), a slice of the tag: `islamic-civil` of
-/// `ar-u-ca-islamic-civil-nu-latn` for `ca`. Keys are compared without regard to case.
+/// Returns the value of a key of the extension `u` ([RFC 6067 section 2.1]), as a slice of the tag: in
+/// `ar-u-ca-islamic-civil-nu-latn` the key `ca` has the value `islamic-civil`. Case is ignored.
 ///
-/// The value is empty where the key stands alone, as that of `kn` in `de-u-kn`; it means `true`. It is None where the key does not
-/// stand, or is no key, or the tag has no such extension. Of a repeated key the first counts.
+/// The value is empty if the key has none, like `kn` in `de-u-kn`, which means `true`. Returns `None` if the key is
+/// absent, or is not a key, or if the tag has no such extension. The first of repeated keys counts.
 ///
 /// ```
 /// # fn main() -> Result<(), Box<dyn std::error::Error>> {
@@ -36,15 +39,17 @@ pub struct KeyValue<'a> {
 /// # Ok(())
 /// # }
 /// ```
+///
+/// [RFC 6067 section 2.1]: https://www.rfc-editor.org/rfc/rfc6067#section-2.1
 #[inline]
 pub fn keyword<'a>(tag: LangTag<'a>, key: &str) -> Option<&'a str> {
     value_in(unicode_text(tag), Keys::Unicode, key)
 }
 
-/// Returns the keywords of the extension `u` (RFC 6067 section 2.1) in the order of the tag, each key once, with its first value.
-/// A tag without that extension has none.
+/// Returns an iterator over the keywords of the extension `u` ([RFC 6067 section 2.1]), in the order of the tag, each key
+/// once with its first value.
 ///
-/// A key is compared with the subtags before it, so all steps together take time with the square of their number.
+/// Each key is compared with the subtags before it, so the time for all is quadratic in the number of subtags.
 ///
 /// ```
 /// # fn main() -> Result<(), Box<dyn std::error::Error>> {
@@ -58,15 +63,17 @@ pub fn keyword<'a>(tag: LangTag<'a>, key: &str) -> Option<&'a str> {
 /// # Ok(())
 /// # }
 /// ```
+///
+/// [RFC 6067 section 2.1]: https://www.rfc-editor.org/rfc/rfc6067#section-2.1
 #[inline]
 pub fn keywords<'a>(tag: LangTag<'a>) -> KeywordsIter<'a> {
     KeywordsIter::new(unicode_text(tag), Keys::Unicode)
 }
 
-/// Returns the attributes of the extension `u` (RFC 6067 section 2.1), which stand before its first key, in the order of the tag.
-/// Each comes once, whatever its case.
+/// Returns an iterator over the attributes of the extension `u` ([RFC 6067 section 2.1]), which precede its first key.
+/// They come in the order of the tag, each once, ignoring case.
 ///
-/// An attribute is compared with those before it, so all steps together take time with the square of their number.
+/// Each attribute is compared with those before it, so the time for all is quadratic in their number.
 ///
 /// ```
 /// # fn main() -> Result<(), Box<dyn std::error::Error>> {
@@ -80,6 +87,8 @@ pub fn keywords<'a>(tag: LangTag<'a>) -> KeywordsIter<'a> {
 /// # Ok(())
 /// # }
 /// ```
+///
+/// [RFC 6067 section 2.1]: https://www.rfc-editor.org/rfc/rfc6067#section-2.1
 #[inline]
 pub fn attributes<'a>(tag: LangTag<'a>) -> AttributesIter<'a> {
     AttributesIter::new(before_key(nonempty(unicode_text(tag)), Keys::Unicode))

@@ -5,11 +5,11 @@
 use crate::calls::tag::tag_of;
 use crate::registry::{is_canonical, write_canonical};
 
-/// Writes the canonical form of a tag, and returns its length in bytes: `he` of `iw`, `yue` of `zh-yue`. What is put in has
-/// the registry's case, all else keeps its own. Where the buffer is too short it stays as it was, and the length says how
-/// much room there has to be: never more than twice as many bytes as the tag has, and 14.
+/// Writes the canonical form of a tag, and returns its length in bytes: `he` for `iw`, `yue` for `zh-yue`. Replacements
+/// have the case of the registry, and everything else keeps its case. If the buffer is too short, it stays unchanged,
+/// and the length says how much room is needed. It is at most twice the length of the tag plus 14.
 ///
-/// 0 where the bytes are not a tag; the buffer then stays, too.
+/// Returns 0 and writes nothing if the bytes are not a tag.
 #[inline]
 pub fn langtag_canonical(bytes: &[u8], buffer: &mut [u8]) -> usize {
     match tag_of(bytes) {
@@ -18,8 +18,8 @@ pub fn langtag_canonical(bytes: &[u8], buffer: &mut [u8]) -> usize {
     }
 }
 
-/// Returns whether the bytes are a tag that is its own canonical form, whatever the case of its letters: true of `he` and
-/// `HE`, false of `iw`, and of what is not a tag.
+/// Returns whether the bytes are a tag that equals its canonical form, ignoring case: `true` for `he` and `HE`, `false`
+/// for `iw`, and for bytes that are not a tag.
 #[inline]
 pub fn langtag_is_canonical(bytes: &[u8]) -> bool {
     match tag_of(bytes) {

@@ -1,6 +1,6 @@
 // Made by rust/erase from crates/langtag_c/src/choice.rt. Change that file, not this one.
 
-//! The tag that a reader wants, and how far a tag is from one that they desire (UTS #35, part 1, section 'Language Matching').
+//! The best tag for a reader, and the distance of two tags (UTS #35, part 1, section 'Language Matching').
 
 use crate::calls::span::Span;
 use crate::calls::spanned_tags::SpannedTags;
@@ -10,9 +10,9 @@ use crate::choice::{best_among, distance};
 /// The distance where one of two texts is not a tag.
 const NO_DISTANCE: u32 = u32::MAX;
 
-/// Returns the distance from a tag that a reader desires to one that there is (UTS #35, Language Matching): 0 from `zh-TW` to
-/// `zh-Hant`, 4 from `de-AT` to `de`, at most 134, and 255 from a tag without a matching form, or to one, that is not equal but
-/// for case. [`NO_DISTANCE`] where one of the texts is not a tag.
+/// Returns the distance from a desired tag to a supported tag (UTS #35, Language Matching): 0 from `zh-TW` to
+/// `zh-Hant`, 4 from `de-AT` to `de`, and at most 134. It is 255 if one of two different tags has no known language,
+/// and [`NO_DISTANCE`] if one of the texts is not a tag.
 pub fn langtag_distance(desired: &[u8], supported: &[u8]) -> u32 {
     match (tag_of(desired), tag_of(supported)) {
         (Some(desired), Some(supported)) => u32::from(distance(desired, supported)),
@@ -20,9 +20,9 @@ pub fn langtag_distance(desired: &[u8], supported: &[u8]) -> u32 {
     }
 }
 
-/// Returns the index of the tag that the reader wants who sent an Accept-Language header, among tags that spans of a text are:
-/// 2 for `zh-TW,zh;q=0.9,en;q=0.8` and `en`, `zh-Hans` and `zh-Hant`. Their number where the reader wants none of them. A span
-/// that is no tag, or reaches out of the text, is passed over.
+/// Returns the index of the best tag for an Accept-Language header, or the number of tags if none is suitable: 2 for
+/// `zh-TW,zh;q=0.9,en;q=0.8` and the tags `en`, `zh-Hans` and `zh-Hant`. The tags are spans of a text. A span that is
+/// not a tag, or reaches beyond the text, is skipped.
 #[inline]
 pub fn langtag_best_for_header(header: &[u8], bytes: &[u8], tags: &[Span]) -> usize {
     let spanned = SpannedTags {

@@ -5,14 +5,14 @@
 use crate::scan::{case_insensitive_cmp, case_insensitive_eq, into_smallcase};
 use core::cmp::Ordering;
 
-/// Returns whether two texts are equal but for the case of ASCII letters.
+/// Returns whether two texts are equal, ignoring the case of ASCII letters.
 #[inline]
 pub fn langtag_eq(a: &[u8], b: &[u8]) -> bool {
     case_insensitive_eq(a, b)
 }
 
-/// Returns the order of two texts by their folded bytes: -1, 0 or 1. Of two texts of which one begins the other the
-/// shorter is the greater.
+/// Compares two texts by their lowercase bytes, and returns -1, 0 or 1. If one begins the other, the shorter is
+/// greater.
 #[inline]
 pub fn langtag_cmp(a: &[u8], b: &[u8]) -> i32 {
     match case_insensitive_cmp(a, b) {
@@ -22,7 +22,7 @@ pub fn langtag_cmp(a: &[u8], b: &[u8]) -> i32 {
     }
 }
 
-/// Returns the FNV-1a hash, of 64 bits, of the folded bytes, from a state on.
+/// Returns the 64-bit FNV-1a hash of the lowercase bytes, starting from a state.
 #[inline]
 pub fn langtag_hash(state: u64, bytes: &[u8]) -> u64 {
     let mut hash = state;
@@ -32,7 +32,7 @@ pub fn langtag_hash(state: u64, bytes: &[u8]) -> u64 {
     hash
 }
 
-/// Makes each capital ASCII letter small, in place: what a text is to be hashed by in another way.
+/// Changes ASCII uppercase letters to lowercase, in place, for example to hash a text in another way.
 #[inline]
 pub fn langtag_fold(bytes: &mut [u8]) {
     bytes.make_ascii_lowercase();

@@ -5,8 +5,8 @@
 use crate::calls::tag::tag_of;
 use crate::likely::is_right_to_left;
 
-/// Returns whether the bytes are a tag that is written from right to left: true of `he`, `pa-PK` and `az-Arab`, false of
-/// `ar-Latn`, and of what is not a tag.
+/// Returns whether the bytes are a tag that is written from right to left: `true` for `he`, `pa-PK` and `az-Arab`,
+/// `false` for `ar-Latn`, and for bytes that are not a tag.
 #[inline]
 pub fn langtag_is_right_to_left(bytes: &[u8]) -> bool {
     match tag_of(bytes) {

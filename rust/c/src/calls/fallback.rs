@@ -1,13 +1,15 @@
 // Made by rust/erase from crates/langtag_c/src/fallback.rt. Change that file, not this one.
 
-//! What a look-up falls back to from a language range (RFC 4647 section 3.4), without memory.
+//! The fallbacks of a language range in a look-up (RFC 4647 section 3.4), without allocating.
 
 use crate::calls::span::Span;
 use crate::scan::segment_start;
 
-/// Cuts the last subtag off a language range, or off what is left of one, and each single letter, digit or `*` that would
-/// then stand last (RFC 4647 section 3.4). False where nothing is left, or where the span does not lie within the bytes; then
-/// it stays as it was.
+/// Removes the last subtag of a language range, and each single letter, digit or `*` that would then be last
+/// ([RFC 4647 section 3.4]). Returns `false` and changes nothing if nothing would be left, or if the span reaches beyond
+/// the bytes.
+///
+/// [RFC 4647 section 3.4]: https://www.rfc-editor.org/rfc/rfc4647#section-3.4
 pub fn langtag_next_fallback(bytes: &[u8], rest: &mut Span) -> bool {
     let Some(range) = rest.of(bytes) else {
         return false;
@@ -20,7 +22,7 @@ pub fn langtag_next_fallback(bytes: &[u8], rest: &mut Span) -> bool {
 }
 
 /// Returns how much is left of a range without its last subtag, and without each single character that would stand last
-/// then; None where nothing is.
+/// then; `None` if nothing is.
 fn shortened_len(range: &[u8]) -> Option<usize> {
     let mut left = range;
     while let Some(len) = len_without_last(left) {

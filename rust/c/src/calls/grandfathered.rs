@@ -4,8 +4,10 @@
 
 use crate::tag::GrandfatheredLangTag;
 
-/// Returns which of the 26 grandfathered tags the bytes are, in any case, counted from 0 in the order of RFC 5646
-/// section 2.1: below 17 an irregular one. 26 says that they are none.
+/// Returns the index of a grandfathered tag, ignoring case, in the order of [RFC 5646 section 2.1]. Below 17 the tag is
+/// irregular. Returns 26 if the bytes are not a grandfathered tag.
+///
+/// [RFC 5646 section 2.1]: https://www.rfc-editor.org/rfc/rfc5646#section-2.1
 #[inline]
 pub fn langtag_grandfathered(bytes: &[u8]) -> u32 {
     match GrandfatheredLangTag::new(bytes) {

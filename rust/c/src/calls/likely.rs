@@ -6,10 +6,10 @@ use crate::calls::registry_date::number_of;
 use crate::calls::tag::tag_of;
 use crate::likely::{write_maximized, write_minimized, CLDR_VERSION};
 
-/// Writes a tag with its likely subtags (UTS #35, Add Likely Subtags), and returns its length in bytes: `zh-Hant-TW` of
-/// `zh-TW`. Where the buffer is too short it stays as it was, and the length says how much room there has to be.
+/// Writes a tag with its likely subtags (UTS #35, Add Likely Subtags), and returns its length in bytes: `zh-TW` becomes
+/// `zh-Hant-TW`. If the buffer is too short, it stays unchanged, and the length says how much room is needed.
 ///
-/// 0 where the bytes are not a tag; the buffer then stays, too.
+/// Returns 0 and writes nothing if the bytes are not a tag.
 #[inline]
 pub fn langtag_maximize(bytes: &[u8], buffer: &mut [u8]) -> usize {
     match tag_of(bytes) {
@@ -18,11 +18,11 @@ pub fn langtag_maximize(bytes: &[u8], buffer: &mut [u8]) -> usize {
     }
 }
 
-/// Writes a tag without the subtags that are likely anyway (UTS #35, Remove Likely Subtags), and returns its length in bytes:
-/// `zh-TW` of `zh-Hant-TW`. Where the buffer is too short it stays as it was, and the length says how much room there has to
-/// be.
+/// Writes a tag without its likely subtags (UTS #35, Remove Likely Subtags), and returns its length in bytes:
+/// `zh-Hant-TW` becomes `zh-TW`. If the buffer is too short, it stays unchanged, and the length says how much room is
+/// needed.
 ///
-/// 0 where the bytes are not a tag; the buffer then stays, too.
+/// Returns 0 and writes nothing if the bytes are not a tag.
 #[inline]
 pub fn langtag_minimize(bytes: &[u8], buffer: &mut [u8]) -> usize {
     match tag_of(bytes) {

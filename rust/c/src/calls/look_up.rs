@@ -1,6 +1,7 @@
 // Made by rust/erase from crates/langtag_c/src/look_up.rt. Change that file, not this one.
 
-//! The tag that look-up finds for an Accept-Language header (RFC 9110 section 12.5.4, RFC 4647 section 3.4), without memory.
+//! The tag that look-up finds for an Accept-Language header (RFC 9110 section 12.5.4, RFC 4647 section 3.4), without
+//! allocating.
 
 use crate::calls::accepted::number_of;
 use crate::calls::span::Span;
@@ -8,9 +9,10 @@ use crate::calls::spanned_tags::{bytes_in, tag_in, SpannedTags};
 use crate::matching::{element_at, is_empty_element, ElementPart, LanguageRange};
 use crate::scan::case_insensitive_eq;
 
-/// Looks up a tag for an Accept-Language header, among tags that spans of a text are, and refuses a header with a bad element. 0 where
-/// each element is good: then `index` is that of the tag, or the number of the spans where look-up finds none. 2 where the language
-/// range of the first bad element is bad, 3 where its weight is: then `bad` is where it stands between its commas.
+/// Looks up a tag for an Accept-Language header, and refuses a header with a malformed element. The tags are spans of a
+/// text. Returns 0 if no element is malformed: `index` is then that of the tag, or the number of spans if look-up finds
+/// none. Returns 2 if the language range of the first malformed element is malformed, and 3 if its weight is: `bad` is
+/// then the text between its commas.
 pub fn langtag_tag_for_header(
     header: &[u8],
     bytes: &[u8],
@@ -31,8 +33,9 @@ pub fn langtag_tag_for_header(
     0
 }
 
-/// Looks up a tag for an Accept-Language header, among tags that spans of a text are, and passes bad elements over. Returns the index of
-/// the tag, or the number of the spans where look-up finds none. A span that is no tag, or reaches out of the text, is passed over.
+/// Looks up a tag for an Accept-Language header, and skips malformed elements. Returns the index of the tag, or the
+/// number of spans if look-up finds none. The tags are spans of a text. A span that is not a tag, or reaches beyond the
+/// text, is skipped.
 #[inline]
 pub fn langtag_tag_for_header_lenient(header: &[u8], bytes: &[u8], tags: &[Span]) -> usize {
     let spanned = SpannedTags {
@@ -104,7 +107,7 @@ fn first_bad(header: &[u8]) -> Option<(Span, ElementPart)> {
     None
 }
 
-/// Returns which part of an item is bad: None where it is empty, or an element.
+/// Returns which part of an item is bad: `None` if it is empty, or an element.
 #[inline]
 fn bad_part(item: &[u8]) -> Option<ElementPart> {
     match element_at(item) {
@@ -114,6 +117,6 @@ fn bad_part(item: &[u8]) -> Option<ElementPart> {
 }
 
 #[inline]
-fn is_comma(byte: u8) -> bool {
+pub(crate) fn is_comma(byte: u8) -> bool {
     byte == b','
 }

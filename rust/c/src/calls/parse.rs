@@ -1,11 +1,11 @@
 // Made by rust/erase from crates/langtag_c/src/parse.rt. Change that file, not this one.
 
-//! Whether bytes are a tag, of which kind, and where its parts stand.
+//! Whether bytes are a tag, of which kind, and where its parts are.
 
 use crate::calls::span::Span;
 use crate::scan::{recognise, Ends, Found, Metered};
 
-/// Where the parts of a tag stand in its text.
+/// Where the parts of a tag are in its text.
 #[repr(C)]
 #[derive(Clone, Copy)]
 pub struct Parts {
@@ -52,14 +52,14 @@ impl Parts {
     }
 }
 
-/// What the recogniser finds of the bytes; None where they are not a tag.
+/// What the recogniser finds of the bytes; `None` if they are not a tag.
 #[inline(always)]
 fn found_of(bytes: &[u8]) -> Option<Found> {
     recognise(&mut Metered::of_bytes(bytes))
 }
 
-/// Returns the kind of the tag that the bytes are: 1 for a normal one, 2 for private use, 3 for an irregular one, and 0
-/// where they are not a tag.
+/// Returns the kind of a tag: 1 for a normal one, 2 for private use, 3 for an irregular one, and 0 if the bytes are not
+/// a tag.
 pub fn langtag_kind(bytes: &[u8]) -> u32 {
     let Some(found) = found_of(bytes) else {
         return 0;
@@ -73,8 +73,8 @@ pub fn langtag_kind(bytes: &[u8]) -> u32 {
     }
 }
 
-/// Returns the kind, as [`langtag_kind`] returns it, and where the parts stand. A tag for private use is its own
-/// private use part; an irregular one has no parts. All of `parts` is written, also where the answer is 0.
+/// Returns the kind, as [`langtag_kind`] returns it, and writes where the parts are. A private-use tag is its own
+/// private use part, and an irregular tag has no parts. All of `parts` is written, even if the result is 0.
 pub fn langtag_parse(bytes: &[u8], parts: &mut Parts) -> u32 {
     let Some(found) = found_of(bytes) else {
         *parts = Parts::none();

@@ -5,8 +5,10 @@
 use crate::calls::tag::tag_of;
 use crate::matching::LanguageRange;
 
-/// Returns 1 where the bytes are a basic language range (RFC 4647 section 2.1), as `de-CH` and `*`, 2 where they are an
-/// extended one that is not basic (section 2.2), as `de-*-DE`, and 0 where they are not a range.
+/// Returns 1 for a basic language range ([RFC 4647 section 2.1]), such as `de-CH` and `*`, 2 for an extended range that
+/// is not basic (section 2.2), such as `de-*-DE`, and 0 if the bytes are not a range.
+///
+/// [RFC 4647 section 2.1]: https://www.rfc-editor.org/rfc/rfc4647#section-2.1
 #[inline]
 pub fn langtag_range_kind(bytes: &[u8]) -> u32 {
     match range_of(bytes) {
@@ -16,8 +18,10 @@ pub fn langtag_range_kind(bytes: &[u8]) -> u32 {
     }
 }
 
-/// Returns whether a range matches a tag by basic filtering (RFC 4647 section 3.3.1): `de-DE` matches `de-DE-1996`, and
-/// not `de-Latn-DE`. False where the first bytes are not a range, or the second not a tag.
+/// Returns whether a range matches a tag by basic filtering ([RFC 4647 section 3.3.1]): `de-DE` matches `de-DE-1996`, but
+/// not `de-Latn-DE`. Returns `false` if the first text is not a range, or the second is not a tag.
+///
+/// [RFC 4647 section 3.3.1]: https://www.rfc-editor.org/rfc/rfc4647#section-3.3.1
 pub fn langtag_matches_basic(range: &[u8], tag: &[u8]) -> bool {
     match (range_of(range), tag_of(tag)) {
         (Some(range), Some(tag)) => range.matches_basic(&tag),
@@ -25,8 +29,10 @@ pub fn langtag_matches_basic(range: &[u8], tag: &[u8]) -> bool {
     }
 }
 
-/// Returns whether a range matches a tag by extended filtering (RFC 4647 section 3.3.2): `de-DE` and `de-*-DE` match
-/// `de-Latn-DE`. False where the first bytes are not a range, or the second not a tag.
+/// Returns whether a range matches a tag by extended filtering ([RFC 4647 section 3.3.2]): `de-DE` and `de-*-DE` match
+/// `de-Latn-DE`. Returns `false` if the first text is not a range, or the second is not a tag.
+///
+/// [RFC 4647 section 3.3.2]: https://www.rfc-editor.org/rfc/rfc4647#section-3.3.2
 pub fn langtag_matches_extended(range: &[u8], tag: &[u8]) -> bool {
     match (range_of(range), tag_of(tag)) {
         (Some(range), Some(tag)) => range.matches_extended(&tag),

@@ -4,8 +4,7 @@
 
 use crate::registry::FILE_DATE;
 
-/// Returns the File-Date of the registry by which tags are valid and canonical, its year, month and day as the digits of one
-/// number: 20051016 of 2005-10-16.
+/// Returns the File-Date of the registry as one number, whose digits are year, month and day: 20250131 for 2025-01-31.
 #[inline]
 pub fn langtag_registry_date() -> u32 {
     number_of(FILE_DATE.as_bytes())

@@ -1,13 +1,13 @@
 // Made by rust/erase from crates/langtag_c/src/repeats.rt. Change that file, not this one.
 
-//! Variants and singletons that stand in a tag twice (RFC 5646 section 2.2.9).
+//! Variants and singletons that a tag has twice (RFC 5646 section 2.2.9).
 
 use crate::calls::span::Span;
 use crate::calls::tag::normal_tag_of;
 use crate::tag::NormalLangTag;
 
-/// Where the first variant and the first singleton stand that are equal, but for case, to an earlier one. What is not there
-/// has no byte.
+/// Where the first variant and the first singleton are that equal an earlier one, ignoring case. An absent one has no
+/// bytes.
 #[repr(C)]
 #[derive(Clone, Copy)]
 pub struct Repeated {
@@ -15,9 +15,9 @@ pub struct Repeated {
     pub singleton: Span,
 }
 
-/// Returns 1 where a variant of a normal tag is equal, but for case, to an earlier one, and 2 more where a singleton is; and
-/// where the first of each stands, as the second `1996` of `de-1996-1996`. Such a tag is well formed, and is not valid.
-/// 0 for what is not a normal tag. All of `repeated` is written.
+/// Returns 1 if a variant of a normal tag equals an earlier one, ignoring case, 2 if a singleton does, and 3 if both
+/// do. Writes where the first of each is, such as the second `1996` in `de-1996-1996`. Such a tag is well formed but
+/// not valid. Returns 0 for any other text. All of `repeated` is written.
 pub fn langtag_repeats(bytes: &[u8], repeated: &mut Repeated) -> u32 {
     let none = Span { start: 0, len: 0 };
     let Some(tag) = normal_tag_of(bytes) else {
@@ -42,7 +42,7 @@ fn repeated_variant(tag: &NormalLangTag<'_>) -> Option<Span> {
     variant_at(tag, tag.repeated_variant_index()?)
 }
 
-/// Where the variant at an index stands in a tag.
+/// Returns where the variant at an index is in a tag.
 pub(crate) fn variant_at(tag: &NormalLangTag<'_>, wanted: usize) -> Option<Span> {
     tag.variants()
         .iter()
@@ -61,7 +61,7 @@ fn repeated_singleton(tag: &NormalLangTag<'_>) -> Option<Span> {
     singleton_at(tag, tag.repeated_singleton_index()?)
 }
 
-/// Where the singleton of the extension at an index stands in a tag.
+/// Returns where the singleton of the extension at an index is in a tag.
 pub(crate) fn singleton_at(tag: &NormalLangTag<'_>, wanted: usize) -> Option<Span> {
     tag.extensions()
         .iter()

@@ -1,8 +1,8 @@
 // Made by rust/erase from crates/langtag_c/src/span.rt. Change that file, not this one.
 
-//! Where a part of a text stands in it.
+//! Where a part of a text is.
 
-/// So many bytes of a text from an index on. A part that is absent has none.
+/// Some bytes of a text: where they start, and how many they are. An absent part has none.
 #[repr(C)]
 #[derive(Clone, Copy)]
 pub struct Span {
@@ -11,7 +11,7 @@ pub struct Span {
 }
 
 impl Span {
-    /// What stands between the end of one part and the end of the next, after the hyphen.
+    /// Returns the span between the end of one part and the end of the next, without the hyphen.
     #[inline]
     pub(crate) fn between(before: usize, end: usize) -> Span {
         let start = if before < end { before + 1 } else { end };
@@ -21,7 +21,7 @@ impl Span {
         }
     }
 
-    /// The bytes, where there are any and they lie within the text.
+    /// Returns the bytes, if there are any and they are within the text.
     #[inline]
     pub(crate) fn of<'a>(&self, text: &'a [u8]) -> Option<&'a [u8]> {
         if self.len == 0 {
@@ -31,7 +31,7 @@ impl Span {
         text.get(self.start..end)
     }
 
-    /// Takes so many bytes off the start, and the hyphen after them.
+    /// Removes a number of bytes from the start, and the hyphen after them.
     #[inline]
     pub(crate) fn take_first(&mut self, len: usize) -> Span {
         let first = Span {

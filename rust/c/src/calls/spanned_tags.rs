@@ -1,6 +1,6 @@
 // Made by rust/erase from crates/langtag_c/src/spanned_tags.rt. Change that file, not this one.
 
-//! The tags that spans of a text are.
+//! Tags as spans of a text.
 
 use crate::calls::span::Span;
 use crate::calls::tag::tag_of;
@@ -37,7 +37,7 @@ pub(crate) fn tag_in<'a>(text: &'a [u8], span: Span) -> Option<LangTag<'a>> {
     tag_of(span.of(text)?)
 }
 
-/// Returns the bytes of a span of a text: none where it has none there.
+/// Returns the bytes of a span of a text, or none if it reaches beyond the text.
 #[inline]
 pub(crate) fn bytes_in<'a>(text: &'a [u8], span: Span) -> &'a [u8] {
     span.of(text).unwrap_or(b"")

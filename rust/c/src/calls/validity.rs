@@ -8,10 +8,10 @@ use crate::calls::tag::tag_of;
 use crate::registry::{fault_at, InvalidSubtag};
 use crate::tag::NormalLangTag;
 
-/// Returns 1 where the bytes are a valid tag, 0 where they are not a tag, and else what is wrong first: 2 and 3 for a
-/// language and an extended language that is not registered, 4 for a second extended one, 5, 6 and 7 for a script, a
-/// region and a variant that is not registered, 8 and 9 for a repeated variant and singleton. `invalid` is where that
-/// subtag stands; it has no byte where the answer is 0 or 1.
+/// Returns 1 for a valid tag, 0 if the bytes are not a tag, and otherwise what is wrong first. It is 2 for a language,
+/// 3 for an extended language, 5 for a script, 6 for a region and 7 for a variant that is not registered. It is 4 for a
+/// second extended language, 8 for a repeated variant and 9 for a repeated singleton. `invalid` is where that subtag
+/// is, or empty if the result is 0 or 1.
 pub fn langtag_validity(bytes: &[u8], invalid: &mut Span) -> u32 {
     *invalid = Span { start: 0, len: 0 };
     let Some(tag) = tag_of(bytes) else {

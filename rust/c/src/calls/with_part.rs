@@ -1,18 +1,18 @@
 // Made by rust/erase from crates/langtag_c/src/with_part.rt. Change that file, not this one.
 
-//! A tag with another part, in the caller's buffer (RFC 5646 sections 2.2.1 to 2.2.7).
+//! A tag with another part, written to a buffer of the caller (RFC 5646 sections 2.2.1 to 2.2.7).
 
 use crate::calls::part::part_of;
 use crate::calls::tag::normal_tag_of;
 use crate::output::write_pieces;
 use crate::tag::{put_part, Replacement};
 
-/// Writes a normal tag with one of its parts set to a text, or taken out where that is empty, and returns its length in
-/// bytes. The parts are counted from 0, the language, in the order in which they stand. Where the buffer is too short it
-/// stays as it was, and the answer says how much room there has to be.
+/// Writes a normal tag with one part set to a text, or removed if that is empty, and returns its length in bytes. The
+/// parts are numbered in their order, from 0 for the language. If the buffer is too short, it stays unchanged, and the
+/// length says how much room is needed.
 ///
-/// 0 where the tag is not a normal one, or the text not one of that part, which for a language the empty one is not either;
-/// the buffer then stays, too.
+/// Returns 0 and writes nothing if the tag is not a normal one, or if the text is not such a part. The empty text is
+/// not a language.
 pub fn langtag_with_part(tag: &[u8], part: u32, text: &[u8], buffer: &mut [u8]) -> usize {
     let Some(part) = part_of(part, text) else {
         return 0;

@@ -1,13 +1,13 @@
 use Rattle.std.proofs.Common.{◌<◌, Some, option_map, refl, sym, ap, ◌∙◌, arith, length}
-use Rattle.langtag_likely.specs.declared.alias_tables.TheConstants.{ALIAS_LANGUAGES, ALIAS_SCRIPTS}
-use Rattle.langtag_likely.specs.Good.{is_language_field, is_script_field}
+use Rattle.langtag_likely.specs.declared.alias_tables.TheConstants.{ALIAS_LANGUAGES, ALIAS_SCRIPT_NAMES, ALIAS_SCRIPTS, ALIAS_REGION_NAMES, ALIAS_REGIONS}
+use Rattle.langtag_likely.specs.Good.{is_language_field, is_script_field, is_region_field}
 use Rattle.langtag_likely.specs.Likely.{language_alone}
 use Rattle.langtag_likely.specs.Aliases.{language_aliases}
 use Rattle.langtag_likely.specs.Texts.{field_texts}
 use Rattle.langtag_likely.proofs.AliasLaws.{alias_at, alias_found}
-use Rattle.langtag_likely.proofs.Columns.{name_good}
+use Rattle.langtag_likely.proofs.Columns.{column_good, name_good}
 use Rattle.langtag_likely.proofs.FieldClasses.{language_letters}
-use Rattle.langtag_likely.proofs.AliasTables.{alias_count, aliases_short, alias_languages_good, alias_scripts_good}
+use Rattle.langtag_likely.proofs.AliasTables.{alias_count, aliases_short, alias_languages_good, alias_scripts_good, alias_regions_good}
 use Rattle.langtag_likely.proofs.FirstIndex.{first_index-is, index_searched}
 use Rattle.langtag_likely.proofs.RowsFound.{long_nowhere}
 use Rattle.langtag_likely.proofs.aliases.language_alias.Goals as goal
@@ -26,8 +26,8 @@ invariant_of-result c =
     let within : c.in_ok-index.index < length ALIAS_LANGUAGES = omega (arith, at.inside, c.alias_keys.ensures.count) in
     record {
       language_class = name_good is_language_field ALIAS_LANGUAGES c.name_at.result.now c.in_ok-index.index alias_languages_good within c.name_at.ensures;
-      script_class = name_good is_script_field ALIAS_SCRIPTS c.name_at-2.result.now c.in_ok-index.index alias_scripts_good within c.name_at-2.ensures;
-      region_class = refl;
+      script_class = column_good is_script_field ALIAS_SCRIPT_NAMES ALIAS_SCRIPTS c.name_in.result.now c.in_ok-index.index alias_scripts_good refl within c.name_in.ensures;
+      region_class = column_good is_region_field ALIAS_REGION_NAMES ALIAS_REGIONS c.name_in-2.result.now c.in_ok-index.index alias_regions_good refl within c.name_in-2.ensures;
     }
 
 pub returns : goal.returns
@@ -35,5 +35,5 @@ returns c =
     let found = c.in_ok-index.ensures.value ∙ index_searched c.alias_keys.result.now c.language_number.result _ c.alias_keys.ensures.climbs c.binary_search.ensures.position in
     let at = first_index-is c.alias_keys.result.now c.language_number.result c.in_ok-index.index (sym found) in
     let inside : c.in_ok-index.index < length language_aliases = omega (arith, at.inside, c.alias_keys.ensures.count, alias_count) in
-    ap Some (alias_at c.in_ok-index.index c.name_at.result.now c.name_at-2.result.now inside c.name_at.ensures c.name_at-2.ensures)
+    ap Some (alias_at c.in_ok-index.index c.name_at.result.now c.name_in.result.now c.name_in-2.result.now inside c.name_at.ensures c.name_in.ensures c.name_in-2.ensures)
     ∙ alias_found (field_texts c.args.fields) _ _ _ (language_letters _ c.args.fields.language_class) c.alias_keys.ensures.numbers c.language_number.ensures.number found
