@@ -5,6 +5,7 @@
  *     cc -O2 -fPIC -shared sqlite_langtag.c -o sqlite_langtag.so $(pkg-config --cflags --libs langtag_verified)
  *     sqlite> .load ./sqlite_langtag
  *     sqlite> SELECT langtag_part('zh-Hant-TW', 'script');          -- Hant
+ *     sqlite> SELECT langtag_keyword('ar-u-ca-islamic-nu-latn', 'ca'); -- islamic
  *     sqlite> SELECT langtag_canonical('iw-Hebr');                   -- he-Hebr
  *     sqlite> SELECT langtag_is_valid('de-1996-1996');               -- 0
  *     sqlite> SELECT langtag_maximize('zh-TW');                      -- zh-Hant-TW
@@ -16,7 +17,8 @@
  * Each function returns NULL if an argument is NULL.
  *
  * langtag_part(tag, part) returns NULL if the text is not a tag, or the part is absent. The parts are language, script, region,
- * variants, extensions and private_use. These return NULL if a text is not a tag:
+ * variants, extensions and private_use. langtag_keyword(tag, key) returns the value of a key of the extension u (RFC 6067), which is
+ * empty if the key has none, and NULL if the key is absent. These return NULL if a text is not a tag:
  *
  *   - langtag_canonical(tag) and langtag_is_valid(tag) (RFC 5646 sections 4.5 and 2.2.9), by langtag_registry_date
  *   - langtag_maximize(tag), langtag_minimize(tag), langtag_is_right_to_left(tag), langtag_distance(desired, supported) (UTS #35)
@@ -56,6 +58,15 @@ static void part(sqlite3_context *context, int count, sqlite3_value **values) {
     if (!span) sqlite3_result_error(context, "langtag_part: no part has that name", -1);
     else if (kind != LANGTAG_NONE && span->len > 0)
         sqlite3_result_text(context, tag + span->start, (int)span->len, SQLITE_TRANSIENT);
+}
+
+static void keyword(sqlite3_context *context, int count, sqlite3_value **values) {
+    (void)count;
+    const char *tag = (const char *)sqlite3_value_text(values[0]), *key = (const char *)sqlite3_value_text(values[1]);
+    size_t tag_len = (size_t)sqlite3_value_bytes(values[0]), key_len = (size_t)sqlite3_value_bytes(values[1]);
+    langtag_span value;
+    if (tag && key && langtag_keyword(tag, tag_len, key, key_len, &value))
+        sqlite3_result_text64(context, tag + value.start, value.len, SQLITE_TRANSIENT, SQLITE_UTF8); /* else NULL */
 }
 
 typedef size_t writer(const char *tag, size_t len, char *buffer, size_t buffer_len);
@@ -194,6 +205,7 @@ int sqlite3_sqlitelangtag_init(sqlite3 *db, char **message, const sqlite3_api_ro
         void (*call)(sqlite3_context *context, int count, sqlite3_value **values);
     } functions[] = {
         {"langtag_part", 2, part},
+        {"langtag_keyword", 2, keyword},
         {"langtag_canonical", 1, canonical},
         {"langtag_is_valid", 1, is_valid},
         {"langtag_maximize", 1, maximize},

@@ -32,6 +32,7 @@ def shown(expression):
 # A call of the rows as a statement, whose answer is one line.
 QUERIES = {
     "tag": lambda tag: f"SELECT {','.join(shown(f'langtag_part({text(tag)}, {name!r})') for name in PARTS)}",
+    "keyword": lambda tag, key: f"SELECT {shown(f'langtag_keyword({text(tag)}, {text(key)})')}",
     "canonical": lambda tag: f"SELECT {shown(f'langtag_canonical({text(tag)})')}",
     "maximized": lambda tag: f"SELECT {shown(f'langtag_maximize({text(tag)})')}",
     "minimized": lambda tag: f"SELECT {shown(f'langtag_minimize({text(tag)})')}",
@@ -68,6 +69,7 @@ def answer_match(said):
 # What a line says, in the words of the rows.
 ANSWERS = {
     "tag": answer_tag,
+    "keyword": lambda said: "-" if said == "NULL" else bytes_of(said) or "''",
     "canonical": lambda said: bytes_of(said) or "-",
     "maximized": lambda said: bytes_of(said) or "-",
     "minimized": lambda said: bytes_of(said) or "-",
@@ -91,13 +93,14 @@ def adapted(row):
     return "".join(f"\n  {name} {'-'.join(subtags)}" for name, *subtags in lines if name in PARTS)
 
 
-FLOORS = {"table.txt": 255, "likely.txt": 250, "distance.txt": 140, "direction.txt": 325, "choices.txt": 285}
+FLOORS = {"table.txt": 255, "likely.txt": 250, "distance.txt": 140, "direction.txt": 325, "choices.txt": 285, "unicode.txt": 25}
 
 TABLE = "CREATE TABLE texts (tag TEXT PRIMARY KEY COLLATE langtag); INSERT INTO texts VALUES ('zh-Hant'), ('de'), ('zh'), ('');"
 # Statements, and what SQLite says to them.
 STATEMENTS = [
     ("SELECT langtag_part(NULL, 'script') IS NULL, langtag_part('zh-Hant', NULL) IS NULL;", "1|1"),
     ("SELECT langtag_canonical(NULL) IS NULL, langtag_is_valid(NULL) IS NULL;", "1|1"),
+    ("SELECT langtag_keyword(NULL, 'ca') IS NULL, langtag_keyword('de-u-ca', NULL) IS NULL, langtag_keyword('de-u-ca', 'ca');", "1|1|"),
     ("SELECT langtag_matches_basic('de', NULL) IS NULL, langtag_matches_extended(NULL, 'de') IS NULL;", "1|1"),
     ("SELECT langtag_part('zh-Hant', 'script'), typeof(langtag_canonical('iw')), typeof(langtag_is_valid('iw'));",
      "Hant|text|integer"),
@@ -143,6 +146,7 @@ class Sqlite(unittest.TestCase):
         numbers = "WITH RECURSIVE n(k) AS (SELECT 1 UNION ALL SELECT k + 1 FROM n WHERE k < {})"
         calls = ("langtag_best_for_header('de', 'en', 'de-x-a' || k)", "langtag_maximize('de-x-a' || k)",
                  "langtag_part('de-x-a' || k, 'private_use')", "langtag_canonical('iw-x-a' || k)", "langtag_is_valid('de' || k)",
+                 "langtag_keyword('de-u-ca-a' || k, 'ca')",
                  "langtag_matches_basic('de', 'de-x-a' || k)", "langtag_matches_extended('de', 'de-x-a' || k)")
         asked = ", ".join(f"count({call})" for call in calls)
         statements = "".join(f"{numbers.format(count)} SELECT {asked} FROM n;\n" for count in (100, 20_000))

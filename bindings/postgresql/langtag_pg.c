@@ -345,6 +345,35 @@ Datum pg_langtag_extensions(PG_FUNCTION_ARGS) {
     return list(fcinfo, tag, parts.extensions, langtag_next_extension);
 }
 
+/* The value of a key, which is empty if the key has none; NULL if the key is absent. */
+PG_FUNCTION_INFO_V1(pg_langtag_keyword);
+Datum pg_langtag_keyword(PG_FUNCTION_ARGS) {
+    struct varlena *tag = PG_GETARG_VARLENA_PP(0);
+    text *key = PG_GETARG_TEXT_PP(1);
+    langtag_span value;
+    if (!langtag_keyword(BYTES(tag), LEN(tag), BYTES(key), LEN(key), &value)) PG_RETURN_NULL();
+    PG_RETURN_TEXT_P(cstring_to_text_with_len(BYTES(tag) + value.start, (int)value.len));
+}
+
+/* Each key once, with its first value: an array of rows, each a key and its value. */
+PG_FUNCTION_INFO_V1(pg_langtag_keywords);
+Datum pg_langtag_keywords(PG_FUNCTION_ARGS) {
+    struct varlena *tag = PG_GETARG_VARLENA_PP(0);
+    ArrayBuildState *found = NULL;
+    size_t passed = 0, count = 0;
+    langtag_span span[2];
+    int sizes[2], lower[2] = {1, 1};
+    while (langtag_next_keyword(BYTES(tag), LEN(tag), &passed, &span[0], &span[1])) {
+        for (int k = 0; k < 2; k++)
+            found = accumArrayResult(found, PointerGetDatum(cstring_to_text_with_len(BYTES(tag) + span[k].start, (int)span[k].len)),
+                                     false, TEXTOID, CurrentMemoryContext);
+        count++;
+    }
+    if (found == NULL) PG_RETURN_ARRAYTYPE_P(construct_empty_array(TEXTOID));
+    sizes[0] = (int)count, sizes[1] = 2;
+    return makeMdArrayResult(found, 2, sizes, lower, CurrentMemoryContext, true);
+}
+
 /* The labels of the enum langtag_kind, by the numbers of the library. */
 static const char *const kinds[] = {[LANGTAG_NORMAL] = "normal", [LANGTAG_PRIVATE_USE] = "private use",
                                     [LANGTAG_IRREGULAR] = "irregular"};

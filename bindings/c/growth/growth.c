@@ -36,6 +36,13 @@ FUNCTION(next_subtag, rest = (langtag_span){0, len};
          while (langtag_next_subtag(text, len, &rest, &found)) result = found.len)
 FUNCTION(next_extension, rest = (langtag_span){0, len};
          while (langtag_next_extension(text, len, &rest, &found)) result = found.len)
+FUNCTION(keyword, result = langtag_keyword(text, len, "zz", 2, &found))
+FUNCTION(next_keyword, offset = 0;
+         while (langtag_next_keyword(text, len, &offset, &found, &rest)) result = found.len)
+FUNCTION(attributes, result = langtag_attributes(text, len, &found))
+FUNCTION(transform, result = langtag_transform(text, len, &found))
+FUNCTION(field, result = langtag_field(text, len, "m0", 2, &found))
+FUNCTION(next_field, offset = 0; while (langtag_next_field(text, len, &offset, &found, &rest)) result = found.len)
 FUNCTION(repeats, result = langtag_repeats(text, len, &repeated))
 FUNCTION(validity, result = langtag_validity(text, len, &found))
 FUNCTION(canonical, result = langtag_canonical(text, len, buffer, sizeof buffer))
@@ -81,6 +88,12 @@ static const struct function functions[] = {
     {"recommend", recommend},
     {"next_subtag", next_subtag},
     {"next_extension", next_extension},
+    {"keyword", keyword},
+    {"next_keyword", next_keyword},
+    {"attributes", attributes},
+    {"transform", transform},
+    {"field", field},
+    {"next_field", next_field},
     {"repeats", repeats},
     {"validity", validity},
     {"canonical", canonical},

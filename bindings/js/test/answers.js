@@ -51,6 +51,7 @@ function answerTag(text) {
 
 /** Of a tag, the extensions that a map holds, by small singletons, the first of each; and no offsets of repeats. */
 export function adapted({ call, wanted }) {
+    if (call === "keywords" || call === "transform") return wanted.replace(/\w\w=/g, (key) => key.toLowerCase()); // a map has small keys
     if (call !== "tag") return wanted;
     const lines = wanted.split("\n").filter((line) => !line.startsWith("  at_"));
     return lines.map((line) => {
@@ -213,7 +214,25 @@ function answerEdit(text, name, given) {
     return found;
 }
 
+const orEmpty = (text) => (text === "" ? "''" : text);
+const said = (pairs) => [...pairs].map(([key, value]) => `${key}=${value}`).join(" ");
+
+function answerKeywords(text) {
+    const tag = LanguageTag.parse(text), pairs = tag.keywords;
+    for (const [key, value] of pairs) assert(tag.keyword(key) === value, "each by its key");
+    return said(pairs) || "-";
+}
+
+function answerTransform(text) {
+    const transform = LanguageTag.parse(text).transform;
+    return transform === undefined ? "-" : `${transform.language ?? "''"} ${said(transform.fields)}`.trimEnd();
+}
+
 export const answers = {
+    keyword: (text, key) => orEmpty(LanguageTag.parse(text).keyword(key) ?? "-"),
+    keywords: answerKeywords,
+    attributes: (text) => LanguageTag.parse(text).attributes.join(" ") || "-",
+    transform: answerTransform,
     tag: answerTag,
     scan: answerScan,
     recommended: (text) => made(LanguageTag, text)?.toRecommended().toString(),
@@ -240,4 +259,4 @@ export const answers = {
     edit: answerEdit,
 };
 
-export const FLOORS = { "table.txt": 360, "texts.txt": 710, "negotiation.txt": 102, "edits.txt": 125, "likely.txt": 200, "posix.txt": 75, "direction.txt": 300, "distance.txt": 130, "choices.txt": 275, "refused.txt": 60 };
+export const FLOORS = { "table.txt": 360, "texts.txt": 710, "negotiation.txt": 102, "edits.txt": 125, "likely.txt": 200, "posix.txt": 75, "direction.txt": 300, "distance.txt": 130, "choices.txt": 275, "refused.txt": 60, "unicode.txt": 400 };

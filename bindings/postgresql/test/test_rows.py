@@ -109,6 +109,10 @@ QUERIES = {
     "match": lambda range, tag: f"SELECT concat_ws(' ', t <@ r, t ~ r) FROM (SELECT {text(tag)}::langtag AS t, "
                                 f"{text(range)}::langtag_range AS r) s",
     "order": lambda a, b: f"SELECT langtag_cmp({text(a)}::langtag, {text(b)}::langtag)::text",
+    "keyword": lambda tag, key: f"SELECT CASE keyword(t, k) WHEN '' THEN repeat(chr(39), 2) ELSE keyword(t, k) END FROM "
+                                f"(SELECT {text(tag)}::langtag AS t, {text(key)} AS k) s",
+    "keywords": lambda tag: f"SELECT string_agg(k[n][1] || '=' || k[n][2], ' ' ORDER BY n) FROM (SELECT keywords({text(tag)}::langtag) AS k) s, "
+                            f"generate_subscripts(k, 1) AS n",
     "maximized": lambda tag: f"SELECT maximized({text(tag)}::langtag)::text",
     "minimized": lambda tag: f"SELECT minimized({text(tag)}::langtag)::text",
     "distance": lambda desired, supported: f"SELECT distance({text(desired)}::langtag, {text(supported)}::langtag)::text",
@@ -152,7 +156,7 @@ def adapted(row):
         return "before" if a != b and b.startswith(a) else "after" if a != b and a.startswith(b) else wanted
     if row.call == "header":
         return row.text.split(" | ")[-1].lower()
-    return wanted.lower() if row.call in ("canonical", "posix", "maximized", "minimized", "edit", "ranges", "best", "best-match") else wanted
+    return wanted.lower() if row.call in ("canonical", "posix", "maximized", "minimized", "edit", "ranges", "best", "best-match", "keyword", "keywords") else wanted
 
 
 def query(row):
@@ -215,6 +219,9 @@ class Rows(unittest.TestCase):
 
     def test_choices(self):
         self.ask("choices.txt", 275)
+
+    def test_extensions(self):
+        self.ask("unicode.txt", 150)
 
 
 class Registry(unittest.TestCase):

@@ -184,6 +184,22 @@ class TagBase(_Value):
         made = _written(_c.langtag_with_part, self._data, part, bytes_of(text), len(bytes_of(text)))
         return self._base(made) if made else None
 
+    def _at(self, span: Span) -> str:
+        return str(self._data[span.start : span.start + span.len], "ascii")
+
+    def _value_of(self, which: int, key: Text) -> str | None:
+        value, call = Span(), (_c.langtag_keyword, _c.langtag_field)[which]
+        return self._at(value) if self._ask(call, bytes_of(key), len(bytes_of(key)), value) else None
+
+    def _pairs(self, which: int) -> Iterable[tuple[str, str]]:
+        passed, key, value = ctypes.c_size_t(), Span(), Span()
+        take = (_c.langtag_next_keyword, _c.langtag_next_field)[which]
+        return [(self._at(key), self._at(value)) for _ in iter(lambda: self._ask(take, passed, key, value), False)]
+
+    def _before_keys(self, which: int) -> str | None:
+        found, call = Span(), (_c.langtag_attributes, _c.langtag_transform)[which]
+        return self._at(found) if self._ask(call, found) else None
+
     def recommended(self) -> Any:
         return self._base(_changed(_c.langtag_recommend, self._data))
 

@@ -76,5 +76,8 @@ PyObject *lt_minimized(PyObject *self, PyObject *unused);
 PyObject *lt_folded(PyObject *self, PyObject *unused);
 PyObject *lt_fnv1a(PyObject *self, PyObject *unused);
 PyObject *lt_set(PyObject *self, PyObject *arguments);
+PyObject *lt_value_of(PyObject *self, PyObject *arguments);
+PyObject *lt_pairs(PyObject *self, PyObject *number);
+PyObject *lt_before_keys(PyObject *self, PyObject *number);
 PyObject *lt_is_canonical(PyObject *self, void *unused);
 #endif

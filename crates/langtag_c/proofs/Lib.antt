@@ -14,3 +14,5 @@ mod LikelyForms
 mod DateLaws
 mod TagsAt
 mod LookUps
+mod SubtagSpans
+mod FoundExtension

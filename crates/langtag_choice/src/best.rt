@@ -109,7 +109,7 @@ pub fn match_among<'a, R: RangeList<'a>, T: TagList>(ranges: R, tags: &T) -> Opt
     }
 }
 
-/// Returns the match that a chosen candidate is.
+/// Returns the match for a chosen candidate.
 fn match_of<'a>(found: Candidate<'a, '_>) -> BestMatch<'a>
     ensures index { result.index ≡ found.entry.index }
     ensures range { result.range.now ≡ found.entry.range.now }

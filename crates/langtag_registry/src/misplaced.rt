@@ -1,4 +1,4 @@
-//! Variants and extended languages that do not stand after one of their prefixes (RFC 5646 section 3.1.8).
+//! Variants and extended languages that follow none of their prefixes (RFC 5646 section 3.1.8).
 ghost use Rattle.std.specs.Prelude.{◌≡◌, map, IsTrue};
 ghost use Rattle.std.specs.Option.{option_map};
 ghost use Rattle.langtag_scan.specs.Record.{EachRecord};

@@ -78,7 +78,7 @@ pub fn preferred_tag(tag: LangTag<'_>) -> Option<LangTag<'static>>
     preferred_for(tag.as_bytes())
 }
 
-/// Returns the tag that stands for a text as a whole today.
+/// Returns the tag that replaces a whole text.
 #[tactic(auto, using(crate::proofs::FieldTables::tag_ends, crate::proofs::FieldTables::tag_entries, crate::proofs::WholeTags::preferred_is_tag), unfolding(crate::specs::Fields::preferred_tag))]
 pub(crate) fn preferred_for(text: &[u8]) -> Option<LangTag<'static>>
     ensures { option_map lang_tag_text result ≡ field.preferred_tag text.now }

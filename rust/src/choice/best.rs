@@ -107,7 +107,7 @@ pub fn match_among<'a, R: RangeList<'a>, T: TagList>(ranges: R, tags: &T) -> Opt
     }
 }
 
-/// Returns the match that a chosen candidate is.
+/// Returns the match for a chosen candidate.
 #[inline]
 fn match_of<'a>(found: Candidate<'a, '_>) -> BestMatch<'a> {
     BestMatch {

@@ -1,6 +1,6 @@
 // Made by rust/erase from crates/langtag_registry/src/misplaced.rt. Change that file, not this one.
 
-//! Variants and extended languages that do not stand after one of their prefixes (RFC 5646 section 3.1.8).
+//! Variants and extended languages that follow none of their prefixes (RFC 5646 section 3.1.8).
 
 use crate::language::ExtendedLangTag;
 use crate::matching::LanguageRange;

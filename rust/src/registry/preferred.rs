@@ -81,7 +81,7 @@ pub fn preferred_tag(tag: LangTag<'_>) -> Option<LangTag<'static>> {
     preferred_for(tag.as_bytes())
 }
 
-/// Returns the tag that stands for a text as a whole today.
+/// Returns the tag that replaces a whole text.
 #[inline]
 pub(crate) fn preferred_for(text: &[u8]) -> Option<LangTag<'static>> {
     match value_beside(&PREFERRED_TAG_KEYS, &PREFERRED_TAGS, text) {

@@ -12,7 +12,7 @@ use crate::matching::split_wanted;
 #[repr(C)]
 #[derive(Clone, Copy)]
 pub struct BestMatch {
-    /// Where the range stands in the header.
+    /// The place of the range in the header.
     pub range: Span,
     /// The distance from the range to the tag.
     pub distance: u32,
