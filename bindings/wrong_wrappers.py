@@ -96,7 +96,7 @@ FAULTS = {
         Fault(HPP, "chosen(langtag_tag_for_header_lenient, header_)", "chosen(langtag_best_for_header, header_)"),
         Fault(HPP, " {part::extensions, extension},", ""),
         Fault(HPP, "spans_.push_back({text_.size(), ", "spans_.push_back({0, "),
-        Fault(HPP, "header.append(text).append(1, ',')", "header.append(text).append(1, ' ')"),
+        Fault(HPP, "ranges.spans_.data(), ranges.given_.size(),", "ranges.spans_.data(), ranges.given_.empty() ? 0 : 1,"),
         Fault(HPP, "match.range.len), match.distance}", "match.range.len), match.distance % 100}"),
         Fault(HPP, "header.substr(match.range.start, match.range.len)", "header.substr(match.range.start)"),
         Fault(HPP, "return value_of(langtag_keyword, key)", "return value_of(langtag_field, key)"),
@@ -158,9 +158,8 @@ FAULTS = {
         Fault(PY, "if len(text) > 80 else repr(text)", "if len(text) > 80_000 else repr(text)", "test_that_a_long_text_is_cut", "test_langtag.Refusals"),
         Fault(PY, "raise InvalidLocale(name)", "raise ValueError(name)", "test_one_family", "test_langtag.Refusals"),
         Fault(PY, 'default, Tag)\n    return found', 'default, Tag)\n    return found and Tag(found)', "test_texts", "test_langtag.Negotiation"),
-        Fault(PY, 'b",".join(map(_element, ', 'b" ".join(map(_element, ', "best_for_ranges"),
-        Fault(PY, '_WILDCARD.sub(b"", data)', "data", "test_best", "test_langtag.Negotiation"),
-        Fault(PY, 'b"" if b"," in data or b";" in data', 'b"" if b"," in data', "test_best", "test_langtag.Negotiation"),
+        Fault(PY, 'else bytes_of(it) for it', 'else bytes_of(it).replace(b"-*", b"") for it', "test_extended_ranges", "test_langtag.Negotiation"),
+        Fault(CT, "_joined(ranges), *more", "_joined(ranges[:1]), *more"),
         Fault(PY, "best_for_header(self._header, tags, default)", "best_for_ranges([it.range for it in self.ranges], tags, default)", "best(texts"),
         Fault(CT, "match.range.start + match.range.len]", "match.range.start + 64]"),
         Fault(PY, "BestMatch(*found[:3],", "BestMatch(0, *found[1:3],"),
@@ -185,15 +184,16 @@ FAULTS = {
         swapped(NATIVE + "forms.c", "tag_by(self, langtag_maximize)", "tag_by(self, langtag_minimize)"),
         Fault(NATIVE + "calls.c", "reach(text, langtag_stop)", "reach(text, langtag_viable)"),
         Fault(NATIVE + "choice.c", "langtag_tag_for_header_lenient", "langtag_best_for_header"),
-        Fault(NATIVE + "choice.c", "(unsigned)match.distance,", "(unsigned)match.distance % 100,"),
+        Fault(NATIVE + "choice.c", "(unsigned)match->distance,", "(unsigned)match->distance % 100,"),
         Fault(NATIVE + "unicode.c", "which ? langtag_next_field : langtag_next_keyword", "which ? langtag_next_keyword : langtag_next_field"),
         Fault(NATIVE + "calls.c", "(Py_ssize_t)range.len,", "(Py_ssize_t)range.len - 1,"),
         Fault(NATIVE + "choice.c", "    offered->len += len;\n", "", ""),
+        Fault(NATIVE + "choice.c", "ranges->spans, ranges->count,", "ranges->spans, ranges->count > 0,"),
         Fault(NATIVE + "choice.c", "count <= sizeof offered->few / sizeof *offered->few", "count <= sizeof offered->few", "", "test_langtag.Negotiation"),
         Fault(NATIVE + "choice.c", "memcpy(more, offered->text, offered->len);", "", "test_best", "test_langtag.Negotiation"),
         Fault(NATIVE + "choice.c", "|| !tag->text.owner) {", ") {", "", "test_langtag.Values"),
-        Fault(NATIVE + "choice.c", "header.len < LONG_TEXT ? PySequence_Fast", "header.len < 1 << 30 ? PySequence_Fast", "", "test_langtag.Threads"),
-        Fault(NATIVE + "choice.c", "        LET_GO(header.len);\n", "        LET_GO(0);\n", "test_that_others_run_during_a_choice", "test_langtag.Threads"),
+        Fault(NATIVE + "choice.c", "length(wanted) < LONG_TEXT ? PySequence_Fast", "length(wanted) < 1 << 30 ? PySequence_Fast", "", "test_langtag.Threads"),
+        Fault(NATIVE + "choice.c", "        LET_GO((Py_ssize_t)length(wanted));\n", "        LET_GO(0);\n", "test_that_others_run_during_a_choice", "test_langtag.Threads"),
         Fault(NATIVE + "choice.c", "        TAKE_BACK();\n", "", "", "test_langtag.Threads"),
         Fault(NATIVE + "value.c", "        Py_INCREF(Py_NotImplemented);\n        return Py_NotImplemented;", "        return PyBool_FromLong(operator == Py_NE);",
               "test_other_objects", "test_langtag.Values"),
@@ -223,9 +223,8 @@ FAULTS = {
         js(CALLS, "    if (isOpen) start();", "    if (calls === undefined) start();", "calls that are cut off"),
         js(CALLS, "    if (bytes.length > most) start();\n", "", "the memory of a long text is given back"),
         js(JS, "Object.freeze(this);", "", "a tag does not change"),
-        js(JS, "/[,;]/", "/[,]/", "likely subtags, distances and the best tag"),
-        js(JS, ".replaceAll(/-\\*(?=-|$)/g, \"\")", "", "likely subtags, distances and the best tag"),
-        Fault(JS, ".map(element).join()", '.map(element).join(" ")', "the tag of ranges"),
+        js(JS, '"ranges")].map(textOf)', '"ranges")].slice(0, 1).map(textOf)', "likely subtags, distances and the best tag"),
+        Fault(JS, "chosen(calls.bestForRanges, ", 'chosen((all, offered) => calls.bestForHeader(all.join(" "), offered), ', "the tag of ranges"),
         Fault(JS, "text.slice(start, start + length) }", "text.slice(start) }"),
         Fault(CALLS, "[index, written(0), written(1), written(2)]", "[index, written(0), written(2), written(1)]"),
         Fault(JS, "return bestForHeader(this.#header,", 'return bestForHeader(this.#header.split(",")[0],', "the tag of a header that was read"),
@@ -275,17 +274,26 @@ TESTS = {"Python": ["test_rows", "test_langtag.Memory", "test_langtag.Negotiatio
          "Python's C": ["test_rows", "test_langtag.Memory", "test_langtag.Negotiation"]}
 
 
+def linked(one: str, other: str) -> None:
+    """Gives a file a second name, or copies it to another disk. What is built or planted is a new file in each copy."""
+    try:
+        os.link(one, other)
+    except OSError:
+        shutil.copy2(one, other)
+
+
 def asked(libraries: pathlib.Path, language: str, fault: Fault | None, test: str) -> str | None:
     """What goes against the expectation, if anything does."""
     with tempfile.TemporaryDirectory() as name:
         folder = pathlib.Path(name)
         copy = folder / "bindings"
-        shutil.copytree(HERE, copy, ignore=shutil.ignore_patterns("target", "dist", "__pycache__", "build"))
+        shutil.copytree(HERE, copy, ignore=shutil.ignore_patterns("target", "dist", "__pycache__", "build"), copy_function=linked)
         (folder / "rows").symlink_to(ROWS)
         if fault:
             text = (copy / fault.file).read_text()
             if fault.old not in text:
                 return "the text is not there"
+            (copy / fault.file).unlink()
             (copy / fault.file).write_text(text.replace(fault.old, fault.new, 1))
         environment = {**os.environ, "LIBRARIES": str(libraries), "PYTHON": os.environ.get("PYTHON", ""), "ROWS": str(ROWS), "TEST": test,
                        "PYTHONDONTWRITEBYTECODE": "1",
