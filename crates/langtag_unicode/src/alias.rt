@@ -10,7 +10,7 @@ use crate::alias_tables as tables;
 use crate::keys::Keys;
 use langtag::case_insensitive_eq;
 
-/// Returns the canonical value of a key, but for its case.
+/// Returns the canonical value of a key, which may have another case.
 pub(crate) fn canonical_value<'a>(keys: Keys, key: &[u8], value: &'a str) -> &'a str
     ensures { result.now ≡ canonical_value_of keys key.now value.now }
 {

@@ -1,4 +1,4 @@
-//! Subtags in lowercase and in the order of the alphabet, put into an output.
+//! Subtags in lowercase and in alphabetical order, written to an output.
 ghost use Rattle.std.specs.Prelude.{◌≡◌, ◌∷◌, [], map};
 ghost use Rattle.std.specs.Option.{option_map};
 ghost use Rattle.langtag_output.specs.Output.{Pushes};
@@ -11,9 +11,9 @@ use crate::subtags::split_first;
 use langtag::{Subtags, into_smallcase};
 use langtag_output::Output;
 
-/// Puts subtags in lowercase and in the order of the alphabet, each once.
+/// Appends subtags in lowercase and in alphabetical order, each once.
 ///
-/// Each is found by a walk over all of them, so that this takes time with the square of their number.
+/// Each is found by a walk over all of them, so the time is quadratic in their number.
 pub(crate) fn push_in_alphabet(out: &mut Output<'_>, rest: Option<&str>)
     ensures same_buffer { out.new.buffer.ghost_name ≡ out.old.buffer.ghost_name }
     ensures pushed { Pushes (spec.in_alphabet (segments_left rest.entry)) out.old out.new }
@@ -79,7 +79,7 @@ fn is_before(a: &[u8], b: &[u8]) -> bool
     a.len() < b.len()
 }
 
-/// Puts each subtag of a text in lowercase at the end.
+/// Appends each subtag of a text in lowercase.
 pub(crate) fn push_each_lowercase(out: &mut Output<'_>, text: &str)
     ensures same_buffer { out.new.buffer.ghost_name ≡ out.old.buffer.ghost_name }
     ensures pushed { Pushes (map fold_text (subtags text.now)) out.old out.new }
@@ -89,7 +89,7 @@ pub(crate) fn push_each_lowercase(out: &mut Output<'_>, text: &str)
     }
 }
 
-/// Puts a subtag in lowercase at the end, with a hyphen between it and what stands before.
+/// Appends a subtag in lowercase, after a hyphen if there is text before it.
 pub(crate) fn push_lowercase(out: &mut Output<'_>, subtag: &str)
     ensures same_buffer { out.new.buffer.ghost_name ≡ out.old.buffer.ghost_name }
     ensures pushed { Pushes (fold_text subtag.now ∷ []) out.old out.new }

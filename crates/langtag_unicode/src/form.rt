@@ -36,11 +36,11 @@ use std::alloc::{AllocError, Global};
 /// All other bytes of the tag stay, and so does a tag without these extensions. Only the first `u` and the first `t` have a form. A `t`
 /// that UTS #35 does not allow stays, such as `t-m0` or `t-zh-yue`. `langtag_registry::canonical` orders the extensions.
 ///
-/// Attributes, and the variants in the language of `t`, take time with the square of their number.
+/// The time is quadratic in the number of attributes, and of variants in the language of `t`.
 ///
 /// # Errors
 ///
-/// Out of memory.
+/// Returns an error if allocation fails.
 ///
 /// ```
 /// use langtag::LangTag;

@@ -1,4 +1,4 @@
-//! Keywords and fields with their canonical values, in the order of their keys, put into an output.
+//! Keywords and fields with their canonical values, in the order of their keys, written to an output.
 ghost use Rattle.std.specs.Prelude.{◌≡◌, ◌<◌};
 ghost use Rattle.langtag_output.specs.Output.{Pushes};
 ghost use Rattle.langtag_scan.specs.Case.{fold_byte, fold_text};
@@ -20,9 +20,9 @@ const LETTERS_AND_DIGITS: [u8; 36] = *b"0123456789abcdefghijklmnopqrstuvwxyz";
 /// How many keys there are.
 const KEY_COUNT: usize = 1296;
 
-/// Puts the keywords of a text, each once, in the order of their keys.
+/// Appends the keywords of a text, each once, in the order of their keys.
 ///
-/// The text is read twice for all keys, and once for each key that stands in it, of which there are 1,296 at most.
+/// The text is read twice for all keys, and once for each key in it, of which there are at most 1,296.
 pub(crate) fn push_keywords(out: &mut Output<'_>, text: &str, keys: Keys)
     ensures same_buffer { out.new.buffer.ghost_name ≡ out.old.buffer.ghost_name }
     ensures pushed { Pushes (spec.keywords_form (opens keys) (canonical_value_of keys) (subtags text.now)) out.old out.new }

@@ -14,7 +14,7 @@ use crate::subtags::split_first;
 use langtag::{case_insensitive_eq, is_primary, is_region, is_script, is_variant};
 use langtag_output::Output;
 
-/// Returns whether a text is a language, and perhaps a script, a region and variants, none of them twice.
+/// Returns whether a text is a language with an optional script, region and variants, none of them twice.
 pub(crate) fn is_language_id(text: &str) -> bool
     ensures { result ≡ spec.is_language_id (segments text.now) }
 {
@@ -24,7 +24,7 @@ pub(crate) fn is_language_id(text: &str) -> bool
     is_unicode_language(language) && are_variants(variants)
 }
 
-/// Puts such a text in lowercase, with its variants in order.
+/// Appends such a text in lowercase, with its variants in order.
 pub(crate) fn push_language_id(out: &mut Output<'_>, text: &str)
     ensures same_buffer { out.new.buffer.ghost_name ≡ out.old.buffer.ghost_name }
     ensures pushed { Pushes (spec.language_form (segments text.now)) out.old out.new }

@@ -1,4 +1,4 @@
-//! The canonical form of the extension `t`, put into an output.
+//! The canonical form of the extension `t`, written to an output.
 ghost use Rattle.std.specs.Prelude.{◌≡◌, ◌∷◌, [], false};
 ghost use Rattle.std.specs.List.{AllByRecursion};
 ghost use Rattle.langtag_output.specs.Output.{Pushes};
@@ -34,7 +34,7 @@ fn is_language_or_none(text: &str) -> bool
     }
 }
 
-/// Puts the form of the extension `t` that has these subtags.
+/// Appends the form of the extension `t` that has these subtags.
 pub(crate) fn push_transform(out: &mut Output<'_>, text: &str)
     requires { AllByRecursion IsSubtag (subtags text.now) }
     ensures same_buffer { out.new.buffer.ghost_name ≡ out.old.buffer.ghost_name }

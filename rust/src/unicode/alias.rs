@@ -6,7 +6,7 @@ use crate::tag::case_insensitive_eq;
 use crate::unicode::alias_tables as tables;
 use crate::unicode::keys::Keys;
 
-/// Returns the canonical value of a key, but for its case.
+/// Returns the canonical value of a key, which may have another case.
 #[inline]
 pub(crate) fn canonical_value<'a>(keys: Keys, key: &[u8], value: &'a str) -> &'a str {
     match keys {

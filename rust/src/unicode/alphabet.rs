@@ -1,14 +1,14 @@
 // Made by rust/erase from crates/langtag_unicode/src/alphabet.rt. Change that file, not this one.
 
-//! Subtags in lowercase and in the order of the alphabet, put into an output.
+//! Subtags in lowercase and in alphabetical order, written to an output.
 
 use crate::output::Output;
 use crate::tag::{into_smallcase, Subtags};
 use crate::unicode::subtags::split_first;
 
-/// Puts subtags in lowercase and in the order of the alphabet, each once.
+/// Appends subtags in lowercase and in alphabetical order, each once.
 ///
-/// Each is found by a walk over all of them, so that this takes time with the square of their number.
+/// Each is found by a walk over all of them, so the time is quadratic in their number.
 #[inline]
 pub(crate) fn push_in_alphabet(out: &mut Output<'_>, rest: Option<&str>) {
     let mut last = None;
@@ -65,7 +65,7 @@ fn is_before(a: &[u8], b: &[u8]) -> bool {
     a.len() < b.len()
 }
 
-/// Puts each subtag of a text in lowercase at the end.
+/// Appends each subtag of a text in lowercase.
 #[inline]
 pub(crate) fn push_each_lowercase(out: &mut Output<'_>, text: &str) {
     for subtag in Subtags::new(text) {
@@ -73,7 +73,7 @@ pub(crate) fn push_each_lowercase(out: &mut Output<'_>, text: &str) {
     }
 }
 
-/// Puts a subtag in lowercase at the end, with a hyphen between it and what stands before.
+/// Appends a subtag in lowercase, after a hyphen if there is text before it.
 #[inline]
 pub(crate) fn push_lowercase(out: &mut Output<'_>, subtag: &str) {
     out.push_subtag(b"");

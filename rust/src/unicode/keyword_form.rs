@@ -1,6 +1,6 @@
 // Made by rust/erase from crates/langtag_unicode/src/keyword_form.rt. Change that file, not this one.
 
-//! Keywords and fields with their canonical values, in the order of their keys, put into an output.
+//! Keywords and fields with their canonical values, in the order of their keys, written to an output.
 
 use crate::output::Output;
 use crate::tag::{into_smallcase, Subtags};
@@ -15,9 +15,9 @@ const LETTERS_AND_DIGITS: [u8; 36] = *b"0123456789abcdefghijklmnopqrstuvwxyz";
 /// How many keys there are.
 const KEY_COUNT: usize = 1296;
 
-/// Puts the keywords of a text, each once, in the order of their keys.
+/// Appends the keywords of a text, each once, in the order of their keys.
 ///
-/// The text is read twice for all keys, and once for each key that stands in it, of which there are 1,296 at most.
+/// The text is read twice for all keys, and once for each key in it, of which there are at most 1,296.
 pub(crate) fn push_keywords(out: &mut Output<'_>, text: &str, keys: Keys) {
     let marks = marked_keys(text, keys);
     let firsts = marked_firsts(text, keys);

@@ -7,7 +7,7 @@ use crate::tag::{case_insensitive_eq, is_primary, is_region, is_script, is_varia
 use crate::unicode::alphabet::{push_in_alphabet, push_lowercase};
 use crate::unicode::subtags::split_first;
 
-/// Returns whether a text is a language, and perhaps a script, a region and variants, none of them twice.
+/// Returns whether a text is a language with an optional script, region and variants, none of them twice.
 pub(crate) fn is_language_id(text: &str) -> bool {
     let (language, rest) = split_first(text);
     let (_, rest) = take_script(rest);
@@ -15,7 +15,7 @@ pub(crate) fn is_language_id(text: &str) -> bool {
     is_unicode_language(language) && are_variants(variants)
 }
 
-/// Puts such a text in lowercase, with its variants in order.
+/// Appends such a text in lowercase, with its variants in order.
 pub(crate) fn push_language_id(out: &mut Output<'_>, text: &str) {
     let (language, rest) = split_first(text);
     let (script, rest) = take_script(rest);

@@ -1,6 +1,6 @@
 // Made by rust/erase from crates/langtag_unicode/src/transform_form.rt. Change that file, not this one.
 
-//! The canonical form of the extension `t`, put into an output.
+//! The canonical form of the extension `t`, written to an output.
 
 use crate::output::Output;
 use crate::tag::Subtags;
@@ -24,7 +24,7 @@ fn is_language_or_none(text: &str) -> bool {
     }
 }
 
-/// Puts the form of the extension `t` that has these subtags.
+/// Appends the form of the extension `t` that has these subtags.
 #[inline]
 pub(crate) fn push_transform(out: &mut Output<'_>, text: &str) {
     out.push_subtag(b"t");
