@@ -15,6 +15,9 @@ use alloc::string::String;
 #[cfg(feature = "alloc")]
 use alloc::vec::Vec;
 
+/// A form has at most a language, a script and a region more than its tag.
+const LONGEST_ADDED: usize = 17;
+
 /// Adds the likely subtags to a tag (UTS #35, Add Likely Subtags): `zh-TW` becomes `zh-Hant-TW`, `en` and `und` become
 /// `en-Latn-US`, and `de-1996` becomes `de-Latn-DE-1996`.
 ///
@@ -61,19 +64,27 @@ pub fn write_minimized(tag: LangTag<'_>, buffer: &mut [u8]) -> usize {
     write_changed(normal, remove_likely(TagFields::of(normal)), buffer)
 }
 
+/// Returns the greatest length of a form of a tag.
+#[inline]
+fn form_bound(tag: LangTag<'_>) -> usize {
+    tag.as_bytes().len().saturating_add(LONGEST_ADDED)
+}
+
 #[cfg(feature = "alloc")]
 #[inline]
 fn maximal_bytes(tag: LangTag<'_>) -> Result<Vec<u8>, AllocError> {
-    let mut bytes = try_vec(0, write_maximized(tag, &mut []))?;
-    write_maximized(tag, &mut bytes);
+    let mut bytes = try_vec(0, form_bound(tag))?;
+    let len = write_maximized(tag, &mut bytes);
+    bytes.truncate(len);
     Ok(bytes)
 }
 
 #[cfg(feature = "alloc")]
 #[inline]
 fn minimal_bytes(tag: LangTag<'_>) -> Result<Vec<u8>, AllocError> {
-    let mut bytes = try_vec(0, write_minimized(tag, &mut []))?;
-    write_minimized(tag, &mut bytes);
+    let mut bytes = try_vec(0, form_bound(tag))?;
+    let len = write_minimized(tag, &mut bytes);
+    bytes.truncate(len);
     Ok(bytes)
 }
 
