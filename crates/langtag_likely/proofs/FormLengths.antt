@@ -4,6 +4,7 @@ use Rattle.std.proofs.Common.{◌≡◌, ℕ, ◌+◌, ◌≤◌, List, [], ◌�
 use Rattle.std.specs.List.{flat_map}
 use Rattle.langtag_scan.specs.Class.{is_script, is_region}
 use Rattle.langtag_scan.specs.Record.{Record, IsWellFormed, extension_flat, private_part_flat, one_flat, spell}
+use Rattle.langtag_scan.specs.Tag.{IsNormal}
 use Rattle.langtag_scan.proofs.Disjoint.{script_four, region_two_three}
 use Rattle.langtag_scan.proofs.Joins.{hyphenated, length-hyphenated, length-join}
 use Rattle.langtag_scan.proofs.SubtagFacts.{of_primary}
@@ -64,6 +65,7 @@ minimal_length r well = by_fields r (remove_likely likely_subtags (fields_of r))
 pub form_bounded :
     (form_of : Record → Record) → ((r : Record) → IsWellFormed r → length (spell (form_of r)) ≤ length (spell r) + 17) → (old new : List ℕ) → IsForm form_of old new →
     length new ≤ length old + 17
+unfolding IsNormal
 form_bounded form_of longer old new is = elim (normal_or_not old) [
   | inl (r, spells) ↦ let more = longer r spells.0 in omega (arith, more, ap length spells.1, ap length (is.parts r spells))
   | inr not_normal ↦ omega (arith, ap length (is.kept not_normal))

@@ -15,9 +15,6 @@ use alloc::string::String;
 #[cfg(feature = "alloc")]
 use alloc::vec::Vec;
 
-/// A form has at most a language, a script and a region more than its tag.
-const LONGEST_ADDED: usize = 17;
-
 /// Adds the likely subtags to a tag (UTS #35, Add Likely Subtags): `zh-TW` becomes `zh-Hant-TW`, `en` and `und` become
 /// `en-Latn-US`, and `de-1996` becomes `de-Latn-DE-1996`.
 ///
@@ -64,16 +61,18 @@ pub fn write_minimized(tag: LangTag<'_>, buffer: &mut [u8]) -> usize {
     write_changed(normal, remove_likely(TagFields::of(normal)), buffer)
 }
 
-/// Returns the greatest length of a form of a tag.
+/// Returns a buffer that has room for each form of a tag.
+#[cfg(feature = "alloc")]
 #[inline]
-fn form_bound(tag: LangTag<'_>) -> usize {
-    tag.as_bytes().len().saturating_add(LONGEST_ADDED)
+fn form_buffer(tag: LangTag<'_>) -> Result<Vec<u8>, AllocError> {
+    // A language has at most 8 letters, a script has 4, and a region 3, with a hyphen before each of the last two.
+    try_vec(0, tag.as_bytes().len().saturating_add(17))
 }
 
 #[cfg(feature = "alloc")]
 #[inline]
 fn maximal_bytes(tag: LangTag<'_>) -> Result<Vec<u8>, AllocError> {
-    let mut bytes = try_vec(0, form_bound(tag))?;
+    let mut bytes = form_buffer(tag)?;
     let len = write_maximized(tag, &mut bytes);
     bytes.truncate(len);
     Ok(bytes)
@@ -82,7 +81,7 @@ fn maximal_bytes(tag: LangTag<'_>) -> Result<Vec<u8>, AllocError> {
 #[cfg(feature = "alloc")]
 #[inline]
 fn minimal_bytes(tag: LangTag<'_>) -> Result<Vec<u8>, AllocError> {
-    let mut bytes = try_vec(0, form_bound(tag))?;
+    let mut bytes = form_buffer(tag)?;
     let len = write_minimized(tag, &mut bytes);
     bytes.truncate(len);
     Ok(bytes)
