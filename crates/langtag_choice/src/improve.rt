@@ -28,7 +28,8 @@ fn lack(weight: u32) -> u32
     1000_u32.saturating_sub(weight)
 }
 
-/// Puts the text at an index in place of what was found, if it may serve a range and goes before. That it is a tag is not tested.
+/// Replaces what was found by the text at an index, if that may serve a range and ranks higher. It does not check that
+/// the text is a tag.
 pub(crate) fn improve<'a, 't>(
     found: &mut Option<Candidate<'a, 't>>,
     wish: &Wish<'a>,

@@ -121,6 +121,12 @@ impl<'a> Extension<'a> {
     }
 
     /// Returns the singleton of the extension, in its original case: `U` for `U-co-phonebk`.
+    ///
+    /// ```
+    /// use langtag_extension::Extension;
+    ///
+    /// Extension::new("U-co-phonebk")?.singleton().unwrap(); // b'U'
+    /// ```
     pub fn singleton(&self) -> Singleton
         ensures first_byte { singleton_byte result ≡ slice_index (extension_text self.now) 0 }
         ensures member { (e : model.Extension) → SpellsExtension e (extension_text self.now) → singleton_byte result ≡ e.singleton }
@@ -136,6 +142,14 @@ impl<'a> Extension<'a> {
     }
 
     /// Returns an iterator over the subtags after the singleton: `co` and `phonebk` for `u-co-phonebk`.
+    ///
+    /// ```
+    /// use langtag_extension::Extension;
+    ///
+    /// let mut subtags = Extension::new("u-co-phonebk")?.iter();
+    /// subtags.next().map(|subtag| subtag.as_str()); // Some("co")
+    /// subtags.next().map(|subtag| subtag.as_str()); // Some("phonebk")
+    /// ```
     #[tactic(auto, using(crate::proofs::Rules::subtags_spelled))]
     pub fn iter(&self) -> ExtensionIter<'a>
         ensures list { (e : model.Extension) → SpellsExtension e (extension_text self.now) → extension_subtags_left result ≡ e.subtags }
@@ -196,8 +210,8 @@ impl ExtensionBuf {
         })
     }
 
-    /// Borrows the extension: `as_extension().as_str()` of the owned `U-CO` is `"U-CO"`. It is proved that comparisons
-    /// and hashes of owned extensions ignore case.
+    /// Borrows the extension: `Extension::new("U-CO")?.try_to_owned(alloc)?.as_extension().as_str()` is `"U-CO"`. It is
+    /// proved that comparisons and hashes of owned extensions ignore case.
     pub fn as_extension(&self) -> Extension<'_>
         ensures same_text { extension_text result ≡ extension_buf_text self.now }
 
@@ -206,7 +220,7 @@ impl ExtensionBuf {
         Extension::from_checked(self.as_str())
     }
 
-    /// Returns the text, in its original case: `as_str()` of the owned `U-CO` is `"U-CO"`.
+    /// Returns the text, in its original case: `Extension::new("U-CO")?.try_to_owned(alloc)?.as_str()` is `"U-CO"`.
     pub fn as_str(&self) -> &str
         ensures same_text { result.now ≡ extension_buf_text self.now }
         ensures in_class { IsExtension result.now }
@@ -214,7 +228,8 @@ impl ExtensionBuf {
         self.text.0.as_str()
     }
 
-    /// Returns the `String`, without copying it: `into_string()` of the owned `U-CO` is the `String` `U-CO`.
+    /// Returns the `String`, without copying it: `Extension::new("U-CO")?.try_to_owned(alloc)?.into_string()` is
+    /// `"U-CO"`.
     pub fn into_string(self) -> String
         ensures same_text { string_bytes result ≡ extension_buf_text self }
         ensures same_string { result ≡ extension_buf_string self }

@@ -22,7 +22,7 @@ impl<'a> Model for ExtensionTexts<'a> {
 }
 
 impl<'a> ExtensionTexts<'a> {
-    /// What stands from one subtag of one byte up to the next. The empty text has none.
+    /// The texts from one subtag of one byte up to the next. The empty text has none.
     pub(crate) fn new(text: &'a str) -> Self
         ensures { result ≡ extension_texts text.now }
     {

@@ -132,6 +132,13 @@ impl<'a> Language<'a> {
     }
 
     /// Returns the extended subtags as one text, or `None` if there are none: `min-nan` for `zh-min-nan`.
+    ///
+    /// ```
+    /// use langtag_language::Language;
+    ///
+    /// let extension = Language::new("zh-min-nan")?.extension();
+    /// extension.map(|extension| extension.as_str()); // Some("min-nan")
+    /// ```
     pub fn extension(&self) -> Option<LanguageExtension<'a>>
         ensures absent { EachLanguageSpelling (language_text self.now) (λ primary extended. IsNone result ↔ (extended ≡ [])) }
         ensures members { EachLanguageSpelling (language_text self.now) (λ primary extended.
@@ -142,6 +149,13 @@ impl<'a> Language<'a> {
 
     /// Returns an iterator over the extended subtags: `Language::new("zh-min-nan")?.extension_subtags()` yields `min`
     /// and `nan`.
+    ///
+    /// ```
+    /// use langtag_language::Language;
+    ///
+    /// let mut subtags = Language::new("zh-min-nan")?.extension_subtags();
+    /// subtags.next().map(|subtag| subtag.as_str()); // Some("min")
+    /// ```
     pub fn extension_subtags(&self) -> LanguageExtensionIter<'a>
         ensures list { extended_subtags_left result ≡ drop 1 (subtags (language_text self.now)) }
         ensures members { EachLanguageSpelling (language_text self.now) (λ primary extended. extended_subtags_left result ≡ extended) }
@@ -229,8 +243,8 @@ impl LanguageBuf {
         })
     }
 
-    /// Borrows the language: `as_language().as_str()` of the owned `ZH-YUE` is `"ZH-YUE"`. It is proved that
-    /// comparisons and hashes of owned languages ignore case.
+    /// Borrows the language: `Language::new("ZH-YUE")?.try_to_owned(alloc)?.as_language().as_str()` is `"ZH-YUE"`. It
+    /// is proved that comparisons and hashes of owned languages ignore case.
     pub fn as_language(&self) -> Language<'_>
         ensures same_text { language_text result ≡ language_buf_text self.now }
 
@@ -239,7 +253,7 @@ impl LanguageBuf {
         Language::from_checked(self.as_str())
     }
 
-    /// Returns the text, in its original case: `as_str()` of the owned `ZH-YUE` is `"ZH-YUE"`.
+    /// Returns the text, in its original case: `Language::new("ZH-YUE")?.try_to_owned(alloc)?.as_str()` is `"ZH-YUE"`.
     pub fn as_str(&self) -> &str
         ensures same_text { result.now ≡ language_buf_text self.now }
         ensures in_class { IsLanguage result.now }
@@ -247,7 +261,8 @@ impl LanguageBuf {
         self.text.0.as_str()
     }
 
-    /// Returns the `String`, without copying it: `into_string()` of the owned `ZH-YUE` is the `String` `ZH-YUE`.
+    /// Returns the `String`, without copying it: `Language::new("ZH-YUE")?.try_to_owned(alloc)?.into_string()` is
+    /// `"ZH-YUE"`.
     pub fn into_string(self) -> String
         ensures same_text { string_bytes result ≡ language_buf_text self }
         ensures same_string { result ≡ language_buf_string self }

@@ -1,4 +1,4 @@
-//! Where texts stand in the tables that know them by their numbers.
+//! The places of texts in the tables, which have their numbers.
 ghost use Rattle.std.specs.Prelude.{◌≡◌, ◌≤◌, ◌<◌, IfSome, IsTrue, length};
 ghost use Rattle.langtag_scan.specs.Case.{folded_number};
 ghost use Rattle.langtag_tables.specs.Numbers.{climbs_from};

@@ -126,6 +126,14 @@ impl<'a> Variants<'a> {
     }
 
     /// Returns an iterator over the variants, from either end: `rozaj` and `1994` for `rozaj-1994`.
+    ///
+    /// ```
+    /// use langtag_place::Variants;
+    ///
+    /// let mut variants = Variants::new("rozaj-1994")?.iter();
+    /// variants.next().map(|variant| variant.as_str()); // Some("rozaj")
+    /// variants.next_back().map(|variant| variant.as_str()); // Some("1994")
+    /// ```
     pub fn iter(&self) -> VariantsIter<'a>
         ensures list { variants_left result ≡ subtags (variants_text self.now) }
         ensures spells { SpellsVariants (variants_left result) (variants_text self.now) }
@@ -137,6 +145,12 @@ impl<'a> Variants<'a> {
     }
 
     /// Returns the first variant, if there is one: `rozaj` for `rozaj-1994`, `None` for the empty text.
+    ///
+    /// ```
+    /// use langtag_place::Variants;
+    ///
+    /// Variants::new("rozaj-1994")?.first().map(|variant| variant.as_str()); // Some("rozaj")
+    /// ```
     pub fn first(&self) -> Option<Variant<'a>>
         ensures member { (variants : List (List ℕ)) → SpellsVariants variants (variants_text self.now)
             → option_map variant_text result ≡ slice_get variants 0 }
@@ -145,6 +159,12 @@ impl<'a> Variants<'a> {
     }
 
     /// Returns the last variant, if there is one: `1994` for `rozaj-1994`.
+    ///
+    /// ```
+    /// use langtag_place::Variants;
+    ///
+    /// Variants::new("rozaj-1994")?.last().map(|variant| variant.as_str()); // Some("1994")
+    /// ```
     pub fn last(&self) -> Option<Variant<'a>>
         ensures member { (variants : List (List ℕ)) → SpellsVariants variants (variants_text self.now)
             → option_map variant_text result ≡ slice_get variants (length variants - 1) }
@@ -212,8 +232,8 @@ impl VariantsBuf {
         })
     }
 
-    /// Borrows the variants: `as_variants().as_str()` of the owned `ROZAJ` is `"ROZAJ"`. It is proved that comparisons
-    /// and hashes of owned lists of variants ignore case.
+    /// Borrows the variants: `Variants::new("ROZAJ")?.try_to_owned(alloc)?.as_variants().as_str()` is `"ROZAJ"`. It is
+    /// proved that comparisons and hashes of owned lists of variants ignore case.
     pub fn as_variants(&self) -> Variants<'_>
         ensures same_text { variants_text result ≡ variants_buf_text self.now }
 
@@ -222,7 +242,7 @@ impl VariantsBuf {
         Variants::from_checked(self.as_str())
     }
 
-    /// Returns the text, in its original case: `as_str()` of the owned `ROZAJ` is `"ROZAJ"`.
+    /// Returns the text, in its original case: `Variants::new("ROZAJ")?.try_to_owned(alloc)?.as_str()` is `"ROZAJ"`.
     pub fn as_str(&self) -> &str
         ensures same_text { result.now ≡ variants_buf_text self.now }
         ensures in_class { IsVariants result.now }
@@ -230,7 +250,8 @@ impl VariantsBuf {
         self.text.0.as_str()
     }
 
-    /// Returns the `String`, without copying it: `into_string()` of the owned `ROZAJ` is the `String` `ROZAJ`.
+    /// Returns the `String`, without copying it: `Variants::new("ROZAJ")?.try_to_owned(alloc)?.into_string()` is
+    /// `"ROZAJ"`.
     pub fn into_string(self) -> String
         ensures same_text { string_bytes result ≡ variants_buf_text self }
         ensures same_string { result ≡ variants_buf_string self }

@@ -45,14 +45,14 @@ pub(crate) struct Rank {
     pub(crate) service: Service,
     /// 1 minus the weight of the range, in thousandths.
     pub(crate) lack: u32,
-    /// How many ranges stand before it.
+    /// The number of ranges before it.
     pub(crate) place: usize,
     /// The distance of the tag, which is 50 if only look-up finds it.
     pub(crate) distance: u8,
 }
 
 impl Rank {
-    /// Returns whether the range is heavier than one at a place, or as heavy and stands before it.
+    /// Returns whether the range is heavier than another at a place, or as heavy and before it.
     #[inline]
     pub(crate) fn is_wanted_more(self, lack: u32, place: usize) -> bool {
         self.lack < lack || (self.lack == lack && self.place < place)

@@ -11,7 +11,7 @@ pub(crate) struct ExtensionTexts<'a> {
 }
 
 impl<'a> ExtensionTexts<'a> {
-    /// What stands from one subtag of one byte up to the next. The empty text has none.
+    /// The texts from one subtag of one byte up to the next. The empty text has none.
     #[inline]
     pub(crate) fn new(text: &'a str) -> Self {
         if text.is_empty() {

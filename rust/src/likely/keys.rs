@@ -1,6 +1,6 @@
 // Made by rust/erase from crates/langtag_likely/src/keys.rt. Change that file, not this one.
 
-//! Where texts stand in the tables that know them by their numbers.
+//! The places of texts in the tables, which have their numbers.
 
 use crate::scan::folded_number;
 

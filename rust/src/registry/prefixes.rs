@@ -1,6 +1,6 @@
 // Made by rust/erase from crates/langtag_registry/src/prefixes.rt. Change that file, not this one.
 
-//! What a subtag is meant to stand after (RFC 5646 section 3.1.8).
+//! What a subtag should follow (RFC 5646 section 3.1.8).
 
 use crate::language::{ExtendedLangTag, PrimaryLanguage};
 use crate::registry::table::value_of;
@@ -9,6 +9,16 @@ use crate::registry::tables::{EXTLANG_PREFIX_KEYS, EXTLANG_PREFIX_VALUES};
 /// Returns the language that an extended language should follow (the field Prefix, [RFC 5646 section 3.1.8]): `zh` for
 /// `yue`. Returns `None` for extended languages that are not registered. A tag with another language, such as `de-yue`,
 /// may still be valid.
+///
+/// ```
+/// # fn main() -> Result<(), Box<dyn std::error::Error>> {
+/// use langtag::ExtendedLangTag;
+/// use langtag::registry::extlang_prefix;
+///
+/// assert_eq!(extlang_prefix(ExtendedLangTag::new("yue")?).map(|language| language.as_str()), Some("zh"));
+/// # Ok(())
+/// # }
+/// ```
 ///
 /// [RFC 5646 section 3.1.8]: https://www.rfc-editor.org/rfc/rfc5646#section-3.1.8
 #[inline]

@@ -61,7 +61,7 @@ fn cut_before_key(text: &str, keys: Keys) -> &str {
 fn len_before_key(text: &str, keys: Keys) -> usize {
     let mut len = 0;
     for subtag in Subtags::new(text) {
-        if keys.has(subtag) {
+        if keys.has(subtag.as_bytes()) {
             return len;
         }
         len += subtag.len() + 1;
@@ -82,7 +82,7 @@ pub(crate) fn value_in<'a>(text: &'a str, keys: Keys, key: &str) -> Option<&'a s
     let mut rest = nonempty(text);
     while let Some(text) = rest {
         let (subtag, after) = split_first(text);
-        if keys.has(subtag) && case_insensitive_eq(subtag.as_bytes(), key.as_bytes()) {
+        if keys.has(subtag.as_bytes()) && case_insensitive_eq(subtag.as_bytes(), key.as_bytes()) {
             return Some(before_key(after, keys));
         }
         rest = after;
