@@ -8,6 +8,7 @@ pub mod Maximal
 pub mod MaximalLaws
 pub mod Numbers
 pub mod Posix
+pub mod Ranges
 pub mod RightToLeft
 pub mod Rows
 pub mod TextFields
